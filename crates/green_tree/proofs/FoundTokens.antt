@@ -1,0 +1,159 @@
+-- A token that a walk found, and the first and the last token by the child that it is in.
+use Rattle.std.proofs.Common.{◌≡◌, ℕ, ◌+◌, ◌<◌, ◌≤◌, List, [], ◌∷◌, ◌++◌, map, length, get_or, drop, Option, Some, None, refl, ap, sym, ◌∙◌, add-one, append_assoc}
+use Rattle.std.specs.Prelude.{option_map, unwrap_or, IsSome}
+use Rattle.std.proofs.lemmas.List.{append-nil, length-map}
+use Rattle.std.proofs.Math.ListN.{drop_of_length-le}
+use Rattle.green_tree.specs.Path.{Path, first_item, last_item}
+use Rattle.green_tree.specs.Tree.{SyntaxTree, at, trees, forest}
+use Rattle.green_tree.specs.Order.{token_paths, tokens_before}
+use Rattle.green_tree.specs.Green.{Leaf, leaf_tree, Branch, branch_tree}
+use Rattle.green_tree.specs.FoundToken.{FindsToken}
+use Rattle.green_tree.specs.GreenElement.{element_trees, element_tree}
+use Rattle.green_tree.specs.declared.green.GreenElement.{GreenElement}
+use Rattle.green_tree.specs.declared.green.GreenElement.TheVariants as element
+use Rattle.green_tree.proofs.Lookup.{trees-forest}
+use Rattle.green_tree.proofs.Slots.{slice_get-child}
+use Rattle.green_tree.proofs.TokenPaths.{token_paths_from, tokens_before-top, tokens_before-first, tokens_before-next, tokens_before-below, token_paths-split}
+
+-- where there is no such path nothing is found, and the slots are as before
+pub found_none : {t : SyntaxTree} {o : Option Path} {slots : Path} → o ≡ None → FindsToken t o slots slots None
+found_none {slots} h = record { slots = rw h (sym (append-nil slots)); token = rw h refl }
+
+-- a token itself is the first of its own tokens, and the last
+pub found_token : (l : Leaf) (slots : Path) → FindsToken (leaf_tree l) (Some []) slots slots (Some l)
+found_token l slots = record { slots = sym (append-nil slots); token = refl }
+
+some_path : (t : SyntaxTree) (o : Option Path) (l : Leaf) → option_map (λ m. Some (leaf_tree m)) (Some l) ≡ option_map (at t) o → (r : Path) × (o ≡ Some r)
+some_path t None l h = absurd (cc)
+some_path t (Some r) l h = (r, refl)
+
+found_on : (t c : SyntaxTree) (i : ℕ) (r : Path) (o p : Option Path) (old pushed new : Path) (l : Leaf) → o ≡ Some r → p ≡ Some (i ∷ r) → FindsToken c o pushed new (Some l) → pushed ≡ old ++ i ∷ [] → at t (i ∷ r) ≡ at c r → FindsToken t p old new (Some l)
+found_on t c i r o p old pushed new l own whole found push below = record {
+  slots = rw (whole, found.slots, own, push) (append_assoc old (i ∷ []) r);
+  token = rw whole (found.token ∙ ap (option_map (at c)) own ∙ ap Some (sym below));
+}
+
+-- what is found in a child is found in its node
+found_below : (t c : SyntaxTree) (i : ℕ) (o p : Option Path) (old pushed new : Path) (l : Leaf) → FindsToken c o pushed new (Some l) → pushed ≡ old ++ i ∷ [] → ((r : Path) → at t (i ∷ r) ≡ at c r) → ((r : Path) → o ≡ Some r → p ≡ Some (i ∷ r)) → FindsToken t p old new (Some l)
+found_below t c i o p old pushed new l found push below same =
+    let way = some_path c o l found.token in
+    found_on t c i way.0 o p old pushed new l way.1 (same way.0 way.1) found push (below way.0)
+
+no_path : (t : SyntaxTree) (o : Option Path) → None ≡ option_map (at t) o → o ≡ None
+no_path t None h = refl
+no_path t (Some r) h = absurd (cc)
+
+-- and the other way round
+pub none_found : {t : SyntaxTree} {o : Option Path} {old new : Path} → FindsToken t o old new None → o ≡ None
+none_found {t} {o} found = no_path t o found.token
+
+pub same_slots : {t : SyntaxTree} {o : Option Path} {old new : Path} → FindsToken t o old new None → new ≡ old
+same_slots {old} found = found.slots ∙ ap (λ q. old ++ unwrap_or q []) (none_found found) ∙ append-nil old
+
+first_item-none : {X : Type 0} (xs : List X) → first_item xs ≡ None → xs ≡ []
+first_item-none [] h = refl
+first_item-none (x ∷ xs) h = absurd (cc)
+
+last_item-none : {X : Type 0} (xs : List X) → last_item xs ≡ None → xs ≡ []
+last_item-none [] h = refl
+last_item-none (x ∷ []) h = absurd (cc)
+last_item-none (x ∷ y ∷ xs) h =
+    let rest = last_item-none (y ∷ xs) h in
+    absurd (cc)
+
+first_item-map : {X Y : Type 0} (f : X → Y) (xs : List X) (ys : List Y) (x : X) → first_item xs ≡ Some x → first_item (map f xs ++ ys) ≡ Some (f x)
+first_item-map f [] ys x h = absurd (cc)
+first_item-map f (z ∷ xs) ys x h = cc
+
+last_item-append : {X : Type 0} (xs ys : List X) (y : X) → last_item ys ≡ Some y → last_item (xs ++ ys) ≡ Some y
+last_item-append [] ys y h = h
+last_item-append (x ∷ []) [] y h = absurd (cc)
+last_item-append (x ∷ []) (z ∷ ys) y h = h
+last_item-append (x ∷ w ∷ xs) ys y h = last_item-append (w ∷ xs) ys y h
+
+last_item-map : {X Y : Type 0} (f : X → Y) (xs : List X) (x : X) → last_item xs ≡ Some x → last_item (map f xs) ≡ Some (f x)
+last_item-map f [] x h = absurd (cc)
+last_item-map f (z ∷ []) x h = cc
+last_item-map f (z ∷ w ∷ xs) x h = last_item-map f (w ∷ xs) x h
+
+-- what is known of the child in a slot
+pub record IsChildAt (b : Branch) (i : ℕ) (c : SyntaxTree) : Type 0 where
+  pub below : (p : Path) → at (branch_tree b) (i ∷ p) ≡ at c p
+  pub next : tokens_before (branch_tree b) ((i + 1) ∷ []) ≡ tokens_before (branch_tree b) (i ∷ []) ++ map (λ q. i ∷ q) (token_paths c)
+  pub later : List Path
+  pub all : token_paths (branch_tree b) ≡ tokens_before (branch_tree b) ((i + 1) ∷ []) ++ later
+  pub within : (p : Path) → tokens_before (branch_tree b) (i ∷ p) ≡ tokens_before (branch_tree b) (i ∷ []) ++ map (λ q. i ∷ q) (tokens_before c p)
+
+pub child_at : (b : Branch) (es : List GreenElement) (i : ℕ) (e : GreenElement) → element_trees es ≡ b.children → i < length es → e ≡ get_or es i e → IsChildAt b i (element_tree e)
+child_at b es i e same h is =
+    let there = slice_get-child b es i e same h is in
+    record {
+      below = λ p. rw there;
+      next = rw add-one (tokens_before-next b.kind (forest b.children) i (element_tree e) there);
+      later = token_paths_from (i + 1) (forest (drop (i + 1) (trees (forest b.children))));
+      all = token_paths-split b.kind (forest b.children) (i + 1);
+      within = λ p. tokens_before-below b.kind (forest b.children) i (element_tree e) p there;
+    }
+
+first_in_child : (b : Branch) (i : ℕ) (c : SyntaxTree) → IsChildAt b i c → tokens_before (branch_tree b) (i ∷ []) ≡ [] → (r : Path) → first_item (token_paths c) ≡ Some r → first_item (token_paths (branch_tree b)) ≡ Some (i ∷ r)
+first_in_child b i c child none r h =
+    let before = child.next ∙ ap (λ ps. ps ++ map (λ q. i ∷ q) (token_paths c)) none in
+    ap first_item (child.all ∙ ap (λ ps. ps ++ child.later) before) ∙ first_item-map (λ q. i ∷ q) (token_paths c) child.later r h
+
+last_in_child : (b : Branch) (i n : ℕ) (c : SyntaxTree) → IsChildAt b i c → tokens_before (branch_tree b) (n ∷ []) ≡ tokens_before (branch_tree b) ((i + 1) ∷ []) → (r : Path) → last_item (token_paths c) ≡ Some r → last_item (tokens_before (branch_tree b) (n ∷ [])) ≡ Some (i ∷ r)
+last_in_child b i n c child none r h =
+    ap last_item (none ∙ child.next) ∙ last_item-append (tokens_before (branch_tree b) (i ∷ [])) (map (λ q. i ∷ q) (token_paths c)) (i ∷ r) (last_item-map (λ q. i ∷ q) (token_paths c) r h)
+
+last_before_child : (b : Branch) (i : ℕ) (p : Path) (c : SyntaxTree) → IsChildAt b i c → (r : Path) → last_item (tokens_before c p) ≡ Some r → last_item (tokens_before (branch_tree b) (i ∷ p)) ≡ Some (i ∷ r)
+last_before_child b i p c child r h =
+    ap last_item (child.within p) ∙ last_item-append (tokens_before (branch_tree b) (i ∷ [])) (map (λ q. i ∷ q) (tokens_before c p)) (i ∷ r) (last_item-map (λ q. i ∷ q) (tokens_before c p) r h)
+
+-- no token stands before the first slot, and all before the slot after the last child
+pub tokens_before-none : (b : Branch) → tokens_before (branch_tree b) (0 ∷ []) ≡ []
+tokens_before-none b = tokens_before-first b.kind (forest b.children)
+
+pub tokens_before-all : (b : Branch) (es : List GreenElement) (n : ℕ) → element_trees es ≡ b.children → length es ≤ n → tokens_before (branch_tree b) (n ∷ []) ≡ token_paths (branch_tree b)
+tokens_before-all b es n same h =
+    let past : drop n (trees (forest b.children)) ≡ [] = rw (trees-forest, ← same) (drop_of_length-le (element_trees es) (rw length-map h)) in
+    sym (token_paths-split b.kind (forest b.children) n ∙ ap (λ ts. tokens_before (branch_tree b) (n ∷ []) ++ token_paths_from n (forest ts)) past ∙ append-nil (tokens_before (branch_tree b) (n ∷ [])))
+
+pushed_on : (old now pushed : Path) (i : ℕ) → now ≡ old → pushed ≡ now ++ i ∷ [] → pushed ≡ old ++ i ∷ []
+pushed_on old now pushed i kept push = rw (← kept) push
+
+-- ---- the first token: no token stands before the child in this slot
+pub first_found : {b : Branch} {i : ℕ} {c : SyntaxTree} {old now pushed new : Path} {l : Leaf} → IsChildAt b i c → tokens_before (branch_tree b) (i ∷ []) ≡ [] → now ≡ old → pushed ≡ now ++ i ∷ [] → FindsToken c (first_item (token_paths c)) pushed new (Some l) →
+    FindsToken (branch_tree b) (first_item (token_paths (branch_tree b))) old new (Some l)
+first_found {b} {i} {c} {old} {now} {pushed} {new} {l} child none kept push found =
+    found_below (branch_tree b) c i (first_item (token_paths c)) (first_item (token_paths (branch_tree b))) old pushed new l found (pushed_on old now pushed i kept push) child.below (first_in_child b i c child none)
+
+pub first_passed : {b : Branch} {i : ℕ} {c : SyntaxTree} {pushed new : Path} → IsChildAt b i c → tokens_before (branch_tree b) (i ∷ []) ≡ [] → FindsToken c (first_item (token_paths c)) pushed new None → tokens_before (branch_tree b) ((i + 1) ∷ []) ≡ []
+first_passed {b} {i} {c} child none found =
+    child.next ∙ ap (λ ps. ps ++ map (λ q. i ∷ q) (token_paths c)) none ∙ ap (λ ps. map (λ q. i ∷ q) ps) (first_item-none (token_paths c) (none_found found))
+
+-- ---- the last token before a slot: no token stands between it and the child in the slot before j
+pub last_found : (n : ℕ) {b : Branch} {j i : ℕ} {c : SyntaxTree} {o : Option Path} {old now pushed new : Path} {l : Leaf} → IsChildAt b i c → j ≡ i + 1 → tokens_before (branch_tree b) (n ∷ []) ≡ tokens_before (branch_tree b) (j ∷ []) → now ≡ old → pushed ≡ now ++ i ∷ [] → o ≡ last_item (token_paths c) → FindsToken c o pushed new (Some l) →
+    FindsToken (branch_tree b) (last_item (tokens_before (branch_tree b) (n ∷ []))) old new (Some l)
+last_found n {b} {j} {i} {c} {o} {old} {now} {pushed} {new} {l} child down none kept push all found =
+    let none_behind = none ∙ ap (λ k. tokens_before (branch_tree b) (k ∷ [])) down in
+    found_below (branch_tree b) c i o (last_item (tokens_before (branch_tree b) (n ∷ []))) old pushed new l found (pushed_on old now pushed i kept push) child.below (λ r own. last_in_child b i n c child none_behind r (sym all ∙ own))
+
+pub last_passed : (n : ℕ) {b : Branch} {j i : ℕ} {c : SyntaxTree} {o : Option Path} {pushed new : Path} → IsChildAt b i c → j ≡ i + 1 → tokens_before (branch_tree b) (n ∷ []) ≡ tokens_before (branch_tree b) (j ∷ []) → o ≡ last_item (token_paths c) → FindsToken c o pushed new None →
+    tokens_before (branch_tree b) (n ∷ []) ≡ tokens_before (branch_tree b) (i ∷ [])
+last_passed n {b} {j} {i} {c} child down none all found =
+    none ∙ ap (λ k. tokens_before (branch_tree b) (k ∷ [])) down ∙ child.next ∙ ap (λ ps. tokens_before (branch_tree b) (i ∷ []) ++ map (λ q. i ∷ q) ps) (last_item-none (token_paths c) (sym all ∙ none_found found)) ∙ append-nil (tokens_before (branch_tree b) (i ∷ []))
+
+-- ---- the last token before an element, which is at or below the child in this slot
+pub before_found : {b : Branch} {i : ℕ} {p rest : Path} {c : SyntaxTree} {old pushed new : Path} {l : Leaf} → IsChildAt b i c → p ≡ i ∷ rest → pushed ≡ old ++ i ∷ [] → FindsToken c (last_item (tokens_before c rest)) pushed new (Some l) →
+    FindsToken (branch_tree b) (last_item (tokens_before (branch_tree b) p)) old new (Some l)
+before_found {b} {i} {p} {rest} {c} {old} {pushed} {new} {l} child split push found =
+    rw split (found_below (branch_tree b) c i (last_item (tokens_before c rest)) (last_item (tokens_before (branch_tree b) (i ∷ rest))) old pushed new l found push child.below (last_before_child b i rest c child))
+
+pub before_passed : {b : Branch} {i : ℕ} {p rest : Path} {c : SyntaxTree} → IsChildAt b i c → p ≡ i ∷ rest → last_item (tokens_before c rest) ≡ None → tokens_before (branch_tree b) p ≡ tokens_before (branch_tree b) (i ∷ [])
+before_passed {b} {i} {p} {rest} {c} child split none =
+    rw split (child.within rest ∙ ap (λ ps. tokens_before (branch_tree b) (i ∷ []) ++ map (λ q. i ∷ q) ps) (last_item-none (tokens_before c rest) none) ∙ append-nil (tokens_before (branch_tree b) (i ∷ [])))
+
+-- nothing is below an element that is no node
+pub before_no_node : (e : GreenElement) (p : Path) → ((b : Branch) → e ≡ element.Node b → ⊥) → IsSome (at (element_tree e) p) → last_item (tokens_before (element_tree e) p) ≡ None
+before_no_node (element.Node b) p differs there = absurd (differs b refl)
+before_no_node (element.Token l) [] differs there = ap last_item (tokens_before-top (leaf_tree l))
+before_no_node (element.Token l) (i ∷ p) differs there = absurd (cc)

@@ -1,0 +1,10 @@
+pub mod Splices
+pub mod Lookup
+pub mod Slots
+pub mod KindNames
+pub mod TokenPaths
+pub mod Starts
+pub mod Shapes
+pub mod Parts
+pub mod FoundTokens
+pub mod TextLengths

@@ -1,0 +1,50 @@
+-- What shared trees stand for.
+--     Leaf, Branch                a token's kind and bytes; a node's kind and its children
+--     leaf_tree, branch_tree      the trees of these
+--     element_tree, element_trees the trees of shared elements
+--     texts                       the texts of trees, one after another
+--     length_limit                the least length in bytes that no tree of an element value has
+--     capped_length               how many bytes a text has, as far as the limit
+--     size                        how many elements a tree has
+use Rattle.std.specs.Prelude.{ℕ, ◌+◌, min, List, length, refl}
+use Rattle.std.specs.Coded.{Coded, coded_ℕ, coded_list, coded×, code_by}
+use Rattle.green_tree.specs.Tree.{Forest, SyntaxTree, Token, Node, end, more, node, forest, forest_text, tree_code}
+
+pub record Leaf : Type 0 where
+  pub kind : ℕ
+  pub text : List ℕ
+
+pub record Branch : Type 0 where
+  pub kind : ℕ
+  pub children : List SyntaxTree
+
+abbrev pub leaf_tree : Leaf → SyntaxTree
+leaf_tree l = Token l.kind l.text
+
+abbrev pub branch_tree : Branch → SyntaxTree
+branch_tree b = node b.kind b.children
+
+abbrev pub texts : List SyntaxTree → List ℕ
+texts ts = forest_text (forest ts)
+
+abbrev pub length_limit : ℕ
+length_limit = 4294967296
+
+abbrev pub capped_length : List ℕ → ℕ
+capped_length s = min (length s) length_limit
+
+abbrev mutual
+  pub size : SyntaxTree → ℕ
+  size (Token k s) = 1
+  size (Node k f) = forest_size f + 1
+
+  pub forest_size : Forest ℕ → ℕ
+  forest_size end = 0
+  forest_size (more t f) = size t + forest_size f
+
+abbrev pub branch_size : Branch → ℕ
+branch_size b = forest_size (forest b.children) + 1
+
+-- the code by which a branch is a model's value
+abbrev pub branch_code : Coded Branch
+branch_code = code_by (ℕ × List SyntaxTree) (coded× coded_ℕ (coded_list (tree_code coded_ℕ))) (λ b. (b.kind, b.children)) (λ p. record { kind = p.0; children = p.1 }) (λ _. refl)

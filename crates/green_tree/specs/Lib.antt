@@ -1,0 +1,9 @@
+pub mod Path
+pub mod Tree
+pub mod Order
+pub mod Kind
+pub mod Green
+pub mod GreenElement
+pub mod GreenSize
+pub mod GreenElementRef
+pub mod FoundToken

@@ -1,0 +1,161 @@
+-- Trees of a source text. Each element carries a label: in a plain tree its kind, in a rewritten one also where it came from.
+--     Tree, Forest                   a token with its bytes, or a node with its children; the children in order
+--     SyntaxTree                     a tree whose labels are the kinds
+--     trees, forest                  the children as a list, and back
+--     node                           a node from the list of its children
+--     label, children, is_token      of the element at the top
+--     text, text_length              the bytes of all tokens, in order, and how many they are
+--     at                             the element that a path leads to
+--     paths                          the paths of all elements in document order: preorder, the top first
+--     tokens                         the labels and texts of all tokens, in document order
+--     relabelled                     the tree with a function of each label in its place
+--     without_texts, SameShape       the tree with each text empty; equal but for the texts
+--     tree_code                      its code, by which a tree is data that proofs can tell apart
+use Rattle.std.specs.Prelude.{◌≡◌, ℕ, suc, Bool, true, false, List, [], ◌∷◌, ◌++◌, map, length, slice_get, ◌⊎◌, refl, Option, Some, option_and_then}
+use Rattle.std.specs.Coded.{Coded, code_by, coded_ℕ, coded_list, coded×, coded⊎}
+use base.Stored.{coded_unit}
+use mathlib.Core.Logic.{inl, inr}
+use mathlib.Core.Path.{◌∙◌, ap}
+use Rattle.green_tree.specs.Path.{Path}
+
+mutual
+  pub data Tree (L : Type 0) : Type 0 where
+    Token : (label : L) (text : List ℕ) → Tree L
+    Node : (label : L) (children : Forest L) → Tree L
+
+  pub data Forest (L : Type 0) : Type 0 where
+    end : Forest L
+    more : (first : Tree L) (rest : Forest L) → Forest L
+
+abbrev pub SyntaxTree : Type 0
+SyntaxTree = Tree ℕ
+
+abbrev pub trees : {L : Type 0} → Forest L → List (Tree L)
+trees end = []
+trees (more t f) = t ∷ trees f
+
+abbrev pub forest : {L : Type 0} → List (Tree L) → Forest L
+forest [] = end
+forest (t ∷ ts) = more t (forest ts)
+
+abbrev pub node : {L : Type 0} → L → List (Tree L) → Tree L
+node l ts = Node l (forest ts)
+
+abbrev pub label : {L : Type 0} → Tree L → L
+label (Token l s) = l
+label (Node l f) = l
+
+abbrev pub children : {L : Type 0} → Tree L → List (Tree L)
+children (Token l s) = []
+children (Node l f) = trees f
+
+abbrev pub is_token : {L : Type 0} → Tree L → Bool
+is_token (Token l s) = true
+is_token (Node l f) = false
+
+abbrev mutual
+  pub text : {L : Type 0} → Tree L → List ℕ
+  text (Token l s) = s
+  text (Node l f) = forest_text f
+
+  pub forest_text : {L : Type 0} → Forest L → List ℕ
+  forest_text end = []
+  forest_text (more t f) = text t ++ forest_text f
+
+abbrev pub text_length : {L : Type 0} → Tree L → ℕ
+text_length t = length (text t)
+
+abbrev pub at : {L : Type 0} → Tree L → Path → Option (Tree L)
+at t [] = Some t
+at t (i ∷ p) = option_and_then (λ c. at c p) (slice_get (children t) i)
+
+abbrev mutual
+  pub paths : {L : Type 0} → Tree L → List Path
+  paths (Token l s) = [] ∷ []
+  paths (Node l f) = [] ∷ paths_from 0 f
+
+  -- of the children from this slot on
+  pub paths_from : {L : Type 0} → ℕ → Forest L → List Path
+  paths_from i end = []
+  paths_from i (more t f) = map (λ p. i ∷ p) (paths t) ++ paths_from (suc i) f
+
+abbrev mutual
+  pub tokens : {L : Type 0} → Tree L → List (L × List ℕ)
+  tokens (Token l s) = (l, s) ∷ []
+  tokens (Node l f) = forest_tokens f
+
+  pub forest_tokens : {L : Type 0} → Forest L → List (L × List ℕ)
+  forest_tokens end = []
+  forest_tokens (more t f) = tokens t ++ forest_tokens f
+
+abbrev mutual
+  pub relabelled : {L M : Type 0} → (L → M) → Tree L → Tree M
+  relabelled h (Token l s) = Token (h l) s
+  relabelled h (Node l f) = Node (h l) (forest_relabelled h f)
+
+  pub forest_relabelled : {L M : Type 0} → (L → M) → Forest L → Forest M
+  forest_relabelled h end = end
+  forest_relabelled h (more t f) = more (relabelled h t) (forest_relabelled h f)
+
+abbrev mutual
+  pub without_texts : {L : Type 0} → Tree L → Tree L
+  without_texts (Token l s) = Token l []
+  without_texts (Node l f) = Node l (forest_without_texts f)
+
+  pub forest_without_texts : {L : Type 0} → Forest L → Forest L
+  forest_without_texts end = end
+  forest_without_texts (more t f) = more (without_texts t) (forest_without_texts f)
+
+-- the same kinds and child lists, whatever the texts
+abbrev pub SameShape : SyntaxTree → SyntaxTree → Type 0
+SameShape t u = without_texts t ≡ without_texts u
+
+-- ---- the code of a tree: the steps that build it over a stack of forests
+-- The first kind of step puts the empty forest on the stack. The second puts a token before the forest on top.
+-- The third makes a node of the forest on top, and puts it before the one below.
+abbrev Step : Type 0 → Type 0
+Step L = Unit {0} ⊎ ((L × List ℕ) ⊎ L)
+
+abbrev mutual
+  tree_steps : {L : Type 0} → Tree L → List (Step L) → List (Step L)
+  tree_steps (Token l s) next = inr (inl (l, s)) ∷ next
+  tree_steps (Node l f) next = forest_steps f (inr (inr l) ∷ next)
+
+  forest_steps : {L : Type 0} → Forest L → List (Step L) → List (Step L)
+  forest_steps end next = inl tt ∷ next
+  forest_steps (more t f) next = forest_steps f (tree_steps t next)
+
+abbrev built : {L : Type 0} → List (Step L) → List (Forest L) → Forest L
+built [] [] = end
+built [] (f ∷ stack) = f
+built (inl e ∷ next) stack = built next (end ∷ stack)
+built (inr (inl t) ∷ next) [] = end
+built (inr (inl t) ∷ next) (f ∷ stack) = built next (more (Token t.0 t.1) f ∷ stack)
+built (inr (inr l) ∷ next) [] = end
+built (inr (inr l) ∷ next) (f ∷ []) = end
+built (inr (inr l) ∷ next) (f ∷ g ∷ stack) = built next (more (Node l f) g ∷ stack)
+
+mutual
+  pub built-tree_steps : {L : Type 0} (t : Tree L) (next : List (Step L)) (f : Forest L) (stack : List (Forest L)) → built (tree_steps t next) (f ∷ stack) ≡ built next (more t f ∷ stack)
+  built-tree_steps (Token l s) next f stack = refl
+  built-tree_steps (Node l g) next f stack = built-forest_steps g (inr (inr l) ∷ next) (f ∷ stack)
+
+  pub built-forest_steps : {L : Type 0} (f : Forest L) (next : List (Step L)) (stack : List (Forest L)) → built (forest_steps f next) stack ≡ built next (f ∷ stack)
+  built-forest_steps end next stack = refl
+  built-forest_steps (more t f) next stack = built-forest_steps f (tree_steps t next) stack ∙ built-tree_steps t next f stack
+
+abbrev tree_or : {L : Type 0} → Tree L → Forest L → Tree L
+tree_or d end = d
+tree_or d (more t f) = t
+
+abbrev tree_from : {L : Type 0} → L × List (Step L) → Tree L
+tree_from steps = tree_or (Token steps.0 []) (built steps.1 (end ∷ []))
+
+pub tree_from_steps : {L : Type 0} (t : Tree L) → tree_from (label t, tree_steps t []) ≡ t
+tree_from_steps t = ap (tree_or (Token (label t) [])) (built-tree_steps t [] end [])
+
+abbrev step_code : {L : Type 0} → Coded L → Coded (Step L)
+step_code c = coded⊎ coded_unit (coded⊎ (coded× c (coded_list coded_ℕ)) c)
+
+abbrev pub tree_code : {L : Type 0} → Coded L → Coded (Tree L)
+tree_code {L} c = code_by (L × List (Step L)) (coded× c (coded_list (step_code c))) (λ t. (label t, tree_steps t [])) tree_from tree_from_steps

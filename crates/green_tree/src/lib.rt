@@ -1,0 +1,18 @@
+//! Syntax trees that are shared: tokens and nodes that know neither their parents nor their places, and walks over them.
+#![tactic(auto)]
+
+mod error;
+mod green;
+mod kind;
+mod shape;
+mod start;
+mod text;
+mod tokens;
+
+pub use error::TreeError;
+pub use green::{GreenElement, GreenElementRef, GreenNode, GreenToken, LENGTH_LIMIT};
+pub use kind::{KIND_NAMES, SyntaxKind};
+pub use shape::have_same_shape;
+pub use start::start_of;
+pub use text::text_of;
+pub use tokens::{FoundToken, first_token, token_before};
