@@ -1,0 +1,4 @@
+pub mod LastSlot
+pub mod Children
+pub mod Descendants
+pub mod Lengths

@@ -1,0 +1,8 @@
+use Rattle.std.proofs.Common.{sym, ap, ◌∙◌}
+use Rattle.green_tree.specs.Path.{last_slot}
+use Rattle.cst_core.proofs.LastSlot.{last_slot-push}
+use Rattle.cst_core.proofs.location.Location.index.Goals as goal
+
+pub returns-in-Some : goal.returns-in-Some
+returns-in-Some c =
+    rw (← c.self.view_is, ← c.deref.ensures.value) (sym (ap last_slot c.in-Some.ensures.cases.0 ∙ last_slot-push c.in-Some.field-0-1.now c.in-Some.slot.now))

@@ -1,0 +1,12 @@
+use Rattle.std.proofs.Common.{◌≡◌, Some, length, refl, subst}
+use Rattle.std.specs.Result.{IfOk}
+use Rattle.green_tree.specs.Tree.{at, children}
+use Rattle.green_tree.specs.Green.{branch_tree}
+use Rattle.cst_core.specs.Element.{subtree}
+use Rattle.cst_core.proofs.Children.{first_child}
+use Rattle.cst_core.proofs.node.SyntaxNode.first_child_or_token.Goals as goal
+
+pub returns : goal.returns
+returns c =
+    let placed : at c.args.self.now.root c.args.self.now.path ≡ Some (branch_tree c.self.inside.green) = rw (← c.self.view_is) c.self.invariant.there in
+    subst (λ x. IfOk c.element_at.result (λ r. r ≡ x)) (first_child c.args.self.now (branch_tree c.self.inside.green) (length (children (subtree c.args.self.now))) placed refl) c.element_at.ensures

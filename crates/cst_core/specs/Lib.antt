@@ -1,0 +1,13 @@
+pub use Rattle.green_tree.specs.declared.kind.TheConstants.SyntaxKind as Kinds
+pub use Rattle.green_tree.specs.declared.kind.SyntaxKind
+pub use Rattle.green_tree.specs.Path
+pub use Rattle.green_tree.specs.Tree
+pub use Rattle.green_tree.specs.Order
+pub use Rattle.green_tree.specs.Kind
+pub use Rattle.green_tree.specs.Green
+pub use Rattle.green_tree.specs.GreenElement
+pub use Rattle.green_tree.specs.GreenElementRef
+pub mod TreeIds
+pub mod Element
+pub mod Placed
+pub mod SyntaxElement

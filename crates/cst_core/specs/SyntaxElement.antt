@@ -1,0 +1,61 @@
+-- Element values by their form.
+--     element_of                       the value, whatever its form
+--     node_of, token_of                the value of a node, of a token
+--     syntax_as, syntax_of             the value as a node or a token, by the form of a tree; of the tree that it stands for
+--     syntax_at                        the value of the same tree at a path, if the path leads to an element
+--     child_elements, child_nodes      the children, and those that are nodes, in order
+--     next_sibling, previous_sibling   the sibling one slot on, one slot back, if there is one
+--     descendants_of                   the nodes at or below an element, in document order
+--     first_token_of                   the first token at or below it, in document order
+--     token_before                     the last token that stands before it in its tree
+use Rattle.std.specs.Prelude.{List, [], ◌∷◌, length, map, filter_map, Option, Some, None, option_map, option_and_then}
+use Rattle.green_tree.specs.Path.{Path, next_path, previous_path, counted_from, first_item, last_item}
+use Rattle.green_tree.specs.Tree as tree
+use Rattle.green_tree.specs.Tree.{SyntaxTree, at, children}
+use Rattle.green_tree.specs.Order.{node_paths, token_paths, tokens_before}
+use Rattle.cst_core.specs.Element.{Element, subtree, element_at, below}
+use Rattle.cst_core.specs.declared.element.SyntaxElement.{SyntaxElement}
+use Rattle.cst_core.specs.declared.element.SyntaxElement.TheVariants.{Node, Token}
+
+abbrev pub element_of : SyntaxElement → Element
+element_of (Node e) = e
+element_of (Token e) = e
+
+abbrev pub node_of : SyntaxElement → Option Element
+node_of (Node e) = Some e
+node_of (Token e) = None
+
+abbrev pub token_of : SyntaxElement → Option Element
+token_of (Node e) = None
+token_of (Token e) = Some e
+
+abbrev pub syntax_as : SyntaxTree → Element → SyntaxElement
+syntax_as (tree.Token k s) e = Token e
+syntax_as (tree.Node k f) e = Node e
+
+abbrev pub syntax_of : Element → SyntaxElement
+syntax_of e = syntax_as (subtree e) e
+
+abbrev pub syntax_at : Element → Path → Option SyntaxElement
+syntax_at e p = option_map (λ t. syntax_as t (element_at e p)) (at e.root p)
+
+abbrev pub child_elements : Element → List SyntaxElement
+child_elements e = map (λ i. syntax_of (below e (i ∷ []))) (counted_from 0 (length (children (subtree e))))
+
+abbrev pub child_nodes : Element → List Element
+child_nodes e = filter_map node_of (child_elements e)
+
+abbrev pub next_sibling : Element → Option SyntaxElement
+next_sibling e = option_and_then (syntax_at e) (next_path e.path)
+
+abbrev pub previous_sibling : Element → Option SyntaxElement
+previous_sibling e = option_and_then (syntax_at e) (previous_path e.path)
+
+abbrev pub descendants_of : Element → List Element
+descendants_of e = map (below e) (node_paths (subtree e))
+
+abbrev pub first_token_of : Element → Option Element
+first_token_of e = option_map (below e) (first_item (token_paths (subtree e)))
+
+abbrev pub token_before : Element → Option Element
+token_before e = option_map (element_at e) (last_item (tokens_before e.root e.path))

@@ -1,0 +1,23 @@
+//! Syntax trees that are shared, and values that stand for their elements.
+#![tactic(auto)]
+
+pub mod ast;
+mod ast_node;
+mod element;
+mod location;
+mod navigation;
+mod node;
+mod shape;
+mod token;
+mod tree_ids;
+
+pub use ast_node::{AstNode, HasAttrs};
+pub use element::SyntaxElement;
+pub use green_tree::{
+    GreenElement, GreenElementRef, GreenNode, GreenToken, KIND_NAMES, LENGTH_LIMIT, SyntaxKind,
+    TreeError,
+};
+pub use node::SyntaxNode;
+pub use shape::same_shape;
+pub use token::SyntaxToken;
+pub use tree_ids::TreeIds;

@@ -1,0 +1,230 @@
+ghost use Rattle.std.proofs.Common.{rules};
+ghost use Rattle.std.specs.Cmp.Rules.{comparing, hashing};
+ghost use Rattle.std.specs.Cmp.Lexicographic.{pointwise};
+ghost use Rattle.std.specs.Ordering.{on, eq_of_both};
+ghost use Rattle.std.specs.Hash as fed;
+ghost use Rattle.std.specs.Prelude.{◌≡◌, ◌↔◌, ◌==◌, ◌++◌, [], ◌∷◌, IfOk, Some, option_map};
+ghost use Rattle.green_tree.specs.Path.{Path, last_slot};
+ghost use Rattle.green_tree.specs.Tree.{at};
+ghost use Rattle.green_tree.specs.Order.{start};
+ghost use Rattle.green_tree.specs.GreenElementRef.{ref_tree};
+ghost use Rattle.cst_core.specs.Element.{IsElement, element_at, parent_of};
+ghost use Rattle.cst_core.specs.SyntaxElement.{syntax_as, syntax_at, next_sibling, previous_sibling};
+
+use crate::element::SyntaxElement;
+use crate::node::SyntaxNode;
+use crate::token::SyntaxToken;
+use green_tree::{GreenElementRef, GreenNode, start_of};
+use std::alloc::{AllocError, Global};
+use std::hash::{Hash, Hasher};
+use std::marker::Model;
+
+// Where an element stands: the number of its tree, the tree, and the child slots on the way from the root.
+#[derive(Drop)]
+pub(crate) struct Location {
+    pub(crate) tree: u64,
+    pub(crate) root: GreenNode,
+    pub(crate) path: Vec<usize>,
+}
+
+impl Model for Location {
+    ghost use Rattle.green_tree.specs.Green.{branch_tree};
+    ghost use Rattle.cst_core.specs.Element.{Element, element_code};
+    ghost use Rattle.cst_core.specs.Placed.{IsPlaced};
+
+    ghost Value = { Element };
+
+    ghost coded = { element_code };
+
+    ghost view = { λ a. record { number = a.tree; root = branch_tree a.root; path = a.path.items } };
+
+    ghost invariant = { λ a. IsPlaced (record { number = a.tree; root = branch_tree a.root; path = a.path.items }) };
+}
+
+// A path with one more slot.
+pub(crate) fn child_path(
+    alloc: Global,
+    path: &[usize],
+    slot: usize,
+) -> Result<Vec<usize>, AllocError>
+    ensures { IfOk result (λ p. p.items ≡ path.now ++ slot ∷ []) }
+{
+    let mut all = Vec::from_slice(alloc, path)?;
+    all.push(slot)?;
+    Ok(all)
+}
+
+impl Location {
+    pub(crate) fn try_clone(&self, alloc: Global) -> Result<Location, AllocError>
+        ensures { IfOk result (λ l. l ≡ self.now) }
+    {
+        Ok(Location {
+            tree: self.tree,
+            root: self.root.share(alloc)?,
+            path: Vec::from_slice(alloc, &self.path)?,
+        })
+    }
+
+    pub(crate) fn tree(&self) -> u64
+        ensures { result ≡ self.now.number }
+    {
+        self.tree
+    }
+
+    pub(crate) fn slots(&self) -> &[usize]
+        ensures { result.now ≡ self.now.path }
+    {
+        self.path.as_slice()
+    }
+
+    pub(crate) fn index(&self) -> usize
+        ensures { result ≡ last_slot self.now.path }
+    {
+        match self.path.split_last() {
+            Some((slot, _)) => *slot,
+            None => 0,
+        }
+    }
+
+    pub(crate) fn text_start(&self) -> u64
+        ensures { result ≡ start self.now.root self.now.path }
+    {
+        start_of(&self.root, &self.path)
+    }
+
+    // The same tree at another path that leads to an element.
+    pub(crate) fn with_path(&self, alloc: Global, path: Vec<usize>) -> Result<Location, AllocError>
+        requires { IsElement (element_at self.now path.items) }
+        ensures { IfOk result (λ l. l ≡ element_at self.now path.items) }
+    {
+        Ok(Location {
+            tree: self.tree,
+            root: self.root.share(alloc)?,
+            path,
+        })
+    }
+
+    // The element of the same tree at another path, where this part of the tree stands.
+    pub(crate) fn moved_to(
+        &self,
+        alloc: Global,
+        path: Vec<usize>,
+        green: GreenElementRef<'_>,
+    ) -> Result<SyntaxElement, AllocError>
+        requires { at self.now.root path.items ≡ Some (ref_tree green) }
+        ensures { IfOk result (λ e. e ≡ syntax_as (ref_tree green.entry) (element_at self.now path.items)) }
+    {
+        let location = self.with_path(alloc, path)?;
+        match green {
+            GreenElementRef::Node(node) => Ok(SyntaxElement::Node(SyntaxNode {
+                location,
+                green: node.share(alloc)?,
+            })),
+            GreenElementRef::Token(token) => Ok(SyntaxElement::Token(SyntaxToken {
+                location,
+                green: token.share(alloc)?,
+            })),
+        }
+    }
+
+    // The element of the same tree at another path, if the path leads to one.
+    pub(crate) fn element_at(
+        &self,
+        alloc: Global,
+        path: Vec<usize>,
+    ) -> Result<Option<SyntaxElement>, AllocError>
+        ensures { IfOk result (λ r. r ≡ syntax_at self.now path.items) }
+    {
+        match self.root.get(&path) {
+            Some(green) => Ok(Some(self.moved_to(alloc, path, green)?)),
+            None => Ok(None),
+        }
+    }
+
+    pub(crate) fn tree_top(&self, alloc: Global) -> Result<SyntaxNode, AllocError>
+        ensures { IfOk result (λ n. n ≡ element_at self.now []) }
+    {
+        Ok(SyntaxNode {
+            location: Location {
+                tree: self.tree,
+                root: self.root.share(alloc)?,
+                path: Vec::new(alloc),
+            },
+            green: self.root.share(alloc)?,
+        })
+    }
+
+    pub(crate) fn parent(&self, alloc: Global) -> Result<Option<SyntaxNode>, AllocError>
+        ensures { IfOk result (λ r. r ≡ parent_of self.now) }
+    {
+        let Some((_, front)) = self.path.split_last() else {
+            return Ok(None);
+        };
+        match self.root.get(front) {
+            Some(GreenElementRef::Node(green)) => Ok(Some(SyntaxNode {
+                location: Location {
+                    tree: self.tree,
+                    root: self.root.share(alloc)?,
+                    path: Vec::from_slice(alloc, front)?,
+                },
+                green: green.share(alloc)?,
+            })),
+            Some(GreenElementRef::Token(_)) => unreachable!(),
+            None => unreachable!(),
+        }
+    }
+
+    pub(crate) fn next_sibling(&self, alloc: Global) -> Result<Option<SyntaxElement>, AllocError>
+        ensures { IfOk result (λ r. r ≡ next_sibling self.now) }
+    {
+        let Some(parent) = self.parent(alloc)? else {
+            return Ok(None);
+        };
+        let slot = self.index();
+        if slot < parent.as_green().children().len() {
+            parent.element_at(alloc, &[slot + 1])
+        } else {
+            Ok(None)
+        }
+    }
+
+    pub(crate) fn previous_sibling(
+        &self,
+        alloc: Global,
+    ) -> Result<Option<SyntaxElement>, AllocError>
+        ensures { IfOk result (λ r. r ≡ previous_sibling self.now) }
+    {
+        let Some(parent) = self.parent(alloc)? else {
+            return Ok(None);
+        };
+        match self.index().checked_sub(1) {
+            Some(slot) => parent.element_at(alloc, &[slot]),
+            None => Ok(None),
+        }
+    }
+}
+
+impl PartialEq for Location {
+    ghost eq = { eq_of_both (on (λ n. n.number) ◌==◌) (on (λ n. n.path) (pointwise ◌==◌)) };
+
+    ghost laws = { Prim.search (comparing, rules) };
+
+    fn eq(&self, other: &Location) -> bool {
+        self.tree == other.tree && self.path == other.path
+    }
+}
+
+impl Hash for Location {
+    ghost hash_input = { λ n. fed.u64 n.number ++ fed.slice fed.usize n.path };
+
+    ghost respects_eq = { Prim.search (hashing, rules) };
+
+    fn hash<H: Hasher>(&self, state: &mut H) {
+        self.tree.hash(state);
+        self.path.hash(state);
+    }
+}
+
+impl Eq for Location {
+    ghost laws = { Prim.search (comparing, rules) };
+}
