@@ -1,0 +1,7 @@
+mod Lists
+mod Copies
+pub mod Places
+mod Shapes
+mod Followed
+pub mod RowTrees
+pub mod Rows

@@ -1,0 +1,28 @@
+//! Laws of mappings, of the definitions alone.
+
+ghost use Rattle.std.specs.Prelude.{◌≡◌, ◌∷◌, ◌↔◌, All, IsSomeAnd};
+ghost use Rattle.cst_core.specs.Path.{Path};
+ghost use Rattle.cst_core.specs.Tree.{SameShape, at};
+ghost use Rattle.cst_core.specs.Element.{Address, Element, address, subtree, IsElement, NumbersTell};
+ghost use Rattle.edit_map.specs.Mapping.{Mapping, IsRising, StandsFor, mapped_elements, IsFollowed, followed};
+
+/// A target has at most one place in a payload.
+pub fn place_is_unique()
+    ensures { (m : Mapping) (payload target : Address) (p q : Path)
+        → IsRising m → StandsFor m payload p target → StandsFor m payload q target → p ≡ q }
+{}
+
+/// At the place of a target the payload has the target's shape.
+pub fn place_keeps_the_shape()
+    ensures { (m : Mapping) (payload target : Element) (p : Path)
+        → IsRising m
+        → All IsElement (payload ∷ target ∷ mapped_elements m)
+        → NumbersTell (payload ∷ target ∷ mapped_elements m)
+        → StandsFor m (address payload) p (address target)
+        → IsSomeAnd (at (subtree payload) p) (SameShape (subtree target)) }
+{}
+
+/// Following an element ends, at one element, from which no step is possible.
+pub fn following_ends()
+    ensures { (m : Mapping) (e f : Element) → IsRising m → IsFollowed m e f ↔ (f ≡ followed m e) }
+{}

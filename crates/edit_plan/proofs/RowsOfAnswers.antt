@@ -1,0 +1,50 @@
+-- Worked examples of annotations, of nodes found again, and of the texts of changes.
+use Rattle.std.specs.Prelude.{◌≡◌, ℕ, List, [], ◌∷◌, ◌++◌, codes, flat_map, map, Option, Some, None, refl}
+use Rattle.cst_core.specs.Path.{Path}
+use Rattle.cst_core.specs.Element.{Element}
+use Rattle.edit_map.proofs.Rows.{R}
+use Rattle.edit_plan.specs.Rewriting.{plain, new_tree}
+use Rattle.edit_plan.specs.Results.{annotated_as, found}
+use Rattle.edit_plan.specs.Display.{escape, change_text}
+use Rattle.edit_plan.specs.declared.change.Change.{Change}
+use Rattle.edit_plan.proofs.RowChanges.{no_places, after, insert, delete, replace, replace_with_many, replace_all, X}
+use Rattle.edit_plan.proofs.Rows.{changes_2}
+
+-- ---- the paths of an annotation, where nothing is mapped
+abbrev notes : List Element → List Change → List Path
+notes es cs = flat_map (λ t. annotated_as [] (map (λ e. (e, 1)) es) t 1) (new_tree cs no_places (R []))
+
+row_two_notes : notes (R (4 ∷ []) ∷ R (1 ∷ []) ∷ []) [] ≡ (4 ∷ []) ∷ (1 ∷ []) ∷ []
+row_two_notes = refl
+
+row_note_deleted : notes (R (1 ∷ []) ∷ []) (delete (R (1 ∷ [])) ∷ []) ≡ []
+row_note_deleted = refl
+
+row_note_copied : notes (R (1 ∷ []) ∷ []) (insert (after (R (4 ∷ []))) (R (1 ∷ [])) ∷ []) ≡ (1 ∷ []) ∷ (5 ∷ []) ∷ []
+row_note_copied = refl
+
+row_note_exchanged : notes (R (1 ∷ []) ∷ []) (replace (R (1 ∷ [])) (R (4 ∷ [])) ∷ replace (R (4 ∷ [])) (R (1 ∷ [])) ∷ []) ≡ (4 ∷ []) ∷ []
+row_note_exchanged = refl
+
+row_note_moved : notes (R (4 ∷ []) ∷ []) (replace (R (1 ∷ [])) (R (4 ∷ [])) ∷ replace (R (4 ∷ [])) X ∷ []) ≡ (1 ∷ []) ∷ []
+row_note_moved = refl
+
+-- ---- a node found again in the tree of row 2
+row_27 : ◌≡◌ {A = List (Option Path)} (flat_map (λ t. found (R []) (plain t) ∷ found (R (4 ∷ [])) (plain t) ∷ []) (new_tree changes_2 no_places (R []))) (Some [] ∷ None ∷ [])
+row_27 = refl
+
+-- ---- texts
+abbrev red : List ℕ → List ℕ
+red s = escape ∷ codes "[41m" ++ s
+
+abbrev green : List ℕ → List ℕ
+green s = escape ∷ codes "[42m" ++ s
+
+abbrev plain_again : List ℕ → List ℕ
+plain_again s = escape ∷ codes "[0m" ++ escape ∷ codes "[K" ++ s
+
+row_20 : ◌≡◌ {A = List (List ℕ)} (map change_text (delete (R (1 ∷ [])) ∷ insert (after (R (0 ∷ []))) X ∷ [])) (red (codes "1" ++ plain_again []) ∷ (codes "(" ++ green (codes "x" ++ plain_again (codes "1, 2)"))) ∷ [])
+row_20 = refl
+
+row_range_texts : ◌≡◌ {A = List (List ℕ)} (map change_text (replace_all (R (1 ∷ [])) (R (3 ∷ [])) [] ∷ replace_with_many (R (1 ∷ [])) [] ∷ [])) ((codes "(" ++ red (codes "1, " ++ green (plain_again (codes "2)")))) ∷ red (codes "1" ++ green (plain_again [])) ∷ [])
+row_range_texts = refl

@@ -1,0 +1,41 @@
+-- Lists of changes none of which is owned: each change gives its payload as it was.
+use Rattle.std.specs.Prelude.{◌≡◌, ℕ, zero, suc, ◌+◌, Bool, true, false, cond, not, ◌&&◌, List, [], ◌∷◌, map, filter, flat_map, slice_get, Some, None, is_none, ◌++◌, refl}
+use Rattle.std.specs.List.{AllByRecursion, enumerate_from}
+use Rattle.std.proofs.Common.{ap, ap₂, sym, subst, ◌∙◌}
+use Rattle.std.proofs.lemmas.Option.{none-some, same_Some}
+use Rattle.cst_core.specs.Tree.{text}
+use Rattle.cst_core.specs.Element.{Element, address, subtree}
+use Rattle.cst_core.specs.Path.{Path}
+use Rattle.edit_plan.specs.Nesting.{is_dropped, owner, is_independent}
+use Rattle.edit_plan.specs.Rewriting.{OriginTree, origin, plain, aims_of, independents, payload_of, given, new_tree}
+use Rattle.edit_plan.specs.Schedule.{undropped}
+use Rattle.edit_plan.specs.Laws.{brought_text, text_filled}
+use Rattle.edit_plan.specs.declared.change.Change.{Change}
+use Rattle.edit_plan.proofs.Settled.{owns_nothing, plain-given}
+use Rattle.edit_plan.proofs.Filled.{flat_map-text, text-relabelled, text-rewritten_whole}
+
+all_at : {X : Type 0} (P : X → Type 0) (xs : List X) (i : ℕ) (x : X) → AllByRecursion P xs → slice_get xs i ≡ Some x → P x
+all_at P [] i x a is = absurd (none-some x is)
+all_at P (y ∷ xs) zero x a is = subst P (same_Some y x is) a.0
+all_at P (y ∷ xs) (suc i) x a is = all_at P xs i x a.1 is
+
+-- the independent ones are those that are not dropped
+kept_alike : (changes : List Change) (k : ℕ) (cs : List Change) → AllByRecursion (λ c. owner changes c ≡ None) cs → filter (λ d. is_independent changes d.1) (enumerate_from k cs) ≡ filter (λ d. not (is_dropped changes d.1)) (enumerate_from k cs)
+kept_alike changes k [] a = refl
+kept_alike changes k (c ∷ cs) a =
+    let same : is_independent changes c ≡ not (is_dropped changes c) = ap (λ o. not (is_dropped changes c) && is_none o) a.0 ∙ and_true (not (is_dropped changes c)) in
+    ap₂ (λ b ds. cond b ((k, c) ∷ ds) ds) same (kept_alike changes (k + 1) cs a.1)
+  where
+    and_true : (b : Bool) → (b && true) ≡ b
+    and_true true = refl
+    and_true false = refl
+
+text-plain : (ts : List OriginTree) → flat_map text ts ≡ flat_map text (map plain ts)
+text-plain [] = refl
+text-plain (t ∷ ts) = ap₂ (λ x y. x ++ y) (sym (text-relabelled (λ o. o.kind) t)) (text-plain ts)
+
+pub text-unowned : (changes : List Change) (places : ℕ → Path) (root : Element) → AllByRecursion (λ c. owner changes c ≡ None) changes → flat_map text (new_tree changes places root) ≡ text_filled (brought_text changes) (aims_of (undropped changes)) (subtree root)
+text-unowned changes places root none =
+    let gives : (c : ℕ) → map plain (given changes places c) ≡ map subtree (payload_of changes c) = λ c. plain-given changes places c (owns_nothing changes places c (λ i d is by. none-some c (sym (all_at (λ d. owner changes d ≡ None) changes i d none is) ∙ by))) in
+    let brings : (c : ℕ) → flat_map text (given changes places c) ≡ brought_text changes c = λ c. text-plain (given changes places c) ∙ ap (flat_map text) (gives c) ∙ flat_map-text (map subtree (payload_of changes c)) in
+    text-rewritten_whole (origin (address root) None) (given changes places) (brought_text changes) brings (independents changes) (subtree root) ∙ ap (λ ds. text_filled (brought_text changes) (aims_of ds) (subtree root)) (kept_alike changes 0 changes none)

@@ -1,0 +1,40 @@
+-- What the laws of rewriting speak of.
+--     IsUntouched                   no change aims at a gap of the node at this path or of one below, or over an element below
+--     brought_text                  the text of what a change brings
+--     filled_text, text_filled      the old text, in which each gap and each replaced range gives a text for each change that aims there;
+--                                   the same where the top may be replaced
+use Rattle.std.specs.Prelude.{◌≡◌, ℕ, suc, false, cond, List, [], ◌∷◌, ◌++◌, map, flat_map}
+use Rattle.cst_core.specs.Path.{Path}
+use Rattle.cst_core.specs.Tree.{Forest, Token, Node, end, more, SyntaxTree}
+use Rattle.cst_core.specs.Element.{subtree}
+use Rattle.cst_core.specs.Green.{texts}
+use Rattle.edit_plan.specs.Rewriting.{NumberedAim, inserts_at, replacements_at, is_replaced, gap_order, payload_of}
+use Rattle.edit_plan.specs.declared.change.Change.{Change}
+
+pub record IsUntouched (cs : List NumberedAim) (p : Path) : Type 0 where
+  pub no_inserts : (q : Path) (i : ℕ) → inserts_at cs (p ++ q) i ≡ []
+  pub not_replaced : (q : Path) (i : ℕ) → is_replaced cs (p ++ q ++ i ∷ []) ≡ false
+
+-- ---- texts
+abbrev pub brought_text : List Change → ℕ → List ℕ
+brought_text changes c = texts (map subtree (payload_of changes c))
+
+module _ (brought : ℕ → List ℕ) (cs : List NumberedAim) where
+  abbrev gap_text : Path → ℕ → List ℕ
+  gap_text p i = flat_map brought (gap_order (inserts_at cs p i))
+
+  abbrev slot_text : Path → List ℕ → List ℕ
+  slot_text p kept = cond (is_replaced cs p) (flat_map brought (replacements_at cs p)) kept
+
+  abbrev mutual
+    pub filled_text : Path → SyntaxTree → List ℕ
+    filled_text p (Token k s) = s
+    filled_text p (Node k f) = filled_text_from p 0 f
+
+    -- gap i, slot i, and so on to the last gap
+    pub filled_text_from : Path → ℕ → Forest ℕ → List ℕ
+    filled_text_from p i end = gap_text p i
+    filled_text_from p i (more t f) = gap_text p i ++ slot_text (p ++ i ∷ []) (filled_text (p ++ i ∷ []) t) ++ filled_text_from p (suc i) f
+
+  abbrev pub text_filled : SyntaxTree → List ℕ
+  text_filled t = slot_text [] (filled_text [] t)

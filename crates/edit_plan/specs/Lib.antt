@@ -1,0 +1,12 @@
+pub mod Codes
+pub mod Position
+pub mod Change
+pub mod Aim
+pub mod Nesting
+pub mod Rewriting
+pub mod Results
+pub mod Plan
+pub mod Schedule
+pub mod Effort
+pub mod Display
+pub mod Laws

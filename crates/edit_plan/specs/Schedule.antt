@@ -1,0 +1,84 @@
+-- In which orders the changes may be carried out one at a time.
+--     Numbered, undropped           a change with its number; the changes that are not dropped, with their numbers
+--     owned_first, gap_first, token_first      the first change has to be carried out before the second: it is owned by it;
+--                                   it inserts into the same gap and stands last there; it inserts behind a token that the other replaces
+--     comes_first                   one of these
+--     stands_before                 in the order, the one number stands before the other
+--     ListsEachOnce, respects       the order has each undropped change once and nothing else; it keeps to such a test
+--     IsAllowed                     an allowed order
+--     is_ready, is_closed           what must come before a change is done, and it is not; a set of changes has, with each owner, what it owns
+use Rattle.std.specs.Prelude.{◌≡◌, ℕ, Bool, false, not, ◌&&◌, ◌||◌, nat_eq, nat_lt, min, max, List, [], ◌∷◌, filter, count_by, Option, Some, None, IsTrue}
+use Rattle.std.specs.List.{list_all, enumerate_from, position_or_len}
+use Rattle.std.specs.Option.{option_map_or}
+use Rattle.cst_core.specs.Path.{Path, last_item}
+use Rattle.cst_core.specs.declared.element.SyntaxElement.TheVariants.{Node, Token}
+use Rattle.edit_plan.specs.Aim.{aim, same_gap, replaces}
+use Rattle.edit_plan.specs.Nesting.{is_dropped, has_owner}
+use Rattle.edit_plan.specs.Rewriting.{gap_order}
+use Rattle.edit_plan.specs.declared.position.Position.{Position}
+use Rattle.edit_plan.specs.declared.position.PositionForm.TheVariants.{FirstChild, After}
+use Rattle.edit_plan.specs.declared.change.Change.{Change}
+use Rattle.edit_plan.specs.declared.change.Change.TheVariants.{Insert, InsertAll, Replace, ReplaceWithMany, ReplaceAll}
+
+abbrev pub Numbered : Type 0
+Numbered = ℕ × Change
+
+abbrev pub undropped : List Change → List Numbered
+undropped cs = filter (λ c. not (is_dropped cs c.1)) (enumerate_from 0 cs)
+
+-- ---- what comes first
+abbrev pub owned_first : List Change → Numbered → Numbered → Bool
+owned_first cs c d = has_owner cs d.0 c.1
+
+-- the change that stands last in a gap with these two inserts alone
+abbrev last_in_gap : ℕ → ℕ → Option ℕ
+last_in_gap c d = last_item (gap_order (min c d ∷ max c d ∷ []))
+
+-- Each insert goes to the front of its gap, so the one that stands last there is carried out first.
+abbrev pub gap_first : Numbered → Numbered → Bool
+gap_first c d = same_gap (aim c.1) (aim d.1) && not (nat_eq c.0 d.0) && option_map_or (nat_eq c.0) (last_in_gap c.0 d.0) false
+
+abbrev token_before : Position → Option Path
+token_before (FirstChild n) = None
+token_before (After (Node n)) = None
+token_before (After (Token t)) = Some t.path
+
+-- the token that an insert stands behind
+abbrev anchor_token : Change → Option Path
+anchor_token (Insert at e) = token_before at
+anchor_token (InsertAll at es) = token_before at
+anchor_token (Replace t e) = None
+anchor_token (ReplaceWithMany t es) = None
+anchor_token (ReplaceAll first last es) = None
+
+abbrev pub token_first : Numbered → Numbered → Bool
+token_first c d = option_map_or (λ p. replaces p (aim d.1)) (anchor_token c.1) false
+
+abbrev pub comes_first : List Change → Numbered → Numbered → Bool
+comes_first cs c d = owned_first cs c d || gap_first c d || token_first c d
+
+-- ---- orders
+abbrev place_in : List ℕ → ℕ → ℕ
+place_in order c = position_or_len (nat_eq c) order
+
+abbrev pub stands_before : List ℕ → ℕ → ℕ → Bool
+stands_before order c d = nat_lt (place_in order c) (place_in order d)
+
+abbrev pub ListsEachOnce : List Change → List ℕ → Type 0
+ListsEachOnce cs order = (n : ℕ) → count_by (nat_eq n) order ≡ count_by (λ c. nat_eq n c.0) (undropped cs)
+
+abbrev pub respects : (Numbered → Numbered → Bool) → List Change → List ℕ → Bool
+respects first cs order = list_all (λ c. list_all (λ d. not (first c d) || stands_before order c.0 d.0) (undropped cs)) (undropped cs)
+
+pub record IsAllowed (cs : List Change) (order : List ℕ) : Type 0 where
+  pub each_once : ListsEachOnce cs order
+  pub owned_changes_first : IsTrue (respects (owned_first cs) cs order)
+  pub gaps_in_order : IsTrue (respects gap_first cs order)
+  pub tokens_last : IsTrue (respects token_first cs order)
+
+-- ---- sets of changes that are done
+abbrev pub is_ready : List Change → (ℕ → Bool) → Numbered → Bool
+is_ready cs done d = not (is_dropped cs d.1) && not (done d.0) && list_all (λ c. not (comes_first cs c d) || done c.0) (undropped cs)
+
+abbrev pub is_closed : List Change → (ℕ → Bool) → Bool
+is_closed cs done = list_all (λ d. not (done d.0) || list_all (λ c. not (owned_first cs c d) || done c.0) (undropped cs)) (undropped cs)

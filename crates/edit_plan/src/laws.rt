@@ -1,0 +1,61 @@
+//! Laws of changes and of the tree that they make, of the definitions alone.
+
+ghost use Rattle.std.specs.Prelude.{ℕ, ◌≡◌, List, [], ◌∷◌, ◌++◌, map, flat_map, slice_get, Option, None, false, All, IsTrue, IsSomeAnd};
+ghost use Rattle.cst_core.specs.Path.{Path};
+ghost use Rattle.cst_core.specs.Tree.{SyntaxTree, text};
+ghost use Rattle.cst_core.specs.Element.{Address, Element, subtree};
+ghost use Rattle.edit_plan.specs.declared.change.Change.{Change};
+ghost use Rattle.edit_map.specs.Mapping.{Mapping};
+ghost use Rattle.edit_plan.specs.Change.{shared_targets};
+ghost use Rattle.edit_plan.specs.Aim.{aim, aims_at_gap, same_gap};
+ghost use Rattle.edit_plan.specs.Nesting.{owner, region};
+ghost use Rattle.edit_plan.specs.Rewriting.{NumberedAim, Origin, OriginTree, gap, rewritten, origin, plain, aims_of, payload_of, is_free, given, Gives, new_tree};
+ghost use Rattle.edit_plan.specs.Results.{changed};
+ghost use Rattle.edit_plan.specs.Plan.{IsRewriting};
+ghost use Rattle.edit_plan.specs.Schedule.{undropped};
+ghost use Rattle.edit_plan.specs.Laws.{IsUntouched, brought_text, text_filled};
+
+/// Without a change the new tree is the old one, and nothing in it is changed.
+pub fn no_change_makes_no_difference()
+    ensures tree { (places : ℕ → Path) (root : Element) → map plain (new_tree [] places root) ≡ subtree root ∷ [] }
+    ensures changed { (places : ℕ → Path) (root : Element) → flat_map (changed (is_free [])) (new_tree [] places root) ≡ [] }
+{}
+
+/// Where no change aims at or below a path, what stands there stays as it was.
+pub fn untouched_stays()
+    ensures { (from : Address) (change : Option ℕ) (given : ℕ → List OriginTree) (cs : List NumberedAim) (p : Path) (t : SyntaxTree)
+        → IsUntouched cs p → plain (rewritten (origin from change) given cs p t) ≡ t }
+{}
+
+/// What a change gives is its payload, rewritten by what the changes that it owns give, and nothing else meets this.
+pub fn given_is_settled()
+    ensures gives { (changes : List Change) (places : ℕ → Path) → Gives changes places (given changes places) }
+    ensures only { (changes : List Change) (places : ℕ → Path) (g : ℕ → List OriginTree)
+        → Gives changes places g → (c : ℕ) → g c ≡ given changes places c }
+{}
+
+/// At one gap, what is recorded last stands first, and the elements of one change keep their order.
+pub fn inserts_stand_in_order()
+    ensures last_first { (label_at : Path → ℕ → Origin) (given : ℕ → List OriginTree) (cs : List NumberedAim) (c : NumberedAim) (p : Path) (i : ℕ)
+        → IsTrue (aims_at_gap p i c.1) → gap label_at given (cs ++ c ∷ []) p i ≡ given c.0 ++ gap label_at given cs p i }
+    ensures in_order { (changes : List Change) (places : ℕ → Path) (c : ℕ)
+        → IsSomeAnd (slice_get changes c) (λ change. region change ≡ []) → map plain (given changes places c) ≡ map subtree (payload_of changes c) }
+{}
+
+/// Where no change is owned, the new text is the old one, in which the gaps and the replaced ranges of the changes that
+/// are not dropped give the texts of what these bring.
+pub fn text_is_filled()
+    ensures { (changes : List Change) (places : ℕ → Path) (root : Element)
+        → All (λ c. owner changes c ≡ None) changes
+        → flat_map text (new_tree changes places root) ≡ text_filled (brought_text changes) (aims_of (undropped changes)) (subtree root) }
+{}
+
+/// Swapping two neighbours that aim at different gaps and share no target changes no answer.
+pub fn neighbours_swap()
+    ensures { (before : List Change) (c d : Change) (behind : List Change)
+        → same_gap (aim c) (aim d) ≡ false → shared_targets c d ≡ false
+        → (root : Element) (registrations : List (Element × ℕ)) (m : Mapping)
+        → (tree : SyntaxTree) (changed_paths : List Path) (annotated_paths : List (ℕ × Path))
+        → IsRewriting root (before ++ c ∷ d ∷ behind) registrations m tree changed_paths annotated_paths
+        → IsRewriting root (before ++ d ∷ c ∷ behind) registrations m tree changed_paths annotated_paths }
+{}

@@ -1,0 +1,10 @@
+mod RowEdits
+mod RowsOfRecording
+mod RowsOfIndentation
+mod RowsOfSpacing
+mod Addresses
+mod TakenUp
+mod Absorbed
+mod Fitting
+mod Lines
+mod Restored

@@ -1,0 +1,97 @@
+-- Worked examples of the whitespace round new elements.
+use Rattle.std.specs.Prelude.{◌≡◌, ℕ, List, [], ◌∷◌, codes, map, Option, Some, None, refl}
+use Rattle.std.specs.Str.{chars}
+use Rattle.cst_core.specs.SyntaxElement.{element_of}
+use Rattle.cst_core.specs.SyntaxKind.{SyntaxKind}
+use Rattle.cst_core.specs.Kinds.{AMP, ATTR, BLOCK_EXPR, COMMA, EXPR_STMT, FN, GENERIC_ARG_LIST, ITEM_LIST, LIFETIME, LITERAL, L_ANGLE, L_CURLY, NAME, R_ANGLE, SEMICOLON, STMT_LIST, USE, WHITESPACE}
+use Rattle.cst_core.specs.declared.element.SyntaxElement.{SyntaxElement}
+use Rattle.edit_plan.specs.declared.position.Position.{Position}
+use Rattle.edit_plan.specs.declared.position.PositionForm.TheVariants.{FirstChild, After}
+use Rattle.edit_plan.specs.declared.change.Change.{Change}
+use Rattle.edit_plan.specs.declared.change.Change.TheVariants.{InsertAll}
+use Rattle.edit_map.proofs.RowTrees.{token, branch, tree_L, tree_B}
+use Rattle.edit_map.proofs.Rows.{element_of_tree}
+use Rattle.syntax_editor.specs.Spacing.{Space, OneSpace, NoSpace, NewLine, between, space_before, numbers_needed, insert_all_with_whitespace, spacing_refusal}
+use Rattle.syntax_editor.specs.declared.error.RecordError.{RecordError}
+use Rattle.syntax_editor.specs.declared.error.RecordError.TheVariants.{Foreign, LevelTooLarge, NoTreeNumber}
+use Rattle.syntax_editor.proofs.RowEdits.{outcome, in_tree, R, A3, S1, G, V, hash, tree_J, tree_deep, tree_hash_fn}
+
+-- one new element, of the tree 2 at the earliest; the whitespace is of the trees from 20 on
+abbrev inserted : Position → SyntaxElement → List Change
+inserted at e = insert_all_with_whitespace 20 at (e ∷ []) []
+
+row_19i : outcome (inserted (After (R (2 ∷ []))) A3) tree_L ≡ (codes "(1, 3 2)", (3 ∷ []) ∷ (4 ∷ []) ∷ [])
+unfolding chars
+row_19i = refl
+
+row_19ii : outcome (inserted (FirstChild (element_of (R []))) A3) tree_L ≡ (codes "3 (1, 2)", (0 ∷ []) ∷ (1 ∷ []) ∷ [])
+unfolding chars
+row_19ii = refl
+
+row_19iii : outcome (inserted (After (in_tree tree_B (0 ∷ 0 ∷ []))) S1) tree_B ≡ (codes "{\n    let first = 1;\n    let second = 2;\n}", (0 ∷ 1 ∷ []) ∷ (0 ∷ 2 ∷ []) ∷ [])
+unfolding chars
+row_19iii = refl
+
+row_19iv : outcome (inserted (After (in_tree tree_J (0 ∷ []))) G) tree_J ≡ (codes "{\n    use }", (1 ∷ []) ∷ (2 ∷ []) ∷ (3 ∷ []) ∷ [])
+unfolding chars
+row_19iv = refl
+
+row_attributes : outcome (inserted (After (in_tree tree_hash_fn (0 ∷ []))) hash) tree_hash_fn ≡ (codes "#\n#\nfn", (1 ∷ []) ∷ (2 ∷ []) ∷ (3 ∷ []) ∷ [])
+unfolding chars
+row_attributes = refl
+
+-- nothing goes round no elements
+row_no_elements : insert_all_with_whitespace 20 (After (R (2 ∷ []))) [] [] ≡ InsertAll (After (R (2 ∷ []))) [] ∷ []
+row_no_elements = refl
+
+row_no_elements_outcome : outcome (insert_all_with_whitespace 20 (After (R (2 ∷ []))) [] []) tree_L ≡ (codes "(1, 2)", [])
+row_no_elements_outcome = refl
+
+-- ---- each line of the table, the left one at level 1 and the right one at level 2
+abbrev between_kinds : List (SyntaxKind × SyntaxKind) → List Space
+between_kinds ks = map (λ k. between (record { kind = k.0.0; level = 1 }) (record { kind = k.1.0; level = 2 })) ks
+
+row_none : between_kinds ((WHITESPACE, USE) ∷ (ATTR, WHITESPACE) ∷ (NAME, SEMICOLON) ∷ (NAME, COMMA) ∷ (L_ANGLE, NAME) ∷ (NAME, R_ANGLE) ∷ (AMP, LIFETIME) ∷ (NAME, GENERIC_ARG_LIST) ∷ (ATTR, COMMA) ∷ [])
+    ≡ NoSpace ∷ NoSpace ∷ NoSpace ∷ NoSpace ∷ NoSpace ∷ NoSpace ∷ NoSpace ∷ NoSpace ∷ NoSpace ∷ []
+row_none = refl
+
+row_new_line : between_kinds ((NAME, USE) ∷ (USE, USE) ∷ (ATTR, USE) ∷ (ATTR, NAME) ∷ (ATTR, ATTR) ∷ []) ≡ NewLine 1 ∷ NewLine 2 ∷ NewLine 1 ∷ NewLine 2 ∷ NewLine 2 ∷ []
+row_new_line = refl
+
+row_one_space : between_kinds ((NAME, NAME) ∷ (AMP, NAME) ∷ (NAME, LIFETIME) ∷ (USE, NAME) ∷ (NAME, ATTR) ∷ (L_CURLY, FN) ∷ []) ≡ OneSpace ∷ OneSpace ∷ OneSpace ∷ OneSpace ∷ OneSpace ∷ OneSpace ∷ []
+row_one_space = refl
+
+-- ---- behind an opening brace
+abbrev opened : SyntaxKind → SyntaxKind → Space
+opened parent first = space_before (After (in_tree (branch parent (token L_CURLY (codes "{") ∷ [])) (0 ∷ []))) (element_of_tree 2 (branch first []) [])
+
+row_opened : ◌≡◌ {A = List Space} (opened ITEM_LIST USE ∷ opened STMT_LIST USE ∷ opened STMT_LIST FN ∷ opened STMT_LIST EXPR_STMT ∷ []) (NewLine 1 ∷ NewLine 1 ∷ NewLine 1 ∷ NewLine 1 ∷ [])
+unfolding chars
+row_opened = refl
+
+-- an item in the braces of items, a literal, an import in another node's braces
+row_not_opened : ◌≡◌ {A = List Space} (opened ITEM_LIST FN ∷ opened STMT_LIST LITERAL ∷ opened BLOCK_EXPR USE ∷ []) (OneSpace ∷ OneSpace ∷ NewLine 0 ∷ [])
+unfolding chars
+row_not_opened = refl
+
+-- ---- refused calls
+-- J stands at level 255, and what opens it is one deeper
+row_too_deep : spacing_refusal (element_of (in_tree tree_deep [])) 20 (After (in_tree tree_deep (1 ∷ 0 ∷ []))) (G ∷ []) ≡ Some LevelTooLarge
+unfolding chars
+row_too_deep = refl
+
+-- two numbers are needed, and one or two are left
+abbrev refusal_at : ℕ → Option RecordError
+refusal_at number = spacing_refusal (element_of (in_tree tree_hash_fn [])) number (After (in_tree tree_hash_fn (0 ∷ []))) (hash ∷ [])
+
+row_numbers : numbers_needed (After (in_tree tree_hash_fn (0 ∷ []))) (hash ∷ []) ≡ 2
+unfolding chars
+row_numbers = refl
+
+row_spent : ◌≡◌ {A = List (Option RecordError)} (map refusal_at (18446744073709551614 ∷ 18446744073709551613 ∷ [])) (Some NoTreeNumber ∷ None ∷ [])
+unfolding chars
+row_spent = refl
+
+row_foreign : spacing_refusal (element_of (R [])) 20 (FirstChild (element_of V)) (A3 ∷ []) ≡ Some Foreign
+unfolding chars
+row_foreign = refl

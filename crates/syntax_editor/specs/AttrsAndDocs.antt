@@ -1,0 +1,31 @@
+-- The attributes and comments of a node, each with the whitespace directly behind it.
+--     is_attr_or_doc            the child in a slot is an attribute or a comment
+--     removed_slots             the slots of these, and of what is of kind WHITESPACE directly behind one
+--     removed_children          the children there
+--     remove_attrs_and_docs     the list of changes after their deletion, in order
+use Rattle.std.specs.Prelude.{ℕ, ◌-◌, ◌==◌, ◌&&◌, ◌||◌, Bool, false, List, [], ◌∷◌, length, map, filter, slice_get}
+use Rattle.std.specs.List.{fold, list_any}
+use Rattle.std.specs.Option.{option_map_or}
+use Rattle.cst_core.specs.Path.{counted_from}
+use Rattle.cst_core.specs.Tree.{SyntaxTree, children, label}
+use Rattle.cst_core.specs.Element.{Element, subtree, below}
+use Rattle.cst_core.specs.SyntaxElement.{syntax_of}
+use Rattle.cst_core.specs.declared.element.SyntaxElement.{SyntaxElement}
+use Rattle.cst_core.specs.Kinds.{ATTR, COMMENT, DOC_COMMENT, WHITESPACE}
+use Rattle.edit_plan.specs.declared.change.Change.{Change}
+use Rattle.syntax_editor.specs.Recording.{delete}
+
+abbrev pub is_attr_or_doc : SyntaxTree → ℕ → Bool
+is_attr_or_doc t i = option_map_or (λ c. list_any (λ k. label c == k.0) (ATTR ∷ COMMENT ∷ DOC_COMMENT ∷ [])) (slice_get (children t) i) false
+
+abbrev is_whitespace : SyntaxTree → ℕ → Bool
+is_whitespace t i = option_map_or (λ c. label c == WHITESPACE.0) (slice_get (children t) i) false
+
+abbrev pub removed_slots : SyntaxTree → List ℕ
+removed_slots t = filter (λ i. is_attr_or_doc t i || (is_whitespace t i && is_attr_or_doc t (i - 1))) (counted_from 0 (length (children t)))
+
+abbrev pub removed_children : Element → List SyntaxElement
+removed_children n = map (λ i. syntax_of (below n (i ∷ []))) (removed_slots (subtree n))
+
+abbrev pub remove_attrs_and_docs : Element → List Change → List Change
+remove_attrs_and_docs n cs = fold (λ ds e. delete e ds) cs (removed_children n)

@@ -1,0 +1,39 @@
+use std::alloc::AllocError;
+use thiserror::Error;
+
+/// Why a change is not recorded.
+#[derive(Debug, PartialEq, Eq, Drop, Error)]
+pub enum RecordError {
+    /// A position, a target or an end is of another tree, or leads to no element of its form in the editor's.
+    #[error("Foreign")]
+    Foreign,
+    /// The ends of a range are not siblings, or the last stands before the first.
+    #[error("BadRange")]
+    BadRange,
+    /// The root cannot be deleted.
+    #[error("DeletesRoot")]
+    DeletesRoot,
+    /// The root can be replaced by one node only.
+    #[error("RootReplacement")]
+    RootReplacement,
+    /// A level of indentation passes 255.
+    #[error("LevelTooLarge")]
+    LevelTooLarge,
+    /// The source of tree numbers is spent.
+    #[error("NoTreeNumber")]
+    NoTreeNumber,
+    /// Memory was refused.
+    #[error("Memory")]
+    Memory,
+}
+
+impl From<AllocError> for RecordError {
+    ghost use Rattle.std.specs.Prelude.{◌≡◌};
+    ghost use Rattle.syntax_editor.specs.declared.error.RecordError.{RecordError};
+
+    ghost from_gives = { λ _ e. e ≡ RecordError.Memory };
+
+    fn from(_: AllocError) -> RecordError {
+        RecordError::Memory
+    }
+}
