@@ -1,0 +1,3 @@
+pub mod Aim
+pub mod Rewriting
+pub mod Effort
