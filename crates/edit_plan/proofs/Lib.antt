@@ -19,6 +19,7 @@ mod Untold
 mod Filled
 mod Unowned
 mod Whole
+mod Carrying
 mod Exchanged
 mod Relabelled
 mod Apart
