@@ -1,50 +1,15 @@
 ghost use Rattle.std.specs.Prelude.{◌+◌, ◌≤◌, ◌≡◌, ◌++◌, [], ◌∷◌, flat_map, IfOk, OnOk};
-ghost use Rattle.std.specs.List.{list_any};
 ghost use Rattle.green_tree.specs.Tree.{node};
 ghost use Rattle.green_tree.specs.GreenElement.{element_tree, element_trees};
-ghost use Rattle.rewriting.specs.Rewriting.{gap, replacements_at, is_replaced, rewritten, rewritten_whole};
+ghost use Rattle.rewriting.specs.Rewriting.{gap, replacements_at, rewritten, rewritten_whole};
 ghost use Rattle.rewriting.specs.Effort.{touched, parents_of};
-ghost use Rattle.rewriting.specs.Aimed.{aims_of, has_parent};
+ghost use Rattle.rewriting.specs.Aimed.{aims_of};
 ghost use Rattle.rewriting.specs.Pass.{kind_only, given_by};
 
+use crate::aim_list::{alter_some, below, grouped, is_replaced, top_is_replaced};
 use crate::aimed::Aimed;
-use crate::groups::{below, grouped};
 use green_tree::{GreenElement, GreenNode, SyntaxKind};
 use std::alloc::{AllocError, Global};
-
-// Whether some aim alters the children of a node.
-pub fn alter_some(aims: &[Aimed]) -> bool
-    ensures { result ≡ list_any has_parent (aims_of aims.now) }
-{
-    for aim in aims {
-        if aim.has_parent() {
-            return true;
-        }
-    }
-    false
-}
-
-pub fn is_replaced(aims: &[Aimed], slot: usize) -> bool
-    ensures { result ≡ is_replaced (aims_of aims.now) (slot ∷ []) }
-{
-    for aim in aims {
-        if aim.replaces(slot) {
-            return true;
-        }
-    }
-    false
-}
-
-pub fn top_is_replaced(aims: &[Aimed]) -> bool
-    ensures { result ≡ is_replaced (aims_of aims.now) [] }
-{
-    for aim in aims {
-        if aim.replaces_top() {
-            return true;
-        }
-    }
-    false
-}
 
 fn share_all(
     alloc: Global,
