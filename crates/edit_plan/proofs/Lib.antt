@@ -20,7 +20,7 @@ mod Filled
 mod Unowned
 mod Whole
 mod Carrying
-mod Exchanged
+pub mod Exchanged
 mod Relabelled
 mod Apart
 mod Swapped
