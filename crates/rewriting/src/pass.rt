@@ -1,4 +1,4 @@
-ghost use Rattle.std.specs.Prelude.{◌+◌, ◌≤◌, ◌≡◌, ◌++◌, [], ◌∷◌, flat_map, IfOk, OnOk};
+ghost use Rattle.std.specs.Prelude.{◌+◌, ◌≤◌, ◌-◌, ◌^◌, ◌≡◌, ◌++◌, min, [], ◌∷◌, flat_map, IfOk, OnOk};
 ghost use Rattle.green_tree.specs.Tree.{node};
 ghost use Rattle.green_tree.specs.GreenElement.{element_tree, element_trees};
 ghost use Rattle.rewriting.specs.Rewriting.{gap, replacements_at, rewritten, rewritten_whole};
@@ -93,14 +93,14 @@ fn push_gap(
     Ok(())
 }
 
-// Makes a node, and counts it. At the greatest number the count stays.
+// The one place where a node is made, and counted. At the greatest number the count stays.
 fn build_node(
     alloc: Global,
     kind: SyntaxKind,
     children: Vec<GreenElement>,
     builds: &mut u64,
 ) -> Result<GreenElement, AllocError>
-    ensures count { builds.new ≤ builds.old + 1 }
+    ensures count { builds.new ≡ min (builds.old + 1) (2 ^ 64 - 1) }
     ensures tree { IfOk result (λ e. element_tree e ≡ node kind.0 (element_trees children.items)) }
 {
     *builds = builds.saturating_add(1);
@@ -108,9 +108,9 @@ fn build_node(
 }
 
 /// The element made anew by changes whose aims are counted from it: `given` has what each change gives, by its number.
-/// Only the nodes on the way to an aim are built, each once, and `builds` rises by one for each; what no aim is in or
-/// below is shared. An aim over the top itself is passed over: see `rebuild_whole`. Takes time linear in the aims times
-/// their depth, the children of the nodes that are built, and the children that are replaced.
+/// Only the nodes above an aim are built, and what no aim is in or below is shared; `builds` counts the nodes. An aim over
+/// the top itself is passed over: see `rebuild_whole`. Takes time linear in the aims times their depth, the children of
+/// the nodes that are built, and the children that are replaced.
 pub fn rebuild(
     alloc: Global,
     element: &GreenElement,
