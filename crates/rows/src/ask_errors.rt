@@ -45,12 +45,17 @@ pub fn answer(alloc: Global, question: ErrorQuestion, variant: &str) -> Result<S
     }
 }
 
-// `AllocError` is what want of memory is turned into.
 fn tree_error(alloc: Global, variant: &str) -> Result<String, NoAnswer> {
     if variant == "AllocError" {
-        return Ok(TreeError::from(AllocError).to_string(alloc)?);
+        return want_of_memory(alloc);
     }
     let error = find_named(&TREE_ERRORS, variant).ok_or(NoAnswer::Arguments)?;
+    Ok(error.to_string(alloc)?)
+}
+
+// The tree error that want of memory is turned into.
+fn want_of_memory(alloc: Global) -> Result<String, NoAnswer> {
+    let error = TreeError::from(AllocError);
     Ok(error.to_string(alloc)?)
 }
 

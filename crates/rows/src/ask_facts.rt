@@ -48,9 +48,18 @@ pub fn answer(
     place: &str,
 ) -> Result<String, NoAnswer> {
     let element = trees.element(alloc, place)?;
-    let own = of_element(alloc, question, &element)?;
-    let own = agreed(alloc, own, of_copy(alloc, question, &element)?)?;
+    let own = of_both(alloc, question, &element)?;
     agreed(alloc, own, by_form(alloc, question, &element)?)
+}
+
+// Of the element and of a copy.
+fn of_both(
+    alloc: Global,
+    question: FactQuestion,
+    element: &SyntaxElement,
+) -> Result<String, NoAnswer> {
+    let own = of_element(alloc, question, element)?;
+    agreed(alloc, own, of_copy(alloc, question, element)?)
 }
 
 fn of_copy(
@@ -68,9 +77,27 @@ fn by_form(
     element: &SyntaxElement,
 ) -> Result<String, NoAnswer> {
     match element {
-        SyntaxElement::Node(node) => of_node(alloc, question, &node.try_clone(alloc)?),
-        SyntaxElement::Token(token) => of_token(alloc, question, &token.try_clone(alloc)?),
+        SyntaxElement::Node(node) => of_node_copy(alloc, question, node),
+        SyntaxElement::Token(token) => of_token_copy(alloc, question, token),
     }
+}
+
+fn of_node_copy(
+    alloc: Global,
+    question: FactQuestion,
+    node: &SyntaxNode,
+) -> Result<String, NoAnswer> {
+    let copy = node.try_clone(alloc)?;
+    of_node(alloc, question, &copy)
+}
+
+fn of_token_copy(
+    alloc: Global,
+    question: FactQuestion,
+    token: &SyntaxToken,
+) -> Result<String, NoAnswer> {
+    let copy = token.try_clone(alloc)?;
+    of_token(alloc, question, &copy)
 }
 
 fn of_element(

@@ -48,11 +48,11 @@ fn of_node(alloc: Global, question: NodeQuestion, node: &SyntaxNode) -> Result<S
     let tree = node.tree();
     match question {
         NodeQuestion::ChildrenWithTokens => places(alloc, tree, &node.children_with_tokens(alloc)?),
-        NodeQuestion::Children => node_places(alloc, tree, node.children(alloc)?),
+        NodeQuestion::Children => node_places(alloc, tree, &node.children(alloc)?),
         NodeQuestion::FirstChildOrToken => place(alloc, tree, node.first_child_or_token(alloc)?),
         NodeQuestion::LastChildOrToken => place(alloc, tree, node.last_child_or_token(alloc)?),
         NodeQuestion::FirstToken => token_place(alloc, tree, node.first_token(alloc)?),
-        NodeQuestion::Descendants => node_places(alloc, tree, node.descendants(alloc)?),
+        NodeQuestion::Descendants => node_places(alloc, tree, &node.descendants(alloc)?),
         NodeQuestion::CloneSubtree => clone_subtree(alloc, node),
     }
 }

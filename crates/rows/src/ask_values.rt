@@ -100,13 +100,17 @@ fn form(alloc: Global, trees: &Trees, place: &str) -> Result<String, NoAnswer> {
 
 // The form is taken off and put on again.
 fn is_node(alloc: Global, element: &SyntaxElement) -> Result<bool, NoAnswer> {
-    let node = element.try_clone(alloc)?.into_node();
-    Ok(node.is_some_and(|node| SyntaxElement::from(node) == *element))
+    match element.try_clone(alloc)?.into_node() {
+        Some(node) => Ok(SyntaxElement::from(node) == *element),
+        None => Ok(false),
+    }
 }
 
 fn is_token(alloc: Global, element: &SyntaxElement) -> Result<bool, NoAnswer> {
-    let token = element.try_clone(alloc)?.into_token();
-    Ok(token.is_some_and(|token| SyntaxElement::from(token) == *element))
+    match element.try_clone(alloc)?.into_token() {
+        Some(token) => Ok(SyntaxElement::from(token) == *element),
+        None => Ok(false),
+    }
 }
 
 fn form_name(is_node: bool, is_token: bool) -> &'static str {

@@ -79,22 +79,12 @@ pub fn place(alloc: Global, tree: u64, element: Option<SyntaxElement>) -> Result
     }
 }
 
-fn place_of(alloc: Global, tree: u64, element: &SyntaxElement) -> Result<String, NoAnswer> {
-    if element.tree() != tree {
-        return Err(NoAnswer::OtherTree);
-    }
-    path_and_kind(alloc, element.slots(), element.kind())
-}
-
-fn path_and_kind(alloc: Global, slots: &[usize], kind: SyntaxKind) -> Result<String, NoAnswer> {
-    let path = path(alloc, slots)?;
-    let kind = kind_name(kind);
-    Ok(format!(in alloc; "{path} {kind}")?)
-}
-
 /// The same of a node.
 pub fn node_place(alloc: Global, tree: u64, node: Option<SyntaxNode>) -> Result<String, NoAnswer> {
-    place(alloc, tree, node.map(|node| SyntaxElement::Node(node)))
+    match node {
+        Some(node) => place_of_node(alloc, tree, &node),
+        None => word(alloc, "none"),
+    }
 }
 
 /// The same of a token.
@@ -103,7 +93,37 @@ pub fn token_place(
     tree: u64,
     token: Option<SyntaxToken>,
 ) -> Result<String, NoAnswer> {
-    place(alloc, tree, token.map(|token| SyntaxElement::Token(token)))
+    match token {
+        Some(token) => place_of_token(alloc, tree, &token),
+        None => word(alloc, "none"),
+    }
+}
+
+fn place_of(alloc: Global, tree: u64, element: &SyntaxElement) -> Result<String, NoAnswer> {
+    match element {
+        SyntaxElement::Node(node) => place_of_node(alloc, tree, node),
+        SyntaxElement::Token(token) => place_of_token(alloc, tree, token),
+    }
+}
+
+fn place_of_node(alloc: Global, tree: u64, node: &SyntaxNode) -> Result<String, NoAnswer> {
+    if node.tree() != tree {
+        return Err(NoAnswer::OtherTree);
+    }
+    path_and_kind(alloc, node.slots(), node.kind())
+}
+
+fn place_of_token(alloc: Global, tree: u64, token: &SyntaxToken) -> Result<String, NoAnswer> {
+    if token.tree() != tree {
+        return Err(NoAnswer::OtherTree);
+    }
+    path_and_kind(alloc, token.slots(), token.kind())
+}
+
+fn path_and_kind(alloc: Global, slots: &[usize], kind: SyntaxKind) -> Result<String, NoAnswer> {
+    let path = path(alloc, slots)?;
+    let kind = kind_name(kind);
+    Ok(format!(in alloc; "{path} {kind}")?)
 }
 
 /// Paths and kinds of elements of the tree with this number, with commas between; `none` of none.
@@ -118,20 +138,23 @@ pub fn places(alloc: Global, tree: u64, elements: &[SyntaxElement]) -> Result<St
     Ok(all)
 }
 
+/// The same of nodes.
+pub fn node_places(alloc: Global, tree: u64, nodes: &[SyntaxNode]) -> Result<String, NoAnswer> {
+    if nodes.is_empty() {
+        return word(alloc, "none");
+    }
+    let mut all = String::new(alloc);
+    for node in nodes {
+        push_item(&mut all, &place_of_node(alloc, tree, node)?)?;
+    }
+    Ok(all)
+}
+
 fn push_item(all: &mut String, item: &str) -> Result<(), AllocError> {
     if !all.is_empty() {
         all.push_str(", ")?;
     }
     all.push_str(item)
-}
-
-/// The same of nodes.
-pub fn node_places(alloc: Global, tree: u64, nodes: Vec<SyntaxNode>) -> Result<String, NoAnswer> {
-    let mut elements = Vec::new(alloc);
-    for node in nodes {
-        elements.push(SyntaxElement::Node(node))?;
-    }
-    places(alloc, tree, &elements)
 }
 
 /// The text of a tree that has less than 1,000 elements.
