@@ -7,6 +7,7 @@ mod edit;
 mod edit_error;
 mod element_like;
 mod element_list;
+mod fits;
 pub mod laws;
 mod native;
 mod nesting;
