@@ -4,7 +4,7 @@
 --     more-trees, table-is             what the changes bring, one change after another
 --     independents-to                  the changes without an owner, of the first so many
 --     one-more, one-dropped            one change more
-use Rattle.std.specs.Prelude.{◌≡◌, ℕ, zero, suc, ◌+◌, ◌-◌, ◌<◌, ◌≤◌, Bool, true, false, cond, not, ◌&&◌, List, [], ◌∷◌, ◌++◌, map, filter, length, take, slice_get, Vec, Option, Some, None, option_map, is_none, All, refl}
+use Rattle.std.specs.Prelude.{◌≡◌, ℕ, zero, suc, ◌+◌, ◌-◌, ◌<◌, ◌≤◌, true, false, cond, not, ◌&&◌, List, [], ◌∷◌, ◌++◌, map, filter, length, take, slice_get, Vec, Some, None, option_map, is_none, refl}
 use Rattle.std.specs.Global.{Global}
 use Rattle.std.specs.List.{enumerate_from}
 use Rattle.std.specs.Option.{option_map_or}
@@ -18,7 +18,7 @@ use mathlib.Core.Logic.{inl, inr}
 use Rattle.cst_core.specs.Path.{Path, same_path, siblings, counted_from, parent_path, last_slot}
 use Rattle.cst_core.specs.Tree.{SyntaxTree}
 use Rattle.cst_core.specs.Element.{Element, subtree}
-use Rattle.cst_core.specs.GreenElement.{element_trees, element_tree}
+use Rattle.cst_core.specs.GreenElement.{element_trees}
 use Rattle.cst_core.specs.SyntaxElement.{element_of}
 use Rattle.cst_core.specs.declared.element.SyntaxElement.{SyntaxElement}
 use Rattle.cst_core.proofs.LastSlot.{parent-and-slot}
@@ -30,7 +30,7 @@ use Rattle.edit_plan.specs.Aim.{aim}
 use Rattle.edit_plan.specs.Change.{payload}
 use Rattle.edit_plan.specs.Fits.{Fits, is_native, is_root, is_range}
 use Rattle.edit_plan.specs.Nesting.{owner, is_dropped, is_independent, first_nested}
-use Rattle.edit_plan.specs.Rewriting.{aims_of, independents, payload_of}
+use Rattle.edit_plan.specs.Rewriting.{aims_of, payload_of}
 use Rattle.edit_plan.specs.declared.change.Change.{Change}
 use Rattle.edit_plan.specs.declared.change.Change.TheVariants.{ReplaceAll}
 use Rattle.edit_plan.proofs.Around.{unowned-at}

@@ -3,19 +3,18 @@
 --     is_rewritten                  its answer is the plan's rewriting
 --     makes                         the edit that is put together is what the plan makes
 --     refuses                       the refusals of the new root, as those of the plan
-use Rattle.std.specs.Prelude.{◌≡◌, ℕ, ◌<◌, ◌≤◌, Bool, List, [], ◌∷◌, ◌++◌, map, flat_map, length, slice_get, Vec, Option, Some, None, option_map, Result, Ok, Err, IfErr, All, IfSome, refl}
+use Rattle.std.specs.Prelude.{◌≡◌, ℕ, ◌<◌, ◌≤◌, Bool, List, [], ◌∷◌, map, flat_map, length, slice_get, Vec, Some, None, option_map, Result, Ok, Err, IfErr, IfSome, refl}
 use Rattle.std.specs.Result.{IsErrAnd}
 use Rattle.std.specs.Global.{Global}
-use Rattle.std.specs.List.{AllByRecursion}
 use Rattle.std.specs.Option.{option_map_or}
 use Rattle.std.proofs.Common.{ap, sym, subst, ◌∙◌, arith}
 use Rattle.std.proofs.lemmas.List.{append-nil, length-map}
 use Rattle.std.proofs.lemmas.List.Elements.{All-from_recursion}
 use Rattle.std.proofs.lemmas.Option.{slice_get-map}
 use Rattle.cst_core.specs.Path.{Path}
-use Rattle.cst_core.specs.Tree.{Tree, SyntaxTree, text_length}
+use Rattle.cst_core.specs.Tree.{Tree, text_length}
 use Rattle.cst_core.specs.TreeIds.{IsSpent}
-use Rattle.cst_core.specs.Element.{Element, subtree}
+use Rattle.cst_core.specs.Element.{subtree}
 use Rattle.cst_core.specs.Green.{Branch, branch_tree, length_limit}
 use Rattle.cst_core.specs.GreenElement.{element_trees, element_tree}
 use Rattle.cst_core.specs.SyntaxElement.{syntax_at}
@@ -28,10 +27,9 @@ use Rattle.rewriting.specs.Topmost.{topmost, count_of, AreCounted, not_given}
 use Rattle.edit_plan.specs.Building.{Plan, Edit, Makes, WouldMake, IsRewritten, RunRefuses}
 use Rattle.edit_plan.specs.Refusal.{of_tree}
 use Rattle.edit_plan.specs.Nesting.{owner, first_nested}
-use Rattle.edit_plan.specs.Plan.{FindsPlace, ArePlaces, HasPlace, IsTooLong}
+use Rattle.edit_plan.specs.Plan.{FindsPlace, ArePlaces, HasPlace}
 use Rattle.edit_plan.specs.Results.{changed}
 use Rattle.edit_plan.specs.Rewriting.{OriginTree, plain, independents, payload_of, is_free, new_tree}
-use Rattle.edit_plan.specs.declared.change.Change.{Change}
 use Rattle.edit_plan.specs.declared.edit_error.EditError.TheVariants.{TooLong, NoTreeNumber}
 use Rattle.edit_plan.proofs.Filled.{text-relabelled}
 use Rattle.edit_plan.proofs.Lists.{all_weaker}

@@ -20,6 +20,7 @@ mod Filled
 mod Unowned
 mod Whole
 mod Carrying
+mod Leading
 pub mod Exchanged
 mod Relabelled
 mod Apart

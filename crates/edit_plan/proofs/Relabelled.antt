@@ -1,6 +1,6 @@
 -- Trees with other labels in place of their own.
 --     relabelled-rewritten          rewriting goes with a change of the labels
---     paths-relabelled, holds-relabelled, topmost-relabelled      the paths, and the tests of labels
+--     at-relabelled, paths-relabelled, holds-relabelled, topmost-relabelled      the paths, and the tests of labels
 --     relabelled-twice              one change of the labels after another
 use Rattle.std.specs.Prelude.{◌≡◌, ℕ, suc, Bool, true, false, cond, not, ◌&&◌, List, [], ◌∷◌, ◌++◌, map, filter, flat_map, slice_get, Some, None, option_map, option_and_then, refl}
 use Rattle.std.specs.Option.{option_map_or}
@@ -67,7 +67,7 @@ module _ {L M : Type 0} (h : L → M) where
   children-relabelled (Token l s) = refl
   children-relabelled (Node l f) = trees-relabelled f
 
-  at-relabelled : (t : Tree L) (p : Path) → at (relabelled h t) p ≡ option_map (relabelled h) (at t p)
+  pub at-relabelled : (t : Tree L) (p : Path) → at (relabelled h t) p ≡ option_map (relabelled h) (at t p)
   at-relabelled t [] = refl
   at-relabelled t (i ∷ p) =
       ap (λ ts. option_and_then (λ c. at c p) (slice_get ts i)) (children-relabelled t) ∙ ap (option_and_then (λ c. at c p)) (slice_get-map (relabelled h) (children t) i) ∙ elim (slice_get (children t) i) as (λ o. option_and_then (λ c. at c p) (option_map (relabelled h) o) ≡ option_map (relabelled h) (option_and_then (λ c. at c p) o)) [

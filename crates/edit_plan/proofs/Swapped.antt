@@ -14,7 +14,7 @@ use Rattle.std.proofs.lemmas.Bool.{and_parts, false≢true}
 use Rattle.std.proofs.lemmas.List.Elements.{recursion_from_All, All-from_recursion}
 use mathlib.Core.List.{map-map}
 use mathlib.Core.Path.{fun_ext}
-use Rattle.cst_core.specs.Path.{Path, has_path, parent_path, last_item, first_item}
+use Rattle.cst_core.specs.Path.{Path, has_path, last_item, first_item}
 use Rattle.cst_core.specs.Tree.{SyntaxTree, Tree, relabelled}
 use Rattle.cst_core.specs.Element.{Address, Element, address, same_address, subtree}
 use Rattle.edit_map.specs.Mapping.{Mapping, followed}

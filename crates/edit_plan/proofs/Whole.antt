@@ -3,7 +3,7 @@
 --     plain-whole                   without origins, the new tree is what the pass makes
 --     changed-whole                 the changed paths are those of what is given
 --     one-made                      where the pass makes one tree, there is one new tree
-use Rattle.std.specs.Prelude.{◌≡◌, ℕ, suc, Bool, true, false, cond, not, ◌&&◌, List, [], ◌∷◌, ◌++◌, map, filter, flat_map, length, slice_get, Option, Some, None, option_and_then, is_some, All, refl}
+use Rattle.std.specs.Prelude.{◌≡◌, ℕ, suc, Bool, true, false, not, ◌&&◌, List, [], ◌∷◌, ◌++◌, map, filter, flat_map, length, slice_get, Option, Some, None, option_and_then, is_some, All, refl}
 use Rattle.std.specs.List.{AllByRecursion, list_any, enumerate_from}
 use Rattle.std.specs.Option.{option_map_or}
 use Rattle.std.proofs.Common.{ap, ap₂, sym, ◌∙◌, arith}
@@ -14,20 +14,19 @@ use Rattle.std.proofs.lemmas.List.Elements.{filter-append, All-from_recursion}
 use mathlib.Core.List.{map-map}
 use mathlib.Core.Path.{fun_ext}
 use Rattle.cst_core.specs.Path.{Path, parent_path, last_slot, first_item}
-use Rattle.cst_core.specs.Tree.{Tree, Forest, Token, Node, end, more, SyntaxTree, label, at, paths, paths_from, relabelled}
+use Rattle.cst_core.specs.Tree.{Tree, Forest, Token, Node, end, more, SyntaxTree, at, paths, paths_from, relabelled}
 use Rattle.cst_core.specs.Element.{Element, address, subtree}
 use Rattle.green_tree.proofs.Lookup.{at-append}
 use Rattle.cst_core.proofs.LastSlot.{parent-and-slot}
-use Rattle.rewriting.specs.Aim.{starts_at, aims_at_gap}
 use Rattle.rewriting.specs.Pass.{kind_only}
-use Rattle.rewriting.specs.Rewriting.{NumberedAim, numbers, replacements_at, is_replaced, rewritten, rewritten_whole}
+use Rattle.rewriting.specs.Rewriting.{numbers, rewritten, rewritten_whole}
 use Rattle.rewriting.specs.Topmost.{holds_at, parent_holds, topmost, not_given}
 use Rattle.edit_plan.specs.Nesting.{owner, is_independent, first_nested}
 use Rattle.edit_plan.specs.Rewriting.{Origin, OriginTree, plain, origin, aims_of, payload_of, payload_rewritten, dependents, given, independents, is_free, new_tree}
 use Rattle.edit_plan.specs.Results.{is_brought, changed}
 use Rattle.edit_plan.specs.declared.change.Change.{Change}
 use Rattle.edit_plan.proofs.Around.{is_some-position}
-use Rattle.edit_plan.proofs.Lists.{all_filter, all_weaker, all_enumerated, flat_map-agree}
+use Rattle.edit_plan.proofs.Lists.{all_filter, all_weaker, all_enumerated}
 use Rattle.edit_plan.proofs.Relabelled.{relabelled-rewritten, map-rewritten_whole, topmost-relabelled}
 use Rattle.edit_plan.proofs.Settled.{given_is, owns_nothing, plain-given, rewritten-agree, whole-agree}
 use Rattle.edit_plan.proofs.Unowned.{all_at}

@@ -10,7 +10,7 @@
 --     Gives                         the equation that `given` meets, and no other function
 --     new_tree                      the old tree rewritten by the changes without an owner
 --     stage_tree, stage_payload     the same by those of the changes that are done; the payload of a keeping replacement then
-use Rattle.std.specs.Prelude.{◌≡◌, ℕ, zero, suc, Bool, false, List, [], ◌∷◌, ◌++◌, map, length, drop, filter, slice_get, unwrap_or, Option, Some, None}
+use Rattle.std.specs.Prelude.{◌≡◌, ℕ, zero, suc, Bool, false, List, [], ◌++◌, map, length, drop, filter, slice_get, unwrap_or, Option, Some, None}
 use Rattle.std.specs.List.{enumerate_from}
 use Rattle.std.specs.Option.{option_map_or}
 use Rattle.cst_core.specs.Path.{Path, first_item}

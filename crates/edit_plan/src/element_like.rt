@@ -20,7 +20,7 @@ impl Element for SyntaxNode {
 
     ghost element = { λ n. Node n };
 
-    fn syntax_element(self, _: Global) -> Result<SyntaxElement, AllocError> {
+    fn syntax_element(self, _alloc: Global) -> Result<SyntaxElement, AllocError> {
         Ok(SyntaxElement::Node(self))
     }
 }
@@ -30,7 +30,7 @@ impl Element for SyntaxToken {
 
     ghost element = { λ t. Token t };
 
-    fn syntax_element(self, _: Global) -> Result<SyntaxElement, AllocError> {
+    fn syntax_element(self, _alloc: Global) -> Result<SyntaxElement, AllocError> {
         Ok(SyntaxElement::Token(self))
     }
 }
@@ -38,7 +38,7 @@ impl Element for SyntaxToken {
 impl Element for SyntaxElement {
     ghost element = { λ e. e };
 
-    fn syntax_element(self, _: Global) -> Result<SyntaxElement, AllocError> {
+    fn syntax_element(self, _alloc: Global) -> Result<SyntaxElement, AllocError> {
         Ok(self)
     }
 }

@@ -1,6 +1,6 @@
-ghost use Rattle.std.specs.Prelude.{◌≡◌, ◌+◌, ℕ, [], ◌∷◌, map, length, Some, IfOk, IfErr, IfSome, OnOk, OnErr};
+ghost use Rattle.std.specs.Prelude.{◌≡◌, ◌+◌, ℕ, [], ◌∷◌, map, length, All, Some, IfOk, IfErr, IfSome, OnOk, OnErr};
 ghost use Rattle.cst_core.specs.Green.{branch_tree};
-ghost use Rattle.cst_core.specs.Element.{subtree};
+ghost use Rattle.cst_core.specs.Element.{IsElement, element_at, subtree};
 ghost use Rattle.cst_core.specs.GreenElement.{element_trees};
 ghost use Rattle.cst_core.specs.SyntaxElement.{syntax_at};
 ghost use Rattle.rewriting.specs.Aimed.{aims_of};
@@ -96,15 +96,16 @@ fn elements_at(
     root: &SyntaxNode,
     paths: &[Vec<usize>],
 ) -> Result<Vec<SyntaxElement>, AllocError>
-    requires { root.now.path ≡ [] }
+    requires is_root { root.now.path ≡ [] }
+    requires there { All (λ p. IsElement (element_at root.now p)) (paths_of paths.now) }
     ensures { IfOk result (λ v. map Some v.items ≡ map (syntax_at root.now) (paths_of paths.now)) }
 {
     let mut elements = Vec::new(alloc);
     for path in paths {
-        let Some(element) = root.element_at(alloc, path)? else {
-            return Err(AllocError);
-        };
-        elements.push(element)?;
+        match root.element_at(alloc, path)? {
+            Some(element) => elements.push(element)?,
+            None => unreachable!(),
+        }
     }
     Ok(elements)
 }

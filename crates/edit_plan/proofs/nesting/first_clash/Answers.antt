@@ -1,6 +1,6 @@
-use Rattle.std.proofs.Common.{◌≡◌, sym, ◌∙◌}
-use Rattle.std.specs.Prelude.{find, None, length}
-use Rattle.edit_plan.specs.Nesting.{pairs, pairs_with}
+use Rattle.std.proofs.Common.{sym, ◌∙◌}
+use Rattle.std.specs.Prelude.{length}
+use Rattle.edit_plan.specs.Nesting.{pairs_with}
 use Rattle.edit_plan.proofs.Clashes.{clash, none-more, first-found}
 use Rattle.edit_plan.proofs.nesting.first_clash.Goals as goal
 

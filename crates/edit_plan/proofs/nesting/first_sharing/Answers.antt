@@ -1,5 +1,5 @@
-use Rattle.std.proofs.Common.{◌≡◌, ◌<◌, length, true, false, sym, ◌∙◌, ap, arith}
-use Rattle.std.specs.Prelude.{find, None, slice_get, Some}
+use Rattle.std.proofs.Common.{◌≡◌, true, false, sym, ◌∙◌, ap, arith}
+use Rattle.std.specs.Prelude.{find, None}
 use Rattle.edit_plan.specs.Nesting.{clashes}
 use Rattle.edit_plan.proofs.Clashes.{until, clash, lone, none-more, none-lone, first-sharing, sharing-is, clashes-at, at-index}
 use Rattle.edit_plan.proofs.nesting.first_sharing.Goals as goal

@@ -1,5 +1,4 @@
-use Rattle.std.proofs.Common.{◌≡◌, false, sym, ◌∙◌}
-use Rattle.edit_plan.specs.Nesting.{is_dropped}
+use Rattle.std.proofs.Common.{sym, ◌∙◌}
 use Rattle.edit_plan.proofs.Around.{surrounded}
 use Rattle.edit_plan.proofs.nesting.has_owner.Goals as goal
 

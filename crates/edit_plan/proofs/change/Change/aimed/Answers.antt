@@ -1,9 +1,7 @@
-use Rattle.std.proofs.Common.{◌≡◌, [], ◌∷◌, sym, ◌∙◌, ap, subst}
+use Rattle.std.proofs.Common.{[], ◌∷◌, sym, ◌∙◌, ap}
 use Rattle.rewriting.specs.Aim.{Over}
-use Rattle.cst_core.specs.SyntaxElement.{element_of}
 use Rattle.edit_plan.specs.Aim.{aim}
-use Rattle.edit_plan.specs.Fits.{Fits}
-use Rattle.edit_plan.proofs.Carried.{one-sibling, range-has-parent}
+use Rattle.edit_plan.proofs.Carried.{one-sibling}
 use Rattle.edit_plan.proofs.change.Change.aimed.Goals as goal
 
 pub returns-in-Replace : goal.returns-in-Replace

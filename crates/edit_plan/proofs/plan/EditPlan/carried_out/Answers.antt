@@ -1,5 +1,4 @@
 use Rattle.std.proofs.Common.{◌≡◌, map, flat_map, length, sym, ◌∙◌, ap, ap₂, subst}
-use Rattle.cst_core.specs.Tree.{SyntaxTree}
 use Rattle.cst_core.specs.Element.{subtree}
 use Rattle.cst_core.specs.Green.{branch_tree}
 use Rattle.rewriting.specs.Aimed.{aims_of}

@@ -1,11 +1,18 @@
-use Rattle.std.proofs.Common.{◌≡◌, [], map, Err, sym, ◌∙◌, ap}
+use Rattle.std.proofs.Common.{◌≡◌, [], map, Err, sym, ◌∙◌, ap, subst}
 use Rattle.cst_core.specs.Green.{branch_tree}
 use Rattle.cst_core.specs.SyntaxElement.{syntax_at}
 use Rattle.rewriting.specs.Topmost.{paths_of}
-use Rattle.edit_plan.specs.Building.{RunRefuses}
+use Rattle.edit_plan.specs.Building.{IsRewritten, RunRefuses}
 use Rattle.edit_plan.specs.Refusal.{of_tree}
 use Rattle.edit_plan.proofs.Carrying.{makes, refuses, err-gives}
+use Rattle.edit_plan.proofs.Leading.{changed-there}
 use Rattle.edit_plan.proofs.plan.EditPlan.run.Goals as goal
+
+pub elements_at-requires : goal.elements_at-requires
+elements_at-requires c = record {
+  is_root = ap (λ x. x.path) c.in_ok-new_root.ensures.ok;
+  there = changed-there c.args.self.now (branch_tree c.in_ok-green.field-0.green) (paths_of c.deref.result.now) (subst (λ vs. IsRewritten c.args.self.now (branch_tree c.in_ok-green.field-0.green) (paths_of vs)) (sym c.deref.ensures.value) c.in_ok-green.ensures) c.in_ok-new_root.new_root (ap (λ x. x.root) c.in_ok-new_root.ensures.ok);
+}
 
 pub returns-in_err-new_root-clause-refused : goal.returns-in_err-new_root-clause-refused
 returns-in_err-new_root-clause-refused c =

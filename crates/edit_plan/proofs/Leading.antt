@@ -1,0 +1,59 @@
+-- The paths of what is told of a new tree lead to elements of it.
+--     topmost-there                 those of the topmost elements that pass a test
+--     changed-there                 those of the changed elements of a plan
+--     leads                         a path that leads to an element leads to its value
+use Rattle.std.specs.Prelude.{◌≡◌, ℕ, ◌<◌, ◌&&◌, not, Bool, true, false, List, [], ◌∷◌, ◌++◌, length, Vec, Some, None, option_map, is_some, IsSome, All, get_or, refl}
+use Rattle.std.specs.Global.{Global}
+use Rattle.std.specs.List.{AllByRecursion}
+use Rattle.std.specs.Option.{option_map_or}
+use Rattle.std.proofs.Common.{ap, sym, subst, ◌∙◌}
+use Rattle.std.proofs.lemmas.Bool.{and_parts}
+use Rattle.std.proofs.lemmas.List.{length-map, get_or-map}
+use Rattle.std.proofs.lemmas.List.Elements.{All-from_recursion}
+use Rattle.cst_core.specs.Path.{Path}
+use Rattle.cst_core.specs.Tree.{Tree, SyntaxTree, label, at, paths, relabelled}
+use Rattle.cst_core.specs.Element.{Element, IsElement, element_at}
+use Rattle.cst_core.specs.SyntaxElement.{syntax_as, syntax_at}
+use Rattle.rewriting.specs.Topmost.{holds_at, parent_holds, topmost, paths_of}
+use Rattle.edit_plan.specs.Building.{Plan, IsRewritten}
+use Rattle.edit_plan.specs.Rewriting.{is_free}
+use Rattle.edit_plan.specs.Results.{is_brought}
+use Rattle.edit_plan.proofs.Lists.{all_filter, all_weaker}
+use Rattle.edit_plan.proofs.Relabelled.{at-relabelled}
+
+all-any : {X : Type 0} (xs : List X) → AllByRecursion (λ x. Unit {0}) xs
+all-any [] = tt
+all-any (x ∷ xs) = (tt, all-any xs)
+
+holds-there : {L : Type 0} (test : L → Bool) (t : Tree L) (p : Path) → holds_at test t p ≡ true → IsSome (at t p)
+holds-there test t p =
+    elim (at t p) as (λ o. option_map_or (λ e. test (label e)) o false ≡ true → IsSome o) [
+      | None ↦ λ h. cc
+      | Some e ↦ λ h. refl
+    ]
+
+topmost-there : {L : Type 0} (test : L → Bool) (t : Tree L) → AllByRecursion (λ p. IsSome (at t p)) (topmost test t)
+topmost-there test t =
+    all_weaker (λ p. Unit {0} × ((holds_at test t p && not (parent_holds test t p)) ≡ true)) (λ p. IsSome (at t p)) (topmost test t) (λ p h. holds-there test t p (and_parts (holds_at test t p) (not (parent_holds test t p)) h.1).0) (all_filter (λ p. Unit {0}) (λ p. holds_at test t p && not (parent_holds test t p)) (paths t) (all-any (paths t)))
+
+still-there : {L M : Type 0} (h : L → M) (t : Tree L) (p : Path) → IsSome (at t p) → IsSome (at (relabelled h t) p)
+still-there h t p some =
+    ap is_some (at-relabelled h t p) ∙ (elim (at t p) as (λ o. is_some (option_map (relabelled h) o) ≡ is_some o) [ None ↦ refl | Some e ↦ refl ]) ∙ some
+
+pub changed-there : (p : Plan) (tree : SyntaxTree) (paths : List Path) → IsRewritten p tree paths → (e : Element) → e.root ≡ tree → All (λ q. IsElement (element_at e q)) paths
+changed-there p tree paths r e is =
+    All-from_recursion (λ q. IsSome (at e.root q)) paths (subst (λ ps. AllByRecursion (λ q. IsSome (at e.root q)) ps) (sym r.changed_is) (all_weaker (λ q. IsSome (at r.made q)) (λ q. IsSome (at e.root q)) _ (λ q h. subst (λ t. IsSome (at t q)) (sym (is ∙ r.tree_is)) (still-there (λ o. o.kind) r.made q h)) (topmost-there (is_brought (is_free p.changes)) r.made)))
+
+no-value-nowhere : (e : Element) (q : Path) → IsSome (at e.root q) → syntax_at e q ≡ None → ⊥
+no-value-nowhere e q some none =
+    (elim (at e.root q) as (λ o. is_some o ≡ true → option_map (λ t. syntax_as t (element_at e q)) o ≡ None → ⊥) [
+      | None ↦ λ h n. cc
+      | Some t ↦ λ h n. cc
+    ]) some none
+
+-- one of these paths, each of which leads to an element, leads to a value
+pub leads : (e : Element) (vs : List (Vec ℕ Global)) (i : ℕ) (v : Vec ℕ Global) (q : Path) → e.path ≡ [] → All (λ p. IsElement (element_at e p)) (paths_of vs) → i < length vs → v ≡ get_or vs i v → q ≡ v.items → syntax_at e (e.path ++ q) ≡ None → ⊥
+leads e vs i v q root there lt is same none =
+    let here : i < length (paths_of vs) = subst (λ n. i < n) (sym (length-map vs (λ w. w.items))) lt in
+    let item : get_or (paths_of vs) i v.items ≡ q = get_or-map (λ w. w.items) vs i v v.items lt ∙ sym (ap (λ w. w.items) is) ∙ sym same in
+    no-value-nowhere e q (subst (λ p. IsSome (at e.root p)) item (there i v.items here)) (ap (λ p. syntax_at e (p ++ q)) (sym root) ∙ none)
