@@ -1,0 +1,13 @@
+//! What the program `syned` does: it reads a script, carries its edit out, and writes the answer.
+#![tactic(auto)]
+
+mod answer;
+mod ends;
+mod name;
+mod program;
+mod reference;
+mod script;
+mod session;
+mod stop;
+
+pub use program::run;
