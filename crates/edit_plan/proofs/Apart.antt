@@ -19,7 +19,8 @@ use Rattle.cst_core.specs.SyntaxElement.{element_of}
 use Rattle.cst_core.specs.declared.element.SyntaxElement.TheVariants.{Node, Token}
 use Rattle.edit_plan.specs.Position.{anchor}
 use Rattle.edit_plan.specs.Change.{targets, shared_targets}
-use Rattle.edit_plan.specs.Aim.{Aim, FirstIn, Behind, Over, position_aim, aim, aims_at_gap, same_gap, starts_at}
+use Rattle.rewriting.specs.Aim.{Aim, FirstIn, Behind, Over, aims_at_gap, same_gap, starts_at}
+use Rattle.edit_plan.specs.Aim.{position_aim, aim}
 use Rattle.edit_plan.specs.Nesting.{region, is_keeping, surroundings, is_around, owner, has_owner}
 use Rattle.edit_plan.specs.Rewriting.{moved_path, moved_aim, targets_of}
 use Rattle.edit_plan.specs.declared.position.Position.{Position}

@@ -4,7 +4,7 @@ use Rattle.std.specs.List.{AllByRecursion}
 use Rattle.std.proofs.Common.{ap, sym, ◌∙◌}
 use Rattle.std.proofs.lemmas.List.{map-append}
 use mathlib.Core.List.{reverse-cons}
-use Rattle.edit_plan.specs.Rewriting.{gap_order}
+use Rattle.rewriting.specs.Rewriting.{gap_order}
 use Rattle.edit_plan.proofs.Lists.{all-append}
 
 -- what holds of each insert holds of each in their order

@@ -7,6 +7,9 @@ mod RowsOfPositions
 mod RowsOfLengths
 mod Lists
 mod Paths
+pub mod Siblings
+mod Around
+mod Clashes
 mod GapRule
 mod Edits
 mod Owners

@@ -1,6 +1,7 @@
--- The test of two paths.
-use Rattle.std.specs.Prelude.{◌≡◌, true}
-use Rattle.std.proofs.lemmas.Bool.{eqb-true, eq-eqb}
+-- Tests of paths, and what their answers say.
+use Rattle.std.specs.Prelude.{◌≡◌, suc, true, false, not, nat_eq, [], ◌∷◌, length, refl}
+use Rattle.std.proofs.Common.{ap, sym, ◌∙◌, arith}
+use Rattle.std.proofs.lemmas.Bool.{eqb-true, eq-eqb, true≢false, true_from_ne_false}
 use lib.Pointwise.{pointwise_decides}
 use Rattle.cst_core.specs.Path.{Path, same_path}
 
@@ -12,3 +13,17 @@ same_path-true p q h = (decides p q).0 h
 
 pub same_path_from : (p q : Path) → p ≡ q → same_path p q ≡ true
 same_path_from p q h = (decides p q).1 h
+
+-- ---- answers of tests
+pub is-empty : (p : Path) → nat_eq (length p) 0 ≡ true → p ≡ []
+is-empty [] h = refl
+is-empty (i ∷ p) h = absurd (omega (arith, eqb-true (suc (length p)) 0 h))
+
+pub not-empty : (p : Path) → nat_eq (length p) 0 ≡ false → p ≡ [] → ⊥
+not-empty p h none = true≢false (sym (ap (λ q. nat_eq (length q) 0) none) ∙ h)
+
+pub same-from-ne : (p q : Path) → not (same_path p q) ≡ false → p ≡ q
+same-from-ne p q h = same_path-true p q (true_from_ne_false (same_path p q) (λ k. true≢false (sym (ap not k) ∙ h)))
+
+pub differ-from-ne : (p q : Path) → not (same_path p q) ≡ true → p ≡ q → ⊥
+differ-from-ne p q h same = true≢false (sym h ∙ ap not (same_path_from p q same))

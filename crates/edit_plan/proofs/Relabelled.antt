@@ -9,7 +9,7 @@ use Rattle.std.proofs.lemmas.List.{map-append}
 use Rattle.std.proofs.lemmas.Option.{slice_get-map}
 use Rattle.cst_core.specs.Path.{Path}
 use Rattle.cst_core.specs.Tree.{Tree, Forest, Token, Node, end, more, SyntaxTree, trees, forest, label, children, at, paths, paths_from, relabelled, forest_relabelled}
-use Rattle.edit_plan.specs.Rewriting.{NumberedAim, inserts_at, replacements_at, is_replaced, gap_order, gap, slot, rewritten, rewritten_from, rewritten_whole}
+use Rattle.rewriting.specs.Rewriting.{NumberedAim, inserts_at, replacements_at, is_replaced, gap_order, gap, slot, rewritten, rewritten_from, rewritten_whole}
 
 module _ {L M : Type 0} (h : L → M) where
   forest-map : (ts : List (Tree L)) → forest_relabelled h (forest ts) ≡ forest (map (relabelled h) ts)

@@ -3,7 +3,8 @@ use Rattle.std.specs.Prelude.{◌≡◌, List, [], ◌∷◌, map, Option, Some,
 use Rattle.cst_core.specs.SyntaxElement.{syntax_of}
 use Rattle.edit_map.proofs.Rows.{R}
 use Rattle.edit_plan.specs.Position as place
-use Rattle.edit_plan.specs.Aim.{Gap, position_aim, gap_of}
+use Rattle.rewriting.specs.Aim.{Gap, gap_of}
+use Rattle.edit_plan.specs.Aim.{position_aim}
 use Rattle.edit_plan.specs.declared.position.Position.{Position}
 use Rattle.edit_plan.specs.declared.position.PositionForm.TheVariants.{FirstChild, After}
 use Rattle.edit_plan.proofs.RowChanges.{E, after, before, last_in}

@@ -10,9 +10,11 @@ use mathlib.Core.Path.{fun_ext}
 use Rattle.cst_core.specs.Path.{Path, first_item}
 use Rattle.cst_core.specs.Tree.{SyntaxTree}
 use Rattle.cst_core.specs.Element.{address, subtree}
-use Rattle.edit_plan.specs.Aim.{aim, aims_at_gap, starts_at}
+use Rattle.rewriting.specs.Aim.{aims_at_gap, starts_at}
+use Rattle.edit_plan.specs.Aim.{aim}
 use Rattle.edit_plan.specs.Nesting.{owner, has_owner}
-use Rattle.edit_plan.specs.Rewriting.{Origin, OriginTree, origin, NumberedAim, numbers, inserts_at, replacements_at, is_replaced, gap_order, gap, moved_aim, targets_of, payload_of, payload_rewritten, dependents, given_within, given, Gives, rewritten, plain}
+use Rattle.rewriting.specs.Rewriting.{NumberedAim, numbers, inserts_at, replacements_at, is_replaced, gap_order, gap, rewritten}
+use Rattle.edit_plan.specs.Rewriting.{Origin, OriginTree, origin, moved_aim, targets_of, payload_of, payload_rewritten, dependents, given_within, given, Gives, plain}
 use Rattle.edit_plan.specs.declared.change.Change.{Change}
 use Rattle.edit_plan.proofs.Lists.{all_filter, all_weaker, all_enumerated, flat_map-agree}
 use Rattle.edit_plan.proofs.GapRule.{all-gap_order}

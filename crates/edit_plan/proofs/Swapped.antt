@@ -19,9 +19,11 @@ use Rattle.cst_core.specs.Tree.{SyntaxTree, Tree, relabelled}
 use Rattle.cst_core.specs.Element.{Address, Element, address, same_address, subtree}
 use Rattle.edit_map.specs.Mapping.{Mapping, followed}
 use Rattle.edit_plan.specs.Change.{payload, targets, shared_targets}
-use Rattle.edit_plan.specs.Aim.{Aim, aim, aims_at_gap, same_gap, starts_at, replaces}
+use Rattle.rewriting.specs.Aim.{Aim, aims_at_gap, same_gap, starts_at, replaces}
+use Rattle.edit_plan.specs.Aim.{aim}
 use Rattle.edit_plan.specs.Nesting.{region, is_keeping, surroundings, is_around, is_dropped, region_at, owner, is_independent, has_owner}
-use Rattle.edit_plan.specs.Rewriting.{Origin, OriginTree, plain, origin, NumberedAim, numbers, inserts_at, replacements_at, is_replaced, gap_order, gap, rewritten, rewritten_whole, moved_aim, targets_of, payload_of, is_free, independents, dependents, given, Gives, new_tree}
+use Rattle.rewriting.specs.Rewriting.{NumberedAim, numbers, inserts_at, replacements_at, is_replaced, gap_order, gap, rewritten, rewritten_whole}
+use Rattle.edit_plan.specs.Rewriting.{Origin, OriginTree, plain, origin, moved_aim, targets_of, payload_of, is_free, independents, dependents, given, Gives, new_tree}
 use Rattle.edit_plan.specs.Results.{holds_at, is_brought, parent_is_brought, changed, copies_of, annotated}
 use Rattle.edit_plan.specs.Plan.{HasPlace, FindsPlace, ArePlaces, IsRewriting}
 use Rattle.edit_plan.specs.declared.change.Change.{Change}

@@ -1,28 +1,12 @@
--- Where a change aims, by paths alone: all that the place of its payload hangs on.
---     Gap                           a node and an index from 0 to its number of children: before its child i, the last behind its last child
---     Aim, aim                      before the first child of a node, behind an element, or over some elements; the aim of a change
---     gap_of, aims_at_gap           the gap that an insert fills; it is this one
---     same_gap                      two inserts fill one gap: a gap has one form, so they have the same
---     starts_at, replaces           a replacement replaces from this path on; it replaces this path
---     parents                       the node whose children the change alters: none for a replaced root
-use Rattle.std.specs.Prelude.{ℕ, suc, Bool, false, ◌&&◌, nat_eq, List, [], ◌∷◌, Option, Some, None}
-use Rattle.std.specs.Option.{option_map_or}
-use Rattle.cst_core.specs.Path.{Path, same_path, has_path, parent_path, last_slot}
+-- Where a change aims.
+--     position_aim, aim             the aim of a position, of a change
 use Rattle.cst_core.specs.SyntaxElement.{element_of}
+use Rattle.rewriting.specs.Aim.{Aim, FirstIn, Behind, Over}
 use Rattle.edit_plan.specs.Change.{targets}
 use Rattle.edit_plan.specs.declared.position.Position.{Position}
 use Rattle.edit_plan.specs.declared.position.PositionForm.TheVariants.{FirstChild, After}
 use Rattle.edit_plan.specs.declared.change.Change.{Change}
 use Rattle.edit_plan.specs.declared.change.Change.TheVariants.{Insert, InsertAll, Replace, ReplaceWithMany, ReplaceAll}
-
-pub record Gap : Type 0 where
-  pub node : Path
-  pub index : ℕ
-
-pub data Aim : Type 0 where
-  FirstIn : (node : Path) → Aim
-  Behind : (element : Path) → Aim
-  Over : (replaced : List Path) → Aim
 
 abbrev pub position_aim : Position → Aim
 position_aim (FirstChild n) = FirstIn n.path
@@ -34,49 +18,3 @@ aim (InsertAll at es) = position_aim at
 aim (Replace t e) = Over (targets (Replace t e))
 aim (ReplaceWithMany t es) = Over (targets (ReplaceWithMany t es))
 aim (ReplaceAll first last es) = Over (targets (ReplaceAll first last es))
-
--- ---- inserts
--- behind the top there is no gap
-abbrev gap_behind : Path → Option Gap
-gap_behind [] = None
-gap_behind (i ∷ p) = Some (record { node = parent_path (i ∷ p); index = suc (last_slot (i ∷ p)) })
-
-abbrev pub gap_of : Aim → Option Gap
-gap_of (FirstIn p) = Some (record { node = p; index = 0 })
-gap_of (Behind p) = gap_behind p
-gap_of (Over ps) = None
-
-abbrev pub aims_at_gap : Path → ℕ → Aim → Bool
-aims_at_gap p i a = option_map_or (λ g. same_path p g.node && nat_eq i g.index) (gap_of a) false
-
-abbrev pub same_gap : Aim → Aim → Bool
-same_gap (FirstIn p) (FirstIn q) = same_path p q
-same_gap (FirstIn p) (Behind q) = false
-same_gap (FirstIn p) (Over qs) = false
-same_gap (Behind p) (FirstIn q) = false
-same_gap (Behind p) (Behind q) = same_path p q
-same_gap (Behind p) (Over qs) = false
-same_gap (Over ps) a = false
-
--- ---- replacements
-abbrev pub starts_at : Path → Aim → Bool
-starts_at p (FirstIn q) = false
-starts_at p (Behind q) = false
-starts_at p (Over []) = false
-starts_at p (Over (q ∷ qs)) = same_path p q
-
-abbrev pub replaces : Path → Aim → Bool
-replaces p (FirstIn q) = false
-replaces p (Behind q) = false
-replaces p (Over qs) = has_path qs p
-
--- ---- the node whose children are altered
-abbrev path_above : Path → List Path
-path_above [] = []
-path_above (i ∷ p) = parent_path (i ∷ p) ∷ []
-
-abbrev pub parents : Aim → List Path
-parents (FirstIn p) = p ∷ []
-parents (Behind p) = path_above p
-parents (Over []) = []
-parents (Over (p ∷ ps)) = path_above p

@@ -8,7 +8,8 @@ use Rattle.cst_core.specs.Path.{Path}
 use Rattle.cst_core.specs.Tree.{Forest, Token, Node, end, more, SyntaxTree}
 use Rattle.cst_core.specs.Element.{subtree}
 use Rattle.cst_core.specs.Green.{texts}
-use Rattle.edit_plan.specs.Rewriting.{NumberedAim, inserts_at, replacements_at, is_replaced, gap_order, payload_of}
+use Rattle.rewriting.specs.Rewriting.{NumberedAim, inserts_at, replacements_at, is_replaced, gap_order}
+use Rattle.edit_plan.specs.Rewriting.{payload_of}
 use Rattle.edit_plan.specs.declared.change.Change.{Change}
 
 pub record IsUntouched (cs : List NumberedAim) (p : Path) : Type 0 where

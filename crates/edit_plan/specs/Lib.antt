@@ -2,6 +2,7 @@ pub mod Codes
 pub mod Position
 pub mod Change
 pub mod Aim
+pub mod Fits
 pub mod Nesting
 pub mod Rewriting
 pub mod Results
@@ -9,4 +10,8 @@ pub mod Plan
 pub mod Schedule
 pub mod Effort
 pub mod Display
+pub mod Targets
+pub mod Refusal
+pub mod ChangeCodes
+pub mod Building
 pub mod Laws

@@ -1,5 +1,6 @@
 -- Which changes clash, and which lie inside what another one replaces.
---     pairs, first_clash            the numbers of each two of so many changes; the first two that share a target, by the second and then by the first
+--     pairs_with, pairs             the numbers of a change and of each one before it; of each two of so many changes
+--     first_clash                   the first two that share a target, by the second and then by the first
 --     region                        the targets of a replacement with all that is below them: a replaced token alone is no region
 --     is_keeping                    the region of a node replaced by a node: what aims into it moves along
 --     surroundings                  an insert's anchor and the elements above it; the elements above a replacement's targets
@@ -7,7 +8,8 @@
 --     is_dropped                    some dropping region is around it
 --     owner                         of a change that is not dropped: the replacement with the deepest region around it
 --     is_independent, has_owner     neither dropped nor owned; owned by this change
-use Rattle.std.specs.Prelude.{ℕ, Bool, true, false, ◌&&◌, not, cond, nat_eq, List, [], ◌∷◌, map, length, flat_map, filter_map, position, find, slice_get, Option, Some, None, is_none}
+--     first_nested                  the least change that has an owner
+use Rattle.std.specs.Prelude.{ℕ, Bool, true, false, ◌&&◌, not, cond, nat_eq, List, [], ◌∷◌, map, length, flat_map, filter_map, position, find, slice_get, Option, Some, None, is_none, is_some}
 use Rattle.std.specs.List.{list_any}
 use Rattle.std.specs.Option.{option_map_or}
 use Rattle.cst_core.specs.Path.{Path, has_path, up_to, above, counted_from, last_item}
@@ -20,8 +22,11 @@ use Rattle.edit_plan.specs.declared.change.Change.{Change}
 use Rattle.edit_plan.specs.declared.change.Change.TheVariants.{Insert, InsertAll, Replace, ReplaceWithMany, ReplaceAll}
 
 -- ---- clashes
+abbrev pub pairs_with : ℕ → List (ℕ × ℕ)
+pairs_with j = map (λ i. (i, j)) (counted_from 0 j)
+
 abbrev pub pairs : ℕ → List (ℕ × ℕ)
-pairs n = flat_map (λ j. map (λ i. (i, j)) (counted_from 0 j)) (counted_from 0 n)
+pairs n = flat_map pairs_with (counted_from 0 n)
 
 abbrev pub clashes : List Change → ℕ → ℕ → Bool
 clashes cs i j = option_map_or (λ c. option_map_or (shared_targets c) (slice_get cs j) false) (slice_get cs i) false
@@ -79,3 +84,7 @@ is_independent cs c = not (is_dropped cs c) && is_none (owner cs c)
 
 abbrev pub has_owner : List Change → ℕ → Change → Bool
 has_owner cs d c = option_map_or (nat_eq d) (owner cs c) false
+
+-- the least change that has an owner
+abbrev pub first_nested : List Change → Option ℕ
+first_nested cs = position (λ c. is_some (owner cs c)) cs

@@ -13,7 +13,8 @@ use Rattle.cst_core.specs.SyntaxElement.{element_of}
 use Rattle.cst_core.specs.Green.{length_limit}
 use Rattle.edit_map.specs.Mapping.{Mapping, StandsFor, mapped_elements}
 use Rattle.edit_plan.specs.Change.{elements}
-use Rattle.edit_plan.specs.Aim.{Behind, aim}
+use Rattle.rewriting.specs.Aim.{Behind}
+use Rattle.edit_plan.specs.Aim.{aim}
 use Rattle.edit_plan.specs.Nesting.{owner}
 use Rattle.edit_plan.specs.Rewriting.{OriginTree, plain, new_tree, is_free}
 use Rattle.edit_plan.specs.Results.{changed, annotated}

@@ -1,11 +1,5 @@
 -- The tree that a set of changes makes of an old one, all of them at once.
---     NumberedAim, numbers          a change's number and its aim; the numbers alone
 --     aims_of                       the aims of numbered changes
---     inserts_at, replacements_at   the numbers of the changes that insert into a gap; that replace from a path on
---     is_replaced                   some change replaces this path
---     gap_order                     the order of several inserts of one gap
---     gap, slot                     what stands in a gap; in a child's slot
---     rewritten, rewritten_whole    each child list anew from gap 0, slot 0, gap 1, slot 1, .., the last gap; the same where the top may be replaced
 --     Origin, OriginTree            a label with the address that an element was copied from, and the change that brought it
 --     plain                         the tree without its origins
 --     origin                        of what is kept below an address
@@ -16,61 +10,22 @@
 --     Gives                         the equation that `given` meets, and no other function
 --     new_tree                      the old tree rewritten by the changes without an owner
 --     stage_tree, stage_payload     the same by those of the changes that are done; the payload of a keeping replacement then
-use Rattle.std.specs.Prelude.{◌≡◌, ℕ, zero, suc, Bool, false, cond, List, [], ◌∷◌, ◌++◌, map, length, drop, reverse, filter, flat_map, slice_get, unwrap_or, Option, Some, None}
-use Rattle.std.specs.List.{list_any, enumerate_from}
+use Rattle.std.specs.Prelude.{◌≡◌, ℕ, zero, suc, Bool, false, List, [], ◌∷◌, ◌++◌, map, length, drop, filter, slice_get, unwrap_or, Option, Some, None}
+use Rattle.std.specs.List.{enumerate_from}
 use Rattle.std.specs.Option.{option_map_or}
 use Rattle.cst_core.specs.Path.{Path, first_item}
-use Rattle.cst_core.specs.Tree.{Tree, Forest, Token, Node, end, more, SyntaxTree, forest, relabelled}
+use Rattle.cst_core.specs.Tree.{Tree, SyntaxTree, relabelled}
 use Rattle.cst_core.specs.Element.{Address, Element, address, subtree}
+use Rattle.rewriting.specs.Aim.{Aim, FirstIn, Behind, Over}
+use Rattle.rewriting.specs.Rewriting.{NumberedAim, rewritten, rewritten_whole}
 use Rattle.edit_plan.specs.Change.{payload, targets}
-use Rattle.edit_plan.specs.Aim.{Aim, FirstIn, Behind, Over, aim, aims_at_gap, starts_at, replaces}
+use Rattle.edit_plan.specs.Aim.{aim}
 use Rattle.edit_plan.specs.Nesting.{is_independent, has_owner}
 use Rattle.edit_plan.specs.declared.change.Change.{Change}
 
--- ---- changes by their aims
-abbrev pub NumberedAim : Type 0
-NumberedAim = ℕ × Aim
-
-abbrev pub numbers : List NumberedAim → List ℕ
-numbers cs = map (λ c. c.0) cs
-
+-- ---- aims of changes
 abbrev pub aims_of : List (ℕ × Change) → List NumberedAim
 aims_of ds = map (λ d. (d.0, aim d.1)) ds
-
-abbrev pub inserts_at : List NumberedAim → Path → ℕ → List ℕ
-inserts_at cs p i = numbers (filter (λ c. aims_at_gap p i c.1) cs)
-
-abbrev pub replacements_at : List NumberedAim → Path → List ℕ
-replacements_at cs p = numbers (filter (λ c. starts_at p c.1) cs)
-
-abbrev pub is_replaced : List NumberedAim → Path → Bool
-is_replaced cs p = list_any (λ c. replaces p c.1) cs
-
--- The gap rule: of the inserts of one gap, in recorded order, the one recorded last stands first.
-abbrev pub gap_order : List ℕ → List ℕ
-gap_order inserts = reverse inserts
-
--- ---- rewriting, where `label_at` labels what is kept, by its path and kind, and `given` says what each change gives
-module _ {L : Type 0} (label_at : Path → ℕ → L) (given : ℕ → List (Tree L)) (cs : List NumberedAim) where
-  abbrev pub gap : Path → ℕ → List (Tree L)
-  gap p i = flat_map given (gap_order (inserts_at cs p i))
-
-  -- A replaced slot holds what the replacement gives that starts there, and nothing if it starts before. Any other keeps its child.
-  abbrev pub slot : Path → Tree L → List (Tree L)
-  slot p kept = cond (is_replaced cs p) (flat_map given (replacements_at cs p)) (kept ∷ [])
-
-  abbrev mutual
-    pub rewritten : Path → SyntaxTree → Tree L
-    rewritten p (Token k s) = Token (label_at p k) s
-    rewritten p (Node k f) = Node (label_at p k) (forest (rewritten_from p 0 f))
-
-    -- gap i, slot i, and so on to the last gap
-    pub rewritten_from : Path → ℕ → Forest ℕ → List (Tree L)
-    rewritten_from p i end = gap p i
-    rewritten_from p i (more t f) = gap p i ++ slot (p ++ i ∷ []) (rewritten (p ++ i ∷ []) t) ++ rewritten_from p (suc i) f
-
-  abbrev pub rewritten_whole : SyntaxTree → List (Tree L)
-  rewritten_whole t = slot [] (rewritten [] t)
 
 -- ---- origins
 pub record Origin : Type 0 where

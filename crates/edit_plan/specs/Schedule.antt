@@ -12,9 +12,10 @@ use Rattle.std.specs.List.{list_all, enumerate_from, position_or_len}
 use Rattle.std.specs.Option.{option_map_or}
 use Rattle.cst_core.specs.Path.{Path, last_item}
 use Rattle.cst_core.specs.declared.element.SyntaxElement.TheVariants.{Node, Token}
-use Rattle.edit_plan.specs.Aim.{aim, same_gap, replaces}
+use Rattle.rewriting.specs.Aim.{same_gap, replaces}
+use Rattle.edit_plan.specs.Aim.{aim}
 use Rattle.edit_plan.specs.Nesting.{is_dropped, has_owner}
-use Rattle.edit_plan.specs.Rewriting.{gap_order}
+use Rattle.rewriting.specs.Rewriting.{gap_order}
 use Rattle.edit_plan.specs.declared.position.Position.{Position}
 use Rattle.edit_plan.specs.declared.position.PositionForm.TheVariants.{FirstChild, After}
 use Rattle.edit_plan.specs.declared.change.Change.{Change}

@@ -2,10 +2,18 @@
 #![tactic(auto)]
 
 mod change;
+mod edit;
+mod edit_error;
 mod element_list;
 pub mod laws;
+mod nesting;
+mod plan;
 mod position;
+mod targets;
 
 pub use change::Change;
+pub use edit::SyntaxEdit;
+pub use edit_error::EditError;
 pub use element_list::ElementList;
+pub use plan::EditPlan;
 pub use position::Position;

@@ -1,5 +1,5 @@
 ghost use Rattle.std.specs.Prelude.{◌≡◌, IfOk, option_map};
-ghost use Rattle.edit_plan.specs.Position.{first_of, after_of};
+ghost use Rattle.edit_plan.specs.Position.{anchor, first_of, after_of};
 
 use cst_core::{SyntaxElement, SyntaxNode};
 use std::alloc::{AllocError, Global};
@@ -36,6 +36,16 @@ impl Position {
         Ok(Position {
             form: PositionForm::FirstChild(node.try_clone(alloc)?),
         })
+    }
+
+    /// The path of the node whose first gap it is, or of the element that it is behind.
+    pub(crate) fn anchor(&self) -> &[usize]
+        ensures { result.now ≡ (anchor self.now).path }
+    {
+        match &self.form {
+            PositionForm::FirstChild(node) => node.slots(),
+            PositionForm::After(element) => element.slots(),
+        }
     }
 
     /// The node whose first gap it is.

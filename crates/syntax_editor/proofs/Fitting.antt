@@ -12,7 +12,7 @@ use Rattle.edit_plan.specs.declared.change.Change.{Change}
 use Rattle.edit_plan.specs.declared.change.Change.TheVariants.{Insert, InsertAll, Replace, ReplaceWithMany, ReplaceAll}
 use Rattle.syntax_editor.specs.Table.{first_fit}
 use Rattle.syntax_editor.specs.Recording.{with_replacement, is_replace_of, delete, replace}
-use Rattle.syntax_editor.specs.Fits.{is_native, is_native_position, is_root, is_one_node, is_range, Fits}
+use Rattle.edit_plan.specs.Fits.{is_native, is_native_position, is_root, is_one_node, is_range, Fits}
 use Rattle.syntax_editor.specs.RecordCall.{RecordCall, Inserting, InsertingAll, Deleting, Replacing, ReplacingWithMany, DeletingAll, ReplacingAll, recorded, refusal}
 use Rattle.syntax_editor.specs.declared.error.RecordError.TheVariants.{Foreign, BadRange, DeletesRoot, RootReplacement}
 use Rattle.syntax_editor.proofs.Addresses.{same_element-true}

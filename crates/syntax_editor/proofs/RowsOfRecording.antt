@@ -11,7 +11,7 @@ use Rattle.edit_plan.specs.declared.change.Change.TheVariants.{Insert, InsertAll
 use Rattle.edit_plan.specs.Nesting.{first_clash}
 use Rattle.edit_map.proofs.RowTrees.{token, branch, tree_L}
 use Rattle.syntax_editor.specs.Recording.{is_deleted, delete, replace, merged}
-use Rattle.syntax_editor.specs.Fits.{fits}
+use Rattle.edit_plan.specs.Fits.{fits}
 use Rattle.syntax_editor.specs.RecordCall.{RecordCall, Inserting, Deleting, Replacing, ReplacingWithMany, DeletingAll, ReplacingAll, all_recorded, refusal}
 use Rattle.syntax_editor.specs.AttrsAndDocs.{removed_slots, remove_attrs_and_docs}
 use Rattle.syntax_editor.specs.declared.error.RecordError.{RecordError}

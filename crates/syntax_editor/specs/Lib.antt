@@ -1,6 +1,5 @@
 pub mod Table
 pub mod Recording
-pub mod Fits
 pub mod RecordCall
 pub mod Level
 pub mod Indentation

@@ -10,7 +10,7 @@ use Rattle.edit_plan.specs.declared.position.Position.{Position}
 use Rattle.edit_plan.specs.declared.change.Change.{Change}
 use Rattle.syntax_editor.specs.Table.{first_fit}
 use Rattle.syntax_editor.specs.Recording.{delete, replace, insert, insert_all, replace_with_many, delete_all, replace_all}
-use Rattle.syntax_editor.specs.Fits.{is_native, is_native_position, is_root, is_range, is_one_node}
+use Rattle.edit_plan.specs.Fits.{is_native, is_native_position, is_root, is_range, is_one_node}
 use Rattle.syntax_editor.specs.declared.error.RecordError.{RecordError}
 use Rattle.syntax_editor.specs.declared.error.RecordError.TheVariants.{Foreign, BadRange, DeletesRoot, RootReplacement}
 

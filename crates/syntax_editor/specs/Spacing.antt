@@ -31,7 +31,7 @@ use Rattle.edit_plan.specs.declared.change.Change.{Change}
 use Rattle.syntax_editor.specs.Table.{first_fit}
 use Rattle.syntax_editor.specs.Level.{newline, space, level_text, level, is_too_deep}
 use Rattle.syntax_editor.specs.Recording.{insert_all}
-use Rattle.syntax_editor.specs.Fits.{is_native_position}
+use Rattle.edit_plan.specs.Fits.{is_native_position}
 use Rattle.syntax_editor.specs.declared.error.RecordError.{RecordError}
 use Rattle.syntax_editor.specs.declared.error.RecordError.TheVariants.{Foreign, LevelTooLarge, NoTreeNumber}
 

@@ -10,7 +10,7 @@ ghost use Rattle.cst_core.specs.declared.element.SyntaxElement.{SyntaxElement};
 ghost use Rattle.edit_map.specs.Mapping.{Mapping, copy};
 ghost use Rattle.edit_plan.specs.declared.change.Change.{Change};
 ghost use Rattle.syntax_editor.specs.Recording.{replacements_of, merged};
-ghost use Rattle.syntax_editor.specs.Fits.{Fits};
+ghost use Rattle.edit_plan.specs.Fits.{Fits};
 ghost use Rattle.syntax_editor.specs.RecordCall.{RecordCall, recorded, all_recorded, refusal};
 ghost use Rattle.syntax_editor.specs.Indentation.{indented, dedented};
 ghost use Rattle.syntax_editor.specs.Laws.{all_asked_for, HasRestorableTexts};

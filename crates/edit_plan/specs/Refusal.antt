@@ -1,0 +1,10 @@
+-- The refusal of an edit that stands for one of its new tree.
+use Rattle.green_tree.specs.declared.error.TreeError.{TreeError}
+use Rattle.green_tree.specs.declared.error.TreeError.TheVariants as tree
+use Rattle.edit_plan.specs.declared.edit_error.EditError.{EditError}
+use Rattle.edit_plan.specs.declared.edit_error.EditError.TheVariants.{TooLong, NoTreeNumber, Memory}
+
+abbrev pub of_tree : TreeError → EditError
+of_tree tree.TooLong = TooLong
+of_tree tree.NoTreeNumber = NoTreeNumber
+of_tree tree.Memory = Memory

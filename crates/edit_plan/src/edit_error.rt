@@ -1,0 +1,49 @@
+use cst_core::TreeError;
+use std::alloc::AllocError;
+use thiserror::Error;
+
+/// Why a list of changes is not carried out.
+#[derive(Debug, PartialEq, Eq, Drop, Error)]
+pub enum EditError {
+    /// Two replacements have a target in common: those with the least second number, and then with the least first.
+    #[error("Intersecting {first} {second}")]
+    Intersecting { first: usize, second: usize },
+    /// The least change that lies inside a node which another change replaces by a node.
+    #[error("Nested {change}")]
+    Nested { change: usize },
+    /// The text of the new tree passes 4,294,967,295 bytes.
+    #[error("TooLong")]
+    TooLong,
+    /// The source of tree numbers is spent.
+    #[error("NoTreeNumber")]
+    NoTreeNumber,
+    /// Memory was refused.
+    #[error("Memory")]
+    Memory,
+}
+
+impl From<AllocError> for EditError {
+    ghost use Rattle.std.specs.Prelude.{◌≡◌};
+    ghost use Rattle.edit_plan.specs.declared.edit_error.EditError.{EditError};
+
+    ghost from_gives = { λ _ e. e ≡ EditError.Memory };
+
+    fn from(_: AllocError) -> EditError {
+        EditError::Memory
+    }
+}
+
+impl From<TreeError> for EditError {
+    ghost use Rattle.std.specs.Prelude.{◌≡◌};
+    ghost use Rattle.edit_plan.specs.Refusal.{of_tree};
+
+    ghost from_gives = { λ t e. e ≡ of_tree t };
+
+    fn from(error: TreeError) -> EditError {
+        match error {
+            TreeError::TooLong => EditError::TooLong,
+            TreeError::NoTreeNumber => EditError::NoTreeNumber,
+            TreeError::Memory => EditError::Memory,
+        }
+    }
+}

@@ -1,0 +1,123 @@
+-- Counting the nodes that are made.
+use Rattle.std.specs.Prelude.{◌≡◌, ℕ, zero, suc, ◌+◌, ◌<◌, true, false, cond, ◌||◌, nat_eq, List, [], ◌∷◌, ◌++◌, map, length, drop, refl, Option, Some, None, OnOk}
+use Rattle.std.specs.List.{list_any}
+use Rattle.std.specs.Prelude.{Result, Ok, Err}
+use Rattle.std.proofs.Common.{ap, ap₂, sym, ◌∙◌, get_or, arith}
+use Rattle.std.proofs.lemmas.List.{at_drop_more, append-nil}
+use Rattle.std.proofs.lemmas.Bool.{cases_eq, eq-eqb, ne_eqb}
+use mathlib.Core.Logic.{inl, inr}
+use Rattle.green_tree.specs.Path.{Path, parent_path, last_slot, counted_from}
+use Rattle.green_tree.specs.Tree.{SyntaxTree, forest, node}
+use Rattle.rewriting.specs.Aim as aim
+use Rattle.rewriting.specs.Aim.{parents}
+use Rattle.rewriting.specs.Rewriting.{NumberedAim}
+use Rattle.rewriting.specs.declared.aimed.Aimed.{Aimed}
+use Rattle.rewriting.specs.declared.aimed.Place.{Place}
+use Rattle.rewriting.specs.declared.aimed.Place.TheVariants.{FirstIn, Behind, Over}
+use Rattle.rewriting.specs.Aimed.{Placed, placed, aim_in, of_placed, aims_of, some_path, has_parent, seen_from, and_those, placed_below}
+use Rattle.rewriting.specs.Effort.{inside, touched, touched_from, parents_of}
+
+-- ---- the parents of aims that are seen from a child
+other_way : (i j : ℕ) → nat_eq j i ≡ nat_eq i j
+other_way i j =
+    elim (cases_eq j i) [
+      | inl same ↦ eq-eqb j i same ∙ sym (eq-eqb i j (sym same))
+      | inr other ↦ ne_eqb j i other ∙ sym (ne_eqb i j (λ e. other (sym e)))
+    ]
+
+abbrev above : List Placed → List Path
+above xs = parents_of (map of_placed xs)
+
+parent-end : (p : Path) (m : ℕ) → parent_path (p ++ m ∷ []) ≡ p
+parent-end [] m = refl
+parent-end (i ∷ []) m = refl
+parent-end (i ∷ j ∷ p) m = ap (λ q. i ∷ q) (parent-end (j ∷ p) m)
+
+over-parents : (p : Path) (m : ℕ) (ps : List Path) → parents (aim.Over ((p ++ m ∷ []) ∷ ps)) ≡ p ∷ []
+over-parents [] m ps = refl
+over-parents (i ∷ p) m ps = ap (λ q. q ∷ []) (parent-end (i ∷ p) m)
+
+inside-append : (i : ℕ) (ps qs : List Path) → inside i (ps ++ qs) ≡ inside i ps ++ inside i qs
+inside-append i [] qs = refl
+inside-append i ([] ∷ ps) qs = inside-append i ps qs
+inside-append i ((j ∷ p) ∷ ps) qs =
+    ap (λ rs. cond (nat_eq j i) (p ∷ rs) rs) (inside-append i ps qs) ∙ elim (nat_eq j i) as (λ b. cond b (p ∷ (inside i ps ++ inside i qs)) (inside i ps ++ inside i qs) ≡ cond b (p ∷ inside i ps) (inside i ps) ++ inside i qs) [ true ↦ refl | false ↦ refl ]
+
+-- one path, of an aim that is seen where its first slot is this one
+one : (i c k : ℕ) (q r : Path) (w : Place) → parents (aim_in q w) ≡ r ∷ [] → inside i ((k ∷ r) ∷ []) ≡ above (and_those (cond (nat_eq i k) (Some (record { change = c; path = q; place = w })) None) [])
+one i c k q r w h =
+    ap (λ b. cond b (r ∷ []) []) (other_way i k) ∙ elim (nat_eq i k) as (λ b. cond b (r ∷ []) [] ≡ above (and_those (cond b (Some (record { change = c; path = q; place = w })) None) [])) [
+      | true ↦ ap (λ ps. ps ++ []) (sym h)
+      | false ↦ refl
+    ]
+
+-- no path, whether or not the aim is seen
+no_one : (i c k : ℕ) (q : Path) (w : Place) → parents (aim_in q w) ≡ [] → [] ≡ above (and_those (cond (nat_eq i k) (Some (record { change = c; path = q; place = w })) None) [])
+no_one i c k q w h =
+    elim (nat_eq i k) as (λ b. [] ≡ above (and_those (cond b (Some (record { change = c; path = q; place = w })) None) [])) [
+      | true ↦ ap (λ ps. ps ++ []) (sym h)
+      | false ↦ refl
+    ]
+
+own : (i c : ℕ) (q : Path) (w : Place) → inside i (parents (aim_in q w)) ≡ above (and_those (seen_from i (record { change = c; path = q; place = w })) [])
+own i c [] FirstIn = refl
+own i c [] Behind = refl
+own i c [] (Over zero) = refl
+own i c [] (Over (suc n)) = refl
+own i c (k ∷ q) FirstIn = one i c k q q FirstIn refl
+own i c (k ∷ []) Behind = no_one i c k [] Behind refl
+own i c (k ∷ l ∷ q) Behind = one i c k (l ∷ q) (parent_path (l ∷ q)) Behind refl
+own i c (k ∷ []) (Over zero) = no_one i c k [] (Over zero) refl
+own i c (k ∷ l ∷ q) (Over zero) = no_one i c k (l ∷ q) (Over zero) refl
+own i c (k ∷ []) (Over (suc n)) = no_one i c k [] (Over (suc n)) refl
+own i c (k ∷ l ∷ q) (Over (suc n)) =
+    let p = parent_path (l ∷ q) in
+    let m = last_slot (l ∷ q) in
+    ap (inside i) (over-parents (k ∷ p) m (map (λ s. (k ∷ p) ++ s ∷ []) (counted_from (suc m) n))) ∙ one i c k (l ∷ q) p (Over (suc n)) (over-parents p m (map (λ s. p ++ s ∷ []) (counted_from (suc m) n)))
+
+and_those-above : (a : Option Placed) (xs : List Placed) → above (and_those a []) ++ above xs ≡ above (and_those a xs)
+and_those-above None xs = refl
+and_those-above (Some a) xs = ap (λ ps. ps ++ above xs) (append-nil (parents (aim_in a.path a.place)))
+
+above-below : (i : ℕ) (xs : List Placed) → inside i (above xs) ≡ above (placed_below i xs)
+above-below i [] = refl
+above-below i (x ∷ xs) =
+    inside-append i (parents (aim_in x.path x.place)) (above xs) ∙ ap₂ (λ ps qs. ps ++ qs) (own i x.change x.path x.place) (above-below i xs) ∙ and_those-above (seen_from i x) (placed_below i xs)
+
+above-placed : (xs : List Aimed) → above (map placed xs) ≡ parents_of (aims_of xs)
+above-placed [] = refl
+above-placed (x ∷ xs) = ap (λ ps. parents (aim_in x.path.now x.place) ++ ps) (above-placed xs)
+
+pub parents-below : (xs ys : List Aimed) (i : ℕ) → map placed ys ≡ placed_below i (map placed xs) → parents_of (aims_of ys) ≡ inside i (parents_of (aims_of xs))
+parents-below xs ys i h =
+    sym (above-placed ys) ∙ ap above h ∙ sym (above-below i (map placed xs)) ∙ ap (inside i) (above-placed xs)
+
+-- ---- what is still to come from slot i on
+abbrev pub to_come : List Path → ℕ → List SyntaxTree → ℕ
+to_come ps i ts = touched_from i (forest (drop i ts)) ps
+
+pub to_come-step : (ps : List Path) (i : ℕ) (ts : List SyntaxTree) (d : SyntaxTree) → i < length ts → to_come ps i ts ≡ touched (get_or ts i d) (inside i ps) + to_come ps (i + 1) ts
+to_come-step ps i ts d l =
+    let next : suc i ≡ i + 1 = omega arith in
+    at_drop_more (λ us. touched_from i (forest us) ps) ts i d l ∙ ap (λ j. touched (get_or ts i d) (inside i ps) + touched_from j (forest (drop (i + 1) ts)) ps) next
+
+-- ---- the node itself
+some-append : (ps qs : List Path) → some_path (ps ++ qs) ≡ (some_path ps || some_path qs)
+some-append [] qs = refl
+some-append (p ∷ ps) qs = refl
+
+some-parents : (cs : List NumberedAim) → some_path (parents_of cs) ≡ list_any has_parent cs
+some-parents [] = refl
+some-parents (c ∷ cs) = some-append (parents c.1) (parents_of cs) ∙ ap (λ b. has_parent c || b) (some-parents cs)
+
+own_paths : (ps : List Path) (k : ℕ) (ts : List SyntaxTree) → some_path ps ≡ true → touched (node k ts) ps ≡ 1 + to_come ps 0 ts
+own_paths [] k ts h = absurd (cc)
+own_paths (p ∷ ps) k ts h = refl
+
+pub own_node : (cs : List NumberedAim) (k : ℕ) (ts : List SyntaxTree) → list_any has_parent cs ≡ true → touched (node k ts) (parents_of cs) ≡ 1 + to_come (parents_of cs) 0 ts
+own_node cs k ts h = own_paths (parents_of cs) k ts (some-parents cs ∙ h)
+
+-- ---- a fact that holds anyway holds where there is a result
+pub on_ok : {T E P : Type 0} (r : Result T E) → P → OnOk r P
+on_ok (Ok x) h = h
+on_ok (Err e) h = tt

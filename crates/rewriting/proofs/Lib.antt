@@ -1,0 +1,6 @@
+pub mod Here
+pub mod SeenBelow
+pub mod InGroups
+pub mod Children
+pub mod Built
+pub mod Untouched

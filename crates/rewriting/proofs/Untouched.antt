@@ -1,0 +1,94 @@
+-- Aims that alter no node's children change nothing.
+use Rattle.std.specs.Prelude.{◌≡◌, ℕ, zero, suc, Bool, true, false, cond, ◌||◌, List, [], ◌∷◌, ◌++◌, map, filter, flat_map, refl}
+use Rattle.std.specs.List.{list_any}
+use Rattle.std.proofs.Common.{ap, ap₂, sym, ◌∙◌}
+use Rattle.green_tree.specs.Path.{Path, same_path, parent_path, last_slot, counted_from}
+use Rattle.green_tree.specs.Tree.{Tree, Forest, Token, Node, end, more, SyntaxTree, forest, relabelled, forest_relabelled}
+use Rattle.rewriting.specs.Aim.{aims_at_gap, replaces}
+use Rattle.rewriting.specs.Rewriting.{NumberedAim, numbers, inserts_at, replacements_at, is_replaced, gap_order, gap, rewritten, rewritten_from}
+use Rattle.rewriting.specs.declared.aimed.Place.{Place}
+use Rattle.rewriting.specs.declared.aimed.Place.TheVariants.{FirstIn, Behind, Over}
+use Rattle.rewriting.specs.declared.aimed.Aimed.{Aimed}
+use Rattle.rewriting.specs.Aimed.{aim_in, numbered, aims_of, has_parent}
+use Rattle.rewriting.specs.Pass.{kind_only}
+use Rattle.rewriting.proofs.Here.{over_some}
+
+no_end : (p : Path) (j : ℕ) → same_path (p ++ j ∷ []) [] ≡ false
+no_end [] j = refl
+no_end (i ∷ p) j = refl
+
+-- ---- one aim
+quiet_gap : (c : ℕ) (q : Path) (w : Place) (p : Path) (j : ℕ) → has_parent (c, aim_in q w) ≡ false → aims_at_gap p j (aim_in q w) ≡ false
+quiet_gap c q FirstIn p j h = absurd (cc)
+quiet_gap c [] Behind p j h = refl
+quiet_gap c (i ∷ q) Behind p j h = absurd (cc)
+quiet_gap c q (Over n) p j h = refl
+
+quiet_slot : (c : ℕ) (q : Path) (w : Place) (p : Path) (j : ℕ) → has_parent (c, aim_in q w) ≡ false → replaces (p ++ j ∷ []) (aim_in q w) ≡ false
+quiet_slot c q FirstIn p j h = refl
+quiet_slot c q Behind p j h = refl
+quiet_slot c [] (Over zero) p j h = refl
+quiet_slot c [] (Over (suc n)) p j h = ap (λ b. b || false) (no_end p j)
+quiet_slot c (i ∷ q) (Over zero) p j h = refl
+quiet_slot c (i ∷ q) (Over (suc n)) p j h =
+    let some = over_some c (parent_path (i ∷ q)) (last_slot (i ∷ q)) (map (λ s. parent_path (i ∷ q) ++ s ∷ []) (counted_from (suc (last_slot (i ∷ q))) n)) in
+    let wrong : true ≡ false = sym some ∙ h in
+    absurd (cc)
+
+first_false : (b x : Bool) → (b || x) ≡ false → b ≡ false
+first_false true x h = h
+first_false false x h = refl
+
+second_false : (b x : Bool) → (b || x) ≡ false → x ≡ false
+second_false true x h = absurd (cc)
+second_false false x h = h
+
+-- ---- all of them
+no_inserts : (xs : List Aimed) (p : Path) (j : ℕ) → list_any has_parent (aims_of xs) ≡ false → inserts_at (aims_of xs) p j ≡ []
+no_inserts [] p j h = refl
+no_inserts (a ∷ xs) p j h =
+    let rest = filter (λ (c : NumberedAim). aims_at_gap p j c.1) (aims_of xs) in
+    let one = first_false (has_parent (numbered a)) (list_any has_parent (aims_of xs)) h in
+    let others = second_false (has_parent (numbered a)) (list_any has_parent (aims_of xs)) h in
+    ap (λ b. numbers (cond b (numbered a ∷ rest) rest)) (quiet_gap a.change a.path.now a.place p j one) ∙ no_inserts xs p j others
+
+no_slot : (xs : List Aimed) (p : Path) (j : ℕ) → list_any has_parent (aims_of xs) ≡ false → is_replaced (aims_of xs) (p ++ j ∷ []) ≡ false
+no_slot [] p j h = refl
+no_slot (a ∷ xs) p j h =
+    let one = first_false (has_parent (numbered a)) (list_any has_parent (aims_of xs)) h in
+    let others = second_false (has_parent (numbered a)) (list_any has_parent (aims_of xs)) h in
+    ap (λ b. b || is_replaced (aims_of xs) (p ++ j ∷ [])) (quiet_slot a.change a.path.now a.place p j one) ∙ no_slot xs p j others
+
+module _ {L : Type 0} (h : ℕ → L) (given : ℕ → List (Tree L)) (xs : List Aimed) (none : list_any has_parent (aims_of xs) ≡ false) where
+  abbrev cs : List NumberedAim
+  cs = aims_of xs
+
+  abbrev kept : Path → ℕ → L
+  kept q k = h k
+
+  quiet-gap : (p : Path) (j : ℕ) → gap kept given cs p j ≡ []
+  quiet-gap p j = ap (λ ns. flat_map given (gap_order ns)) (no_inserts xs p j none)
+
+  mutual
+    pub untouched : (p : Path) (t : SyntaxTree) → rewritten kept given cs p t ≡ relabelled h t
+    untouched p (Token k s) = refl
+    untouched p (Node k f) = ap (Node (h k)) (untouched_from p 0 f)
+
+    untouched_from : (p : Path) (i : ℕ) (f : Forest ℕ) → forest (rewritten_from kept given cs p i f) ≡ forest_relabelled h f
+    untouched_from p i end = ap forest (quiet-gap p i)
+    untouched_from p i (more t f) =
+        let u = rewritten kept given cs (p ++ i ∷ []) t in
+        let rest = rewritten_from kept given cs p (suc i) f in
+        ap₂ (λ before b. forest (before ++ cond b (flat_map given (replacements_at cs (p ++ i ∷ []))) (u ∷ []) ++ rest)) (quiet-gap p i) (no_slot xs p i none) ∙ ap₂ more (untouched (p ++ i ∷ []) t) (untouched_from p (suc i) f)
+
+mutual
+  same_labels : (t : SyntaxTree) → relabelled (λ k. k) t ≡ t
+  same_labels (Token k s) = refl
+  same_labels (Node k f) = ap (Node k) (same_forest f)
+
+  same_forest : (f : Forest ℕ) → forest_relabelled (λ k. k) f ≡ f
+  same_forest end = refl
+  same_forest (more t f) = ap₂ more (same_labels t) (same_forest f)
+
+pub nothing_made : (given : ℕ → List SyntaxTree) (xs : List Aimed) (t : SyntaxTree) → list_any has_parent (aims_of xs) ≡ false → rewritten kind_only given (aims_of xs) [] t ≡ t
+nothing_made given xs t none = untouched (λ k. k) given xs none [] t ∙ same_labels t

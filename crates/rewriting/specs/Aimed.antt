@@ -1,0 +1,67 @@
+-- What aims in code stand for.
+--     siblings_from                 the paths of an element and of the siblings behind it, so many with the first; the top has none
+--     aim_in                        an aim from the element at a path
+--     Placed, placed                the number of a change, a path, and where it aims from there
+--     numbered, aims_of             the numbered aim that it stands for; those of a list
+--     has_parent                    it alters the children of some node
+--     seen_from, placed_below       an aim at a child slot or below, with that slot dropped; of these aims those that there are
+use Rattle.std.specs.Prelude.{ℕ, zero, suc, Bool, true, false, cond, nat_eq, List, [], ◌∷◌, ◌++◌, map, Option, Some, None, option_map}
+use Rattle.green_tree.specs.Path.{Path, parent_path, last_slot, counted_from}
+use Rattle.rewriting.specs.Aim.{Aim, FirstIn, Behind, Over, parents}
+use Rattle.rewriting.specs.Rewriting.{NumberedAim}
+use Rattle.rewriting.specs.declared.aimed.Place.{Place}
+use Rattle.rewriting.specs.declared.aimed.Place.TheVariants as place
+use Rattle.rewriting.specs.declared.aimed.Aimed.{Aimed}
+
+abbrev pub siblings_from : Path → ℕ → List Path
+siblings_from [] zero = []
+siblings_from [] (suc n) = [] ∷ []
+siblings_from (i ∷ p) n = map (λ j. parent_path (i ∷ p) ++ j ∷ []) (counted_from (last_slot (i ∷ p)) n)
+
+abbrev pub aim_in : Path → Place → Aim
+aim_in p place.FirstIn = FirstIn p
+aim_in p place.Behind = Behind p
+aim_in p (place.Over n) = Over (siblings_from p n)
+
+pub record Placed : Type 0 where
+  pub change : ℕ
+  pub path : Path
+  pub place : Place
+
+abbrev pub placed : Aimed → Placed
+placed a = record { change = a.change; path = a.path.now; place = a.place }
+
+abbrev pub of_placed : Placed → NumberedAim
+of_placed a = (a.change, aim_in a.path a.place)
+
+abbrev pub numbered : Aimed → NumberedAim
+numbered a = of_placed (placed a)
+
+abbrev pub aims_of : List Aimed → List NumberedAim
+aims_of xs = map numbered xs
+
+abbrev pub some_path : List Path → Bool
+some_path [] = false
+some_path (p ∷ ps) = true
+
+abbrev pub has_parent : NumberedAim → Bool
+has_parent c = some_path (parents c.1)
+
+-- ---- as they are seen from a child
+abbrev seen_along : ℕ → ℕ → Place → Path → Option Placed
+seen_along i c w [] = None
+seen_along i c w (j ∷ q) = cond (nat_eq i j) (Some (record { change = c; path = q; place = w })) None
+
+abbrev pub seen_from : ℕ → Placed → Option Placed
+seen_from i a = seen_along i a.change a.place a.path
+
+abbrev pub option_placed : Option Aimed → Option Placed
+option_placed a = option_map placed a
+
+abbrev pub and_those : Option Placed → List Placed → List Placed
+and_those None xs = xs
+and_those (Some a) xs = a ∷ xs
+
+abbrev pub placed_below : ℕ → List Placed → List Placed
+placed_below i [] = []
+placed_below i (a ∷ xs) = and_those (seen_from i a) (placed_below i xs)

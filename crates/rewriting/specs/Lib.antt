@@ -1,0 +1,6 @@
+pub mod Aim
+pub mod Rewriting
+pub mod Effort
+pub mod Aimed
+pub mod Groups
+pub mod Pass

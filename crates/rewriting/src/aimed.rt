@@ -1,0 +1,172 @@
+ghost use Rattle.std.specs.Prelude.{ℕ, ◌<◌, ◌≤◌, ◌+◌, ◌≡◌, Bool, true, false, [], ◌∷◌, suc, not};
+ghost use Rattle.rewriting.specs.Aim.{FirstIn, Behind, Over, aims_at_gap, starts_at, replaces};
+ghost use Rattle.rewriting.specs.Aimed.{aim_in, siblings_from, placed, numbered, option_placed, seen_from, has_parent};
+ghost use Rattle.rewriting.specs.Groups.{concerns};
+
+// Where something aims, from the element at its path.
+#[derive(Clone, Copy)]
+enum Place {
+    FirstIn,
+    Behind,
+    Over(usize),
+}
+
+/// A change by its number, and where it aims: first in a node, behind an element, or over some siblings. Paths are borrowed.
+#[derive(Clone, Copy)]
+pub struct Aimed<'a> {
+    change: usize,
+    path: &'a [usize],
+    place: Place,
+}
+
+impl<'a> Aimed<'a> {
+    /// Inserts before the first child of the node at this path.
+    pub fn first_in(change: usize, node: &'a [usize]) -> Aimed<'a>
+        ensures { numbered result ≡ (change, FirstIn node.now) }
+    {
+        Aimed {
+            change,
+            path: node,
+            place: Place::FirstIn,
+        }
+    }
+
+    /// Inserts behind the element at this path. Behind the top there is no gap, so nothing comes of that.
+    pub fn behind(change: usize, element: &'a [usize]) -> Aimed<'a>
+        ensures { numbered result ≡ (change, Behind element.now) }
+    {
+        Aimed {
+            change,
+            path: element,
+            place: Place::Behind,
+        }
+    }
+
+    /// Replaces the element at this path and the siblings behind it, `count` of them with the first. The top has no siblings.
+    pub fn over(change: usize, first: &'a [usize], count: usize) -> Aimed<'a>
+        ensures { numbered result ≡ (change, Over (siblings_from first.now count)) }
+    {
+        Aimed {
+            change,
+            path: first,
+            place: Place::Over(count),
+        }
+    }
+
+    /// The number of the change.
+    pub fn change(&self) -> usize
+        ensures { result ≡ self.now.change }
+    {
+        self.change
+    }
+
+    /// Whether it alters the children of a node. A replaced top, the gap behind the top and no siblings at all alter none.
+    pub fn has_parent(&self) -> bool
+        ensures { result ≡ has_parent (numbered self.now) }
+    {
+        match self.place {
+            Place::FirstIn => true,
+            Place::Behind => !self.path.is_empty(),
+            Place::Over(count) => !self.path.is_empty() && count > 0,
+        }
+    }
+
+    // Whether it replaces the top itself.
+    pub fn replaces_top(&self) -> bool
+        ensures over { result ≡ replaces [] (aim_in self.now.path.now self.now.place) }
+        ensures start { result ≡ starts_at [] (aim_in self.now.path.now self.now.place) }
+    {
+        match self.place {
+            Place::FirstIn => false,
+            Place::Behind => false,
+            Place::Over(count) => self.path.is_empty() && count > 0,
+        }
+    }
+
+    // Whether it inserts into this gap of the top.
+    pub fn inserts_at(&self, gap: usize) -> bool
+        ensures { result ≡ aims_at_gap [] gap (aim_in self.now.path.now self.now.place) }
+    {
+        match self.place {
+            Place::FirstIn => self.path.is_empty() && gap == 0,
+            Place::Behind => {
+                let [slot] = self.path else {
+                    return false;
+                };
+                gap > 0 && gap - 1 == *slot
+            }
+            Place::Over(_) => false,
+        }
+    }
+
+    // Whether it replaces from this child of the top on.
+    pub fn starts_at(&self, slot: usize) -> bool
+        ensures { result ≡ starts_at (slot ∷ []) (aim_in self.now.path.now self.now.place) }
+    {
+        match self.place {
+            Place::FirstIn => false,
+            Place::Behind => false,
+            Place::Over(count) => {
+                let [first] = self.path else {
+                    return false;
+                };
+                slot == *first && count > 0
+            }
+        }
+    }
+
+    // Whether it replaces this child of the top.
+    pub fn replaces(&self, slot: usize) -> bool
+        ensures { result ≡ replaces (slot ∷ []) (aim_in self.now.path.now self.now.place) }
+    {
+        match self.place {
+            Place::FirstIn => false,
+            Place::Behind => false,
+            Place::Over(count) => {
+                let [first] = self.path else {
+                    return false;
+                };
+                if slot < *first {
+                    return false;
+                }
+                slot - *first < count
+            }
+        }
+    }
+
+    // The first child of the top that it matters for, and how many there are: those that it replaces, or the one that it
+    // is behind or below.
+    pub fn reach(&self) -> (usize, usize)
+        ensures inside { (k : ℕ) → result.0 ≤ k → k < result.0 + result.1 → concerns k self.now ≡ true }
+        ensures before { (k : ℕ) → k < result.0 → concerns k self.now ≡ false }
+        ensures behind { (k : ℕ) → result.0 + result.1 ≤ k → concerns k self.now ≡ false }
+    {
+        let [slot, ..] = self.path else {
+            return (0, 0);
+        };
+        let Place::Over(count) = self.place else {
+            return (*slot, 1);
+        };
+        if self.path.len() > 1 {
+            return (*slot, 1);
+        }
+        (*slot, count.max(1))
+    }
+
+    // The same as it is seen from this child of the top, if its path leads to the child or below.
+    pub fn seen_from(&self, slot: usize) -> Option<Aimed<'a>>
+        ensures { option_placed result ≡ seen_from slot (placed self.now) }
+    {
+        let [first, rest @ ..] = self.path else {
+            return None;
+        };
+        if slot == *first {
+            return Some(Aimed {
+                change: self.change,
+                path: rest,
+                place: self.place,
+            });
+        }
+        None
+    }
+}

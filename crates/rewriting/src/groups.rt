@@ -1,0 +1,64 @@
+ghost use Rattle.std.specs.Global.{Global};
+ghost use Rattle.std.specs.Prelude.{ℕ, ◌<◌, ◌≤◌, ◌+◌, ◌≡◌, ◌++◌, Vec, [], ◌∷◌, map, filter, length, get_or, IfOk, OnOk};
+ghost use Rattle.rewriting.specs.declared.aimed.Aimed.{Aimed};
+ghost use Rattle.rewriting.specs.Aimed.{placed, placed_below};
+ghost use Rattle.rewriting.specs.Groups.{concerns};
+
+use crate::aimed::Aimed;
+use std::alloc::{AllocError, Global};
+
+// The aims at a child of the top or below it, as they are seen from the child.
+pub fn below<'a>(
+    alloc: Global,
+    aims: &[Aimed<'a>],
+    slot: usize,
+) -> Result<Vec<Aimed<'a>>, AllocError>
+    ensures { IfOk result (λ v. map placed v.items ≡ placed_below slot (map placed aims.now)) }
+{
+    let mut out = Vec::new(alloc);
+    for aim in aims {
+        if let Some(inner) = aim.seen_from(slot) {
+            out.push(inner)?;
+        }
+    }
+    Ok(out)
+}
+
+// The aim goes to the end of so many groups, from one on, as far as there are groups.
+fn push_into<'a>(
+    groups: &mut Vec<Vec<Aimed<'a>>>,
+    aim: Aimed<'a>,
+    first: usize,
+    count: usize,
+) -> Result<(), AllocError>
+    ensures size { length groups.new.items ≡ length groups.old.items }
+    ensures inside { OnOk result ((k : ℕ) (d : Vec Aimed Global) → k < length groups.old.items → first ≤ k → k < first + count → (get_or groups.new.items k d).items ≡ (get_or groups.old.items k d).items ++ aim.entry ∷ []) }
+    ensures before { OnOk result ((k : ℕ) (d : Vec Aimed Global) → k < first → (get_or groups.new.items k d).items ≡ (get_or groups.old.items k d).items) }
+    ensures behind { OnOk result ((k : ℕ) (d : Vec Aimed Global) → first + count ≤ k → (get_or groups.new.items k d).items ≡ (get_or groups.old.items k d).items) }
+{
+    let end = first.saturating_add(count).min(groups.len());
+    for index in first..end {
+        groups[index].push(aim)?;
+    }
+    Ok(())
+}
+
+// For each child of the top, so many of them, the aims that matter for it and for the gap behind it, in their order.
+pub fn grouped<'a>(
+    alloc: Global,
+    aims: &[Aimed<'a>],
+    count: usize,
+) -> Result<Vec<Vec<Aimed<'a>>>, AllocError>
+    ensures size { IfOk result (λ v. length v.items ≡ count) }
+    ensures groups { IfOk result (λ v. (k : ℕ) (d : Vec Aimed Global) → k < count → (get_or v.items k d).items ≡ filter (concerns k) aims.now) }
+{
+    let mut groups = Vec::new(alloc);
+    for _ in 0..count {
+        groups.push(Vec::new(alloc))?;
+    }
+    for aim in aims {
+        let (first, reach) = aim.reach();
+        push_into(&mut groups, *aim, first, reach)?;
+    }
+    Ok(groups)
+}
