@@ -2,13 +2,13 @@
 --     up_to_parent                  the elements above one are those on the way to its parent
 --     none-around                   nothing is in no list
 --     surrounded                    a change that nothing takes away has an owner exactly if some region is around it
-use Rattle.std.specs.Prelude.{◌≡◌, ℕ, suc, Bool, true, false, not, nat_lt, ◌+◌, ◌||◌, cond, List, [], ◌∷◌, length, map, filter_map, position, Option, Some, None, is_some, refl}
+use Rattle.std.specs.Prelude.{◌≡◌, ℕ, zero, suc, ◌<◌, Bool, true, false, not, nat_lt, ◌+◌, ◌||◌, cond, List, [], ◌∷◌, length, map, filter_map, position, Option, Some, None, is_some, refl}
 use Rattle.std.specs.List.{list_any, cons_option, position_or_len}
-use Rattle.std.proofs.Common.{ap, sym, ◌∙◌, arith}
-use Rattle.std.proofs.lemmas.Bool.{ltb-true, lt-ltb}
+use Rattle.std.proofs.Common.{ap, sym, ◌∙◌, arith, get_or}
+use Rattle.std.proofs.lemmas.Bool.{ltb-true, lt-ltb, or_parts}
 use mathlib.Core.Path.{fun_ext}
 use Rattle.cst_core.specs.Path.{Path, same_path, has_path, parent_path, above, up_to, last_item}
-use Rattle.edit_plan.specs.Nesting.{region, surroundings, is_around, is_dropped, region_at, owner}
+use Rattle.edit_plan.specs.Nesting.{region, surroundings, is_around, is_dropped, region_at, owner, first_nested}
 use Rattle.edit_plan.specs.declared.change.Change.{Change}
 use Rattle.edit_plan.proofs.Paths.{same_path-true, same_path_from}
 use Rattle.edit_plan.proofs.Siblings.{same-test, up_to-cons}
@@ -73,7 +73,7 @@ lt-position p (x ∷ xs) =
       | false ↦ let e : 1 + position_or_len p xs ≡ suc (position_or_len p xs) = omega arith in ap (λ n. nat_lt n (suc (length xs))) e ∙ lt-step (position_or_len p xs) (length xs) ∙ lt-position p xs
     ])
 
-is_some-position : {X : Type 0} (p : X → Bool) (xs : List X) → is_some (position p xs) ≡ list_any p xs
+pub is_some-position : {X : Type 0} (p : X → Bool) (xs : List X) → is_some (position p xs) ≡ list_any p xs
 is_some-position p xs =
     (elim (nat_lt (position_or_len p xs) (length xs)) as (λ b. is_some (cond b (Some (position_or_len p xs)) None) ≡ b) [ true ↦ refl | false ↦ refl ]) ∙ lt-position p xs
 
@@ -85,3 +85,17 @@ surrounded cs c kept =
     let turned : (r : Change) → list_any (λ q. has_path (region r) q) ss ≡ list_any (has_path ss) (region r) = λ r. any-swap (λ q x. same_path q x) ss (region r) ∙ ap (λ f. list_any f (region r)) (fun_ext (λ x. ap (λ f. list_any f ss) (fun_ext (λ q. same-other q x)))) in
     let found : is_some (last_item (filter_map (region_at cs) ss)) ≡ list_any (λ r. is_around r c) cs = is_some-filtered (region_at cs) ss ∙ ap (λ f. list_any f ss) (fun_ext regions) ∙ swapped ∙ ap (λ f. list_any f cs) (fun_ext turned) in
     sym (ap (λ b. is_some (cond b None (last_item (filter_map (region_at cs) ss)))) kept ∙ found)
+
+-- ---- where no change has an owner
+not-any : {X : Type 0} (p : X → Bool) (xs : List X) (i : ℕ) (x : X) → list_any p xs ≡ false → i < length xs → x ≡ get_or xs i x → p x ≡ false
+not-any p [] i x none l is = absurd (omega (arith, l))
+not-any p (y ∷ xs) zero x none l is = ap p is ∙ (or_parts (p y) (list_any p xs) none).0
+not-any p (y ∷ xs) (suc i) x none l is = not-any p xs i x (or_parts (p y) (list_any p xs) none).1 (omega (arith, l)) is
+
+is_some-false : {X : Type 0} (o : Option X) → is_some o ≡ false → o ≡ None
+is_some-false None h = refl
+is_some-false (Some x) h = cc
+
+pub unowned-at : (cs : List Change) (i : ℕ) (c : Change) → first_nested cs ≡ None → i < length cs → c ≡ get_or cs i c → owner cs c ≡ None
+unowned-at cs i c none l is =
+    is_some-false (owner cs c) (not-any (λ d. is_some (owner cs d)) cs i c (sym (is_some-position (λ d. is_some (owner cs d)) cs) ∙ ap is_some none) l is)

@@ -10,6 +10,7 @@ mod Paths
 pub mod Siblings
 mod Around
 mod Clashes
+mod Carried
 mod GapRule
 mod Edits
 mod Owners
@@ -17,6 +18,7 @@ mod Settled
 mod Untold
 mod Filled
 mod Unowned
+mod Whole
 mod Exchanged
 mod Relabelled
 mod Apart

@@ -1,14 +1,16 @@
 -- Trees with other labels in place of their own.
 --     relabelled-rewritten          rewriting goes with a change of the labels
---     paths-relabelled, holds-relabelled      the paths, and the tests of labels
+--     paths-relabelled, holds-relabelled, topmost-relabelled      the paths, and the tests of labels
 --     relabelled-twice              one change of the labels after another
-use Rattle.std.specs.Prelude.{◌≡◌, ℕ, suc, Bool, true, false, cond, List, [], ◌∷◌, ◌++◌, map, flat_map, slice_get, Some, None, option_map, option_and_then, refl}
+use Rattle.std.specs.Prelude.{◌≡◌, ℕ, suc, Bool, true, false, cond, not, ◌&&◌, List, [], ◌∷◌, ◌++◌, map, filter, flat_map, slice_get, Some, None, option_map, option_and_then, refl}
 use Rattle.std.specs.Option.{option_map_or}
 use Rattle.std.proofs.Common.{ap, ap₂, ◌∙◌}
 use Rattle.std.proofs.lemmas.List.{map-append}
 use Rattle.std.proofs.lemmas.Option.{slice_get-map}
-use Rattle.cst_core.specs.Path.{Path}
+use mathlib.Core.Path.{fun_ext}
+use Rattle.cst_core.specs.Path.{Path, parent_path}
 use Rattle.cst_core.specs.Tree.{Tree, Forest, Token, Node, end, more, SyntaxTree, trees, forest, label, children, at, paths, paths_from, relabelled, forest_relabelled}
+use Rattle.rewriting.specs.Topmost.{parent_holds, topmost}
 use Rattle.rewriting.specs.Rewriting.{NumberedAim, inserts_at, replacements_at, is_replaced, gap_order, gap, slot, rewritten, rewritten_from, rewritten_whole}
 
 module _ {L M : Type 0} (h : L → M) where
@@ -83,6 +85,14 @@ module _ {L M : Type 0} (h : L → M) where
         | None ↦ refl
         | Some c ↦ ap test (label-relabelled c)
       ]
+
+  parent-relabelled : (test : M → Bool) (t : Tree L) (p : Path) → parent_holds test (relabelled h t) p ≡ parent_holds (λ l. test (h l)) t p
+  parent-relabelled test t [] = refl
+  parent-relabelled test t (i ∷ p) = holds-relabelled t (parent_path (i ∷ p)) test
+
+  pub topmost-relabelled : (test : M → Bool) (t : Tree L) → topmost test (relabelled h t) ≡ topmost (λ l. test (h l)) t
+  topmost-relabelled test t =
+      ap₂ filter (fun_ext (λ p. ap₂ (λ a b. a && not b) (holds-relabelled t p test) (parent-relabelled test t p))) (paths-relabelled t)
 
 module _ {L M N : Type 0} (h : L → M) (g : M → N) where
   mutual

@@ -4,21 +4,21 @@
 --     given_unique                  whatever is so is what it gives
 use Rattle.std.specs.Prelude.{◌≡◌, ℕ, zero, suc, ◌<◌, ◌≤◌, Bool, true, false, cond, List, [], ◌∷◌, ◌++◌, map, filter, length, slice_get, unwrap_or, Some, None, refl}
 use Rattle.std.specs.List.{AllByRecursion, enumerate_from}
-use Rattle.std.proofs.Common.{ap, sym, ◌∙◌, arith}
+use Rattle.std.proofs.Common.{ap, ap₂, sym, ◌∙◌, arith}
 use mathlib.Core.List.{map-map}
 use mathlib.Core.Path.{fun_ext}
 use Rattle.cst_core.specs.Path.{Path, first_item}
-use Rattle.cst_core.specs.Tree.{SyntaxTree}
+use Rattle.cst_core.specs.Tree.{Tree, SyntaxTree}
 use Rattle.cst_core.specs.Element.{address, subtree}
 use Rattle.rewriting.specs.Aim.{aims_at_gap, starts_at}
 use Rattle.edit_plan.specs.Aim.{aim}
 use Rattle.edit_plan.specs.Nesting.{owner, has_owner}
-use Rattle.rewriting.specs.Rewriting.{NumberedAim, numbers, inserts_at, replacements_at, is_replaced, gap_order, gap, rewritten}
+use Rattle.rewriting.specs.Rewriting.{NumberedAim, numbers, inserts_at, replacements_at, is_replaced, gap_order, gap, rewritten, rewritten_whole}
 use Rattle.edit_plan.specs.Rewriting.{Origin, OriginTree, origin, moved_aim, targets_of, payload_of, payload_rewritten, dependents, given_within, given, Gives, plain}
 use Rattle.edit_plan.specs.declared.change.Change.{Change}
 use Rattle.edit_plan.proofs.Lists.{all_filter, all_weaker, all_enumerated, flat_map-agree}
 use Rattle.edit_plan.proofs.GapRule.{all-gap_order}
-use Rattle.edit_plan.proofs.Edits.{taken, rewritten-same, plain-untouched, untouched_by_none}
+use Rattle.edit_plan.proofs.Edits.{taken, filled, slot-filled, rewritten-same, plain-untouched, untouched_by_none}
 use Rattle.edit_plan.proofs.Owners.{owner_from, rank, rank-le, rank_less}
 
 -- ---- two ways to say what changes give, where they agree on the changes of a list
@@ -33,11 +33,18 @@ all_numbers-filter P test (c ∷ cs) a =
       | false ↦ all_numbers-filter P test cs a.1
     ]
 
-rewritten-agree : (l : Path → ℕ → Origin) (g h : ℕ → List OriginTree) (cs : List NumberedAim) → Agree g h (numbers cs) → (t : SyntaxTree) → rewritten l g cs [] t ≡ rewritten l h cs [] t
-rewritten-agree l g h cs a t =
-    let gaps : (p : Path) (i : ℕ) → gap l g cs p i ≡ gap l h cs p i = λ p i. flat_map-agree g h (gap_order (inserts_at cs p i)) (all-gap_order (λ n. g n ≡ h n) (inserts_at cs p i) (all_numbers-filter (λ n. g n ≡ h n) (λ c. aims_at_gap p i c.1) cs a)) in
-    let slots : (p : Path) → taken g cs p ≡ taken h cs p = λ p. ap (λ ts. cond (is_replaced cs p) (Some ts) None) (flat_map-agree g h (replacements_at cs p) (all_numbers-filter (λ n. g n ≡ h n) (λ c. starts_at p c.1) cs a)) in
-    rewritten-same l l g h cs cs [] (λ j. record { label_at = l; gap = λ p i. gaps p i j; slot = λ p i. slots (p ++ i ∷ []) j }) t
+module _ {L : Type 0} (l : Path → ℕ → L) (g h : ℕ → List (Tree L)) (cs : List NumberedAim) (a : AllByRecursion (λ n. g n ≡ h n) (numbers cs)) where
+  replaced-agree : (p : Path) → taken g cs p ≡ taken h cs p
+  replaced-agree p = ap (λ ts. cond (is_replaced cs p) (Some ts) None) (flat_map-agree g h (replacements_at cs p) (all_numbers-filter (λ n. g n ≡ h n) (λ c. starts_at p c.1) cs a))
+
+  pub rewritten-agree : (t : SyntaxTree) → rewritten l g cs [] t ≡ rewritten l h cs [] t
+  rewritten-agree t =
+      let gaps : (p : Path) (i : ℕ) → gap l g cs p i ≡ gap l h cs p i = λ p i. flat_map-agree g h (gap_order (inserts_at cs p i)) (all-gap_order (λ n. g n ≡ h n) (inserts_at cs p i) (all_numbers-filter (λ n. g n ≡ h n) (λ c. aims_at_gap p i c.1) cs a)) in
+      rewritten-same l l g h cs cs [] (λ j. record { label_at = l; gap = λ p i. gaps p i j; slot = λ p i. replaced-agree (p ++ i ∷ []) j }) t
+
+  pub whole-agree : (t : SyntaxTree) → rewritten_whole l g cs t ≡ rewritten_whole l h cs t
+  whole-agree t =
+      slot-filled l g cs [] (rewritten l g cs [] t) ∙ ap₂ filled (replaced-agree []) (rewritten-agree t) ∙ sym (slot-filled l h cs [] (rewritten l h cs [] t))
 
 payload-agree : (changes : List Change) (g h : ℕ → List OriginTree) (cs : List NumberedAim) (c : ℕ) → Agree g h (numbers cs) → payload_rewritten changes g cs c ≡ payload_rewritten changes h cs c
 payload-agree changes g h cs c a =

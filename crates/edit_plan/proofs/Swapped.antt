@@ -24,7 +24,8 @@ use Rattle.edit_plan.specs.Aim.{aim}
 use Rattle.edit_plan.specs.Nesting.{region, is_keeping, surroundings, is_around, is_dropped, region_at, owner, is_independent, has_owner}
 use Rattle.rewriting.specs.Rewriting.{NumberedAim, numbers, inserts_at, replacements_at, is_replaced, gap_order, gap, rewritten, rewritten_whole}
 use Rattle.edit_plan.specs.Rewriting.{Origin, OriginTree, plain, origin, moved_aim, targets_of, payload_of, is_free, independents, dependents, given, Gives, new_tree}
-use Rattle.edit_plan.specs.Results.{holds_at, is_brought, parent_is_brought, changed, copies_of, annotated}
+use Rattle.edit_plan.specs.Results.{is_brought, changed, copies_of, annotated}
+use Rattle.rewriting.specs.Topmost.{topmost}
 use Rattle.edit_plan.specs.Plan.{HasPlace, FindsPlace, ArePlaces, IsRewriting}
 use Rattle.edit_plan.specs.declared.change.Change.{Change}
 use Rattle.edit_plan.proofs.Lists.{all_weaker}
@@ -32,7 +33,7 @@ use Rattle.edit_plan.proofs.GapRule.{gap_order-map}
 use Rattle.edit_plan.proofs.Edits.{taken, filled, slot-filled, rewritten-same}
 use Rattle.edit_plan.proofs.Settled.{given_is, given_unique}
 use Rattle.edit_plan.proofs.Exchanged.{exchanged, exchanged-twice, nat_eq-exchanged, last_item-map, filter_map-option_map, slice_get-exchanged, any-exchanged, position-exchanged, kept-exchanged}
-use Rattle.edit_plan.proofs.Relabelled.{relabelled-rewritten, map-rewritten_whole, paths-relabelled, holds-relabelled, relabelled-twice}
+use Rattle.edit_plan.proofs.Relabelled.{relabelled-rewritten, map-rewritten_whole, paths-relabelled, holds-relabelled, relabelled-twice, topmost-relabelled}
 use Rattle.edit_plan.proofs.Apart.{same_gap_from, start_of, starts, shared_from_start, shared_from_region, moved-same_gap, moved-start_of, owned_below}
 
 -- ---- the aims of the changes that pass
@@ -208,16 +209,8 @@ module _ (before : List Change) (c d : Change) (behind : List Change) (gaps : sa
         | Some n ↦ free-new (moves n) ∙ ap (is_free old) (moves-twice n)
       ]
 
-  holds-new : (t : OriginTree) (p : Path) → holds_at (relabelled renamed t) p (is_brought (is_free new)) ≡ holds_at t p (is_brought (is_free old))
-  holds-new t p = holds-relabelled renamed t p (is_brought (is_free new)) ∙ ap (holds_at t p) (fun_ext brought-new)
-
-  parent-new : (t : OriginTree) (p : Path) → parent_is_brought (is_free new) (relabelled renamed t) p ≡ parent_is_brought (is_free old) t p
-  parent-new t [] = refl
-  parent-new t (i ∷ p) = holds-new t (parent_path (i ∷ p))
-
   changed-new : (t : OriginTree) → changed (is_free new) (relabelled renamed t) ≡ changed (is_free old) t
-  changed-new t =
-      ap₂ filter (fun_ext (λ p. ap₂ (λ a b. a && not b) (holds-new t p) (parent-new t p))) (paths-relabelled renamed t)
+  changed-new t = topmost-relabelled renamed (is_brought (is_free new)) t ∙ ap (λ test. topmost test t) (fun_ext brought-new)
 
   copies-new : (t : OriginTree) (a : Address) → copies_of (relabelled renamed t) a ≡ copies_of t a
   copies-new t a =

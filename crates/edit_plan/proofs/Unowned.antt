@@ -14,7 +14,7 @@ use Rattle.edit_plan.specs.declared.change.Change.{Change}
 use Rattle.edit_plan.proofs.Settled.{owns_nothing, plain-given}
 use Rattle.edit_plan.proofs.Filled.{flat_map-text, text-relabelled, text-rewritten_whole}
 
-all_at : {X : Type 0} (P : X → Type 0) (xs : List X) (i : ℕ) (x : X) → AllByRecursion P xs → slice_get xs i ≡ Some x → P x
+pub all_at : {X : Type 0} (P : X → Type 0) (xs : List X) (i : ℕ) (x : X) → AllByRecursion P xs → slice_get xs i ≡ Some x → P x
 all_at P [] i x a is = absurd (none-some x is)
 all_at P (y ∷ xs) zero x a is = subst P (same_Some y x is) a.0
 all_at P (y ∷ xs) (suc i) x a is = all_at P xs i x a.1 is

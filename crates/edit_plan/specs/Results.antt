@@ -1,37 +1,29 @@
 -- What is told of a new tree: which elements changes brought, where annotated ones are, and which node stands for an old one.
---     holds_at                      a test of the label of the element at a path
 --     is_brought                    a change without an owner brought the element
---     parent_is_brought, changed    it brought the parent; the paths, in document order, of the brought elements whose parent is none
+--     changed                       the paths, in document order, of the brought elements whose parent is none
 --     copies_of                     the paths, in document order, of the elements copied from an address
 --     annotated, annotated_as       an annotation with each path, by registration and then in document order; the paths of one annotation
 --     found                         the path of the first node, in document order, of the kind of an old one that starts where that one does
-use Rattle.std.specs.Prelude.{ℕ, nat_eq, ◌&&◌, Bool, false, not, List, [], ◌∷◌, map, filter, flat_map, find, Option}
+use Rattle.std.specs.Prelude.{ℕ, nat_eq, ◌&&◌, Bool, false, List, map, filter, flat_map, find, Option}
 use Rattle.std.specs.Option.{option_map_or}
-use Rattle.cst_core.specs.Path.{Path, parent_path}
+use Rattle.cst_core.specs.Path.{Path}
 use Rattle.cst_core.specs.Tree.{SyntaxTree, label, at, paths}
 use Rattle.cst_core.specs.Order.{node_paths, start}
 use Rattle.cst_core.specs.Element.{Address, Element, address, same_address, subtree}
 use Rattle.edit_map.specs.Mapping.{Mapping, followed}
+use Rattle.rewriting.specs.Topmost.{holds_at, topmost}
 use Rattle.edit_plan.specs.Rewriting.{Origin, OriginTree}
-
--- false where there is no element
-abbrev pub holds_at : OriginTree → Path → (Origin → Bool) → Bool
-holds_at t p test = option_map_or (λ e. test (label e)) (at t p) false
 
 -- ---- changed elements, where `is_free` says which changes have no owner
 abbrev pub is_brought : (ℕ → Bool) → Origin → Bool
 is_brought is_free o = option_map_or is_free o.change false
 
-abbrev pub parent_is_brought : (ℕ → Bool) → OriginTree → Path → Bool
-parent_is_brought is_free t [] = false
-parent_is_brought is_free t (i ∷ p) = holds_at t (parent_path (i ∷ p)) (is_brought is_free)
-
 abbrev pub changed : (ℕ → Bool) → OriginTree → List Path
-changed is_free t = filter (λ p. holds_at t p (is_brought is_free) && not (parent_is_brought is_free t p)) (paths t)
+changed is_free t = topmost (is_brought is_free) t
 
 -- ---- annotated elements
 abbrev pub copies_of : OriginTree → Address → List Path
-copies_of t a = filter (λ p. holds_at t p (λ o. same_address a o.address)) (paths t)
+copies_of t a = filter (holds_at (λ o. same_address a o.address) t) (paths t)
 
 -- a registration is an element and the number of an annotation
 abbrev pub annotated : Mapping → List (Element × ℕ) → OriginTree → List (ℕ × Path)

@@ -2,6 +2,7 @@
 #![tactic(auto)]
 
 mod change;
+mod change_aims;
 mod edit;
 mod edit_error;
 mod element_list;
@@ -9,6 +10,7 @@ pub mod laws;
 mod nesting;
 mod plan;
 mod position;
+mod run;
 mod targets;
 
 pub use change::Change;

@@ -15,8 +15,8 @@ use std::marker::Model;
 /// The changes of a tree, looked through and ready to be carried out.
 #[derive(Drop)]
 pub struct EditPlan {
-    root: SyntaxNode,
-    changes: Vec<Change>,
+    pub(crate) root: SyntaxNode,
+    pub(crate) changes: Vec<Change>,
 }
 
 impl Model for EditPlan {

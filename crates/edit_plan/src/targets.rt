@@ -22,7 +22,7 @@ pub(crate) fn parent(path: &[usize]) -> &[usize]
     }
 }
 
-fn slot(path: &[usize]) -> usize
+pub(crate) fn slot(path: &[usize]) -> usize
     ensures { result ≡ last_slot path.now }
 {
     match path.split_last() {

@@ -39,7 +39,7 @@ module _ {L : Type 0} (label_at : Path → ℕ → L) (given : ℕ → List (Tre
   abbrev pub left : ℕ → List SyntaxTree → List (Tree L)
   left i ts = slots_from i (forest (drop i ts))
 
-  split : (i : ℕ) (ts : List SyntaxTree) (d : SyntaxTree) → i < length ts → left i ts ≡ slot label_at given cs (i ∷ []) (rewritten label_at given cs (i ∷ []) (get_or ts i d)) ++ gap label_at given cs [] (i + 1) ++ left (i + 1) ts
+  pub split : (i : ℕ) (ts : List SyntaxTree) (d : SyntaxTree) → i < length ts → left i ts ≡ slot label_at given cs (i ∷ []) (rewritten label_at given cs (i ∷ []) (get_or ts i d)) ++ gap label_at given cs [] (i + 1) ++ left (i + 1) ts
   split i ts d l =
       let next : suc i ≡ i + 1 = omega arith in
       let s = slot label_at given cs (i ∷ []) (rewritten label_at given cs (i ∷ []) (get_or ts i d)) in

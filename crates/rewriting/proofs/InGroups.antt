@@ -135,3 +135,8 @@ pub group-gap : {L : Type 0} (label_at : Path → ℕ → L) (given : ℕ → Li
 group-gap label_at given xs group i e =
     let next : i + 1 ≡ suc i = omega arith in
     ap (λ j. gap label_at given (aims_of group) [] j) next ∙ ap (λ g. gap label_at given (aims_of g) [] (suc i)) e ∙ ap (λ ns. flat_map given (gap_order ns)) (group-inserts i xs) ∙ ap (λ j. gap label_at given (aims_of xs) [] j) (sym next)
+
+pub group-inserted : (i : ℕ) (xs group : List Aimed) → group ≡ filter (concerns i) xs → inserts_at (aims_of group) [] (i + 1) ≡ inserts_at (aims_of xs) [] (i + 1)
+group-inserted i xs group e =
+    let next : i + 1 ≡ suc i = omega arith in
+    ap (λ j. inserts_at (aims_of group) [] j) next ∙ ap (λ g. inserts_at (aims_of g) [] (suc i)) e ∙ group-inserts i xs ∙ ap (λ j. inserts_at (aims_of xs) [] j) (sym next)

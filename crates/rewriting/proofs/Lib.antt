@@ -4,3 +4,5 @@ pub mod InGroups
 pub mod Children
 pub mod Built
 pub mod Untouched
+pub mod Tops
+pub mod GivenPlaces

@@ -4,3 +4,4 @@ pub mod Effort
 pub mod Aimed
 pub mod Groups
 pub mod Pass
+pub mod Topmost

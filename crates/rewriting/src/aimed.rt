@@ -53,15 +53,15 @@ impl<'a> Aimed<'a> {
         }
     }
 
-    /// The number of the change.
-    pub fn change(&self) -> usize
+    // The number of the change.
+    pub(crate) fn change(&self) -> usize
         ensures { result ≡ self.now.change }
     {
         self.change
     }
 
-    /// Whether it alters the children of a node. A replaced top, the gap behind the top and no siblings at all alter none.
-    pub fn has_parent(&self) -> bool
+    // Whether it alters the children of a node. A replaced top, the gap behind the top and no siblings at all alter none.
+    pub(crate) fn has_parent(&self) -> bool
         ensures { result ≡ has_parent (numbered self.now) }
     {
         match self.place {
@@ -72,7 +72,7 @@ impl<'a> Aimed<'a> {
     }
 
     // Whether it replaces the top itself.
-    pub fn replaces_top(&self) -> bool
+    pub(crate) fn replaces_top(&self) -> bool
         ensures over { result ≡ replaces [] (aim_in self.now.path.now self.now.place) }
         ensures start { result ≡ starts_at [] (aim_in self.now.path.now self.now.place) }
     {
@@ -84,7 +84,7 @@ impl<'a> Aimed<'a> {
     }
 
     // Whether it inserts into this gap of the top.
-    pub fn inserts_at(&self, gap: usize) -> bool
+    pub(crate) fn inserts_at(&self, gap: usize) -> bool
         ensures { result ≡ aims_at_gap [] gap (aim_in self.now.path.now self.now.place) }
     {
         match self.place {
@@ -100,7 +100,7 @@ impl<'a> Aimed<'a> {
     }
 
     // Whether it replaces from this child of the top on.
-    pub fn starts_at(&self, slot: usize) -> bool
+    pub(crate) fn starts_at(&self, slot: usize) -> bool
         ensures { result ≡ starts_at (slot ∷ []) (aim_in self.now.path.now self.now.place) }
     {
         match self.place {
@@ -116,7 +116,7 @@ impl<'a> Aimed<'a> {
     }
 
     // Whether it replaces this child of the top.
-    pub fn replaces(&self, slot: usize) -> bool
+    pub(crate) fn replaces(&self, slot: usize) -> bool
         ensures { result ≡ replaces (slot ∷ []) (aim_in self.now.path.now self.now.place) }
     {
         match self.place {
@@ -136,7 +136,7 @@ impl<'a> Aimed<'a> {
 
     // The first child of the top that it matters for, and how many there are: those that it replaces, or the one that it
     // is behind or below.
-    pub fn reach(&self) -> (usize, usize)
+    pub(crate) fn reach(&self) -> (usize, usize)
         ensures inside { (k : ℕ) → result.0 ≤ k → k < result.0 + result.1 → concerns k self.now ≡ true }
         ensures before { (k : ℕ) → k < result.0 → concerns k self.now ≡ false }
         ensures behind { (k : ℕ) → result.0 + result.1 ≤ k → concerns k self.now ≡ false }
@@ -154,7 +154,7 @@ impl<'a> Aimed<'a> {
     }
 
     // The same as it is seen from this child of the top, if its path leads to the child or below.
-    pub fn seen_from(&self, slot: usize) -> Option<Aimed<'a>>
+    pub(crate) fn seen_from(&self, slot: usize) -> Option<Aimed<'a>>
         ensures { option_placed result ≡ seen_from slot (placed self.now) }
     {
         let [first, rest @ ..] = self.path else {

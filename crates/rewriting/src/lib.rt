@@ -4,6 +4,8 @@
 mod aimed;
 mod groups;
 mod pass;
+mod topmost;
 
 pub use aimed::Aimed;
 pub use pass::{rebuild, rebuild_whole};
+pub use topmost::{places_of_given, places_of_given_whole};

@@ -13,7 +13,7 @@ use green_tree::{GreenElement, GreenNode, SyntaxKind};
 use std::alloc::{AllocError, Global};
 
 // Whether some aim alters the children of a node.
-fn alter_some(aims: &[Aimed]) -> bool
+pub fn alter_some(aims: &[Aimed]) -> bool
     ensures { result ≡ list_any has_parent (aims_of aims.now) }
 {
     for aim in aims {
@@ -24,7 +24,7 @@ fn alter_some(aims: &[Aimed]) -> bool
     false
 }
 
-fn is_replaced(aims: &[Aimed], slot: usize) -> bool
+pub fn is_replaced(aims: &[Aimed], slot: usize) -> bool
     ensures { result ≡ is_replaced (aims_of aims.now) (slot ∷ []) }
 {
     for aim in aims {
@@ -35,7 +35,7 @@ fn is_replaced(aims: &[Aimed], slot: usize) -> bool
     false
 }
 
-fn top_is_replaced(aims: &[Aimed]) -> bool
+pub fn top_is_replaced(aims: &[Aimed]) -> bool
     ensures { result ≡ is_replaced (aims_of aims.now) [] }
 {
     for aim in aims {

@@ -1,0 +1,141 @@
+-- A plan's changes, as its pass is told of them.
+--     one-sibling, range-siblings      the targets of a replacement, counted
+--     range-has-parent                 the ends of a range are no roots
+--     more-trees, table-is             what the changes bring, one change after another
+--     independents-to                  the changes without an owner, of the first so many
+--     one-more, one-dropped            one change more
+use Rattle.std.specs.Prelude.{◌≡◌, ℕ, zero, suc, ◌+◌, ◌-◌, ◌<◌, ◌≤◌, Bool, true, false, cond, not, ◌&&◌, List, [], ◌∷◌, ◌++◌, map, filter, length, take, slice_get, Vec, Option, Some, None, option_map, is_none, All, refl}
+use Rattle.std.specs.Global.{Global}
+use Rattle.std.specs.List.{enumerate_from}
+use Rattle.std.specs.Option.{option_map_or}
+use Rattle.std.proofs.Common.{ap, ap₂, sym, ◌∙◌, arith, get_or}
+use Rattle.std.proofs.lemmas.Bool.{and_parts, or_cases, false≢true}
+use Rattle.std.proofs.lemmas.List.{map-append, append-nil, length-take}
+use Rattle.std.proofs.lemmas.List.Elements.{filter-append}
+use Rattle.std.proofs.lemmas.Option.{slice_get-map}
+use Rattle.std.proofs.Math.Seq.{take-suc}
+use mathlib.Core.Logic.{inl, inr}
+use Rattle.cst_core.specs.Path.{Path, same_path, siblings, counted_from, parent_path, last_slot}
+use Rattle.cst_core.specs.Tree.{SyntaxTree}
+use Rattle.cst_core.specs.Element.{Element, subtree}
+use Rattle.cst_core.specs.GreenElement.{element_trees, element_tree}
+use Rattle.cst_core.specs.SyntaxElement.{element_of}
+use Rattle.cst_core.specs.declared.element.SyntaxElement.{SyntaxElement}
+use Rattle.cst_core.proofs.LastSlot.{parent-and-slot}
+use Rattle.rewriting.specs.Aimed.{siblings_from}
+use Rattle.rewriting.specs.Pass.{given_by}
+use Rattle.rewriting.specs.Rewriting.{NumberedAim}
+use Rattle.green_tree.specs.declared.green.GreenElement.{GreenElement}
+use Rattle.edit_plan.specs.Aim.{aim}
+use Rattle.edit_plan.specs.Change.{payload}
+use Rattle.edit_plan.specs.Fits.{Fits, is_native, is_root, is_range}
+use Rattle.edit_plan.specs.Nesting.{owner, is_dropped, is_independent, first_nested}
+use Rattle.edit_plan.specs.Rewriting.{aims_of, independents, payload_of}
+use Rattle.edit_plan.specs.declared.change.Change.{Change}
+use Rattle.edit_plan.specs.declared.change.Change.TheVariants.{ReplaceAll}
+use Rattle.edit_plan.proofs.Around.{unowned-at}
+
+-- ---- targets
+pub one-sibling : (p : Path) → siblings_from p 1 ≡ p ∷ []
+one-sibling [] = refl
+one-sibling (i ∷ p) = ap (λ q. q ∷ []) (sym (parent-and-slot i p))
+
+pub range-siblings : (f l : Path) (n : ℕ) → (f ≡ [] → ⊥) → n ≡ suc (last_slot l) - last_slot f → siblings_from f n ≡ siblings f l
+range-siblings [] l n some is = absurd (some refl)
+range-siblings (i ∷ f) l n some is = ap (λ k. map (λ j. parent_path (i ∷ f) ++ j ∷ []) (counted_from (last_slot (i ∷ f)) k)) is
+
+pub range-has-parent : (root : Element) (first last : SyntaxElement) (es : List SyntaxElement) → Fits root (ReplaceAll first last es) → (element_of first).path ≡ [] → ⊥
+range-has-parent root first last es fits none =
+    let whole = and_parts _ (not (same_path (element_of first).path (element_of last).path)) fits in
+    let range = and_parts (is_native root first && is_native root last) (is_range first last) whole.0 in
+    let root_is : is_root first ≡ true = ap (λ p. same_path p []) none in
+    elim (or_cases (same_path (element_of first).path (element_of last).path) _ range.1) [
+      | inl same ↦ false≢true (sym (ap not same) ∙ whole.1)
+      | inr beside ↦ false≢true (sym (ap not root_is) ∙ (and_parts (not (is_root first)) (not (is_root last)) (and_parts _ _ (and_parts _ _ beside).0).0).0)
+    ]
+
+-- ---- what changes bring
+abbrev pub brought_trees : Change → List SyntaxTree
+brought_trees c = map subtree (payload c)
+
+pub more-trees : (es : List SyntaxElement) (i : ℕ) (e : SyntaxElement) → i < length es → e ≡ get_or es i e → map subtree (map element_of (take i es)) ++ subtree (element_of e) ∷ [] ≡ map subtree (map element_of (take (i + 1) es))
+more-trees es i e l is =
+    let f : SyntaxElement → SyntaxTree = λ x. subtree (element_of x) in
+    let more : take (i + 1) es ≡ take i es ++ e ∷ [] = let n : i + 1 ≡ suc i = omega arith in ap (λ k. take k es) n ∙ take-suc es i e l ∙ ap (λ x. take i es ++ x ∷ []) (sym is) in
+    sym (ap (λ xs. map subtree (map element_of xs)) more ∙ ap (map subtree) (map-append element_of (take i es) (e ∷ [])) ∙ map-append subtree (map element_of (take i es)) (element_of e ∷ []))
+
+abbrev pub tables : List (Vec GreenElement Global) → List (List SyntaxTree)
+tables vs = map (λ v. element_trees v.items) vs
+
+pub more-tables : (vs : List (Vec GreenElement Global)) (v : Vec GreenElement Global) (cs : List Change) (i : ℕ) (c : Change) → i < length cs → c ≡ get_or cs i c → tables vs ≡ map brought_trees (take i cs) → element_trees v.items ≡ brought_trees c → tables (vs ++ v ∷ []) ≡ map brought_trees (take (i + 1) cs)
+more-tables vs v cs i c l is before here =
+    let more : take (i + 1) cs ≡ take i cs ++ c ∷ [] = let n : i + 1 ≡ suc i = omega arith in ap (λ k. take k cs) n ∙ take-suc cs i c l ∙ ap (λ x. take i cs ++ x ∷ []) (sym is) in
+    map-append (λ v. element_trees v.items) vs (v ∷ []) ∙ ap₂ (λ xs x. xs ++ x ∷ []) before here ∙ sym (ap (map brought_trees) more ∙ map-append brought_trees (take i cs) (c ∷ []))
+
+lookup : {X : Type 0} → (X → List SyntaxTree) → List X → ℕ → List SyntaxTree
+lookup f xs c = option_map_or (λ ts. ts) (slice_get (map f xs) c) []
+
+looked-up : {X : Type 0} (f : X → List SyntaxTree) (xs : List X) (c : ℕ) → lookup f xs c ≡ option_map_or f (slice_get xs c) []
+unfolding lookup
+looked-up f xs c =
+    ap (λ o. option_map_or (λ ts. ts) o []) (slice_get-map f xs c) ∙ (elim (slice_get xs c) as (λ o. option_map_or (λ ts. ts) (option_map f o) [] ≡ option_map_or f o []) [ None ↦ refl | Some x ↦ refl ])
+
+payload-of : (cs : List Change) (c : ℕ) → option_map_or brought_trees (slice_get cs c) [] ≡ map subtree (payload_of cs c)
+payload-of cs c =
+    elim (slice_get cs c) as (λ o. option_map_or brought_trees o [] ≡ map subtree (option_map_or payload o [])) [ None ↦ refl | Some x ↦ refl ]
+
+pub table-is : (vs : List (Vec GreenElement Global)) (cs : List Change) → tables vs ≡ map brought_trees cs → (c : ℕ) → given_by vs c ≡ map subtree (payload_of cs c)
+unfolding lookup
+table-is vs cs is c =
+    sym (looked-up (λ v. element_trees v.items) vs c) ∙ ap (λ ts. option_map_or (λ t. t) (slice_get ts c) []) is ∙ looked-up brought_trees cs c ∙ payload-of cs c
+
+-- ---- the changes without an owner, of the first so many
+abbrev pub independents-to : List Change → ℕ → List NumberedAim
+independents-to cs n = aims_of (filter (λ d. is_independent cs d.1) (enumerate_from 0 (take n cs)))
+
+enumerate-push : {X : Type 0} (k : ℕ) (xs : List X) (x : X) → enumerate_from k (xs ++ x ∷ []) ≡ enumerate_from k xs ++ (k + length xs, x) ∷ []
+enumerate-push k [] x = let e : k ≡ k + 0 = omega arith in ap (λ n. (n, x) ∷ []) e
+enumerate-push k (y ∷ xs) x =
+    let e : (k + 1) + length xs ≡ k + suc (length xs) = omega arith in
+    ap (λ ds. (k, y) ∷ ds) (enumerate-push (k + 1) xs x ∙ ap (λ n. enumerate_from (k + 1) xs ++ (n, x) ∷ []) e)
+
+independent-is : (cs : List Change) (c : Change) → owner cs c ≡ None → is_independent cs c ≡ not (is_dropped cs c)
+independent-is cs c none = ap (λ o. not (is_dropped cs c) && is_none o) none ∙ (elim (is_dropped cs c) as (λ b. (not b && true) ≡ not b) [ true ↦ refl | false ↦ refl ])
+
+module _ (cs : List Change) (i : ℕ) (c : Change) (l : i < length cs) (is : c ≡ get_or cs i c) (none : owner cs c ≡ None) where
+  one-further : independents-to cs (i + 1) ≡ independents-to cs i ++ cond (is_dropped cs c) [] ((i, aim c) ∷ [])
+  one-further =
+      let more : take (i + 1) cs ≡ take i cs ++ c ∷ [] = let n : i + 1 ≡ suc i = omega arith in ap (λ k. take k cs) n ∙ take-suc cs i c l ∙ ap (λ x. take i cs ++ x ∷ []) (sym is) in
+      let long : 0 + length (take i cs) ≡ i = omega (arith, length-take i cs, l) in
+      let pair : ℕ × Change = (i, c) in
+      let last : filter (λ d. is_independent cs d.1) (pair ∷ []) ≡ cond (is_dropped cs c) [] (pair ∷ []) = ap (λ b. cond b (pair ∷ []) []) (independent-is cs c none) ∙ (elim (is_dropped cs c) as (λ b. cond (not b) (pair ∷ []) [] ≡ cond b [] (pair ∷ [])) [ true ↦ refl | false ↦ refl ]) in
+      let aimed : aims_of (cond (is_dropped cs c) [] (pair ∷ [])) ≡ cond (is_dropped cs c) [] ((i, aim c) ∷ []) = elim (is_dropped cs c) as (λ b. aims_of (cond b [] (pair ∷ [])) ≡ cond b [] ((i, aim c) ∷ [])) [ true ↦ refl | false ↦ refl ] in
+      ap (λ xs. aims_of (filter (λ d. is_independent cs d.1) (enumerate_from 0 xs))) more ∙ ap (λ ds. aims_of (filter (λ d. is_independent cs d.1) ds)) (enumerate-push 0 (take i cs) c ∙ ap (λ n. enumerate_from 0 (take i cs) ++ (n, c) ∷ []) long) ∙ ap aims_of (filter-append (λ d. is_independent cs d.1) (enumerate_from 0 (take i cs)) (pair ∷ []) ∙ ap (λ ds. filter (λ d. is_independent cs d.1) (enumerate_from 0 (take i cs)) ++ ds) last) ∙ map-append (λ d. (d.0, aim d.1)) (filter (λ d. is_independent cs d.1) (enumerate_from 0 (take i cs))) (cond (is_dropped cs c) [] (pair ∷ [])) ∙ ap (λ xs. independents-to cs i ++ xs) aimed
+
+  pub one-more : is_dropped cs c ≡ false → independents-to cs (i + 1) ≡ independents-to cs i ++ (i, aim c) ∷ []
+  one-more kept = one-further ∙ ap (λ b. independents-to cs i ++ cond b [] ((i, aim c) ∷ [])) kept
+
+  pub one-dropped : is_dropped cs c ≡ true → independents-to cs (i + 1) ≡ independents-to cs i
+  one-dropped gone = one-further ∙ ap (λ b. independents-to cs i ++ cond b [] ((i, aim c) ∷ [])) gone ∙ append-nil (independents-to cs i)
+
+pub take-whole : {X : Type 0} (n : ℕ) (xs : List X) → length xs ≤ n → take n xs ≡ xs
+take-whole zero [] l = refl
+take-whole zero (x ∷ xs) l = absurd (omega (arith, l))
+take-whole (suc n) [] l = refl
+take-whole (suc n) (x ∷ xs) l = ap (λ ys. x ∷ ys) (take-whole n xs (omega (arith, l)))
+
+-- ---- a turn of the loop over the changes, which stand in three lists that are one
+module _ (cs xs ys : List Change) (all : xs ≡ cs) (again : ys ≡ cs) (i : ℕ) (c : Change) (l : i < length xs) (is : c ≡ get_or xs i c) (none : first_nested cs ≡ None) where
+  below : i < length cs
+  below = omega (arith, ap length all, l)
+
+  at_i : c ≡ get_or cs i c
+  at_i = is ∙ ap (λ ds. get_or ds i c) all
+
+  pub kept-turn : is_dropped ys c ≡ false → (before now : List NumberedAim) (a : NumberedAim) → before ≡ independents-to cs i → a ≡ (i, aim c) → now ≡ before ++ a ∷ [] → now ≡ independents-to cs (i + 1)
+  kept-turn kept before now a was aimed push =
+      push ∙ ap₂ (λ ns n. ns ++ n ∷ []) was aimed ∙ sym (one-more cs i c below at_i (unowned-at cs i c none below at_i) (ap (λ ds. is_dropped ds c) (sym again) ∙ kept))
+
+  pub dropped-turn : is_dropped ys c ≡ true → (before now : List NumberedAim) → before ≡ independents-to cs i → now ≡ before → now ≡ independents-to cs (i + 1)
+  dropped-turn gone before now was stays =
+      stays ∙ was ∙ sym (one-dropped cs i c below at_i (unowned-at cs i c none below at_i) (ap (λ ds. is_dropped ds c) (sym again) ∙ gone))

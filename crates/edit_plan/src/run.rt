@@ -1,0 +1,103 @@
+ghost use Rattle.std.specs.Prelude.{◌≡◌, ◌+◌, ℕ, [], ◌∷◌, map, length, Some, IfOk, IfErr, IfSome, OnOk, OnErr};
+ghost use Rattle.cst_core.specs.Green.{branch_tree};
+ghost use Rattle.cst_core.specs.Element.{subtree};
+ghost use Rattle.cst_core.specs.GreenElement.{element_trees};
+ghost use Rattle.cst_core.specs.SyntaxElement.{syntax_at};
+ghost use Rattle.rewriting.specs.Aimed.{aims_of};
+ghost use Rattle.rewriting.specs.Pass.{kind_only, given_by};
+ghost use Rattle.rewriting.specs.Rewriting.{rewritten_whole};
+ghost use Rattle.rewriting.specs.Topmost.{paths_of};
+ghost use Rattle.edit_plan.specs.Building.{Makes, RunRefuses};
+ghost use Rattle.edit_plan.specs.Rewriting.{independents, payload_of};
+
+use crate::edit::SyntaxEdit;
+use crate::edit_error::EditError;
+use crate::nesting::is_dropped;
+use crate::plan::EditPlan;
+use cst_core::{GreenElement, GreenNode, SyntaxElement, SyntaxNode, TreeIds};
+use rewriting::{Aimed, rebuild_whole};
+use std::alloc::{AllocError, Global};
+
+impl EditPlan {
+    // The changes that nothing takes away, by where they aim.
+    fn aims(&self, alloc: Global) -> Result<Vec<Aimed<'_>>, AllocError>
+        ensures { IfOk result (λ v. aims_of v.items ≡ independents self.now.changes) }
+    {
+        let mut aims = Vec::new(alloc);
+        for (number, change) in self.changes.iter().enumerate() {
+            if !is_dropped(&self.changes, change) {
+                let Some(aim) = change.aimed(number) else {
+                    return Err(AllocError);
+                };
+                aims.push(aim)?;
+            }
+        }
+        Ok(aims)
+    }
+
+    // What each change gives, by its number.
+    fn given(&self, alloc: Global) -> Result<Vec<Vec<GreenElement>>, AllocError>
+        ensures { IfOk result (λ v. (c : ℕ) → given_by v.items c ≡ map subtree (payload_of self.now.changes c)) }
+    {
+        let mut given = Vec::new(alloc);
+        for change in &self.changes {
+            given.push(change.brought(alloc)?)?;
+        }
+        Ok(given)
+    }
+
+    // The new root's shared tree.
+    fn rewritten(
+        &self,
+        alloc: Global,
+        aims: &[Aimed],
+        given: &[Vec<GreenElement>],
+    ) -> Result<GreenNode, AllocError>
+        ensures { IfOk result (λ n. rewritten_whole kind_only (given_by given.now) (aims_of aims.now) (subtree self.now.root) ≡ branch_tree n ∷ []) }
+    {
+        let old = GreenElement::Node(self.root.green(alloc)?);
+        let mut builds = 0;
+        let new = rebuild_whole(alloc, &old, aims, given, &mut builds)?;
+        only_node(new).ok_or(AllocError)
+    }
+}
+
+// The only element, if there is one, and it is a node. What stands for the root of a tree is always so.
+fn only_node(mut elements: Vec<GreenElement>) -> Option<GreenNode>
+    ensures { IfSome result (λ n. element_trees elements.items ≡ branch_tree n ∷ []) }
+{
+    let element = elements.pop()?;
+    if !elements.is_empty() {
+        return None;
+    }
+    match element {
+        GreenElement::Node(node) => Some(node),
+        GreenElement::Token(_) => None,
+    }
+}
+
+// How many elements each change gives.
+fn counts(alloc: Global, given: &[Vec<GreenElement>]) -> Result<Vec<usize>, AllocError>
+    ensures { IfOk result (λ v. v.items ≡ map (λ g. length g.items) given.now) }
+{
+    given.iter().map(|elements| elements.len()).collect(alloc)
+}
+
+// The elements that these paths lead to, counted from a root.
+fn elements_at(
+    alloc: Global,
+    root: &SyntaxNode,
+    paths: &[Vec<usize>],
+) -> Result<Vec<SyntaxElement>, AllocError>
+    requires { root.now.path ≡ [] }
+    ensures { IfOk result (λ v. map Some v.items ≡ map (syntax_at root.now) (paths_of paths.now)) }
+{
+    let mut elements = Vec::new(alloc);
+    for path in paths {
+        let Some(element) = root.element_at(alloc, path)? else {
+            return Err(AllocError);
+        };
+        elements.push(element)?;
+    }
+    Ok(elements)
+}
