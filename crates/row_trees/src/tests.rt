@@ -105,8 +105,8 @@ fn bad_expressions_are_refused(rt: HostRuntime) {
         "(LITERAL IDENT \"a\")",
         "(LITERAL IDENT\"a)",
         "(LITERAL IDENT\"\\a\")",
-        "[L]",
-        "(LITERAL [L)",
+        "(LITERAL [L",
+        "[L] [L]",
     ];
     for expression in malformed {
         assert!(rt;

@@ -6,6 +6,7 @@ mod ends;
 mod name;
 mod program;
 mod reference;
+mod roots;
 mod script;
 mod session;
 mod stop;

@@ -34,28 +34,13 @@ pub(crate) enum Line<'a> {
 /// The line of this text, which has no newline. One carriage return at its end is dropped, and then spaces at both ends.
 pub(crate) fn read_line<'a>(alloc: Global, text: &'a str) -> Result<Line<'a>, Stop> {
     let mut fields = Fields::of_line(text);
-    let Some(word) = fields.next() else {
+    let Some(word) = fields.word() else {
         return Ok(Line::Blank);
     };
-    if word.starts_with('#') {
-        return Ok(Line::Blank);
-    }
     let line = match word {
-        "tree" => {
-            let name = fields.name()?;
-            let root = read_tree(alloc, fields.take_rest())?;
-            Line::Tree { name, root }
-        }
-        "edit" => {
-            let name = fields.name()?;
-            let node = fields.reference(alloc)?;
-            Line::Edit { name, node }
-        }
-        "replace" => {
-            let target = fields.reference(alloc)?;
-            let payload = fields.reference(alloc)?;
-            Line::Replace { target, payload }
-        }
+        "tree" => tree_line(alloc, &mut fields)?,
+        "edit" => edit_line(alloc, &mut fields)?,
+        "replace" => replace_line(alloc, &mut fields)?,
         "finish" => Line::Finish,
         _ => return Err(Stop::Bad),
     };
@@ -65,10 +50,25 @@ pub(crate) fn read_line<'a>(alloc: Global, text: &'a str) -> Result<Line<'a>, St
 
 /// Whether the line does nothing.
 pub(crate) fn is_blank(text: &str) -> bool {
-    match Fields::of_line(text).next() {
-        Some(word) => word.starts_with('#'),
-        None => true,
-    }
+    Fields::of_line(text).word().is_none()
+}
+
+fn tree_line<'a>(alloc: Global, fields: &mut Fields<'a>) -> Result<Line<'a>, Stop> {
+    let name = fields.name()?;
+    let root = read_tree(alloc, fields.take_rest())?;
+    Ok(Line::Tree { name, root })
+}
+
+fn edit_line<'a>(alloc: Global, fields: &mut Fields<'a>) -> Result<Line<'a>, Stop> {
+    let name = fields.name()?;
+    let node = fields.reference(alloc)?;
+    Ok(Line::Edit { name, node })
+}
+
+fn replace_line<'a>(alloc: Global, fields: &mut Fields<'a>) -> Result<Line<'a>, Stop> {
+    let target = fields.reference(alloc)?;
+    let payload = fields.reference(alloc)?;
+    Ok(Line::Replace { target, payload })
 }
 
 // What is left of a line, without spaces at its ends. Spaces stand between its fields.
@@ -82,6 +82,11 @@ impl<'a> Fields<'a> {
         let text = text.strip_suffix('\r').unwrap_or(text);
         let rest = text.trim_matches(' ');
         Fields { rest }
+    }
+
+    // The first field, if there is one and it begins no comment.
+    fn word(&mut self) -> Option<&'a str> {
+        self.next().filter(|word| !word.starts_with('#'))
     }
 
     fn next(&mut self) -> Option<&'a str> {

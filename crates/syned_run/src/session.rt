@@ -2,17 +2,18 @@
 
 use crate::name::Name;
 use crate::reference::Reference;
+use crate::roots::Roots;
 use crate::script::Line;
 use crate::stop::Stop;
 use cst_core::{GreenNode, SyntaxElement, SyntaxNode, TreeIds};
 use std::alloc::Global;
-use std::collections::BTreeMap;
 
+/// The trees of a script, and its source of tree numbers.
 #[derive(Drop)]
 pub(crate) struct Session {
     alloc: Global,
     ids: TreeIds,
-    roots: BTreeMap<String, SyntaxNode>,
+    roots: Roots,
 }
 
 impl Session {
@@ -20,7 +21,7 @@ impl Session {
         Session {
             alloc,
             ids: TreeIds::new(1),
-            roots: BTreeMap::new(alloc),
+            roots: Roots::new(alloc),
         }
     }
 
@@ -34,21 +35,15 @@ impl Session {
     }
 
     fn add_tree(&mut self, name: Name<'_>, root: GreenNode) -> Result<(), Stop> {
-        let name = self.new_name(name)?;
-        let root = SyntaxNode::new_root(self.alloc, &mut self.ids, root)?;
-        self.roots.insert(name, root)?;
-        Ok(())
-    }
-
-    fn new_name(&self, name: Name<'_>) -> Result<String, Stop> {
-        if self.roots.contains_key(name.as_str()) {
+        if self.roots.is_taken(name) {
             return Err(Stop::Bad);
         }
-        Ok(String::from_str(self.alloc, name.as_str())?)
+        let root = SyntaxNode::new_root(self.alloc, &mut self.ids, root)?;
+        self.roots.add(self.alloc, name, root)
     }
 
     fn element(&self, reference: &Reference<'_>) -> Result<SyntaxElement, Stop> {
-        let root = self.roots.get(reference.name.as_str()).ok_or(Stop::Bad)?;
+        let root = self.roots.get(reference.name).ok_or(Stop::Bad)?;
         root.element_at(self.alloc, &reference.slots)?
             .ok_or(Stop::Bad)
     }
