@@ -43,7 +43,7 @@ filter_map-option_map f g h same [] = refl
 filter_map-option_map f g h same (x ∷ xs) =
     ap₂ cons_option (same x) (filter_map-option_map f g h same xs) ∙ elim (g x) as (λ o. cons_option (option_map f o) (map f (filter_map g xs)) ≡ map f (cons_option o (filter_map g xs))) [ None ↦ refl | Some y ↦ refl ]
 
-position-cons : {X : Type 0} (test : X → Bool) (x : X) (xs : List X) → position test (x ∷ xs) ≡ cond (test x) (Some 0) (option_map suc (position test xs))
+pub position-cons : {X : Type 0} (test : X → Bool) (x : X) (xs : List X) → position test (x ∷ xs) ≡ cond (test x) (Some 0) (option_map suc (position test xs))
 position-cons test x xs =
     elim (test x) as (λ b. cond (nat_lt (cond (not b) (1 + position_or_len test xs) 0) (length (x ∷ xs))) (Some (cond (not b) (1 + position_or_len test xs) 0)) None ≡ cond b (Some 0) (option_map suc (position test xs))) [
       | true ↦ ap (λ b. cond b (Some 0) None) (lt-ltb 0 (length (x ∷ xs)) (omega arith))

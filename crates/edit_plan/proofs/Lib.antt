@@ -19,7 +19,8 @@ mod Untold
 mod Filled
 mod Unowned
 mod Whole
-mod Exchanged
+mod Carrying
+pub mod Exchanged
 mod Relabelled
 mod Apart
 mod Swapped

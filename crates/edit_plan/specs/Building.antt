@@ -3,11 +3,12 @@
 --     BuildRefuses                  why a plan is not built
 --     Edit                          the old root, the new root, and the changed elements
 --     Makes                         the edit is what the plan makes of the old tree, under a tree number
---     WouldMake                     the tree that a plan makes
+--     WouldMake, IsRewritten        the tree that a plan makes; its form without origins, and the changed paths in it
 --     RunRefuses                    why a plan is not carried out, where this is the next tree number
 use Rattle.std.specs.Prelude.{◌≡◌, ℕ, List, [], ◌∷◌, map, Some, None, All, refl}
 use Rattle.std.specs.Coded.{Coded, code_by, coded_list, coded×}
 use Rattle.cst_core.specs.Path.{Path}
+use Rattle.cst_core.specs.Tree.{SyntaxTree}
 use Rattle.cst_core.specs.Element.{Element, IsNode, element_code}
 use Rattle.cst_core.specs.SyntaxElement.{syntax_at}
 use Rattle.cst_core.specs.TreeIds.{IsSpent}
@@ -16,7 +17,8 @@ use Rattle.edit_plan.specs.Codes.{syntax_element_code}
 use Rattle.edit_plan.specs.ChangeCodes.{change_code}
 use Rattle.edit_plan.specs.Fits.{Fits}
 use Rattle.edit_plan.specs.Nesting.{first_clash, first_nested}
-use Rattle.edit_plan.specs.Rewriting.{OriginTree, new_tree}
+use Rattle.edit_plan.specs.Rewriting.{OriginTree, plain, is_free, new_tree}
+use Rattle.edit_plan.specs.Results.{changed}
 use Rattle.edit_plan.specs.Plan.{ArePlaces, IsTooLong, IsRewriting}
 use Rattle.edit_plan.specs.declared.change.Change.{Change}
 use Rattle.edit_plan.specs.declared.edit_error.EditError.{EditError}
@@ -64,6 +66,13 @@ pub record WouldMake (p : Plan) (made : OriginTree) : Type 0 where
   pub places : ℕ → Path
   pub are_places : ArePlaces [] p.changes places
   pub is_new : new_tree p.changes places p.root ≡ made ∷ []
+
+-- the tree and the changed paths in it
+pub record IsRewritten (p : Plan) (tree : SyntaxTree) (changed_paths : List Path) : Type 0 where
+  pub made : OriginTree
+  pub would : WouldMake p made
+  pub tree_is : tree ≡ plain made
+  pub changed_is : changed_paths ≡ changed (is_free p.changes) made
 
 abbrev pub RunRefuses : Plan → ℕ → EditError → Type 0
 RunRefuses p next (Intersecting first second) = ⊥

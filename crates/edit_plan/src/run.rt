@@ -7,7 +7,7 @@ ghost use Rattle.rewriting.specs.Aimed.{aims_of};
 ghost use Rattle.rewriting.specs.Pass.{kind_only, given_by};
 ghost use Rattle.rewriting.specs.Rewriting.{rewritten_whole};
 ghost use Rattle.rewriting.specs.Topmost.{paths_of};
-ghost use Rattle.edit_plan.specs.Building.{Makes, RunRefuses};
+ghost use Rattle.edit_plan.specs.Building.{IsRewritten, Makes, RunRefuses};
 ghost use Rattle.edit_plan.specs.Rewriting.{independents, payload_of};
 
 use crate::edit::SyntaxEdit;
@@ -15,8 +15,15 @@ use crate::edit_error::EditError;
 use crate::nesting::is_dropped;
 use crate::plan::EditPlan;
 use cst_core::{GreenElement, GreenNode, SyntaxElement, SyntaxNode, TreeIds};
-use rewriting::{Aimed, rebuild_whole};
+use rewriting::{Aimed, places_of_given_whole, rebuild_whole};
 use std::alloc::{AllocError, Global};
+
+// A tree that is not a root's yet, and the paths of the elements that changes brought.
+#[derive(Drop)]
+struct Rewritten {
+    green: GreenNode,
+    changed: Vec<Vec<usize>>,
+}
 
 impl EditPlan {
     // The changes that nothing takes away, by where they aim.
@@ -100,4 +107,49 @@ fn elements_at(
         elements.push(element)?;
     }
     Ok(elements)
+}
+
+// The number that comes next; 2^64 - 1 once there is none.
+fn next_number(ids: &TreeIds) -> u64
+    ensures { result ≡ ids.now }
+{
+    ids.peek().unwrap_or(u64::MAX)
+}
+
+impl EditPlan {
+    // The new tree, and the paths of its changed elements.
+    fn carried_out(&self, alloc: Global) -> Result<Rewritten, AllocError>
+        ensures { IfOk result (λ r. IsRewritten self.now (branch_tree r.green) (paths_of r.changed.items)) }
+    {
+        let aims = self.aims(alloc)?;
+        let given = self.given(alloc)?;
+        let green = self.rewritten(alloc, &aims, &given)?;
+        let counts = counts(alloc, &given)?;
+        let old = GreenElement::Node(self.root.green(alloc)?);
+        let changed = places_of_given_whole(alloc, &old, &aims, &counts)?;
+        Ok(Rewritten { green, changed })
+    }
+
+    /// Carries the plan out: the new tree under the next number of `ids`, and its changed elements.
+    ///
+    /// `TooLong` comes first, then `NoTreeNumber`, then `Memory`; none of them draws a number. The old tree is as it was.
+    pub fn run(&self, alloc: Global, ids: &mut TreeIds) -> Result<SyntaxEdit, EditError>
+        ensures ok { IfOk result (Makes self.now ids.old) }
+        ensures drawn { OnOk result (ids.new ≡ ids.old + 1) }
+        ensures refused { IfErr result (RunRefuses self.now ids.old) }
+        ensures err { OnErr result (ids.new ≡ ids.old) }
+    {
+        let Rewritten { green, changed } = self.carried_out(alloc)?;
+        // The number is drawn last, when nothing can fail any more.
+        let mut own = TreeIds::new(next_number(ids));
+        let new_root = SyntaxNode::new_root(alloc, &mut own, green)?;
+        let changed = elements_at(alloc, &new_root, &changed)?;
+        let old_root = self.root.try_clone(alloc)?;
+        ids.next();
+        Ok(SyntaxEdit {
+            old_root,
+            new_root,
+            changed,
+        })
+    }
 }

@@ -57,13 +57,13 @@ nothing : (b : Bool) → (b && false) ≡ false
 nothing true = refl
 nothing false = refl
 
-always : (b : Bool) → (b && true) ≡ b
-always true = refl
-always false = refl
-
 no_top : (p : Path) (j : ℕ) → same_path [] (p ++ j ∷ []) ≡ false
 no_top [] j = refl
 no_top (i ∷ p) j = refl
+
+pub some_slot : (q : Path) → (length q ≡ 0 → ⊥) → 1 ≤ length q
+some_slot [] h = absurd (h refl)
+some_slot (i ∷ q) h = omega arith
 
 -- ---- aims over siblings
 pub top_deeper : (q : Path) (n : ℕ) → 1 ≤ length q → replaces [] (aim_in q (Over n)) ≡ false
@@ -110,6 +110,14 @@ pub parent_over : (c : ℕ) (q : Path) (n : ℕ) → 1 ≤ length q → has_pare
 parent_over c [] n h = absurd (omega arith)
 parent_over c (i ∷ q) zero h = refl
 parent_over c (i ∷ q) (suc n) h = over_some c (parent_path (i ∷ q)) (last_slot (i ∷ q)) (map (λ j. parent_path (i ∷ q) ++ j ∷ []) (counted_from (suc (last_slot (i ∷ q))) n)) ∙ sym (lt-ltb 0 (suc n) (omega arith))
+
+pub first_false : (b x : Bool) → (b || x) ≡ false → b ≡ false
+first_false true x h = h
+first_false false x h = refl
+
+pub second_false : (b x : Bool) → (b || x) ≡ false → x ≡ false
+second_false true x h = absurd (cc)
+second_false false x h = h
 
 either : (b x : Bool) → x ≡ true → (b || x) ≡ true
 either true x h = refl

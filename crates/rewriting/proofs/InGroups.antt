@@ -16,15 +16,7 @@ use Rattle.rewriting.specs.declared.aimed.Place.TheVariants.{FirstIn, Behind, Ov
 use Rattle.rewriting.specs.declared.aimed.Aimed.{Aimed}
 use Rattle.rewriting.specs.Aimed.{aim_in, Placed, placed, numbered, aims_of, seen_from, and_those, placed_below}
 use Rattle.rewriting.specs.Groups.{reaches, concerns}
-use Rattle.rewriting.proofs.Here.{range_deeper, start_deeper}
-
-first_false : (b x : Bool) → (b || x) ≡ false → b ≡ false
-first_false true x h = h
-first_false false x h = refl
-
-second_false : (b x : Bool) → (b || x) ≡ false → x ≡ false
-second_false true x h = absurd (cc)
-second_false false x h = h
+use Rattle.rewriting.proofs.Here.{range_deeper, start_deeper, first_false, second_false}
 
 and-true : (b : Bool) → b ≡ false → (b && true) ≡ false
 and-true true h = h

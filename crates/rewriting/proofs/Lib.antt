@@ -6,3 +6,4 @@ pub mod Built
 pub mod Untouched
 pub mod Tops
 pub mod GivenPlaces
+pub mod Rows

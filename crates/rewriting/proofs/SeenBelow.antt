@@ -1,6 +1,7 @@
 -- The aims below a child slot, with that slot dropped, rewrite the child as all the aims do.
 use Rattle.std.specs.Prelude.{◌≡◌, ℕ, zero, suc, Bool, true, false, cond, ◌&&◌, ◌||◌, nat_eq, List, [], ◌∷◌, ◌++◌, map, filter, flat_map, refl, Some, None}
 use Rattle.std.specs.List.{list_any}
+use Rattle.std.proofs.Math.Bool.{and_assoc}
 use Rattle.std.proofs.Common.{ap, ap₂, sym, ◌∙◌}
 use Rattle.green_tree.specs.Path.{Path, same_path, has_path, counted_from, parent_path, last_slot}
 use Rattle.green_tree.specs.Tree.{Tree, Forest, Token, Node, end, more, SyntaxTree, forest}
@@ -40,15 +41,11 @@ and-false : (b : Bool) → false ≡ (b && false)
 and-false true = refl
 and-false false = refl
 
-and-assoc : (b x y : Bool) → ((b && x) && y) ≡ (b && (x && y))
-and-assoc true x y = refl
-and-assoc false x y = refl
-
 and-or : (b x y : Bool) → ((b && x) || (b && y)) ≡ (b && (x || y))
 and-or true x y = refl
 and-or false x y = refl
 
-no_end : (p : Path) (j : ℕ) → same_path (p ++ j ∷ []) [] ≡ false
+pub no_end : (p : Path) (j : ℕ) → same_path (p ++ j ∷ []) [] ≡ false
 no_end [] j = refl
 no_end (i ∷ p) j = refl
 
@@ -58,9 +55,9 @@ gap_above i p j Behind = refl
 gap_above i p j (Over n) = refl
 
 gap_inside : (i : ℕ) (p : Path) (j k : ℕ) (q : Path) (w : Place) → aims_at_gap (i ∷ p) j (aim_in (k ∷ q) w) ≡ (nat_eq i k && aims_at_gap p j (aim_in q w))
-gap_inside i p j k q FirstIn = and-assoc (nat_eq i k) (same_path p q) (nat_eq j 0)
+gap_inside i p j k q FirstIn = and_assoc (nat_eq i k) (same_path p q) (nat_eq j 0)
 gap_inside i p j k [] Behind = and-false (nat_eq i k)
-gap_inside i p j k (l ∷ q) Behind = and-assoc (nat_eq i k) (same_path p (parent_path (l ∷ q))) (nat_eq j (suc (last_slot (l ∷ q))))
+gap_inside i p j k (l ∷ q) Behind = and_assoc (nat_eq i k) (same_path p (parent_path (l ∷ q))) (nat_eq j (suc (last_slot (l ∷ q))))
 gap_inside i p j k q (Over n) = and-false (nat_eq i k)
 
 start_above : (i : ℕ) (p : Path) (w : Place) → starts_at (i ∷ p) (aim_in [] w) ≡ false

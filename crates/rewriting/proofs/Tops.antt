@@ -9,10 +9,6 @@ use Rattle.green_tree.specs.Tree.{Tree, Forest, Token, Node, end, more, trees, f
 use Rattle.green_tree.proofs.Parts.{filter-map, slice_get-drop, drop-rest}
 use Rattle.rewriting.specs.Topmost.{holds_at, parent_holds, topmost}
 
-and-true : (b : Bool) → (b && true) ≡ b
-and-true true = refl
-and-true false = refl
-
 module _ {L : Type 0} (test : L → Bool) where
   -- of the children from a slot on
   abbrev pub tops : ℕ → List (Tree L) → List Path

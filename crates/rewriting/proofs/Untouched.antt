@@ -1,8 +1,8 @@
 -- Aims that alter no node's children change nothing.
-use Rattle.std.specs.Prelude.{◌≡◌, ℕ, zero, suc, Bool, true, false, cond, ◌||◌, List, [], ◌∷◌, ◌++◌, map, filter, flat_map, refl}
+use Rattle.std.specs.Prelude.{◌≡◌, ℕ, zero, suc, true, false, cond, ◌||◌, List, [], ◌∷◌, ◌++◌, map, filter, flat_map, refl}
 use Rattle.std.specs.List.{list_any}
 use Rattle.std.proofs.Common.{ap, ap₂, sym, ◌∙◌}
-use Rattle.green_tree.specs.Path.{Path, same_path, parent_path, last_slot, counted_from}
+use Rattle.green_tree.specs.Path.{Path, parent_path, last_slot, counted_from}
 use Rattle.green_tree.specs.Tree.{Tree, Forest, Token, Node, end, more, SyntaxTree, forest, relabelled, forest_relabelled}
 use Rattle.rewriting.specs.Aim.{aims_at_gap, replaces}
 use Rattle.rewriting.specs.Rewriting.{NumberedAim, numbers, inserts_at, replacements_at, is_replaced, gap_order, gap, rewritten, rewritten_from}
@@ -11,11 +11,8 @@ use Rattle.rewriting.specs.declared.aimed.Place.TheVariants.{FirstIn, Behind, Ov
 use Rattle.rewriting.specs.declared.aimed.Aimed.{Aimed}
 use Rattle.rewriting.specs.Aimed.{aim_in, numbered, aims_of, has_parent}
 use Rattle.rewriting.specs.Pass.{kind_only}
-use Rattle.rewriting.proofs.Here.{over_some}
-
-no_end : (p : Path) (j : ℕ) → same_path (p ++ j ∷ []) [] ≡ false
-no_end [] j = refl
-no_end (i ∷ p) j = refl
+use Rattle.rewriting.proofs.Here.{over_some, first_false, second_false}
+use Rattle.rewriting.proofs.SeenBelow.{no_end}
 
 -- ---- one aim
 quiet_gap : (c : ℕ) (q : Path) (w : Place) (p : Path) (j : ℕ) → has_parent (c, aim_in q w) ≡ false → aims_at_gap p j (aim_in q w) ≡ false
@@ -34,14 +31,6 @@ quiet_slot c (i ∷ q) (Over (suc n)) p j h =
     let some = over_some c (parent_path (i ∷ q)) (last_slot (i ∷ q)) (map (λ s. parent_path (i ∷ q) ++ s ∷ []) (counted_from (suc (last_slot (i ∷ q))) n)) in
     let wrong : true ≡ false = sym some ∙ h in
     absurd (cc)
-
-first_false : (b x : Bool) → (b || x) ≡ false → b ≡ false
-first_false true x h = h
-first_false false x h = refl
-
-second_false : (b x : Bool) → (b || x) ≡ false → x ≡ false
-second_false true x h = absurd (cc)
-second_false false x h = h
 
 -- ---- all of them
 no_inserts : (xs : List Aimed) (p : Path) (j : ℕ) → list_any has_parent (aims_of xs) ≡ false → inserts_at (aims_of xs) p j ≡ []

@@ -1,8 +1,8 @@
 //! What a set of aims makes of a tree, and the pass that makes it from the leaves up.
 #![tactic(auto)]
 
+mod aim_list;
 mod aimed;
-mod groups;
 mod pass;
 mod topmost;
 

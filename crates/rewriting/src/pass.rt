@@ -1,50 +1,15 @@
-ghost use Rattle.std.specs.Prelude.{◌+◌, ◌≤◌, ◌≡◌, ◌++◌, [], ◌∷◌, flat_map, IfOk, OnOk};
-ghost use Rattle.std.specs.List.{list_any};
+ghost use Rattle.std.specs.Prelude.{◌+◌, ◌≤◌, ◌-◌, ◌^◌, ◌≡◌, ◌++◌, min, [], ◌∷◌, flat_map, IfOk, OnOk};
 ghost use Rattle.green_tree.specs.Tree.{node};
 ghost use Rattle.green_tree.specs.GreenElement.{element_tree, element_trees};
-ghost use Rattle.rewriting.specs.Rewriting.{gap, replacements_at, is_replaced, rewritten, rewritten_whole};
+ghost use Rattle.rewriting.specs.Rewriting.{gap, replacements_at, rewritten, rewritten_whole};
 ghost use Rattle.rewriting.specs.Effort.{touched, parents_of};
-ghost use Rattle.rewriting.specs.Aimed.{aims_of, has_parent};
+ghost use Rattle.rewriting.specs.Aimed.{aims_of};
 ghost use Rattle.rewriting.specs.Pass.{kind_only, given_by};
 
+use crate::aim_list::{alter_some, below, grouped, is_replaced, top_is_replaced};
 use crate::aimed::Aimed;
-use crate::groups::{below, grouped};
 use green_tree::{GreenElement, GreenNode, SyntaxKind};
 use std::alloc::{AllocError, Global};
-
-// Whether some aim alters the children of a node.
-pub fn alter_some(aims: &[Aimed]) -> bool
-    ensures { result ≡ list_any has_parent (aims_of aims.now) }
-{
-    for aim in aims {
-        if aim.has_parent() {
-            return true;
-        }
-    }
-    false
-}
-
-pub fn is_replaced(aims: &[Aimed], slot: usize) -> bool
-    ensures { result ≡ is_replaced (aims_of aims.now) (slot ∷ []) }
-{
-    for aim in aims {
-        if aim.replaces(slot) {
-            return true;
-        }
-    }
-    false
-}
-
-pub fn top_is_replaced(aims: &[Aimed]) -> bool
-    ensures { result ≡ is_replaced (aims_of aims.now) [] }
-{
-    for aim in aims {
-        if aim.replaces_top() {
-            return true;
-        }
-    }
-    false
-}
 
 fn share_all(
     alloc: Global,
@@ -128,14 +93,14 @@ fn push_gap(
     Ok(())
 }
 
-// Makes a node, and counts it. At the greatest number the count stays.
+// The one place where a node is made, and counted. At the greatest number the count stays.
 fn build_node(
     alloc: Global,
     kind: SyntaxKind,
     children: Vec<GreenElement>,
     builds: &mut u64,
 ) -> Result<GreenElement, AllocError>
-    ensures count { builds.new ≤ builds.old + 1 }
+    ensures count { builds.new ≡ min (builds.old + 1) (2 ^ 64 - 1) }
     ensures tree { IfOk result (λ e. element_tree e ≡ node kind.0 (element_trees children.items)) }
 {
     *builds = builds.saturating_add(1);
@@ -143,9 +108,9 @@ fn build_node(
 }
 
 /// The element made anew by changes whose aims are counted from it: `given` has what each change gives, by its number.
-/// Only the nodes on the way to an aim are built, each once, and `builds` rises by one for each; what no aim is in or
-/// below is shared. An aim over the top itself is passed over: see `rebuild_whole`. Takes time linear in the aims times
-/// their depth, the children of the nodes that are built, and the children that are replaced.
+/// Only the nodes above an aim are built, and what no aim is in or below is shared; `builds` counts the nodes. An aim over
+/// the top itself is passed over: see `rebuild_whole`. Takes time linear in the aims times their depth, the children of
+/// the nodes that are built, and the children that are replaced.
 pub fn rebuild(
     alloc: Global,
     element: &GreenElement,

@@ -6,9 +6,8 @@ ghost use Rattle.rewriting.specs.Rewriting.{inserts_at, replacements_at, rewritt
 ghost use Rattle.rewriting.specs.Aimed.{aims_of};
 ghost use Rattle.rewriting.specs.Topmost.{topmost, count_of, AreCounted, not_given, paths_of};
 
+use crate::aim_list::{alter_some, below, grouped, is_replaced, top_is_replaced};
 use crate::aimed::Aimed;
-use crate::groups::{below, grouped};
-use crate::pass::{alter_some, is_replaced, top_is_replaced};
 use green_tree::GreenElement;
 use std::alloc::{AllocError, Global};
 

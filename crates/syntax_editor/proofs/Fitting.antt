@@ -1,9 +1,9 @@
 -- What a call that is not refused records fits the tree.
-use Rattle.std.specs.Prelude.{◌≡◌, Bool, true, false, ◌&&◌, ◌||◌, ◌==◌, not, List, [], ◌∷◌, Option, Some, None, option_map, All, refl}
+use Rattle.std.specs.Prelude.{◌≡◌, nat_eq, length, Bool, true, false, ◌&&◌, ◌||◌, ◌==◌, not, List, [], ◌∷◌, Option, Some, None, option_map, All, refl}
 use Rattle.std.proofs.Common.{ap, sym, ◌∙◌}
-use Rattle.std.proofs.lemmas.Bool.{and_parts, and_from, or_parts, not-false, not_from_false, cond_both, eqb-true, eq-eqb}
+use Rattle.std.proofs.lemmas.Bool.{and_parts, and_from, or_parts, not-false, not_from_false, cond_both, eqb-true, eq-eqb, true≢false}
 use Rattle.std.proofs.lemmas.List.Elements.{All-push}
-use Rattle.cst_core.specs.Path.{same_path}
+use Rattle.cst_core.specs.Path.{Path, same_path}
 use Rattle.cst_core.specs.Element.{Element, same_element}
 use Rattle.cst_core.specs.SyntaxElement.{element_of}
 use Rattle.cst_core.specs.declared.element.SyntaxElement.{SyntaxElement}
@@ -110,3 +110,13 @@ module _ (root : Element) where
       let meets = three_lines (not (is_native root first) || not (is_native root last)) (not (is_range first last)) (is_root first && not (is_one_node es)) Foreign BadRange RootReplacement accepted in
       let native = both_native first last meets.0 in
       cond_both (same_element (element_of first) (element_of last)) _ _ (All (Fits root)) (λ _. All-push (Fits root) cs (ReplaceWithMany first es) all (and_from _ _ native.0 (root_by_node (is_root first) (is_one_node es) meets.2))) (λ two. All-push (Fits root) cs (ReplaceAll first last es) all (range_fits first last es native (not-false _ meets.1) two))
+
+-- ---- where no line of a table applies
+pub no-line : {X : Type 0} (a b : Bool) (x y : X) → a ≡ false → b ≡ false → first_fit ((a, x) ∷ (b, y) ∷ []) ≡ None
+no-line true b x y h k = absurd (true≢false h)
+no-line false true x y h k = absurd (true≢false k)
+no-line false false x y h k = refl
+
+pub no-root : (p : Path) → nat_eq (length p) 0 ≡ false → same_path p [] ≡ false
+no-root [] h = absurd (true≢false h)
+no-root (i ∷ p) h = refl

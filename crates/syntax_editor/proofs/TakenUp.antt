@@ -1,12 +1,15 @@
 -- A list in which the first item that passes a test is exchanged, or one more put at the end.
 --     taken-here, taken-behind     where the first item passes; where it does not
+--     taken-set, taken-none        by the place of the first item that passes
 --     all-taken                    what holds of each of its items
 --     filter_map-taken             what a test finds in it, where it finds what passes
 --     filter_map-passed            the same, where it finds nothing of what passes
-use Rattle.std.specs.Prelude.{◌≡◌, ℕ, suc, ◌+◌, Bool, true, false, List, [], ◌∷◌, ◌++◌, take, drop, find, filter_map, Option, Some, None, option_map, is_some, All, refl}
+use Rattle.std.specs.Prelude.{◌≡◌, ℕ, suc, ◌+◌, Bool, true, false, List, [], ◌∷◌, ◌++◌, take, drop, cond, find, filter_map, position, Option, Some, None, option_map, is_some, All, refl}
 use Rattle.std.specs.List.{before_first, after_first, cons_option, position_or_len}
 use Rattle.std.specs.Option.{option_map_or}
-use Rattle.std.proofs.Common.{ap, sym, ◌∙◌, arith}
+use Rattle.std.proofs.Common.{ap, sym, subst, ◌∙◌, arith, get_or, set}
+use Rattle.std.proofs.lemmas.Option.{none-some, same_Some}
+use Rattle.edit_plan.proofs.Exchanged.{position-cons}
 use Rattle.std.proofs.lemmas.Bool.{cases_Bool}
 use Rattle.std.proofs.lemmas.List.Elements.{All-head, All-tail, All-cons, All-push, All-same}
 use mathlib.Core.Logic.{inl, inr}
@@ -62,3 +65,36 @@ module _ {X Y : Type 0} (p : X → Bool) (change : X → X) (more : X) (found : 
         | inr fails ↦
             ap (filter_map found) (taken-behind p change more x xs fails) ∙ ap (cons_option (found x)) (filter_map-passed before behind last xs)
       ]
+
+-- ---- by the place of the first item that passes
+module _ {X : Type 0} (p : X → Bool) (change : X → X) (more : X) where
+  position-first : (x : X) (xs : List X) → p x ≡ true → position p (x ∷ xs) ≡ Some 0
+  position-first x xs passes = position-cons p x xs ∙ ap (λ b. cond b (Some 0) (option_map suc (position p xs))) passes
+
+  position-later : (x : X) (xs : List X) → p x ≡ false → position p (x ∷ xs) ≡ option_map suc (position p xs)
+  position-later x xs fails = position-cons p x xs ∙ ap (λ b. cond b (Some 0) (option_map suc (position p xs))) fails
+
+  set-later : (x : X) (xs : List X) (i : ℕ) (d : X) → ((j : ℕ) → position p xs ≡ Some j → set xs j (change (get_or xs j d)) ≡ taken p change more xs) → (o : Option ℕ) → position p xs ≡ o → option_map suc o ≡ Some i → set (x ∷ xs) i (change (get_or (x ∷ xs) i d)) ≡ x ∷ taken p change more xs
+  set-later x xs i d below None is k = absurd (none-some i k)
+  set-later x xs i d below (Some j) is k =
+      subst (λ n. set (x ∷ xs) n (change (get_or (x ∷ xs) n d)) ≡ x ∷ taken p change more xs) (same_Some (suc j) i k) (ap (λ ys. x ∷ ys) (below j is))
+
+  pub taken-set : (xs : List X) (i : ℕ) (d : X) → position p xs ≡ Some i → set xs i (change (get_or xs i d)) ≡ taken p change more xs
+  taken-set [] i d h = absurd (none-some i h)
+  taken-set (x ∷ xs) i d h =
+      elim (cases_Bool (p x)) [
+        | inl passes ↦ let here : 0 ≡ i = same_Some 0 i (sym (position-first x xs passes) ∙ h) in subst (λ k. set (x ∷ xs) k (change (get_or (x ∷ xs) k d)) ≡ taken p change more (x ∷ xs)) here (sym (taken-here p change more x xs passes))
+        | inr fails ↦ set-later x xs i d (λ j is. taken-set xs j d is) (position p xs) refl (sym (position-later x xs fails) ∙ h) ∙ sym (taken-behind p change more x xs fails)
+      ]
+
+  pub taken-none : (xs : List X) → position p xs ≡ None → xs ++ more ∷ [] ≡ taken p change more xs
+  taken-none [] h = refl
+  taken-none (x ∷ xs) h =
+      elim (cases_Bool (p x)) [
+        | inl passes ↦ absurd (none-some 0 (sym h ∙ position-first x xs passes))
+        | inr fails ↦ ap (λ ys. x ∷ ys) (taken-none xs (no-more (position p xs) refl (sym (position-later x xs fails) ∙ h))) ∙ sym (taken-behind p change more x xs fails)
+      ]
+    where
+      no-more : (o : Option ℕ) → position p xs ≡ o → option_map suc o ≡ None → position p xs ≡ None
+      no-more None is k = is
+      no-more (Some j) is k = cc

@@ -5,4 +5,5 @@ pub mod Level
 pub mod Indentation
 pub mod AttrsAndDocs
 pub mod Spacing
+pub mod Editor
 pub mod Laws

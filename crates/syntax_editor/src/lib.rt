@@ -1,7 +1,11 @@
 //! Recording changes of a tree, spacing and indentation.
 #![tactic(auto)]
 
+mod editor;
 mod error;
 pub mod laws;
+mod taken_up;
 
+pub use edit_plan::{Change, EditError, EditPlan, ElementList, Position, SyntaxEdit};
+pub use editor::SyntaxEditor;
 pub use error::RecordError;

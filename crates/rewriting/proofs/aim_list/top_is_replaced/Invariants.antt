@@ -1,7 +1,7 @@
 use Rattle.std.proofs.Common.{◌≡◌, [], drop}
 use Rattle.rewriting.specs.Rewriting.{is_replaced}
 use Rattle.rewriting.specs.Aimed.{aims_of}
-use Rattle.rewriting.proofs.pass.top_is_replaced.Given as goal
+use Rattle.rewriting.proofs.aim_list.top_is_replaced.Given as goal
 
 abbrev pub invariant-loop-aim : goal.invariant-loop-aim
 invariant-loop-aim l = is_replaced (aims_of (drop l.aim-index l.aims)) [] ≡ is_replaced (aims_of l.aims) []

@@ -1,11 +1,47 @@
 ghost use Rattle.std.specs.Global.{Global};
 ghost use Rattle.std.specs.Prelude.{ℕ, ◌<◌, ◌≤◌, ◌+◌, ◌≡◌, ◌++◌, Vec, [], ◌∷◌, map, filter, length, get_or, IfOk, OnOk};
+ghost use Rattle.std.specs.List.{list_any};
+ghost use Rattle.rewriting.specs.Rewriting.{is_replaced};
 ghost use Rattle.rewriting.specs.declared.aimed.Aimed.{Aimed};
-ghost use Rattle.rewriting.specs.Aimed.{placed, placed_below};
+ghost use Rattle.rewriting.specs.Aimed.{aims_of, has_parent, placed, placed_below};
 ghost use Rattle.rewriting.specs.Groups.{concerns};
 
 use crate::aimed::Aimed;
 use std::alloc::{AllocError, Global};
+
+// Whether some aim alters the children of a node.
+pub fn alter_some(aims: &[Aimed]) -> bool
+    ensures { result ≡ list_any has_parent (aims_of aims.now) }
+{
+    for aim in aims {
+        if aim.has_parent() {
+            return true;
+        }
+    }
+    false
+}
+
+pub fn is_replaced(aims: &[Aimed], slot: usize) -> bool
+    ensures { result ≡ is_replaced (aims_of aims.now) (slot ∷ []) }
+{
+    for aim in aims {
+        if aim.replaces(slot) {
+            return true;
+        }
+    }
+    false
+}
+
+pub fn top_is_replaced(aims: &[Aimed]) -> bool
+    ensures { result ≡ is_replaced (aims_of aims.now) [] }
+{
+    for aim in aims {
+        if aim.replaces_top() {
+            return true;
+        }
+    }
+    false
+}
 
 // The aims at a child of the top or below it, as they are seen from the child.
 pub fn below<'a>(

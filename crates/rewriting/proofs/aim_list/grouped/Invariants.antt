@@ -3,7 +3,7 @@ use Rattle.std.specs.List.{filter}
 use Rattle.std.specs.Global.{Global}
 use Rattle.rewriting.specs.declared.aimed.Aimed.{Aimed}
 use Rattle.rewriting.specs.Groups.{concerns}
-use Rattle.rewriting.proofs.groups.grouped.Given as goal
+use Rattle.rewriting.proofs.aim_list.grouped.Given as goal
 
 abbrev pub invariant-loop : goal.invariant-loop
 invariant-loop l = record {

@@ -1,7 +1,7 @@
 use Rattle.std.proofs.Common.{◌<◌, ◌+◌, length, get_or, take, arith, ◌∙◌}
 use Rattle.std.proofs.lemmas.List.{take_more}
 use Rattle.rewriting.proofs.InGroups.{grow}
-use Rattle.rewriting.proofs.groups.grouped.Goals as goal
+use Rattle.rewriting.proofs.aim_list.grouped.Goals as goal
 
 pub loop-aim-init : goal.loop-aim-init
 loop-aim-init c = record {

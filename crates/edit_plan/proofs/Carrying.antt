@@ -1,0 +1,124 @@
+-- From what the pass answers to what carrying a plan out promises.
+--     Passed                        what the pass was told and what it answered, for a plan without owners
+--     is_rewritten                  its answer is the plan's rewriting
+--     makes                         the edit that is put together is what the plan makes
+--     refuses                       the refusals of the new root, as those of the plan
+use Rattle.std.specs.Prelude.{◌≡◌, ℕ, ◌<◌, ◌≤◌, Bool, List, [], ◌∷◌, ◌++◌, map, flat_map, length, slice_get, Vec, Option, Some, None, option_map, Result, Ok, Err, IfErr, All, IfSome, refl}
+use Rattle.std.specs.Result.{IsErrAnd}
+use Rattle.std.specs.Global.{Global}
+use Rattle.std.specs.List.{AllByRecursion}
+use Rattle.std.specs.Option.{option_map_or}
+use Rattle.std.proofs.Common.{ap, sym, subst, ◌∙◌, arith}
+use Rattle.std.proofs.lemmas.List.{append-nil, length-map}
+use Rattle.std.proofs.lemmas.List.Elements.{All-from_recursion}
+use Rattle.std.proofs.lemmas.Option.{slice_get-map}
+use Rattle.cst_core.specs.Path.{Path}
+use Rattle.cst_core.specs.Tree.{Tree, SyntaxTree, text_length}
+use Rattle.cst_core.specs.TreeIds.{IsSpent}
+use Rattle.cst_core.specs.Element.{Element, subtree}
+use Rattle.cst_core.specs.Green.{Branch, branch_tree, length_limit}
+use Rattle.cst_core.specs.GreenElement.{element_trees, element_tree}
+use Rattle.cst_core.specs.SyntaxElement.{syntax_at}
+use Rattle.green_tree.specs.declared.green.GreenElement.{GreenElement}
+use Rattle.green_tree.specs.declared.error.TreeError.{TreeError}
+use Rattle.green_tree.specs.declared.error.TreeError.TheVariants as tree
+use Rattle.rewriting.specs.Pass.{kind_only, given_by}
+use Rattle.rewriting.specs.Rewriting.{NumberedAim, rewritten_whole}
+use Rattle.rewriting.specs.Topmost.{topmost, count_of, AreCounted, not_given}
+use Rattle.edit_plan.specs.Building.{Plan, Edit, Makes, WouldMake, IsRewritten, RunRefuses}
+use Rattle.edit_plan.specs.Refusal.{of_tree}
+use Rattle.edit_plan.specs.Nesting.{owner, first_nested}
+use Rattle.edit_plan.specs.Plan.{FindsPlace, ArePlaces, HasPlace, IsTooLong}
+use Rattle.edit_plan.specs.Results.{changed}
+use Rattle.edit_plan.specs.Rewriting.{OriginTree, plain, independents, payload_of, is_free, new_tree}
+use Rattle.edit_plan.specs.declared.change.Change.{Change}
+use Rattle.edit_plan.specs.declared.edit_error.EditError.TheVariants.{TooLong, NoTreeNumber}
+use Rattle.edit_plan.proofs.Filled.{text-relabelled}
+use Rattle.edit_plan.proofs.Lists.{all_weaker}
+use Rattle.edit_plan.proofs.Whole.{all-unowned, plain-whole, changed-whole, one-made, marked, alone, count-marked}
+
+abbrev nowhere : ℕ → Path
+nowhere c = []
+
+count-given : (vs : List (Vec GreenElement Global)) (c : ℕ) → length (given_by vs c) ≡ count_of (map (λ g. length g.items) vs) c
+count-given vs c =
+    (elim (slice_get vs c) as (λ o. length (option_map_or (λ v. element_trees v.items) o []) ≡ option_map_or (λ n. n) (option_map (λ g. length g.items) o) 0) [
+      | None ↦ refl
+      | Some v ↦ length-map v.items element_tree
+    ]) ∙ ap (λ o. option_map_or (λ n. n) o 0) (sym (slice_get-map (λ g. length g.items) vs c))
+
+pub record Passed (p : Plan) (green : Branch) (paths : List Path) : Type 0 where
+  pub unowned : first_nested p.changes ≡ None
+  pub table : List (Vec GreenElement Global)
+  pub table_is : (c : ℕ) → given_by table c ≡ map subtree (payload_of p.changes c)
+  pub aims : List NumberedAim
+  pub aims_are : aims ≡ independents p.changes
+  pub tree_is : rewritten_whole kind_only (given_by table) aims (subtree p.root) ≡ branch_tree green ∷ []
+  pub counts : List ℕ
+  pub counts_are : counts ≡ map (λ g. length g.items) table
+  pub paths_are : (given : ℕ → List (Tree Bool)) → AreCounted counts given → paths ≡ flat_map (topmost (λ b. b)) (rewritten_whole not_given given aims (subtree p.root))
+
+module _ (p : Plan) (green : Branch) (paths : List Path) (passed : Passed p green paths) where
+  made : (m : OriginTree) × (new_tree p.changes nowhere p.root ≡ m ∷ []) × (branch_tree green ≡ plain m)
+  made =
+      one-made (new_tree p.changes nowhere p.root) (branch_tree green) (plain-whole p.changes nowhere passed.unowned p.root (given_by passed.table) passed.table_is ∙ ap (λ ds. rewritten_whole kind_only (given_by passed.table) ds (subtree p.root)) (sym passed.aims_are) ∙ passed.tree_is)
+
+  counted : AreCounted passed.counts (marked p.changes nowhere)
+  counted = record {
+    count = λ c. count-marked p.changes nowhere passed.unowned c ∙ sym (length-map (payload_of p.changes c) subtree) ∙ ap length (sym (passed.table_is c)) ∙ count-given passed.table c ∙ ap (λ ns. count_of ns c) (sym passed.counts_are);
+    alone = λ c. alone p.changes nowhere c;
+  }
+
+  changed-is : paths ≡ changed (is_free p.changes) made.0
+  changed-is =
+      passed.paths_are (marked p.changes nowhere) counted ∙ ap (λ ds. flat_map (topmost (λ b. b)) (rewritten_whole not_given (marked p.changes nowhere) ds (subtree p.root))) passed.aims_are ∙ sym (changed-whole p.changes nowhere passed.unowned p.root) ∙ ap (flat_map (changed (is_free p.changes))) made.1 ∙ append-nil (changed (is_free p.changes) made.0)
+
+  placed : ArePlaces [] p.changes nowhere
+  placed =
+      All-from_recursion (FindsPlace [] p.changes nowhere) p.changes (all_weaker (λ c. owner p.changes c ≡ None) (FindsPlace [] p.changes nowhere) p.changes (λ c none. subst (λ o. IfSome o (λ d. IfSome (slice_get p.changes d) (λ o. HasPlace [] o c (nowhere d)))) (sym none) tt) (all-unowned p.changes passed.unowned))
+
+  would : WouldMake p made.0
+  would = record { places = nowhere; are_places = placed; is_new = made.1 }
+
+  pub is_rewritten : IsRewritten p (branch_tree green) paths
+  is_rewritten = record { made = made.0; would = would; tree_is = made.2; changed_is = changed-is }
+
+-- ---- what is put together of it
+module _ (p : Plan) (green : Branch) (paths : List Path) (r : IsRewritten p (branch_tree green) paths) where
+  pub makes : (number : ℕ) (e : Edit) → e.old_root ≡ p.root → e.new_root ≡ record { number = number; root = branch_tree green; path = [] } → map Some e.changed ≡ map (syntax_at e.new_root) paths → Makes p number e
+  makes number e old new changed_are = record {
+    old_is = old;
+    number_is = ap (λ x. x.number) new;
+    is_root = ap (λ x. x.path) new;
+    changed_paths = paths;
+    changed_are = changed_are;
+    is_rewriting = record {
+      places = r.would.places;
+      are_places = r.would.are_places;
+      made = r.made;
+      is_new = r.would.is_new;
+      tree_is = ap (λ x. x.root) new ∙ r.tree_is;
+      changed_is = r.changed_is;
+      annotated_is = refl;
+    };
+  }
+
+  same-length : text_length r.made ≡ text_length (branch_tree green)
+  same-length = sym (ap text_length r.tree_is ∙ ap length (text-relabelled (λ o. o.kind) r.made))
+
+  too-long : (next : ℕ) → length_limit ≤ text_length (branch_tree green) → RunRefuses p next TooLong
+  too-long next long = (r.made, r.would, omega (arith, same-length, long))
+
+  no-number : (next : ℕ) → IsSpent next → text_length (branch_tree green) < length_limit → RunRefuses p next NoTreeNumber
+  no-number next spent short = (r.made, r.would, (λ long. let l : length_limit ≤ text_length r.made = long in omega (arith, same-length, short, l)), spent)
+
+  -- the refusal of the new root, as that of the plan
+  pub refuses : (next : ℕ) (error : TreeError) → (error ≡ tree.TooLong → length_limit ≤ text_length (branch_tree green)) → (error ≡ tree.NoTreeNumber → IsSpent next × (text_length (branch_tree green) < length_limit)) → RunRefuses p next (of_tree error)
+  refuses next tree.TooLong long spent = too-long next (long refl)
+  refuses next tree.NoTreeNumber long spent = let s = spent refl in no-number next s.0 s.1
+  refuses next tree.Memory long spent = tt
+
+-- a refusal that stands for another one
+pub err-gives : {T E : Type 0} (P : E → Type 0) (r : Result T E) (x : E) → IsErrAnd r (λ e. e ≡ x) → P x → IfErr r P
+err-gives P (Ok t) x is holds = tt
+err-gives P (Err e) x is holds = subst P (sym is) holds

@@ -1,0 +1,27 @@
+-- The examples of docs/DEFINITIONS.md, computed.
+use Rattle.std.specs.Prelude.{◌≡◌, ℕ, Bool, true, cond, nat_eq, List, [], ◌∷◌, refl}
+use Rattle.green_tree.specs.Tree.{Tree, SyntaxTree, Token, node}
+use Rattle.rewriting.specs.Aim.{FirstIn, Over}
+use Rattle.rewriting.specs.Rewriting.{NumberedAim, rewritten}
+use Rattle.rewriting.specs.Aimed.{siblings_from}
+use Rattle.rewriting.specs.Topmost.{topmost, not_given}
+
+three_siblings : siblings_from (1 ∷ []) 3 ≡ (1 ∷ []) ∷ (2 ∷ []) ∷ (3 ∷ []) ∷ []
+three_siblings = refl
+
+only_top : siblings_from [] 3 ≡ [] ∷ []
+only_top = refl
+
+-- the tree `L`, its kinds numbered in the order in which they come
+abbrev l : SyntaxTree
+l = node 1 (Token 2 (40 ∷ []) ∷ node 3 (Token 4 (49 ∷ []) ∷ []) ∷ Token 5 (44 ∷ []) ∷ Token 6 (32 ∷ []) ∷ node 3 (Token 4 (50 ∷ []) ∷ []) ∷ Token 7 (41 ∷ []) ∷ [])
+
+-- one element first in L/1, two in the place of L/4
+abbrev aims : List NumberedAim
+aims = (0, FirstIn (1 ∷ [])) ∷ (1, Over ((4 ∷ []) ∷ [])) ∷ []
+
+abbrev given : ℕ → List (Tree Bool)
+given c = cond (nat_eq c 0) (Token true [] ∷ []) (node true (Token true [] ∷ []) ∷ Token true [] ∷ [])
+
+three_places : topmost (λ b. b) (rewritten not_given given aims [] l) ≡ (1 ∷ 0 ∷ []) ∷ (4 ∷ []) ∷ (5 ∷ []) ∷ []
+three_places = refl

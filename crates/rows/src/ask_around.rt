@@ -1,0 +1,95 @@
+//! The elements around one: asked of it, and of the node or token that it is.
+
+use crate::answer::NoAnswer;
+use crate::question::find_named;
+use crate::shown::{agreed, node_place, place};
+use crate::trees::Trees;
+use cst_core::{SyntaxElement, SyntaxNode, SyntaxToken};
+use std::alloc::Global;
+
+#[derive(Clone, Copy)]
+pub enum AroundQuestion {
+    Parent,
+    PrevSiblingOrToken,
+    NextSiblingOrToken,
+    TreeTop,
+}
+
+const NAMES: [(&str, AroundQuestion); 4] = [
+    ("parent", AroundQuestion::Parent),
+    ("prev_sibling_or_token", AroundQuestion::PrevSiblingOrToken),
+    ("next_sibling_or_token", AroundQuestion::NextSiblingOrToken),
+    ("tree_top", AroundQuestion::TreeTop),
+];
+
+impl AroundQuestion {
+    pub fn from_name(name: &str) -> Option<AroundQuestion> {
+        find_named(&NAMES, name).copied()
+    }
+}
+
+/// `QUESTION ELEMENT`
+pub fn answer(
+    alloc: Global,
+    trees: &Trees,
+    question: AroundQuestion,
+    place: &str,
+) -> Result<String, NoAnswer> {
+    let element = trees.element(alloc, place)?;
+    let own = of_element(alloc, question, &element)?;
+    let by_form = match &element {
+        SyntaxElement::Node(node) => of_node(alloc, question, node)?,
+        SyntaxElement::Token(token) => of_token(alloc, question, token)?,
+    };
+    agreed(alloc, own, by_form)
+}
+
+fn of_element(
+    alloc: Global,
+    question: AroundQuestion,
+    element: &SyntaxElement,
+) -> Result<String, NoAnswer> {
+    let tree = element.tree();
+    match question {
+        AroundQuestion::Parent => node_place(alloc, tree, element.parent(alloc)?),
+        AroundQuestion::PrevSiblingOrToken => {
+            place(alloc, tree, element.prev_sibling_or_token(alloc)?)
+        }
+        AroundQuestion::NextSiblingOrToken => {
+            place(alloc, tree, element.next_sibling_or_token(alloc)?)
+        }
+        AroundQuestion::TreeTop => node_place(alloc, tree, Some(element.tree_top(alloc)?)),
+    }
+}
+
+fn of_node(alloc: Global, question: AroundQuestion, node: &SyntaxNode) -> Result<String, NoAnswer> {
+    let tree = node.tree();
+    match question {
+        AroundQuestion::Parent => node_place(alloc, tree, node.parent(alloc)?),
+        AroundQuestion::PrevSiblingOrToken => {
+            place(alloc, tree, node.prev_sibling_or_token(alloc)?)
+        }
+        AroundQuestion::NextSiblingOrToken => {
+            place(alloc, tree, node.next_sibling_or_token(alloc)?)
+        }
+        AroundQuestion::TreeTop => node_place(alloc, tree, Some(node.tree_top(alloc)?)),
+    }
+}
+
+fn of_token(
+    alloc: Global,
+    question: AroundQuestion,
+    token: &SyntaxToken,
+) -> Result<String, NoAnswer> {
+    let tree = token.tree();
+    match question {
+        AroundQuestion::Parent => node_place(alloc, tree, token.parent(alloc)?),
+        AroundQuestion::PrevSiblingOrToken => {
+            place(alloc, tree, token.prev_sibling_or_token(alloc)?)
+        }
+        AroundQuestion::NextSiblingOrToken => {
+            place(alloc, tree, token.next_sibling_or_token(alloc)?)
+        }
+        AroundQuestion::TreeTop => node_place(alloc, tree, Some(token.tree_top(alloc)?)),
+    }
+}

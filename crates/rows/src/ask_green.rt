@@ -1,0 +1,175 @@
+//! Shared trees, and the expressions that they are read from.
+
+use crate::answer::NoAnswer;
+use crate::question::{find_named, words};
+use crate::shown::{agreed, green_facts, quoted, text_of, unquoted, word};
+use crate::trees::{Trees, slot, slots};
+use cst_core::{GreenElement, GreenElementRef, GreenNode, GreenToken, SyntaxKind};
+use row_trees::{RowError, green, row};
+use std::alloc::Global;
+
+#[derive(Clone, Copy)]
+pub enum GreenQuestion {
+    Token,
+    Node,
+    Splice,
+    Get,
+    Text,
+    ChildCount,
+    Read,
+    Row,
+}
+
+const NAMES: [(&str, GreenQuestion); 8] = [
+    ("green_token", GreenQuestion::Token),
+    ("green_node", GreenQuestion::Node),
+    ("splice", GreenQuestion::Splice),
+    ("get", GreenQuestion::Get),
+    ("green_text", GreenQuestion::Text),
+    ("child_count", GreenQuestion::ChildCount),
+    ("read", GreenQuestion::Read),
+    ("row", GreenQuestion::Row),
+];
+
+impl GreenQuestion {
+    pub fn from_name(name: &str) -> Option<GreenQuestion> {
+        find_named(&NAMES, name).copied()
+    }
+}
+
+/// `green_token KIND TEXT`, `green_node LETTERS`, `splice START END LETTERS`, `get TREE PATH`, `green_text TREE`,
+/// `child_count TREE`, `read EXPRESSION` or `row NAME`
+pub fn answer(
+    alloc: Global,
+    trees: &Trees,
+    question: GreenQuestion,
+    arguments: &str,
+) -> Result<String, NoAnswer> {
+    match question {
+        GreenQuestion::Token => token(alloc, arguments),
+        GreenQuestion::Node => node(alloc, &unquoted(alloc, arguments)?),
+        GreenQuestion::Splice => splice(alloc, arguments),
+        GreenQuestion::Get => get(alloc, trees, arguments),
+        GreenQuestion::Text => {
+            let tree = trees.tree(alloc, arguments)?;
+            quoted(alloc, &text_of(alloc, &tree)?)
+        }
+        GreenQuestion::ChildCount => {
+            let tree = trees.tree(alloc, arguments)?;
+            Ok(tree.children().len().to_string(alloc)?)
+        }
+        GreenQuestion::Read => {
+            let expression = unquoted(alloc, arguments)?;
+            refusal(alloc, green(alloc, &expression))
+        }
+        GreenQuestion::Row => refusal(alloc, row(alloc, arguments)),
+    }
+}
+
+fn refusal(alloc: Global, tree: Result<GreenNode, RowError>) -> Result<String, NoAnswer> {
+    match tree {
+        Ok(tree) => green_facts(alloc, GreenElementRef::Node(&tree)),
+        Err(error) => Ok(error.to_string(alloc)?),
+    }
+}
+
+// A token of a kind by its number, and that token shared.
+fn token(alloc: Global, arguments: &str) -> Result<String, NoAnswer> {
+    let (kind, text) = words(arguments).ok_or(NoAnswer::Arguments)?;
+    let kind = kind.parse::<u16>().ok().ok_or(NoAnswer::Arguments)?;
+    let text = unquoted(alloc, text)?;
+    let token = GreenToken::new(alloc, SyntaxKind(kind), &text)?;
+    let own = token_facts(alloc, &token)?;
+    agreed(alloc, own, token_facts(alloc, &token.share(alloc)?)?)
+}
+
+fn token_facts(alloc: Global, token: &GreenToken) -> Result<String, NoAnswer> {
+    let number = token.kind().0;
+    let facts = green_facts(alloc, GreenElementRef::Token(token))?;
+    Ok(format!(in alloc; "{number} {facts}")?)
+}
+
+// A token of each letter.
+fn letters(alloc: Global, text: &str) -> Result<Vec<GreenElement>, NoAnswer> {
+    let mut all = Vec::new(alloc);
+    for letter in text.chars() {
+        let own = letter.to_string(alloc)?;
+        let token = GreenToken::new(alloc, SyntaxKind::IDENT, &own)?;
+        all.push(GreenElement::Token(token))?;
+    }
+    Ok(all)
+}
+
+fn name_node(alloc: Global, letters: Vec<GreenElement>) -> Result<GreenNode, NoAnswer> {
+    Ok(GreenNode::new(alloc, SyntaxKind::NAME, letters)?)
+}
+
+// A node of a token of each letter, made by `new` and by `capped`.
+fn node(alloc: Global, text: &str) -> Result<String, NoAnswer> {
+    let checked = GreenElement::Node(name_node(alloc, letters(alloc, text)?)?);
+    let own = green_facts(alloc, checked.as_ref())?;
+    let capped = GreenNode::capped(alloc, SyntaxKind::NAME, letters(alloc, text)?)?;
+    agreed(
+        alloc,
+        own,
+        green_facts(alloc, GreenElementRef::Node(&capped))?,
+    )
+}
+
+fn splice(alloc: Global, arguments: &str) -> Result<String, NoAnswer> {
+    let (start, others) = words(arguments).ok_or(NoAnswer::Arguments)?;
+    let (end, new) = words(others).ok_or(NoAnswer::Arguments)?;
+    let (start, end) = (slot(start)?, slot(end)?);
+    spliced(alloc, start, end, letters(alloc, &unquoted(alloc, new)?)?)
+}
+
+// Of a node of the tokens `abc`, which is then as it was.
+fn spliced(
+    alloc: Global,
+    start: usize,
+    end: usize,
+    new: Vec<GreenElement>,
+) -> Result<String, NoAnswer> {
+    let node = name_node(alloc, letters(alloc, "abc")?)?;
+    if start > end || end > node.children().len() {
+        return Err(NoAnswer::Arguments);
+    }
+    let spliced = node.splice_children(alloc, start, end, new)?;
+    if is_abc(alloc, &node)? {
+        green_facts(alloc, GreenElementRef::Node(&spliced))
+    } else {
+        word(alloc, "the old node changed")
+    }
+}
+
+fn is_abc(alloc: Global, node: &GreenNode) -> Result<bool, NoAnswer> {
+    Ok(text_of(alloc, node)?.as_str() == "abc")
+}
+
+// In the tree, and with tree and element shared.
+fn get(alloc: Global, trees: &Trees, arguments: &str) -> Result<String, NoAnswer> {
+    let (tree, path) = words(arguments).ok_or(NoAnswer::Arguments)?;
+    let tree = trees.tree(alloc, tree)?;
+    let slots = slots(alloc, path)?;
+    let own = facts_at(alloc, &tree, &slots)?;
+    agreed(alloc, own, shared_facts_at(alloc, &tree, &slots)?)
+}
+
+fn facts_at(alloc: Global, tree: &GreenNode, slots: &[usize]) -> Result<String, NoAnswer> {
+    match tree.get(slots) {
+        Some(element) => green_facts(alloc, element),
+        None => word(alloc, "none"),
+    }
+}
+
+fn shared_facts_at(alloc: Global, tree: &GreenNode, slots: &[usize]) -> Result<String, NoAnswer> {
+    let tree = tree.share(alloc)?;
+    match tree.get(slots) {
+        Some(element) => shared_facts(alloc, &element.share(alloc)?),
+        None => word(alloc, "none"),
+    }
+}
+
+fn shared_facts(alloc: Global, element: &GreenElement) -> Result<String, NoAnswer> {
+    green_facts(alloc, element.share(alloc)?.as_ref())
+}

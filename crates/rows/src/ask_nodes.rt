@@ -1,0 +1,81 @@
+//! What is in a node and below it, and its copy.
+
+use crate::answer::NoAnswer;
+use crate::question::find_named;
+use crate::shown::{extent, kind_name, node_places, path, place, places, token_place};
+use crate::trees::Trees;
+use cst_core::{SyntaxNode, TreeIds};
+use std::alloc::Global;
+
+#[derive(Clone, Copy)]
+pub enum NodeQuestion {
+    ChildrenWithTokens,
+    Children,
+    FirstChildOrToken,
+    LastChildOrToken,
+    FirstToken,
+    Descendants,
+    CloneSubtree,
+}
+
+const NAMES: [(&str, NodeQuestion); 7] = [
+    ("children_with_tokens", NodeQuestion::ChildrenWithTokens),
+    ("children", NodeQuestion::Children),
+    ("first_child_or_token", NodeQuestion::FirstChildOrToken),
+    ("last_child_or_token", NodeQuestion::LastChildOrToken),
+    ("first_token", NodeQuestion::FirstToken),
+    ("descendants", NodeQuestion::Descendants),
+    ("clone_subtree", NodeQuestion::CloneSubtree),
+];
+
+impl NodeQuestion {
+    pub fn from_name(name: &str) -> Option<NodeQuestion> {
+        find_named(&NAMES, name).copied()
+    }
+}
+
+/// `QUESTION NODE`
+pub fn answer(
+    alloc: Global,
+    trees: &Trees,
+    question: NodeQuestion,
+    place: &str,
+) -> Result<String, NoAnswer> {
+    of_node(alloc, question, &trees.node(alloc, place)?)
+}
+
+fn of_node(alloc: Global, question: NodeQuestion, node: &SyntaxNode) -> Result<String, NoAnswer> {
+    let tree = node.tree();
+    match question {
+        NodeQuestion::ChildrenWithTokens => places(alloc, tree, &node.children_with_tokens(alloc)?),
+        NodeQuestion::Children => node_places(alloc, tree, &node.children(alloc)?),
+        NodeQuestion::FirstChildOrToken => place(alloc, tree, node.first_child_or_token(alloc)?),
+        NodeQuestion::LastChildOrToken => place(alloc, tree, node.last_child_or_token(alloc)?),
+        NodeQuestion::FirstToken => token_place(alloc, tree, node.first_token(alloc)?),
+        NodeQuestion::Descendants => node_places(alloc, tree, &node.descendants(alloc)?),
+        NodeQuestion::CloneSubtree => clone_subtree(alloc, node),
+    }
+}
+
+// The copy's number is drawn from a source that begins at 40.
+fn clone_subtree(alloc: Global, node: &SyntaxNode) -> Result<String, NoAnswer> {
+    let mut ids = TreeIds::new(40);
+    let copy = node.clone_subtree(alloc, &mut ids)?;
+    root_facts(alloc, &copy)
+}
+
+// Number, path, kind, slot, start, length and text.
+fn root_facts(alloc: Global, root: &SyntaxNode) -> Result<String, NoAnswer> {
+    let number = root.tree();
+    let path = path(alloc, root.slots())?;
+    let facts = facts(alloc, root)?;
+    Ok(format!(in alloc; "{number} {path} {facts}")?)
+}
+
+fn facts(alloc: Global, root: &SyntaxNode) -> Result<String, NoAnswer> {
+    let kind = kind_name(root.kind());
+    let slot = root.index();
+    let start = root.text_start();
+    let extent = extent(alloc, root.text_len(), &root.text(alloc)?)?;
+    Ok(format!(in alloc; "{kind} in slot {slot}, from {start}, {extent}")?)
+}

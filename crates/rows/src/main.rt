@@ -1,0 +1,65 @@
+//! Answers a table of questions about `cst_core` and the row trees, each with its expected answer, from standard input.
+//! It prints a line for each answer that is another one, and at the end how many were as expected.
+//!
+//! The head of the table (`stdin`, beside this folder) says how a line is written.
+#![tactic(auto)]
+
+mod answer;
+mod ask_around;
+mod ask_errors;
+mod ask_facts;
+mod ask_green;
+mod ask_kinds;
+mod ask_lengths;
+mod ask_nodes;
+mod ask_numbers;
+mod ask_steps;
+mod ask_values;
+mod ask_views;
+mod question;
+mod report;
+mod shown;
+mod trees;
+
+use crate::answer::answer;
+use crate::question::Line;
+use crate::report::Report;
+use crate::trees::Trees;
+use std::alloc::Global;
+use std::io;
+use std::process::ExitCode;
+
+fn take_line<R: Print>(
+    rt: &R,
+    alloc: Global,
+    trees: &mut Trees,
+    report: &mut Report,
+    line: &str,
+) -> io::Result<()> {
+    match Line::read(line) {
+        Line::Blank => Ok(()),
+        Line::Tree { name, expression } => {
+            let defined = trees.define(alloc, name, expression);
+            report.note_tree(rt, line, defined)
+        }
+        Line::Question {
+            name,
+            arguments,
+            wanted,
+        } => {
+            let own = answer(alloc, trees, name, arguments);
+            report.note_answer(rt, line, own, wanted)
+        }
+        Line::Malformed => report.note_malformed(rt, line),
+    }
+}
+
+fn main(rt: HostRuntime) -> io::Result<ExitCode> {
+    let alloc = rt.alloc();
+    let mut trees = Trees::new(alloc);
+    let mut report = Report::new();
+    for line in rt.lines(alloc) {
+        take_line(&rt, alloc, &mut trees, &mut report, line?.as_str())?;
+    }
+    report.close(&rt)
+}

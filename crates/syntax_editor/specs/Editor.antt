@@ -1,0 +1,62 @@
+-- Editors as contracts see them.
+--     Editor, IsEditor              the root that is edited and the changes recorded so far; what is true of every editor
+--     edited_root                   the root that a new editor edits, and whether it is one of a tree of its own that is made for it
+--     Records, RecordRefuses        what a call that records leaves behind; why it is refused
+--     FinishRefuses                 why an editor's changes are not carried out
+use Rattle.std.specs.Prelude.{◌≡◌, ℕ, Bool, true, false, cond, List, [], ◌∷◌, Some, None, All, refl}
+use Rattle.std.specs.Coded.{Coded, code_by, coded_list, coded×}
+use Rattle.cst_core.specs.Element.{Element, subtree, element_code}
+use Rattle.cst_core.specs.Path.{same_path}
+use Rattle.edit_plan.specs.declared.change.Change.{Change}
+use Rattle.edit_plan.specs.declared.edit_error.EditError.{EditError}
+use Rattle.edit_plan.specs.declared.edit_error.EditError.TheVariants.{Intersecting, Nested, TooLong, NoTreeNumber, Memory}
+use Rattle.edit_plan.specs.ChangeCodes.{change_code}
+use Rattle.edit_plan.specs.Building.{Plan, BuildRefuses, RunRefuses}
+use Rattle.edit_plan.specs.Fits.{Fits}
+use Rattle.syntax_editor.specs.RecordCall.{RecordCall, recorded, refusal}
+use Rattle.syntax_editor.specs.declared.error.RecordError.{RecordError}
+use Rattle.syntax_editor.specs.declared.error.RecordError.TheVariants as record_error
+
+pub record Editor : Type 0 where
+  pub root : Element
+  pub changes : List Change
+
+abbrev pub editor_code : Coded Editor
+editor_code = code_by (Element × List Change) (coded× element_code (coded_list change_code)) (λ e. (e.root, e.changes)) (λ q. record { root = q.0; changes = q.1 }) (λ _. refl)
+
+pub record IsEditor (e : Editor) : Type 0 where
+  pub is_root : e.root.path ≡ []
+  pub fit : All (Fits e.root) e.changes
+
+-- ---- a new editor
+abbrev pub has_parent : Element → Bool
+has_parent e = cond (same_path e.path []) false true
+
+-- a root that has a parent becomes one of a tree of its own
+abbrev pub edited_root : ℕ → Element → Element
+edited_root number e = cond (has_parent e) (record { number = number; root = subtree e; path = [] }) e
+
+-- ---- recording
+abbrev pub after_call : RecordCall → Editor → Editor
+after_call call e = record { root = e.root; changes = recorded call e.changes }
+
+-- want of memory aside, a call is refused exactly for its first reason
+abbrev pub RecordRefuses : RecordCall → Editor → RecordError → Type 0
+RecordRefuses call e record_error.Foreign = refusal e.root call ≡ Some record_error.Foreign
+RecordRefuses call e record_error.BadRange = refusal e.root call ≡ Some record_error.BadRange
+RecordRefuses call e record_error.DeletesRoot = refusal e.root call ≡ Some record_error.DeletesRoot
+RecordRefuses call e record_error.RootReplacement = refusal e.root call ≡ Some record_error.RootReplacement
+RecordRefuses call e record_error.LevelTooLarge = ⊥
+RecordRefuses call e record_error.NoTreeNumber = ⊥
+RecordRefuses call e record_error.Memory = refusal e.root call ≡ None
+
+-- ---- finishing
+abbrev pub plan_of : Editor → Plan
+plan_of e = record { root = e.root; changes = e.changes }
+
+abbrev pub FinishRefuses : Editor → ℕ → EditError → Type 0
+FinishRefuses e next (Intersecting first second) = BuildRefuses e.changes (Intersecting first second)
+FinishRefuses e next (Nested change) = BuildRefuses e.changes (Nested change)
+FinishRefuses e next TooLong = RunRefuses (plan_of e) next TooLong
+FinishRefuses e next NoTreeNumber = RunRefuses (plan_of e) next NoTreeNumber
+FinishRefuses e next Memory = Unit {0}
