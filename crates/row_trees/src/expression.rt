@@ -76,6 +76,8 @@ pub(crate) fn expand(alloc: Global, rows: &[Row], expression: &str) -> Result<St
     let mut place = Place::Outside;
     for c in expression.chars() {
         place = match (place, c) {
+            // A name alone is no node.
+            (Place::Outside, '[') if expanded.is_empty() => return Err(RowError::Malformed),
             (Place::Outside, '[') => Place::RowName,
             (Place::RowName, ']') => {
                 expanded.push_str(&row_of(rows, &name)?.expression)?;

@@ -105,7 +105,8 @@ fn bad_expressions_are_refused(rt: HostRuntime) {
         "(LITERAL IDENT \"a\")",
         "(LITERAL IDENT\"a)",
         "(LITERAL IDENT\"\\a\")",
-        "(LITERAL [L",
+        "[L]",
+        "(LITERAL [L)",
         "[L] [L]",
     ];
     for expression in malformed {

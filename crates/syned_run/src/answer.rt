@@ -1,8 +1,9 @@
 //! What a run prints, and its exit status.
-ghost use Rattle.std.specs.Prelude.{◌≤◌};
+ghost use Rattle.std.specs.Prelude.{◌≤◌, ◌<◌, ◌^◌};
 
 use crate::ends::SCRIPT_LIMIT;
-use crate::script::read_line;
+use crate::print::print_edit;
+use crate::script::{Line, is_blank, read_line};
 use crate::session::Session;
 use crate::stop::{Refusal, Stop, Stopped};
 use std::alloc::{AllocError, Global};
@@ -92,7 +93,26 @@ fn carry_out(alloc: Global, script: &str) -> Result<String, Stopped> {
     for (index, text) in lines.iter().enumerate() {
         let number = index + 1;
         let line = read_line(alloc, text).map_err(|stop| stop.at(number))?;
+        if let Line::Finish = line {
+            return end(alloc, session, &lines, number);
+        }
         session.carry_out(line).map_err(|stop| stop.at(number))?;
     }
     Err(Stop::Bad.at(lines.len() + 1))
+}
+
+// Carries out `finish`, which is the line of this number. Only blank lines may follow.
+fn end(alloc: Global, session: Session, lines: &[&str], number: usize) -> Result<String, Stopped>
+    requires { number < 2 ^ 63 }
+{
+    if !session.is_editing() {
+        return Err(Stop::Bad.at(number));
+    }
+    for (index, text) in lines.iter().enumerate().skip(number) {
+        if !is_blank(text) {
+            return Err(Stop::Bad.at(index + 1));
+        }
+    }
+    let edit = session.finish().map_err(|stop| stop.at(number))?;
+    print_edit(alloc, &edit).map_err(|_| Stop::Memory.at(number))
 }

@@ -4,6 +4,7 @@
 mod answer;
 mod ends;
 mod name;
+mod print;
 mod program;
 mod reference;
 mod roots;

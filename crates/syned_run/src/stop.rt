@@ -1,5 +1,6 @@
 use cst_core::TreeError;
 use std::alloc::{AllocError, AllocFailed};
+use syntax_editor::{EditError, RecordError};
 use thiserror::Error;
 use tree_text::ExpressionError;
 
@@ -32,6 +33,10 @@ impl Stop {
 pub(crate) enum Refusal {
     #[error("{0}")]
     Tree(TreeError),
+    #[error("{0}")]
+    Record(RecordError),
+    #[error("{0}")]
+    Edit(EditError),
 }
 
 impl From<AllocError> for Stop {
@@ -62,6 +67,24 @@ impl From<ExpressionError> for Stop {
                 Stop::Bad,
             ExpressionError::Tree(error) => Stop::from(error),
             ExpressionError::Memory => Stop::Memory,
+        }
+    }
+}
+
+impl From<RecordError> for Stop {
+    fn from(error: RecordError) -> Stop {
+        match error {
+            RecordError::Memory => Stop::Memory,
+            error => Stop::Refused(Refusal::Record(error)),
+        }
+    }
+}
+
+impl From<EditError> for Stop {
+    fn from(error: EditError) -> Stop {
+        match error {
+            EditError::Memory => Stop::Memory,
+            error => Stop::Refused(Refusal::Edit(error)),
         }
     }
 }
