@@ -31,7 +31,7 @@ refuse_each() {
     [ ! -f "crates/$1/stdin" ] || input=crates/$1/stdin
     for ((growth = 1; growth <= 5000; growth++)); do
         status=0
-        REFUSE_GROWTH=$growth LD_PRELOAD="$room/refuse.so" timeout 20 "$program" <"$input" >"$room/out" 2>"$room/err" || status=$?
+        timeout 20 env REFUSE_GROWTH=$growth LD_PRELOAD="$room/refuse.so" "$program" <"$input" >"$room/out" 2>"$room/err" || status=$?
         if ! grep -q '^growth refused' "$room/err"; then
             [ "$status" -eq 0 ] && cmp -s "crates/$1/stdout" "$room/out" || went_wrong "$1 without a refusal"
             echo "$1: refused growths: $((growth - 1)), each answered"
@@ -47,8 +47,13 @@ calls_are_right() {
     [ "$status" -eq 0 ] && ! grep -q '^wrong' "$room/out"
 }
 
+# Where room to spare was refused, a list may still get the room that it needs; then the answer is the whole one.
 fails_in_silence() {
-    [ "$status" -eq 3 ] && [ ! -s "$room/out" ]
+    if [ "$status" -eq 0 ]; then
+        cmp -s crates/syned/stdout "$room/out"
+    else
+        [ "$status" -eq 3 ] && [ ! -s "$room/out" ]
+    fi
 }
 
 refuse_each refusals calls_are_right
