@@ -1,6 +1,7 @@
 -- What a change must meet to be a change of a tree.
 --     is_native, is_native_position      of the root's tree number, and the path leads to an element of its form there; the same of a position's anchor
 --     is_root                            the path is that of a root
+--     have_one_path, are_siblings        two elements at one path; below one parent
 --     is_range                           the ends are one element, or siblings and the last not before the first
 --     is_one_node                        the elements are one node, as can stand for a root
 --     fits                               a change of the root's tree: what it aims at is native, a range has two ends, and a root is replaced by one node or not at all
@@ -29,10 +30,10 @@ is_native_position root (After e) = is_native root e
 abbrev pub is_root : SyntaxElement → Bool
 is_root e = same_path (element_of e).path []
 
-abbrev have_one_path : SyntaxElement → SyntaxElement → Bool
+abbrev pub have_one_path : SyntaxElement → SyntaxElement → Bool
 have_one_path first last = same_path (element_of first).path (element_of last).path
 
-abbrev are_siblings : SyntaxElement → SyntaxElement → Bool
+abbrev pub are_siblings : SyntaxElement → SyntaxElement → Bool
 are_siblings first last = not (is_root first) && not (is_root last) && same_path (parent_path (element_of first).path) (parent_path (element_of last).path)
 
 abbrev pub is_range : SyntaxElement → SyntaxElement → Bool

@@ -1,6 +1,7 @@
 ghost use Rattle.std.specs.Prelude.{◌≡◌, IfOk, option_map};
-ghost use Rattle.edit_plan.specs.Position.{anchor, first_of, after_of};
+ghost use Rattle.edit_plan.specs.Position.{anchor, first_of, after_of, after, before, last_child_of};
 
+use crate::element_like::Element;
 use cst_core::{SyntaxElement, SyntaxNode};
 use std::alloc::{AllocError, Global};
 use std::marker::Model;
@@ -36,6 +37,62 @@ impl Position {
         Ok(Position {
             form: PositionForm::FirstChild(node.try_clone(alloc)?),
         })
+    }
+
+    /// The gap behind the last child of `node`, which is its first gap where it has no child.
+    pub fn last_child_of(alloc: Global, node: &SyntaxNode) -> Result<Position, AllocError>
+        ensures { IfOk result (λ p. p ≡ last_child_of node.now) }
+    {
+        match node.last_child_or_token(alloc)? {
+            Some(last) => Ok(Position {
+                form: PositionForm::After(last),
+            }),
+            None => Position::first_child_of(alloc, node),
+        }
+    }
+
+    /// The gap behind an element: that of the next slot. `None` exactly for a root, which has no gap beside it.
+    pub fn after<E: Element>(alloc: Global, element: E) -> Result<Option<Position>, AllocError>
+        ensures { IfOk result (λ r. r ≡ after (E.element element)) }
+    {
+        let element = element.syntax_element(alloc)?;
+        Ok(Position::behind(element))
+    }
+
+    /// The gap before an element: that of its own slot. It is the gap behind the sibling before it, if there is one, and
+    /// else the first gap of its parent. `None` exactly for a root.
+    pub fn before<E: Element>(alloc: Global, element: E) -> Result<Option<Position>, AllocError>
+        ensures { IfOk result (λ r. r ≡ before (E.element element)) }
+    {
+        let element = element.syntax_element(alloc)?;
+        Position::ahead_of(alloc, &element)
+    }
+
+    fn behind(element: SyntaxElement) -> Option<Position>
+        ensures { result ≡ after element }
+    {
+        if element.slots().is_empty() {
+            return None;
+        }
+        Some(Position {
+            form: PositionForm::After(element),
+        })
+    }
+
+    fn ahead_of(alloc: Global, element: &SyntaxElement) -> Result<Option<Position>, AllocError>
+        ensures { IfOk result (λ r. r ≡ before element.now) }
+    {
+        let Some(parent) = element.parent(alloc)? else {
+            return Ok(None);
+        };
+        match element.prev_sibling_or_token(alloc)? {
+            Some(previous) => Ok(Some(Position {
+                form: PositionForm::After(previous),
+            })),
+            None => Ok(Some(Position {
+                form: PositionForm::FirstChild(parent),
+            })),
+        }
     }
 
     /// The path of the node whose first gap it is, or of the element that it is behind.

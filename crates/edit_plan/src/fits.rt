@@ -1,0 +1,89 @@
+ghost use Rattle.std.specs.Prelude.{◌≡◌, [], ◌∷◌};
+ghost use Rattle.edit_plan.specs.Fits.{is_root, have_one_path, are_siblings, is_range, is_one_node, fits};
+
+use crate::change::Change;
+use crate::native::is_native;
+use crate::targets::parent;
+use cst_core::{SyntaxElement, SyntaxNode};
+
+fn is_root(element: &SyntaxElement) -> bool
+    ensures { result ≡ is_root element.now }
+{
+    element.slots().is_empty()
+}
+
+fn have_one_path(first: &SyntaxElement, last: &SyntaxElement) -> bool
+    ensures { result ≡ have_one_path first.now last.now }
+{
+    first.slots() == last.slots()
+}
+
+fn are_siblings(first: &SyntaxElement, last: &SyntaxElement) -> bool
+    ensures { result ≡ are_siblings first.now last.now }
+{
+    if is_root(first) {
+        return false;
+    }
+    if is_root(last) {
+        return false;
+    }
+    parent(first.slots()) == parent(last.slots())
+}
+
+fn is_range(first: &SyntaxElement, last: &SyntaxElement) -> bool
+    ensures { result ≡ is_range first.now last.now }
+{
+    if have_one_path(first, last) {
+        return true;
+    }
+    if !are_siblings(first, last) {
+        return false;
+    }
+    first.index() <= last.index()
+}
+
+fn is_one_node(elements: &[SyntaxElement]) -> bool
+    ensures { result ≡ is_one_node elements.now }
+{
+    match elements {
+        [SyntaxElement::Node(_)] => true,
+        [SyntaxElement::Token(_)] => false,
+        _ => false,
+    }
+}
+
+fn is_node(element: &SyntaxElement) -> bool
+    ensures { result ≡ is_one_node (element.now ∷ []) }
+{
+    match element {
+        SyntaxElement::Node(_) => true,
+        SyntaxElement::Token(_) => false,
+    }
+}
+
+impl Change {
+    /// Whether it is a change of the tree with this root, as a plan asks: what it aims at is of the tree, the ends of a range
+    /// differ, and a root is replaced by one node or not at all. Of which trees the elements are that it brings is all one.
+    pub fn fits(&self, root: &SyntaxNode) -> bool
+        requires { root.now.path ≡ [] }
+        ensures { result ≡ fits root.now self.now }
+    {
+        match self {
+            Change::Insert(position, _) => position.is_native(root),
+            Change::InsertAll(position, _) => position.is_native(root),
+            Change::Replace(target, None) => is_native(root, target) && !is_root(target),
+            Change::Replace(target, Some(element)) => {
+                is_native(root, target) && (!is_root(target) || is_node(element))
+            }
+            Change::ReplaceWithMany(target, elements) => {
+                is_native(root, target) && (!is_root(target) || is_one_node(elements.as_slice()))
+            }
+            Change::ReplaceAll(first, last, _) => {
+                is_native(root, first)
+                    && is_native(root, last)
+                    && is_range(first, last)
+                    && !have_one_path(first, last)
+            }
+        }
+    }
+}
