@@ -5,6 +5,7 @@ mod RowsOfSchedules
 mod RowsOfAnswers
 mod RowsOfPositions
 mod RowsOfLengths
+mod RowsOfGreatest
 mod Lists
 mod Paths
 pub mod Siblings

@@ -18,16 +18,16 @@ use Rattle.edit_plan.proofs.RowChanges.{first_in, no_places}
 use Rattle.edit_plan.proofs.Unowned.{text-unowned}
 
 -- 2^k bytes: a node that holds the smaller one twice
-doubled : ℕ → SyntaxTree
+unfoldable pub doubled : ℕ → SyntaxTree
 doubled zero = token IDENT (codes "a")
 doubled (suc k) = branch LITERAL (doubled k ∷ doubled k ∷ [])
 
 -- those from this one down to the token
-falling : ℕ → List SyntaxTree
+unfoldable pub falling : ℕ → List SyntaxTree
 falling zero = doubled zero ∷ []
 falling (suc k) = doubled (suc k) ∷ falling k
 
-long : ℕ → SyntaxTree
+unfoldable pub long : ℕ → SyntaxTree
 long k = branch SOURCE_FILE (falling k)
 
 length-doubled : (k : ℕ) → text_length (doubled k) ≡ 2 ^ k
@@ -55,7 +55,7 @@ length-falling (suc k) =
     twice : (k : ℕ) → 2 ^ k + 2 ^ k ≡ 2 ^ suc k
     twice k = omega arith
 
-longest : text_length (long 31) ≡ 4294967295
+pub longest : text_length (long 31) ≡ 4294967295
 unfolding long
 longest = omega (arith, length-falling 31)
 
@@ -78,10 +78,10 @@ row_two_too_long made is =
     omega (arith, longest)
 
 -- ---- the whole tree put first, and all the rest deleted: a text between the two would be too long
-abbrev P : Path → Element
+abbrev pub P : Path → Element
 P p = element_of_tree 1 (long 31) p
 
-abbrev changes_emptied : List Change
+abbrev pub changes_emptied : List Change
 changes_emptied = Insert (first_in (P [])) (node_value (P [])) ∷ ReplaceAll (node_value (P (0 ∷ []))) (token_value (P (31 ∷ []))) [] ∷ []
 
 nothing_added : (s : List ℕ) → s ++ [] ++ [] ++ [] ++ [] ≡ s

@@ -6,7 +6,8 @@ use crate::native::is_native;
 use crate::targets::parent;
 use cst_core::{SyntaxElement, SyntaxNode};
 
-fn is_root(element: &SyntaxElement) -> bool
+/// Whether an element is the root of its tree.
+pub fn is_root(element: &SyntaxElement) -> bool
     ensures { result ≡ is_root element.now }
 {
     element.slots().is_empty()
@@ -30,7 +31,8 @@ fn are_siblings(first: &SyntaxElement, last: &SyntaxElement) -> bool
     parent(first.slots()) == parent(last.slots())
 }
 
-fn is_range(first: &SyntaxElement, last: &SyntaxElement) -> bool
+/// Whether two elements are the ends of a range: one element, or siblings and the last not before the first.
+pub fn is_range(first: &SyntaxElement, last: &SyntaxElement) -> bool
     ensures { result ≡ is_range first.now last.now }
 {
     if have_one_path(first, last) {
@@ -42,7 +44,8 @@ fn is_range(first: &SyntaxElement, last: &SyntaxElement) -> bool
     first.index() <= last.index()
 }
 
-fn is_one_node(elements: &[SyntaxElement]) -> bool
+/// Whether the elements are one node, as can stand for a root.
+pub fn is_one_node(elements: &[SyntaxElement]) -> bool
     ensures { result ≡ is_one_node elements.now }
 {
     match elements {
@@ -52,7 +55,8 @@ fn is_one_node(elements: &[SyntaxElement]) -> bool
     }
 }
 
-fn is_node(element: &SyntaxElement) -> bool
+/// Whether an element is a node, as can stand for a root.
+pub fn is_node(element: &SyntaxElement) -> bool
     ensures { result ≡ is_one_node (element.now ∷ []) }
 {
     match element {

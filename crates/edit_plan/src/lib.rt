@@ -21,6 +21,7 @@ pub use edit::SyntaxEdit;
 pub use edit_error::EditError;
 pub use element_like::Element;
 pub use element_list::ElementList;
+pub use fits::{is_node, is_one_node, is_range, is_root};
 pub use native::is_native;
 pub use plan::EditPlan;
 pub use position::Position;

@@ -46,7 +46,7 @@ fn is_native_token(root: &SyntaxNode, token: &SyntaxToken) -> bool
 
 impl Position {
     /// Whether the node or element that it names is of a root's tree.
-    pub(crate) fn is_native(&self, root: &SyntaxNode) -> bool
+    pub fn is_native(&self, root: &SyntaxNode) -> bool
         requires { root.now.path ≡ [] }
         ensures { result ≡ is_native_position root.now self.now }
     {

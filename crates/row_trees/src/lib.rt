@@ -6,10 +6,6 @@
 mod doubling;
 mod expression;
 mod rows;
-#[cfg(test)]
-mod tests;
-#[cfg(test)]
-mod typed_nodes;
 
 pub use doubling::{p, p_file};
 pub use expression::RowError;

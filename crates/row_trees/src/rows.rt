@@ -1,8 +1,9 @@
 //! The trees that rows of tests share, by name.
 
-use crate::expression::{Row, RowError, find_row, read};
+use crate::expression::{Row, RowError, expand, find_row};
 use cst_core::GreenNode;
 use std::alloc::Global;
+use tree_text::read_tree;
 
 // The names, each with an expression that may name the trees before it.
 const ROWS: [(&str, &str); 25] = [
@@ -80,7 +81,8 @@ const ROWS: [(&str, &str); 25] = [
 
 /// The tree of an expression, in which every row tree may be named.
 pub fn green(alloc: Global, expression: &str) -> Result<GreenNode, RowError> {
-    read(alloc, &all_rows(alloc)?, expression)
+    let expanded = expand(alloc, &all_rows(alloc)?, expression)?;
+    Ok(read_tree(alloc, &expanded)?)
 }
 
 /// The row tree of this name: L, U, X, Y, A3, V, S1, S2, S3, B, BB, BBB, D, Q, M, NM, NR, W, E, F, AR, K, J, G or H.
@@ -91,8 +93,8 @@ pub fn row(alloc: Global, name: &str) -> Result<GreenNode, RowError> {
 fn all_rows(alloc: Global) -> Result<Vec<Row>, RowError> {
     let mut rows = Vec::new(alloc);
     for (name, expression) in ROWS {
-        let tree = read(alloc, &rows, expression)?;
-        rows.push(Row { name, tree })?;
+        let expression = expand(alloc, &rows, expression)?;
+        rows.push(Row { name, expression })?;
     }
     Ok(rows)
 }

@@ -48,8 +48,16 @@ pub fn answer(
     place: &str,
 ) -> Result<String, NoAnswer> {
     let element = trees.element(alloc, place)?;
-    let own = of_both(alloc, question, &element)?;
-    agreed(alloc, own, by_form(alloc, question, &element)?)
+    of_all(alloc, question, &element)
+}
+
+fn of_all(
+    alloc: Global,
+    question: FactQuestion,
+    element: &SyntaxElement,
+) -> Result<String, NoAnswer> {
+    let own = of_both(alloc, question, element)?;
+    agreed(alloc, own, by_form(alloc, question, element)?)
 }
 
 // Of the element and of a copy.

@@ -74,7 +74,8 @@ pub fn path(alloc: Global, slots: &[usize]) -> Result<String, NoAnswer> {
 /// Path and kind of an element of the tree with this number; `none` of none.
 pub fn place(alloc: Global, tree: u64, element: Option<SyntaxElement>) -> Result<String, NoAnswer> {
     match element {
-        Some(element) => place_of(alloc, tree, &element),
+        Some(SyntaxElement::Node(node)) => place_of_node(alloc, tree, &node),
+        Some(SyntaxElement::Token(token)) => place_of_token(alloc, tree, &token),
         None => word(alloc, "none"),
     }
 }

@@ -1,0 +1,60 @@
+//! Runs over readers that fail.
+
+use crate::reader::{FailingReader, READ_AT_MOST};
+use crate::report::Report;
+use crate::script::{ANSWER, SCRIPT};
+use crate::writer::{FailingWriter, Full};
+use std::alloc::Global;
+use std::io;
+use std::io::ErrorKind;
+use syned_run::run;
+
+pub fn try_all<R: Print>(rt: &R, alloc: Global, report: &mut Report) -> io::Result<()> {
+    try_reader(rt, alloc, report, "reader that fails", ErrorKind::Other)?;
+    try_reader(
+        rt,
+        alloc,
+        report,
+        "reader that is interrupted",
+        ErrorKind::Interrupted,
+    )
+}
+
+// Lets the first, the second and each further read fail; the last run has none that does.
+fn try_reader<R: Print>(
+    rt: &R,
+    alloc: Global,
+    report: &mut Report,
+    kind: &str,
+    error: ErrorKind,
+) -> io::Result<()> {
+    let needed = reads_of_script();
+    for reads in 0..needed {
+        let (status, text) = run_with(alloc, reads, error);
+        report.note(rt, kind, reads, status == 3 && text.is_empty())?;
+    }
+    let (status, text) = run_with(alloc, needed, error);
+    let is_right = status == 0 && text.as_slice() == ANSWER.as_bytes();
+    report.note(rt, kind, needed, is_right)?;
+    println!(rt; "{kind}: status 3 and no output at each of {needed} reads")
+}
+
+// The reads that the whole script takes, the one that finds its end among them.
+fn reads_of_script() -> usize {
+    SCRIPT.len().div_ceil(READ_AT_MOST).saturating_add(1)
+}
+
+fn run_with(alloc: Global, reads: usize, error: ErrorKind) -> (u8, Vec<u8>) {
+    let mut reader = FailingReader {
+        rest: SCRIPT.as_bytes(),
+        reads,
+        error,
+    };
+    let mut writer = FailingWriter {
+        taken: Vec::new(alloc),
+        limit: usize::MAX,
+        full: Full::TakesNothing,
+    };
+    let status = run(alloc, &mut reader, &mut writer);
+    (status, writer.taken)
+}

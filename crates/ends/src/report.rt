@@ -1,0 +1,37 @@
+use std::io;
+use std::process::ExitCode;
+
+/// Whether every run was as it must be.
+#[derive(Drop)]
+pub struct Report {
+    wrong: bool,
+}
+
+impl Report {
+    pub fn new() -> Report {
+        Report { wrong: false }
+    }
+
+    /// Prints a run that was not as it must be.
+    pub fn note<R: Print>(
+        &mut self,
+        rt: &R,
+        kind: &str,
+        place: usize,
+        is_right: bool,
+    ) -> io::Result<()> {
+        if !is_right {
+            self.wrong = true;
+            println!(rt; "wrong: {kind} at {place}")?;
+        }
+        Ok(())
+    }
+
+    pub fn exit_code(&self) -> ExitCode {
+        if self.wrong {
+            ExitCode::FAILURE
+        } else {
+            ExitCode::SUCCESS
+        }
+    }
+}

@@ -1,0 +1,66 @@
+//! Runs over writers that fail.
+
+use crate::reader::FailingReader;
+use crate::report::Report;
+use crate::script::{ANSWER, SCRIPT};
+use crate::writer::{FailingWriter, Full};
+use std::alloc::Global;
+use std::io;
+use std::io::ErrorKind;
+use syned_run::run;
+
+pub fn try_all<R: Print>(rt: &R, alloc: Global, report: &mut Report) -> io::Result<()> {
+    let fails = Full::Fails(ErrorKind::Other);
+    let is_interrupted = Full::Fails(ErrorKind::Interrupted);
+    try_writer(rt, alloc, report, "writer that fails", fails)?;
+    try_writer(
+        rt,
+        alloc,
+        report,
+        "writer that is interrupted",
+        is_interrupted,
+    )?;
+    try_writer(
+        rt,
+        alloc,
+        report,
+        "writer that takes nothing",
+        Full::TakesNothing,
+    )
+}
+
+// Lets the writer be full after no byte, one byte and so on; the last run has room for all.
+fn try_writer<R: Print>(
+    rt: &R,
+    alloc: Global,
+    report: &mut Report,
+    kind: &str,
+    full: Full,
+) -> io::Result<()> {
+    let answer = ANSWER.as_bytes();
+    for limit in 0..answer.len() {
+        let (status, taken) = run_with(alloc, limit, full);
+        let is_right = status == 3 && taken.as_slice() == &answer[..limit];
+        report.note(rt, kind, limit, is_right)?;
+    }
+    let (status, taken) = run_with(alloc, answer.len(), full);
+    let is_right = status == 0 && taken.as_slice() == answer;
+    report.note(rt, kind, answer.len(), is_right)?;
+    let bytes = answer.len();
+    println!(rt; "{kind}: status 3 and a beginning at each of {bytes} bytes")
+}
+
+fn run_with(alloc: Global, limit: usize, full: Full) -> (u8, Vec<u8>) {
+    let mut reader = FailingReader {
+        rest: SCRIPT.as_bytes(),
+        reads: usize::MAX,
+        error: ErrorKind::Other,
+    };
+    let mut writer = FailingWriter {
+        taken: Vec::new(alloc),
+        limit,
+        full,
+    };
+    let status = run(alloc, &mut reader, &mut writer);
+    (status, writer.taken)
+}

@@ -1,0 +1,118 @@
+//! What a run prints, and its exit status.
+ghost use Rattle.std.specs.Prelude.{◌≤◌, ◌<◌, ◌^◌};
+
+use crate::ends::SCRIPT_LIMIT;
+use crate::print::print_edit;
+use crate::script::{Line, is_blank, read_line};
+use crate::session::Session;
+use crate::stop::{Refusal, Stop, Stopped};
+use std::alloc::{AllocError, Global};
+
+/// How a run ended.
+#[derive(Clone, Copy, Debug, PartialEq, Eq)]
+pub(crate) enum Status {
+    /// The new tree was made.
+    Done,
+    /// A call was refused.
+    Refused,
+    /// A line is bad.
+    BadScript,
+    /// A read or a write failed, or memory was refused.
+    Failed,
+}
+
+impl Status {
+    /// The exit status.
+    pub(crate) fn code(self) -> u8
+        ensures { result ≤ 3 }
+    {
+        match self {
+            Status::Done => 0,
+            Status::Refused => 1,
+            Status::BadScript => 2,
+            Status::Failed => 3,
+        }
+    }
+}
+
+/// What a run prints, whole, and how it ended.
+#[derive(Drop)]
+pub(crate) struct Answer {
+    pub(crate) status: Status,
+    pub(crate) text: String,
+}
+
+/// The answer to a script of these bytes.
+pub(crate) fn answer_to(alloc: Global, script: &[u8]) -> Result<Answer, AllocError> {
+    let Some(script) = script_text(script) else {
+        return bad_script(alloc, 0);
+    };
+    match carry_out(alloc, script) {
+        Ok(text) => Ok(Answer {
+            status: Status::Done,
+            text,
+        }),
+        Err(Stopped { line, stop }) => match stop {
+            Stop::Bad => bad_script(alloc, line),
+            Stop::Refused(refusal) => refused(alloc, refusal),
+            Stop::Memory => Err(AllocError),
+        },
+    }
+}
+
+fn script_text(script: &[u8]) -> Option<&str> {
+    if script.len() > SCRIPT_LIMIT {
+        return None;
+    }
+    str::from_utf8(script).ok()
+}
+
+fn bad_script(alloc: Global, line: usize) -> Result<Answer, AllocError> {
+    let text = format!(in alloc; "bad script line {line}\n")?;
+    Ok(Answer {
+        status: Status::BadScript,
+        text,
+    })
+}
+
+fn refused(alloc: Global, refusal: Refusal) -> Result<Answer, AllocError> {
+    let text = format!(in alloc; "refused {refusal}\n")?;
+    Ok(Answer {
+        status: Status::Refused,
+        text,
+    })
+}
+
+// What is printed once the script is done.
+fn carry_out(alloc: Global, script: &str) -> Result<String, Stopped> {
+    let lines: Vec<&str> = script
+        .split_terminator('\n')
+        .collect(alloc)
+        .map_err(|_| Stop::Memory.at(0))?;
+    let mut session = Session::new(alloc);
+    for (index, text) in lines.iter().enumerate() {
+        let number = index + 1;
+        let line = read_line(alloc, text).map_err(|stop| stop.at(number))?;
+        if let Line::Finish = line {
+            return end(alloc, session, &lines, number);
+        }
+        session.carry_out(line).map_err(|stop| stop.at(number))?;
+    }
+    Err(Stop::Bad.at(lines.len() + 1))
+}
+
+// Carries out `finish`, which is the line of this number. Only blank lines may follow.
+fn end(alloc: Global, session: Session, lines: &[&str], number: usize) -> Result<String, Stopped>
+    requires { number < 2 ^ 63 }
+{
+    if !session.is_editing() {
+        return Err(Stop::Bad.at(number));
+    }
+    for (index, text) in lines.iter().enumerate().skip(number) {
+        if !is_blank(text) {
+            return Err(Stop::Bad.at(index + 1));
+        }
+    }
+    let edit = session.finish().map_err(|stop| stop.at(number))?;
+    print_edit(alloc, &edit).map_err(|_| Stop::Memory.at(number))
+}

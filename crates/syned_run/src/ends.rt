@@ -1,0 +1,78 @@
+//! The ends of a run: what is read and what is written.
+ghost use Rattle.std.specs.Prelude.{ℕ, ◌≡◌, ◌+◌, ◌<◌, IfOk, OnOk, IfSome, take};
+ghost use Rattle.std.specs.Io.KnownBytes.{Appends};
+ghost use Rattle.syned_run.specs.Ends.{ReadsOn};
+
+use std::alloc::{AllocError, Global};
+use std::io;
+use std::io::{Read, Write};
+
+/// How many bytes a script has at most.
+pub(crate) const SCRIPT_LIMIT: usize = 1_048_576;
+
+// How many bytes are asked for at once.
+const BLOCK: usize = 4096;
+
+/// An end that failed, or want of memory.
+#[derive(Debug, Drop)]
+pub(crate) struct EndFailed;
+
+impl From<io::Error> for EndFailed {
+    fn from(_: io::Error) -> EndFailed {
+        EndFailed
+    }
+}
+
+impl From<AllocError> for EndFailed {
+    fn from(_: AllocError) -> EndFailed {
+        EndFailed
+    }
+}
+
+/// All bytes up to the reader's end, or up to one byte more than a script may have. A read that is interrupted has
+/// failed.
+pub(crate) fn read_script<R: Read>(alloc: Global, reader: &mut R) -> Result<Vec<u8>, EndFailed>
+    ensures { IfOk result (λ v. IfSome (R.remaining reader.old) (λ all. v.items ≡ take (SCRIPT_LIMIT + 1) all)) }
+{
+    let mut script = Vec::new(alloc);
+    while script.len() <= SCRIPT_LIMIT {
+        let limit = SCRIPT_LIMIT + 1 - script.len();
+        if read_more(reader, &mut script, limit)? == 0 {
+            return Ok(script);
+        }
+    }
+    Ok(script)
+}
+
+// One read of at most `limit` bytes, which go to the end of `script`. It tells how many they were, none at the end alone.
+fn read_more<R: Read>(
+    reader: &mut R,
+    script: &mut Vec<u8>,
+    limit: usize,
+) -> Result<usize, EndFailed>
+    requires { 0 < limit }
+    ensures { IfOk result (λ n. ReadsOn (R.remaining reader.old) (R.remaining reader.new) script.old.items script.new.items limit n) }
+{
+    let mut block = [0u8; BLOCK];
+    let wanted = limit.min(BLOCK);
+    let count = reader.read(&mut block[..wanted])?;
+    script.extend_from_slice(&block[..count])?;
+    Ok(count)
+}
+
+/// Writes all of the bytes. A write that is interrupted or that takes no byte has failed; what went out until then is a
+/// beginning of the bytes.
+pub(crate) fn write_all_of<W: Write>(writer: &mut W, bytes: &[u8]) -> Result<(), EndFailed>
+    ensures all { OnOk result (Appends (W.contents writer.old) (W.contents writer.new) bytes.now) }
+    ensures beginning { (n : ℕ) × Appends (W.contents writer.old) (W.contents writer.new) (take n bytes.now) }
+{
+    let mut rest = bytes;
+    while !rest.is_empty() {
+        let count = writer.write(rest)?;
+        if count == 0 {
+            return Err(EndFailed);
+        }
+        rest = &rest[count..];
+    }
+    Ok(())
+}

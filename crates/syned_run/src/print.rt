@@ -1,0 +1,38 @@
+//! What is printed of an edit that was made.
+
+use cst_core::SyntaxElement;
+use std::alloc::{AllocError, Global};
+use syntax_editor::SyntaxEdit;
+use tree_text::push_escaped;
+
+/// The new text, and the paths of the elements that changed.
+pub(crate) fn print_edit(alloc: Global, edit: &SyntaxEdit) -> Result<String, AllocError> {
+    let text = edit.new_root().text(alloc)?;
+    let mut out = String::from_str(alloc, "text \"")?;
+    push_escaped(&mut out, &text)?;
+    out.push_str("\"\nchanged")?;
+    push_paths(&mut out, edit.changed_elements())?;
+    out.push('\n')?;
+    Ok(out)
+}
+
+// Each after one space.
+fn push_paths(out: &mut String, elements: &[SyntaxElement]) -> Result<(), AllocError> {
+    for element in elements {
+        out.push(' ')?;
+        push_path(out, element.slots())?;
+    }
+    Ok(())
+}
+
+// The slots with `/` between them, the root as `.`.
+fn push_path(out: &mut String, path: &[usize]) -> Result<(), AllocError> {
+    let Some((first, others)) = path.split_first() else {
+        return out.push('.');
+    };
+    write!(out, "{first}")?;
+    for slot in others {
+        write!(out, "/{slot}")?;
+    }
+    Ok(())
+}

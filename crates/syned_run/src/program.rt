@@ -1,0 +1,27 @@
+ghost use Rattle.std.specs.Prelude.{◌≤◌};
+
+use crate::answer::{Status, answer_to};
+use crate::ends::{read_script, write_all_of};
+use std::alloc::Global;
+use std::io::{Read, Write};
+
+/// Reads a script to its end, carries it out and writes the answer. What it gives is the exit status: 0 where the new
+/// tree was made, 1 where a call was refused, 2 for a bad script, 3 where a read or a write failed or memory was
+/// refused.
+///
+/// The answer is made whole before any of it is written, and what was written where a write failed is a beginning of it.
+pub fn run<R: Read, W: Write>(alloc: Global, reader: &mut R, writer: &mut W) -> u8
+    ensures { result ≤ 3 }
+{
+    let Ok(script) = read_script(alloc, reader) else {
+        return Status::Failed.code();
+    };
+    let Ok(answer) = answer_to(alloc, &script) else {
+        return Status::Failed.code();
+    };
+    let status = match write_all_of(writer, answer.text.as_bytes()) {
+        Ok(()) => answer.status,
+        Err(_) => Status::Failed,
+    };
+    status.code()
+}

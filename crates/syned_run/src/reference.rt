@@ -1,0 +1,48 @@
+use crate::name::Name;
+use std::alloc::{AllocError, Global};
+
+/// The way to an element: the name of a tree, and child slots from its root down.
+#[derive(Drop)]
+pub(crate) struct Reference<'a> {
+    pub(crate) name: Name<'a>,
+    pub(crate) slots: Vec<usize>,
+}
+
+impl<'a> Reference<'a> {
+    /// The reference that is spelled like this: a name, and before each slot a `/`.
+    pub(crate) fn read(alloc: Global, text: &'a str) -> Result<Option<Reference<'a>>, AllocError> {
+        let (name, slots) = match text.split_once('/') {
+            Some((name, slots)) => (name, Some(slots)),
+            None => (text, None),
+        };
+        let Some(name) = Name::new(name) else {
+            return Ok(None);
+        };
+        let Some(slots) = read_slots(alloc, slots)? else {
+            return Ok(None);
+        };
+        Ok(Some(Reference { name, slots }))
+    }
+}
+
+fn read_slots(alloc: Global, text: Option<&str>) -> Result<Option<Vec<usize>>, AllocError> {
+    let mut slots = Vec::new(alloc);
+    let Some(text) = text else {
+        return Ok(Some(slots));
+    };
+    for part in text.split('/') {
+        let Some(slot) = read_number(part) else {
+            return Ok(None);
+        };
+        slots.push(slot)?;
+    }
+    Ok(Some(slots))
+}
+
+// Decimal digits, without a sign.
+fn read_number(text: &str) -> Option<usize> {
+    if !text.bytes().all(|byte| byte.is_ascii_digit()) {
+        return None;
+    }
+    text.parse::<usize>().ok()
+}

@@ -1,0 +1,126 @@
+//! The lines of a script.
+
+use crate::name::Name;
+use crate::reference::Reference;
+use crate::stop::Stop;
+use cst_core::GreenNode;
+use std::alloc::Global;
+use tree_text::read_tree;
+
+/// A line that is well formed. Whether its names stand for something is seen when it is carried out.
+#[derive(Drop)]
+pub(crate) enum Line<'a> {
+    /// An empty line or a comment.
+    Blank,
+    /// A new tree of this name.
+    Tree {
+        name: Name<'a>,
+        root: GreenNode,
+    },
+    /// An editor of this node, whose root gets this name.
+    Edit {
+        name: Name<'a>,
+        node: Reference<'a>,
+    },
+    /// One element for another.
+    Replace {
+        target: Reference<'a>,
+        payload: Reference<'a>,
+    },
+    /// The new tree is made.
+    Finish,
+}
+
+/// The line of this text, which has no newline. One carriage return at its end is dropped, and then spaces at both ends.
+pub(crate) fn read_line<'a>(alloc: Global, text: &'a str) -> Result<Line<'a>, Stop> {
+    let mut fields = Fields::of_line(text);
+    let Some(word) = fields.word() else {
+        return Ok(Line::Blank);
+    };
+    let line = match word {
+        "tree" => tree_line(alloc, &mut fields)?,
+        "edit" => edit_line(alloc, &mut fields)?,
+        "replace" => replace_line(alloc, &mut fields)?,
+        "finish" => Line::Finish,
+        _ => return Err(Stop::Bad),
+    };
+    fields.end()?;
+    Ok(line)
+}
+
+/// Whether the line does nothing.
+pub(crate) fn is_blank(text: &str) -> bool {
+    Fields::of_line(text).word().is_none()
+}
+
+fn tree_line<'a>(alloc: Global, fields: &mut Fields<'a>) -> Result<Line<'a>, Stop> {
+    let name = fields.name()?;
+    let root = read_tree(alloc, fields.take_rest())?;
+    Ok(Line::Tree { name, root })
+}
+
+fn edit_line<'a>(alloc: Global, fields: &mut Fields<'a>) -> Result<Line<'a>, Stop> {
+    let name = fields.name()?;
+    let node = fields.reference(alloc)?;
+    Ok(Line::Edit { name, node })
+}
+
+fn replace_line<'a>(alloc: Global, fields: &mut Fields<'a>) -> Result<Line<'a>, Stop> {
+    let target = fields.reference(alloc)?;
+    let payload = fields.reference(alloc)?;
+    Ok(Line::Replace { target, payload })
+}
+
+// What is left of a line, without spaces at its ends. Spaces stand between its fields.
+#[derive(Drop)]
+struct Fields<'a> {
+    rest: &'a str,
+}
+
+impl<'a> Fields<'a> {
+    fn of_line(text: &'a str) -> Fields<'a> {
+        let text = text.strip_suffix('\r').unwrap_or(text);
+        let rest = text.trim_matches(' ');
+        Fields { rest }
+    }
+
+    // The first field, if there is one and it begins no comment.
+    fn word(&mut self) -> Option<&'a str> {
+        self.next().filter(|word| !word.starts_with('#'))
+    }
+
+    fn next(&mut self) -> Option<&'a str> {
+        if self.rest.is_empty() {
+            return None;
+        }
+        let (field, rest) = self.rest.split_once(' ').unwrap_or((self.rest, ""));
+        self.rest = rest.trim_start_matches(' ');
+        Some(field)
+    }
+
+    fn name(&mut self) -> Result<Name<'a>, Stop> {
+        let field = self.next().ok_or(Stop::Bad)?;
+        Name::new(field).ok_or(Stop::Bad)
+    }
+
+    fn reference(&mut self, alloc: Global) -> Result<Reference<'a>, Stop> {
+        let field = self.next().ok_or(Stop::Bad)?;
+        Reference::read(alloc, field)?.ok_or(Stop::Bad)
+    }
+
+    // All that is left, as one field.
+    fn take_rest(&mut self) -> &'a str {
+        let rest = self.rest;
+        self.rest = "";
+        rest
+    }
+
+    // Nothing may be left.
+    fn end(&self) -> Result<(), Stop> {
+        if self.rest.is_empty() {
+            Ok(())
+        } else {
+            Err(Stop::Bad)
+        }
+    }
+}

@@ -1,0 +1,66 @@
+ghost use Rattle.std.specs.Prelude.{◌≡◌, ◌+◌, ◌-◌, ◌≤◌, IfOk, IsTrue, ◌↔◌, length, []};
+ghost use Rattle.cst_core.specs.Green.{branch_tree};
+ghost use Rattle.cst_core.specs.GreenElement.{element_tree};
+ghost use Rattle.tree_text.specs.Depth.{depth, open_depth};
+ghost use Rattle.tree_text.specs.declared.open_nodes.TheConstants.{DEPTH_LIMIT};
+
+use crate::error::ExpressionError;
+use crate::open_node::OpenNode;
+use cst_core::{GreenElement, GreenNode, SyntaxKind};
+use std::alloc::Global;
+
+/// How many parentheses may be open at once.
+pub const DEPTH_LIMIT: usize = 200;
+
+/// The nodes that are open, the outermost first.
+#[derive(Drop)]
+pub(crate) struct OpenNodes {
+    pub(crate) nodes: Vec<OpenNode>,
+    ghost limited: { open_depth nodes.items ≤ DEPTH_LIMIT },
+}
+
+impl OpenNodes {
+    pub(crate) fn new(alloc: Global) -> OpenNodes {
+        OpenNodes {
+            nodes: Vec::new(alloc),
+        }
+    }
+
+    pub(crate) fn is_empty(&self) -> bool
+        ensures { IsTrue result ↔ (self.now.nodes.items ≡ []) }
+    {
+        self.nodes.is_empty()
+    }
+
+    /// Opens a node inside the innermost one.
+    pub(crate) fn begin(&mut self, alloc: Global, kind: SyntaxKind) -> Result<(), ExpressionError> {
+        if self.nodes.len() >= DEPTH_LIMIT {
+            return Err(ExpressionError::TooDeep);
+        }
+        let children = Vec::new(alloc);
+        self.nodes.push(OpenNode { kind, children })?;
+        Ok(())
+    }
+
+    /// Puts an element at the end of the innermost node.
+    pub(crate) fn put(&mut self, element: GreenElement) -> Result<(), ExpressionError>
+        requires { depth (element_tree element) ≤ DEPTH_LIMIT - length self.old.nodes.items }
+    {
+        let Some(mut node) = self.nodes.pop() else {
+            return Err(ExpressionError::Malformed);
+        };
+        node.children.push(element)?;
+        self.nodes.push(node)?;
+        Ok(())
+    }
+
+    /// Closes the innermost node.
+    pub(crate) fn end(&mut self, alloc: Global) -> Result<GreenNode, ExpressionError>
+        ensures { IfOk result (λ n. depth (branch_tree n) + length self.new.nodes.items ≤ DEPTH_LIMIT) }
+    {
+        let Some(OpenNode { kind, children }) = self.nodes.pop() else {
+            return Err(ExpressionError::Malformed);
+        };
+        GreenNode::new(alloc, kind, children).map_err(ExpressionError::of_tree)
+    }
+}

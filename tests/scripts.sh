@@ -1,0 +1,206 @@
+#!/usr/bin/env bash
+# Runs the program `syned` on scripts and compares what it prints and its exit status. tests/scripts has them:
+#   *.table            scripts with their answers
+#   bad_lines.txt      lines that are bad behind three good ones, each in a script of its own
+#   later_lines.txt    the same, of words and fields that are not there yet
+#   bad_first_lines.txt, bad_ends.txt    lines that are bad as the first one, and behind `finish`
+#   good_lines.txt     lines that change nothing
+set -euo pipefail
+cd "$(dirname "$0")/.."
+scripts=tests/scripts
+
+room=$(mktemp -d)
+trap 'rm -rf "$room"' EXIT
+
+# The gate leaves the program where `rt run` would make it; it is made where it is not there, or older than a source.
+program=crates/syned/out/syned
+if [ ! -x "$program" ] || [ -n "$(find crates -name out -prune -o -type f -newer "$program" -print -quit)" ]; then
+    (cd crates/syned && rt run) </dev/null >"$room/log" 2>&1 || [ -x "$program" ] || { cat "$room/log"; exit 1; }
+fi
+
+ran=0
+wrong=0
+
+# The exit status that goes with the answer in a file.
+status_of() {
+    case $(head -c 4 "$1") in
+    text) echo 0 ;;
+    refu) echo 1 ;;
+    bad*) echo 2 ;;
+    *) echo 3 ;;
+    esac
+}
+
+# Runs the script $room/script, whose answer is to be $room/answer; $1 says which script it is.
+try() {
+    local status=0 wanted
+    wanted=$(status_of "$room/answer")
+    timeout 20 "$program" <"$room/script" >"$room/out" || status=$?
+    ran=$((ran + 1))
+    if [ "$status" -ne "$wanted" ] || ! cmp -s "$room/answer" "$room/out"; then
+        wrong=$((wrong + 1))
+        echo "wrong: $1: status $status, $wanted is wanted; it printed, and should have printed:"
+        head -c 300 "$room/out"
+        head -c 300 "$room/answer"
+    fi
+}
+
+is_bad() {
+    echo "bad script line $1" >"$room/answer"
+    try "$2"
+}
+
+tables() {
+    local line name='' to
+    for table in "$scripts"/*.table; do
+        while IFS= read -r line || [ -n "$line" ]; do
+            case $line in
+            '== '*)
+                [ -z "$name" ] || try "$name"
+                name="$table: ${line#== }" to=$room/script
+                : >"$room/script"
+                : >"$room/answer"
+                ;;
+            '-- answer') to=$room/answer ;;
+            *)
+                # An empty line behind an answer ends it.
+                [ -z "$line" ] && [ "$to" = "$room/answer" ] || printf '%s\n' "$line" >>"$to"
+                ;;
+            esac
+        done <"$table"
+        try "$name"
+        name=''
+    done
+}
+
+opening='tree A (ARG_LIST L_PAREN"(" (LITERAL INT_NUMBER"1") COMMA"," WHITESPACE" " (LITERAL INT_NUMBER"2") R_PAREN")")
+edit R A
+tree U (SOURCE_FILE UNDERSCORE"_")'
+
+lines() {
+    local line
+    while IFS= read -r line; do
+        printf '%s\n%s\nfinish\n' "$opening" "$line" >"$room/script"
+        is_bad 4 "bad line $line"
+    done < <(cat "$scripts/bad_lines.txt" "$scripts/later_lines.txt")
+    while IFS= read -r line; do
+        printf '%s\nfinish\n' "$line" >"$room/script"
+        is_bad 1 "bad first line $line"
+    done <"$scripts/bad_first_lines.txt"
+    while IFS= read -r line; do
+        printf '%s\nfinish\n\n%s\nno\n' "$opening" "$line" >"$room/script"
+        is_bad 6 "behind the end $line"
+    done <"$scripts/bad_ends.txt"
+    while IFS= read -r line; do
+        printf '%s\n%s\nfinish\n' "$opening" "$line" >"$room/script"
+        printf 'text "(1, 2)"\nchanged\n' >"$room/answer"
+        try "good line $line"
+    done <"$scripts/good_lines.txt"
+}
+
+# Lines that end by a carriage return, a last line without its newline, and bytes that are no text.
+ends_of_lines() {
+    printf 'text "(1, 2)"\nchanged\n' >"$room/answer"
+    printf '%s\nfinish' "$opening" >"$room/script" && try 'no last newline'
+    printf '%s\nfinish\r' "$opening" >"$room/script" && try 'a carriage return and no last newline'
+    printf '%s\nfinish \r\n' "$opening" >"$room/script" && try 'a space before a carriage return'
+    printf '%s\nfinish\n\r\n# end\r' "$opening" >"$room/script" && try 'blank lines with carriage returns behind the end'
+    : >"$room/script" && is_bad 1 'no byte'
+    printf '\n' >"$room/script" && is_bad 2 'one newline'
+    printf '%s\nfinish\n\377' "$opening" >"$room/script" && is_bad 0 'no text behind the end'
+    printf 'no\n\300\200\n' >"$room/script" && is_bad 0 'no text behind a bad line'
+    printf '# \355\240\200\n' >"$room/script" && is_bad 0 'half a pair in a comment'
+    printf '# \303' >"$room/script" && is_bad 0 'half a character'
+}
+
+# A script cut behind each of its bytes. What is cut off from a line leaves it bad, but for a whole line and for
+# `replace R/1 U`; then the line behind it is missing.
+beginnings() {
+    local whole="$opening"$'\nreplace R/1 U/0\nfinish\n' size lines last
+    for ((size = 0; size < ${#whole}; size++)); do
+        printf '%s' "${whole:0:size}" >"$room/script"
+        lines=$(grep -c '' "$room/script" || true)
+        last=$(tail -n 1 "$room/script")
+        if [ "$last" = finish ]; then
+            printf 'text "(_, 2)"\nchanged 1\n' >"$room/answer"
+            try "the first $size bytes"
+        elif printf '%s\nreplace R/1 U\n' "$whole" | grep -qxF -- "$last" || [ "$lines" -eq 0 ]; then
+            is_bad $((lines + 1)) "the first $size bytes"
+        else
+            is_bad "$lines" "the first $size bytes"
+        fi
+    done
+}
+
+# So many nodes inside each other.
+nested() {
+    local open close
+    open=$(printf '(LITERAL %.0s' $(seq "$1"))
+    close=$(printf ')%.0s' $(seq "$1"))
+    printf 'tree A %s%s\nedit R A\nfinish\n' "$open" "$close"
+}
+
+# The limits of a script: parentheses that are open at once, and its length.
+limits() {
+    local limit=1048576 size
+    nested 200 >"$room/script"
+    printf 'text ""\nchanged\n' >"$room/answer" && try '200 parentheses'
+    nested 201 >"$room/script" && is_bad 1 '201 parentheses'
+    {
+        printf 'tree A (ARG_LIST'
+        printf '(ATTR)%.0s' $(seq 1000)
+        printf ')\nedit R A\nfinish\n'
+    } >"$room/script"
+    printf 'text ""\nchanged\n' >"$room/answer" && try '1000 parentheses, few of them at once'
+    {
+        printf '%s\n' "$opening"
+        for ((tree = 0; tree < 28000; tree++)); do printf 'tree T%d (LITERAL INT_NUMBER"1")\n' "$tree"; done
+        printf 'replace R/1 T27999/0\nfinish\n#'
+    } >"$room/long"
+    size=$(stat -c %s "$room/long")
+    { cat "$room/long" && head -c $((limit - size)) /dev/zero | tr '\0' ' '; } >"$room/script"
+    printf 'text "(1, 2)"\nchanged 1\n' >"$room/answer" && within_a_second 'a script of the greatest length'
+    printf ' ' >>"$room/script" && is_bad 0 'one byte more'
+    head -c $((8 * limit)) /dev/zero >"$room/script" && is_bad 0 'eight times as many bytes'
+    {
+        printf 'tree A (LITERAL COMMENT"'
+        head -c $((limit - 50)) /dev/zero | tr '\0' '\\'
+        printf '")\nedit R A\nfinish\n'
+    } >"$room/script"
+    {
+        printf 'text "'
+        head -c $((limit - 50)) /dev/zero | tr '\0' '\\'
+        printf '"\nchanged\n'
+    } >"$room/answer" && within_a_second 'one long text of backslashes'
+}
+
+within_a_second() {
+    local begun
+    begun=$(date +%s%N)
+    try "$1"
+    if [ $(($(date +%s%N) - begun)) -gt 1000000000 ]; then
+        wrong=$((wrong + 1))
+        echo "wrong: $1 takes more than a second"
+    fi
+}
+
+# A reader that fails at its first read, and a writer that fails or is full.
+ends() {
+    local status=0
+    printf '%s\nfinish\n' "$opening" >"$room/script"
+    "$program" </ >"$room/out" 2>&1 || status=$?
+    [ "$status" -eq 3 ] && [ ! -s "$room/out" ] || { wrong=$((wrong + 1)) && echo "wrong: a folder as input: status $status"; }
+    status=0
+    "$program" <"$room/script" >/dev/full 2>"$room/out" || status=$?
+    [ "$status" -eq 3 ] && [ ! -s "$room/out" ] || { wrong=$((wrong + 1)) && echo "wrong: a full output: status $status"; }
+    ran=$((ran + 2))
+}
+
+tables
+lines
+ends_of_lines
+beginnings
+limits
+ends
+echo "scripts: $((ran - wrong)) of $ran answers as expected"
+[ "$wrong" -eq 0 ]
