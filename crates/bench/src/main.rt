@@ -51,52 +51,98 @@ fn tokens_backwards(alloc: Global, root: &SyntaxNode) -> Result<usize> {
     Ok(count)
 }
 
+// What is measured.
+#[derive(Clone, Copy)]
+enum Work {
+    FlatBuilt,
+    FlatChildren,
+    FlatTokens,
+    ChainBuilt,
+    ChainDescendants,
+}
+
+impl Work {
+    fn name(self) -> &'static str {
+        match self {
+            Work::FlatBuilt => "flat node built",
+            Work::FlatChildren => "flat node's children",
+            Work::FlatTokens => "flat node's tokens, backwards",
+            Work::ChainBuilt => "chain built",
+            Work::ChainDescendants => "chain's descendants",
+        }
+    }
+}
+
+fn report_timed<R: Print + Clock>(
+    rt: &R,
+    start: Instant,
+    what: &str,
+    elements: usize,
+) -> Result<()> {
+    let nanoseconds = start.elapsed(rt)?.as_nanos();
+    println!(rt; "{what}: {elements} elements, {nanoseconds} ns")?;
+    Ok(())
+}
+
+fn report_count<R: Print>(rt: &R, what: &str, elements: usize) -> Result<()> {
+    println!(rt; "{what}: {elements} elements")?;
+    Ok(())
+}
+
 // Prints what was done to how many elements, and how long it took since `start` where that is asked for.
 fn report<R: Print + Clock>(
     rt: &R,
     timed: bool,
     start: Instant,
-    what: &str,
+    work: Work,
     elements: usize,
 ) -> Result<()> {
     if timed {
-        let nanoseconds = start.elapsed(rt)?.as_nanos();
-        println!(rt; "{what}: {elements} elements, {nanoseconds} ns")?;
+        report_timed(rt, start, work.name(), elements)
     } else {
-        println!(rt; "{what}: {elements} elements")?;
+        report_count(rt, work.name(), elements)
     }
-    Ok(())
+}
+
+fn measure_flat<R: Print + Clock>(
+    rt: &R,
+    alloc: Global,
+    ids: &mut TreeIds,
+    timed: bool,
+) -> Result<()> {
+    let start = Instant::now(rt)?;
+    let root = SyntaxNode::new_root(alloc, ids, flat(alloc)?)?;
+    let built = root.as_green().children().len();
+    report(rt, timed, start, Work::FlatBuilt, built)?;
+
+    let start = Instant::now(rt)?;
+    let children = root.children_with_tokens(alloc)?;
+    report(rt, timed, start, Work::FlatChildren, children.len())?;
+
+    let start = Instant::now(rt)?;
+    let tokens = tokens_backwards(alloc, &root)?;
+    report(rt, timed, start, Work::FlatTokens, tokens)
+}
+
+fn measure_chain<R: Print + Clock>(
+    rt: &R,
+    alloc: Global,
+    ids: &mut TreeIds,
+    timed: bool,
+) -> Result<()> {
+    let start = Instant::now(rt)?;
+    let root = SyntaxNode::new_root(alloc, ids, chain(alloc)?)?;
+    report(rt, timed, start, Work::ChainBuilt, CHAIN_NODES)?;
+
+    let start = Instant::now(rt)?;
+    let nodes = root.descendants(alloc)?;
+    report(rt, timed, start, Work::ChainDescendants, nodes.len())
 }
 
 fn run<R: Print + Clock>(rt: &R, alloc: Global, timed: bool) -> Result<()> {
     let mut ids = TreeIds::new(1);
-
-    let start = Instant::now(rt)?;
-    let root = SyntaxNode::new_root(alloc, &mut ids, flat(alloc)?)?;
-    report(
-        rt,
-        timed,
-        start,
-        "flat node built",
-        root.as_green().children().len(),
-    )?;
-
-    let start = Instant::now(rt)?;
-    let children = root.children_with_tokens(alloc)?;
-    report(rt, timed, start, "flat node's children", children.len())?;
-
-    let start = Instant::now(rt)?;
-    let tokens = tokens_backwards(alloc, &root)?;
-    report(rt, timed, start, "flat node's tokens, backwards", tokens)?;
-
-    let start = Instant::now(rt)?;
-    let root = SyntaxNode::new_root(alloc, &mut ids, chain(alloc)?)?;
-    report(rt, timed, start, "chain built", CHAIN_NODES)?;
-
-    let start = Instant::now(rt)?;
-    let nodes = root.descendants(alloc)?;
-    report(rt, timed, start, "chain's descendants", nodes.len())?;
-    Ok(())
+    measure_flat(rt, alloc, &mut ids, timed)?;
+    measure_chain(rt, alloc, &mut ids, timed)
 }
 
 fn is_timed(rt: &(impl Env + Alloc)) -> Result<bool> {
