@@ -1,3 +1,4 @@
+use crate::call::Call;
 use crate::report::Report;
 use crate::trees::Trees;
 use std::alloc::Global;
@@ -14,25 +15,33 @@ pub fn make_calls<R: Print>(
     let is_right = element
         .path(alloc)
         .map_or(true, |path| path.as_slice() == [4].as_slice());
-    report.note(rt, "SyntaxElement::path", is_right && trees.are_as_before())?;
+    report.note(
+        rt,
+        Call::SyntaxElementPath,
+        is_right && trees.are_as_before(),
+    )?;
     let is_right = element
         .green(alloc)
         .map_or(true, |green| green.length() == 1);
     report.note(
         rt,
-        "SyntaxElement::green",
+        Call::SyntaxElementGreen,
         is_right && trees.are_as_before(),
     )?;
     let is_right = element
         .text(alloc)
         .map_or(true, |text| text.as_str() == "2");
-    report.note(rt, "SyntaxElement::text", is_right && trees.are_as_before())?;
+    report.note(
+        rt,
+        Call::SyntaxElementText,
+        is_right && trees.are_as_before(),
+    )?;
     let is_right = element
         .try_clone(alloc)
         .map_or(true, |copy| copy == *element);
     report.note(
         rt,
-        "SyntaxElement::try_clone",
+        Call::SyntaxElementTryClone,
         is_right && trees.are_as_before(),
     )?;
     let is_right = element
@@ -40,7 +49,7 @@ pub fn make_calls<R: Print>(
         .map_or(true, |top| top == trees.root);
     report.note(
         rt,
-        "SyntaxElement::tree_top",
+        Call::SyntaxElementTreeTop,
         is_right && trees.are_as_before(),
     )?;
     let parent = element.parent(alloc);
@@ -50,21 +59,21 @@ pub fn make_calls<R: Print>(
     );
     report.note(
         rt,
-        "SyntaxElement::parent",
+        Call::SyntaxElementParent,
         is_right && trees.are_as_before(),
     )?;
     let next = element.next_sibling_or_token(alloc);
     let is_right = next.map_or(true, |next| next.is_some_and(|next| next.index() == 5));
     report.note(
         rt,
-        "SyntaxElement::next_sibling_or_token",
+        Call::SyntaxElementNextSiblingOrToken,
         is_right && trees.are_as_before(),
     )?;
     let prev = element.prev_sibling_or_token(alloc);
     let is_right = prev.map_or(true, |prev| prev.is_some_and(|prev| prev.index() == 3));
     report.note(
         rt,
-        "SyntaxElement::prev_sibling_or_token",
+        Call::SyntaxElementPrevSiblingOrToken,
         is_right && trees.are_as_before(),
     )
 }

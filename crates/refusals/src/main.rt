@@ -3,6 +3,7 @@
 //! (`tests/refuse_growths.sh`).
 #![tactic(auto)]
 
+mod call;
 mod elements;
 mod green;
 mod nodes;

@@ -1,3 +1,4 @@
+use crate::call::Call;
 use crate::report::Report;
 use crate::trees::Trees;
 use std::alloc::Global;
@@ -14,21 +15,21 @@ pub fn make_calls<R: Print>(
     let is_right = node
         .path(alloc)
         .map_or(true, |path| path.as_slice() == [1].as_slice());
-    report.note(rt, "SyntaxNode::path", is_right && trees.are_as_before())?;
+    report.note(rt, Call::SyntaxNodePath, is_right && trees.are_as_before())?;
     let is_right = node.green(alloc).map_or(true, |green| green.length() == 1);
-    report.note(rt, "SyntaxNode::green", is_right && trees.are_as_before())?;
+    report.note(rt, Call::SyntaxNodeGreen, is_right && trees.are_as_before())?;
     let is_right = node.text(alloc).map_or(true, |text| text.as_str() == "1");
-    report.note(rt, "SyntaxNode::text", is_right && trees.are_as_before())?;
+    report.note(rt, Call::SyntaxNodeText, is_right && trees.are_as_before())?;
     let is_right = node.try_clone(alloc).map_or(true, |copy| copy == *node);
     report.note(
         rt,
-        "SyntaxNode::try_clone",
+        Call::SyntaxNodeTryClone,
         is_right && trees.are_as_before(),
     )?;
     let is_right = node.tree_top(alloc).map_or(true, |top| top == trees.root);
     report.note(
         rt,
-        "SyntaxNode::tree_top",
+        Call::SyntaxNodeTreeTop,
         is_right && trees.are_as_before(),
     )?;
     let parent = node.parent(alloc);
@@ -36,19 +37,23 @@ pub fn make_calls<R: Print>(
         true,
         |parent| parent.is_some_and(|parent| parent == trees.root),
     );
-    report.note(rt, "SyntaxNode::parent", is_right && trees.are_as_before())?;
+    report.note(
+        rt,
+        Call::SyntaxNodeParent,
+        is_right && trees.are_as_before(),
+    )?;
     let next = node.next_sibling_or_token(alloc);
     let is_right = next.map_or(true, |next| next.is_some_and(|next| next.index() == 2));
     report.note(
         rt,
-        "SyntaxNode::next_sibling_or_token",
+        Call::SyntaxNodeNextSiblingOrToken,
         is_right && trees.are_as_before(),
     )?;
     let prev = node.prev_sibling_or_token(alloc);
     let is_right = prev.map_or(true, |prev| prev.is_some_and(|prev| prev.index() == 0));
     report.note(
         rt,
-        "SyntaxNode::prev_sibling_or_token",
+        Call::SyntaxNodePrevSiblingOrToken,
         is_right && trees.are_as_before(),
     )
 }
@@ -63,7 +68,7 @@ pub fn walk<R: Print>(rt: &R, alloc: Global, trees: &Trees, report: &mut Report)
     );
     report.note(
         rt,
-        "SyntaxNode::element_at",
+        Call::SyntaxNodeElementAt,
         is_right && trees.are_as_before(),
     )?;
     let is_right = node
@@ -71,35 +76,35 @@ pub fn walk<R: Print>(rt: &R, alloc: Global, trees: &Trees, report: &mut Report)
         .map_or(true, |children| children.len() == 2);
     report.note(
         rt,
-        "SyntaxNode::children",
+        Call::SyntaxNodeChildren,
         is_right && trees.are_as_before(),
     )?;
     let children = node.children_with_tokens(alloc);
     let is_right = children.map_or(true, |children| children.len() == 6);
     report.note(
         rt,
-        "SyntaxNode::children_with_tokens",
+        Call::SyntaxNodeChildrenWithTokens,
         is_right && trees.are_as_before(),
     )?;
     let first = node.first_child_or_token(alloc);
     let is_right = first.map_or(true, |first| first.is_some_and(|first| first.index() == 0));
     report.note(
         rt,
-        "SyntaxNode::first_child_or_token",
+        Call::SyntaxNodeFirstChildOrToken,
         is_right && trees.are_as_before(),
     )?;
     let last = node.last_child_or_token(alloc);
     let is_right = last.map_or(true, |last| last.is_some_and(|last| last.index() == 5));
     report.note(
         rt,
-        "SyntaxNode::last_child_or_token",
+        Call::SyntaxNodeLastChildOrToken,
         is_right && trees.are_as_before(),
     )?;
     let first = node.first_token(alloc);
     let is_right = first.map_or(true, |first| first.is_some_and(|first| first.text() == "("));
     report.note(
         rt,
-        "SyntaxNode::first_token",
+        Call::SyntaxNodeFirstToken,
         is_right && trees.are_as_before(),
     )?;
     let is_right = node
@@ -107,7 +112,7 @@ pub fn walk<R: Print>(rt: &R, alloc: Global, trees: &Trees, report: &mut Report)
         .map_or(true, |nodes| nodes.len() == 3);
     report.note(
         rt,
-        "SyntaxNode::descendants",
+        Call::SyntaxNodeDescendants,
         is_right && trees.are_as_before(),
     )
 }

@@ -1,3 +1,4 @@
+use crate::call::Call;
 use std::io;
 use std::process::ExitCode;
 
@@ -14,11 +15,12 @@ impl Report {
     }
 
     /// Counts a call, and prints its name if its answer was not as it must be.
-    pub fn note<R: Print>(&mut self, rt: &R, call: &str, is_right: bool) -> io::Result<()> {
+    pub fn note<R: Print>(&mut self, rt: &R, call: Call, is_right: bool) -> io::Result<()> {
         self.calls = self.calls.saturating_add(1);
         if !is_right {
             self.wrong = self.wrong.saturating_add(1);
-            println!(rt; "wrong: {call}")?;
+            let name = call.name();
+            println!(rt; "wrong: {name}")?;
         }
         Ok(())
     }

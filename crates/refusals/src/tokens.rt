@@ -1,3 +1,4 @@
+use crate::call::Call;
 use crate::report::Report;
 use crate::trees::Trees;
 use std::alloc::Global;
@@ -14,19 +15,23 @@ pub fn make_calls<R: Print>(
     let is_right = token
         .path(alloc)
         .map_or(true, |path| path.as_slice() == [5].as_slice());
-    report.note(rt, "SyntaxToken::path", is_right && trees.are_as_before())?;
+    report.note(rt, Call::SyntaxTokenPath, is_right && trees.are_as_before())?;
     let is_right = token.green(alloc).map_or(true, |green| green.text() == ")");
-    report.note(rt, "SyntaxToken::green", is_right && trees.are_as_before())?;
+    report.note(
+        rt,
+        Call::SyntaxTokenGreen,
+        is_right && trees.are_as_before(),
+    )?;
     let is_right = token.try_clone(alloc).map_or(true, |copy| copy == *token);
     report.note(
         rt,
-        "SyntaxToken::try_clone",
+        Call::SyntaxTokenTryClone,
         is_right && trees.are_as_before(),
     )?;
     let is_right = token.tree_top(alloc).map_or(true, |top| top == trees.root);
     report.note(
         rt,
-        "SyntaxToken::tree_top",
+        Call::SyntaxTokenTreeTop,
         is_right && trees.are_as_before(),
     )?;
     let parent = token.parent(alloc);
@@ -34,27 +39,31 @@ pub fn make_calls<R: Print>(
         true,
         |parent| parent.is_some_and(|parent| parent == trees.root),
     );
-    report.note(rt, "SyntaxToken::parent", is_right && trees.are_as_before())?;
+    report.note(
+        rt,
+        Call::SyntaxTokenParent,
+        is_right && trees.are_as_before(),
+    )?;
     let is_right = token
         .next_sibling_or_token(alloc)
         .map_or(true, |next| next.is_none());
     report.note(
         rt,
-        "SyntaxToken::next_sibling_or_token",
+        Call::SyntaxTokenNextSiblingOrToken,
         is_right && trees.are_as_before(),
     )?;
     let prev = token.prev_sibling_or_token(alloc);
     let is_right = prev.map_or(true, |prev| prev.is_some_and(|prev| prev.index() == 4));
     report.note(
         rt,
-        "SyntaxToken::prev_sibling_or_token",
+        Call::SyntaxTokenPrevSiblingOrToken,
         is_right && trees.are_as_before(),
     )?;
     let prev = token.prev_token(alloc);
     let is_right = prev.map_or(true, |prev| prev.is_some_and(|prev| prev.text() == "2"));
     report.note(
         rt,
-        "SyntaxToken::prev_token",
+        Call::SyntaxTokenPrevToken,
         is_right && trees.are_as_before(),
     )
 }

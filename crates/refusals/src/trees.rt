@@ -1,5 +1,6 @@
 //! The trees that the calls are made on, and the calls that make trees.
 
+use crate::call::Call;
 use crate::report::Report;
 use cst_core::{GreenNode, SyntaxElement, SyntaxNode, SyntaxToken, TreeError, TreeIds};
 use row_trees::row;
@@ -64,7 +65,7 @@ pub fn make_trees<R: Print>(
     };
     report.note(
         rt,
-        "SyntaxNode::clone_subtree",
+        Call::SyntaxNodeCloneSubtree,
         is_right && trees.are_as_before(),
     )?;
 
@@ -76,5 +77,5 @@ pub fn make_trees<R: Print>(
         Ok(root) => Some(root.tree()) == next && root.text_len() == 6,
         Err(error) => error == TreeError::Memory && trees.ids.peek() == next,
     };
-    report.note(rt, "SyntaxNode::new_root", is_right)
+    report.note(rt, Call::SyntaxNodeNewRoot, is_right)
 }
