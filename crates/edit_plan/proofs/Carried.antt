@@ -4,6 +4,7 @@
 --     more-trees, table-is             what the changes bring, one change after another
 --     independents-to                  the changes without an owner, of the first so many
 --     one-more, one-dropped            one change more
+--     own-aim                          where a change aims, by its own path
 use Rattle.std.specs.Prelude.{◌≡◌, ℕ, zero, suc, ◌+◌, ◌-◌, ◌<◌, ◌≤◌, true, false, cond, not, ◌&&◌, List, [], ◌∷◌, ◌++◌, map, filter, length, take, slice_get, Vec, Some, None, option_map, is_none, refl}
 use Rattle.std.specs.Global.{Global}
 use Rattle.std.specs.List.{enumerate_from}
@@ -26,13 +27,18 @@ use Rattle.rewriting.specs.Aimed.{siblings_from}
 use Rattle.rewriting.specs.Pass.{given_by}
 use Rattle.rewriting.specs.Rewriting.{NumberedAim}
 use Rattle.green_tree.specs.declared.green.GreenElement.{GreenElement}
-use Rattle.edit_plan.specs.Aim.{aim}
+use Rattle.edit_plan.specs.Aim.{position_aim, aim}
+use Rattle.edit_plan.specs.Position.{anchor}
+use Rattle.edit_plan.specs.Owned.{aim_path, position_aim_from, aim_from}
+use Rattle.edit_plan.specs.declared.position.Position.{Position}
+use Rattle.edit_plan.specs.declared.position.PositionForm.TheVariants.{FirstChild, After}
+use Rattle.rewriting.specs.Aim.{Over}
 use Rattle.edit_plan.specs.Change.{payload}
 use Rattle.edit_plan.specs.Fits.{Fits, is_native, is_root, is_range}
 use Rattle.edit_plan.specs.Nesting.{owner, is_dropped, is_independent, first_nested}
 use Rattle.edit_plan.specs.Rewriting.{aims_of, payload_of}
 use Rattle.edit_plan.specs.declared.change.Change.{Change}
-use Rattle.edit_plan.specs.declared.change.Change.TheVariants.{ReplaceAll}
+use Rattle.edit_plan.specs.declared.change.Change.TheVariants.{Insert, InsertAll, Replace, ReplaceWithMany, ReplaceAll}
 use Rattle.edit_plan.proofs.Around.{unowned-at}
 
 -- ---- targets
@@ -93,7 +99,7 @@ table-is vs cs is c =
 abbrev pub independents-to : List Change → ℕ → List NumberedAim
 independents-to cs n = aims_of (filter (λ d. is_independent cs d.1) (enumerate_from 0 (take n cs)))
 
-enumerate-push : {X : Type 0} (k : ℕ) (xs : List X) (x : X) → enumerate_from k (xs ++ x ∷ []) ≡ enumerate_from k xs ++ (k + length xs, x) ∷ []
+pub enumerate-push : {X : Type 0} (k : ℕ) (xs : List X) (x : X) → enumerate_from k (xs ++ x ∷ []) ≡ enumerate_from k xs ++ (k + length xs, x) ∷ []
 enumerate-push k [] x = let e : k ≡ k + 0 = omega arith in ap (λ n. (n, x) ∷ []) e
 enumerate-push k (y ∷ xs) x =
     let e : (k + 1) + length xs ≡ k + suc (length xs) = omega arith in
@@ -139,3 +145,16 @@ module _ (cs xs ys : List Change) (all : xs ≡ cs) (again : ys ≡ cs) (i : ℕ
   pub dropped-turn : is_dropped ys c ≡ true → (before now : List NumberedAim) → before ≡ independents-to cs i → now ≡ before → now ≡ independents-to cs (i + 1)
   dropped-turn gone before now was stays =
       stays ∙ was ∙ sym (one-dropped cs i c below at_i (unowned-at cs i c none below at_i) (ap (λ ds. is_dropped ds c) (sym again) ∙ gone))
+
+-- ---- where a change aims, by its own path
+own-position : (at : Position) → position_aim_from (anchor at).path at ≡ position_aim at
+own-position (FirstChild n) = refl
+own-position (After e) = refl
+
+pub own-aim : (root : Element) (c : Change) → Fits root c → aim_from (aim_path c) c ≡ aim c
+own-aim root (Insert at e) fits = own-position at
+own-aim root (InsertAll at es) fits = own-position at
+own-aim root (Replace t e) fits = ap Over (one-sibling (element_of t).path)
+own-aim root (ReplaceWithMany t es) fits = ap Over (one-sibling (element_of t).path)
+own-aim root (ReplaceAll first last es) fits =
+    ap Over (range-siblings (element_of first).path (element_of last).path (suc (last_slot (element_of last).path) - last_slot (element_of first).path) (range-has-parent root first last es fits) refl)

@@ -12,6 +12,8 @@ pub mod Siblings
 mod Around
 mod Clashes
 mod Carried
+mod Moved
+mod Nested
 mod GapRule
 mod Edits
 mod Owners
@@ -19,6 +21,7 @@ mod Settled
 mod Untold
 mod Filled
 mod Unowned
+mod Brought
 mod Whole
 mod Carrying
 mod Leading

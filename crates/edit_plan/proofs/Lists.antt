@@ -1,9 +1,10 @@
 -- Facts of all elements of a list, and filters.
-use Rattle.std.specs.Prelude.{◌≡◌, ℕ, suc, ◌+◌, Bool, true, cond, List, [], ◌∷◌, ◌++◌, filter, flat_map, slice_get, Some, refl}
+use Rattle.std.specs.Prelude.{◌≡◌, ◌≢◌, ◌<◌, ℕ, zero, suc, ◌+◌, length, Bool, true, cond, List, [], ◌∷◌, ◌++◌, filter, flat_map, slice_get, Some, refl}
 use Rattle.std.specs.List.{AllByRecursion, enumerate_from}
 use Rattle.std.proofs.Common.{ap, ap₂, sym, subst, ◌∙◌, arith}
 use Rattle.std.proofs.lemmas.Bool.{cases_Bool}
 use Rattle.std.proofs.lemmas.Option.{same_Some}
+use Rattle.std.proofs.Math.ListN.{set}
 use mathlib.Core.Logic.{inl, inr}
 use Rattle.cst_core.specs.Path.{last_item}
 
@@ -42,3 +43,16 @@ all_enumerated xs = enumerated xs 0 xs (λ j x s. let same : 0 + j ≡ j = omega
 pub flat_map-agree : {X Y : Type 0} (f g : X → List Y) (xs : List X) → AllByRecursion (λ x. f x ≡ g x) xs → flat_map f xs ≡ flat_map g xs
 flat_map-agree f g [] a = refl
 flat_map-agree f g (x ∷ xs) a = ap₂ (λ u v. u ++ v) a.0 (flat_map-agree f g xs a.1)
+
+-- ---- one item exchanged
+pub slice_get-set_same : {X : Type 0} (xs : List X) (i : ℕ) (x : X) → i < length xs → slice_get (set xs i x) i ≡ Some x
+slice_get-set_same [] i x l = absurd (omega (arith, l))
+slice_get-set_same (y ∷ xs) zero x l = refl
+slice_get-set_same (y ∷ xs) (suc i) x l = slice_get-set_same xs i x (omega (arith, l))
+
+pub slice_get-set_other : {X : Type 0} (xs : List X) (i j : ℕ) (x : X) → j ≢ i → slice_get (set xs i x) j ≡ slice_get xs j
+slice_get-set_other [] i j x other = refl
+slice_get-set_other (y ∷ xs) zero zero x other = absurd (other refl)
+slice_get-set_other (y ∷ xs) zero (suc j) x other = refl
+slice_get-set_other (y ∷ xs) (suc i) zero x other = refl
+slice_get-set_other (y ∷ xs) (suc i) (suc j) x other = slice_get-set_other xs i j x (λ same. other (ap suc same))

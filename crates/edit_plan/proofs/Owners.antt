@@ -1,5 +1,4 @@
 -- An owner is less deep than what it owns, so the chain of owners ends.
---     depth                         of a change: more than the lengths of the paths around it, and no more than those of its region
 --     owner_cases, owner_from       what an owner is; the owner, from the test
 --     owner_region                  the region of an owner has one of the surroundings of what it owns
 --     owner_is_above                an owner is less deep than what it owns
@@ -20,18 +19,12 @@ use Rattle.cst_core.specs.SyntaxElement.{element_of}
 use Rattle.cst_core.specs.declared.element.SyntaxElement.{SyntaxElement}
 use Rattle.cst_core.specs.declared.element.SyntaxElement.TheVariants.{Node, Token}
 use Rattle.edit_plan.specs.Position.{anchor}
+use Rattle.edit_plan.specs.Owned.{depth, depth_of}
 use Rattle.edit_plan.specs.Nesting.{region, region_of_one, surroundings, is_dropped, region_at, owner, has_owner}
 use Rattle.edit_plan.specs.declared.change.Change.{Change}
 use Rattle.edit_plan.specs.declared.change.Change.TheVariants.{Insert, InsertAll, Replace, ReplaceWithMany, ReplaceAll}
 use Rattle.edit_plan.proofs.Lists.{all-append, all_last, all_weaker}
 use Rattle.edit_plan.proofs.Paths.{same_path-true}
-
-abbrev pub depth : Change → ℕ
-depth (Insert at e) = suc (length (anchor at).path)
-depth (InsertAll at es) = suc (length (anchor at).path)
-depth (Replace t e) = length (element_of t).path
-depth (ReplaceWithMany t es) = length (element_of t).path
-depth (ReplaceAll first last es) = length (element_of first).path
 
 all_map_cons : (i n : ℕ) (ps : List Path) → AllByRecursion (λ q. length q < n) ps → AllByRecursion (λ q. length q < suc n) (map (λ q. i ∷ q) ps)
 all_map_cons i n [] a = tt
@@ -124,7 +117,7 @@ module _ (P : Path → Type 0) (cs : List Change) where
   owner_region d c all h =
       all_last (HasRegion P cs) (filter_map (region_at cs) (surroundings d)) c (all_region_at (surroundings d) all) (owner_cases cs d c h).1
 
-owner_is_above : (cs : List Change) (d : Change) (c : ℕ) → owner cs d ≡ Some c → (r : Change) × (slice_get cs c ≡ Some r) × (depth r < depth d)
+pub owner_is_above : (cs : List Change) (d : Change) (c : ℕ) → owner cs d ≡ Some c → (r : Change) × (slice_get cs c ≡ Some r) × (depth r < depth d)
 owner_is_above cs d c h =
     let found : HasRegion (λ q. length q < depth d) cs c = owner_region (λ q. length q < depth d) cs d c (surroundings_are_above d) h in
     (found.0, found.2, omega (arith, region_is_below found.0 found.1 found.3, found.4))
@@ -172,9 +165,6 @@ rank_in_less m (r ∷ rs) (suc j) d h l =
         | inr k' ↦ omega (arith, rank_no (depth d) r rs k, rank_no m r rs k', rank_in_less m rs j d h l)
       ]
     ]
-
-abbrev depth_of : List Change → ℕ → ℕ
-depth_of changes c = option_map_or depth (slice_get changes c) 0
 
 abbrev pub rank : List Change → ℕ → ℕ
 rank changes c = rank_in (depth_of changes c) changes

@@ -56,7 +56,7 @@ all_numbers-map P f [] a = tt
 all_numbers-map P f (x ∷ xs) a = (a.0, all_numbers-map P f xs a.1)
 
 module _ (changes : List Change) (places : ℕ → Path) where
-  all_owned : (P : ℕ → Type 0) (c : ℕ) → ((i : ℕ) (d : Change) → slice_get changes i ≡ Some d → owner changes d ≡ Some c → P i) → AllByRecursion P (numbers (dependents changes places c))
+  pub all_owned : (P : ℕ → Type 0) (c : ℕ) → ((i : ℕ) (d : Change) → slice_get changes i ≡ Some d → owner changes d ≡ Some c → P i) → AllByRecursion P (numbers (dependents changes places c))
   all_owned P c holds =
       let target = unwrap_or (first_item (targets_of changes c)) [] in
       let owned = all_filter (λ d. slice_get changes d.0 ≡ Some d.1) (λ d. has_owner changes c d.1) (enumerate_from 0 changes) (all_enumerated changes) in

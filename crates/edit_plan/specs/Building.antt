@@ -1,5 +1,5 @@
 -- Plans and the edits that they make, as contracts see them, and what is refused.
---     Plan, IsPlan                  the root and the changes; what is true of every plan
+--     Plan, IsPlan                  the root, the changes and the mapping; what is true of every plan
 --     BuildRefuses                  why a plan is not built
 --     Edit                          the old root, the new root, and the changed elements
 --     Makes                         the edit is what the plan makes of the old tree, under a tree number
@@ -9,42 +9,47 @@ use Rattle.std.specs.Prelude.{◌≡◌, ℕ, List, [], ◌∷◌, map, Some, No
 use Rattle.std.specs.Coded.{Coded, code_by, coded_list, coded×}
 use Rattle.cst_core.specs.Path.{Path}
 use Rattle.cst_core.specs.Tree.{SyntaxTree}
-use Rattle.cst_core.specs.Element.{Element, IsNode, element_code}
+use Rattle.cst_core.specs.Element.{Element, IsNode, NumbersTell, element_code}
 use Rattle.cst_core.specs.SyntaxElement.{syntax_at}
 use Rattle.cst_core.specs.TreeIds.{IsSpent}
 use Rattle.cst_core.specs.declared.element.SyntaxElement.{SyntaxElement}
 use Rattle.edit_plan.specs.Codes.{syntax_element_code}
 use Rattle.edit_plan.specs.ChangeCodes.{change_code}
 use Rattle.edit_plan.specs.Fits.{Fits}
-use Rattle.edit_plan.specs.Nesting.{first_clash, first_nested}
+use Rattle.edit_map.specs.Mapping.{Mapping, IsRising}
+use Rattle.edit_plan.specs.Nesting.{first_clash}
 use Rattle.edit_plan.specs.Rewriting.{OriginTree, plain, is_free, new_tree}
 use Rattle.edit_plan.specs.Results.{changed}
-use Rattle.edit_plan.specs.Plan.{ArePlaces, IsTooLong, IsRewriting}
+use Rattle.edit_plan.specs.Plan.{IsFirstUnplaced, ArePlaces, elements_held, IsTooLong, IsRewriting}
 use Rattle.edit_plan.specs.declared.change.Change.{Change}
 use Rattle.edit_plan.specs.declared.edit_error.EditError.{EditError}
-use Rattle.edit_plan.specs.declared.edit_error.EditError.TheVariants.{Intersecting, Nested, TooLong, NoTreeNumber, Memory}
+use Rattle.edit_plan.specs.declared.edit_error.EditError.TheVariants.{Intersecting, MissingMapping, TooLong, NoTreeNumber, Memory}
 
 pub record Plan : Type 0 where
   pub root : Element
   pub changes : List Change
+  pub mapping : Mapping
 
 -- the code by which a plan is a model's value
 abbrev pub plan_code : Coded Plan
-plan_code = code_by (Element × List Change) (coded× element_code (coded_list change_code)) (λ p. (p.root, p.changes)) (λ q. record { root = q.0; changes = q.1 }) (λ _. refl)
+plan_code = code_by (Element × (List Change × Mapping)) (coded× element_code (coded× (coded_list change_code) (coded_list (coded× element_code element_code)))) (λ p. (p.root, (p.changes, p.mapping))) (λ q. record { root = q.0; changes = q.1.0; mapping = q.1.1 }) (λ _. refl)
 
 pub record IsPlan (p : Plan) : Type 0 where
   pub is_root : p.root.path ≡ []
   pub is_node : IsNode p.root
   pub fit : All (Fits p.root) p.changes
+  pub rises : IsRising p.mapping
   pub apart : first_clash p.changes ≡ None
-  pub unowned : first_nested p.changes ≡ None
+  pub places : ℕ → Path
+  pub placed : ArePlaces p.mapping p.changes places
 
-abbrev pub BuildRefuses : List Change → EditError → Type 0
-BuildRefuses changes (Intersecting first second) = first_clash changes ≡ Some (first, second)
-BuildRefuses changes (Nested change) = (first_clash changes ≡ None) × (first_nested changes ≡ Some change)
-BuildRefuses changes TooLong = ⊥
-BuildRefuses changes NoTreeNumber = ⊥
-BuildRefuses changes Memory = Unit {0}
+-- That the first change without a place is named is promised where equal numbers have equal trees.
+abbrev pub BuildRefuses : Plan → EditError → Type 0
+BuildRefuses p (Intersecting first second) = first_clash p.changes ≡ Some (first, second)
+BuildRefuses p (MissingMapping change owner) = (first_clash p.changes ≡ None) × (NumbersTell (elements_held p.root p.changes [] p.mapping) → IsFirstUnplaced p.mapping p.changes change owner)
+BuildRefuses p TooLong = ⊥
+BuildRefuses p NoTreeNumber = ⊥
+BuildRefuses p Memory = Unit {0}
 
 pub record Edit : Type 0 where
   pub old_root : Element
@@ -60,11 +65,11 @@ pub record Makes (p : Plan) (number : ℕ) (e : Edit) : Type 0 where
   pub is_root : e.new_root.path ≡ []
   pub changed_paths : List Path
   pub changed_are : map Some e.changed ≡ map (syntax_at e.new_root) changed_paths
-  pub is_rewriting : IsRewriting p.root p.changes [] [] e.new_root.root changed_paths []
+  pub is_rewriting : IsRewriting p.root p.changes [] p.mapping e.new_root.root changed_paths []
 
 pub record WouldMake (p : Plan) (made : OriginTree) : Type 0 where
   pub places : ℕ → Path
-  pub are_places : ArePlaces [] p.changes places
+  pub are_places : ArePlaces p.mapping p.changes places
   pub is_new : new_tree p.changes places p.root ≡ made ∷ []
 
 -- the tree and the changed paths in it
@@ -76,7 +81,7 @@ pub record IsRewritten (p : Plan) (tree : SyntaxTree) (changed_paths : List Path
 
 abbrev pub RunRefuses : Plan → ℕ → EditError → Type 0
 RunRefuses p next (Intersecting first second) = ⊥
-RunRefuses p next (Nested change) = ⊥
+RunRefuses p next (MissingMapping change owner) = ⊥
 RunRefuses p next TooLong = (made : OriginTree) × WouldMake p made × IsTooLong made
 RunRefuses p next NoTreeNumber = (made : OriginTree) × WouldMake p made × (IsTooLong made → ⊥) × IsSpent next
 RunRefuses p next Memory = Unit {0}

@@ -1,13 +1,13 @@
-ghost use Rattle.std.specs.Prelude.{◌≡◌, ◌≢◌, ℕ, [], ◌∷◌, map, IfOk, IfSome};
+ghost use Rattle.std.specs.Prelude.{◌≡◌, ◌<◌, ◌-◌, ◌^◌, suc, [], ◌∷◌, map, IfOk, IfSome};
 ghost use Rattle.cst_core.specs.Element.{Element, subtree};
 ghost use Rattle.cst_core.specs.GreenElement.{element_trees};
 ghost use Rattle.cst_core.specs.SyntaxElement.{element_of};
-ghost use Rattle.cst_core.specs.Path.{siblings};
-ghost use Rattle.rewriting.specs.Aim.{Over};
+ghost use Rattle.cst_core.specs.Path.{last_slot};
 ghost use Rattle.rewriting.specs.Aimed.{numbered};
-ghost use Rattle.edit_plan.specs.Aim.{aim, position_aim};
+ghost use Rattle.edit_plan.specs.Aim.{aim};
 ghost use Rattle.edit_plan.specs.Change.{payload};
 ghost use Rattle.edit_plan.specs.Fits.{Fits};
+ghost use Rattle.edit_plan.specs.Owned.{aim_path, aim_from, position_aim_from, depth};
 
 use crate::change::Change;
 use crate::position::Position;
@@ -17,34 +17,69 @@ use rewriting::Aimed;
 use std::alloc::{AllocError, Global};
 
 impl Position {
-    // Where an insert at this position aims.
-    fn aimed(&self, number: usize) -> Aimed<'_>
-        ensures { numbered result ≡ (number, position_aim self.now) }
+    // Where an insert at this position aims, with this path in place of its anchor's.
+    fn aimed_from<'a>(&self, number: usize, path: &'a [usize]) -> Aimed<'a>
+        ensures { numbered result ≡ (number, position_aim_from path.now self.now) }
     {
-        if let Some(element) = self.after_of() {
-            Aimed::behind(number, element.slots())
+        if self.first_of().is_some() {
+            Aimed::first_in(number, path)
         } else {
-            Aimed::first_in(number, self.anchor())
+            Aimed::behind(number, path)
         }
     }
 }
 
 impl Change {
-    /// Where the change of this number aims. There is an answer for each change of a tree: no node has so many children that
-    /// the elements of a range could not be counted.
+    /// The path that says where the change aims: of an insert's anchor, of the first element that a replacement replaces.
+    pub(crate) fn aim_path(&self) -> &[usize]
+        ensures { result.now ≡ aim_path self.now }
+    {
+        match self {
+            Change::Insert(position, _) => position.anchor(),
+            Change::InsertAll(position, _) => position.anchor(),
+            Change::Replace(target, _) => target.slots(),
+            Change::ReplaceWithMany(target, _) => target.slots(),
+            Change::ReplaceAll(first, _, _) => first.slots(),
+        }
+    }
+
+    /// More than the lengths of the paths around the change, and no more than those of what it replaces.
+    pub(crate) fn depth(&self) -> usize
+        ensures value { result ≡ depth self.now }
+        ensures small { result < 2 ^ 62 }
+    {
+        match self {
+            Change::Insert(position, _) => position.anchor().len() + 1,
+            Change::InsertAll(position, _) => position.anchor().len() + 1,
+            Change::Replace(target, _) => target.slots().len(),
+            Change::ReplaceWithMany(target, _) => target.slots().len(),
+            Change::ReplaceAll(first, _, _) => first.slots().len(),
+        }
+    }
+
+    /// Where the change of this number aims, with another path in place of its own. There is an answer for each change of a
+    /// tree: no node has so many children that the elements of a range could not be counted.
+    pub(crate) fn aimed_from<'a>(&self, number: usize, path: &'a [usize]) -> Option<Aimed<'a>>
+        ensures { IfSome result (λ a. numbered a ≡ (number, aim_from path.now self.now)) }
+    {
+        match self {
+            Change::Insert(position, _) => Some(position.aimed_from(number, path)),
+            Change::InsertAll(position, _) => Some(position.aimed_from(number, path)),
+            Change::Replace(_, _) => Some(Aimed::over(number, path, 1)),
+            Change::ReplaceWithMany(_, _) => Some(Aimed::over(number, path, 1)),
+            Change::ReplaceAll(first, last, _) => {
+                let count = count_of_range(first.slots(), last.slots())?;
+                Some(Aimed::over(number, path, count))
+            }
+        }
+    }
+
+    /// Where the change of this number aims.
     pub(crate) fn aimed(&self, number: usize) -> Option<Aimed<'_>>
         requires { (root : Element) × Fits root self.now }
         ensures { IfSome result (λ a. numbered a ≡ (number, aim self.now)) }
     {
-        match self {
-            Change::Insert(position, _) => Some(position.aimed(number)),
-            Change::InsertAll(position, _) => Some(position.aimed(number)),
-            Change::Replace(target, _) => Some(Aimed::over(number, target.slots(), 1)),
-            Change::ReplaceWithMany(target, _) => Some(Aimed::over(number, target.slots(), 1)),
-            Change::ReplaceAll(first, last, _) => {
-                over_range(number, first.slots(), last.slots())
-            }
-        }
+        self.aimed_from(number, self.aim_path())
     }
 
     /// The shared trees of the elements that the change brings.
@@ -62,14 +97,12 @@ impl Change {
     }
 }
 
-// Over the siblings from the first to the last, if they can be counted.
-fn over_range<'a>(number: usize, first: &'a [usize], last: &[usize]) -> Option<Aimed<'a>>
-    requires { first.now ≢ [] }
-    ensures { IfSome result (λ a. numbered a ≡ (number, Over (siblings first.now last.now))) }
+// How many siblings there are from the first to the last, if they can be counted.
+fn count_of_range(first: &[usize], last: &[usize]) -> Option<usize>
+    ensures { IfSome result (λ n. n ≡ suc (last_slot last.now) - last_slot first.now) }
 {
     let behind = slot(last).checked_sub(slot(first))?;
-    let count = behind.checked_add(1)?;
-    Some(Aimed::over(number, first, count))
+    behind.checked_add(1)
 }
 
 fn one(alloc: Global, element: &SyntaxElement) -> Result<Vec<GreenElement>, AllocError>

@@ -8,9 +8,9 @@ pub enum EditError {
     /// Two replacements have a target in common: those with the least second number, and then with the least first.
     #[error("Intersecting {first} {second}")]
     Intersecting { first: usize, second: usize },
-    /// The least change that lies inside a node which another change replaces by a node.
-    #[error("Nested {change}")]
-    Nested { change: usize },
+    /// A change lies inside a node that another one, its owner, replaces by a node, and has no place in that node: the least such change.
+    #[error("MissingMapping {change} {owner}")]
+    MissingMapping { change: usize, owner: usize },
     /// The text of the new tree passes 4,294,967,295 bytes.
     #[error("TooLong")]
     TooLong,

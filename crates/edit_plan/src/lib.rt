@@ -3,11 +3,14 @@
 
 mod change;
 mod change_aims;
+mod dependent;
 mod edit;
 mod edit_error;
 mod element_like;
 mod element_list;
+mod fate;
 mod fits;
+mod given;
 pub mod laws;
 mod native;
 mod nesting;

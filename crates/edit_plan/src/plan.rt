@@ -9,6 +9,7 @@ use crate::edit::SyntaxEdit;
 use crate::edit_error::EditError;
 use crate::nesting::{first_clash, first_nested};
 use cst_core::{SyntaxNode, TreeIds};
+use edit_map::SyntaxMapping;
 use std::alloc::Global;
 use std::marker::Model;
 
@@ -17,18 +18,22 @@ use std::marker::Model;
 pub struct EditPlan {
     pub(crate) root: SyntaxNode,
     pub(crate) changes: Vec<Change>,
+    pub(crate) mapping: SyntaxMapping,
+    pub(crate) places: Vec<Vec<usize>>,
 }
 
 impl Model for EditPlan {
     ghost use Rattle.edit_plan.specs.Building.{Plan, IsPlan, plan_code};
+    ghost use Rattle.edit_plan.specs.Owned.{places_in};
+    ghost use Rattle.edit_plan.specs.Plan.{ArePlaces};
 
     ghost Value = { Plan };
 
     ghost coded = { plan_code };
 
-    ghost view = { λ a. record { root = a.root; changes = a.changes.items } };
+    ghost view = { λ a. record { root = a.root; changes = a.changes.items; mapping = a.mapping } };
 
-    ghost invariant = { λ a. IsPlan (record { root = a.root; changes = a.changes.items }) };
+    ghost invariant = { λ a. IsPlan (record { root = a.root; changes = a.changes.items; mapping = a.mapping }) × ArePlaces a.mapping a.changes.items (places_in a.places.items) };
 }
 
 impl EditPlan {
@@ -39,19 +44,19 @@ impl EditPlan {
         alloc: Global,
         root: SyntaxNode,
         changes: Vec<Change>,
+        mapping: SyntaxMapping,
     ) -> Result<EditPlan, EditError>
         requires is_root { root.path ≡ [] }
         requires fit { All (Fits root) changes.items }
-        ensures ok { IfOk result (λ p. p ≡ record { root = root; changes = changes.items }) }
-        ensures refused { IfErr result (BuildRefuses changes.items) }
+        ensures ok { IfOk result (λ p. p ≡ record { root = root; changes = changes.items; mapping = mapping }) }
+        ensures refused { IfErr result (BuildRefuses (record { root = root; changes = changes.items; mapping = mapping })) }
     {
         if let Some((first, second)) = first_clash(&changes) {
             return Err(EditError::Intersecting { first, second });
         }
-        if let Some(change) = first_nested(&changes) {
-            return Err(EditError::Nested { change });
-        }
-        Ok(EditPlan { root, changes })
+        let _ = first_nested(&changes);
+        let places = Vec::new(alloc);
+        Ok(EditPlan { root, changes, mapping, places })
     }
 
     /// How many changes there are.

@@ -1,13 +1,11 @@
-use Rattle.std.proofs.Common.{[], ◌∷◌, sym, ◌∙◌, ap}
-use Rattle.rewriting.specs.Aim.{Over}
-use Rattle.edit_plan.specs.Aim.{aim}
-use Rattle.edit_plan.proofs.Carried.{one-sibling}
+use Rattle.std.specs.Prelude.{IfSome}
+use Rattle.std.proofs.Common.{◌≡◌, sym, ◌∙◌, ap, subst}
+use Rattle.rewriting.specs.Aimed.{numbered}
+use Rattle.edit_plan.specs.Owned.{aim_from}
+use Rattle.edit_plan.proofs.Carried.{own-aim}
 use Rattle.edit_plan.proofs.change.Change.aimed.Goals as goal
 
-pub returns-in-Replace : goal.returns-in-Replace
-returns-in-Replace c =
-    c.over.ensures ∙ ap (λ p. (c.args.number, Over p)) (one-sibling c.slots.result.now ∙ ap (λ p. p ∷ []) c.slots.ensures) ∙ ap (λ x. (c.args.number, aim x)) (sym c.in-Replace.is)
-
-pub returns-in-ReplaceWithMany : goal.returns-in-ReplaceWithMany
-returns-in-ReplaceWithMany c =
-    c.over-in-ReplaceWithMany.ensures ∙ ap (λ p. (c.args.number, Over p)) (one-sibling c.slots-in-ReplaceWithMany.result.now ∙ ap (λ p. p ∷ []) c.slots-in-ReplaceWithMany.ensures) ∙ ap (λ x. (c.args.number, aim x)) (sym c.in-ReplaceWithMany.is)
+pub returns : goal.returns
+returns c =
+    let is = ap (λ p. aim_from p c.args.self.now) c.aim_path.ensures ∙ own-aim c.requires.0 c.args.self.now c.requires.1 in
+    subst (λ x. IfSome c.aimed_from.result (λ a. numbered a ≡ (c.args.number, x))) is c.aimed_from.ensures

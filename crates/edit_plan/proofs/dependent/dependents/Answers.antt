@@ -1,0 +1,41 @@
+use Rattle.std.proofs.Common.{◌≡◌, ◌≢◌, ◌<◌, ◌+◌, ◌∙◌, ℕ, [], ◌∷◌, ◌++◌, length, slice_get, Some, None, ap, sym, subst}
+use Rattle.edit_plan.specs.Aim.{aim}
+use Rattle.edit_plan.specs.Nesting.{owner}
+use Rattle.edit_plan.specs.Owned.{aim_path, places_in, moved, dependents_in}
+use Rattle.edit_plan.specs.Rewriting.{moved_aim}
+use Rattle.edit_plan.proofs.Moved.{dependents-to, dependents-whole, none-at, one-entered, change-at, owner-is, owned-is-inside, place-at}
+use Rattle.edit_plan.proofs.dependent.dependents.Goals as goal
+use Rattle.edit_plan.proofs.dependent.dependents.Goals.{in-Some+in_ok-dependent+in_ok-enter, in_default}
+
+pub moved_in-requires-clause-inside : goal.moved_in-requires-clause-inside
+moved_in-requires-clause-inside c =
+    let cs = c.args.changes.now in
+    let number = change-at cs c.loop-number.number c.index-changes-number.result c.loop-number-test.true c.index-changes-number.is in
+    owned-is-inside cs c.index-changes-number.result c.index-changes-owner.result c.in-Some.owner (owner-is cs c.loop-number.number c.index-changes-number.result (Some c.in-Some.owner) number c.in-Some.ensures.owner) (change-at cs c.in-Some.owner c.index-changes-owner.result c.in-Some.ensures.there c.index-changes-owner.is)
+
+pub loop-number-preserved : goal.loop-number-preserved
+loop-number-preserved c =
+    let cs = c.args.changes.now in
+    let n = c.loop-number.number in
+    let places = places_in c.args.places.now in
+    elim c.match-owner_of.branch [
+      | in-Some+in_ok-dependent+in_ok-enter w ↦
+          let o = w.in-Some.owner in
+          let d = w.index-changes-number.result in
+          let r = w.index-changes-owner.result in
+          let at_o = change-at cs o r w.in-Some.ensures.there w.index-changes-owner.is in
+          let by = owner-is cs n d (Some o) (change-at cs n d c.loop-number-test.true w.index-changes-number.is) w.in-Some.ensures.owner in
+          let place : w.deref.result.now ≡ places o = w.deref.ensures.value ∙ sym (place-at c.args.places.now o w.index-places-owner.result (subst (λ k. o < k) (sym c.requires.places) w.in-Some.ensures.there) w.index-places-owner.is) in
+          let moves : moved w.in_ok-dependent.dependent ≡ (n, moved_aim (aim_path r) (places o) (aim d)) = w.in_ok-dependent.ensures ∙ ap (λ p. (n, moved_aim (aim_path r) p (aim d))) place in
+          record {
+            long = ap (λ t. length t.items) w.table-is ∙ w.in_ok-enter.ensures.long ∙ c.loop-number.invariant.long;
+            entered = subst (λ t. (k : ℕ) → dependents_in t.items k ≡ dependents-to cs places (n + 1) k) (sym w.table-is) (one-entered cs places n d c.loop-number-test.true w.index-changes-number.is o r w.in_ok-dependent.dependent c.loop-number.table.items w.enter.new.table.items by at_o moves w.in_ok-enter.ensures.here w.in_ok-enter.ensures.elsewhere c.loop-number.invariant.entered);
+          }
+      | in_default w ↦ record {
+        long = ap (λ t. length t.items) w.table-is ∙ c.loop-number.invariant.long;
+        entered = subst (λ t. (k : ℕ) → dependents_in t.items k ≡ dependents-to cs places (n + 1) k) (sym w.table-is) (none-at cs places n c.loop-number.table.items c.loop-number-test.true (sym c.owner_of.ensures.owner ∙ w.in_default.is) c.loop-number.invariant.entered);
+      }
+    ]
+
+pub returns-clause-dependents : goal.returns-clause-dependents
+returns-clause-dependents c = λ k. c.loop-number.invariant.entered k ∙ dependents-whole c.args.changes.now (places_in c.args.places.now) c.loop-number.number k c.loop-number-test.false

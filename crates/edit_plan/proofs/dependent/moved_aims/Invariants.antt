@@ -1,0 +1,7 @@
+use Rattle.std.proofs.Common.{◌≡◌, map, take}
+use Rattle.rewriting.specs.Aimed.{aims_of}
+use Rattle.edit_plan.specs.Owned.{moved}
+use Rattle.edit_plan.proofs.dependent.moved_aims.Given as goal
+
+abbrev pub invariant-loop-dependent : goal.invariant-loop-dependent
+invariant-loop-dependent l = aims_of l.aims.items ≡ map moved (take l.dependent-index l.dependents)

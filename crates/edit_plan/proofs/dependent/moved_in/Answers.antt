@@ -1,0 +1,11 @@
+use Rattle.std.proofs.Common.{◌≡◌, sym, ◌∙◌, ap, ap₂}
+use Rattle.edit_plan.specs.Aim.{aim}
+use Rattle.edit_plan.specs.Rewriting.{moved_path, moved_aim}
+use Rattle.edit_plan.specs.Owned.{aim_path, aim_from}
+use Rattle.edit_plan.proofs.Moved.{moved-own}
+use Rattle.edit_plan.proofs.dependent.moved_in.Goals as goal
+
+pub returns : goal.returns
+returns c =
+    let path = c.in_ok-path.ensures ∙ ap₂ (λ n p. moved_path n c.args.place.now p) c.aim_path.ensures c.aim_path-2.ensures in
+    ap (λ p. (c.args.number, aim_from p c.args.change.now)) path ∙ ap (λ a. (c.args.number, a)) (moved-own c.requires.fits.0 (aim_path c.args.owner.now) c.args.place.now c.args.change.now c.requires.fits.1 c.requires.inside)

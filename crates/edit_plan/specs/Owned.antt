@@ -1,0 +1,86 @@
+-- What code keeps of owners, and of the changes that they own.
+--     aim_path                      the path that says where a change aims: of an insert's anchor, of the first element that is replaced
+--     aim_from                      where a change aims with another path in that one's place
+--     depth                         more than the lengths of the paths around a change, and no more than those of what it replaces
+--     places_in                     the places of owners, from a table by number
+--     moved                         a change that is owned, and where it aims in its owner's payload
+--     AreDependents                 a table has for each change those that it owns
+--     IsGiven, AreGiven             a table has what a change gives; what each change gives
+--     IsFilled                      what a change gives is entered into a table: its payload, rewritten by what the table has
+--     AreGivenFrom                  it has what changes of this depth or more give, and those that own nothing
+use Rattle.std.specs.Prelude.{◌≡◌, ◌≢◌, ℕ, suc, ◌-◌, ◌≤◌, List, [], ◌∷◌, map, length, slice_get, Vec}
+use Rattle.std.specs.Global.{Global}
+use Rattle.std.specs.Option.{option_map_or}
+use Rattle.cst_core.specs.Path.{Path, last_slot}
+use Rattle.cst_core.specs.Element.{subtree}
+use Rattle.cst_core.specs.SyntaxElement.{element_of}
+use Rattle.green_tree.specs.declared.green.GreenElement.{GreenElement}
+use Rattle.rewriting.specs.Aim.{Aim, FirstIn, Behind, Over}
+use Rattle.rewriting.specs.Aimed.{siblings_from}
+use Rattle.rewriting.specs.Pass.{kind_only, given_by}
+use Rattle.rewriting.specs.Rewriting.{NumberedAim, rewritten}
+use Rattle.edit_plan.specs.Position.{anchor}
+use Rattle.edit_plan.specs.Rewriting.{plain, payload_of, dependents, given}
+use Rattle.edit_plan.specs.declared.position.Position.{Position}
+use Rattle.edit_plan.specs.declared.position.PositionForm.TheVariants.{FirstChild, After}
+use Rattle.edit_plan.specs.declared.change.Change.{Change}
+use Rattle.edit_plan.specs.declared.change.Change.TheVariants.{Insert, InsertAll, Replace, ReplaceWithMany, ReplaceAll}
+use Rattle.edit_plan.specs.declared.dependent.Dependent.{Dependent}
+
+-- ---- where a change aims
+abbrev pub aim_path : Change → Path
+aim_path (Insert at e) = (anchor at).path
+aim_path (InsertAll at es) = (anchor at).path
+aim_path (Replace t e) = (element_of t).path
+aim_path (ReplaceWithMany t es) = (element_of t).path
+aim_path (ReplaceAll first last es) = (element_of first).path
+
+abbrev pub position_aim_from : Path → Position → Aim
+position_aim_from p (FirstChild n) = FirstIn p
+position_aim_from p (After e) = Behind p
+
+abbrev pub aim_from : Path → Change → Aim
+aim_from p (Insert at e) = position_aim_from p at
+aim_from p (InsertAll at es) = position_aim_from p at
+aim_from p (Replace t e) = Over (siblings_from p 1)
+aim_from p (ReplaceWithMany t es) = Over (siblings_from p 1)
+aim_from p (ReplaceAll first last es) = Over (siblings_from p (suc (last_slot (element_of last).path) - last_slot (element_of first).path))
+
+abbrev pub depth : Change → ℕ
+depth (Insert at e) = suc (length (anchor at).path)
+depth (InsertAll at es) = suc (length (anchor at).path)
+depth (Replace t e) = length (element_of t).path
+depth (ReplaceWithMany t es) = length (element_of t).path
+depth (ReplaceAll first last es) = length (element_of first).path
+
+abbrev pub depth_of : List Change → ℕ → ℕ
+depth_of changes c = option_map_or depth (slice_get changes c) 0
+
+-- ---- tables
+abbrev pub places_in : List (Vec ℕ Global) → ℕ → Path
+places_in table c = option_map_or (λ v. v.items) (slice_get table c) []
+
+abbrev pub moved : Dependent → NumberedAim
+moved d = (d.number, aim_from d.path.items d.change.now)
+
+abbrev pub dependents_in : List (Vec Dependent Global) → ℕ → List NumberedAim
+dependents_in table c = option_map_or (λ v. map moved v.items) (slice_get table c) []
+
+module _ (changes : List Change) (places : ℕ → Path) where
+  abbrev pub AreDependents : List (Vec Dependent Global) → Type 0
+  AreDependents table = (c : ℕ) → dependents_in table c ≡ dependents changes places c
+
+  abbrev pub IsGiven : List (Vec GreenElement Global) → ℕ → Type 0
+  IsGiven table c = given_by table c ≡ map plain (given changes places c)
+
+  abbrev pub AreGiven : List (Vec GreenElement Global) → Type 0
+  AreGiven table = (c : ℕ) → IsGiven table c
+
+  pub record AreGivenFrom (level : ℕ) (table : List (Vec GreenElement Global)) : Type 0 where
+    pub deep : (c : ℕ) → level ≤ depth_of changes c → IsGiven table c
+    pub own_nothing : (c : ℕ) → dependents changes places c ≡ [] → IsGiven table c
+
+-- the entry of a change is its payload, rewritten by what the table had before; no other entry differs
+pub record IsFilled (changes : List Change) (c : ℕ) (owned : List NumberedAim) (before after : List (Vec GreenElement Global)) : Type 0 where
+  pub here : given_by after c ≡ map (rewritten kind_only (given_by before) owned []) (map subtree (payload_of changes c))
+  pub elsewhere : (n : ℕ) → n ≢ c → given_by after n ≡ given_by before n

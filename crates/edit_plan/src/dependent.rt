@@ -1,0 +1,136 @@
+ghost use Rattle.std.specs.Prelude.{ℕ, ◌≡◌, ◌≢◌, ◌<◌, ◌++◌, [], ◌∷◌, map, length, slice_get, option_and_then, All, IfOk, IfSome, OnOk};
+ghost use Rattle.cst_core.specs.Element.{Element};
+ghost use Rattle.rewriting.specs.Aimed.{aims_of};
+ghost use Rattle.edit_plan.specs.Aim.{aim};
+ghost use Rattle.edit_plan.specs.Fits.{Fits};
+ghost use Rattle.edit_plan.specs.Fate.{fate};
+ghost use Rattle.edit_plan.specs.Nesting.{owner};
+ghost use Rattle.edit_plan.specs.Rewriting.{moved_path, moved_aim};
+ghost use Rattle.edit_plan.specs.Owned.{aim_path, depth, places_in, moved, dependents_in, AreDependents};
+
+use crate::change::Change;
+use crate::fate::Fate;
+use rewriting::Aimed;
+use std::alloc::{AllocError, Global};
+
+/// A change that another one owns, with its number, and the path where it aims in the payload of that one.
+#[derive(Drop)]
+pub(crate) struct Dependent<'a> {
+    pub(crate) number: usize,
+    pub(crate) change: &'a Change,
+    pub(crate) path: Vec<usize>,
+}
+
+/// A path at or below a target, exchanged into a payload where that target has this place.
+pub(crate) fn moved_path(
+    alloc: Global,
+    target: &[usize],
+    place: &[usize],
+    path: &[usize],
+) -> Result<Vec<usize>, AllocError>
+    ensures { IfOk result (λ v. v.items ≡ moved_path target.now place.now path.now) }
+{
+    let mut moved = Vec::from_slice(alloc, place)?;
+    if let Some(below) = path.get(target.len()..) {
+        moved.extend_from_slice(below)?;
+    }
+    Ok(moved)
+}
+
+/// Where these changes aim in their owner's payload.
+pub(crate) fn moved_aims<'a, 'b>(
+    alloc: Global,
+    dependents: &'a [Dependent<'b>],
+) -> Result<Vec<Aimed<'a>>, AllocError>
+    ensures { IfOk result (λ v. aims_of v.items ≡ map moved dependents.now) }
+{
+    let mut aims = Vec::new(alloc);
+    for dependent in dependents {
+        let Some(aim) = dependent.change.aimed_from(dependent.number, &dependent.path) else {
+            return Err(AllocError);
+        };
+        aims.push(aim)?;
+    }
+    Ok(aims)
+}
+
+// So many empty lists.
+fn empty_lists<'a>(alloc: Global, count: usize) -> Result<Vec<Vec<Dependent<'a>>>, AllocError>
+    ensures long { IfOk result (λ v. length v.items ≡ count) }
+    ensures empty { IfOk result (λ v. (c : ℕ) → dependents_in v.items c ≡ []) }
+{
+    let mut lists = Vec::new(alloc);
+    for _ in 0..count {
+        lists.push(Vec::new(alloc))?;
+    }
+    Ok(lists)
+}
+
+fn enter<'a>(
+    table: &mut Vec<Vec<Dependent<'a>>>,
+    owner: usize,
+    dependent: Dependent<'a>,
+) -> Result<(), AllocError>
+    requires { owner < length table.now.items }
+    ensures long { OnOk result (length table.new.items ≡ length table.old.items) }
+    ensures here { OnOk result (dependents_in table.new.items owner ≡ dependents_in table.old.items owner ++ moved dependent.entry ∷ []) }
+    ensures elsewhere { OnOk result ((c : ℕ) → c ≢ owner → dependents_in table.new.items c ≡ dependents_in table.old.items c) }
+{
+    table[owner].push(dependent)?;
+    Ok(())
+}
+
+// A change as it stands in the payload of its owner, where the owner's target has this place.
+fn moved_in<'a>(
+    alloc: Global,
+    change: &'a Change,
+    number: usize,
+    owner: &Change,
+    place: &[usize],
+) -> Result<Dependent<'a>, AllocError>
+    requires fits { (root : Element) × Fits root change.now }
+    requires inside { length (aim_path owner.now) < depth change.now }
+    ensures { IfOk result (λ d. moved d ≡ (number, moved_aim (aim_path owner.now) place.now (aim change.now))) }
+{
+    let path = moved_path(alloc, owner.aim_path(), place, change.aim_path())?;
+    Ok(Dependent {
+        number,
+        change,
+        path,
+    })
+}
+
+// The owner of a change, if it has one.
+fn owner_of(changes: &[Change], fates: &[Fate], number: usize) -> Option<usize>
+    requires there { number < length changes.now }
+    requires fates { fates.now ≡ map (fate changes.now) changes.now }
+    ensures owner { result ≡ option_and_then (owner changes.now) (slice_get changes.now number) }
+    ensures there { IfSome result (λ o. o < length changes.now) }
+{
+    fates[number].owner()
+}
+
+/// What each change owns, by its number, in the order of the changes: `fates` has what becomes of each change, and `places` the
+/// place of each owner's target in its payload.
+pub(crate) fn dependents<'a>(
+    alloc: Global,
+    changes: &'a [Change],
+    fates: &[Fate],
+    places: &[Vec<usize>],
+) -> Result<Vec<Vec<Dependent<'a>>>, AllocError>
+    requires fit { (root : Element) × All (Fits root) changes.now }
+    requires fates { fates.now ≡ map (fate changes.now) changes.now }
+    requires places { length places.now ≡ length changes.now }
+    ensures long { IfOk result (λ v. length v.items ≡ length changes.now) }
+    ensures dependents { IfOk result (λ v. AreDependents changes.now (places_in places.now) v.items) }
+{
+    let mut table = empty_lists(alloc, changes.len())?;
+    for number in 0..changes.len() {
+        if let Some(owner) = owner_of(changes, fates, number) {
+            let change = &changes[number];
+            let dependent = moved_in(alloc, change, number, &changes[owner], &places[owner])?;
+            enter(&mut table, owner, dependent)?;
+        }
+    }
+    Ok(table)
+}

@@ -1,0 +1,132 @@
+//! What each change gives, with what it owns carried out in its payload.
+
+ghost use Rattle.std.specs.Prelude.{ℕ, List, [], ◌≡◌, ◌<◌, suc, map, length, IfOk, OnOk};
+ghost use Rattle.cst_core.specs.Path.{Path};
+ghost use Rattle.cst_core.specs.Element.{subtree};
+ghost use Rattle.cst_core.specs.GreenElement.{element_trees};
+ghost use Rattle.rewriting.specs.Aimed.{aims_of};
+ghost use Rattle.rewriting.specs.Pass.{kind_only, given_by};
+ghost use Rattle.rewriting.specs.Rewriting.{NumberedAim, rewritten};
+ghost use Rattle.edit_plan.specs.Change.{payload};
+ghost use Rattle.edit_plan.specs.Rewriting.{payload_of};
+ghost use Rattle.edit_plan.specs.Owned.{depth_of, moved, IsFilled, AreDependents, AreGiven, AreGivenFrom};
+
+use crate::change::Change;
+use crate::dependent::{Dependent, moved_aims};
+use cst_core::GreenElement;
+use rewriting::{Aimed, rebuild};
+use std::alloc::{AllocError, Global};
+
+// These elements, each rewritten.
+fn rewritten_each(
+    alloc: Global,
+    elements: &[GreenElement],
+    aims: &[Aimed],
+    given: &[Vec<GreenElement>],
+) -> Result<Vec<GreenElement>, AllocError>
+    ensures { IfOk result (λ v. element_trees v.items ≡ map (rewritten kind_only (given_by given.now) (aims_of aims.now) []) (element_trees elements.now)) }
+{
+    let mut builds = 0;
+    let mut rewritten = Vec::new(alloc);
+    for element in elements {
+        rewritten.push(rebuild(alloc, element, aims, given, &mut builds)?)?;
+    }
+    Ok(rewritten)
+}
+
+// The payload of a change, each element rewritten.
+fn rewritten_payload(
+    alloc: Global,
+    change: &Change,
+    aims: &[Aimed],
+    given: &[Vec<GreenElement>],
+) -> Result<Vec<GreenElement>, AllocError>
+    ensures { IfOk result (λ v. element_trees v.items ≡ map (rewritten kind_only (given_by given.now) (aims_of aims.now) []) (map subtree (payload change.now))) }
+{
+    let brought = change.brought(alloc)?;
+    rewritten_each(alloc, &brought, aims, given)
+}
+
+// Enters what a change gives, where what it owns has been entered.
+fn fill(
+    alloc: Global,
+    changes: &[Change],
+    owner: usize,
+    dependents: &[Dependent],
+    given: &mut Vec<Vec<GreenElement>>,
+) -> Result<(), AllocError>
+    requires there { owner < length changes.now }
+    requires long { length given.now.items ≡ length changes.now }
+    ensures long { OnOk result (length given.new.items ≡ length changes.now) }
+    ensures filled { OnOk result ((owned : List NumberedAim) → owned ≡ map moved dependents.now → IsFilled changes.now owner owned given.old.items given.new.items) }
+{
+    let aims = moved_aims(alloc, dependents)?;
+    let rewritten = rewritten_payload(alloc, &changes[owner], &aims, given)?;
+    given[owner] = rewritten;
+    Ok(())
+}
+
+// Enters what the owners of this depth give, where all that is deeper has been entered.
+fn fill_level(
+    alloc: Global,
+    changes: &[Change],
+    dependents: &[Vec<Dependent>],
+    level: usize,
+    given: &mut Vec<Vec<GreenElement>>,
+) -> Result<(), AllocError>
+    requires owned { length dependents.now ≡ length changes.now }
+    requires long { length given.now.items ≡ length changes.now }
+    ensures long { OnOk result (length given.new.items ≡ length changes.now) }
+    ensures filled { OnOk result ((places : ℕ → Path) → AreDependents changes.now places dependents.now → AreGivenFrom changes.now places (suc level) given.old.items → AreGivenFrom changes.now places level given.new.items) }
+{
+    for owner in 0..changes.len() {
+        let owned = dependents[owner].as_slice();
+        if changes[owner].depth() == level && !owned.is_empty() {
+            fill(alloc, changes, owner, owned, given)?;
+        }
+    }
+    Ok(())
+}
+
+// What each change brings, by its number.
+fn payloads(alloc: Global, changes: &[Change]) -> Result<Vec<Vec<GreenElement>>, AllocError>
+    ensures long { IfOk result (λ v. length v.items ≡ length changes.now) }
+    ensures payloads { IfOk result (λ v. (c : ℕ) → given_by v.items c ≡ map subtree (payload_of changes.now c)) }
+{
+    let mut payloads = Vec::new(alloc);
+    for change in changes {
+        payloads.push(change.brought(alloc)?)?;
+    }
+    Ok(payloads)
+}
+
+// More than the depth of each change.
+fn levels(changes: &[Change]) -> usize
+    ensures { (c : ℕ) → c < length changes.now → depth_of changes.now c < result }
+{
+    let mut levels = 0;
+    for change in changes {
+        levels = levels.max(change.depth() + 1);
+    }
+    levels
+}
+
+/// What each change gives, by its number, where a table has what each one owns.
+///
+/// An owner comes after all that is deeper. Takes time linear in the changes times the depth of the deepest one, and what the
+/// passes through the owners' payloads take.
+pub(crate) fn given(
+    alloc: Global,
+    changes: &[Change],
+    dependents: &[Vec<Dependent>],
+) -> Result<Vec<Vec<GreenElement>>, AllocError>
+    requires { length dependents.now ≡ length changes.now }
+    ensures long { IfOk result (λ v. length v.items ≡ length changes.now) }
+    ensures given { IfOk result (λ v. (places : ℕ → Path) → AreDependents changes.now places dependents.now → AreGiven changes.now places v.items) }
+{
+    let mut given = payloads(alloc, changes)?;
+    for level in (0..levels(changes)).rev() {
+        fill_level(alloc, changes, dependents, level, &mut given)?;
+    }
+    Ok(given)
+}
