@@ -1,5 +1,5 @@
 -- From what the pass answers to what carrying a plan out promises.
---     Passed                        what the pass was told and what it answered, for a plan without owners
+--     Passed                        what the pass was told and what it answered, for a plan
 --     is_rewritten                  its answer is the plan's rewriting
 --     makes                         the edit that is put together is what the plan makes
 --     refuses                       the refusals of the new root, as those of the plan
@@ -9,7 +9,6 @@ use Rattle.std.specs.Global.{Global}
 use Rattle.std.specs.Option.{option_map_or}
 use Rattle.std.proofs.Common.{ap, sym, subst, ◌∙◌, arith}
 use Rattle.std.proofs.lemmas.List.{append-nil, length-map}
-use Rattle.std.proofs.lemmas.List.Elements.{All-from_recursion}
 use Rattle.std.proofs.lemmas.Option.{slice_get-map}
 use Rattle.cst_core.specs.Path.{Path}
 use Rattle.cst_core.specs.Tree.{Tree, text_length}
@@ -26,17 +25,14 @@ use Rattle.rewriting.specs.Rewriting.{NumberedAim, rewritten_whole}
 use Rattle.rewriting.specs.Topmost.{topmost, count_of, AreCounted, not_given}
 use Rattle.edit_plan.specs.Building.{Plan, Edit, Makes, WouldMake, IsRewritten, RunRefuses}
 use Rattle.edit_plan.specs.Refusal.{of_tree}
-use Rattle.edit_plan.specs.Nesting.{owner, first_nested}
-use Rattle.edit_plan.specs.Plan.{FindsPlace, ArePlaces, HasPlace}
+use Rattle.edit_plan.specs.Owned.{AreGiven}
+use Rattle.edit_plan.specs.Plan.{ArePlaces}
 use Rattle.edit_plan.specs.Results.{changed}
-use Rattle.edit_plan.specs.Rewriting.{OriginTree, plain, independents, payload_of, is_free, new_tree}
+use Rattle.edit_plan.specs.Rewriting.{OriginTree, plain, independents, given, is_free, new_tree}
 use Rattle.edit_plan.specs.declared.edit_error.EditError.TheVariants.{TooLong, NoTreeNumber}
 use Rattle.edit_plan.proofs.Filled.{text-relabelled}
-use Rattle.edit_plan.proofs.Lists.{all_weaker}
-use Rattle.edit_plan.proofs.Whole.{all-unowned, plain-whole, changed-whole, one-made, marked, alone, count-marked}
-
-abbrev nowhere : ℕ → Path
-nowhere c = []
+use Rattle.edit_plan.proofs.Brought.{marked, alone}
+use Rattle.edit_plan.proofs.Whole.{plain-whole, changed-whole, one-made, count-marked}
 
 count-given : (vs : List (Vec GreenElement Global)) (c : ℕ) → length (given_by vs c) ≡ count_of (map (λ g. length g.items) vs) c
 count-given vs c =
@@ -46,9 +42,10 @@ count-given vs c =
     ]) ∙ ap (λ o. option_map_or (λ n. n) o 0) (sym (slice_get-map (λ g. length g.items) vs c))
 
 pub record Passed (p : Plan) (green : Branch) (paths : List Path) : Type 0 where
-  pub unowned : first_nested p.changes ≡ None
+  pub places : ℕ → Path
+  pub placed : ArePlaces p.mapping p.changes places
   pub table : List (Vec GreenElement Global)
-  pub table_is : (c : ℕ) → given_by table c ≡ map subtree (payload_of p.changes c)
+  pub table_is : AreGiven p.changes places table
   pub aims : List NumberedAim
   pub aims_are : aims ≡ independents p.changes
   pub tree_is : rewritten_whole kind_only (given_by table) aims (subtree p.root) ≡ branch_tree green ∷ []
@@ -57,26 +54,22 @@ pub record Passed (p : Plan) (green : Branch) (paths : List Path) : Type 0 where
   pub paths_are : (given : ℕ → List (Tree Bool)) → AreCounted counts given → paths ≡ flat_map (topmost (λ b. b)) (rewritten_whole not_given given aims (subtree p.root))
 
 module _ (p : Plan) (green : Branch) (paths : List Path) (passed : Passed p green paths) where
-  made : (m : OriginTree) × (new_tree p.changes nowhere p.root ≡ m ∷ []) × (branch_tree green ≡ plain m)
+  made : (m : OriginTree) × (new_tree p.changes passed.places p.root ≡ m ∷ []) × (branch_tree green ≡ plain m)
   made =
-      one-made (new_tree p.changes nowhere p.root) (branch_tree green) (plain-whole p.changes nowhere passed.unowned p.root (given_by passed.table) passed.table_is ∙ ap (λ ds. rewritten_whole kind_only (given_by passed.table) ds (subtree p.root)) (sym passed.aims_are) ∙ passed.tree_is)
+      one-made (new_tree p.changes passed.places p.root) (branch_tree green) (plain-whole p.changes passed.places p.root (given_by passed.table) passed.table_is ∙ ap (λ ds. rewritten_whole kind_only (given_by passed.table) ds (subtree p.root)) (sym passed.aims_are) ∙ passed.tree_is)
 
-  counted : AreCounted passed.counts (marked p.changes nowhere)
+  counted : AreCounted passed.counts (marked p.changes passed.places)
   counted = record {
-    count = λ c. count-marked p.changes nowhere passed.unowned c ∙ sym (length-map (payload_of p.changes c) subtree) ∙ ap length (sym (passed.table_is c)) ∙ count-given passed.table c ∙ ap (λ ns. count_of ns c) (sym passed.counts_are);
-    alone = λ c. alone p.changes nowhere c;
+    count = λ c. count-marked p.changes passed.places c ∙ sym (length-map (given p.changes passed.places c) plain) ∙ ap length (sym (passed.table_is c)) ∙ count-given passed.table c ∙ ap (λ ns. count_of ns c) (sym passed.counts_are);
+    alone = λ c. alone p.changes passed.places c;
   }
 
   changed-is : paths ≡ changed (is_free p.changes) made.0
   changed-is =
-      passed.paths_are (marked p.changes nowhere) counted ∙ ap (λ ds. flat_map (topmost (λ b. b)) (rewritten_whole not_given (marked p.changes nowhere) ds (subtree p.root))) passed.aims_are ∙ sym (changed-whole p.changes nowhere passed.unowned p.root) ∙ ap (flat_map (changed (is_free p.changes))) made.1 ∙ append-nil (changed (is_free p.changes) made.0)
-
-  placed : ArePlaces [] p.changes nowhere
-  placed =
-      All-from_recursion (FindsPlace [] p.changes nowhere) p.changes (all_weaker (λ c. owner p.changes c ≡ None) (FindsPlace [] p.changes nowhere) p.changes (λ c none. subst (λ o. IfSome o (λ d. IfSome (slice_get p.changes d) (λ o. HasPlace [] o c (nowhere d)))) (sym none) tt) (all-unowned p.changes passed.unowned))
+      passed.paths_are (marked p.changes passed.places) counted ∙ ap (λ ds. flat_map (topmost (λ b. b)) (rewritten_whole not_given (marked p.changes passed.places) ds (subtree p.root))) passed.aims_are ∙ sym (changed-whole p.changes passed.places p.root) ∙ ap (flat_map (changed (is_free p.changes))) made.1 ∙ append-nil (changed (is_free p.changes) made.0)
 
   would : WouldMake p made.0
-  would = record { places = nowhere; are_places = placed; is_new = made.1 }
+  would = record { places = passed.places; are_places = passed.placed; is_new = made.1 }
 
   pub is_rewritten : IsRewritten p (branch_tree green) paths
   is_rewritten = record { made = made.0; would = would; tree_is = made.2; changed_is = changed-is }

@@ -8,11 +8,15 @@ ghost use Rattle.rewriting.specs.Pass.{kind_only, given_by};
 ghost use Rattle.rewriting.specs.Rewriting.{rewritten_whole};
 ghost use Rattle.rewriting.specs.Topmost.{paths_of};
 ghost use Rattle.edit_plan.specs.Building.{IsRewritten, Makes, RunRefuses};
-ghost use Rattle.edit_plan.specs.Rewriting.{independents, payload_of};
+ghost use Rattle.cst_core.specs.Path.{Path};
+ghost use Rattle.edit_plan.specs.Owned.{AreGiven};
+ghost use Rattle.edit_plan.specs.Plan.{ArePlaces};
+ghost use Rattle.edit_plan.specs.Rewriting.{independents};
 
+use crate::dependent::dependents;
 use crate::edit::SyntaxEdit;
 use crate::edit_error::EditError;
-use crate::nesting::is_dropped;
+use crate::given::given;
 use crate::plan::EditPlan;
 use cst_core::{GreenElement, GreenNode, SyntaxElement, SyntaxNode, TreeIds};
 use rewriting::{Aimed, places_of_given_whole, rebuild_whole};
@@ -26,14 +30,14 @@ struct Rewritten {
 }
 
 impl EditPlan {
-    // The changes that nothing takes away, by where they aim.
+    // The changes without an owner, by where they aim.
     fn aims(&self, alloc: Global) -> Result<Vec<Aimed<'_>>, AllocError>
         ensures { IfOk result (λ v. aims_of v.items ≡ independents self.now.changes) }
     {
         let mut aims = Vec::new(alloc);
-        for (number, change) in self.changes.iter().enumerate() {
-            if !is_dropped(&self.changes, change) {
-                let Some(aim) = change.aimed(number) else {
+        for number in 0..self.changes.len() {
+            if self.fates[number].is_independent() {
+                let Some(aim) = self.changes[number].aimed(number) else {
                     return Err(AllocError);
                 };
                 aims.push(aim)?;
@@ -44,13 +48,10 @@ impl EditPlan {
 
     // What each change gives, by its number.
     fn given(&self, alloc: Global) -> Result<Vec<Vec<GreenElement>>, AllocError>
-        ensures { IfOk result (λ v. (c : ℕ) → given_by v.items c ≡ map subtree (payload_of self.now.changes c)) }
+        ensures { IfOk result (λ v. (places : ℕ → Path) × ArePlaces self.now.mapping self.now.changes places × AreGiven self.now.changes places v.items) }
     {
-        let mut given = Vec::new(alloc);
-        for change in &self.changes {
-            given.push(change.brought(alloc)?)?;
-        }
-        Ok(given)
+        let dependents = dependents(alloc, &self.changes, &self.fates, &self.places)?;
+        given(alloc, &self.changes, &dependents)
     }
 
     // The new root's shared tree.
