@@ -1,5 +1,6 @@
 mod Lists
-mod Copies
+pub mod Copies
+mod Children
 pub mod Places
 mod Shapes
 mod Followed
