@@ -1,6 +1,7 @@
 mod Lists
 pub mod Copies
 mod Children
+pub mod Tables
 pub mod Places
 mod Shapes
 mod Followed
