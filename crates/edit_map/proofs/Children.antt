@@ -12,6 +12,7 @@ pushed-not-empty (j ∷ p) i e = cc
 
 pub child-by-front : (parent e : Element) (front : Path) (slot : ℕ) → e.number ≡ parent.number → e.path ≡ front ++ slot ∷ [] → IsTrue (same_path front parent.path) ↔ IsChild parent e
 child-by-front parent e front slot number path =
-    let above : parent_path e.path ≡ front = ap parent_path path ∙ parent_path-push front slot in
-    ( λ same. (number, λ none. pushed-not-empty front slot (sym path ∙ none), above ∙ same_path-true front parent.path same)
-    , λ child. same_path-from front parent.path (sym above ∙ child.2) )
+    let above : parent_path e.path ≡ front = ap parent_path path ∙ parent_path-push front slot in (
+      λ same. (number, λ none. pushed-not-empty front slot (sym path ∙ none), above ∙ same_path-true front parent.path same),
+      λ child. same_path-from front parent.path (sym above ∙ child.2),
+    )

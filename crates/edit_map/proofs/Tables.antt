@@ -4,7 +4,7 @@
 --     put-made                       the table after a node is removed and put in again
 --     copy-behind                    a pair before two lists that give an address the same copy
 --     made-itself, made-more, made-reordered    a mapping is made of itself; with one pair more; in another order
-use Rattle.std.specs.Prelude.{◌≡◌, ℕ, Bool, true, false, cond, List, [], ◌∷◌, ◌++◌, ◌==◌, find, Option, Some, None, option_map, MatchOption, All, Contains, refl}
+use Rattle.std.specs.Prelude.{◌≡◌, Bool, true, false, cond, [], ◌∷◌, ◌++◌, ◌==◌, find, Option, Some, None, option_map, MatchOption, All, Contains, refl}
 use Rattle.std.specs.Cmp.{IsEquivalence}
 use Rattle.std.specs.Cmp.Lexicographic.{pointwise}
 use Rattle.std.specs.List.Sorted.{IsPermutation}

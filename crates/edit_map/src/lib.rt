@@ -5,6 +5,7 @@ mod builder;
 pub mod laws;
 mod map_error;
 mod mapping;
+mod pairs;
 
 pub use builder::SyntaxMappingBuilder;
 pub use map_error::MapError;

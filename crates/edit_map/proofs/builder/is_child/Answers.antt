@@ -1,6 +1,4 @@
-use Rattle.std.proofs.Common.{sym, ap, subst, ◌∙◌, ◌↔◌, IsTrue}
-use Rattle.cst_core.specs.Path.{Path, same_path}
-use Rattle.cst_core.specs.Element.{IsChild}
+use Rattle.std.proofs.Common.{sym, ◌∙◌}
 use Rattle.edit_map.proofs.Children.{child-by-front}
 use Rattle.edit_map.proofs.builder.is_child.Goals as goal
 

@@ -1,8 +1,8 @@
-use Rattle.std.proofs.Common.{◌≡◌, ◌+◌, ◌++◌, [], length, reverse, ap, sym, subst, ◌∙◌, arith, append_assoc, append-nil}
+use Rattle.std.proofs.Common.{◌≡◌, ◌+◌, ◌++◌, [], length, reverse, ap, sym, ◌∙◌, arith, append_assoc, append-nil}
 use Rattle.std.proofs.lemmas.List.{reverse-append}
 use Rattle.edit_map.specs.Building.{IsMadeOf}
 use Rattle.edit_map.proofs.Tables.{empty, made-itself, made-more, made-again, made-reordered}
-use Rattle.edit_map.proofs.mapping.put_all.Goals as goal
+use Rattle.edit_map.proofs.pairs.put_all.Goals as goal
 
 pub put-requires : goal.put-requires
 put-requires c =

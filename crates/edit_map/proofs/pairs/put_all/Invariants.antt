@@ -1,7 +1,7 @@
 use Rattle.std.proofs.Common.{◌≡◌, ◌≤◌, ◌++◌, length, reverse}
 use Rattle.std.specs.HashMap.{spare}
 use Rattle.edit_map.specs.Building.{IsMadeOf}
-use Rattle.edit_map.proofs.mapping.put_all.Given as goal
+use Rattle.edit_map.proofs.pairs.put_all.Given as goal
 
 abbrev pub invariant-loop-input : goal.invariant-loop-input
 invariant-loop-input l = record {

@@ -1,6 +1,6 @@
-use Rattle.std.proofs.Common.{◌≡◌, None, sym, ◌∙◌}
+use Rattle.std.proofs.Common.{◌∙◌}
 use Rattle.edit_map.proofs.Tables.{put-made}
-use Rattle.edit_map.proofs.mapping.put.Goals as goal
+use Rattle.edit_map.proofs.pairs.put.Goals as goal
 
 pub returns-clause-made : goal.returns-clause-made
 returns-clause-made c =
