@@ -1,5 +1,6 @@
 -- Following ends: each step uses a pair of the mapping whose address has the number that is left behind.
 --     counted                        how many pairs have this number or a greater one at their address
+--     copy-falls                     a copy has a greater number, and fewer pairs count there
 --     followed-is_followed           the element that is reached where no step is possible is reached, and none is possible there
 --     followed_unique                there is no other
 use Rattle.std.specs.Prelude.{◌≡◌, ℕ, zero, suc, ◌<◌, ◌≤◌, true, false, cond, nat_le, [], ◌∷◌, length, find, Option, Some, None, option_map, IsSomeAnd, refl}
@@ -13,7 +14,7 @@ use Rattle.cst_core.specs.Element.{Address, Element, address, same_address}
 use Rattle.edit_map.specs.Mapping.{Mapping, copy, Rises, IsRising, step, below_copy, Steps, IsFollowed, followed_within, followed}
 use Rattle.edit_map.proofs.Lists.{last_item-filter_map}
 
-abbrev counted : ℕ → Mapping → ℕ
+abbrev pub counted : ℕ → Mapping → ℕ
 counted n [] = 0
 counted n (pair ∷ m) = cond (nat_le n pair.0.number) (suc (counted n m)) (counted n m)
 
@@ -38,7 +39,7 @@ one_more a b h pair m less =
     ]) refl
 
 -- the pair of a copy counts at the number of the address and not at the copy's
-copy-falls : (m : Mapping) → IsRising m → (x : Address) (c : Element) → copy m x ≡ Some c → (x.number < c.number) × (counted c.number m < counted x.number m)
+pub copy-falls : (m : Mapping) → IsRising m → (x : Address) (c : Element) → copy m x ≡ Some c → (x.number < c.number) × (counted c.number m < counted x.number m)
 copy-falls [] rising x c is = absurd (none-some c is)
 copy-falls (pair ∷ m) rising x c is =
     let first : Rises pair = All-head Rises pair m rising in

@@ -1,7 +1,12 @@
 mod Lists
-mod Copies
+pub mod Copies
+mod Children
+mod Refusals
+pub mod Tables
+pub mod Making
 pub mod Places
 mod Shapes
-mod Followed
+pub mod Followed
+pub mod Climbs
 pub mod RowTrees
 pub mod Rows

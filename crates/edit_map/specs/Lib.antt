@@ -1,1 +1,3 @@
 pub mod Mapping
+pub mod Building
+pub mod Climbing

@@ -1,4 +1,12 @@
 //! Which element of a younger tree is the copy of which one.
 #![tactic(auto)]
 
+mod builder;
 pub mod laws;
+mod map_error;
+mod mapping;
+mod pairs;
+
+pub use builder::SyntaxMappingBuilder;
+pub use map_error::MapError;
+pub use mapping::SyntaxMapping;

@@ -1,0 +1,138 @@
+-- The way up from a target to a payload.
+--     copied-found, copied-none      what a look-up says of the copy
+--     child-of-parent                an element is a child of its parent, at its last slot
+--     met, not-met                   what a test of two nodes says
+--     StandsFor-down                 what stands one step below
+--     Climbed                        the slots noted so far lead from here to the target
+--     climbed-start, climbed-step    at the target; one step on
+--     climbed-there, climbed-nowhere the payload is met; a root is met instead
+--     way, way-falls                 how long the way can get, at most; less with each step
+use Rattle.std.specs.Prelude.{◌≡◌, ℕ, suc, ◌+◌, ◌*◌, ◌<◌, ◌≤◌, true, false, not, cond, [], ◌∷◌, ◌++◌, length, reverse, find, Some, None, option_map, refl}
+use Rattle.std.specs.Option.{option_map_or}
+use Rattle.std.specs.Map.{lookup}
+use Rattle.std.proofs.Common.{ap, sym, subst, ◌∙◌, arith, inl, inr, add-one, append_assoc, append-nil}
+use Rattle.std.proofs.Math.Nat.{mul-le-mul_right, suc-mul}
+use Rattle.std.proofs.lemmas.Bool.{true≢false, true_from_ne_false}
+use Rattle.std.proofs.lemmas.Option.{none-some, same_Some}
+use Rattle.std.proofs.lemmas.List.{same_from_push, length_push, reverse-append}
+use Rattle.cst_core.specs.Path.{Path, parent_path, last_slot}
+use Rattle.cst_core.specs.Element.{Address, Element, address, same_address, element_at, parent_of}
+use Rattle.cst_core.proofs.LastSlot.{parent-and-slot}
+use Rattle.edit_map.specs.Mapping.{Mapping, copy, copied, IsRising, child_address, StandsFor}
+use Rattle.edit_map.proofs.Copies.{same_addresses, same_address-true, same_address-itself}
+use Rattle.edit_map.proofs.Followed.{counted, copy-falls}
+use Rattle.edit_map.proofs.Places.{StandsFor-push, last_view}
+use Rattle.edit_map.proofs.Tables.{alike, lookup-copy}
+
+pub copied-found : (m : Mapping) (e c : Element) → Some c ≡ lookup (alike e) m → address c ≡ copied m (address e)
+copied-found m e c is = ap (λ o. option_map_or address o (address e)) (is ∙ lookup-copy m e)
+
+pub copied-none : (m : Mapping) (e : Element) → None ≡ lookup (alike e) m → address e ≡ copied m (address e)
+copied-none m e is = ap (λ o. option_map_or address o (address e)) (is ∙ lookup-copy m e)
+
+pub child-of-parent : (e parent : Element) → Some parent ≡ parent_of e → address e ≡ child_address (address parent) (last_slot e.path)
+child-of-parent e parent is =
+    (elim e.path as (λ p. e.path ≡ p → Some parent ≡ parent_of e → address e ≡ child_address (address parent) (last_slot e.path)) [
+      | [] ↦ λ at is. absurd (none-some parent (sym (is ∙ rw at refl)))
+      | i ∷ p ↦ λ at is. (
+          let same : parent ≡ element_at e (parent_path (i ∷ p)) = same_Some parent (element_at e (parent_path (i ∷ p))) (is ∙ rw at refl) in
+          same_addresses (address e) (child_address (address parent) (last_slot e.path)) (sym (ap (λ (f : Element). f.number) same)) (rw (same, at) (parent-and-slot i p)))
+    ]) refl is
+
+-- ---- whether a payload is met
+pub met : (e f : Element) → not (alike e f) ≡ false → address e ≡ address f
+met e f h = same_address-true (address e) (address f) (true_from_ne_false (alike e f) (λ none. true≢false (sym (ap not none) ∙ h)))
+
+pub not-met : (e f : Element) → not (alike e f) ≡ true → address e ≡ address f → ⊥
+not-met e f h same = true≢false (sym h ∙ ap not (ap (λ a. same_address a (address f)) same ∙ same_address-itself (address f)))
+
+-- ---- the way so far
+pub StandsFor-down : (m : Mapping) (r : Address) (p : Path) (i : ℕ) (x q : Address) → StandsFor m r p q → copied m x ≡ child_address q i → StandsFor m r (p ++ i ∷ []) x
+StandsFor-down m r [] i x q stands is = (x, is ∙ ap (λ a. child_address a i) stands, refl)
+StandsFor-down m r (j ∷ p) i x q (y, at, below) is = (y, at, StandsFor-down m y p i x q below is)
+
+pub record Climbed (m : Mapping) (r target : Address) (slots : Path) (here : Address) : Type 0 where
+  pub down : (p : Path) → StandsFor m r p here → StandsFor m r (p ++ reverse slots) target
+  pub up : (p : Path) → StandsFor m r p target → (q : Path) × StandsFor m r q here
+
+pub climbed-start : (m : Mapping) (r target : Address) → Climbed m r target [] target
+climbed-start m r target = record {
+  down = λ p stands. rw append-nil stands;
+  up = λ p stands. (p, stands);
+}
+
+no-root : (p : Path) (i : ℕ) → p ++ i ∷ [] ≡ [] → ⊥
+no-root [] i e = cc
+no-root (j ∷ p) i e = cc
+
+module _ (m : Mapping) (r target : Address) (slots : Path) (here : Address) (climbed : Climbed m r target slots here) where
+  -- what stands in the payload and is not the payload stands one step below something
+  step-up : (here ≡ r → ⊥) → (q : Path) → StandsFor m r q here → (p : Path) × (i : ℕ) × (y : Address) × StandsFor m r p y × (copied m here ≡ child_address y i)
+  step-up other q stands =
+      elim (last_view q) [
+        | inl e ↦ absurd (other (subst (λ s. StandsFor m r s here) e stands))
+        | inr v ↦ (
+            let above : (y : Address) × StandsFor m r v.0 y × (copied m here ≡ child_address y v.1) = StandsFor-push m r v.0 v.1 here (subst (λ s. StandsFor m r s here) v.2 stands) in
+            (v.0, v.1, above.0, above.1, above.2))
+      ]
+
+  pub climbed-step : (i : ℕ) (parent : Address) → (here ≡ r → ⊥) → copied m here ≡ child_address parent i → Climbed m r target (slots ++ i ∷ []) parent
+  climbed-step i parent other is = record {
+    down = λ p stands. rw (reverse-append, ← append_assoc) (climbed.down (p ++ i ∷ []) (StandsFor-down m r p i here parent stands is));
+    up = λ p stands. moved (step-up other (climbed.up p stands).0 (climbed.up p stands).1);
+  }
+    where
+      moved : (p : Path) × (j : ℕ) × (y : Address) × StandsFor m r p y × (copied m here ≡ child_address y j) → (q : Path) × StandsFor m r q parent
+      moved (p, j, y, stands, at) =
+          let same : child_address y j ≡ child_address parent i = sym at ∙ is in
+          let path : y.path ≡ parent.path = (same_from_push y.path parent.path j i (ap (λ (a : Address). a.path) same)).0 in
+          (p, subst (StandsFor m r p) (same_addresses y parent (ap (λ (a : Address). a.number) same) path) stands)
+
+  pub climbed-there : here ≡ r → StandsFor m r (reverse slots) target
+  climbed-there same = climbed.down [] same
+
+  pub climbed-nowhere : (here ≡ r → ⊥) → (copied m here).path ≡ [] → (p : Path) → StandsFor m r p target → ⊥
+  climbed-nowhere other root p stands = at_root (step-up other (climbed.up p stands).0 (climbed.up p stands).1)
+    where
+      at_root : (p : Path) × (j : ℕ) × (y : Address) × StandsFor m r p y × (copied m here ≡ child_address y j) → ⊥
+      at_root (p, j, y, stands, at) = no-root y.path j (sym (ap (λ (a : Address). a.path) at) ∙ root)
+
+-- ---- how long it can get
+-- the lengths of the paths of all copies
+abbrev lengths : Mapping → ℕ
+lengths [] = 0
+lengths (pair ∷ m) = length pair.1.path + lengths m
+
+copy-short : (m : Mapping) (x : Address) (c : Element) → copy m x ≡ Some c → length c.path ≤ lengths m
+copy-short [] x c is = absurd (none-some c is)
+copy-short (pair ∷ m) x c is =
+    (elim (same_address (address pair.0) x) as (λ b. option_map (λ (d : Element × Element). d.1) (cond b (Some pair) (find (λ d. same_address (address d.0) x) m)) ≡ Some c → length c.path ≤ length pair.1.path + lengths m) [
+      | true ↦ λ this. omega (arith, ap (λ (d : Element). length d.path) (same_Some pair.1 c this))
+      | false ↦ λ that. omega (arith, copy-short m x c that)
+    ]) is
+
+-- Each copy on the way uses up a pair, and between copies the paths get shorter.
+abbrev pub way : Mapping → Address → ℕ
+way m x = counted x.number m * suc (lengths m) + length x.path
+
+less-way : (a b l p q : ℕ) → a < b → p ≤ l → a * suc l + p < b * suc l + q
+less-way a b l p q less short =
+    let enough : (a + 1) * suc l ≤ b * suc l = mul-le-mul_right (suc l) (omega (arith, less)) in
+    let more : suc a * suc l ≡ a * suc l + suc l = suc-mul a (suc l) in
+    let one : (a + 1) * suc l ≡ suc a * suc l = ap (λ n. n * suc l) (add-one a) in
+    omega (arith, enough, more, one, short)
+
+pub way-falls : (m : Mapping) → IsRising m → (x y : Address) (i : ℕ) → copied m x ≡ child_address y i → way m y < way m x
+way-falls m rising x y i is =
+    (elim (copy m x) as (λ o. copy m x ≡ o → option_map_or address o x ≡ child_address y i → way m y < way m x) [
+      | None ↦ λ _ at. (
+          let number : x.number ≡ y.number = ap (λ (a : Address). a.number) at in
+          let long : length x.path ≡ length y.path + 1 = ap (λ (a : Address). length a.path) at ∙ length_push y.path i in
+          let counts : counted y.number m ≡ counted x.number m = ap (λ n. counted n m) (sym number) in
+          rw counts (omega (arith, long)))
+      | Some c ↦ λ of at. (
+          let number : c.number ≡ y.number = ap (λ (a : Address). a.number) at in
+          let long : length c.path ≡ length y.path + 1 = ap (λ (a : Address). length a.path) at ∙ length_push y.path i in
+          let fewer : counted y.number m < counted x.number m = rw (← number) ((copy-falls m rising x c of).1) in
+          less-way (counted y.number m) (counted x.number m) (lengths m) (length y.path) (length x.path) fewer (omega (arith, long, copy-short m x c of)))
+    ]) refl is

@@ -1,0 +1,63 @@
+-- How mappings are made.
+--     mapping_code                   the code of a mapping, as a model's value
+--     SameCopies                     two mappings give each address the same copy
+--     IsMadeOf                       the mapping is what these pairs make, the newest first: the newest pair of an address stands
+--     Builder, builder_code          the parent of the copies, and the pairs so far, the newest first; its code
+--     IsPairUnder                    what a builder with this parent asks of a pair
+--     RefusesPair                    why it refuses one: the first of these that is missing
+--     RefusesFirst                   why it refuses the first pair that it does not take
+--     RefusesChildren                why it refuses inputs and outputs
+use Rattle.std.specs.Prelude.{◌≡◌, ◌<◌, ◌≤◌, List, ◌∷◌, ◌++◌, length, All, Contains, refl}
+use Rattle.std.specs.List.{zip}
+use Rattle.std.specs.Coded.{Coded, code_by, coded_list, coded×}
+use Rattle.cst_core.specs.Tree.{SameShape}
+use Rattle.cst_core.specs.Element.{Address, Element, IsChild, subtree, element_code}
+use Rattle.edit_map.specs.Mapping.{Mapping, copy, Rises}
+use Rattle.edit_map.specs.declared.map_error.MapError.{MapError}
+use Rattle.edit_map.specs.declared.map_error.MapError.TheVariants.{NotAChild, NotYounger, OtherShape, MoreInputs, Memory}
+
+abbrev pub mapping_code : Coded Mapping
+mapping_code = coded_list (coded× element_code element_code)
+
+abbrev pub SameCopies : Mapping → Mapping → Type 0
+SameCopies m n = (x : Address) → copy m x ≡ copy n x
+
+pub record IsMadeOf (pairs m : Mapping) : Type 0 where
+  pub copies : SameCopies m pairs
+  pub among : All (Contains pairs) m
+
+pub record Builder : Type 0 where
+  pub parent : Element
+  pub pairs : Mapping
+
+abbrev pub builder_code : Coded Builder
+builder_code = code_by (Element × Mapping) (coded× element_code mapping_code) (λ b. (b.parent, b.pairs)) (λ q. record { parent = q.0; pairs = q.1 }) (λ _. refl)
+
+pub record IsPairUnder (parent : Element) (pair : Element × Element) : Type 0 where
+  pub child : IsChild parent pair.1
+  pub rises : Rises pair
+
+abbrev pub RefusesPair : Element → Element × Element → MapError → Type 0
+RefusesPair parent pair NotAChild = IsChild parent pair.1 → ⊥
+RefusesPair parent pair NotYounger = IsChild parent pair.1 × (pair.1.number ≤ pair.0.number)
+RefusesPair parent pair OtherShape = IsChild parent pair.1 × (pair.0.number < pair.1.number) × (SameShape (subtree pair.0) (subtree pair.1) → ⊥)
+RefusesPair parent pair MoreInputs = ⊥
+RefusesPair parent pair Memory = Unit {0}
+
+pub record RefusesFirst (parent : Element) (pairs : List (Element × Element)) (e : MapError) : Type 0 where
+  pub before : List (Element × Element)
+  pub pair : Element × Element
+  pub after : List (Element × Element)
+  pub is : pairs ≡ before ++ pair ∷ after
+  pub taken : All (IsPairUnder parent) before
+  pub refused : RefusesPair parent pair e
+
+abbrev refuses_equal : Element → List Element → List Element → MapError → Type 0
+refuses_equal parent inputs outputs e = (length inputs ≤ length outputs) × RefusesFirst parent (zip inputs outputs) e
+
+abbrev pub RefusesChildren : Element → List Element → List Element → MapError → Type 0
+RefusesChildren parent inputs outputs NotAChild = refuses_equal parent inputs outputs NotAChild
+RefusesChildren parent inputs outputs NotYounger = refuses_equal parent inputs outputs NotYounger
+RefusesChildren parent inputs outputs OtherShape = refuses_equal parent inputs outputs OtherShape
+RefusesChildren parent inputs outputs MoreInputs = length outputs < length inputs
+RefusesChildren parent inputs outputs Memory = Unit {0}

@@ -1,0 +1,171 @@
+ghost use Rattle.std.specs.Prelude.{◌≡◌, [], ◌++◌, IfOk, OnOk, OnErr, reverse, option_map, MatchOption};
+ghost use Rattle.cst_core.specs.Element.{address};
+ghost use Rattle.edit_map.specs.Mapping.{IsRising, IsPlace, copied};
+ghost use Rattle.edit_map.specs.Building.{IsMadeOf};
+ghost use Rattle.edit_map.specs.Climbing.{IsAbove};
+
+use crate::builder::SyntaxMappingBuilder;
+use crate::pairs::{push_clones, put_all};
+use cst_core::SyntaxNode;
+use std::alloc::{AllocError, Global};
+use std::collections::HashMap;
+use std::marker::Model;
+
+/// Which node of a younger tree is the copy of which one.
+///
+/// A copy has a greater tree number than what it is the copy of, and the same shape. Nodes are told apart by tree number and
+/// path; the pair that comes last stands.
+#[derive(Drop)]
+pub struct SyntaxMapping {
+    copies: HashMap<SyntaxNode, SyntaxNode>,
+}
+
+impl Model for SyntaxMapping {
+    ghost use Rattle.edit_map.specs.Mapping.{Mapping, IsRising};
+    ghost use Rattle.edit_map.specs.Building.{mapping_code};
+
+    ghost Value = { Mapping };
+
+    ghost coded = { mapping_code };
+
+    ghost view = { λ a. a.copies.entries };
+
+    ghost invariant = { λ a. IsRising a.copies.entries };
+}
+
+impl SyntaxMapping {
+    /// A mapping of nothing.
+    pub fn new(alloc: Global) -> SyntaxMapping
+        ensures { result ≡ [] }
+    {
+        SyntaxMapping {
+            copies: HashMap::new(alloc),
+        }
+    }
+
+    /// Takes up the pairs of a builder, which stand where this mapping has other ones.
+    ///
+    /// Refused for memory alone. The mapping is unchanged then, and the builder is gone.
+    pub fn add_mapping(
+        &mut self,
+        _alloc: Global,
+        builder: SyntaxMappingBuilder,
+    ) -> Result<(), AllocError>
+        ensures ok { OnOk result (IsMadeOf (builder.pairs ++ self.old) self.new) }
+        ensures err { OnErr result (self.new ≡ self.old) }
+        ensures rising { IsRising self.new }
+    {
+        self.take_in(builder.into_pairs())
+    }
+
+    /// Takes up the pairs of another mapping, which stand where this one has other ones.
+    ///
+    /// Refused for memory alone. The mapping is unchanged then, and the other one is gone.
+    pub fn merge(&mut self, alloc: Global, other: SyntaxMapping) -> Result<(), AllocError>
+        ensures ok { OnOk result (IsMadeOf (other ++ self.old) self.new) }
+        ensures err { OnErr result (self.new ≡ self.old) }
+        ensures rising { IsRising self.new }
+    {
+        // The copies rise.
+        let _ = &self.copies;
+        let pairs = other.into_pairs(alloc)?;
+        self.take_in(pairs)
+    }
+
+    /// An equal mapping.
+    pub fn try_clone(&self, alloc: Global) -> Result<SyntaxMapping, AllocError>
+        ensures ok { IfOk result (IsMadeOf self.now) }
+        ensures rising { IfOk result IsRising }
+    {
+        let mut clone = SyntaxMapping::new(alloc);
+        clone.take_in(self.cloned_pairs(alloc)?)?;
+        Ok(clone)
+    }
+
+    /// Where the copy of `target` stands in `payload`: the slots that lead there from the payload, through as many copies as it
+    /// takes.
+    ///
+    /// The place of a node in itself is the empty path. Else the way up begins at the target: to the copy of a node where it
+    /// has one, and on to the parent of that, until the payload is met. `None` where a root is met instead; so a copy that is
+    /// the payload itself has no place.
+    pub fn place(
+        &self,
+        alloc: Global,
+        target: &SyntaxNode,
+        payload: &SyntaxNode,
+    ) -> Result<Option<Vec<usize>>, AllocError>
+        ensures place { IfOk result (λ p. IsPlace self.now (address target.now) (address payload.now) (option_map (λ v. v.items) p)) }
+        ensures rising { IsRising self.now }
+    {
+        // The copies rise.
+        let _ = &self.copies;
+        let mut slots = Vec::new(alloc);
+        let mut node = target.try_clone(alloc)?;
+        'up: while node != *payload {
+            let Some((slot, parent)) = self.above(alloc, &node)? else {
+                return Ok(None);
+            };
+            slots.push(slot)?;
+            node = parent;
+        }
+        slots.reverse();
+        Ok(Some(slots))
+    }
+
+    // The copy of a node, or the node itself where it has none.
+    fn copied<'a>(&'a self, node: &'a SyntaxNode) -> &'a SyntaxNode
+        ensures { address result.now ≡ copied self.now (address node.now) }
+    {
+        match self.copies.get(node) {
+            Some(copy) => copy,
+            None => node,
+        }
+    }
+
+    // The slot of the copy of a node, or of the node itself where it has none, and its parent; a root has none.
+    fn above(
+        &self,
+        alloc: Global,
+        node: &SyntaxNode,
+    ) -> Result<Option<(usize, SyntaxNode)>, AllocError>
+        ensures { IfOk result (IsAbove self.now (address node.now)) }
+    {
+        let copy = self.copied(node);
+        match copy.parent(alloc)? {
+            Some(parent) => Ok(Some((copy.index(), parent))),
+            None => Ok(None),
+        }
+    }
+
+    // Takes up pairs, one after another.
+    fn take_in(&mut self, pairs: Vec<(SyntaxNode, SyntaxNode)>) -> Result<(), AllocError>
+        requires { IsRising pairs.items }
+        ensures ok { OnOk result (IsMadeOf (reverse pairs.items ++ self.old) self.new) }
+        ensures err { OnErr result (self.new ≡ self.old) }
+        ensures rising { IsRising self.new }
+    {
+        put_all(&mut self.copies, pairs)
+    }
+
+    // The pairs, in some order.
+    fn into_pairs(self, alloc: Global) -> Result<Vec<(SyntaxNode, SyntaxNode)>, AllocError>
+        ensures { IfOk result (λ v. IsMadeOf self (reverse v.items) × IsRising v.items) }
+    {
+        let mut pairs = Vec::with_capacity(alloc, self.copies.len())?;
+        for pair in self.copies {
+            pairs.push(pair)?;
+        }
+        Ok(pairs)
+    }
+
+    // Clones of the pairs, in some order.
+    fn cloned_pairs(&self, alloc: Global) -> Result<Vec<(SyntaxNode, SyntaxNode)>, AllocError>
+        ensures { IfOk result (λ v. IsMadeOf self.now (reverse v.items) × IsRising v.items) }
+    {
+        let mut pairs = Vec::with_capacity(alloc, self.copies.len())?;
+        for (input, output) in &self.copies {
+            push_clones(alloc, &mut pairs, input, output)?;
+        }
+        Ok(pairs)
+    }
+}
