@@ -27,9 +27,9 @@ use Rattle.rewriting.specs.Aimed.{siblings_from}
 use Rattle.rewriting.specs.Pass.{given_by}
 use Rattle.rewriting.specs.Rewriting.{NumberedAim}
 use Rattle.green_tree.specs.declared.green.GreenElement.{GreenElement}
-use Rattle.edit_plan.specs.Aim.{position_aim, aim}
+use Rattle.edit_plan.specs.Aim.{position_aim, aim, aim_path}
 use Rattle.edit_plan.specs.Position.{anchor}
-use Rattle.edit_plan.specs.Owned.{aim_path, position_aim_from, aim_from}
+use Rattle.edit_plan.specs.Owned.{position_aim_from, aim_from}
 use Rattle.edit_plan.specs.declared.position.Position.{Position}
 use Rattle.edit_plan.specs.declared.position.PositionForm.TheVariants.{FirstChild, After}
 use Rattle.rewriting.specs.Aim.{Over}

@@ -14,6 +14,7 @@ mod Clashes
 mod Carried
 mod Moved
 mod Nested
+mod Placed
 mod GapRule
 mod Edits
 mod Owners

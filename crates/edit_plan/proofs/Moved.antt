@@ -28,7 +28,7 @@ use Rattle.cst_core.proofs.LastSlot.{parent_path-push, last_slot-push, parent-an
 use Rattle.rewriting.specs.Aim.{Aim, FirstIn, Behind, Over}
 use Rattle.rewriting.specs.Aimed.{siblings_from}
 use Rattle.rewriting.specs.Rewriting.{NumberedAim}
-use Rattle.edit_plan.specs.Aim.{position_aim, aim}
+use Rattle.edit_plan.specs.Aim.{position_aim, aim, aim_path}
 use Rattle.edit_plan.specs.Position.{anchor}
 use Rattle.edit_plan.specs.Fits.{Fits}
 use Rattle.edit_plan.specs.Change.{targets}
@@ -36,7 +36,7 @@ use Rattle.edit_plan.specs.Nesting.{region, surroundings, is_keeping, is_around,
 use Rattle.edit_plan.specs.Fate.{by_owner, fate, owner_in}
 use Rattle.edit_plan.specs.declared.fate.Fate.{Fate}
 use Rattle.edit_plan.specs.declared.fate.Fate.TheVariants.{Independent, Dropped, Owned}
-use Rattle.edit_plan.specs.Owned.{aim_path, position_aim_from, aim_from, depth, places_in, moved, dependents_in}
+use Rattle.edit_plan.specs.Owned.{position_aim_from, aim_from, depth, moved, dependents_in}
 use Rattle.edit_plan.specs.Rewriting.{moved_path, moved_aim, targets_of, dependents}
 use Rattle.edit_plan.specs.declared.position.Position.{Position}
 use Rattle.edit_plan.specs.declared.position.PositionForm.TheVariants.{FirstChild, After}
@@ -235,9 +235,6 @@ any-owner-there cs n o is = subst (λ x. IfSome x (λ k. k < length cs)) (sym is
 
 pub owner-is : (cs : List Change) (n : ℕ) (c : Change) (o : Option ℕ) → slice_get cs n ≡ Some c → o ≡ option_and_then (owner cs) (slice_get cs n) → owner cs c ≡ o
 owner-is cs n c o is by = sym (by ∙ ap (option_and_then (owner cs)) is)
-
-pub place-at : (table : List (Vec ℕ Global)) (n : ℕ) (v : Vec ℕ Global) → n < length table → v ≡ get_or table n v → places_in table n ≡ v.items
-place-at table n v l is = ap (λ o. option_map_or (λ w. w.items) o []) (slice_get-get_or table n v l ∙ ap (λ x. Some x) (sym is))
 
 pub none-at : (cs : List Change) (places : ℕ → Path) (n : ℕ) (table : List (Vec Dependent Global)) → n < length cs → option_and_then (owner cs) (slice_get cs n) ≡ None → ((c : ℕ) → dependents_in table c ≡ dependents-to cs places n c) → (c : ℕ) → dependents_in table c ≡ dependents-to cs places (n + 1) c
 none-at cs places n table l none before = go (slice_get cs n) refl

@@ -24,7 +24,7 @@ made_4 = the_one (new_tree changes_4 places_4 (BB []))
 rewriting_4 : IsRewriting (BB []) changes_4 [] mapping_4 (plain made_4) ((0 ∷ 2 ∷ []) ∷ []) []
 rewriting_4 = record {
   places = places_4;
-  are_places = All-from_recursion (FindsPlace mapping_4 changes_4 places_4) changes_4 ((row_4_place, λ e _. cc), ((row_4_place, λ e _. cc), (tt, tt)));
+  are_places = All-from_recursion (FindsPlace mapping_4 changes_4 places_4) changes_4 (((row_4_place, refl), λ e _. cc), (((row_4_place, refl), λ e _. cc), (tt, tt)));
   made = made_4;
   is_new = refl;
   tree_is = refl;
@@ -39,7 +39,7 @@ made_7 = the_one (new_tree changes_7 places_7 (M []))
 rewriting_7 : IsRewriting (M []) changes_7 ((NM, 1) ∷ (NR, 1) ∷ []) mapping_7 (plain made_7) ((4 ∷ []) ∷ []) ((1, 4 ∷ 0 ∷ 2 ∷ 2 ∷ 0 ∷ []) ∷ (1, 4 ∷ 0 ∷ 4 ∷ 1 ∷ []) ∷ [])
 rewriting_7 = record {
   places = places_7;
-  are_places = All-from_recursion (FindsPlace mapping_7 changes_7 places_7) changes_7 ((row_7_place, λ e _. cc), (tt, tt));
+  are_places = All-from_recursion (FindsPlace mapping_7 changes_7 places_7) changes_7 (((row_7_place, refl), λ e _. cc), (tt, tt));
   made = made_7;
   is_new = refl;
   tree_is = refl;
@@ -60,7 +60,7 @@ changes_12a = replace (R (1 ∷ [])) (R (1 ∷ [])) ∷ insert (after (R (1 ∷ 
 
 row_12a_unplaced : IsUnplaced [] changes_12a 1 0
 row_12a_unplaced =
-    (refl, λ place h. h.1 (StandsFor-unique [] nothing_rises (address (R (1 ∷ []))) place [] (address (R (1 ∷ []))) h.0 refl) refl)
+    (refl, λ place h. h.1 (StandsFor-unique [] nothing_rises (address (R (1 ∷ []))) place [] (address (R (1 ∷ []))) h.0.0 refl) refl)
 
 -- .. and it is the least such change, as the replacement has no owner
 row_12a : IsFirstUnplaced [] changes_12a 1 0
@@ -77,14 +77,14 @@ one_not_six : ◌≡◌ {A = ℕ} 1 6 → ⊥
 one_not_six e = omega (arith, e)
 
 row_26i : IsFirstUnplaced [] (replace (R (1 ∷ 0 ∷ [])) X ∷ replace (R (1 ∷ [])) A3 ∷ []) 0 1
-row_26i = record { unplaced = (refl, λ place h. unmapped (address A3) (address (R (1 ∷ []))) one_not_five place h.0); first = λ j e h u. not_below_0 j h }
+row_26i = record { unplaced = (refl, λ place h. unmapped (address A3) (address (R (1 ∷ []))) one_not_five place h.0.0); first = λ j e h u. not_below_0 j h }
 
 -- the owner recorded first
 abbrev changes_owner_first : List Change
 changes_owner_first = replace (R (1 ∷ [])) A3 ∷ replace (R (1 ∷ 0 ∷ [])) X ∷ []
 
 row_owner_first : IsFirstUnplaced [] changes_owner_first 1 0
-row_owner_first = record { unplaced = (refl, λ place h. unmapped (address A3) (address (R (1 ∷ []))) one_not_five place h.0); first = earlier }
+row_owner_first = record { unplaced = (refl, λ place h. unmapped (address A3) (address (R (1 ∷ []))) one_not_five place h.0.0); first = earlier }
   where
     earlier : (j e : ℕ) → j < 1 → IsUnplaced [] changes_owner_first j e → ⊥
     earlier zero e h u = none-some e u.0
@@ -92,14 +92,14 @@ row_owner_first = record { unplaced = (refl, λ place h. unmapped (address A3) (
 
 -- a copy that is the payload itself
 row_copy_is_payload_refused : IsFirstUnplaced mapping_shared (insert (first_in (R (1 ∷ []))) X ∷ replace (R (1 ∷ [])) (N7 (1 ∷ [])) ∷ []) 0 1
-row_copy_is_payload_refused = record { unplaced = (refl, λ place h. row_copy_is_payload place h.0); first = λ j e h u. not_below_0 j h }
+row_copy_is_payload_refused = record { unplaced = (refl, λ place h. row_copy_is_payload place h.0.0); first = λ j e h u. not_below_0 j h }
 
 -- behind a replaced empty node, and first in a replaced root
 abbrev changes_behind_empty : List Change
 changes_behind_empty = replace (E (1 ∷ [])) V ∷ insert (after (E (1 ∷ []))) X ∷ []
 
 row_behind_empty : IsFirstUnplaced [] changes_behind_empty 1 0
-row_behind_empty = record { unplaced = (refl, λ place h. unmapped (address V) (address (E (1 ∷ []))) one_not_six place h.0); first = earlier }
+row_behind_empty = record { unplaced = (refl, λ place h. unmapped (address V) (address (E (1 ∷ []))) one_not_six place h.0.0); first = earlier }
   where
     earlier : (j e : ℕ) → j < 1 → IsUnplaced [] changes_behind_empty j e → ⊥
     earlier zero e h u = none-some e u.0
@@ -109,7 +109,7 @@ abbrev changes_in_root : List Change
 changes_in_root = replace (R []) V ∷ insert (first_in (R [])) X ∷ []
 
 row_in_root : IsFirstUnplaced [] changes_in_root 1 0
-row_in_root = record { unplaced = (refl, λ place h. unmapped (address V) (address (R [])) one_not_six place h.0); first = earlier }
+row_in_root = record { unplaced = (refl, λ place h. unmapped (address V) (address (R [])) one_not_six place h.0.0); first = earlier }
   where
     earlier : (j e : ℕ) → j < 1 → IsUnplaced [] changes_in_root j e → ⊥
     earlier zero e h u = none-some e u.0
@@ -120,7 +120,7 @@ abbrev changes_two_unplaced : List Change
 changes_two_unplaced = insert (first_in (R (1 ∷ []))) X ∷ insert (first_in (R (4 ∷ []))) X ∷ replace (R (1 ∷ [])) A3 ∷ replace (R (4 ∷ [])) A3 ∷ []
 
 row_two_unplaced : IsUnplaced [] changes_two_unplaced 1 3
-row_two_unplaced = (refl, λ place h. unmapped (address A3) (address (R (4 ∷ []))) one_not_five place h.0)
+row_two_unplaced = (refl, λ place h. unmapped (address A3) (address (R (4 ∷ []))) one_not_five place h.0.0)
 
 row_least_unplaced : IsFirstUnplaced [] changes_two_unplaced 0 2
-row_least_unplaced = record { unplaced = (refl, λ place h. unmapped (address A3) (address (R (1 ∷ []))) one_not_five place h.0); first = λ j e h u. not_below_0 j h }
+row_least_unplaced = record { unplaced = (refl, λ place h. unmapped (address A3) (address (R (1 ∷ []))) one_not_five place h.0.0); first = λ j e h u. not_below_0 j h }

@@ -9,18 +9,18 @@ use Rattle.std.specs.Prelude.{◌≡◌, ℕ, List, [], ◌∷◌, map, Some, No
 use Rattle.std.specs.Coded.{Coded, code_by, coded_list, coded×}
 use Rattle.cst_core.specs.Path.{Path}
 use Rattle.cst_core.specs.Tree.{SyntaxTree}
-use Rattle.cst_core.specs.Element.{Element, IsNode, NumbersTell, element_code}
+use Rattle.cst_core.specs.Element.{Element, IsNode, element_code}
 use Rattle.cst_core.specs.SyntaxElement.{syntax_at}
 use Rattle.cst_core.specs.TreeIds.{IsSpent}
 use Rattle.cst_core.specs.declared.element.SyntaxElement.{SyntaxElement}
 use Rattle.edit_plan.specs.Codes.{syntax_element_code}
 use Rattle.edit_plan.specs.ChangeCodes.{change_code}
 use Rattle.edit_plan.specs.Fits.{Fits}
-use Rattle.edit_map.specs.Mapping.{Mapping, IsRising}
+use Rattle.edit_map.specs.Mapping.{Mapping}
 use Rattle.edit_plan.specs.Nesting.{first_clash}
 use Rattle.edit_plan.specs.Rewriting.{OriginTree, plain, is_free, new_tree}
 use Rattle.edit_plan.specs.Results.{changed}
-use Rattle.edit_plan.specs.Plan.{IsFirstUnplaced, ArePlaces, elements_held, IsTooLong, IsRewriting}
+use Rattle.edit_plan.specs.Plan.{IsFirstUnplaced, ArePlaces, IsTooLong, IsRewriting}
 use Rattle.edit_plan.specs.declared.change.Change.{Change}
 use Rattle.edit_plan.specs.declared.edit_error.EditError.{EditError}
 use Rattle.edit_plan.specs.declared.edit_error.EditError.TheVariants.{Intersecting, MissingMapping, TooLong, NoTreeNumber, Memory}
@@ -38,15 +38,13 @@ pub record IsPlan (p : Plan) : Type 0 where
   pub is_root : p.root.path ≡ []
   pub is_node : IsNode p.root
   pub fit : All (Fits p.root) p.changes
-  pub rises : IsRising p.mapping
   pub apart : first_clash p.changes ≡ None
   pub places : ℕ → Path
   pub placed : ArePlaces p.mapping p.changes places
 
--- That the first change without a place is named is promised where equal numbers have equal trees.
 abbrev pub BuildRefuses : Plan → EditError → Type 0
 BuildRefuses p (Intersecting first second) = first_clash p.changes ≡ Some (first, second)
-BuildRefuses p (MissingMapping change owner) = (first_clash p.changes ≡ None) × (NumbersTell (elements_held p.root p.changes [] p.mapping) → IsFirstUnplaced p.mapping p.changes change owner)
+BuildRefuses p (MissingMapping change owner) = (first_clash p.changes ≡ None) × IsFirstUnplaced p.mapping p.changes change owner
 BuildRefuses p TooLong = ⊥
 BuildRefuses p NoTreeNumber = ⊥
 BuildRefuses p Memory = Unit {0}

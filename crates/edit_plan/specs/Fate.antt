@@ -2,13 +2,11 @@
 --     by_owner                      by its owner, of a change that is not dropped
 --     fate                          among these changes
 --     drops_at, fate_within         a dropping region has this path; the fate of a change that these paths are around
---     owner_in, is_dropped_in       what a fate says
---     IsSettled                     a plan with the fate of each of its changes, in their order
+--     owner_in, is_dropped_in, is_independent_in    what a fate says
 use Rattle.std.specs.Prelude.{◌≡◌, ℕ, Bool, true, false, cond, not, List, map, filter_map, slice_get, Option, Some, None}
 use Rattle.std.specs.List.{list_any}
 use Rattle.std.specs.Option.{option_map_or}
 use Rattle.cst_core.specs.Path.{Path, last_item}
-use Rattle.edit_plan.specs.Building.{Plan, IsPlan}
 use Rattle.edit_plan.specs.Nesting.{is_keeping, is_dropped, region_at, owner}
 use Rattle.edit_plan.specs.declared.change.Change.{Change}
 use Rattle.edit_plan.specs.declared.fate.Fate.{Fate}
@@ -37,6 +35,7 @@ is_dropped_in Independent = false
 is_dropped_in Dropped = true
 is_dropped_in (Owned d) = false
 
-pub record IsSettled (p : Plan) (fates : List Fate) : Type 0 where
-  pub is_plan : IsPlan p
-  pub fates_are : fates ≡ map (fate p.changes) p.changes
+abbrev pub is_independent_in : Fate → Bool
+is_independent_in Independent = true
+is_independent_in Dropped = false
+is_independent_in (Owned d) = false

@@ -17,3 +17,5 @@ pub mod ChangeCodes
 pub mod Building
 pub mod Laws
 pub mod Fate
+pub mod Planned
+pub mod PlacesRefuse

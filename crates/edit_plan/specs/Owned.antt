@@ -1,14 +1,16 @@
 -- What code keeps of owners, and of the changes that they own.
---     aim_path                      the path that says where a change aims: of an insert's anchor, of the first element that is replaced
---     aim_from                      where a change aims with another path in that one's place
+--     aim_from                      where a change aims with another path in place of its own
 --     depth                         more than the lengths of the paths around a change, and no more than those of what it replaces
---     places_in                     the places of owners, from a table by number
+--     IsPlaceOf                     the only place of an owner's target in its payload, or that there is none
+--     path_in, path_at, places_in   a place, if there is one; that of an owner, from a table by its number; the empty path where there is none
+--     IsPlaced                      a table has no other places than those of owners
+--     FoundSoFar                    the changes before this one find places in a table
 --     moved                         a change that is owned, and where it aims in its owner's payload
 --     AreDependents                 a table has for each change those that it owns
 --     IsGiven, AreGiven             a table has what a change gives; what each change gives
 --     IsFilled                      what a change gives is entered into a table: its payload, rewritten by what the table has
 --     AreGivenFrom                  it has what changes of this depth or more give, and those that own nothing
-use Rattle.std.specs.Prelude.{◌≡◌, ◌≢◌, ℕ, suc, ◌-◌, ◌≤◌, List, [], ◌∷◌, map, length, slice_get, Vec}
+use Rattle.std.specs.Prelude.{◌≡◌, ◌≢◌, ◌↔◌, ◌<◌, ℕ, suc, ◌-◌, ◌≤◌, List, [], ◌∷◌, map, length, slice_get, unwrap_or, Option, Some, option_map, option_and_then, Vec}
 use Rattle.std.specs.Global.{Global}
 use Rattle.std.specs.Option.{option_map_or}
 use Rattle.cst_core.specs.Path.{Path, last_slot}
@@ -19,7 +21,10 @@ use Rattle.rewriting.specs.Aim.{Aim, FirstIn, Behind, Over}
 use Rattle.rewriting.specs.Aimed.{siblings_from}
 use Rattle.rewriting.specs.Pass.{kind_only, given_by}
 use Rattle.rewriting.specs.Rewriting.{NumberedAim, rewritten}
+use Rattle.edit_map.specs.Mapping.{Mapping}
 use Rattle.edit_plan.specs.Position.{anchor}
+use Rattle.edit_plan.specs.Plan.{IsPlaceIn, HasPlace}
+use Rattle.edit_plan.specs.Nesting.{owner}
 use Rattle.edit_plan.specs.Rewriting.{plain, payload_of, dependents, given}
 use Rattle.edit_plan.specs.declared.position.Position.{Position}
 use Rattle.edit_plan.specs.declared.position.PositionForm.TheVariants.{FirstChild, After}
@@ -28,13 +33,6 @@ use Rattle.edit_plan.specs.declared.change.Change.TheVariants.{Insert, InsertAll
 use Rattle.edit_plan.specs.declared.dependent.Dependent.{Dependent}
 
 -- ---- where a change aims
-abbrev pub aim_path : Change → Path
-aim_path (Insert at e) = (anchor at).path
-aim_path (InsertAll at es) = (anchor at).path
-aim_path (Replace t e) = (element_of t).path
-aim_path (ReplaceWithMany t es) = (element_of t).path
-aim_path (ReplaceAll first last es) = (element_of first).path
-
 abbrev pub position_aim_from : Path → Position → Aim
 position_aim_from p (FirstChild n) = FirstIn p
 position_aim_from p (After e) = Behind p
@@ -56,15 +54,33 @@ depth (ReplaceAll first last es) = length (element_of first).path
 abbrev pub depth_of : List Change → ℕ → ℕ
 depth_of changes c = option_map_or depth (slice_get changes c) 0
 
+-- ---- places
+abbrev pub IsPlaceOf : Mapping → Change → Option Path → Type 0
+IsPlaceOf m o place = (p : Path) → IsPlaceIn m o p ↔ (place ≡ Some p)
+
 -- ---- tables
-abbrev pub places_in : List (Vec ℕ Global) → ℕ → Path
-places_in table c = option_map_or (λ v. v.items) (slice_get table c) []
+abbrev pub path_in : Option (Vec ℕ Global) → Option Path
+path_in place = option_map (λ v. v.items) place
+
+abbrev pub path_at : List (Option (Vec ℕ Global)) → ℕ → Option Path
+path_at table c = option_and_then path_in (slice_get table c)
+
+abbrev pub places_in : List (Option (Vec ℕ Global)) → ℕ → Path
+places_in table c = unwrap_or (path_at table c) []
 
 abbrev pub moved : Dependent → NumberedAim
 moved d = (d.number, aim_from d.path.items d.change.now)
 
 abbrev pub dependents_in : List (Vec Dependent Global) → ℕ → List NumberedAim
 dependents_in table c = option_map_or (λ v. map moved v.items) (slice_get table c) []
+
+module _ (m : Mapping) (changes : List Change) (table : List (Option (Vec ℕ Global))) where
+  abbrev pub IsPlaced : Type 0
+  IsPlaced = (c : ℕ) (o : Change) (p : Path) → slice_get changes c ≡ Some o → path_at table c ≡ Some p → IsPlaceOf m o (Some p)
+
+  abbrev pub FoundSoFar : ℕ → Type 0
+  FoundSoFar n =
+      (i e : ℕ) (c o : Change) → i < n → slice_get changes i ≡ Some c → owner changes c ≡ Some e → slice_get changes e ≡ Some o → (p : Path) × (path_at table e ≡ Some p) × HasPlace m o c p
 
 module _ (changes : List Change) (places : ℕ → Path) where
   abbrev pub AreDependents : List (Vec Dependent Global) → Type 0

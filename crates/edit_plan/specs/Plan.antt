@@ -1,34 +1,39 @@
 -- What finishing a list of changes answers: the new tree with what is told of it, or a refusal.
---     HasPlace                      at this path of its owner's payload a change finds the copy that it moves to
+--     IsPlaceIn                     this path of an owner's payload leads to an element that stands there for the owner's target
+--     HasPlace                      this path is the place from which a change finds where it moves to in its owner's payload
 --     IsUnplaced, IsFirstUnplaced   a change that is not dropped and has no place in its owner's payload; the least such change
 --     FindsPlace, ArePlaces         a change has its place where one is kept for each owner; each change does
 --     elements_held                 all element values that a plan holds, of which NumbersTell is the premise of every promise on the tree
 --     IsTooLong                     the new text passes the limit
 --     IsRewriting                   a tree with changed and annotated paths is the simultaneous rewriting of the old tree
-use Rattle.std.specs.Prelude.{◌≡◌, ◌≢◌, ℕ, ◌<◌, ◌≤◌, List, [], ◌∷◌, ◌++◌, map, flat_map, slice_get, Some, None, IfSome, IsSomeAnd, All}
+use Rattle.std.specs.Prelude.{◌≡◌, ◌≢◌, ℕ, ◌<◌, ◌≤◌, List, [], ◌∷◌, ◌++◌, map, flat_map, slice_get, Some, None, IfSome, IsSome, IsSomeAnd, All}
 use Rattle.cst_core.specs.Path.{Path}
-use Rattle.cst_core.specs.Tree.{SyntaxTree, text_length}
-use Rattle.cst_core.specs.Element.{Element, address}
+use Rattle.cst_core.specs.Tree.{SyntaxTree, at, text_length}
+use Rattle.cst_core.specs.Element.{Element, address, subtree}
 use Rattle.cst_core.specs.SyntaxElement.{element_of}
 use Rattle.cst_core.specs.Green.{length_limit}
 use Rattle.edit_map.specs.Mapping.{Mapping, StandsFor, mapped_elements}
 use Rattle.edit_plan.specs.Change.{elements}
 use Rattle.rewriting.specs.Aim.{Behind}
-use Rattle.edit_plan.specs.Aim.{aim}
+use Rattle.edit_plan.specs.Aim.{aim, aim_path}
 use Rattle.edit_plan.specs.Nesting.{owner}
 use Rattle.edit_plan.specs.Rewriting.{OriginTree, plain, new_tree, is_free}
 use Rattle.edit_plan.specs.Results.{changed, annotated}
 use Rattle.edit_plan.specs.declared.change.Change.{Change}
 use Rattle.edit_plan.specs.declared.change.Change.TheVariants.{Insert, InsertAll, Replace, ReplaceWithMany, ReplaceAll}
 
+-- A payload has an element at each such path where equal numbers have equal trees.
+abbrev pub IsPlaceIn : Mapping → Change → Path → Type 0
+IsPlaceIn m (Replace t (Some r)) place = StandsFor m (address (element_of r)) place (address (element_of t)) × IsSome (at (subtree (element_of r)) place)
+IsPlaceIn m (Replace t None) place = ⊥
+IsPlaceIn m (Insert gap e) place = ⊥
+IsPlaceIn m (InsertAll gap es) place = ⊥
+IsPlaceIn m (ReplaceWithMany t es) place = ⊥
+IsPlaceIn m (ReplaceAll first last es) place = ⊥
+
 -- An insert behind the target itself has no gap where the payload stands in the target's place whole.
 abbrev pub HasPlace : Mapping → Change → Change → Path → Type 0
-HasPlace m (Replace t (Some r)) c place = StandsFor m (address (element_of r)) place (address (element_of t)) × (place ≡ [] → aim c ≢ Behind (element_of t).path)
-HasPlace m (Replace t None) c place = ⊥
-HasPlace m (Insert at e) c place = ⊥
-HasPlace m (InsertAll at es) c place = ⊥
-HasPlace m (ReplaceWithMany t es) c place = ⊥
-HasPlace m (ReplaceAll first last es) c place = ⊥
+HasPlace m o c place = IsPlaceIn m o place × (place ≡ [] → aim c ≢ Behind (aim_path o))
 
 -- change i has the owner d, and no place in its payload
 abbrev pub IsUnplaced : Mapping → List Change → ℕ → ℕ → Type 0

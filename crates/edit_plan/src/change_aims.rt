@@ -4,10 +4,10 @@ ghost use Rattle.cst_core.specs.GreenElement.{element_trees};
 ghost use Rattle.cst_core.specs.SyntaxElement.{element_of};
 ghost use Rattle.cst_core.specs.Path.{last_slot};
 ghost use Rattle.rewriting.specs.Aimed.{numbered};
-ghost use Rattle.edit_plan.specs.Aim.{aim};
+ghost use Rattle.edit_plan.specs.Aim.{aim, aim_path};
 ghost use Rattle.edit_plan.specs.Change.{payload};
 ghost use Rattle.edit_plan.specs.Fits.{Fits};
-ghost use Rattle.edit_plan.specs.Owned.{aim_path, aim_from, position_aim_from, depth};
+ghost use Rattle.edit_plan.specs.Owned.{aim_from, position_aim_from, depth};
 
 use crate::change::Change;
 use crate::position::Position;

@@ -1,12 +1,12 @@
 ghost use Rattle.std.specs.Prelude.{ℕ, ◌≡◌, ◌≢◌, ◌<◌, ◌++◌, [], ◌∷◌, map, length, slice_get, option_and_then, All, IfOk, IfSome, OnOk};
 ghost use Rattle.cst_core.specs.Element.{Element};
 ghost use Rattle.rewriting.specs.Aimed.{aims_of};
-ghost use Rattle.edit_plan.specs.Aim.{aim};
+ghost use Rattle.edit_plan.specs.Aim.{aim, aim_path};
 ghost use Rattle.edit_plan.specs.Fits.{Fits};
 ghost use Rattle.edit_plan.specs.Fate.{fate};
 ghost use Rattle.edit_plan.specs.Nesting.{owner};
 ghost use Rattle.edit_plan.specs.Rewriting.{moved_path, moved_aim};
-ghost use Rattle.edit_plan.specs.Owned.{aim_path, depth, places_in, moved, dependents_in, AreDependents};
+ghost use Rattle.edit_plan.specs.Owned.{depth, places_in, moved, dependents_in, AreDependents};
 
 use crate::change::Change;
 use crate::fate::Fate;
@@ -100,8 +100,8 @@ fn moved_in<'a>(
     })
 }
 
-// The owner of a change, if it has one.
-fn owner_of(changes: &[Change], fates: &[Fate], number: usize) -> Option<usize>
+/// The owner of a change, if it has one.
+pub(crate) fn owner_of(changes: &[Change], fates: &[Fate], number: usize) -> Option<usize>
     requires there { number < length changes.now }
     requires fates { fates.now ≡ map (fate changes.now) changes.now }
     ensures owner { result ≡ option_and_then (owner changes.now) (slice_get changes.now number) }
@@ -110,13 +110,24 @@ fn owner_of(changes: &[Change], fates: &[Fate], number: usize) -> Option<usize>
     fates[number].owner()
 }
 
+// The place of an owner's target, from a table.
+fn place_at(places: &[Option<Vec<usize>>], owner: usize) -> &[usize]
+    requires { owner < length places.now }
+    ensures { result.now ≡ places_in places.now owner }
+{
+    match &places[owner] {
+        Some(place) => place.as_slice(),
+        None => &[],
+    }
+}
+
 /// What each change owns, by its number, in the order of the changes: `fates` has what becomes of each change, and `places` the
 /// place of each owner's target in its payload.
 pub(crate) fn dependents<'a>(
     alloc: Global,
     changes: &'a [Change],
     fates: &[Fate],
-    places: &[Vec<usize>],
+    places: &[Option<Vec<usize>>],
 ) -> Result<Vec<Vec<Dependent<'a>>>, AllocError>
     requires fit { (root : Element) × All (Fits root) changes.now }
     requires fates { fates.now ≡ map (fate changes.now) changes.now }
@@ -128,7 +139,7 @@ pub(crate) fn dependents<'a>(
     for number in 0..changes.len() {
         if let Some(owner) = owner_of(changes, fates, number) {
             let change = &changes[number];
-            let dependent = moved_in(alloc, change, number, &changes[owner], &places[owner])?;
+            let dependent = moved_in(alloc, change, number, &changes[owner], place_at(places, owner))?;
             enter(&mut table, owner, dependent)?;
         }
     }

@@ -1,5 +1,5 @@
 ghost use Rattle.std.specs.Prelude.{◌≡◌};
-ghost use Rattle.edit_plan.specs.Fate.{owner_in, is_dropped_in};
+ghost use Rattle.edit_plan.specs.Fate.{owner_in, is_dropped_in, is_independent_in};
 
 /// What becomes of a change in a plan.
 #[derive(Clone, Copy)]
@@ -13,6 +13,16 @@ pub(crate) enum Fate {
 }
 
 impl Fate {
+    pub(crate) fn is_independent(self) -> bool
+        ensures { result ≡ is_independent_in self }
+    {
+        match self {
+            Fate::Independent => true,
+            Fate::Dropped => false,
+            Fate::Owned(_) => false,
+        }
+    }
+
     pub(crate) fn is_dropped(self) -> bool
         ensures { result ≡ is_dropped_in self }
     {

@@ -15,6 +15,7 @@ pub mod laws;
 mod native;
 mod nesting;
 mod plan;
+mod places;
 mod position;
 mod run;
 mod targets;

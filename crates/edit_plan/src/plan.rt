@@ -7,7 +7,9 @@ ghost use Rattle.edit_plan.specs.Building.{BuildRefuses};
 use crate::change::Change;
 use crate::edit::SyntaxEdit;
 use crate::edit_error::EditError;
-use crate::nesting::{first_clash, first_nested};
+use crate::fate::Fate;
+use crate::nesting::first_clash;
+use crate::places::places;
 use cst_core::{SyntaxNode, TreeIds};
 use edit_map::SyntaxMapping;
 use std::alloc::Global;
@@ -19,13 +21,15 @@ pub struct EditPlan {
     pub(crate) root: SyntaxNode,
     pub(crate) changes: Vec<Change>,
     pub(crate) mapping: SyntaxMapping,
-    pub(crate) places: Vec<Vec<usize>>,
+    // What becomes of each change.
+    pub(crate) fates: Vec<Fate>,
+    // The place of each owner's target in its payload.
+    pub(crate) places: Vec<Option<Vec<usize>>>,
 }
 
 impl Model for EditPlan {
-    ghost use Rattle.edit_plan.specs.Building.{Plan, IsPlan, plan_code};
-    ghost use Rattle.edit_plan.specs.Owned.{places_in};
-    ghost use Rattle.edit_plan.specs.Plan.{ArePlaces};
+    ghost use Rattle.edit_plan.specs.Building.{Plan, plan_code};
+    ghost use Rattle.edit_plan.specs.Planned.{IsPlanned};
 
     ghost Value = { Plan };
 
@@ -33,7 +37,7 @@ impl Model for EditPlan {
 
     ghost view = { λ a. record { root = a.root; changes = a.changes.items; mapping = a.mapping } };
 
-    ghost invariant = { λ a. IsPlan (record { root = a.root; changes = a.changes.items; mapping = a.mapping }) × ArePlaces a.mapping a.changes.items (places_in a.places.items) };
+    ghost invariant = { λ a. IsPlanned (record { root = a.root; changes = a.changes.items; mapping = a.mapping }) a.fates.items a.places.items };
 }
 
 impl EditPlan {
@@ -54,9 +58,15 @@ impl EditPlan {
         if let Some((first, second)) = first_clash(&changes) {
             return Err(EditError::Intersecting { first, second });
         }
-        let _ = first_nested(&changes);
-        let places = Vec::new(alloc);
-        Ok(EditPlan { root, changes, mapping, places })
+        let fates = Vec::new(alloc);
+        let places = places(alloc, &changes, &fates, &mapping)?;
+        Ok(EditPlan {
+            root,
+            changes,
+            mapping,
+            fates,
+            places,
+        })
     }
 
     /// How many changes there are.

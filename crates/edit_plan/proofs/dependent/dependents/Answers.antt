@@ -1,9 +1,9 @@
 use Rattle.std.proofs.Common.{◌≡◌, ◌≢◌, ◌<◌, ◌+◌, ◌∙◌, ℕ, [], ◌∷◌, ◌++◌, length, slice_get, Some, None, ap, sym, subst}
-use Rattle.edit_plan.specs.Aim.{aim}
+use Rattle.edit_plan.specs.Aim.{aim, aim_path}
 use Rattle.edit_plan.specs.Nesting.{owner}
-use Rattle.edit_plan.specs.Owned.{aim_path, places_in, moved, dependents_in}
+use Rattle.edit_plan.specs.Owned.{places_in, moved, dependents_in}
 use Rattle.edit_plan.specs.Rewriting.{moved_aim}
-use Rattle.edit_plan.proofs.Moved.{dependents-to, dependents-whole, none-at, one-entered, change-at, owner-is, owned-is-inside, place-at}
+use Rattle.edit_plan.proofs.Moved.{dependents-to, dependents-whole, none-at, one-entered, change-at, owner-is, owned-is-inside}
 use Rattle.edit_plan.proofs.dependent.dependents.Goals as goal
 use Rattle.edit_plan.proofs.dependent.dependents.Goals.{in-Some+in_ok-dependent+in_ok-enter, in_default}
 
@@ -25,8 +25,7 @@ loop-number-preserved c =
           let r = w.index-changes-owner.result in
           let at_o = change-at cs o r w.in-Some.ensures.there w.index-changes-owner.is in
           let by = owner-is cs n d (Some o) (change-at cs n d c.loop-number-test.true w.index-changes-number.is) w.in-Some.ensures.owner in
-          let place : w.deref.result.now ≡ places o = w.deref.ensures.value ∙ sym (place-at c.args.places.now o w.index-places-owner.result (subst (λ k. o < k) (sym c.requires.places) w.in-Some.ensures.there) w.index-places-owner.is) in
-          let moves : moved w.in_ok-dependent.dependent ≡ (n, moved_aim (aim_path r) (places o) (aim d)) = w.in_ok-dependent.ensures ∙ ap (λ p. (n, moved_aim (aim_path r) p (aim d))) place in
+          let moves : moved w.in_ok-dependent.dependent ≡ (n, moved_aim (aim_path r) (places o) (aim d)) = w.in_ok-dependent.ensures ∙ ap (λ p. (n, moved_aim (aim_path r) p (aim d))) w.place_at.ensures in
           record {
             long = ap (λ t. length t.items) w.table-is ∙ w.in_ok-enter.ensures.long ∙ c.loop-number.invariant.long;
             entered = subst (λ t. (k : ℕ) → dependents_in t.items k ≡ dependents-to cs places (n + 1) k) (sym w.table-is) (one-entered cs places n d c.loop-number-test.true w.index-changes-number.is o r w.in_ok-dependent.dependent c.loop-number.table.items w.enter.new.table.items by at_o moves w.in_ok-enter.ensures.here w.in_ok-enter.ensures.elsewhere c.loop-number.invariant.entered);

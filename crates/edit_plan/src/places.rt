@@ -1,0 +1,160 @@
+//! Where the targets of owners stand in their payloads, and the first change that finds no place there.
+
+ghost use Rattle.std.specs.Prelude.{ℕ, true, ◌≡◌, ◌<◌, ◌↔◌, map, length, slice_get, None, Some, IsTrue, IfOk, IfErr, IsSomeAnd, OnOk};
+ghost use Rattle.cst_core.specs.Path.{Path};
+ghost use Rattle.cst_core.specs.declared.element.SyntaxElement.TheVariants.{Node};
+ghost use Rattle.rewriting.specs.Aim.{Behind};
+ghost use Rattle.edit_map.specs.Mapping.{Mapping};
+ghost use Rattle.edit_plan.specs.Aim.{position_aim, aim};
+ghost use Rattle.edit_plan.specs.Fate.{fate};
+ghost use Rattle.edit_plan.specs.Nesting.{is_keeping};
+ghost use Rattle.edit_plan.specs.Plan.{HasPlace, ArePlaces};
+ghost use Rattle.edit_plan.specs.Owned.{path_in, path_at, places_in, IsPlaceOf, IsPlaced};
+ghost use Rattle.edit_plan.specs.PlacesRefuse.{PlacesRefuse};
+ghost use Rattle.edit_plan.specs.declared.change.Change.{Change};
+ghost use Rattle.edit_plan.specs.declared.change.Change.TheVariants.{Replace};
+
+use crate::change::Change;
+use crate::dependent::owner_of;
+use crate::edit_error::EditError;
+use crate::fate::Fate;
+use crate::position::Position;
+use cst_core::{SyntaxElement, SyntaxNode};
+use edit_map::SyntaxMapping;
+use edit_map::laws::place_is_unique;
+use std::alloc::{AllocError, Global};
+
+// Whether an insert is behind the element at a path.
+fn is_behind(position: &Position, path: &[usize]) -> bool
+    ensures { IsTrue result ↔ (position_aim position.now ≡ Behind path.now) }
+{
+    match position.after_of() {
+        Some(element) => element.slots() == path,
+        None => false,
+    }
+}
+
+impl Change {
+    // Whether it inserts behind the element at a path.
+    fn is_behind(&self, path: &[usize]) -> bool
+        ensures { IsTrue result ↔ (aim self.now ≡ Behind path.now) }
+    {
+        match self {
+            Change::Insert(position, _) => is_behind(position, path),
+            Change::InsertAll(position, _) => is_behind(position, path),
+            Change::Replace(_, _) => false,
+            Change::ReplaceWithMany(_, _) => false,
+            Change::ReplaceAll(_, _, _) => false,
+        }
+    }
+}
+
+// The place of a node in a payload, to which the payload has an element.
+fn place_in(
+    alloc: Global,
+    mapping: &SyntaxMapping,
+    target: &SyntaxNode,
+    payload: &SyntaxNode,
+) -> Result<Option<Vec<usize>>, AllocError>
+    ensures { IfOk result (λ o. IsPlaceOf mapping.now (Replace (Node target.now) (Some (Node payload.now))) (path_in o)) }
+{
+    place_is_unique();
+    let Some(place) = mapping.place(alloc, target, payload)? else {
+        return Ok(None);
+    };
+    if payload.as_green().get(&place).is_none() {
+        return Ok(None);
+    }
+    Ok(Some(place))
+}
+
+// The place of an owner's target in its payload.
+fn place_of(
+    alloc: Global,
+    mapping: &SyntaxMapping,
+    owner: &Change,
+) -> Result<Option<Vec<usize>>, AllocError>
+    requires { is_keeping owner.now ≡ true }
+    ensures { IfOk result (λ o. IsPlaceOf mapping.now owner.now (path_in o)) }
+{
+    match owner {
+        Change::Replace(SyntaxElement::Node(target), Some(SyntaxElement::Node(payload))) => {
+            place_in(alloc, mapping, target, payload)
+        }
+        _ => unreachable!(),
+    }
+}
+
+// Enters the place of an owner's target, where it has not been asked for before.
+fn settle(
+    alloc: Global,
+    mapping: &SyntaxMapping,
+    changes: &[Change],
+    owner: usize,
+    places: &mut Vec<Option<Vec<usize>>>,
+) -> Result<(), AllocError>
+    requires there { owner < length changes.now }
+    requires keeps { (o : Change) → slice_get changes.now owner ≡ Some o → is_keeping o ≡ true }
+    requires long { length places.now.items ≡ length changes.now }
+    requires placed { IsPlaced mapping.now changes.now places.now.items }
+    ensures long { OnOk result (length places.new.items ≡ length changes.now) }
+    ensures placed { OnOk result (IsPlaced mapping.now changes.now places.new.items) }
+    ensures here { OnOk result ((o : Change) → slice_get changes.now owner ≡ Some o → IsPlaceOf mapping.now o (path_at places.new.items owner)) }
+    ensures kept { OnOk result ((c : ℕ) (p : Path) → path_at places.old.items c ≡ Some p → path_at places.new.items c ≡ Some p) }
+{
+    if places[owner].is_none() {
+        let place = place_of(alloc, mapping, &changes[owner])?;
+        places[owner] = place;
+    }
+    Ok(())
+}
+
+// Whether a change has its place where the target of its owner has this one.
+fn has_place(change: &Change, owner: &Change, place: &Option<Vec<usize>>) -> bool
+    ensures { (m : Mapping) → IsPlaceOf m owner.now (path_in place.now) → IsTrue result ↔ IsSomeAnd (path_in place.now) (HasPlace m owner.now change.now) }
+{
+    match place {
+        Some(path) => !path.is_empty() || !change.is_behind(owner.aim_path()),
+        None => false,
+    }
+}
+
+fn no_places(alloc: Global, count: usize) -> Result<Vec<Option<Vec<usize>>>, AllocError>
+    ensures long { IfOk result (λ v. length v.items ≡ count) }
+    ensures none { IfOk result (λ v. (c : ℕ) → path_at v.items c ≡ None) }
+{
+    let mut places = Vec::new(alloc);
+    for _ in 0..count {
+        places.push(None)?;
+    }
+    Ok(places)
+}
+
+/// The place of each owner's target in its payload, by the owner's number, where `fates` has what becomes of each change.
+///
+/// `MissingMapping` names the first change that has no place in its owner's payload, and the owner; else only `Memory` comes.
+pub(crate) fn places(
+    alloc: Global,
+    changes: &[Change],
+    fates: &[Fate],
+    mapping: &SyntaxMapping,
+) -> Result<Vec<Option<Vec<usize>>>, EditError>
+    requires { fates.now ≡ map (fate changes.now) changes.now }
+    ensures long { IfOk result (λ v. length v.items ≡ length changes.now) }
+    ensures placed { IfOk result (λ v. ArePlaces mapping.now changes.now (places_in v.items)) }
+    ensures refused { IfErr result (PlacesRefuse mapping.now changes.now) }
+{
+    let mut places = no_places(alloc, changes.len())?;
+    for number in 0..changes.len() {
+        if let Some(owner) = owner_of(changes, fates, number) {
+            settle(alloc, mapping, changes, owner, &mut places)?;
+            if !has_place(&changes[number], &changes[owner], &places[owner]) {
+                return Err(EditError::MissingMapping {
+                    change: number,
+                    owner,
+                });
+            }
+        }
+    }
+    Ok(places)
+}
