@@ -52,12 +52,12 @@ pub record RefusesFirst (parent : Element) (pairs : List (Element × Element)) (
   pub taken : All (IsPairUnder parent) before
   pub refused : RefusesPair parent pair e
 
-abbrev refuses_equal : Element → List Element → List Element → MapError → Type 0
-refuses_equal parent inputs outputs e = (length inputs ≤ length outputs) × RefusesFirst parent (zip inputs outputs) e
+abbrev refuses_one : Element → List Element → List Element → MapError → Type 0
+refuses_one parent inputs outputs e = (length inputs ≤ length outputs) × RefusesFirst parent (zip inputs outputs) e
 
 abbrev pub RefusesChildren : Element → List Element → List Element → MapError → Type 0
-RefusesChildren parent inputs outputs NotAChild = refuses_equal parent inputs outputs NotAChild
-RefusesChildren parent inputs outputs NotYounger = refuses_equal parent inputs outputs NotYounger
-RefusesChildren parent inputs outputs OtherShape = refuses_equal parent inputs outputs OtherShape
+RefusesChildren parent inputs outputs NotAChild = refuses_one parent inputs outputs NotAChild
+RefusesChildren parent inputs outputs NotYounger = refuses_one parent inputs outputs NotYounger
+RefusesChildren parent inputs outputs OtherShape = refuses_one parent inputs outputs OtherShape
 RefusesChildren parent inputs outputs MoreInputs = length outputs < length inputs
 RefusesChildren parent inputs outputs Memory = Unit {0}

@@ -31,6 +31,7 @@ impl Model for SyntaxMappingBuilder {
     ghost invariant = { λ a. All (IsPairUnder a.parent) a.pairs.items };
 }
 
+// Whether a node is a child of another one.
 fn is_child(parent: &SyntaxNode, node: &SyntaxNode) -> bool
     ensures { IsTrue result ↔ IsChild parent.now node.now }
 {
@@ -44,7 +45,6 @@ fn is_child(parent: &SyntaxNode, node: &SyntaxNode) -> bool
 fn test_pair(parent: &SyntaxNode, input: &SyntaxNode, output: &SyntaxNode) -> Result<(), MapError>
     ensures ok { OnOk result (IsPairUnder parent.now (input.now, output.now)) }
     ensures err { IfErr result (RefusesPair parent.now (input.now, output.now)) }
-    ensures not_memory { ¬ (result ≡ Err MapError.Memory) }
 {
     if !is_child(parent, output) {
         return Err(MapError::NotAChild);
