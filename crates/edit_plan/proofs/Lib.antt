@@ -11,6 +11,10 @@ mod Paths
 pub mod Siblings
 mod Around
 mod Clashes
+mod Positions
+mod Indexed
+mod Fates
+mod Walk
 mod Carried
 mod GapRule
 mod Edits

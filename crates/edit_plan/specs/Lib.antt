@@ -11,7 +11,9 @@ pub mod Schedule
 pub mod Effort
 pub mod Display
 pub mod Targets
+pub mod TargetIndex
 pub mod Refusal
 pub mod ChangeCodes
 pub mod Building
+pub mod Fate
 pub mod Laws

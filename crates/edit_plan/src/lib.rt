@@ -7,6 +7,7 @@ mod edit;
 mod edit_error;
 mod element_like;
 mod element_list;
+mod fate;
 mod fits;
 pub mod laws;
 mod native;
@@ -14,6 +15,7 @@ mod nesting;
 mod plan;
 mod position;
 mod run;
+mod target_index;
 mod targets;
 
 pub use change::Change;

@@ -1,13 +1,13 @@
-ghost use Rattle.std.specs.Prelude.{◌≡◌, ◌<◌, [], length, slice_get, false, All, IfOk, IfErr};
+ghost use Rattle.std.specs.Prelude.{◌≡◌, ◌<◌, [], length, slice_get, option_and_then, false, All, IfOk, IfErr};
 ghost use Rattle.std.specs.Option.{option_map_or};
 ghost use Rattle.edit_plan.specs.Fits.{Fits};
-ghost use Rattle.edit_plan.specs.Nesting.{is_dropped};
+ghost use Rattle.edit_plan.specs.Nesting.{is_dropped, owner};
 ghost use Rattle.edit_plan.specs.Building.{BuildRefuses};
 
 use crate::change::Change;
-use crate::edit::SyntaxEdit;
 use crate::edit_error::EditError;
-use crate::nesting::{first_clash, first_nested};
+use crate::fate::{Fate, fates, first_owned};
+use crate::target_index::TargetIndex;
 use cst_core::{SyntaxNode, TreeIds};
 use std::alloc::Global;
 use std::marker::Model;
@@ -17,10 +17,13 @@ use std::marker::Model;
 pub struct EditPlan {
     pub(crate) root: SyntaxNode,
     pub(crate) changes: Vec<Change>,
+    // What becomes of each change.
+    fates: Vec<Fate>,
 }
 
 impl Model for EditPlan {
-    ghost use Rattle.edit_plan.specs.Building.{Plan, IsPlan, plan_code};
+    ghost use Rattle.edit_plan.specs.Building.{Plan, plan_code};
+    ghost use Rattle.edit_plan.specs.Fate.{IsSettled};
 
     ghost Value = { Plan };
 
@@ -28,13 +31,13 @@ impl Model for EditPlan {
 
     ghost view = { λ a. record { root = a.root; changes = a.changes.items } };
 
-    ghost invariant = { λ a. IsPlan (record { root = a.root; changes = a.changes.items }) };
+    ghost invariant = { λ a. IsSettled (record { root = a.root; changes = a.changes.items }) a.fates.items };
 }
 
 impl EditPlan {
     /// A plan of these changes of the tree with this root.
     ///
-    /// `Intersecting` comes first, then `Nested`; else only `Memory` comes. Nothing is handed back then.
+    /// `Intersecting` comes first, then `Nested`; `Memory` may come at any time. Nothing is handed back then.
     pub fn build(
         alloc: Global,
         root: SyntaxNode,
@@ -45,13 +48,16 @@ impl EditPlan {
         ensures ok { IfOk result (λ p. p ≡ record { root = root; changes = changes.items }) }
         ensures refused { IfErr result (BuildRefuses changes.items) }
     {
-        if let Some((first, second)) = first_clash(&changes) {
-            return Err(EditError::Intersecting { first, second });
-        }
-        if let Some(change) = first_nested(&changes) {
+        let index = TargetIndex::of(alloc, &changes)?;
+        let fates = fates(alloc, &index, &changes)?;
+        if let Some(change) = first_owned(&fates) {
             return Err(EditError::Nested { change });
         }
-        Ok(EditPlan { root, changes })
+        Ok(EditPlan {
+            root,
+            changes,
+            fates,
+        })
     }
 
     /// How many changes there are.
@@ -66,6 +72,15 @@ impl EditPlan {
         requires { change < length self.now.changes }
         ensures { result ≡ option_map_or (is_dropped self.now.changes) (slice_get self.now.changes change) false }
     {
-        crate::nesting::is_dropped(&self.changes, &self.changes[change])
+        self.fates[change].is_dropped()
+    }
+
+    /// The replacement of a node by a node that a change moves along with: the one with the deepest region around the change. A
+    /// dropped change has none.
+    pub fn owner(&self, change: usize) -> Option<usize>
+        requires { change < length self.now.changes }
+        ensures { result ≡ option_and_then (owner self.now.changes) (slice_get self.now.changes change) }
+    {
+        self.fates[change].owner()
     }
 }

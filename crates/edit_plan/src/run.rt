@@ -12,7 +12,6 @@ ghost use Rattle.edit_plan.specs.Rewriting.{independents, payload_of};
 
 use crate::edit::SyntaxEdit;
 use crate::edit_error::EditError;
-use crate::nesting::is_dropped;
 use crate::plan::EditPlan;
 use cst_core::{GreenElement, GreenNode, SyntaxElement, SyntaxNode, TreeIds};
 use rewriting::{Aimed, places_of_given_whole, rebuild_whole};
@@ -32,7 +31,7 @@ impl EditPlan {
     {
         let mut aims = Vec::new(alloc);
         for (number, change) in self.changes.iter().enumerate() {
-            if !is_dropped(&self.changes, change) {
+            if !self.is_dropped(number) {
                 let Some(aim) = change.aimed(number) else {
                     return Err(AllocError);
                 };

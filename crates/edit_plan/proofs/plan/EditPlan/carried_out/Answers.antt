@@ -16,7 +16,7 @@ returns c =
     let same_given = c.deref-2.ensures.value in
     let old : branch_tree c.in_ok-green-2.field-0 ≡ subtree p.root = c.in_ok-green-2.ensures ∙ ap (λ x. subtree x.root) c.self.view_is in
     is_rewritten p c.in_ok-green.green (paths_of c.in_ok-changed.changed.items) (record {
-      unowned = ap (λ x. first_nested x.changes) (sym c.self.view_is) ∙ c.self.invariant.unowned;
+      unowned = ap (λ x. first_nested x.changes) (sym c.self.view_is) ∙ c.self.invariant.is_plan.unowned;
       table = c.in_ok-given.given.items;
       table_is = c.in_ok-given.ensures;
       aims = aims_of c.in_ok-aims.aims.items;
