@@ -1,4 +1,5 @@
 -- Which regions are around a change.
+--     up_to-cons                    the elements on the way to one below a child
 --     up_to_parent                  the elements above one are those on the way to its parent
 --     any-swap, around-turned, any-and      tests of two lists, in either order
 --     is_some-position              a test passes somewhere
@@ -7,13 +8,16 @@ use Rattle.std.specs.Prelude.{◌≡◌, ℕ, zero, suc, ◌<◌, Bool, true, fa
 use Rattle.std.specs.List.{list_any, position_or_len}
 use Rattle.std.proofs.Common.{ap, sym, ◌∙◌, arith, get_or}
 use Rattle.std.proofs.lemmas.Bool.{lt-ltb, or_parts}
+use Rattle.std.proofs.lemmas.List.{map-append}
 use mathlib.Core.Path.{fun_ext}
 use Rattle.cst_core.specs.Path.{Path, same_path, has_path, parent_path, above, up_to}
 use Rattle.edit_plan.specs.Nesting.{owner, first_nested}
 use Rattle.edit_plan.specs.declared.change.Change.{Change}
 use Rattle.edit_plan.proofs.Paths.{same_path-true, same_path_from}
-use Rattle.edit_plan.proofs.Siblings.{same-test, up_to-cons}
-use Rattle.edit_plan.proofs.Positions.{lt-step}
+use Rattle.edit_plan.proofs.Positions.{same-test, lt-step}
+
+pub up_to-cons : (i : ℕ) (p : Path) → up_to (i ∷ p) ≡ [] ∷ map (λ q. i ∷ q) (up_to p)
+up_to-cons i p = ap (λ ps. [] ∷ ps) (sym (map-append (λ q. i ∷ q) (above p) (p ∷ [])))
 
 pub up_to_parent : (p : Path) → (p ≡ [] → ⊥) → up_to (parent_path p) ≡ above p
 up_to_parent [] some = absurd (some refl)

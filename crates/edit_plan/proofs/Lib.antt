@@ -8,7 +8,6 @@ mod RowsOfLengths
 mod RowsOfGreatest
 mod Lists
 mod Paths
-pub mod Siblings
 mod Around
 mod Clashes
 mod Positions

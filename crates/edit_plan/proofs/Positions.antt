@@ -13,7 +13,12 @@ use Rattle.std.proofs.lemmas.Option.{none-some}
 use Rattle.std.proofs.Math.Seq.{take-suc}
 use mathlib.Core.Logic.{inl, inr}
 use Rattle.edit_plan.specs.TargetIndex.{lesser}
-use Rattle.edit_plan.proofs.Siblings.{same-test}
+
+-- two tests that hold in the same cases are equal
+pub same-test : (a b : Bool) → (a ≡ true → b ≡ true) → (b ≡ true → a ≡ true) → a ≡ b
+same-test true b f g = sym (f refl)
+same-test false true f g = g refl
+same-test false false f g = refl
 
 pub lt-step : (m n : ℕ) → nat_lt (suc m) (suc n) ≡ nat_lt m n
 lt-step m n = same-test (nat_lt (suc m) (suc n)) (nat_lt m n) (λ h. lt-ltb m n (omega (arith, ltb-true (suc m) (suc n) h))) (λ h. lt-ltb (suc m) (suc n) (omega (arith, ltb-true m n h)))

@@ -22,7 +22,7 @@ use Rattle.edit_plan.specs.declared.change.Change.{Change}
 use Rattle.edit_plan.specs.declared.fate.Fate.{Fate}
 use Rattle.edit_plan.specs.declared.fate.Fate.TheVariants.{Dropped, Owned}
 use Rattle.edit_plan.proofs.Clashes.{at-index}
-use Rattle.edit_plan.proofs.Siblings.{up_to-cons}
+use Rattle.edit_plan.proofs.Around.{up_to-cons}
 
 pub record Walked (cs : List Change) (ps : List Path) (fate : Fate) : Type 0 where
   pub kept : list_any (drops_at cs) ps ≡ false
