@@ -3,21 +3,24 @@
 --     range-has-parent                 the ends of a range are no roots
 --     more-trees, table-is             what the changes bring, one change after another
 --     independents-to                  the changes without an owner, of the first so many
---     one-more, one-dropped            one change more
+--     one-more, one-passed             one change more
+--     independent-at, passed-at        whether the change at a number has no owner, from its fate; one that has is passed over
 --     own-aim                          where a change aims, by its own path
-use Rattle.std.specs.Prelude.{◌≡◌, ℕ, zero, suc, ◌+◌, ◌-◌, ◌<◌, ◌≤◌, true, false, cond, not, ◌&&◌, List, [], ◌∷◌, ◌++◌, map, filter, length, take, slice_get, Vec, Some, None, option_map, is_none, refl}
+use Rattle.std.specs.Prelude.{◌≡◌, ℕ, zero, suc, ◌+◌, ◌-◌, ◌<◌, ◌≤◌, Bool, true, false, cond, not, ◌&&◌, List, [], ◌∷◌, ◌++◌, map, filter, filter_map, length, take, slice_get, Vec, Option, Some, None, option_map, is_none, refl}
 use Rattle.std.specs.Global.{Global}
 use Rattle.std.specs.List.{enumerate_from}
 use Rattle.std.specs.Option.{option_map_or}
-use Rattle.std.proofs.Common.{ap, ap₂, sym, ◌∙◌, arith, get_or}
+use Rattle.std.proofs.Common.{ap, ap₂, sym, subst, ◌∙◌, arith, get_or}
 use Rattle.std.proofs.lemmas.Bool.{and_parts, or_cases, false≢true}
-use Rattle.std.proofs.lemmas.List.{map-append, append-nil, length-take}
+use Rattle.std.proofs.lemmas.List.{map-append, append-nil, length-map, length-take}
 use Rattle.std.proofs.lemmas.List.Elements.{filter-append}
-use Rattle.std.proofs.lemmas.Option.{slice_get-map}
+use Rattle.std.proofs.lemmas.Option.{same_Some, none-some, slice_get-get_or, slice_get_within, slice_get-map, get_or_from_slice_get}
 use Rattle.std.proofs.Math.Seq.{take-suc}
 use mathlib.Core.Logic.{inl, inr}
-use Rattle.cst_core.specs.Path.{Path, same_path, siblings, counted_from, parent_path, last_slot}
+use Rattle.cst_core.specs.Path.{Path, same_path, siblings, counted_from, parent_path, last_slot, last_item}
 use Rattle.cst_core.specs.Tree.{SyntaxTree}
+use Rattle.cst_core.specs.Tree as tree
+use Rattle.cst_core.specs.declared.element.SyntaxElement.TheVariants.{Token}
 use Rattle.cst_core.specs.Element.{Element, subtree}
 use Rattle.cst_core.specs.GreenElement.{element_trees}
 use Rattle.cst_core.specs.SyntaxElement.{element_of}
@@ -35,11 +38,13 @@ use Rattle.edit_plan.specs.declared.position.PositionForm.TheVariants.{FirstChil
 use Rattle.rewriting.specs.Aim.{Over}
 use Rattle.edit_plan.specs.Change.{payload}
 use Rattle.edit_plan.specs.Fits.{Fits, is_native, is_root, is_range}
-use Rattle.edit_plan.specs.Nesting.{owner, is_dropped, is_independent, first_nested}
-use Rattle.edit_plan.specs.Rewriting.{aims_of, payload_of}
+use Rattle.edit_plan.specs.Fate.{by_owner, fate, is_independent_in}
+use Rattle.edit_plan.specs.Nesting.{surroundings, region_at, is_dropped, is_independent}
+use Rattle.edit_plan.specs.Rewriting.{aims_of, payload_of, independents}
 use Rattle.edit_plan.specs.declared.change.Change.{Change}
 use Rattle.edit_plan.specs.declared.change.Change.TheVariants.{Insert, InsertAll, Replace, ReplaceWithMany, ReplaceAll}
-use Rattle.edit_plan.proofs.Around.{unowned-at}
+use Rattle.edit_plan.specs.declared.fate.Fate.{Fate}
+use Rattle.edit_plan.specs.declared.fate.Fate.TheVariants.{Independent, Dropped, Owned}
 
 -- ---- targets
 pub one-sibling : (p : Path) → siblings_from p 1 ≡ p ∷ []
@@ -105,24 +110,22 @@ enumerate-push k (y ∷ xs) x =
     let e : (k + 1) + length xs ≡ k + suc (length xs) = omega arith in
     ap (λ ds. (k, y) ∷ ds) (enumerate-push (k + 1) xs x ∙ ap (λ n. enumerate_from (k + 1) xs ++ (n, x) ∷ []) e)
 
-independent-is : (cs : List Change) (c : Change) → owner cs c ≡ None → is_independent cs c ≡ not (is_dropped cs c)
-independent-is cs c none = ap (λ o. not (is_dropped cs c) && is_none o) none ∙ (elim (is_dropped cs c) as (λ b. (not b && true) ≡ not b) [ true ↦ refl | false ↦ refl ])
-
-module _ (cs : List Change) (i : ℕ) (c : Change) (l : i < length cs) (is : c ≡ get_or cs i c) (none : owner cs c ≡ None) where
-  one-further : independents-to cs (i + 1) ≡ independents-to cs i ++ cond (is_dropped cs c) [] ((i, aim c) ∷ [])
+module _ (cs : List Change) (i : ℕ) (c : Change) (l : i < length cs) (is : c ≡ get_or cs i c) where
+  one-further : independents-to cs (i + 1) ≡ independents-to cs i ++ cond (is_independent cs c) ((i, aim c) ∷ []) []
   one-further =
       let more : take (i + 1) cs ≡ take i cs ++ c ∷ [] = let n : i + 1 ≡ suc i = omega arith in ap (λ k. take k cs) n ∙ take-suc cs i c l ∙ ap (λ x. take i cs ++ x ∷ []) (sym is) in
       let long : 0 + length (take i cs) ≡ i = omega (arith, length-take i cs, l) in
       let pair : ℕ × Change = (i, c) in
-      let last : filter (λ d. is_independent cs d.1) (pair ∷ []) ≡ cond (is_dropped cs c) [] (pair ∷ []) = ap (λ b. cond b (pair ∷ []) []) (independent-is cs c none) ∙ (elim (is_dropped cs c) as (λ b. cond (not b) (pair ∷ []) [] ≡ cond b [] (pair ∷ [])) [ true ↦ refl | false ↦ refl ]) in
-      let aimed : aims_of (cond (is_dropped cs c) [] (pair ∷ [])) ≡ cond (is_dropped cs c) [] ((i, aim c) ∷ []) = elim (is_dropped cs c) as (λ b. aims_of (cond b [] (pair ∷ [])) ≡ cond b [] ((i, aim c) ∷ [])) [ true ↦ refl | false ↦ refl ] in
-      ap (λ xs. aims_of (filter (λ d. is_independent cs d.1) (enumerate_from 0 xs))) more ∙ ap (λ ds. aims_of (filter (λ d. is_independent cs d.1) ds)) (enumerate-push 0 (take i cs) c ∙ ap (λ n. enumerate_from 0 (take i cs) ++ (n, c) ∷ []) long) ∙ ap aims_of (filter-append (λ d. is_independent cs d.1) (enumerate_from 0 (take i cs)) (pair ∷ []) ∙ ap (λ ds. filter (λ d. is_independent cs d.1) (enumerate_from 0 (take i cs)) ++ ds) last) ∙ map-append (λ d. (d.0, aim d.1)) (filter (λ d. is_independent cs d.1) (enumerate_from 0 (take i cs))) (cond (is_dropped cs c) [] (pair ∷ [])) ∙ ap (λ xs. independents-to cs i ++ xs) aimed
+      let test : ℕ × Change → Bool = λ d. is_independent cs d.1 in
+      let listed : enumerate_from 0 (take (i + 1) cs) ≡ enumerate_from 0 (take i cs) ++ pair ∷ [] = ap (enumerate_from 0) more ∙ enumerate-push 0 (take i cs) c ∙ ap (λ n. enumerate_from 0 (take i cs) ++ (n, c) ∷ []) long in
+      let last : aims_of (filter test (pair ∷ [])) ≡ cond (is_independent cs c) ((i, aim c) ∷ []) [] = elim (is_independent cs c) as (λ b. aims_of (cond b (pair ∷ []) []) ≡ cond b ((i, aim c) ∷ []) []) [ true ↦ refl | false ↦ refl ] in
+      ap (λ xs. aims_of (filter test xs)) listed ∙ ap aims_of (filter-append test (enumerate_from 0 (take i cs)) (pair ∷ [])) ∙ map-append (λ d. (d.0, aim d.1)) (filter test (enumerate_from 0 (take i cs))) (filter test (pair ∷ [])) ∙ ap (λ xs. independents-to cs i ++ xs) last
 
-  pub one-more : is_dropped cs c ≡ false → independents-to cs (i + 1) ≡ independents-to cs i ++ (i, aim c) ∷ []
-  one-more kept = one-further ∙ ap (λ b. independents-to cs i ++ cond b [] ((i, aim c) ∷ [])) kept
+  pub one-more : is_independent cs c ≡ true → independents-to cs (i + 1) ≡ independents-to cs i ++ (i, aim c) ∷ []
+  one-more free = one-further ∙ ap (λ b. independents-to cs i ++ cond b ((i, aim c) ∷ []) []) free
 
-  pub one-dropped : is_dropped cs c ≡ true → independents-to cs (i + 1) ≡ independents-to cs i
-  one-dropped gone = one-further ∙ ap (λ b. independents-to cs i ++ cond b [] ((i, aim c) ∷ [])) gone ∙ append-nil (independents-to cs i)
+  pub one-passed : is_independent cs c ≡ false → independents-to cs (i + 1) ≡ independents-to cs i
+  one-passed other = one-further ∙ ap (λ b. independents-to cs i ++ cond b ((i, aim c) ∷ []) []) other ∙ append-nil (independents-to cs i)
 
 pub take-whole : {X : Type 0} (n : ℕ) (xs : List X) → length xs ≤ n → take n xs ≡ xs
 take-whole zero [] l = refl
@@ -130,21 +133,32 @@ take-whole zero (x ∷ xs) l = absurd (omega (arith, l))
 take-whole (suc n) [] l = refl
 take-whole (suc n) (x ∷ xs) l = ap (λ ys. x ∷ ys) (take-whole n xs (omega (arith, l)))
 
--- ---- a turn of the loop over the changes, which stand in three lists that are one
-module _ (cs xs ys : List Change) (all : xs ≡ cs) (again : ys ≡ cs) (i : ℕ) (c : Change) (l : i < length xs) (is : c ≡ get_or xs i c) (none : first_nested cs ≡ None) where
-  below : i < length cs
-  below = omega (arith, ap length all, l)
+pub independents-whole : (cs : List Change) (n : ℕ) → length cs ≤ n → independents-to cs n ≡ independents cs
+independents-whole cs n l = ap (λ xs. aims_of (filter (λ d. is_independent cs d.1) (enumerate_from 0 xs))) (take-whole n cs l)
 
-  at_i : c ≡ get_or cs i c
-  at_i = is ∙ ap (λ ds. get_or ds i c) all
+-- ---- what a fate says
+pub independent-in-fate : (cs : List Change) (c : Change) → is_independent_in (fate cs c) ≡ is_independent cs c
+independent-in-fate cs c = go (is_dropped cs c) (last_item (filter_map (region_at cs) (surroundings c)))
+  where
+    go : (b : Bool) (o : Option ℕ) → is_independent_in (cond b Dropped (by_owner (cond b None o))) ≡ (not b && is_none (cond b None o))
+    go true o = refl
+    go false None = refl
+    go false (Some d) = refl
 
-  pub kept-turn : is_dropped ys c ≡ false → (before now : List NumberedAim) (a : NumberedAim) → before ≡ independents-to cs i → a ≡ (i, aim c) → now ≡ before ++ a ∷ [] → now ≡ independents-to cs (i + 1)
-  kept-turn kept before now a was aimed push =
-      push ∙ ap₂ (λ ns n. ns ++ n ∷ []) was aimed ∙ sym (one-more cs i c below at_i (unowned-at cs i c none below at_i) (ap (λ ds. is_dropped ds c) (sym again) ∙ kept))
+pub independent-at : (cs : List Change) (fates : List Fate) (i : ℕ) (c : Change) (f : Fate) → fates ≡ map (fate cs) cs → slice_get cs i ≡ Some c → is_independent_in (get_or fates i f) ≡ is_independent cs c
+independent-at cs fates i c f are at_i =
+    let there : i < length fates = subst (λ n. i < n) (sym (ap length are ∙ length-map cs (fate cs))) (slice_get_within cs i c at_i) in
+    ap is_independent_in (same_Some (get_or fates i f) (fate cs c) (sym (slice_get-get_or fates i f there) ∙ ap (λ xs. slice_get xs i) are ∙ slice_get-map (fate cs) cs i ∙ ap (option_map (fate cs)) at_i)) ∙ independent-in-fate cs c
 
-  pub dropped-turn : is_dropped ys c ≡ true → (before now : List NumberedAim) → before ≡ independents-to cs i → now ≡ before → now ≡ independents-to cs (i + 1)
-  dropped-turn gone before now was stays =
-      stays ∙ was ∙ sym (one-dropped cs i c below at_i (unowned-at cs i c none below at_i) (ap (λ ds. is_dropped ds c) (sym again) ∙ gone))
+pub passed-at : (cs : List Change) (fates : List Fate) (i : ℕ) (f : Fate) → fates ≡ map (fate cs) cs → i < length cs → is_independent_in (get_or fates i f) ≡ false → independents-to cs (i + 1) ≡ independents-to cs i
+passed-at cs fates i f are l other = go (slice_get cs i) refl
+  where
+    unused : Change
+    unused = ReplaceWithMany (Token (record { number = 0; root = tree.Token 0 []; path = [] })) []
+
+    go : (o : Option Change) → slice_get cs i ≡ o → independents-to cs (i + 1) ≡ independents-to cs i
+    go None is = absurd (none-some (get_or cs i unused) (sym (sym (slice_get-get_or cs i unused l) ∙ is)))
+    go (Some c) is = one-passed cs i c l (sym (get_or_from_slice_get cs i c c is)) (sym (independent-at cs fates i c f are is) ∙ other)
 
 -- ---- where a change aims, by its own path
 own-position : (at : Position) → position_aim_from (anchor at).path at ≡ position_aim at

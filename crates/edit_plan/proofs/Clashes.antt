@@ -1,23 +1,31 @@
 -- The first of many lists, one after another, in which something passes a test.
 --     none-more, first-found        nothing in one more list; something in the next
---     pairs-are                     the pairs of an item, each in a list of its own
-use Rattle.std.specs.Prelude.{◌≡◌, ℕ, zero, suc, ◌+◌, ◌-◌, ◌<◌, Bool, true, false, cond, List, [], ◌∷◌, ◌++◌, length, map, flat_map, find, slice_get, Some, None, refl}
+--     counted-on                    one item more of those that are counted
+--     clashes-at, at-index          two changes of a list
+use Rattle.std.specs.Prelude.{◌≡◌, ℕ, zero, suc, ◌+◌, ◌-◌, ◌<◌, ◌≤◌, Bool, false, List, [], ◌∷◌, ◌++◌, length, map, flat_map, find, slice_get, Some, None}
 use Rattle.std.specs.Option.{option_or, option_map_or}
 use Rattle.std.proofs.Common.{ap, ap₂, sym, ◌∙◌, arith, get_or}
 use Rattle.std.proofs.lemmas.Option.{slice_get-get_or}
-use Rattle.std.proofs.lemmas.List.{append-nil}
+use Rattle.std.proofs.lemmas.List.{append-nil, map-append}
 use Rattle.std.proofs.lemmas.List.Folds.{find-append}
 use Rattle.std.proofs.lemmas.Grind.{flat_map-append}
 use Rattle.cst_core.specs.Path.{counted_from}
 use Rattle.edit_plan.specs.Change.{shared_targets}
-use Rattle.edit_plan.specs.Nesting.{clashes, pairs_with}
+use Rattle.edit_plan.specs.Nesting.{clashes}
 use Rattle.edit_plan.specs.declared.change.Change.{Change}
 
-counted-push : (a n : ℕ) → counted_from a (suc n) ≡ counted_from a n ++ (a + n) ∷ []
+pub counted-push : (a n : ℕ) → counted_from a (suc n) ≡ counted_from a n ++ (a + n) ∷ []
 counted-push a zero = let e : a ≡ a + 0 = omega arith in ap (λ k. k ∷ []) e
 counted-push a (suc n) =
     let e : suc a + n ≡ a + suc n = omega arith in
     ap (λ ks. a ∷ ks) (counted-push (suc a) n ∙ ap (λ k. counted_from (suc a) n ++ k ∷ []) e)
+
+-- one number more, by its place among the siblings
+pub counted-on : {Y : Type 0} (f : ℕ → Y) (a n : ℕ) (xs ys : List Y) (y : Y) → a ≤ n → xs ≡ map f (counted_from a (n - a)) → ys ≡ xs ++ y ∷ [] → y ≡ f n → ys ≡ map f (counted_from a (suc n - a))
+counted-on f a n xs ys y l before push is =
+    let more : suc n - a ≡ suc (n - a) = omega (arith, l) in
+    let here : a + (n - a) ≡ n = omega (arith, l) in
+    push ∙ ap₂ (λ zs z. zs ++ z ∷ []) before (is ∙ ap f (sym here)) ∙ sym (ap (λ k. map f (counted_from a k)) more ∙ ap (map f) (counted-push a (n - a)) ∙ map-append f (counted_from a (n - a)) ((a + (n - a)) ∷ []))
 
 module _ {Y : Type 0} (test : Y → Bool) (g : ℕ → List Y) where
   abbrev pub until : ℕ → List Y
@@ -47,29 +55,9 @@ module _ {Y : Type 0} (test : Y → Bool) (g : ℕ → List Y) where
       let e : m ≡ suc n + (m - suc n) = omega (arith, l) in
       ap (λ k. find test (until k)) e ∙ found-on (suc n) (m - suc n) y (find-suc n ∙ ap₂ option_or before here)
 
-pub pairs-are : {X Y : Type 0} (f : X → Y) (xs : List X) → flat_map (λ x. f x ∷ []) xs ≡ map f xs
-pairs-are f [] = refl
-pairs-are f (x ∷ xs) = ap (λ ys. f x ∷ ys) (pairs-are f xs)
-
 -- ---- the pairs of changes
 abbrev pub clash : List Change → ℕ × ℕ → Bool
 clash cs p = clashes cs p.0 p.1
-
-abbrev pub lone : ℕ → ℕ → List (ℕ × ℕ)
-lone j i = (i, j) ∷ []
-
-pub sharing-is : (cs : List Change) (j : ℕ) → find (clash cs) (until (clash cs) (lone j) j) ≡ find (clash cs) (pairs_with j)
-sharing-is cs j = ap (find (clash cs)) (pairs-are (λ i. (i, j)) (counted_from 0 j))
-
-found-lone : (cs : List Change) (i j : ℕ) → clashes cs i j ≡ true → find (clash cs) (lone j i) ≡ Some (i, j)
-found-lone cs i j h = ap (λ b. cond b (Some (i, j)) None) h
-
-pub none-lone : (cs : List Change) (i j : ℕ) → clashes cs i j ≡ false → find (clash cs) (lone j i) ≡ None
-none-lone cs i j h = ap (λ b. cond b (Some (i, j)) None) h
-
-pub first-sharing : (cs : List Change) (i j : ℕ) → i < j → find (clash cs) (until (clash cs) (lone j) i) ≡ None → clashes cs i j ≡ true → Some (i, j) ≡ find (clash cs) (pairs_with j)
-first-sharing cs i j l before here =
-    sym (sym (sharing-is cs j) ∙ first-found (clash cs) (lone j) i j (i, j) l before (found-lone cs i j here))
 
 -- two changes of a list
 pub clashes-at : (cs : List Change) (i j : ℕ) (c d : Change) → slice_get cs i ≡ Some c → slice_get cs j ≡ Some d → shared_targets c d ≡ clashes cs i j

@@ -8,9 +8,12 @@ mod RowsOfLengths
 mod RowsOfGreatest
 mod Lists
 mod Paths
-pub mod Siblings
 mod Around
 mod Clashes
+mod Positions
+mod Indexed
+mod Fates
+mod Walk
 mod Carried
 mod Moved
 mod Nested

@@ -1,5 +1,5 @@
 -- Facts of all elements of a list, and filters.
-use Rattle.std.specs.Prelude.{◌≡◌, ◌≢◌, ◌<◌, ℕ, zero, suc, ◌+◌, length, Bool, true, cond, List, [], ◌∷◌, ◌++◌, filter, flat_map, slice_get, Some, refl}
+use Rattle.std.specs.Prelude.{◌≡◌, ◌≢◌, ◌<◌, ℕ, zero, suc, ◌+◌, length, Bool, true, cond, List, [], ◌∷◌, ◌++◌, filter, flat_map, slice_get, Some, Result, Ok, Err, IfOk, refl}
 use Rattle.std.specs.List.{AllByRecursion, enumerate_from}
 use Rattle.std.proofs.Common.{ap, ap₂, sym, subst, ◌∙◌, arith}
 use Rattle.std.proofs.lemmas.Bool.{cases_Bool}
@@ -56,3 +56,8 @@ slice_get-set_other (y ∷ xs) zero zero x other = absurd (other refl)
 slice_get-set_other (y ∷ xs) zero (suc j) x other = refl
 slice_get-set_other (y ∷ xs) (suc i) zero x other = refl
 slice_get-set_other (y ∷ xs) (suc i) (suc j) x other = slice_get-set_other xs i j x (λ same. other (ap suc same))
+
+-- ---- what holds of an answer
+pub if-ok-weaker : {T E : Type 0} (P Q : T → Type 0) → ((t : T) → P t → Q t) → (r : Result T E) → IfOk r P → IfOk r Q
+if-ok-weaker P Q h (Ok t) a = h t a
+if-ok-weaker P Q h (Err e) a = tt

@@ -4,7 +4,7 @@
 --     IsLevelled                    so far as one level is entered, with all that is deeper
 --     level-begins, level-ends      before its first change, and behind its last one
 --     other-level, nothing-owned, level-filled      one change more: of another depth, without dependents, and entered
-use Rattle.std.specs.Prelude.{◌≡◌, ◌≢◌, ℕ, suc, ◌+◌, ◌<◌, ◌≤◌, Bool, true, List, [], ◌∷◌, map, length, slice_get, Vec, Some, None, get_or, refl}
+use Rattle.std.specs.Prelude.{◌≡◌, ◌≢◌, ℕ, suc, ◌+◌, ◌<◌, ◌≤◌, Bool, true, List, [], ◌∷◌, map, length, slice_get, Vec, Option, Some, None, get_or, refl}
 use Rattle.std.specs.Global.{Global}
 use Rattle.std.specs.Bool.{◌==◌}
 use Rattle.std.specs.List.{AllByRecursion}
@@ -23,8 +23,10 @@ use Rattle.green_tree.specs.declared.green.GreenElement.{GreenElement}
 use Rattle.rewriting.specs.Pass.{kind_only, given_by}
 use Rattle.rewriting.specs.Rewriting.{NumberedAim, numbers, rewritten}
 use Rattle.edit_plan.specs.Change.{payload}
+use Rattle.edit_map.specs.Mapping.{Mapping}
 use Rattle.edit_plan.specs.Nesting.{owner}
-use Rattle.edit_plan.specs.Owned.{depth, depth_of, moved, dependents_in, IsGiven, AreGiven, AreGivenFrom, IsFilled}
+use Rattle.edit_plan.specs.Owned.{depth, depth_of, places_in, moved, dependents_in, AreDependents, IsGiven, AreGiven, AreGivenFrom, IsFilled}
+use Rattle.edit_plan.specs.Plan.{ArePlaces}
 use Rattle.edit_plan.specs.Rewriting.{plain, payload_of, dependents, given}
 use Rattle.edit_plan.specs.declared.change.Change.{Change}
 use Rattle.edit_plan.specs.declared.dependent.Dependent.{Dependent}
@@ -148,3 +150,13 @@ from-payloads cs places levels table payloads deepest = record { deep = deep; ow
 
 pub to-the-top : (cs : List Change) (places : ℕ → Path) (level : ℕ) (table : List (Vec GreenElement Global)) → level ≤ 0 → AreGivenFrom cs places level table → AreGiven cs places table
 to-the-top cs places level table none from = λ c. from.deep c (omega (arith, none))
+
+-- ---- a plan's tables, in the lists that are handed on
+abbrev pub GivenWith : Mapping → List Change → List (Vec GreenElement Global) → Type 0
+GivenWith m cs table = (places : ℕ → Path) × ArePlaces m cs places × AreGiven cs places table
+
+pub handed-on : (m : Mapping) (cs cs₁ cs₂ : List Change) (ps ps₁ : List (Option (Vec ℕ Global))) (owned owned₁ : List (Vec Dependent Global)) → cs₁ ≡ cs → cs₂ ≡ cs → ps₁ ≡ ps → owned₁ ≡ owned → AreDependents cs₁ (places_in ps₁) owned → ArePlaces m cs (places_in ps) → (table : List (Vec GreenElement Global)) → ((places : ℕ → Path) → AreDependents cs₂ places owned₁ → AreGiven cs₂ places table) → GivenWith m cs table
+handed-on m cs cs₁ cs₂ ps ps₁ owned owned₁ same same₂ places_are owned_are are placed table gives =
+    let own : AreDependents cs (places_in ps) owned = subst (λ qs. AreDependents cs (places_in qs) owned) places_are (subst (λ ds. AreDependents ds (places_in ps₁) owned) same are) in
+    let given_by_all : (places : ℕ → Path) → AreDependents cs places owned → AreGiven cs places table = subst (λ t. (places : ℕ → Path) → AreDependents cs places t → AreGiven cs places table) owned_are (subst (λ ds. (places : ℕ → Path) → AreDependents ds places owned₁ → AreGiven ds places table) same₂ gives) in
+    (places_in ps, placed, given_by_all (places_in ps) own)

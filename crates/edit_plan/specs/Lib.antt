@@ -11,11 +11,12 @@ pub mod Schedule
 pub mod Effort
 pub mod Display
 pub mod Targets
-pub mod Owned
+pub mod TargetIndex
 pub mod Refusal
 pub mod ChangeCodes
 pub mod Building
-pub mod Laws
 pub mod Fate
+pub mod Owned
+pub mod Unbuilt
 pub mod Planned
-pub mod PlacesRefuse
+pub mod Laws

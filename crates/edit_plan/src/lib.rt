@@ -18,6 +18,7 @@ mod plan;
 mod places;
 mod position;
 mod run;
+mod target_index;
 mod targets;
 
 pub use change::Change;

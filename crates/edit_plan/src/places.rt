@@ -10,7 +10,7 @@ ghost use Rattle.edit_plan.specs.Fate.{fate};
 ghost use Rattle.edit_plan.specs.Nesting.{is_keeping};
 ghost use Rattle.edit_plan.specs.Plan.{HasPlace, ArePlaces};
 ghost use Rattle.edit_plan.specs.Owned.{path_in, path_at, places_in, IsPlaceOf, IsPlaced};
-ghost use Rattle.edit_plan.specs.PlacesRefuse.{PlacesRefuse};
+ghost use Rattle.edit_plan.specs.Unbuilt.{PlacesRefuse};
 ghost use Rattle.edit_plan.specs.declared.change.Change.{Change};
 ghost use Rattle.edit_plan.specs.declared.change.Change.TheVariants.{Replace};
 

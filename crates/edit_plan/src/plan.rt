@@ -1,16 +1,15 @@
-ghost use Rattle.std.specs.Prelude.{◌≡◌, ◌<◌, [], length, slice_get, false, All, IfOk, IfErr};
+ghost use Rattle.std.specs.Prelude.{◌≡◌, ◌<◌, [], length, slice_get, option_and_then, false, All, IfOk, IfErr};
 ghost use Rattle.std.specs.Option.{option_map_or};
 ghost use Rattle.edit_plan.specs.Fits.{Fits};
-ghost use Rattle.edit_plan.specs.Nesting.{is_dropped};
+ghost use Rattle.edit_plan.specs.Nesting.{is_dropped, owner};
 ghost use Rattle.edit_plan.specs.Building.{BuildRefuses};
 
 use crate::change::Change;
-use crate::edit::SyntaxEdit;
 use crate::edit_error::EditError;
-use crate::fate::Fate;
-use crate::nesting::first_clash;
+use crate::fate::{Fate, fates};
 use crate::places::places;
-use cst_core::{SyntaxNode, TreeIds};
+use crate::target_index::TargetIndex;
+use cst_core::SyntaxNode;
 use edit_map::SyntaxMapping;
 use std::alloc::Global;
 use std::marker::Model;
@@ -41,9 +40,10 @@ impl Model for EditPlan {
 }
 
 impl EditPlan {
-    /// A plan of these changes of the tree with this root.
+    /// A plan of these changes of the tree with this root, where the mapping tells which node is the copy of which.
     ///
-    /// `Intersecting` comes first, then `Nested`; else only `Memory` comes. Nothing is handed back then.
+    /// `Intersecting` comes first, then `MissingMapping`; `Memory` may come at any time. Nothing is handed back then. Takes time
+    /// near linear in the changes times their depth, the elements of ranges, and what the way up to a place takes for each owner.
     pub fn build(
         alloc: Global,
         root: SyntaxNode,
@@ -55,10 +55,8 @@ impl EditPlan {
         ensures ok { IfOk result (λ p. p ≡ record { root = root; changes = changes.items; mapping = mapping }) }
         ensures refused { IfErr result (BuildRefuses (record { root = root; changes = changes.items; mapping = mapping })) }
     {
-        if let Some((first, second)) = first_clash(&changes) {
-            return Err(EditError::Intersecting { first, second });
-        }
-        let fates = Vec::new(alloc);
+        let index = TargetIndex::of(alloc, &changes)?;
+        let fates = fates(alloc, &index, &changes)?;
         let places = places(alloc, &changes, &fates, &mapping)?;
         Ok(EditPlan {
             root,
@@ -81,6 +79,15 @@ impl EditPlan {
         requires { change < length self.now.changes }
         ensures { result ≡ option_map_or (is_dropped self.now.changes) (slice_get self.now.changes change) false }
     {
-        crate::nesting::is_dropped(&self.changes, &self.changes[change])
+        self.fates[change].is_dropped()
+    }
+
+    /// The replacement of a node by a node that a change moves along with: the one with the deepest region around the change. A
+    /// dropped change has none.
+    pub fn owner(&self, change: usize) -> Option<usize>
+        requires { change < length self.now.changes }
+        ensures { result ≡ option_and_then (owner self.now.changes) (slice_get self.now.changes change) }
+    {
+        self.fates[change].owner()
     }
 }

@@ -1,6 +1,6 @@
 ghost use Rattle.std.specs.Prelude.{◌≡◌, ◌+◌, ℕ, [], ◌∷◌, map, length, All, Some, IfOk, IfErr, IfSome, OnOk, OnErr};
 ghost use Rattle.cst_core.specs.Green.{branch_tree};
-ghost use Rattle.cst_core.specs.Element.{IsElement, element_at, subtree};
+ghost use Rattle.cst_core.specs.Element.{Element, IsElement, element_at, subtree};
 ghost use Rattle.cst_core.specs.GreenElement.{element_trees};
 ghost use Rattle.cst_core.specs.SyntaxElement.{syntax_at};
 ghost use Rattle.rewriting.specs.Aimed.{aims_of};
@@ -9,13 +9,17 @@ ghost use Rattle.rewriting.specs.Rewriting.{rewritten_whole};
 ghost use Rattle.rewriting.specs.Topmost.{paths_of};
 ghost use Rattle.edit_plan.specs.Building.{IsRewritten, Makes, RunRefuses};
 ghost use Rattle.cst_core.specs.Path.{Path};
+ghost use Rattle.edit_plan.specs.Fate.{fate};
+ghost use Rattle.edit_plan.specs.Fits.{Fits};
 ghost use Rattle.edit_plan.specs.Owned.{AreGiven};
 ghost use Rattle.edit_plan.specs.Plan.{ArePlaces};
 ghost use Rattle.edit_plan.specs.Rewriting.{independents};
 
+use crate::change::Change;
 use crate::dependent::dependents;
 use crate::edit::SyntaxEdit;
 use crate::edit_error::EditError;
+use crate::fate::Fate;
 use crate::given::given;
 use crate::plan::EditPlan;
 use cst_core::{GreenElement, GreenNode, SyntaxElement, SyntaxNode, TreeIds};
@@ -29,21 +33,34 @@ struct Rewritten {
     changed: Vec<Vec<usize>>,
 }
 
+// The changes without an owner, by where they aim.
+fn independent_aims<'a>(
+    alloc: Global,
+    changes: &'a [Change],
+    fates: &[Fate],
+) -> Result<Vec<Aimed<'a>>, AllocError>
+    requires fit { (root : Element) × All (Fits root) changes.now }
+    requires fates { fates.now ≡ map (fate changes.now) changes.now }
+    ensures { IfOk result (λ v. aims_of v.items ≡ independents changes.now) }
+{
+    let mut aims = Vec::new(alloc);
+    for number in 0..changes.len() {
+        if fates[number].is_independent() {
+            let Some(aim) = changes[number].aimed(number) else {
+                return Err(AllocError);
+            };
+            aims.push(aim)?;
+        }
+    }
+    Ok(aims)
+}
+
 impl EditPlan {
     // The changes without an owner, by where they aim.
     fn aims(&self, alloc: Global) -> Result<Vec<Aimed<'_>>, AllocError>
         ensures { IfOk result (λ v. aims_of v.items ≡ independents self.now.changes) }
     {
-        let mut aims = Vec::new(alloc);
-        for number in 0..self.changes.len() {
-            if self.fates[number].is_independent() {
-                let Some(aim) = self.changes[number].aimed(number) else {
-                    return Err(AllocError);
-                };
-                aims.push(aim)?;
-            }
-        }
-        Ok(aims)
+        independent_aims(alloc, &self.changes, &self.fates)
     }
 
     // What each change gives, by its number.

@@ -1,7 +1,9 @@
-ghost use Rattle.std.specs.Prelude.{◌≡◌};
-ghost use Rattle.std.specs.List.{list_any};
-ghost use Rattle.cst_core.specs.Path.{has_path, parent_path, last_slot, up_to, siblings};
+ghost use Rattle.std.specs.Prelude.{◌≡◌, ◌∷◌, ◌++◌, [], IfOk};
+ghost use Rattle.cst_core.specs.Path.{parent_path, last_slot, siblings};
+ghost use Rattle.rewriting.specs.Topmost.{paths_of};
 ghost use Rattle.edit_plan.specs.Targets.{paths_in};
+
+use std::alloc::{AllocError, Global};
 
 /// Elements of one tree by their paths: one, or the siblings from the first to the last.
 #[derive(Clone, Copy)]
@@ -32,69 +34,40 @@ pub(crate) fn slot(path: &[usize]) -> usize
 }
 
 impl<'a> Targets<'a> {
-    /// Whether the element at a path is one of them.
-    pub(crate) fn contains(self, path: &[usize]) -> bool
-        ensures { result ≡ has_path (paths_in self.entry) path.now }
+    /// The path of each, in order.
+    pub(crate) fn paths(self, alloc: Global) -> Result<Vec<Vec<usize>>, AllocError>
+        ensures { IfOk result (λ v. paths_of v.items ≡ paths_in self.entry) }
     {
         match self {
-            Targets::One(own) => path == own,
-            Targets::Range { first, last } => is_between(first, path, last),
-        }
-    }
-
-    /// Whether two have an element in common.
-    pub(crate) fn meets(self, other: Targets<'_>) -> bool
-        ensures { result ≡ list_any (has_path (paths_in self.entry)) (paths_in other.entry) }
-    {
-        match self {
-            Targets::One(own) => other.contains(own),
-            Targets::Range { first, last } => match other {
-                Targets::One(own) => is_between(first, own, last),
-                Targets::Range {
-                    first: other_first,
-                    last: other_last,
-                } => overlap(first, last, other_first, other_last),
-            },
-        }
-    }
-
-    /// Whether one of them is the element at a path, or stands above it.
-    pub(crate) fn are_around(self, path: &[usize]) -> bool
-        ensures { result ≡ list_any (has_path (up_to path.now)) (paths_in self.entry) }
-    {
-        match self {
-            Targets::One(own) => path.starts_with(own),
-            Targets::Range { first, last } => {
-                let length = parent(first).len() + 1;
-                if path.len() < length {
-                    return false;
-                }
-                is_between(first, &path[..length], last)
-            }
+            Targets::One(own) => one(alloc, own),
+            Targets::Range { first, last } => siblings(alloc, first, last),
         }
     }
 }
 
-fn is_between(first: &[usize], path: &[usize], last: &[usize]) -> bool
-    ensures { result ≡ has_path (siblings first.now last.now) path.now }
+fn one(alloc: Global, path: &[usize]) -> Result<Vec<Vec<usize>>, AllocError>
+    ensures { IfOk result (λ v. paths_of v.items ≡ path.now ∷ []) }
 {
-    if path.is_empty() {
-        return false;
-    }
-    if parent(path) != parent(first) {
-        return false;
-    }
-    if slot(path) < slot(first) {
-        return false;
-    }
-    slot(path) <= slot(last)
+    let mut paths = Vec::new(alloc);
+    paths.push(Vec::from_slice(alloc, path)?)?;
+    Ok(paths)
 }
 
-fn overlap(first: &[usize], last: &[usize], other_first: &[usize], other_last: &[usize]) -> bool
-    ensures { result ≡ list_any (has_path (siblings first.now last.now)) (siblings other_first.now other_last.now) }
+fn siblings(alloc: Global, first: &[usize], last: &[usize]) -> Result<Vec<Vec<usize>>, AllocError>
+    ensures { IfOk result (λ v. paths_of v.items ≡ siblings first.now last.now) }
 {
-    if parent(first) != parent(other_first) {
-        return false;
+    let parent = parent(first);
+    let mut paths = Vec::new(alloc);
+    for slot in slot(first)..=slot(last) {
+        paths.push(child(alloc, parent, slot)?)?;
     }
-    slot(first).max(slot(other_first)) <= slot(last).min(slot(other_last))
+    Ok(paths)
+}
+
+fn child(alloc: Global, parent: &[usize], slot: usize) -> Result<Vec<usize>, AllocError>
+    ensures { IfOk result (λ v. v.items ≡ parent.now ++ slot ∷ []) }
+{
+    let mut path = Vec::from_slice(alloc, parent)?;
+    path.push(slot)?;
+    Ok(path)
 }

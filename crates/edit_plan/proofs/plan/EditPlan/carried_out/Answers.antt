@@ -5,7 +5,6 @@ use Rattle.rewriting.specs.Aimed.{aims_of}
 use Rattle.rewriting.specs.Pass.{kind_only, given_by}
 use Rattle.rewriting.specs.Rewriting.{rewritten_whole}
 use Rattle.rewriting.specs.Topmost.{topmost, AreCounted, not_given, paths_of}
-use Rattle.edit_plan.specs.Nesting.{first_nested}
 use Rattle.edit_plan.proofs.Carrying.{is_rewritten}
 use Rattle.edit_plan.proofs.plan.EditPlan.carried_out.Goals as goal
 
@@ -16,9 +15,10 @@ returns c =
     let same_given = c.deref-2.ensures.value in
     let old : branch_tree c.in_ok-green-2.field-0 ≡ subtree p.root = c.in_ok-green-2.ensures ∙ ap (λ x. subtree x.root) c.self.view_is in
     is_rewritten p c.in_ok-green.green (paths_of c.in_ok-changed.changed.items) (record {
-      unowned = ap (λ x. first_nested x.changes) (sym c.self.view_is) ∙ c.self.invariant.unowned;
+      places = c.in_ok-given.ensures.0;
+      placed = c.in_ok-given.ensures.1;
       table = c.in_ok-given.given.items;
-      table_is = c.in_ok-given.ensures;
+      table_is = c.in_ok-given.ensures.2;
       aims = aims_of c.in_ok-aims.aims.items;
       aims_are = c.in_ok-aims.ensures;
       tree_is = ap₂ (λ g ds. rewritten_whole kind_only (given_by g) (aims_of ds) (subtree p.root)) (sym same_given) (sym same_aims) ∙ c.in_ok-green.ensures;

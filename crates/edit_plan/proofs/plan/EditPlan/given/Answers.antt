@@ -1,10 +1,18 @@
-use Rattle.std.proofs.Common.{◌≡◌, ◌≤◌, ◌∙◌, ap, arith, length, map, take}
-use Rattle.edit_plan.proofs.Carried.{tables, brought_trees, table-is, take-whole}
+use Rattle.std.proofs.Common.{◌≡◌, ◌∙◌, ℕ, sym, ap, subst}
+use Rattle.std.specs.Prelude.{All, IfOk}
+use Rattle.cst_core.specs.Path.{Path}
+use Rattle.edit_plan.specs.Fits.{Fits}
+use Rattle.edit_plan.specs.Owned.{AreDependents, AreGiven}
+use Rattle.edit_plan.specs.Building.{Plan}
+use Rattle.edit_plan.proofs.Lists.{if-ok-weaker}
+use Rattle.edit_plan.proofs.Nested.{GivenWith, handed-on}
 use Rattle.edit_plan.proofs.plan.EditPlan.given.Goals as goal
+
+pub dependents-requires-clause-fit : goal.dependents-requires-clause-fit
+dependents-requires-clause-fit c = (c.self.inside.root, subst (All (Fits c.self.inside.root)) (sym c.deref.ensures.value) c.self.invariant.is_plan.fit)
 
 pub returns : goal.returns
 returns c =
-    let same : length c.deref-change-items.result.now ≡ length c.args.self.now.changes = ap length c.deref-change-items.ensures.value ∙ ap (λ p. length p.changes) c.self.view_is in
-    let done : length c.args.self.now.changes ≤ c.loop-change.change-index = omega (arith, same, c.loop-change-test.false) in
-    let filled : tables c.loop-change.given.items ≡ map brought_trees (take c.loop-change.change-index c.args.self.now.changes) = c.loop-change.invariant in
-    table-is c.loop-change.given.items c.args.self.now.changes (filled ∙ ap (map brought_trees) (take-whole c.loop-change.change-index c.args.self.now.changes done))
+    let cs = c.self.inside.changes.items in
+    let owned = c.in_ok-dependents.dependents.items in
+    subst (λ (p : Plan). IfOk c.given.result (λ v. GivenWith p.mapping p.changes v.items)) c.self.view_is (if-ok-weaker (λ v. (places : ℕ → Path) → AreDependents c.deref-4.result.now places c.deref-5.result.now → AreGiven c.deref-4.result.now places v.items) (λ v. GivenWith c.self.inside.mapping cs v.items) (λ v h. handed-on c.self.inside.mapping cs c.deref.result.now c.deref-4.result.now c.self.inside.places.items c.deref-3.result.now owned c.deref-5.result.now c.deref.ensures.value c.deref-4.ensures.value c.deref-3.ensures.value c.deref-5.ensures.value c.in_ok-dependents.ensures.dependents c.self.invariant.placed v.items h) c.given.result c.given.ensures.given)

@@ -1,7 +1,7 @@
 use Rattle.std.proofs.Common.{◌≡◌}
 use Rattle.rewriting.specs.Aimed.{aims_of}
 use Rattle.edit_plan.proofs.Carried.{independents-to}
-use Rattle.edit_plan.proofs.plan.EditPlan.aims.Given as goal
+use Rattle.edit_plan.proofs.run.independent_aims.Given as goal
 
 abbrev pub invariant-loop-number : goal.invariant-loop-number
-invariant-loop-number l = aims_of l.aims.items ≡ independents-to l.self.changes l.number
+invariant-loop-number l = aims_of l.aims.items ≡ independents-to l.changes l.number
