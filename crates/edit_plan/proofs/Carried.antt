@@ -44,7 +44,7 @@ use Rattle.edit_plan.specs.Rewriting.{aims_of, payload_of, independents}
 use Rattle.edit_plan.specs.declared.change.Change.{Change}
 use Rattle.edit_plan.specs.declared.change.Change.TheVariants.{Insert, InsertAll, Replace, ReplaceWithMany, ReplaceAll}
 use Rattle.edit_plan.specs.declared.fate.Fate.{Fate}
-use Rattle.edit_plan.specs.declared.fate.Fate.TheVariants.{Independent, Dropped, Owned}
+use Rattle.edit_plan.specs.declared.fate.Fate.TheVariants.{Dropped}
 
 -- ---- targets
 pub one-sibling : (p : Path) → siblings_from p 1 ≡ p ∷ []

@@ -3,7 +3,7 @@
 --     is_rewritten                  its answer is the plan's rewriting
 --     makes                         the edit that is put together is what the plan makes
 --     refuses                       the refusals of the new root, as those of the plan
-use Rattle.std.specs.Prelude.{◌≡◌, ℕ, ◌<◌, ◌≤◌, Bool, List, [], ◌∷◌, map, flat_map, length, slice_get, Vec, Some, None, option_map, Result, Ok, Err, IfErr, IfSome, refl}
+use Rattle.std.specs.Prelude.{◌≡◌, ℕ, ◌<◌, ◌≤◌, Bool, List, [], ◌∷◌, map, flat_map, length, slice_get, Vec, Some, None, option_map, Result, Ok, Err, IfErr, refl}
 use Rattle.std.specs.Result.{IsErrAnd}
 use Rattle.std.specs.Global.{Global}
 use Rattle.std.specs.Option.{option_map_or}

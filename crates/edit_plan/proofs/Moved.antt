@@ -22,10 +22,9 @@ use Rattle.cst_core.specs.Path.{Path, same_path, has_path, parent_path, last_slo
 use Rattle.cst_core.specs.Tree as tree
 use Rattle.cst_core.specs.Element.{Element}
 use Rattle.cst_core.specs.SyntaxElement.{element_of}
-use Rattle.cst_core.specs.declared.element.SyntaxElement.{SyntaxElement}
-use Rattle.cst_core.specs.declared.element.SyntaxElement.TheVariants.{Node, Token}
+use Rattle.cst_core.specs.declared.element.SyntaxElement.TheVariants.{Token}
 use Rattle.cst_core.proofs.LastSlot.{parent_path-push, last_slot-push, parent-and-slot}
-use Rattle.rewriting.specs.Aim.{Aim, FirstIn, Behind, Over}
+use Rattle.rewriting.specs.Aim.{Over}
 use Rattle.rewriting.specs.Aimed.{siblings_from}
 use Rattle.rewriting.specs.Rewriting.{NumberedAim}
 use Rattle.edit_plan.specs.Aim.{position_aim, aim, aim_path}
@@ -35,7 +34,7 @@ use Rattle.edit_plan.specs.Change.{targets}
 use Rattle.edit_plan.specs.Nesting.{region, surroundings, is_keeping, is_around, is_dropped, region_at, owner, has_owner}
 use Rattle.edit_plan.specs.Fate.{by_owner, fate, owner_in}
 use Rattle.edit_plan.specs.declared.fate.Fate.{Fate}
-use Rattle.edit_plan.specs.declared.fate.Fate.TheVariants.{Independent, Dropped, Owned}
+use Rattle.edit_plan.specs.declared.fate.Fate.TheVariants.{Dropped}
 use Rattle.edit_plan.specs.Owned.{position_aim_from, aim_from, depth, moved, dependents_in}
 use Rattle.edit_plan.specs.Rewriting.{moved_path, moved_aim, targets_of, dependents}
 use Rattle.edit_plan.specs.declared.position.Position.{Position}

@@ -4,7 +4,7 @@
 --     first-unplaced                the first change that finds no place
 --     found-more, none-found        one change more: with an owner, and without one
 --     all-found                     each change finds its place
-use Rattle.std.specs.Prelude.{◌≡◌, ℕ, suc, ◌+◌, ◌<◌, ◌≤◌, true, List, [], length, slice_get, unwrap_or, Vec, Option, Some, None, option_and_then, IfSome, IsSomeAnd, get_or, refl}
+use Rattle.std.specs.Prelude.{◌≡◌, ℕ, ◌+◌, ◌<◌, ◌≤◌, true, List, [], length, slice_get, unwrap_or, Vec, Option, Some, None, option_and_then, IfSome, IsSomeAnd, get_or, refl}
 use Rattle.std.specs.Global.{Global}
 use Rattle.std.proofs.Common.{ap, sym, subst, ◌∙◌, arith}
 use Rattle.std.proofs.lemmas.Bool.{cases_lt}

@@ -1,16 +1,16 @@
 -- Worked examples beside the last child of a tree with a text of the greatest length: the new text, and the changed paths.
-use Rattle.std.specs.Prelude.{◌≡◌, ℕ, zero, suc, ◌+◌, ◌<◌, Bool, true, false, cond, not, ◌&&◌, ◌||◌, nat_eq, List, [], ◌∷◌, ◌++◌, codes, map, filter, flat_map, length, Some, None, refl}
+use Rattle.std.specs.Prelude.{◌≡◌, ℕ, zero, suc, ◌+◌, ◌<◌, true, false, cond, not, ◌&&◌, ◌||◌, nat_eq, List, [], ◌∷◌, ◌++◌, codes, map, filter, flat_map, length, Some, None, refl}
 use Rattle.std.proofs.Common.{ap, ap₂, sym, ◌∙◌, arith}
 use Rattle.std.proofs.lemmas.Bool.{eqb-true, false_from_ne_true}
 use Rattle.std.proofs.lemmas.List.{length-append, append-nil, append_assoc}
 use Rattle.cst_core.specs.Path.{Path, same_path}
 use Rattle.std.specs.Option.{option_map_or}
 use mathlib.Core.Path.{fun_ext}
-use Rattle.cst_core.specs.Tree.{Tree, Forest, Token, Node, end, more, SyntaxTree, forest, text, forest_text, relabelled, forest_relabelled, at, paths}
-use Rattle.cst_core.specs.declared.element.SyntaxElement.TheVariants.{Node as node_value, Token as token_value}
-use Rattle.edit_map.proofs.RowTrees.{token, branch, tree_X}
+use Rattle.cst_core.specs.Tree.{Forest, Token, Node, end, more, SyntaxTree, forest, text, forest_text, relabelled, forest_relabelled, at, paths}
+use Rattle.cst_core.specs.declared.element.SyntaxElement.TheVariants.{Token as token_value}
+use Rattle.edit_map.proofs.RowTrees.{tree_X}
 use Rattle.edit_map.proofs.Rows.{element_of_tree}
-use Rattle.rewriting.specs.Aim.{Aim, Behind, Over}
+use Rattle.rewriting.specs.Aim.{Behind, Over}
 use Rattle.rewriting.specs.Rewriting.{NumberedAim, numbers, inserts_at, replacements_at, is_replaced, gap_order, rewritten, rewritten_from}
 use Rattle.rewriting.specs.Topmost.{holds_at, parent_holds, topmost, not_given}
 use Rattle.rewriting.proofs.Tops.{tops, top-children, tops-alone}
@@ -24,8 +24,9 @@ use Rattle.edit_plan.specs.declared.change.Change.TheVariants.{Insert, Replace}
 use Rattle.edit_plan.proofs.RowChanges.{no_places}
 use Rattle.edit_plan.proofs.RowsOfLengths.{doubled, falling, long, longest, P, changes_emptied}
 use Rattle.edit_plan.proofs.Relabelled.{topmost-relabelled}
-use Rattle.edit_plan.proofs.Whole.{marked, alone, changed-whole}
-use Rattle.edit_plan.proofs.Edits.{Edits, remade, remade_from, no_edits, untouched_is}
+use Rattle.edit_plan.proofs.Brought.{marked, alone}
+use Rattle.edit_plan.proofs.Whole.{changed-whole}
+use Rattle.edit_plan.proofs.Edits.{remade, remade_from, no_edits, untouched_is}
 use Rattle.edit_plan.proofs.Unowned.{text-unowned}
 
 -- ---- a child that no aim is at or below
@@ -176,10 +177,10 @@ tops-falling (suc k) i e =
 row_exchanged_changed : flat_map (changed (is_free changes_exchanged)) (new_tree changes_exchanged no_places (P [])) ≡ (31 ∷ []) ∷ []
 unfolding long
 row_exchanged_changed =
-    changed-whole changes_exchanged no_places refl (P []) ∙ append-nil _ ∙ top-children (λ b. b) false (rewritten_from not_given (marked changes_exchanged no_places) (behind_last ∷ over_last ∷ []) [] 0 (forest (falling 31))) refl ∙ tops-falling 31 0 refl
+    changed-whole changes_exchanged no_places (P []) ∙ append-nil _ ∙ top-children (λ b. b) false (rewritten_from not_given (marked changes_exchanged no_places) (behind_last ∷ over_last ∷ []) [] 0 (forest (falling 31))) refl ∙ tops-falling 31 0 refl
 
 -- the whole tree put first, and all the rest deleted
 row_emptied_changed : flat_map (changed (is_free changes_emptied)) (new_tree changes_emptied no_places (P [])) ≡ (0 ∷ []) ∷ []
 unfolding long falling
 row_emptied_changed =
-    changed-whole changes_emptied no_places refl (P []) ∙ append-nil _ ∙ top-children (λ b. b) false (marked changes_emptied no_places 0) refl ∙ tops-alone (λ b. b) 0 (marked changes_emptied no_places 0) (alone changes_emptied no_places 0)
+    changed-whole changes_emptied no_places (P []) ∙ append-nil _ ∙ top-children (λ b. b) false (marked changes_emptied no_places 0) refl ∙ tops-alone (λ b. b) 0 (marked changes_emptied no_places 0) (alone changes_emptied no_places 0)

@@ -3,7 +3,7 @@
 --     fate                          among these changes
 --     drops_at, fate_within         a dropping region has this path; the fate of a change that these paths are around
 --     owner_in, is_dropped_in, is_independent_in    what a fate says
-use Rattle.std.specs.Prelude.{◌≡◌, ℕ, Bool, true, false, cond, not, List, map, filter_map, slice_get, Option, Some, None}
+use Rattle.std.specs.Prelude.{ℕ, Bool, true, false, cond, not, List, filter_map, slice_get, Option, Some, None}
 use Rattle.std.specs.List.{list_any}
 use Rattle.std.specs.Option.{option_map_or}
 use Rattle.cst_core.specs.Path.{Path, last_item}

@@ -1,4 +1,3 @@
-use Rattle.std.proofs.Common.{◌≡◌, sym, ◌∙◌, ap}
 use Rattle.edit_plan.proofs.Moved.{entered-here, entered-elsewhere}
 use Rattle.edit_plan.proofs.dependent.enter.Goals as goal
 

@@ -1,4 +1,4 @@
-use Rattle.std.proofs.Common.{◌≡◌, ◌<◌, [], map, length, sym, ◌∙◌, ap, ap₂, subst, arith}
+use Rattle.std.proofs.Common.{◌<◌, [], map, sym, ◌∙◌, ap, ap₂, subst}
 use Rattle.cst_core.specs.Element.{subtree}
 use Rattle.rewriting.specs.Aimed.{aims_of}
 use Rattle.rewriting.specs.Pass.{kind_only, given_by}

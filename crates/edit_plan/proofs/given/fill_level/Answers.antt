@@ -1,4 +1,4 @@
-use Rattle.std.proofs.Common.{◌≡◌, ◌<◌, ◌+◌, ◌∙◌, refl, [], map, length, sym, ap, subst}
+use Rattle.std.proofs.Common.{◌≡◌, ◌<◌, ◌+◌, ◌∙◌, refl, map, length, sym, ap, subst}
 use Rattle.edit_plan.specs.Owned.{depth_of, moved, dependents_in}
 use Rattle.edit_plan.proofs.Nested.{IsLevelled, level-ends, other-level, nothing-owned, level-filled, depth-at, owned-at, empty-none}
 use Rattle.edit_plan.proofs.given.fill_level.Goals as goal

@@ -1,4 +1,4 @@
-use Rattle.std.proofs.Common.{◌≡◌, ◌-◌, suc, arith, subst, sym}
+use Rattle.std.proofs.Common.{◌≡◌, ◌-◌, suc, arith, subst}
 use Rattle.edit_plan.specs.Owned.{AreGivenFrom}
 use Rattle.edit_plan.proofs.Nested.{from-payloads, to-the-top}
 use Rattle.edit_plan.proofs.given.given.Goals as goal

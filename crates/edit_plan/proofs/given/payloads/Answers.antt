@@ -1,4 +1,4 @@
-use Rattle.std.proofs.Common.{◌≡◌, ◌≤◌, ◌∙◌, ap, arith, length, map, take}
+use Rattle.std.proofs.Common.{◌≡◌, ◌∙◌, ap, map, take}
 use Rattle.edit_plan.proofs.Carried.{tables, brought_trees, table-is, take-whole}
 use Rattle.edit_plan.proofs.given.payloads.Goals as goal
 

@@ -1,4 +1,4 @@
-use Rattle.std.proofs.Common.{◌≡◌, ◌∙◌, [], ◌∷◌, ◌++◌, sym, ap, ap₂}
+use Rattle.std.proofs.Common.{◌∙◌, [], ◌∷◌, ◌++◌, sym, ap, ap₂}
 use Rattle.std.proofs.lemmas.List.{map-append}
 use Rattle.rewriting.specs.Aimed.{aims_of, numbered}
 use Rattle.edit_plan.proofs.Carried.{one-more, passed-at, independents-whole, independent-at}

@@ -1,5 +1,5 @@
 use Rattle.std.specs.Prelude.{IfSome}
-use Rattle.std.proofs.Common.{◌≡◌, sym, ◌∙◌, ap, subst}
+use Rattle.std.proofs.Common.{◌≡◌, ◌∙◌, ap, subst}
 use Rattle.rewriting.specs.Aimed.{numbered}
 use Rattle.edit_plan.specs.Owned.{aim_from}
 use Rattle.edit_plan.proofs.Carried.{own-aim}

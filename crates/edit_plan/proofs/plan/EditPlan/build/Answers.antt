@@ -1,4 +1,4 @@
-use Rattle.std.proofs.Common.{◌≡◌, map, length, sym, ◌∙◌, ap, subst, rules}
+use Rattle.std.proofs.Common.{map, length, sym, ◌∙◌, ap, subst, rules}
 use Rattle.edit_plan.specs.Fate.{fate}
 use Rattle.edit_plan.specs.Nesting.{first_clash}
 use Rattle.edit_plan.specs.Owned.{places_in}

@@ -1,4 +1,4 @@
-use Rattle.std.proofs.Common.{◌≡◌, ◌∙◌, ℕ, sym, ap, subst}
+use Rattle.std.proofs.Common.{ℕ, sym, subst}
 use Rattle.std.specs.Prelude.{All, IfOk}
 use Rattle.cst_core.specs.Path.{Path}
 use Rattle.edit_plan.specs.Fits.{Fits}
