@@ -4,15 +4,13 @@
 --     any-swap, around-turned, any-and      tests of two lists, in either order
 --     is_some-position              a test passes somewhere
 --     unowned-at                    where no change has an owner
-use Rattle.std.specs.Prelude.{◌≡◌, ℕ, zero, suc, ◌<◌, Bool, true, false, not, nat_lt, ◌+◌, ◌||◌, ◌&&◌, cond, List, [], ◌∷◌, length, map, position, Option, Some, None, is_some, refl}
+use Rattle.std.specs.Prelude.{◌≡◌, ℕ, suc, Bool, true, false, not, nat_lt, ◌+◌, ◌||◌, ◌&&◌, cond, List, [], ◌∷◌, length, map, position, Some, None, is_some, refl}
 use Rattle.std.specs.List.{list_any, position_or_len}
-use Rattle.std.proofs.Common.{ap, sym, ◌∙◌, arith, get_or}
-use Rattle.std.proofs.lemmas.Bool.{lt-ltb, or_parts}
+use Rattle.std.proofs.Common.{ap, sym, ◌∙◌, arith}
+use Rattle.std.proofs.lemmas.Bool.{lt-ltb}
 use Rattle.std.proofs.lemmas.List.{map-append}
 use mathlib.Core.Path.{fun_ext}
 use Rattle.cst_core.specs.Path.{Path, same_path, has_path, parent_path, above, up_to}
-use Rattle.edit_plan.specs.Nesting.{owner, first_nested}
-use Rattle.edit_plan.specs.declared.change.Change.{Change}
 use Rattle.edit_plan.proofs.Paths.{same_path-true, same_path_from}
 use Rattle.edit_plan.proofs.Positions.{same-test, lt-step}
 
@@ -72,17 +70,3 @@ lt-position p (x ∷ xs) =
 pub is_some-position : {X : Type 0} (p : X → Bool) (xs : List X) → is_some (position p xs) ≡ list_any p xs
 is_some-position p xs =
     (elim (nat_lt (position_or_len p xs) (length xs)) as (λ b. is_some (cond b (Some (position_or_len p xs)) None) ≡ b) [ true ↦ refl | false ↦ refl ]) ∙ lt-position p xs
-
--- ---- where no change has an owner
-not-any : {X : Type 0} (p : X → Bool) (xs : List X) (i : ℕ) (x : X) → list_any p xs ≡ false → i < length xs → x ≡ get_or xs i x → p x ≡ false
-not-any p [] i x none l is = absurd (omega (arith, l))
-not-any p (y ∷ xs) zero x none l is = ap p is ∙ (or_parts (p y) (list_any p xs) none).0
-not-any p (y ∷ xs) (suc i) x none l is = not-any p xs i x (or_parts (p y) (list_any p xs) none).1 (omega (arith, l)) is
-
-is_some-false : {X : Type 0} (o : Option X) → is_some o ≡ false → o ≡ None
-is_some-false None h = refl
-is_some-false (Some x) h = cc
-
-pub unowned-at : (cs : List Change) (i : ℕ) (c : Change) → first_nested cs ≡ None → i < length cs → c ≡ get_or cs i c → owner cs c ≡ None
-unowned-at cs i c none l is =
-    is_some-false (owner cs c) (not-any (λ d. is_some (owner cs d)) cs i c (sym (is_some-position (λ d. is_some (owner cs d)) cs) ∙ ap is_some none) l is)

@@ -1,8 +1,8 @@
 -- What becomes of a change, from the regions that are around it.
 --     region-here, region-none      the region at a path, by the change that replaces what is there
 --     fate-is                       the fate of a change is that of one which its surroundings are around
---     nested-told                   the first change that has an owner
-use Rattle.std.specs.Prelude.{◌≡◌, ℕ, suc, Bool, true, false, not, ◌&&◌, ◌||◌, cond, List, [], ◌∷◌, map, filter_map, position, slice_get, Option, Some, None, option_map, is_some, refl}
+--     owner-told                    the owner of a change, from its fate
+use Rattle.std.specs.Prelude.{◌≡◌, ℕ, suc, Bool, true, false, not, ◌&&◌, ◌||◌, cond, List, [], ◌∷◌, filter_map, slice_get, Option, Some, None, option_map, refl}
 use Rattle.std.specs.List.{AllByRecursion, list_any}
 use Rattle.std.specs.Option.{option_map_or}
 use Rattle.std.proofs.Common.{ap, ap₂, sym, ◌∙◌}
@@ -13,7 +13,7 @@ use mathlib.Core.Path.{fun_ext}
 use Rattle.cst_core.specs.Path.{Path, has_path, last_item}
 use Rattle.cst_core.specs.declared.element.SyntaxElement.TheVariants.{Node, Token}
 use Rattle.edit_plan.specs.Change.{targets, shared_targets}
-use Rattle.edit_plan.specs.Nesting.{region, is_keeping, surroundings, is_around, is_dropped, region_at, owner, first_nested}
+use Rattle.edit_plan.specs.Nesting.{region, is_keeping, surroundings, is_around, is_dropped, region_at, owner}
 use Rattle.edit_plan.specs.TargetIndex.{target_at, IsApart}
 use Rattle.edit_plan.specs.Fate.{by_owner, owner_in, drops_at, fate_within, fate}
 use Rattle.edit_plan.specs.declared.change.Change.{Change}
@@ -133,20 +133,10 @@ fate-is cs apart c =
     let last = last_item (filter_map (region_at cs) (surroundings c)) in
     fate-cases (list_any (drops_at cs) (surroundings c)) last ∙ ap (λ b. cond b Dropped (by_owner (cond b None last))) (dropped-is cs apart c)
 
--- ---- the first change with an owner
-position-map : {X Y : Type 0} (p : Y → Bool) (f : X → Y) (xs : List X) → position p (map f xs) ≡ position (λ x. p (f x)) xs
-position-map p f [] = refl
-position-map p f (x ∷ xs) =
-    position-cons p (f x) (map f xs) ∙ ap (λ o. cond (p (f x)) (Some 0) (option_map suc o)) (position-map p f xs) ∙ sym (position-cons (λ y. p (f y)) x xs)
-
-owner-told : (cs : List Change) (c : Change) → owner_in (fate cs c) ≡ owner cs c
+pub owner-told : (cs : List Change) (c : Change) → owner_in (fate cs c) ≡ owner cs c
 owner-told cs c = go (is_dropped cs c) (last_item (filter_map (region_at cs) (surroundings c)))
   where
     go : (b : Bool) (o : Option ℕ) → owner_in (cond b Dropped (by_owner (cond b None o))) ≡ cond b None o
     go true o = refl
     go false None = refl
     go false (Some d) = refl
-
-pub nested-told : (cs : List Change) → position (λ f. is_some (owner_in f)) (map (fate cs) cs) ≡ first_nested cs
-nested-told cs =
-    position-map (λ f. is_some (owner_in f)) (fate cs) cs ∙ ap (λ test. position test cs) (fun_ext (λ c. ap is_some (owner-told cs c)))

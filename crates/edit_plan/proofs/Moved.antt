@@ -4,7 +4,7 @@
 --     moved-own                     where a change aims that is moved, by its own path
 --     dependents-to                 what a change owns, of the first so many
 --     none-entered, one-entered     one change more: without an owner, and with one
-use Rattle.std.specs.Prelude.{◌≡◌, ◌≢◌, ℕ, zero, suc, ◌+◌, ◌-◌, ◌<◌, ◌≤◌, Bool, true, false, cond, not, ◌&&◌, nat_eq, List, [], ◌∷◌, ◌++◌, map, filter, filter_map, length, take, drop, slice_get, unwrap_or, Vec, Option, Some, None, option_map, option_and_then, IfSome, get_or, refl}
+use Rattle.std.specs.Prelude.{◌≡◌, ◌≢◌, ℕ, zero, suc, ◌+◌, ◌-◌, ◌<◌, ◌≤◌, Bool, true, false, cond, not, ◌&&◌, nat_eq, List, [], ◌∷◌, ◌++◌, map, filter, length, take, drop, slice_get, unwrap_or, Vec, Option, Some, None, option_map, option_and_then, IfSome, get_or, refl}
 use Rattle.std.specs.Global.{Global}
 use Rattle.std.specs.List.{AllByRecursion, list_any, enumerate_from}
 use Rattle.std.specs.Option.{option_map_or}
@@ -18,7 +18,7 @@ use Rattle.std.proofs.Math.Seq.{take-suc}
 use mathlib.Core.List.{map-map}
 use mathlib.Core.Logic.{inl, inr}
 use mathlib.Core.Path.{fun_ext}
-use Rattle.cst_core.specs.Path.{Path, same_path, has_path, parent_path, last_slot, counted_from, siblings, first_item, last_item}
+use Rattle.cst_core.specs.Path.{Path, same_path, has_path, parent_path, last_slot, counted_from, siblings, first_item}
 use Rattle.cst_core.specs.Tree as tree
 use Rattle.cst_core.specs.Element.{Element}
 use Rattle.cst_core.specs.SyntaxElement.{element_of}
@@ -31,10 +31,9 @@ use Rattle.edit_plan.specs.Aim.{position_aim, aim, aim_path}
 use Rattle.edit_plan.specs.Position.{anchor}
 use Rattle.edit_plan.specs.Fits.{Fits}
 use Rattle.edit_plan.specs.Change.{targets}
-use Rattle.edit_plan.specs.Nesting.{region, surroundings, is_keeping, is_around, is_dropped, region_at, owner, has_owner}
-use Rattle.edit_plan.specs.Fate.{by_owner, fate, owner_in}
+use Rattle.edit_plan.specs.Nesting.{region, surroundings, is_keeping, is_around, owner, has_owner}
+use Rattle.edit_plan.specs.Fate.{fate, owner_in}
 use Rattle.edit_plan.specs.declared.fate.Fate.{Fate}
-use Rattle.edit_plan.specs.declared.fate.Fate.TheVariants.{Dropped}
 use Rattle.edit_plan.specs.Owned.{position_aim_from, aim_from, depth, moved, dependents_in}
 use Rattle.edit_plan.specs.Rewriting.{moved_path, moved_aim, targets_of, dependents}
 use Rattle.edit_plan.specs.declared.position.Position.{Position}
@@ -44,6 +43,7 @@ use Rattle.edit_plan.specs.declared.dependent.Dependent.{Dependent}
 use Rattle.edit_plan.specs.declared.change.Change.TheVariants.{Insert, InsertAll, Replace, ReplaceWithMany, ReplaceAll}
 use Rattle.edit_plan.proofs.Carried.{one-sibling, enumerate-push, take-whole}
 use Rattle.edit_plan.proofs.Apart.{meets}
+use Rattle.edit_plan.proofs.Fates.{owner-told}
 use Rattle.edit_plan.proofs.Lists.{slice_get-set_same, slice_get-set_other}
 use Rattle.edit_plan.proofs.Owners.{HasRegion, owner_cases, owner_region, owner_is_above}
 use Rattle.edit_plan.proofs.Paths.{same_path_from}
@@ -175,15 +175,7 @@ module _ (cs : List Change) (places : ℕ → Path) where
         at_owner =
             here ∙ ap₂ (λ xs y. xs ++ y ∷ []) (before o) (moves ∙ ap (λ n. (i, moved_aim n (places o) (aim d))) (sym (target-is cs o r at_o keeps))) ∙ sym (one-further o ∙ ap (λ b. dependents-to i o ++ cond b (entry o (i, d) ∷ []) []) owns)
 
--- ---- the owner of a change, from its fate
-pub owner-in-fate : (cs : List Change) (c : Change) → owner_in (fate cs c) ≡ owner cs c
-owner-in-fate cs c = go (is_dropped cs c) (last_item (filter_map (region_at cs) (surroundings c)))
-  where
-    go : (b : Bool) (o : Option ℕ) → owner_in (cond b Dropped (by_owner (cond b None o))) ≡ cond b None o
-    go true o = refl
-    go false None = refl
-    go false (Some d) = refl
-
+-- ---- the owner of a change
 pub owner-there : (cs : List Change) (c : Change) (o : ℕ) → owner cs c ≡ Some o → o < length cs
 owner-there cs c o by = let k : (r : Change) × (slice_get cs o ≡ Some r) × (is_keeping r ≡ true) = owner-keeps cs c o by in slice_get_within cs o k.0 k.1
 
@@ -219,7 +211,7 @@ owner-at-number cs fates n f are l = go (slice_get cs n) refl
     go : (o : Option Change) → slice_get cs n ≡ o → owner_in (get_or fates n f) ≡ option_and_then (owner cs) (slice_get cs n)
     go None is = absurd (none-some (get_or fates n f) (sym (read ∙ ap (option_map (fate cs)) is)))
     go (Some c) is =
-        ap owner_in (same_Some (get_or fates n f) (fate cs c) (read ∙ ap (option_map (fate cs)) is)) ∙ owner-in-fate cs c ∙ sym (ap (option_and_then (owner cs)) is)
+        ap owner_in (same_Some (get_or fates n f) (fate cs c) (read ∙ ap (option_map (fate cs)) is)) ∙ owner-told cs c ∙ sym (ap (option_and_then (owner cs)) is)
 
 pub any-owner-there : (cs : List Change) (n : ℕ) (o : Option ℕ) → o ≡ option_and_then (owner cs) (slice_get cs n) → IfSome o (λ k. k < length cs)
 any-owner-there cs n o is = subst (λ x. IfSome x (λ k. k < length cs)) (sym is) (go (slice_get cs n))

@@ -8,8 +8,7 @@
 --     is_dropped                    some dropping region is around it
 --     owner                         of a change that is not dropped: the replacement with the deepest region around it
 --     is_independent, has_owner     neither dropped nor owned; owned by this change
---     first_nested                  the least change that has an owner
-use Rattle.std.specs.Prelude.{ℕ, Bool, true, false, ◌&&◌, not, cond, nat_eq, List, [], ◌∷◌, map, length, flat_map, filter_map, position, find, slice_get, Option, Some, None, is_none, is_some}
+use Rattle.std.specs.Prelude.{ℕ, Bool, true, false, ◌&&◌, not, cond, nat_eq, List, [], ◌∷◌, map, length, flat_map, filter_map, position, find, slice_get, Option, Some, None, is_none}
 use Rattle.std.specs.List.{list_any}
 use Rattle.std.specs.Option.{option_map_or}
 use Rattle.cst_core.specs.Path.{Path, has_path, up_to, above, counted_from, last_item}
@@ -84,7 +83,3 @@ is_independent cs c = not (is_dropped cs c) && is_none (owner cs c)
 
 abbrev pub has_owner : List Change → ℕ → Change → Bool
 has_owner cs d c = option_map_or (nat_eq d) (owner cs c) false
-
--- the least change that has an owner
-abbrev pub first_nested : List Change → Option ℕ
-first_nested cs = position (λ c. is_some (owner cs c)) cs

@@ -46,7 +46,10 @@ pub(crate) fn moved_aims<'a, 'b>(
 {
     let mut aims = Vec::new(alloc);
     for dependent in dependents {
-        let Some(aim) = dependent.change.aimed_from(dependent.number, &dependent.path) else {
+        let Some(aim) = dependent
+            .change
+            .aimed_from(dependent.number, &dependent.path)
+        else {
             return Err(AllocError);
         };
         aims.push(aim)?;
@@ -139,7 +142,13 @@ pub(crate) fn dependents<'a>(
     for number in 0..changes.len() {
         if let Some(owner) = owner_of(changes, fates, number) {
             let change = &changes[number];
-            let dependent = moved_in(alloc, change, number, &changes[owner], place_at(places, owner))?;
+            let dependent = moved_in(
+                alloc,
+                change,
+                number,
+                &changes[owner],
+                place_at(places, owner),
+            )?;
             enter(&mut table, owner, dependent)?;
         }
     }

@@ -25,8 +25,7 @@ impl Fate {
     {
         match self {
             Fate::Independent => true,
-            Fate::Dropped => false,
-            Fate::Owned(_) => false,
+            _ => false,
         }
     }
 
