@@ -1,9 +1,9 @@
 -- What a call that is not refused records fits the tree.
-use Rattle.std.specs.Prelude.{◌≡◌, nat_eq, length, Bool, true, false, ◌&&◌, ◌||◌, ◌==◌, not, List, [], ◌∷◌, Option, Some, None, option_map, All, refl}
+use Rattle.std.specs.Prelude.{◌≡◌, Bool, true, false, ◌&&◌, ◌||◌, ◌==◌, not, List, [], ◌∷◌, Option, Some, None, option_map, All, refl}
 use Rattle.std.proofs.Common.{ap, sym, ◌∙◌}
 use Rattle.std.proofs.lemmas.Bool.{and_parts, and_from, or_parts, not-false, not_from_false, cond_both, eqb-true, eq-eqb, true≢false}
 use Rattle.std.proofs.lemmas.List.Elements.{All-push}
-use Rattle.cst_core.specs.Path.{Path, same_path}
+use Rattle.cst_core.specs.Path.{same_path}
 use Rattle.cst_core.specs.Element.{Element, same_element}
 use Rattle.cst_core.specs.SyntaxElement.{element_of}
 use Rattle.cst_core.specs.declared.element.SyntaxElement.{SyntaxElement}
@@ -117,6 +117,6 @@ no-line true b x y h k = absurd (true≢false h)
 no-line false true x y h k = absurd (true≢false k)
 no-line false false x y h k = refl
 
-pub no-root : (p : Path) → nat_eq (length p) 0 ≡ false → same_path p [] ≡ false
-no-root [] h = absurd (true≢false h)
-no-root (i ∷ p) h = refl
+pub no-line-of-three : {X : Type 0} (a b c : Bool) (x y z : X) → a ≡ false → b ≡ false → c ≡ false → first_fit ((a, x) ∷ (b, y) ∷ (c, z) ∷ []) ≡ None
+no-line-of-three true b c x y z h k l = absurd (true≢false h)
+no-line-of-three false b c x y z h k l = no-line b c y z k l

@@ -1,4 +1,4 @@
-use Rattle.std.proofs.Common.{◌≡◌, Some, sym, ◌∙◌, ap, set, position, option_map}
+use Rattle.std.proofs.Common.{Some, sym, ◌∙◌, ap, set, position, option_map}
 use Rattle.edit_plan.specs.declared.change.Change.TheVariants.{Replace}
 use Rattle.syntax_editor.specs.Recording.{is_replace_of, with_replacement}
 use Rattle.syntax_editor.proofs.TakenUp.{taken-set, taken-none}

@@ -1,21 +1,20 @@
-use Rattle.std.proofs.Common.{◌≡◌, false, not, ◌&&◌, nat_eq, length, [], ◌∷◌, None, All, sym, ◌∙◌, ap, subst}
+use Rattle.std.proofs.Common.{◌≡◌, false, not, ◌&&◌, [], ◌∷◌, None, All, sym, ◌∙◌, ap, subst}
 use Rattle.std.proofs.lemmas.Bool.{and_left, and_right}
-use Rattle.cst_core.specs.SyntaxElement.{element_of}
 use Rattle.edit_plan.specs.Fits.{Fits, is_native, is_root, is_one_node}
 use Rattle.syntax_editor.specs.declared.error.RecordError.TheVariants.{Foreign, RootReplacement}
 use Rattle.syntax_editor.specs.RecordCall.{Replacing, refusal}
-use Rattle.syntax_editor.proofs.Fitting.{recorded_fits, no-line, no-root}
-use Rattle.syntax_editor.proofs.editor.SyntaxEditor.replace.Goals as goal
-use Rattle.syntax_editor.proofs.editor.SyntaxEditor.replace.Goals.{else-is_empty-via-then-is_empty+else-not-is_node, else-is_empty-via-else-is_empty}
+use Rattle.syntax_editor.proofs.Fitting.{recorded_fits, no-line}
+use Rattle.syntax_editor.proofs.editor.SyntaxEditor.replace_element.Goals as goal
+use Rattle.syntax_editor.proofs.editor.SyntaxEditor.replace_element.Goals.{else-is_root-via-then-is_root+else-not-is_node, else-is_root-via-else-is_root}
 
 pub invariant_of-self-2 : goal.invariant_of-self-2
 invariant_of-self-2 c =
     let root = c.self.inside.root in
     let call = Replacing c.args.element c.args.new in
     let native : not (is_native root c.args.element) ≡ false = ap not (sym c.is_native.ensures ∙ c.if-not-is_native.false) in
-    let by_node : (is_root c.args.element && not (is_one_node (c.args.new ∷ []))) ≡ false = elim c.else-is_empty.branch [
-      | else-is_empty-via-then-is_empty+else-not-is_node w ↦ and_right (is_root c.args.element) _ (ap not (sym w.is_node.ensures ∙ w.if-not-is_node.false))
-      | else-is_empty-via-else-is_empty w ↦ and_left (is_root c.args.element) _ (no-root (element_of c.args.element).path (ap (λ p. nat_eq (length p) 0) (sym c.slots.ensures) ∙ sym c.is_empty.ensures ∙ w.if-is_empty.false))
+    let by_node : (is_root c.args.element && not (is_one_node (c.args.new ∷ []))) ≡ false = elim c.else-is_root.branch [
+      | else-is_root-via-then-is_root+else-not-is_node w ↦ and_right (is_root c.args.element) _ (ap not (sym w.is_node.ensures ∙ w.if-not-is_node.false))
+      | else-is_root-via-else-is_root w ↦ and_left (is_root c.args.element) _ (sym c.is_root.ensures ∙ w.if-is_root.false)
     ] in
     let accepted : refusal root call ≡ None = no-line (not (is_native root c.args.element)) (is_root c.args.element && not (is_one_node (c.args.new ∷ []))) Foreign RootReplacement native by_node in
     record {
