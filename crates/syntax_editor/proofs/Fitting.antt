@@ -40,7 +40,7 @@ root_by_node true true h = refl
 root_by_node true false h = sym h
 root_by_node false b h = refl
 
-native_number : (root : Element) (e : SyntaxElement) → is_native root e ≡ true → (element_of e).number ≡ root.number
+pub native_number : (root : Element) (e : SyntaxElement) → is_native root e ≡ true → (element_of e).number ≡ root.number
 native_number root (Node n) h = eqb-true _ _ (and_parts _ _ h).0
 native_number root (Token t) h = eqb-true _ _ (and_parts _ _ h).0
 
@@ -51,7 +51,7 @@ apart root d e native-d native-e h =
     sym (ap (λ b. b && same_path (element_of d).path (element_of e).path) numbers) ∙ h
 
 module _ (root : Element) where
-  native_target : (u : SyntaxElement) (new : Option SyntaxElement) → Fits root (Replace u new) → is_native root u ≡ true
+  pub native_target : (u : SyntaxElement) (new : Option SyntaxElement) → Fits root (Replace u new) → is_native root u ≡ true
   native_target u None fits = (and_parts _ _ fits).0
   native_target u (Some e) fits = (and_parts _ _ fits).0
 
@@ -79,7 +79,7 @@ module _ (root : Element) where
       may u (Some f) same fits = and_from _ _ (and_parts _ _ fits).0 (ap (λ b. not b || is_one_node (e ∷ [])) same ∙ by_node)
 
   -- ---- the ends of a range
-  both_native : (first last : SyntaxElement) → (not (is_native root first) || not (is_native root last)) ≡ false → (is_native root first ≡ true) × (is_native root last ≡ true)
+  pub both_native : (first last : SyntaxElement) → (not (is_native root first) || not (is_native root last)) ≡ false → (is_native root first ≡ true) × (is_native root last ≡ true)
   both_native first last h =
       let parts = or_parts _ _ h in
       (not-false _ parts.0, not-false _ parts.1)

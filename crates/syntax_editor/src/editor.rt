@@ -3,6 +3,7 @@ ghost use Rattle.cst_core.specs.TreeIds.{IsSpent};
 ghost use Rattle.edit_plan.specs.Building.{Makes, BuildRefuses};
 ghost use Rattle.syntax_editor.specs.Editor.{has_parent, edited_root, plan_of, FinishRefuses};
 
+use crate::change_list::ChangeList;
 use cst_core::{SyntaxNode, TreeError, TreeIds};
 use edit_plan::{Change, EditError, EditPlan, SyntaxEdit};
 use std::alloc::Global;
@@ -15,7 +16,7 @@ use std::marker::Model;
 #[derive(Drop)]
 pub struct SyntaxEditor {
     pub(crate) root: SyntaxNode,
-    pub(crate) changes: Vec<Change>,
+    pub(crate) changes: ChangeList,
 }
 
 impl Model for SyntaxEditor {
@@ -25,9 +26,9 @@ impl Model for SyntaxEditor {
 
     ghost coded = { editor_code };
 
-    ghost view = { λ a. record { root = a.root; changes = a.changes.items } };
+    ghost view = { λ a. record { root = a.root; changes = a.changes } };
 
-    ghost invariant = { λ a. IsEditor (record { root = a.root; changes = a.changes.items }) };
+    ghost invariant = { λ a. IsEditor (record { root = a.root; changes = a.changes }) };
 }
 
 impl SyntaxEditor {
@@ -49,7 +50,7 @@ impl SyntaxEditor {
     {
         if root.slots().is_empty() {
             let own = root.try_clone(alloc)?;
-            let changes = Vec::new(alloc);
+            let changes = ChangeList::new(alloc);
             return Ok((SyntaxEditor { root: own, changes }, root));
         }
         // The number is drawn last, when nothing can fail any more.
@@ -57,7 +58,7 @@ impl SyntaxEditor {
         let own = root.clone_subtree(alloc, &mut peeked)?;
         let edited = own.try_clone(alloc)?;
         ids.next();
-        let changes = Vec::new(alloc);
+        let changes = ChangeList::new(alloc);
         Ok((SyntaxEditor { root: own, changes }, edited))
     }
 
@@ -75,7 +76,7 @@ impl SyntaxEditor {
         ensures ok { IfOk result (λ p. p ≡ plan_of self) }
         ensures refused { IfErr result (BuildRefuses self.changes) }
     {
-        EditPlan::build(alloc, self.root, self.changes)
+        EditPlan::build(alloc, self.root, self.changes.into_vec())
     }
 
     /// Carries the changes out: the new tree under the next number of `ids`, with its changed elements.

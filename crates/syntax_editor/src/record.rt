@@ -1,14 +1,14 @@
 //! The calls that record a change.
-ghost use Rattle.std.specs.Prelude.{◌≡◌, ◌&&◌, ◌||◌, not, [], ◌∷◌, ◌++◌, IfOk, IfErr, OnOk, OnErr, None};
+ghost use Rattle.std.specs.Prelude.{◌≡◌, false, ◌&&◌, ◌||◌, not, [], ◌∷◌, ◌++◌, IfOk, IfErr, OnOk, OnErr, None};
 ghost use Rattle.cst_core.specs.Element.{Element};
 ghost use Rattle.edit_plan.specs.Fits.{Fits, is_native, is_root, is_one_node};
 ghost use Rattle.syntax_editor.specs.Recording.{is_deleted};
+ghost use Rattle.syntax_editor.specs.Indexing.{is_replace};
 ghost use Rattle.syntax_editor.specs.RecordCall.{Inserting, InsertingAll, Deleting, Replacing, ReplacingWithMany, DeletingAll, ReplacingAll, refusal};
 ghost use Rattle.syntax_editor.specs.Editor.{after_call, RecordRefuses};
 
 use crate::editor::SyntaxEditor;
 use crate::error::RecordError;
-use crate::taken_up::{is_deleted, record_delete, record_replace};
 use cst_core::{SyntaxElement, SyntaxNode};
 use edit_plan::{Change, Element, Position, is_native, is_node, is_one_node, is_range, is_root};
 use std::alloc::{AllocError, Global};
@@ -66,7 +66,7 @@ impl SyntaxEditor {
         ensures unchanged { OnErr result (self.new ≡ self.old) }
     {
         let element = element.syntax_element(alloc)?;
-        self.delete_element(element)
+        self.delete_element(alloc, element)
     }
 
     /// Deletes the siblings from `first` to `last`. Where they are one element, that one is deleted.
@@ -93,7 +93,7 @@ impl SyntaxEditor {
             return Err(RecordError::DeletesRoot);
         }
         if first == last {
-            return Ok(record_delete(&mut self.changes, first)?);
+            return Ok(self.changes.delete(alloc, first)?);
         }
         let nothing = Vec::new(alloc);
         Ok(self.record(Change::ReplaceAll(first, last, nothing.into()))?)
@@ -117,7 +117,7 @@ impl SyntaxEditor {
     {
         let element = element.syntax_element(alloc)?;
         let new = new.syntax_element(alloc)?;
-        self.replace_element(element, new)
+        self.replace_element(alloc, element, new)
     }
 
     /// Replaces an element by others, in their order. No other replacement takes it up.
@@ -181,19 +181,29 @@ impl SyntaxEditor {
         ensures { IfOk result (λ b. b ≡ is_deleted (E.element element) self.now.changes) }
     {
         let element = element.syntax_element(alloc)?;
-        Ok(is_deleted(&self.changes, &element))
+        Ok(self.is_deleted(&element))
     }
 
-    // Puts one more change at the end of the list.
+    fn is_deleted(&self, element: &SyntaxElement) -> bool
+        ensures { result ≡ is_deleted element.now self.now.changes }
+    {
+        if element.tree() != self.root.tree() {
+            return false;
+        }
+        self.changes.has_deletion(element.slots())
+    }
+
+    // Puts one more change at the end of the list, which no later call takes up.
     fn record(&mut self, change: Change) -> Result<(), AllocError>
-        requires { Fits self.old.root change }
+        requires fits { Fits self.old.root change }
+        requires other { is_replace change ≡ false }
         ensures recorded { OnOk result (self.new ≡ record self.old { changes = self.old.changes ++ change ∷ [] }) }
         ensures unchanged { OnErr result (self.new ≡ self.old) }
     {
         Ok(self.changes.push(change)?)
     }
 
-    fn delete_element(&mut self, element: SyntaxElement) -> Result<(), RecordError>
+    fn delete_element(&mut self, alloc: Global, element: SyntaxElement) -> Result<(), RecordError>
         ensures recorded { OnOk result (self.new ≡ after_call (Deleting element) self.old) }
         ensures accepted { OnOk result (refusal self.old.root (Deleting element) ≡ None) }
         ensures refused { IfErr result (RecordRefuses (Deleting element) self.old) }
@@ -205,11 +215,12 @@ impl SyntaxEditor {
         if is_root(&element) {
             return Err(RecordError::DeletesRoot);
         }
-        Ok(record_delete(&mut self.changes, element)?)
+        Ok(self.changes.delete(alloc, element)?)
     }
 
     fn replace_element(
         &mut self,
+        alloc: Global,
         element: SyntaxElement,
         new: SyntaxElement,
     ) -> Result<(), RecordError>
@@ -224,7 +235,7 @@ impl SyntaxEditor {
         if is_root(&element) && !is_node(&new) {
             return Err(RecordError::RootReplacement);
         }
-        Ok(record_replace(&mut self.changes, element, new)?)
+        Ok(self.changes.replace(alloc, element, new)?)
     }
 }
 
