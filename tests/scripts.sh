@@ -5,6 +5,7 @@
 #   later_lines.txt    the same, of words and fields that are not there yet
 #   bad_first_lines.txt, bad_ends.txt    lines that are bad as the first one, and behind `finish`
 #   good_lines.txt     lines that change nothing
+# tests/corpus has a folder of scripts, NAME with its answer NAME.stdout.
 set -euo pipefail
 cd "$(dirname "$0")/.."
 scripts=tests/scripts
@@ -113,8 +114,8 @@ ends_of_lines() {
     printf '# \303' >"$room/script" && is_bad 0 'half a character'
 }
 
-# A script cut behind each of its bytes. What is cut off from a line leaves it bad, but for a whole line and for
-# `replace R/1 U`; then the line behind it is missing.
+# A script cut behind each of its bytes. What is cut off from a line leaves it bad, but for a whole line, for
+# `replace R`, which takes the root away, and for `replace R/1` and `replace R/1 U`; then the line behind it is missing.
 beginnings() {
     local whole="$opening"$'\nreplace R/1 U/0\nfinish\n' size lines last
     for ((size = 0; size < ${#whole}; size++)); do
@@ -124,11 +125,24 @@ beginnings() {
         if [ "$last" = finish ]; then
             printf 'text "(_, 2)"\nchanged 1\n' >"$room/answer"
             try "the first $size bytes"
-        elif printf '%s\nreplace R/1 U\n' "$whole" | grep -qxF -- "$last" || [ "$lines" -eq 0 ]; then
+        elif [ "$last" = 'replace R' ]; then
+            echo 'refused RootReplacement' >"$room/answer"
+            try "the first $size bytes"
+        elif printf '%s\nreplace R/1\nreplace R/1 \nreplace R/1 U\n' "$whole" | grep -qxF -- "$last" || [ "$lines" -eq 0 ]; then
             is_bad $((lines + 1)) "the first $size bytes"
         else
             is_bad "$lines" "the first $size bytes"
         fi
+    done
+}
+
+# Random scripts, whose answers were made from the definitions by another program.
+corpus() {
+    local answer
+    for answer in tests/corpus/*/*.stdout; do
+        cp "${answer%.stdout}" "$room/script"
+        cp "$answer" "$room/answer"
+        try "${answer%.stdout}"
     done
 }
 
@@ -197,6 +211,7 @@ ends() {
 }
 
 tables
+corpus
 lines
 ends_of_lines
 beginnings

@@ -22,13 +22,39 @@ pub(crate) enum Line<'a> {
         name: Name<'a>,
         node: Reference<'a>,
     },
-    /// One element for another.
+    /// New elements at a place.
+    Insert {
+        place: Place<'a>,
+        payload: Vec<Reference<'a>>,
+    },
+    /// An element is deleted.
+    Delete {
+        target: Reference<'a>,
+    },
+    /// New elements for one.
     Replace {
         target: Reference<'a>,
-        payload: Reference<'a>,
+        payload: Vec<Reference<'a>>,
+    },
+    /// New elements, or none, for siblings.
+    Range {
+        first: Reference<'a>,
+        last: Reference<'a>,
+        payload: Vec<Reference<'a>>,
     },
     /// The new tree is made.
     Finish,
+}
+
+/// Where new elements are put.
+#[derive(Drop)]
+pub(crate) enum Place<'a> {
+    /// Before the first child of a node.
+    First(Reference<'a>),
+    /// Behind the last child of a node.
+    Last(Reference<'a>),
+    Before(Reference<'a>),
+    After(Reference<'a>),
 }
 
 /// The line of this text, which has no newline. One carriage return at its end is dropped, and then spaces at both ends.
@@ -40,7 +66,10 @@ pub(crate) fn read_line<'a>(alloc: Global, text: &'a str) -> Result<Line<'a>, St
     let line = match word {
         "tree" => tree_line(alloc, &mut fields)?,
         "edit" => edit_line(alloc, &mut fields)?,
+        "insert" => insert_line(alloc, &mut fields)?,
+        "delete" => delete_line(alloc, &mut fields)?,
         "replace" => replace_line(alloc, &mut fields)?,
+        "range" => range_line(alloc, &mut fields)?,
         "finish" => Line::Finish,
         _ => return Err(Stop::Bad),
     };
@@ -65,10 +94,44 @@ fn edit_line<'a>(alloc: Global, fields: &mut Fields<'a>) -> Result<Line<'a>, Sto
     Ok(Line::Edit { name, node })
 }
 
+fn insert_line<'a>(alloc: Global, fields: &mut Fields<'a>) -> Result<Line<'a>, Stop> {
+    let place = read_place(alloc, fields)?;
+    let payload = fields.references(alloc)?;
+    Ok(Line::Insert { place, payload })
+}
+
+fn read_place<'a>(alloc: Global, fields: &mut Fields<'a>) -> Result<Place<'a>, Stop> {
+    let word = fields.next().ok_or(Stop::Bad)?;
+    let beside = fields.reference(alloc)?;
+    match word {
+        "first" => Ok(Place::First(beside)),
+        "last" => Ok(Place::Last(beside)),
+        "before" => Ok(Place::Before(beside)),
+        "after" => Ok(Place::After(beside)),
+        _ => Err(Stop::Bad),
+    }
+}
+
+fn delete_line<'a>(alloc: Global, fields: &mut Fields<'a>) -> Result<Line<'a>, Stop> {
+    let target = fields.reference(alloc)?;
+    Ok(Line::Delete { target })
+}
+
 fn replace_line<'a>(alloc: Global, fields: &mut Fields<'a>) -> Result<Line<'a>, Stop> {
     let target = fields.reference(alloc)?;
-    let payload = fields.reference(alloc)?;
+    let payload = fields.references(alloc)?;
     Ok(Line::Replace { target, payload })
+}
+
+fn range_line<'a>(alloc: Global, fields: &mut Fields<'a>) -> Result<Line<'a>, Stop> {
+    let first = fields.reference(alloc)?;
+    let last = fields.reference(alloc)?;
+    let payload = fields.references(alloc)?;
+    Ok(Line::Range {
+        first,
+        last,
+        payload,
+    })
 }
 
 // What is left of a line, without spaces at its ends. Spaces stand between its fields.
@@ -106,6 +169,16 @@ impl<'a> Fields<'a> {
     fn reference(&mut self, alloc: Global) -> Result<Reference<'a>, Stop> {
         let field = self.next().ok_or(Stop::Bad)?;
         Reference::read(alloc, field)?.ok_or(Stop::Bad)
+    }
+
+    // All fields that are left.
+    fn references(&mut self, alloc: Global) -> Result<Vec<Reference<'a>>, Stop> {
+        let mut references = Vec::new(alloc);
+        let fields = self.take_rest().split(' ');
+        for field in fields.filter(|field| !field.is_empty()) {
+            references.push(Reference::read(alloc, field)?.ok_or(Stop::Bad)?)?;
+        }
+        Ok(references)
     }
 
     // All that is left, as one field.

@@ -3,11 +3,11 @@
 use crate::name::Name;
 use crate::reference::Reference;
 use crate::roots::Roots;
-use crate::script::Line;
+use crate::script::{Line, Place};
 use crate::stop::Stop;
 use cst_core::{GreenNode, SyntaxElement, SyntaxNode, TreeIds};
 use std::alloc::Global;
-use syntax_editor::{SyntaxEdit, SyntaxEditor};
+use syntax_editor::{Position, SyntaxEdit, SyntaxEditor};
 
 /// The trees of a script, its source of tree numbers, and its editor once there is one.
 #[derive(Drop)]
@@ -16,8 +16,13 @@ pub(crate) struct Session {
     ids: TreeIds,
     roots: Roots,
     editor: Option<SyntaxEditor>,
-    // What the editor replaces. For now that is one element, as often as a line asks for it.
-    target: Option<SyntaxElement>,
+}
+
+// The new elements of a line: one of them, or else none or several.
+#[derive(Drop)]
+enum Payload {
+    One(SyntaxElement),
+    Many(Vec<SyntaxElement>),
 }
 
 impl Session {
@@ -27,7 +32,6 @@ impl Session {
             ids: TreeIds::new(1),
             roots: Roots::new(alloc),
             editor: None,
-            target: None,
         }
     }
 
@@ -37,7 +41,14 @@ impl Session {
             Line::Blank => Ok(()),
             Line::Tree { name, root } => self.add_tree(name, root),
             Line::Edit { name, node } => self.edit(name, &node),
+            Line::Insert { place, payload } => self.insert(&place, &payload),
+            Line::Delete { target } => self.delete(&target),
             Line::Replace { target, payload } => self.replace(&target, &payload),
+            Line::Range {
+                first,
+                last,
+                payload,
+            } => self.range(&first, &last, &payload),
             Line::Finish => Err(Stop::Bad),
         }
     }
@@ -77,18 +88,79 @@ impl Session {
         self.roots.add(self.alloc, name, root)
     }
 
-    fn replace(&mut self, target: &Reference<'_>, payload: &Reference<'_>) -> Result<(), Stop> {
-        let target = self.element(target)?;
-        let payload = self.element(payload)?;
-        let Some(editor) = &mut self.editor else {
-            return Err(Stop::Bad);
-        };
-        if self.target.as_ref().is_some_and(|first| *first != target) {
-            return Err(Stop::Bad);
+    fn insert(&mut self, place: &Place<'_>, payload: &[Reference<'_>]) -> Result<(), Stop> {
+        let at = self.position(place)?;
+        let payload = self.payload(payload)?;
+        let editor = self.editor.as_mut().ok_or(Stop::Bad)?;
+        match payload {
+            Payload::One(element) => editor.insert(self.alloc, at, element)?,
+            Payload::Many(elements) => editor.insert_all(self.alloc, at, elements)?,
         }
-        self.target = Some(target.try_clone(self.alloc)?);
-        editor.replace(self.alloc, target, payload)?;
         Ok(())
+    }
+
+    fn delete(&mut self, target: &Reference<'_>) -> Result<(), Stop> {
+        let target = self.element(target)?;
+        let editor = self.editor.as_mut().ok_or(Stop::Bad)?;
+        editor.delete(self.alloc, target)?;
+        Ok(())
+    }
+
+    fn replace(&mut self, target: &Reference<'_>, payload: &[Reference<'_>]) -> Result<(), Stop> {
+        let target = self.element(target)?;
+        let payload = self.payload(payload)?;
+        let editor = self.editor.as_mut().ok_or(Stop::Bad)?;
+        match payload {
+            Payload::One(element) => editor.replace(self.alloc, target, element)?,
+            Payload::Many(elements) => editor.replace_with_many(self.alloc, target, elements)?,
+        }
+        Ok(())
+    }
+
+    fn range(
+        &mut self,
+        first: &Reference<'_>,
+        last: &Reference<'_>,
+        payload: &[Reference<'_>],
+    ) -> Result<(), Stop> {
+        let first = self.element(first)?;
+        let last = self.element(last)?;
+        let payload = self.elements(payload)?;
+        let editor = self.editor.as_mut().ok_or(Stop::Bad)?;
+        if payload.is_empty() {
+            editor.delete_all(self.alloc, first, last)?;
+        } else {
+            editor.replace_all(self.alloc, first, last, payload)?;
+        }
+        Ok(())
+    }
+
+    fn position(&self, place: &Place<'_>) -> Result<Position, Stop> {
+        match place {
+            Place::First(node) => Ok(Position::first_child_of(self.alloc, &self.node(node)?)?),
+            Place::Last(node) => Ok(Position::last_child_of(self.alloc, &self.node(node)?)?),
+            Place::Before(element) => {
+                Position::before(self.alloc, self.element(element)?)?.ok_or(Stop::Bad)
+            }
+            Place::After(element) => {
+                Position::after(self.alloc, self.element(element)?)?.ok_or(Stop::Bad)
+            }
+        }
+    }
+
+    fn payload(&self, references: &[Reference<'_>]) -> Result<Payload, Stop> {
+        match references {
+            [one] => Ok(Payload::One(self.element(one)?)),
+            _ => Ok(Payload::Many(self.elements(references)?)),
+        }
+    }
+
+    fn elements(&self, references: &[Reference<'_>]) -> Result<Vec<SyntaxElement>, Stop> {
+        let mut elements = Vec::new(self.alloc);
+        for reference in references {
+            elements.push(self.element(reference)?)?;
+        }
+        Ok(elements)
     }
 
     fn element(&self, reference: &Reference<'_>) -> Result<SyntaxElement, Stop> {

@@ -1,9 +1,9 @@
 -- What a call that is not refused records fits the tree.
-use Rattle.std.specs.Prelude.{◌≡◌, nat_eq, length, Bool, true, false, ◌&&◌, ◌||◌, ◌==◌, not, List, [], ◌∷◌, Option, Some, None, option_map, All, refl}
+use Rattle.std.specs.Prelude.{◌≡◌, Bool, true, false, ◌&&◌, ◌||◌, ◌==◌, not, List, [], ◌∷◌, Option, Some, None, option_map, All, refl}
 use Rattle.std.proofs.Common.{ap, sym, ◌∙◌}
 use Rattle.std.proofs.lemmas.Bool.{and_parts, and_from, or_parts, not-false, not_from_false, cond_both, eqb-true, eq-eqb, true≢false}
 use Rattle.std.proofs.lemmas.List.Elements.{All-push}
-use Rattle.cst_core.specs.Path.{Path, same_path}
+use Rattle.cst_core.specs.Path.{same_path}
 use Rattle.cst_core.specs.Element.{Element, same_element}
 use Rattle.cst_core.specs.SyntaxElement.{element_of}
 use Rattle.cst_core.specs.declared.element.SyntaxElement.{SyntaxElement}
@@ -40,7 +40,7 @@ root_by_node true true h = refl
 root_by_node true false h = sym h
 root_by_node false b h = refl
 
-native_number : (root : Element) (e : SyntaxElement) → is_native root e ≡ true → (element_of e).number ≡ root.number
+pub native_number : (root : Element) (e : SyntaxElement) → is_native root e ≡ true → (element_of e).number ≡ root.number
 native_number root (Node n) h = eqb-true _ _ (and_parts _ _ h).0
 native_number root (Token t) h = eqb-true _ _ (and_parts _ _ h).0
 
@@ -51,7 +51,7 @@ apart root d e native-d native-e h =
     sym (ap (λ b. b && same_path (element_of d).path (element_of e).path) numbers) ∙ h
 
 module _ (root : Element) where
-  native_target : (u : SyntaxElement) (new : Option SyntaxElement) → Fits root (Replace u new) → is_native root u ≡ true
+  pub native_target : (u : SyntaxElement) (new : Option SyntaxElement) → Fits root (Replace u new) → is_native root u ≡ true
   native_target u None fits = (and_parts _ _ fits).0
   native_target u (Some e) fits = (and_parts _ _ fits).0
 
@@ -79,7 +79,7 @@ module _ (root : Element) where
       may u (Some f) same fits = and_from _ _ (and_parts _ _ fits).0 (ap (λ b. not b || is_one_node (e ∷ [])) same ∙ by_node)
 
   -- ---- the ends of a range
-  both_native : (first last : SyntaxElement) → (not (is_native root first) || not (is_native root last)) ≡ false → (is_native root first ≡ true) × (is_native root last ≡ true)
+  pub both_native : (first last : SyntaxElement) → (not (is_native root first) || not (is_native root last)) ≡ false → (is_native root first ≡ true) × (is_native root last ≡ true)
   both_native first last h =
       let parts = or_parts _ _ h in
       (not-false _ parts.0, not-false _ parts.1)
@@ -117,6 +117,6 @@ no-line true b x y h k = absurd (true≢false h)
 no-line false true x y h k = absurd (true≢false k)
 no-line false false x y h k = refl
 
-pub no-root : (p : Path) → nat_eq (length p) 0 ≡ false → same_path p [] ≡ false
-no-root [] h = absurd (true≢false h)
-no-root (i ∷ p) h = refl
+pub no-line-of-three : {X : Type 0} (a b c : Bool) (x y z : X) → a ≡ false → b ≡ false → c ≡ false → first_fit ((a, x) ∷ (b, y) ∷ (c, z) ∷ []) ≡ None
+no-line-of-three true b c x y z h k l = absurd (true≢false h)
+no-line-of-three false b c x y z h k l = no-line b c y z k l

@@ -4,7 +4,10 @@ mod RowsOfIndentation
 mod RowsOfSpacing
 mod Addresses
 mod TakenUp
+mod Positions
+mod Indexed
 mod Absorbed
 mod Fitting
+mod Called
 mod Lines
 mod Restored

@@ -3,7 +3,7 @@
 --     edited_root                   the root that a new editor edits, and whether it is one of a tree of its own that is made for it
 --     Records, RecordRefuses        what a call that records leaves behind; why it is refused
 --     FinishRefuses                 why an editor's changes are not carried out
-use Rattle.std.specs.Prelude.{◌≡◌, ℕ, Bool, true, false, cond, List, [], ◌∷◌, Some, None, All, refl}
+use Rattle.std.specs.Prelude.{◌≡◌, ℕ, Bool, true, false, cond, List, [], Some, All, refl}
 use Rattle.std.specs.Coded.{Coded, code_by, coded_list, coded×}
 use Rattle.cst_core.specs.Element.{Element, subtree, element_code}
 use Rattle.cst_core.specs.Path.{same_path}
@@ -40,7 +40,7 @@ edited_root number e = cond (has_parent e) (record { number = number; root = sub
 abbrev pub after_call : RecordCall → Editor → Editor
 after_call call e = record { root = e.root; changes = recorded call e.changes }
 
--- want of memory aside, a call is refused exactly for its first reason
+-- A call is refused for its first reason, or for want of memory: what it is given may ask for some before any reason is looked for.
 abbrev pub RecordRefuses : RecordCall → Editor → RecordError → Type 0
 RecordRefuses call e record_error.Foreign = refusal e.root call ≡ Some record_error.Foreign
 RecordRefuses call e record_error.BadRange = refusal e.root call ≡ Some record_error.BadRange
@@ -48,7 +48,7 @@ RecordRefuses call e record_error.DeletesRoot = refusal e.root call ≡ Some rec
 RecordRefuses call e record_error.RootReplacement = refusal e.root call ≡ Some record_error.RootReplacement
 RecordRefuses call e record_error.LevelTooLarge = ⊥
 RecordRefuses call e record_error.NoTreeNumber = ⊥
-RecordRefuses call e record_error.Memory = refusal e.root call ≡ None
+RecordRefuses call e record_error.Memory = Unit {0}
 
 -- ---- finishing
 abbrev pub plan_of : Editor → Plan

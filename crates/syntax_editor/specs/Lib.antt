@@ -6,4 +6,5 @@ pub mod Indentation
 pub mod AttrsAndDocs
 pub mod Spacing
 pub mod Editor
+pub mod Indexing
 pub mod Laws

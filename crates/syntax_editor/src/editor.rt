@@ -1,14 +1,11 @@
-ghost use Rattle.std.specs.Prelude.{◌≡◌, ◌↔◌, ◌+◌, cond, [], ◌∷◌, IsTrue, IfOk, IfErr, OnOk, OnErr, None};
+ghost use Rattle.std.specs.Prelude.{◌≡◌, ◌↔◌, ◌+◌, cond, [], IsTrue, IfOk, IfErr, OnOk, OnErr};
 ghost use Rattle.cst_core.specs.TreeIds.{IsSpent};
-ghost use Rattle.edit_plan.specs.Building.{Makes};
-ghost use Rattle.edit_plan.specs.Fits.{is_one_node};
-ghost use Rattle.syntax_editor.specs.RecordCall.{Replacing, refusal};
-ghost use Rattle.syntax_editor.specs.Editor.{has_parent, edited_root, plan_of, after_call, RecordRefuses, FinishRefuses};
+ghost use Rattle.edit_plan.specs.Building.{Makes, BuildRefuses};
+ghost use Rattle.syntax_editor.specs.Editor.{has_parent, edited_root, plan_of, FinishRefuses};
 
-use crate::error::RecordError;
-use crate::taken_up::record_replace;
-use cst_core::{SyntaxElement, SyntaxNode, TreeError, TreeIds};
-use edit_plan::{Change, EditError, EditPlan, SyntaxEdit, is_native};
+use crate::change_list::ChangeList;
+use cst_core::{SyntaxNode, TreeError, TreeIds};
+use edit_plan::{Change, EditError, EditPlan, SyntaxEdit};
 use std::alloc::Global;
 use std::marker::Model;
 
@@ -18,8 +15,8 @@ use std::marker::Model;
 /// any tree; what is changed is of the editor's.
 #[derive(Drop)]
 pub struct SyntaxEditor {
-    root: SyntaxNode,
-    changes: Vec<Change>,
+    pub(crate) root: SyntaxNode,
+    pub(crate) changes: ChangeList,
 }
 
 impl Model for SyntaxEditor {
@@ -29,9 +26,9 @@ impl Model for SyntaxEditor {
 
     ghost coded = { editor_code };
 
-    ghost view = { λ a. record { root = a.root; changes = a.changes.items } };
+    ghost view = { λ a. record { root = a.root; changes = a.changes } };
 
-    ghost invariant = { λ a. IsEditor (record { root = a.root; changes = a.changes.items }) };
+    ghost invariant = { λ a. IsEditor (record { root = a.root; changes = a.changes }) };
 }
 
 impl SyntaxEditor {
@@ -53,7 +50,7 @@ impl SyntaxEditor {
     {
         if root.slots().is_empty() {
             let own = root.try_clone(alloc)?;
-            let changes = Vec::new(alloc);
+            let changes = ChangeList::new(alloc);
             return Ok((SyntaxEditor { root: own, changes }, root));
         }
         // The number is drawn last, when nothing can fail any more.
@@ -61,33 +58,8 @@ impl SyntaxEditor {
         let own = root.clone_subtree(alloc, &mut peeked)?;
         let edited = own.try_clone(alloc)?;
         ids.next();
-        let changes = Vec::new(alloc);
+        let changes = ChangeList::new(alloc);
         Ok((SyntaxEditor { root: own, changes }, edited))
-    }
-
-    /// Replaces an element by another one. The first replacement of the same element takes it up; where that is a deletion
-    /// it stays one.
-    ///
-    /// `Foreign` comes first, then `RootReplacement` (a root replaced by a token), then `Memory`. The editor is unchanged
-    /// after each.
-    pub fn replace(
-        &mut self,
-        alloc: Global,
-        element: SyntaxElement,
-        new: SyntaxElement,
-    ) -> Result<(), RecordError>
-        ensures recorded { OnOk result (self.new ≡ after_call (Replacing element new) self.old) }
-        ensures accepted { OnOk result (refusal self.old.root (Replacing element new) ≡ None) }
-        ensures refused { IfErr result (RecordRefuses (Replacing element new) self.old) }
-        ensures unchanged { OnErr result (self.new ≡ self.old) }
-    {
-        if !is_native(&self.root, &element) {
-            return Err(RecordError::Foreign);
-        }
-        if element.slots().is_empty() && !is_node(&new) {
-            return Err(RecordError::RootReplacement);
-        }
-        Ok(record_replace(&mut self.changes, element, new)?)
     }
 
     /// The changes recorded so far, in order.
@@ -95,6 +67,16 @@ impl SyntaxEditor {
         ensures { result.now ≡ self.now.changes }
     {
         self.changes.as_slice()
+    }
+
+    /// A plan of the changes, which can be carried out as it is.
+    ///
+    /// `Intersecting` comes first, then `Nested`; else only `Memory` comes. Nothing is handed back then.
+    pub fn plan(self, alloc: Global) -> Result<EditPlan, EditError>
+        ensures ok { IfOk result (λ p. p ≡ plan_of self) }
+        ensures refused { IfErr result (BuildRefuses self.changes) }
+    {
+        EditPlan::build(alloc, self.root, self.changes.into_vec())
     }
 
     /// Carries the changes out: the new tree under the next number of `ids`, with its changed elements.
@@ -107,16 +89,6 @@ impl SyntaxEditor {
         ensures refused { IfErr result (FinishRefuses self ids.old) }
         ensures err { OnErr result (ids.new ≡ ids.old) }
     {
-        let SyntaxEditor { root, changes } = self;
-        EditPlan::build(alloc, root, changes)?.run(alloc, ids)
-    }
-}
-
-fn is_node(element: &SyntaxElement) -> bool
-    ensures { result ≡ is_one_node (element.now ∷ []) }
-{
-    match element {
-        SyntaxElement::Node(_) => true,
-        SyntaxElement::Token(_) => false,
+        self.plan(alloc)?.run(alloc, ids)
     }
 }

@@ -1,11 +1,13 @@
 //! Recording changes of a tree, spacing and indentation.
 #![tactic(auto)]
 
+mod change_list;
 mod editor;
 mod error;
 pub mod laws;
-mod taken_up;
+mod record;
+mod replace_index;
 
-pub use edit_plan::{Change, EditError, EditPlan, ElementList, Position, SyntaxEdit};
+pub use edit_plan::{Change, EditError, EditPlan, Element, ElementList, Position, SyntaxEdit};
 pub use editor::SyntaxEditor;
 pub use error::RecordError;

@@ -1,0 +1,255 @@
+//! The calls that record a change.
+ghost use Rattle.std.specs.Prelude.{◌≡◌, false, ◌&&◌, ◌||◌, not, [], ◌∷◌, ◌++◌, IfOk, IfErr, OnOk, OnErr, None};
+ghost use Rattle.cst_core.specs.Element.{Element};
+ghost use Rattle.edit_plan.specs.Fits.{Fits, is_native, is_root, is_one_node};
+ghost use Rattle.syntax_editor.specs.Recording.{is_deleted};
+ghost use Rattle.syntax_editor.specs.Indexing.{is_replace};
+ghost use Rattle.syntax_editor.specs.RecordCall.{Inserting, InsertingAll, Deleting, Replacing, ReplacingWithMany, DeletingAll, ReplacingAll, refusal};
+ghost use Rattle.syntax_editor.specs.Editor.{after_call, RecordRefuses};
+
+use crate::editor::SyntaxEditor;
+use crate::error::RecordError;
+use cst_core::{SyntaxElement, SyntaxNode};
+use edit_plan::{Change, Element, Position, is_native, is_node, is_one_node, is_range, is_root};
+use std::alloc::{AllocError, Global};
+
+impl SyntaxEditor {
+    /// Inserts an element at a position.
+    ///
+    /// `Foreign` comes where the position is of another tree. `Memory` may come before it. The editor is unchanged after
+    /// each.
+    pub fn insert<E: Element>(
+        &mut self,
+        alloc: Global,
+        at: Position,
+        element: E,
+    ) -> Result<(), RecordError>
+        ensures recorded { OnOk result (self.new ≡ after_call (Inserting at (E.element element)) self.old) }
+        ensures accepted { OnOk result (refusal self.old.root (Inserting at (E.element element)) ≡ None) }
+        ensures refused { IfErr result (RecordRefuses (Inserting at (E.element element)) self.old) }
+        ensures unchanged { OnErr result (self.new ≡ self.old) }
+    {
+        let element = element.syntax_element(alloc)?;
+        if !at.is_native(&self.root) {
+            return Err(RecordError::Foreign);
+        }
+        Ok(self.record(Change::Insert(at, element))?)
+    }
+
+    /// Inserts elements at a position, in their order. No elements are an insert too.
+    ///
+    /// `Foreign` comes where the position is of another tree, then `Memory`. The editor is unchanged after each.
+    pub fn insert_all(
+        &mut self,
+        _alloc: Global,
+        at: Position,
+        elements: Vec<SyntaxElement>,
+    ) -> Result<(), RecordError>
+        ensures recorded { OnOk result (self.new ≡ after_call (InsertingAll at elements.items) self.old) }
+        ensures accepted { OnOk result (refusal self.old.root (InsertingAll at elements.items) ≡ None) }
+        ensures refused { IfErr result (RecordRefuses (InsertingAll at elements.items) self.old) }
+        ensures unchanged { OnErr result (self.new ≡ self.old) }
+    {
+        if !at.is_native(&self.root) {
+            return Err(RecordError::Foreign);
+        }
+        Ok(self.record(Change::InsertAll(at, elements.into()))?)
+    }
+
+    /// Deletes an element. The first replacement of the same element becomes the deletion.
+    ///
+    /// `Foreign` comes first, then `DeletesRoot`. `Memory` may come before them. The editor is unchanged after each.
+    pub fn delete<E: Element>(&mut self, alloc: Global, element: E) -> Result<(), RecordError>
+        ensures recorded { OnOk result (self.new ≡ after_call (Deleting (E.element element)) self.old) }
+        ensures accepted { OnOk result (refusal self.old.root (Deleting (E.element element)) ≡ None) }
+        ensures refused { IfErr result (RecordRefuses (Deleting (E.element element)) self.old) }
+        ensures unchanged { OnErr result (self.new ≡ self.old) }
+    {
+        let element = element.syntax_element(alloc)?;
+        self.delete_element(alloc, element)
+    }
+
+    /// Deletes the siblings from `first` to `last`. Where they are one element, that one is deleted.
+    ///
+    /// `Foreign` comes first, then `BadRange`, then `DeletesRoot`, then `Memory`. The editor is unchanged after each.
+    pub fn delete_all(
+        &mut self,
+        alloc: Global,
+        first: SyntaxElement,
+        last: SyntaxElement,
+    ) -> Result<(), RecordError>
+        ensures recorded { OnOk result (self.new ≡ after_call (DeletingAll first last) self.old) }
+        ensures accepted { OnOk result (refusal self.old.root (DeletingAll first last) ≡ None) }
+        ensures refused { IfErr result (RecordRefuses (DeletingAll first last) self.old) }
+        ensures unchanged { OnErr result (self.new ≡ self.old) }
+    {
+        if is_foreign_range(&self.root, &first, &last) {
+            return Err(RecordError::Foreign);
+        }
+        if !is_range(&first, &last) {
+            return Err(RecordError::BadRange);
+        }
+        if is_root(&first) {
+            return Err(RecordError::DeletesRoot);
+        }
+        if first == last {
+            return Ok(self.changes.delete(alloc, first)?);
+        }
+        let nothing = Vec::new(alloc);
+        Ok(self.record(Change::ReplaceAll(first, last, nothing.into()))?)
+    }
+
+    /// Replaces an element by another one. The first replacement of the same element takes it up; where that is a deletion
+    /// it stays one.
+    ///
+    /// `Foreign` comes first, then `RootReplacement` (a root replaced by a token). `Memory` may come before them. The
+    /// editor is unchanged after each.
+    pub fn replace<E: Element, F: Element>(
+        &mut self,
+        alloc: Global,
+        element: E,
+        new: F,
+    ) -> Result<(), RecordError>
+        ensures recorded { OnOk result (self.new ≡ after_call (Replacing (E.element element) (F.element new)) self.old) }
+        ensures accepted { OnOk result (refusal self.old.root (Replacing (E.element element) (F.element new)) ≡ None) }
+        ensures refused { IfErr result (RecordRefuses (Replacing (E.element element) (F.element new)) self.old) }
+        ensures unchanged { OnErr result (self.new ≡ self.old) }
+    {
+        let element = element.syntax_element(alloc)?;
+        let new = new.syntax_element(alloc)?;
+        self.replace_element(alloc, element, new)
+    }
+
+    /// Replaces an element by others, in their order. No other replacement takes it up.
+    ///
+    /// `Foreign` comes first, then `RootReplacement` (a root replaced by other than one node). `Memory` may come before
+    /// them. The editor is unchanged after each.
+    pub fn replace_with_many<E: Element>(
+        &mut self,
+        alloc: Global,
+        element: E,
+        new: Vec<SyntaxElement>,
+    ) -> Result<(), RecordError>
+        ensures recorded { OnOk result (self.new ≡ after_call (ReplacingWithMany (E.element element) new.items) self.old) }
+        ensures accepted { OnOk result (refusal self.old.root (ReplacingWithMany (E.element element) new.items) ≡ None) }
+        ensures refused { IfErr result (RecordRefuses (ReplacingWithMany (E.element element) new.items) self.old) }
+        ensures unchanged { OnErr result (self.new ≡ self.old) }
+    {
+        let element = element.syntax_element(alloc)?;
+        if !is_native(&self.root, &element) {
+            return Err(RecordError::Foreign);
+        }
+        if is_misplaced(&element, &new) {
+            return Err(RecordError::RootReplacement);
+        }
+        Ok(self.record(Change::ReplaceWithMany(element, new.into()))?)
+    }
+
+    /// Replaces the siblings from `first` to `last` by others, in their order. Where they are one element, that one is
+    /// replaced as by `replace_with_many`.
+    ///
+    /// `Foreign` comes first, then `BadRange`, then `RootReplacement`, then `Memory`. The editor is unchanged after each.
+    pub fn replace_all(
+        &mut self,
+        _alloc: Global,
+        first: SyntaxElement,
+        last: SyntaxElement,
+        new: Vec<SyntaxElement>,
+    ) -> Result<(), RecordError>
+        ensures recorded { OnOk result (self.new ≡ after_call (ReplacingAll first last new.items) self.old) }
+        ensures accepted { OnOk result (refusal self.old.root (ReplacingAll first last new.items) ≡ None) }
+        ensures refused { IfErr result (RecordRefuses (ReplacingAll first last new.items) self.old) }
+        ensures unchanged { OnErr result (self.new ≡ self.old) }
+    {
+        if is_foreign_range(&self.root, &first, &last) {
+            return Err(RecordError::Foreign);
+        }
+        if !is_range(&first, &last) {
+            return Err(RecordError::BadRange);
+        }
+        if is_misplaced(&first, &new) {
+            return Err(RecordError::RootReplacement);
+        }
+        if first == last {
+            return Ok(self.record(Change::ReplaceWithMany(first, new.into()))?);
+        }
+        Ok(self.record(Change::ReplaceAll(first, last, new.into()))?)
+    }
+
+    /// Whether an element is deleted by a call that named it alone. A range that it lies in does not count.
+    pub fn deleted<E: Element>(&self, alloc: Global, element: E) -> Result<bool, AllocError>
+        ensures { IfOk result (λ b. b ≡ is_deleted (E.element element) self.now.changes) }
+    {
+        let element = element.syntax_element(alloc)?;
+        Ok(self.is_deleted(&element))
+    }
+
+    fn is_deleted(&self, element: &SyntaxElement) -> bool
+        ensures { result ≡ is_deleted element.now self.now.changes }
+    {
+        if element.tree() != self.root.tree() {
+            return false;
+        }
+        self.changes.has_deletion(element.slots())
+    }
+
+    // Puts one more change at the end of the list, which no later call takes up.
+    fn record(&mut self, change: Change) -> Result<(), AllocError>
+        requires fits { Fits self.old.root change }
+        requires other { is_replace change ≡ false }
+        ensures recorded { OnOk result (self.new ≡ record self.old { changes = self.old.changes ++ change ∷ [] }) }
+        ensures unchanged { OnErr result (self.new ≡ self.old) }
+    {
+        Ok(self.changes.push(change)?)
+    }
+
+    fn delete_element(&mut self, alloc: Global, element: SyntaxElement) -> Result<(), RecordError>
+        ensures recorded { OnOk result (self.new ≡ after_call (Deleting element) self.old) }
+        ensures accepted { OnOk result (refusal self.old.root (Deleting element) ≡ None) }
+        ensures refused { IfErr result (RecordRefuses (Deleting element) self.old) }
+        ensures unchanged { OnErr result (self.new ≡ self.old) }
+    {
+        if !is_native(&self.root, &element) {
+            return Err(RecordError::Foreign);
+        }
+        if is_root(&element) {
+            return Err(RecordError::DeletesRoot);
+        }
+        Ok(self.changes.delete(alloc, element)?)
+    }
+
+    fn replace_element(
+        &mut self,
+        alloc: Global,
+        element: SyntaxElement,
+        new: SyntaxElement,
+    ) -> Result<(), RecordError>
+        ensures recorded { OnOk result (self.new ≡ after_call (Replacing element new) self.old) }
+        ensures accepted { OnOk result (refusal self.old.root (Replacing element new) ≡ None) }
+        ensures refused { IfErr result (RecordRefuses (Replacing element new) self.old) }
+        ensures unchanged { OnErr result (self.new ≡ self.old) }
+    {
+        if !is_native(&self.root, &element) {
+            return Err(RecordError::Foreign);
+        }
+        if is_root(&element) && !is_node(&new) {
+            return Err(RecordError::RootReplacement);
+        }
+        Ok(self.changes.replace(alloc, element, new)?)
+    }
+}
+
+// Whether an end of a range is of another tree.
+fn is_foreign_range(root: &SyntaxNode, first: &SyntaxElement, last: &SyntaxElement) -> bool
+    requires { root.now.path ≡ [] }
+    ensures { result ≡ (not (is_native root.now first.now) || not (is_native root.now last.now)) }
+{
+    !is_native(root, first) || !is_native(root, last)
+}
+
+// Whether a root would be replaced by other than one node.
+fn is_misplaced(target: &SyntaxElement, new: &[SyntaxElement]) -> bool
+    ensures { result ≡ (is_root target.now && not (is_one_node new.now)) }
+{
+    is_root(target) && !is_one_node(new)
+}

@@ -1,0 +1,56 @@
+ghost use Rattle.std.specs.Prelude.{◌≡◌, cond, Some, None, OnOk, OnErr};
+ghost use Rattle.cst_core.specs.Path.{Path, same_path};
+ghost use Rattle.syntax_editor.specs.Indexing.{found, as_deleted};
+
+use std::alloc::{AllocError, Global};
+use std::collections::HashMap;
+
+/// What a list of changes has of an element that is replaced by one or by none.
+#[derive(Clone, Copy)]
+pub(crate) struct Replaced {
+    /// Where the first such change stands.
+    pub(crate) first: usize,
+    /// Whether one of these changes is a deletion.
+    pub(crate) is_deleted: bool,
+}
+
+/// The elements of a tree that are replaced, by path.
+#[derive(Drop)]
+pub(crate) struct ReplaceIndex {
+    places: HashMap<Vec<usize>, Replaced>,
+}
+
+impl ReplaceIndex {
+    pub(crate) fn new(alloc: Global) -> ReplaceIndex
+        ensures { (p : Path) → found result p ≡ None }
+    {
+        ReplaceIndex {
+            places: HashMap::new(alloc),
+        }
+    }
+
+    /// What it says of the element at a path.
+    pub(crate) fn get(&self, path: &[usize]) -> Option<Replaced>
+        ensures { result ≡ found self.now path.now }
+    {
+        self.places.get(path).copied()
+    }
+
+    /// Says this of the element at a path from now on. Without memory for that nothing changes.
+    pub(crate) fn insert(&mut self, path: Vec<usize>, replaced: Replaced) -> Result<(), AllocError>
+        ensures ok { OnOk result ((p : Path) → found self.new p ≡ cond (same_path path.items p) (Some replaced) (found self.old p)) }
+        ensures err { OnErr result ((p : Path) → found self.new p ≡ found self.old p) }
+    {
+        self.places.insert(path, replaced)?;
+        Ok(())
+    }
+
+    /// Says that the element at a path is deleted, if it says something of it.
+    pub(crate) fn mark_deleted(&mut self, path: &[usize])
+        ensures { (p : Path) → found self.new p ≡ cond (same_path path.now p) (as_deleted (found self.old p)) (found self.old p) }
+    {
+        if let Some(replaced) = self.places.get_mut(path) {
+            replaced.is_deleted = true;
+        }
+    }
+}
