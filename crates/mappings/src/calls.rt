@@ -87,7 +87,7 @@ pub fn answer_of(alloc: Global, row: &Row) -> Result<String> {
 
 // The trees of the calls below: L, and twice a tree with a copy of its first number at the slot 1.
 fn call_trees(alloc: Global) -> Result<Vec<SyntaxNode>> {
-    trees(alloc, &["[L]", SEVEN, SEVEN])
+    trees(alloc, &["L", SEVEN, SEVEN])
 }
 
 // A mapping of one pair.

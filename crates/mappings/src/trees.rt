@@ -1,15 +1,24 @@
 use crate::rows::At;
 use anyhow::{Context, Result};
-use cst_core::{SyntaxNode, TreeIds};
-use row_trees::green;
+use cst_core::{GreenNode, SyntaxNode, TreeIds};
+use row_trees::{green, row};
 use std::alloc::Global;
 
-/// Trees by their expressions, under the numbers from 1 on.
-pub fn trees(alloc: Global, expressions: &[&str]) -> Result<Vec<SyntaxNode>> {
+// A row tree by its name, or another tree by its expression.
+fn tree(alloc: Global, text: &str) -> Result<GreenNode> {
+    if text.starts_with('(') {
+        Ok(green(alloc, text)?)
+    } else {
+        Ok(row(alloc, text)?)
+    }
+}
+
+/// Trees by their names or expressions, under the numbers from 1 on.
+pub fn trees(alloc: Global, texts: &[&str]) -> Result<Vec<SyntaxNode>> {
     let mut ids = TreeIds::new(1);
     let mut all = Vec::new(alloc);
-    for expression in expressions {
-        let root = green(alloc, *expression)?;
+    for text in texts {
+        let root = tree(alloc, *text)?;
         all.push(SyntaxNode::new_root(alloc, &mut ids, root)?)?;
     }
     Ok(all)
