@@ -1,6 +1,11 @@
-//! Builds large trees and walks over them. With the argument `time` each line also says how many nanoseconds it took.
+//! Builds large trees, walks over them, and edits some. With the argument `time` each line also says how long it took, and the edits
+//! grow.
 #![tactic(auto)]
 
+mod edits;
+mod growth;
+
+use crate::growth::{report_edits, report_growth};
 use anyhow::Result;
 use cst_core::{GreenElement, GreenNode, GreenToken, SyntaxKind, SyntaxNode, TreeIds};
 use std::alloc::Global;
@@ -142,7 +147,12 @@ fn measure_chain<R: Print + Clock>(
 fn run<R: Print + Clock>(rt: &R, alloc: Global, timed: bool) -> Result<()> {
     let mut ids = TreeIds::new(1);
     measure_flat(rt, alloc, &mut ids, timed)?;
-    measure_chain(rt, alloc, &mut ids, timed)
+    measure_chain(rt, alloc, &mut ids, timed)?;
+    if timed {
+        report_growth(rt, alloc)
+    } else {
+        report_edits(rt, alloc)
+    }
 }
 
 fn is_timed(rt: &(impl Env + Alloc)) -> Result<bool> {
