@@ -1,15 +1,18 @@
 -- Editors as contracts see them.
---     Editor, IsEditor              the root that is edited and the changes recorded so far; what is true of every editor
+--     Editor, IsEditor              the root that is edited, the changes recorded so far and the factory's mappings; what is true of every editor
+--     factory_code                  the code of a factory's mappings
 --     edited_root                   the root that a new editor edits, and whether it is one of a tree of its own that is made for it
 --     Records, RecordRefuses        what a call that records leaves behind; why it is refused
 --     FinishRefuses                 why an editor's changes are not carried out
-use Rattle.std.specs.Prelude.{◌≡◌, ℕ, Bool, true, false, cond, List, [], Some, All, refl}
-use Rattle.std.specs.Coded.{Coded, code_by, coded_list, coded×}
+use Rattle.std.specs.Prelude.{◌≡◌, ℕ, Bool, true, false, cond, List, [], Option, Some, unwrap_or, All, refl}
+use Rattle.std.specs.Coded.{Coded, code_by, coded_list, coded_option, coded×}
 use Rattle.cst_core.specs.Element.{Element, subtree, element_code}
 use Rattle.cst_core.specs.Path.{same_path}
+use Rattle.edit_map.specs.Building.{mapping_code}
+use Rattle.edit_map.specs.Mapping.{Mapping}
 use Rattle.edit_plan.specs.declared.change.Change.{Change}
 use Rattle.edit_plan.specs.declared.edit_error.EditError.{EditError}
-use Rattle.edit_plan.specs.declared.edit_error.EditError.TheVariants.{Intersecting, Nested, TooLong, NoTreeNumber, Memory}
+use Rattle.edit_plan.specs.declared.edit_error.EditError.TheVariants.{Intersecting, MissingMapping, TooLong, NoTreeNumber, Memory}
 use Rattle.edit_plan.specs.ChangeCodes.{change_code}
 use Rattle.edit_plan.specs.Building.{Plan, BuildRefuses, RunRefuses}
 use Rattle.edit_plan.specs.Fits.{Fits}
@@ -20,9 +23,14 @@ use Rattle.syntax_editor.specs.declared.error.RecordError.TheVariants as record_
 pub record Editor : Type 0 where
   pub root : Element
   pub changes : List Change
+  pub factory : Option Mapping
+
+-- the mappings of a factory, if it keeps some
+abbrev pub factory_code : Coded (Option Mapping)
+factory_code = coded_option mapping_code
 
 abbrev pub editor_code : Coded Editor
-editor_code = code_by (Element × List Change) (coded× element_code (coded_list change_code)) (λ e. (e.root, e.changes)) (λ q. record { root = q.0; changes = q.1 }) (λ _. refl)
+editor_code = code_by (Element × (List Change × Option Mapping)) (coded× element_code (coded× (coded_list change_code) factory_code)) (λ e. (e.root, (e.changes, e.factory))) (λ q. record { root = q.0; changes = q.1.0; factory = q.1.1 }) (λ _. refl)
 
 pub record IsEditor (e : Editor) : Type 0 where
   pub is_root : e.root.path ≡ []
@@ -38,7 +46,7 @@ edited_root number e = cond (has_parent e) (record { number = number; root = sub
 
 -- ---- recording
 abbrev pub after_call : RecordCall → Editor → Editor
-after_call call e = record { root = e.root; changes = recorded call e.changes }
+after_call call e = record e { changes = recorded call e.changes }
 
 -- A call is refused for its first reason, or for want of memory: what it is given may ask for some before any reason is looked for.
 abbrev pub RecordRefuses : RecordCall → Editor → RecordError → Type 0
@@ -51,12 +59,13 @@ RecordRefuses call e record_error.NoTreeNumber = ⊥
 RecordRefuses call e record_error.Memory = Unit {0}
 
 -- ---- finishing
+-- where the factory keeps no mappings, nothing is mapped
 abbrev pub plan_of : Editor → Plan
-plan_of e = record { root = e.root; changes = e.changes }
+plan_of e = record { root = e.root; changes = e.changes; mapping = unwrap_or e.factory [] }
 
 abbrev pub FinishRefuses : Editor → ℕ → EditError → Type 0
-FinishRefuses e next (Intersecting first second) = BuildRefuses e.changes (Intersecting first second)
-FinishRefuses e next (Nested change) = BuildRefuses e.changes (Nested change)
+FinishRefuses e next (Intersecting first second) = BuildRefuses (plan_of e) (Intersecting first second)
+FinishRefuses e next (MissingMapping change owner) = BuildRefuses (plan_of e) (MissingMapping change owner)
 FinishRefuses e next TooLong = RunRefuses (plan_of e) next TooLong
 FinishRefuses e next NoTreeNumber = RunRefuses (plan_of e) next NoTreeNumber
 FinishRefuses e next Memory = Unit {0}

@@ -6,5 +6,6 @@ pub mod Indentation
 pub mod AttrsAndDocs
 pub mod Spacing
 pub mod Editor
+pub mod Lending
 pub mod Indexing
 pub mod Laws

@@ -1,9 +1,12 @@
-ghost use Rattle.std.specs.Prelude.{◌≡◌, ◌↔◌, ◌+◌, cond, [], IsTrue, IfOk, IfErr, OnOk, OnErr};
+ghost use Rattle.std.specs.Prelude.{◌≡◌, ◌↔◌, ◌+◌, cond, [], Some, IsTrue, IfOk, IfErr, OnOk, OnErr};
 ghost use Rattle.cst_core.specs.TreeIds.{IsSpent};
 ghost use Rattle.edit_plan.specs.Building.{Makes, BuildRefuses};
+ghost use Rattle.std.specs.Borrow.{sem};
+ghost use Rattle.syntax_editor.specs.Lending.{LendsFactory};
 ghost use Rattle.syntax_editor.specs.Editor.{has_parent, edited_root, plan_of, FinishRefuses};
 
 use crate::change_list::ChangeList;
+use crate::factory::SyntaxFactory;
 use cst_core::{SyntaxNode, TreeError, TreeIds};
 use edit_plan::{Change, EditError, EditPlan, SyntaxEdit};
 use std::alloc::Global;
@@ -17,6 +20,7 @@ use std::marker::Model;
 pub struct SyntaxEditor {
     pub(crate) root: SyntaxNode,
     pub(crate) changes: ChangeList,
+    factory: SyntaxFactory,
 }
 
 impl Model for SyntaxEditor {
@@ -26,9 +30,9 @@ impl Model for SyntaxEditor {
 
     ghost coded = { editor_code };
 
-    ghost view = { λ a. record { root = a.root; changes = a.changes } };
+    ghost view = { λ a. record { root = a.root; changes = a.changes; factory = a.factory } };
 
-    ghost invariant = { λ a. IsEditor (record { root = a.root; changes = a.changes }) };
+    ghost invariant = { λ a. IsEditor (record { root = a.root; changes = a.changes; factory = a.factory }) };
 }
 
 impl SyntaxEditor {
@@ -41,7 +45,7 @@ impl SyntaxEditor {
         ids: &mut TreeIds,
         root: SyntaxNode,
     ) -> Result<(SyntaxEditor, SyntaxNode), TreeError>
-        ensures editor { IfOk result (λ r. r.0 ≡ record { root = edited_root ids.old root; changes = [] }) }
+        ensures editor { IfOk result (λ r. r.0 ≡ record { root = edited_root ids.old root; changes = []; factory = Some [] }) }
         ensures root { IfOk result (λ r. r.1 ≡ edited_root ids.old root) }
         ensures drawn { OnOk result (ids.new ≡ cond (has_parent root) (ids.old + 1) ids.old) }
         ensures fits { ¬ (result ≡ Err TreeError.TooLong) }
@@ -50,16 +54,42 @@ impl SyntaxEditor {
     {
         if root.slots().is_empty() {
             let own = root.try_clone(alloc)?;
-            let changes = ChangeList::new(alloc);
-            return Ok((SyntaxEditor { root: own, changes }, root));
+            return Ok((SyntaxEditor::of_root(alloc, own), root));
         }
         // The number is drawn last, when nothing can fail any more.
         let mut peeked = TreeIds::new(ids.peek().unwrap_or(u64::MAX));
         let own = root.clone_subtree(alloc, &mut peeked)?;
         let edited = own.try_clone(alloc)?;
         ids.next();
-        let changes = ChangeList::new(alloc);
-        Ok((SyntaxEditor { root: own, changes }, edited))
+        Ok((SyntaxEditor::of_root(alloc, own), edited))
+    }
+
+    // An editor of this root, without changes.
+    fn of_root(alloc: Global, root: SyntaxNode) -> SyntaxEditor
+        requires { root.path ≡ [] }
+        ensures { result ≡ record { root = root; changes = []; factory = Some [] } }
+    {
+        SyntaxEditor {
+            root,
+            changes: ChangeList::new(alloc),
+            factory: SyntaxFactory::with_mappings(alloc),
+        }
+    }
+
+    /// The factory, which keeps the mappings of the editor.
+    pub fn make(&self) -> &SyntaxFactory
+        ensures { result.now ≡ self.now.factory }
+    {
+        &self.factory
+    }
+
+    /// The factory, to put pairs into its mappings, or to put another factory in its place. One without mappings counts as one
+    /// with a mapping of nothing.
+    pub fn make_mut(&mut self) -> &mut SyntaxFactory
+        ensures* writes_back { sem 𝓛 (LendsFactory self.entry result) }
+        ensures value { result.now ≡ self.old.factory }
+    {
+        &mut self.factory
     }
 
     /// The changes recorded so far, in order.
@@ -71,17 +101,18 @@ impl SyntaxEditor {
 
     /// A plan of the changes, which can be carried out as it is.
     ///
-    /// `Intersecting` comes first, then `Nested`; else only `Memory` comes. Nothing is handed back then.
+    /// `Intersecting` comes first, then `MissingMapping`; else only `Memory` comes. Nothing is handed back then.
     pub fn plan(self, alloc: Global) -> Result<EditPlan, EditError>
         ensures ok { IfOk result (λ p. p ≡ plan_of self) }
-        ensures refused { IfErr result (BuildRefuses self.changes) }
+        ensures refused { IfErr result (BuildRefuses (plan_of self)) }
     {
-        EditPlan::build(alloc, self.root, self.changes.into_vec())
+        let mapping = self.factory.into_mapping(alloc);
+        EditPlan::build(alloc, self.root, self.changes.into_vec(), mapping)
     }
 
     /// Carries the changes out: the new tree under the next number of `ids`, with its changed elements.
     ///
-    /// `Intersecting` comes first, then `Nested`, then `TooLong`, then `NoTreeNumber`, then `Memory`. None of them draws a
+    /// `Intersecting` comes first, then `MissingMapping`, then `TooLong`, then `NoTreeNumber`, then `Memory`. None of them draws a
     /// number, and nothing is handed back; the old tree is as it was.
     pub fn finish(self, alloc: Global, ids: &mut TreeIds) -> Result<SyntaxEdit, EditError>
         ensures ok { IfOk result (Makes (plan_of self) ids.old) }

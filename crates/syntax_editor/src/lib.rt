@@ -4,10 +4,13 @@
 mod change_list;
 mod editor;
 mod error;
+mod factory;
 pub mod laws;
 mod record;
 mod replace_index;
 
+pub use edit_map::{MapError, SyntaxMapping, SyntaxMappingBuilder};
 pub use edit_plan::{Change, EditError, EditPlan, Element, ElementList, Position, SyntaxEdit};
 pub use editor::SyntaxEditor;
 pub use error::RecordError;
+pub use factory::SyntaxFactory;
