@@ -22,6 +22,12 @@ pub(crate) enum Line<'a> {
         name: Name<'a>,
         node: Reference<'a>,
     },
+    /// The copy of a node, which is a child of the first one.
+    Map {
+        parent: Reference<'a>,
+        input: Reference<'a>,
+        output: Reference<'a>,
+    },
     /// New elements at a place.
     Insert {
         place: Place<'a>,
@@ -66,6 +72,7 @@ pub(crate) fn read_line<'a>(alloc: Global, text: &'a str) -> Result<Line<'a>, St
     let line = match word {
         "tree" => tree_line(alloc, &mut fields)?,
         "edit" => edit_line(alloc, &mut fields)?,
+        "map" => map_line(alloc, &mut fields)?,
         "insert" => insert_line(alloc, &mut fields)?,
         "delete" => delete_line(alloc, &mut fields)?,
         "replace" => replace_line(alloc, &mut fields)?,
@@ -92,6 +99,17 @@ fn edit_line<'a>(alloc: Global, fields: &mut Fields<'a>) -> Result<Line<'a>, Sto
     let name = fields.name()?;
     let node = fields.reference(alloc)?;
     Ok(Line::Edit { name, node })
+}
+
+fn map_line<'a>(alloc: Global, fields: &mut Fields<'a>) -> Result<Line<'a>, Stop> {
+    let parent = fields.reference(alloc)?;
+    let input = fields.reference(alloc)?;
+    let output = fields.reference(alloc)?;
+    Ok(Line::Map {
+        parent,
+        input,
+        output,
+    })
 }
 
 fn insert_line<'a>(alloc: Global, fields: &mut Fields<'a>) -> Result<Line<'a>, Stop> {

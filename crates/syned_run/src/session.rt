@@ -7,7 +7,7 @@ use crate::script::{Line, Place};
 use crate::stop::Stop;
 use cst_core::{GreenNode, SyntaxElement, SyntaxNode, TreeIds};
 use std::alloc::Global;
-use syntax_editor::{Position, SyntaxEdit, SyntaxEditor};
+use syntax_editor::{Position, SyntaxEdit, SyntaxEditor, SyntaxMappingBuilder};
 
 /// The trees of a script, its source of tree numbers, and its editor once there is one.
 #[derive(Drop)]
@@ -41,6 +41,11 @@ impl Session {
             Line::Blank => Ok(()),
             Line::Tree { name, root } => self.add_tree(name, root),
             Line::Edit { name, node } => self.edit(name, &node),
+            Line::Map {
+                parent,
+                input,
+                output,
+            } => self.map(&parent, &input, &output),
             Line::Insert { place, payload } => self.insert(&place, &payload),
             Line::Delete { target } => self.delete(&target),
             Line::Replace { target, payload } => self.replace(&target, &payload),
@@ -86,6 +91,24 @@ impl Session {
         let (editor, root) = SyntaxEditor::new(self.alloc, &mut self.ids, node)?;
         self.editor = Some(editor);
         self.roots.add(self.alloc, name, root)
+    }
+
+    fn map(
+        &mut self,
+        parent: &Reference<'_>,
+        input: &Reference<'_>,
+        output: &Reference<'_>,
+    ) -> Result<(), Stop> {
+        let parent = self.node(parent)?;
+        let input = self.node(input)?;
+        let output = self.node(output)?;
+        let editor = self.editor.as_mut().ok_or(Stop::Bad)?;
+        let mut builder = SyntaxMappingBuilder::new(self.alloc, parent);
+        builder.map_node(self.alloc, input, output)?;
+        if let Some(mapping) = editor.make_mut().mappings() {
+            builder.finish(self.alloc, mapping)?;
+        }
+        Ok(())
     }
 
     fn insert(&mut self, place: &Place<'_>, payload: &[Reference<'_>]) -> Result<(), Stop> {

@@ -1,6 +1,6 @@
 use cst_core::TreeError;
 use std::alloc::{AllocError, AllocFailed};
-use syntax_editor::{EditError, RecordError};
+use syntax_editor::{EditError, MapError, RecordError};
 use thiserror::Error;
 use tree_text::ExpressionError;
 
@@ -33,6 +33,8 @@ impl Stop {
 pub(crate) enum Refusal {
     #[error("{0}")]
     Tree(TreeError),
+    #[error("{0}")]
+    Map(MapError),
     #[error("{0}")]
     Record(RecordError),
     #[error("{0}")]
@@ -67,6 +69,15 @@ impl From<ExpressionError> for Stop {
                 Stop::Bad,
             ExpressionError::Tree(error) => Stop::from(error),
             ExpressionError::Memory => Stop::Memory,
+        }
+    }
+}
+
+impl From<MapError> for Stop {
+    fn from(error: MapError) -> Stop {
+        match error {
+            MapError::Memory => Stop::Memory,
+            error => Stop::Refused(Refusal::Map(error)),
         }
     }
 }
