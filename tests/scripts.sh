@@ -188,6 +188,19 @@ limits() {
     } >"$room/answer" && within_a_second 'one long text of backslashes'
 }
 
+# Many replacements recorded, each of another element and then each again. What carries them out is another matter, so there is no end.
+recording() {
+    local many=12000
+    {
+        printf 'tree A (ARG_LIST'
+        printf '(ATTR)%.0s' $(seq "$many")
+        printf ')\nedit R A\n'
+        for ((slot = 0; slot < many; slot++)); do printf 'replace R/%d R\n' "$slot"; done
+        for ((slot = 0; slot < many; slot++)); do printf 'delete R/%d\n' "$slot"; done
+    } >"$room/script"
+    echo "bad script line $((2 * many + 3))" >"$room/answer" && within_a_second 'many replacements and deletions'
+}
+
 within_a_second() {
     local begun
     begun=$(date +%s%N)
@@ -216,6 +229,7 @@ lines
 ends_of_lines
 beginnings
 limits
+recording
 ends
 echo "scripts: $((ran - wrong)) of $ran answers as expected"
 [ "$wrong" -eq 0 ]
