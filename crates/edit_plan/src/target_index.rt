@@ -70,11 +70,7 @@ impl TargetIndex {
     }
 
     /// Puts a number at each of these paths.
-    fn insert_all(
-        &mut self,
-        paths: Vec<Vec<usize>>,
-        number: usize,
-    ) -> Result<(), AllocError>
+    fn insert_all(&mut self, paths: Vec<Vec<usize>>, number: usize) -> Result<(), AllocError>
         ensures { OnOk result ((p : Path) → number_at self.new p ≡ cond (has_path (paths_of paths.items) p) (Some number) (number_at self.old p)) }
     {
         for path in paths {
