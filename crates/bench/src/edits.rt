@@ -112,13 +112,18 @@ fn targets(alloc: Global, root: &SyntaxNode, step: usize) -> Result<Vec<SyntaxNo
     Ok(targets)
 }
 
+fn new_leaf(alloc: Global, ids: &mut TreeIds) -> Result<SyntaxElement> {
+    let node = SyntaxNode::new_root(alloc, ids, leaf(alloc)?)?;
+    Ok(SyntaxElement::Node(node))
+}
+
 fn change(
     alloc: Global,
     ids: &mut TreeIds,
     subject: Subject,
     target: SyntaxNode,
 ) -> Result<Option<Change>> {
-    let new = SyntaxElement::Node(SyntaxNode::new_root(alloc, ids, leaf(alloc)?)?);
+    let new = new_leaf(alloc, ids)?;
     match subject {
         Subject::Statements => match Position::after(alloc, target)? {
             Some(position) => Ok(Some(Change::Insert(position, new))),
@@ -159,4 +164,18 @@ pub(crate) fn changes(
         }
     }
     Ok(changes)
+}
+
+/// Each literal, and what it is replaced by.
+pub(crate) fn replacements(
+    alloc: Global,
+    ids: &mut TreeIds,
+    root: &SyntaxNode,
+) -> Result<Vec<(SyntaxElement, SyntaxElement)>> {
+    let mut pairs = Vec::new(alloc);
+    for target in targets(alloc, root, 1)? {
+        let new = new_leaf(alloc, ids)?;
+        pairs.push((SyntaxElement::Node(target), new))?;
+    }
+    Ok(pairs)
 }

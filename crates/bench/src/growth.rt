@@ -1,11 +1,12 @@
 //! How long edits take, and how that grows.
-use crate::edits::{Subject, changes, tree};
+use crate::edits::{Subject, changes, replacements, tree};
 use anyhow::Result;
 use cst_core::{SyntaxElement, SyntaxNode, TreeIds};
 use edit_plan::EditPlan;
 use std::alloc::Global;
 use std::rt::Clock;
 use std::time::Instant;
+use syntax_editor::SyntaxEditor;
 
 const TRIES: usize = 3;
 
@@ -89,6 +90,32 @@ fn measured<R: Clock>(rt: &R, alloc: Global, case: Case) -> Result<Figures> {
     })
 }
 
+// How many seconds it takes to record that each of so many literals is replaced.
+fn recorded<R: Clock>(rt: &R, alloc: Global, number: usize) -> Result<f64> {
+    let mut ids = TreeIds::new(1);
+    let root = tree(alloc, &mut ids, Subject::Literals, number)?;
+    let pairs = replacements(alloc, &mut ids, &root)?;
+    let (mut editor, _) = SyntaxEditor::new(alloc, &mut ids, root)?;
+    let start = Instant::now(rt)?;
+    for (target, new) in pairs {
+        editor.replace(alloc, target, new)?;
+    }
+    Ok(start.elapsed(rt)?.as_secs_f64())
+}
+
+fn report_recorded<R: Print + Clock>(rt: &R, alloc: Global) -> Result<()> {
+    let first = recorded(rt, alloc, LEAST)?;
+    let mut last = first;
+    for number in SIZES {
+        last = recorded(rt, alloc, number)?;
+        let milliseconds = last * 1e3;
+        println!(rt; "literals, replaced: {number} recorded in {milliseconds:.3} ms")?;
+    }
+    let power = exponent(MOST as f64 / LEAST as f64, first, last);
+    println!(rt; "grows with both: recorded {power:.2}")?;
+    Ok(())
+}
+
 // The shortest times of some tries.
 fn shortest<R: Clock>(rt: &R, alloc: Global, case: Case) -> Result<Figures> {
     let mut best = measured(rt, alloc, case)?;
@@ -141,7 +168,7 @@ pub(crate) fn report_growth<R: Print + Clock>(rt: &R, alloc: Global) -> Result<(
             grown(rt, alloc, subject, growth)?;
         }
     }
-    Ok(())
+    report_recorded(rt, alloc)
 }
 
 /// One small edit of each kind, without a time.

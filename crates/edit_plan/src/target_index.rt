@@ -27,7 +27,7 @@ fn lesser(one: Option<usize>, other: Option<usize>) -> Option<usize>
 }
 
 impl TargetIndex {
-    pub(crate) fn new(alloc: Global) -> TargetIndex
+    fn new(alloc: Global) -> TargetIndex
         ensures { (p : Path) → number_at result p ≡ None }
     {
         TargetIndex {
@@ -42,7 +42,7 @@ impl TargetIndex {
     }
 
     /// The least number at any of these paths.
-    pub(crate) fn least_at(&self, paths: &[Vec<usize>]) -> Option<usize>
+    fn least_at(&self, paths: &[Vec<usize>]) -> Option<usize>
         ensures { result ≡ least (number_at self.now) (paths_of paths.now) }
     {
         let mut least_so_far = None;
@@ -70,11 +70,7 @@ impl TargetIndex {
     }
 
     /// Puts a number at each of these paths.
-    pub(crate) fn insert_all(
-        &mut self,
-        paths: Vec<Vec<usize>>,
-        number: usize,
-    ) -> Result<(), AllocError>
+    fn insert_all(&mut self, paths: Vec<Vec<usize>>, number: usize) -> Result<(), AllocError>
         ensures { OnOk result ((p : Path) → number_at self.new p ≡ cond (has_path (paths_of paths.items) p) (Some number) (number_at self.old p)) }
     {
         for path in paths {
