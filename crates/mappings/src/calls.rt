@@ -122,20 +122,38 @@ fn nodes(
     Ok(all)
 }
 
+// Why two inputs and one output are refused, if they are.
+fn refused_children(
+    alloc: Global,
+    trees: &[SyntaxNode],
+    builder: &mut SyntaxMappingBuilder,
+) -> Result<Option<MapError>> {
+    let inputs = nodes(alloc, trees, 0, &[&[1], &[4]])?;
+    let outputs = nodes(alloc, trees, 1, &[&[1]])?;
+    match builder.map_children(alloc, &inputs, &outputs) {
+        Ok(()) => Ok(None),
+        Err(refusal) => Ok(Some(refusal)),
+    }
+}
+
+// Whether one input and two outputs are taken.
+fn taken_children(
+    alloc: Global,
+    trees: &[SyntaxNode],
+    builder: &mut SyntaxMappingBuilder,
+) -> Result<bool> {
+    let inputs = nodes(alloc, trees, 0, &[&[1]])?;
+    let outputs = nodes(alloc, trees, 1, &[&[1], &[1]])?;
+    Ok(builder.map_children(alloc, &inputs, &outputs).is_ok())
+}
+
 /// Two inputs and one output are refused; then one input and two outputs are taken by the same builder.
 pub fn children(alloc: Global) -> Result<String> {
     let trees = call_trees(alloc)?;
-    let one = nodes(alloc, &trees, 0, &[&[1]])?;
-    let two = nodes(alloc, &trees, 0, &[&[1], &[4]])?;
-    let output = nodes(alloc, &trees, 1, &[&[1]])?;
-    let outputs = nodes(alloc, &trees, 1, &[&[1], &[1]])?;
     let parent = node(alloc, &trees, &ONE_TO_SEVEN.parent)?;
     let mut builder = SyntaxMappingBuilder::new(alloc, parent);
-    let refusal = match builder.map_children(alloc, &two, &output) {
-        Ok(()) => None,
-        Err(error) => Some(error),
-    };
-    let taken = builder.map_children(alloc, &one, &outputs).is_ok();
+    let refusal = refused_children(alloc, &trees, &mut builder)?;
+    let taken = taken_children(alloc, &trees, &mut builder)?;
     let mut mapping = SyntaxMapping::new(alloc);
     builder.finish(alloc, &mut mapping)?;
     let found = places(alloc, &mapping, &trees)?;
