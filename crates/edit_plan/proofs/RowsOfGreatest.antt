@@ -1,16 +1,16 @@
 -- Worked examples beside the last child of a tree with a text of the greatest length: the new text, and the changed paths.
-use Rattle.std.specs.Prelude.{◌≡◌, ℕ, zero, suc, ◌+◌, ◌<◌, true, false, cond, not, ◌&&◌, ◌||◌, nat_eq, List, [], ◌∷◌, ◌++◌, codes, map, filter, flat_map, length, Some, None, refl}
+use Rattle.std.specs.Prelude.{◌≡◌, ℕ, zero, suc, ◌+◌, ◌<◌, Bool, true, false, cond, not, ◌&&◌, ◌||◌, nat_eq, List, [], ◌∷◌, ◌++◌, codes, map, filter, flat_map, length, Some, None, refl}
 use Rattle.std.proofs.Common.{ap, ap₂, sym, ◌∙◌, arith}
 use Rattle.std.proofs.lemmas.Bool.{eqb-true, false_from_ne_true}
 use Rattle.std.proofs.lemmas.List.{length-append, append-nil, append_assoc}
 use Rattle.cst_core.specs.Path.{Path, same_path}
 use Rattle.std.specs.Option.{option_map_or}
 use mathlib.Core.Path.{fun_ext}
-use Rattle.cst_core.specs.Tree.{Forest, Token, Node, end, more, SyntaxTree, forest, text, forest_text, relabelled, forest_relabelled, at, paths}
-use Rattle.cst_core.specs.declared.element.SyntaxElement.TheVariants.{Token as token_value}
-use Rattle.edit_map.proofs.RowTrees.{tree_X}
+use Rattle.cst_core.specs.Tree.{Tree, Forest, Token, Node, end, more, SyntaxTree, forest, text, forest_text, relabelled, forest_relabelled, at, paths}
+use Rattle.cst_core.specs.declared.element.SyntaxElement.TheVariants.{Node as node_value, Token as token_value}
+use Rattle.edit_map.proofs.RowTrees.{token, branch, tree_X}
 use Rattle.edit_map.proofs.Rows.{element_of_tree}
-use Rattle.rewriting.specs.Aim.{Behind, Over}
+use Rattle.rewriting.specs.Aim.{Aim, Behind, Over}
 use Rattle.rewriting.specs.Rewriting.{NumberedAim, numbers, inserts_at, replacements_at, is_replaced, gap_order, rewritten, rewritten_from}
 use Rattle.rewriting.specs.Topmost.{holds_at, parent_holds, topmost, not_given}
 use Rattle.rewriting.proofs.Tops.{tops, top-children, tops-alone}
@@ -25,7 +25,7 @@ use Rattle.edit_plan.proofs.RowChanges.{no_places}
 use Rattle.edit_plan.proofs.RowsOfLengths.{doubled, falling, long, longest, P, changes_emptied}
 use Rattle.edit_plan.proofs.Relabelled.{topmost-relabelled}
 use Rattle.edit_plan.proofs.Whole.{marked, alone, changed-whole}
-use Rattle.edit_plan.proofs.Edits.{remade, remade_from, no_edits, untouched_is}
+use Rattle.edit_plan.proofs.Edits.{Edits, remade, remade_from, no_edits, untouched_is}
 use Rattle.edit_plan.proofs.Unowned.{text-unowned}
 
 -- ---- a child that no aim is at or below
