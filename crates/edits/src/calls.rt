@@ -5,11 +5,13 @@ use row_trees::row;
 use std::alloc::Global;
 use syntax_editor::{SyntaxEdit, SyntaxEditor};
 
-fn element(alloc: Global, root: &SyntaxNode, path: &[usize]) -> Result<SyntaxElement> {
+/// The element at a path.
+pub fn element(alloc: Global, root: &SyntaxNode, path: &[usize]) -> Result<SyntaxElement> {
     root.element_at(alloc, path)?.context("no element there")
 }
 
-fn tree(alloc: Global, ids: &mut TreeIds, name: &str) -> Result<SyntaxNode> {
+/// A new tree of a row's name.
+pub fn tree(alloc: Global, ids: &mut TreeIds, name: &str) -> Result<SyntaxNode> {
     let green = row(alloc, name)?;
     Ok(SyntaxNode::new_root(alloc, ids, green)?)
 }

@@ -3,9 +3,11 @@
 #![tactic(auto)]
 
 mod calls;
+mod each_call;
 mod rows;
 
 use crate::calls::{answer_of, finish_spent};
+use crate::each_call::{CALLS, answer_to};
 use crate::rows::ROWS;
 use anyhow::Result;
 
@@ -16,6 +18,10 @@ fn main(rt: HostRuntime) -> Result<()> {
         println!(rt; "{}: {answer}", row.name)?;
     }
     let answer = finish_spent(alloc)?;
-    println!(rt; "18 (ii): {answer}")?;
+    println!(rt; "no change, no number left: {answer}")?;
+    for call in CALLS {
+        let answer = answer_to(alloc, *call)?;
+        println!(rt; "{}: {answer}", call.name())?;
+    }
     Ok(())
 }

@@ -15,12 +15,12 @@ pub struct Row {
 
 pub const ROWS: &[Row] = &[
     Row {
-        name: "18 (i)",
+        name: "no change",
         tree: "L",
         replacements: &[],
     },
     Row {
-        name: "1a",
+        name: "one literal",
         tree: "L",
         replacements: &[Replacement {
             target: &[1],
@@ -29,7 +29,7 @@ pub const ROWS: &[Row] = &[
         }],
     },
     Row {
-        name: "1b",
+        name: "both literals",
         tree: "L",
         replacements: &[
             Replacement {
@@ -45,7 +45,7 @@ pub const ROWS: &[Row] = &[
         ],
     },
     Row {
-        name: "9",
+        name: "literals for each other",
         tree: "L",
         replacements: &[
             Replacement {
@@ -61,7 +61,7 @@ pub const ROWS: &[Row] = &[
         ],
     },
     Row {
-        name: "24, a root replaced by a token",
+        name: "a token for the root",
         tree: "L",
         replacements: &[Replacement {
             target: &[],
@@ -70,7 +70,7 @@ pub const ROWS: &[Row] = &[
         }],
     },
     Row {
-        name: "26 (ii)",
+        name: "a literal and its token",
         tree: "L",
         replacements: &[
             Replacement {
@@ -86,7 +86,7 @@ pub const ROWS: &[Row] = &[
         ],
     },
     Row {
-        name: "R1.1",
+        name: "the root",
         tree: "L",
         replacements: &[Replacement {
             target: &[],
@@ -95,7 +95,7 @@ pub const ROWS: &[Row] = &[
         }],
     },
     Row {
-        name: "R1.2",
+        name: "a literal twice",
         tree: "L",
         replacements: &[
             Replacement {
@@ -111,7 +111,7 @@ pub const ROWS: &[Row] = &[
         ],
     },
     Row {
-        name: "R3.6",
+        name: "a token in a node that is kept",
         tree: "L",
         replacements: &[
             Replacement {
