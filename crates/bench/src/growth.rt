@@ -2,6 +2,7 @@
 use crate::edits::{Subject, changes, replacements, tree};
 use anyhow::Result;
 use cst_core::{SyntaxElement, SyntaxNode, TreeIds};
+use edit_map::SyntaxMapping;
 use edit_plan::EditPlan;
 use std::alloc::Global;
 use std::rt::Clock;
@@ -78,7 +79,7 @@ fn measured<R: Clock>(rt: &R, alloc: Global, case: Case) -> Result<Figures> {
     let root = tree(alloc, &mut ids, case.subject, case.size)?;
     let changes = changes(alloc, &mut ids, case.subject, &root, case.step)?;
     let start = Instant::now(rt)?;
-    let plan = EditPlan::build(alloc, root, changes)?;
+    let plan = EditPlan::build(alloc, root, changes, SyntaxMapping::new(alloc))?;
     let planned = start.elapsed(rt)?.as_secs_f64();
     let start = Instant::now(rt)?;
     let edit = plan.run(alloc, &mut ids)?;
