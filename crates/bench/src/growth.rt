@@ -1,12 +1,13 @@
 //! How long edits take, and how that grows.
 use crate::case::{Case, Subject};
 use crate::nested::Nest;
-use crate::prepared::Prepared;
+use crate::prepared::{Call, Prepared};
 use anyhow::Result;
 use cst_core::TreeIds;
 use std::alloc::Global;
 use std::rt::Clock;
 use std::time::Instant;
+use syntax_editor::{EditPlan, SyntaxEditor};
 
 const TRIES: usize = 3;
 
@@ -110,24 +111,46 @@ impl Figures {
     }
 }
 
+// Makes the calls, and says how many seconds that took.
+fn record<R: Clock>(
+    rt: &R,
+    alloc: Global,
+    calls: Vec<Call>,
+    editor: &mut SyntaxEditor,
+) -> Result<f64> {
+    let start = Instant::now(rt)?;
+    for call in calls {
+        call.record(alloc, editor)?;
+    }
+    Ok(start.elapsed(rt)?.as_secs_f64())
+}
+
+// A plan of what an editor has recorded, and how many seconds planning took.
+fn plan<R: Clock>(rt: &R, alloc: Global, editor: SyntaxEditor) -> Result<(EditPlan, f64)> {
+    let start = Instant::now(rt)?;
+    let plan = editor.plan(alloc)?;
+    let seconds = start.elapsed(rt)?.as_secs_f64();
+    Ok((plan, seconds))
+}
+
+// How many bytes the text of the new tree has, and how many seconds it took to carry a plan out.
+fn run<R: Clock>(rt: &R, alloc: Global, ids: &mut TreeIds, plan: &EditPlan) -> Result<(u64, f64)> {
+    let start = Instant::now(rt)?;
+    let edit = plan.run(alloc, ids)?;
+    let seconds = start.elapsed(rt)?.as_secs_f64();
+    Ok((edit.new_root().text_len(), seconds))
+}
+
 fn measured<R: Clock>(rt: &R, alloc: Global, case: Case) -> Result<Figures> {
     let mut ids = TreeIds::new(1);
     let Prepared { mut editor, calls } = case.prepared(alloc, &mut ids)?;
     let changes = calls.len();
-    let start = Instant::now(rt)?;
-    for call in calls {
-        call.record(alloc, &mut editor)?;
-    }
-    let recorded = start.elapsed(rt)?.as_secs_f64();
-    let start = Instant::now(rt)?;
-    let plan = editor.plan(alloc)?;
-    let planned = start.elapsed(rt)?.as_secs_f64();
-    let start = Instant::now(rt)?;
-    let edit = plan.run(alloc, &mut ids)?;
-    let run = start.elapsed(rt)?.as_secs_f64();
+    let recorded = record(rt, alloc, calls, &mut editor)?;
+    let (plan, planned) = plan(rt, alloc, editor)?;
+    let (bytes, run) = run(rt, alloc, &mut ids, &plan)?;
     Ok(Figures {
         changes,
-        bytes: edit.new_root().text_len(),
+        bytes,
         recorded,
         planned,
         run,

@@ -1,4 +1,4 @@
-//! Edits of which everything is made but the changes' record.
+//! The calls of an edit, and the editor that they are made on.
 use anyhow::Result;
 use cst_core::{SyntaxNode, TreeIds};
 use edit_map::SyntaxMapping;
