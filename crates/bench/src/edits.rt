@@ -1,38 +1,16 @@
-//! Trees to be edited, and the changes that they are edited by.
-ghost use Rattle.std.specs.Prelude.{◌≡◌, [], All, IfOk, OnOk};
-ghost use Rattle.edit_plan.specs.Fits.{Fits};
-
+//! Trees of many equal parts, and a change at some of them.
+use crate::case::Subject;
+use crate::prepared::{Call, Prepared, editor_with};
 use anyhow::Result;
-use cst_core::{
-    GreenElement, GreenNode, GreenToken, SyntaxElement, SyntaxKind, SyntaxNode, TreeIds,
-};
-use edit_plan::{Change, Position};
+use cst_core::{GreenElement, GreenNode, GreenToken, SyntaxKind, SyntaxNode, TreeIds};
+use edit_map::SyntaxMapping;
 use std::alloc::Global;
+use syntax_editor::Position;
 
 const CHILDREN: usize = 8;
 
-/// What is edited, and by which changes.
-#[derive(Clone, Copy)]
-pub(crate) enum Subject {
-    /// Literals below one node, some of which are replaced.
-    Literals,
-    /// Statements below one node, behind some of which another one is inserted.
-    Statements,
-    /// A tree of nodes with eight children each, of which the leaves are replaced.
-    Leaves,
-}
-
-impl Subject {
-    pub(crate) fn name(self) -> &'static str {
-        match self {
-            Subject::Literals => "literals, replaced",
-            Subject::Statements => "statements, inserts",
-            Subject::Leaves => "leaves of eight a node, replaced",
-        }
-    }
-}
-
-fn leaf(alloc: Global) -> Result<GreenNode> {
+/// A literal.
+pub(crate) fn leaf(alloc: Global) -> Result<GreenNode> {
     let token = GreenToken::new(alloc, SyntaxKind::INT_NUMBER, "1")?;
     let mut children = Vec::new(alloc);
     children.push(GreenElement::Token(token))?;
@@ -79,21 +57,13 @@ fn leaves(alloc: Global, size: usize) -> Result<GreenNode> {
     Ok(GreenNode::new(alloc, SyntaxKind::SOURCE_FILE, children)?)
 }
 
-/// The tree of a subject with so many literals, statements or leaves.
-pub(crate) fn tree(
-    alloc: Global,
-    ids: &mut TreeIds,
-    subject: Subject,
-    size: usize,
-) -> Result<SyntaxNode>
-    ensures { IfOk result (λ n. n.path ≡ []) }
-{
-    let green = match subject {
-        Subject::Literals => flat(alloc, size)?,
-        Subject::Statements => flat(alloc, size)?,
-        Subject::Leaves => leaves(alloc, size)?,
-    };
-    Ok(SyntaxNode::new_root(alloc, ids, green)?)
+// The tree of a subject with so many literals, statements or leaves.
+fn tree(alloc: Global, subject: Subject, size: usize) -> Result<GreenNode> {
+    match subject {
+        Subject::Literals => flat(alloc, size),
+        Subject::Statements => flat(alloc, size),
+        Subject::Leaves => leaves(alloc, size),
+    }
 }
 
 // One in so many of the nodes that a subject's changes aim at.
@@ -112,70 +82,39 @@ fn targets(alloc: Global, root: &SyntaxNode, step: usize) -> Result<Vec<SyntaxNo
     Ok(targets)
 }
 
-fn new_leaf(alloc: Global, ids: &mut TreeIds) -> Result<SyntaxElement> {
-    let node = SyntaxNode::new_root(alloc, ids, leaf(alloc)?)?;
-    Ok(SyntaxElement::Node(node))
-}
-
-fn change(
+// The change at a target.
+fn call(
     alloc: Global,
     ids: &mut TreeIds,
     subject: Subject,
     target: SyntaxNode,
-) -> Result<Option<Change>> {
-    let new = new_leaf(alloc, ids)?;
+) -> Result<Option<Call>> {
+    let new = SyntaxNode::new_root(alloc, ids, leaf(alloc)?)?;
     match subject {
         Subject::Statements => match Position::after(alloc, target)? {
-            Some(position) => Ok(Some(Change::Insert(position, new))),
+            Some(position) => Ok(Some(Call::Insert(position, new))),
             None => Ok(None),
         },
-        Subject::Literals => Ok(Some(Change::Replace(SyntaxElement::Node(target), Some(new)))),
-        Subject::Leaves => Ok(Some(Change::Replace(SyntaxElement::Node(target), Some(new)))),
+        Subject::Literals => Ok(Some(Call::Replace(target, new))),
+        Subject::Leaves => Ok(Some(Call::Replace(target, new))),
     }
-}
-
-// Puts a change that fits at the end; one that does not is left out.
-fn push_fitting(changes: &mut Vec<Change>, root: &SyntaxNode, change: Change) -> Result<()>
-    requires is_root { root.now.path ≡ [] }
-    requires fit { All (Fits root.now) changes.old.items }
-    ensures { OnOk result (All (Fits root.now) changes.new.items) }
-{
-    if change.fits(root) {
-        changes.push(change)?;
-    }
-    Ok(())
 }
 
 /// A change at one in so many of the literals, statements or leaves.
-pub(crate) fn changes(
+pub(crate) fn prepared(
     alloc: Global,
     ids: &mut TreeIds,
     subject: Subject,
-    root: &SyntaxNode,
+    size: usize,
     step: usize,
-) -> Result<Vec<Change>>
-    requires { root.now.path ≡ [] }
-    ensures { IfOk result (λ v. All (Fits root.now) v.items) }
-{
-    let mut changes = Vec::new(alloc);
-    for target in targets(alloc, root, step)? {
-        if let Some(change) = change(alloc, ids, subject, target)? {
-            push_fitting(&mut changes, root, change)?;
+) -> Result<Prepared> {
+    let root = SyntaxNode::new_root(alloc, ids, tree(alloc, subject, size)?)?;
+    let mut calls = Vec::new(alloc);
+    for target in targets(alloc, &root, step)? {
+        if let Some(call) = call(alloc, ids, subject, target)? {
+            calls.push(call)?;
         }
     }
-    Ok(changes)
-}
-
-/// Each literal, and what it is replaced by.
-pub(crate) fn replacements(
-    alloc: Global,
-    ids: &mut TreeIds,
-    root: &SyntaxNode,
-) -> Result<Vec<(SyntaxElement, SyntaxElement)>> {
-    let mut pairs = Vec::new(alloc);
-    for target in targets(alloc, root, 1)? {
-        let new = new_leaf(alloc, ids)?;
-        pairs.push((SyntaxElement::Node(target), new))?;
-    }
-    Ok(pairs)
+    let editor = editor_with(alloc, ids, root, SyntaxMapping::new(alloc))?;
+    Ok(Prepared { editor, calls })
 }

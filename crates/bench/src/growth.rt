@@ -1,13 +1,13 @@
 //! How long edits take, and how that grows.
-use crate::edits::{Subject, changes, replacements, tree};
+use crate::case::{Case, Subject};
+use crate::nested::Nest;
+use crate::prepared::{Call, Prepared};
 use anyhow::Result;
-use cst_core::{SyntaxElement, SyntaxNode, TreeIds};
-use edit_map::SyntaxMapping;
-use edit_plan::EditPlan;
+use cst_core::TreeIds;
 use std::alloc::Global;
 use std::rt::Clock;
 use std::time::Instant;
-use syntax_editor::SyntaxEditor;
+use syntax_editor::{EditPlan, SyntaxEditor};
 
 const TRIES: usize = 3;
 
@@ -17,29 +17,33 @@ const MOST: usize = 32_768;
 
 const SIZES: [usize; 7] = [LEAST, 1024, 2048, 4096, 8192, 16_384, MOST];
 
+/// Blocks of the edits in which the payloads or the nesting grow.
+const BLOCKS: usize = 1024;
+
 /// What grows from one edit to the next.
 #[derive(Clone, Copy)]
-pub(crate) enum Growth {
+enum Growth {
     /// The changes, of one tree.
-    Changes,
+    Changes(Subject),
     /// The tree, with so many changes.
-    Size,
+    Size(Subject),
     /// Both, with a change at each part.
-    Both,
+    Both(Subject),
+    /// The chains of blocks, each of sixteen.
+    Chains,
+    /// The payload of each of so many blocks.
+    Payloads,
+    /// The blocks of a chain, with as many fewer chains.
+    Depth,
 }
 
-/// An edit of a tree of so many parts, with a change at one in so many of them.
-#[derive(Clone, Copy)]
-struct Case {
-    subject: Subject,
-    size: usize,
-    step: usize,
-}
-
-/// How many elements changed, and how many seconds it took to plan the edit and to carry it out.
+/// How many changes were recorded, how many bytes the new text has, and how many seconds it took to record the changes, to
+/// plan the edit and to carry it out.
 #[derive(Clone, Copy)]
 struct Figures {
-    changed: usize,
+    changes: usize,
+    bytes: u64,
+    recorded: f64,
     planned: f64,
     run: f64,
 }
@@ -47,141 +51,193 @@ struct Figures {
 impl Growth {
     fn name(self) -> &'static str {
         match self {
-            Growth::Changes => "changes",
-            Growth::Size => "size",
-            Growth::Both => "both",
+            Growth::Changes(_) => "changes",
+            Growth::Size(_) => "size",
+            Growth::Both(_) => "both",
+            Growth::Chains => "chains",
+            Growth::Payloads => "payloads",
+            Growth::Depth => "depth",
         }
     }
 
-    fn case(self, subject: Subject, number: usize) -> Case {
+    fn case(self, number: usize) -> Case {
         match self {
-            Growth::Changes => Case {
+            Growth::Changes(subject) => Case::Spread {
                 subject,
                 size: MOST,
                 step: MOST / number.max(1),
             },
-            Growth::Size => Case {
+            Growth::Size(subject) => Case::Spread {
                 subject,
                 size: number,
                 step: number / LEAST,
             },
-            Growth::Both => Case {
+            Growth::Both(subject) => Case::Spread {
                 subject,
                 size: number,
                 step: 1,
             },
+            Growth::Chains => Case::Nested(Nest {
+                chains: number / 32,
+                depth: 16,
+                wraps: 1,
+            }),
+            Growth::Payloads => Case::Nested(Nest {
+                chains: BLOCKS / 4,
+                depth: 4,
+                wraps: number / LEAST,
+            }),
+            Growth::Depth => {
+                let depth = (number / LEAST).max(1);
+                Case::Nested(Nest {
+                    chains: BLOCKS / depth,
+                    depth,
+                    wraps: 1,
+                })
+            }
         }
     }
 }
 
-fn measured<R: Clock>(rt: &R, alloc: Global, case: Case) -> Result<Figures> {
-    let mut ids = TreeIds::new(1);
-    let root = tree(alloc, &mut ids, case.subject, case.size)?;
-    let changes = changes(alloc, &mut ids, case.subject, &root, case.step)?;
-    let start = Instant::now(rt)?;
-    let plan = EditPlan::build(alloc, root, changes, SyntaxMapping::new(alloc))?;
-    let planned = start.elapsed(rt)?.as_secs_f64();
-    let start = Instant::now(rt)?;
-    let edit = plan.run(alloc, &mut ids)?;
-    let run = start.elapsed(rt)?.as_secs_f64();
-    Ok(Figures {
-        changed: edit.changed_elements().len(),
-        planned,
-        run,
-    })
+impl Figures {
+    // The shorter of each two times.
+    fn best(self, other: Figures) -> Figures {
+        Figures {
+            recorded: self.recorded.min(other.recorded),
+            planned: self.planned.min(other.planned),
+            run: self.run.min(other.run),
+            ..self
+        }
+    }
 }
 
-// How many seconds it takes to record that each of so many literals is replaced.
-fn recorded<R: Clock>(rt: &R, alloc: Global, number: usize) -> Result<f64> {
-    let mut ids = TreeIds::new(1);
-    let root = tree(alloc, &mut ids, Subject::Literals, number)?;
-    let pairs = replacements(alloc, &mut ids, &root)?;
-    let (mut editor, _) = SyntaxEditor::new(alloc, &mut ids, root)?;
+// Makes the calls, and says how many seconds that took.
+fn record<R: Clock>(
+    rt: &R,
+    alloc: Global,
+    calls: Vec<Call>,
+    editor: &mut SyntaxEditor,
+) -> Result<f64> {
     let start = Instant::now(rt)?;
-    for (target, new) in pairs {
-        editor.replace(alloc, target, new)?;
+    for call in calls {
+        call.record(alloc, editor)?;
     }
     Ok(start.elapsed(rt)?.as_secs_f64())
 }
 
-fn report_recorded<R: Print + Clock>(rt: &R, alloc: Global) -> Result<()> {
-    let first = recorded(rt, alloc, LEAST)?;
-    let mut last = first;
-    for number in SIZES {
-        last = recorded(rt, alloc, number)?;
-        let milliseconds = last * 1e3;
-        println!(rt; "literals, replaced: {number} recorded in {milliseconds:.3} ms")?;
-    }
-    let power = exponent(MOST as f64 / LEAST as f64, first, last);
-    println!(rt; "grows with both: recorded {power:.2}")?;
-    Ok(())
+// A plan of what an editor has recorded, and how many seconds planning took.
+fn plan<R: Clock>(rt: &R, alloc: Global, editor: SyntaxEditor) -> Result<(EditPlan, f64)> {
+    let start = Instant::now(rt)?;
+    let plan = editor.plan(alloc)?;
+    let seconds = start.elapsed(rt)?.as_secs_f64();
+    Ok((plan, seconds))
+}
+
+// How many bytes the text of the new tree has, and how many seconds it took to carry a plan out.
+fn run<R: Clock>(rt: &R, alloc: Global, ids: &mut TreeIds, plan: &EditPlan) -> Result<(u64, f64)> {
+    let start = Instant::now(rt)?;
+    let edit = plan.run(alloc, ids)?;
+    let seconds = start.elapsed(rt)?.as_secs_f64();
+    Ok((edit.new_root().text_len(), seconds))
+}
+
+fn measured<R: Clock>(rt: &R, alloc: Global, case: Case) -> Result<Figures> {
+    let mut ids = TreeIds::new(1);
+    let Prepared { mut editor, calls } = case.prepared(alloc, &mut ids)?;
+    let changes = calls.len();
+    let recorded = record(rt, alloc, calls, &mut editor)?;
+    let (plan, planned) = plan(rt, alloc, editor)?;
+    let (bytes, run) = run(rt, alloc, &mut ids, &plan)?;
+    Ok(Figures {
+        changes,
+        bytes,
+        recorded,
+        planned,
+        run,
+    })
 }
 
 // The shortest times of some tries.
 fn shortest<R: Clock>(rt: &R, alloc: Global, case: Case) -> Result<Figures> {
     let mut best = measured(rt, alloc, case)?;
     for _ in 1..TRIES {
-        let again = measured(rt, alloc, case)?;
-        best.planned = best.planned.min(again.planned);
-        best.run = best.run.min(again.run);
+        best = best.best(measured(rt, alloc, case)?);
     }
     Ok(best)
 }
 
 // The power of the number that a time grows with.
-fn exponent(numbers: f64, first: f64, last: f64) -> f64 {
+fn exponent(first: f64, last: f64) -> f64 {
+    let numbers = MOST as f64 / LEAST as f64;
     (last / first).log2() / numbers.log2()
 }
 
-fn show<R: Print>(rt: &R, case: Case, figures: Figures) -> Result<()> {
-    let name = case.subject.name();
+fn show_times<R: Print>(rt: &R, alloc: Global, case: Case, figures: Figures) -> Result<()> {
+    let label = case.label(alloc)?;
+    let Figures { changes, .. } = figures;
+    let recorded = figures.recorded * 1e3;
     let planned = figures.planned * 1e3;
     let run = figures.run * 1e3;
     println!(rt;
-        "{name}: {} parts, {} changed, planned {planned:.3} ms, run {run:.3} ms",
-        case.size, figures.changed
+        "{label}: {changes} changes, recorded {recorded:.3} ms, planned {planned:.3} ms, run {run:.3} ms"
     )?;
     Ok(())
 }
 
-fn grown<R: Print + Clock>(rt: &R, alloc: Global, subject: Subject, growth: Growth) -> Result<()> {
-    let first = shortest(rt, alloc, growth.case(subject, LEAST))?;
-    let mut last = first;
-    for number in SIZES {
-        let case = growth.case(subject, number);
-        last = shortest(rt, alloc, case)?;
-        show(rt, case, last)?;
-    }
-    let numbers = MOST as f64 / LEAST as f64;
-    let planned = exponent(numbers, first.planned, last.planned);
-    let run = exponent(numbers, first.run, last.run);
+fn show_powers<R: Print>(rt: &R, growth: Growth, first: Figures, last: Figures) -> Result<()> {
+    let name = growth.name();
+    let recorded = exponent(first.recorded, last.recorded);
+    let planned = exponent(first.planned, last.planned);
+    let run = exponent(first.run, last.run);
+    let both = exponent(first.planned + first.run, last.planned + last.run);
     println!(rt;
-        "grows with {}: planned {planned:.2}, run {run:.2}",
-        growth.name()
+        "grows with {name}: recorded {recorded:.2}, planned {planned:.2}, run {run:.2}, the last two together {both:.2}"
     )?;
     Ok(())
+}
+
+fn grown<R: Print + Clock>(rt: &R, alloc: Global, growth: Growth) -> Result<()> {
+    let first = shortest(rt, alloc, growth.case(LEAST))?;
+    let mut last = first;
+    for number in SIZES {
+        let case = growth.case(number);
+        last = shortest(rt, alloc, case)?;
+        show_times(rt, alloc, case, last)?;
+    }
+    show_powers(rt, growth, first, last)
 }
 
 /// Edits that grow, with the time of each.
 pub(crate) fn report_growth<R: Print + Clock>(rt: &R, alloc: Global) -> Result<()> {
     for subject in [Subject::Literals, Subject::Statements, Subject::Leaves] {
-        for growth in [Growth::Changes, Growth::Size, Growth::Both] {
-            grown(rt, alloc, subject, growth)?;
+        for growth in [
+            Growth::Changes(subject),
+            Growth::Size(subject),
+            Growth::Both(subject),
+        ] {
+            grown(rt, alloc, growth)?;
         }
     }
-    report_recorded(rt, alloc)
+    for growth in [Growth::Chains, Growth::Payloads, Growth::Depth] {
+        grown(rt, alloc, growth)?;
+    }
+    Ok(())
 }
 
 /// One small edit of each kind, without a time.
 pub(crate) fn report_edits<R: Print + Clock>(rt: &R, alloc: Global) -> Result<()> {
-    for subject in [Subject::Literals, Subject::Statements, Subject::Leaves] {
-        let case = Growth::Both.case(subject, LEAST);
+    for growth in [
+        Growth::Both(Subject::Literals),
+        Growth::Both(Subject::Statements),
+        Growth::Both(Subject::Leaves),
+        Growth::Chains,
+    ] {
+        let case = growth.case(LEAST);
         let figures = measured(rt, alloc, case)?;
+        let label = case.label(alloc)?;
         println!(rt;
-            "{}: {} parts, {} changed",
-            subject.name(),
-            case.size,
-            figures.changed
+            "{label}: {} changes, {} bytes",
+            figures.changes, figures.bytes
         )?;
     }
     Ok(())

@@ -2,8 +2,11 @@
 //! grow.
 #![tactic(auto)]
 
+mod case;
 mod edits;
 mod growth;
+mod nested;
+mod prepared;
 
 use crate::growth::{report_edits, report_growth};
 use anyhow::Result;

@@ -1,0 +1,73 @@
+//! What is edited, and by which changes.
+use crate::edits;
+use crate::nested::{self, Nest};
+use crate::prepared::Prepared;
+use anyhow::Result;
+use cst_core::TreeIds;
+use std::alloc::Global;
+
+/// Parts of a tree, at some of which there is a change.
+#[derive(Clone, Copy)]
+pub(crate) enum Subject {
+    /// Literals below one node, some of which are replaced.
+    Literals,
+    /// Statements below one node, behind some of which another one is inserted.
+    Statements,
+    /// A tree of nodes with eight children each, of which the leaves are replaced.
+    Leaves,
+}
+
+/// An edit.
+#[derive(Clone, Copy)]
+pub(crate) enum Case {
+    /// A change at one in so many parts of a tree of this size.
+    Spread {
+        subject: Subject,
+        size: usize,
+        step: usize,
+    },
+    /// Chains of blocks, each block wrapped and inserted into.
+    Nested(Nest),
+}
+
+impl Subject {
+    fn name(self) -> &'static str {
+        match self {
+            Subject::Literals => "literals, replaced",
+            Subject::Statements => "statements, inserts",
+            Subject::Leaves => "leaves of eight a node, replaced",
+        }
+    }
+}
+
+impl Case {
+    /// The tree, the payloads and the mapping, with an editor and the calls to be made.
+    pub(crate) fn prepared(self, alloc: Global, ids: &mut TreeIds) -> Result<Prepared> {
+        match self {
+            Case::Spread {
+                subject,
+                size,
+                step,
+            } => edits::prepared(alloc, ids, subject, size, step),
+            Case::Nested(nest) => nested::prepared(alloc, ids, nest),
+        }
+    }
+
+    /// How it is printed.
+    pub(crate) fn label(self, alloc: Global) -> Result<String> {
+        match self {
+            Case::Spread { subject, size, .. } => {
+                let name = subject.name();
+                Ok(format!(in alloc; "{name}, {size} parts")?)
+            }
+            Case::Nested(nest) => {
+                let Nest {
+                    chains,
+                    depth,
+                    wraps,
+                } = nest;
+                Ok(format!(in alloc; "blocks, wrapped {wraps} times, {chains} chains of {depth}")?)
+            }
+        }
+    }
+}

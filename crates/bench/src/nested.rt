@@ -1,0 +1,94 @@
+//! Chains of nested blocks, where each block is wrapped and inserted into.
+use crate::edits::leaf;
+use crate::prepared::{Call, Prepared, editor_with};
+use anyhow::{Context, Result};
+use cst_core::{GreenElement, GreenNode, GreenToken, SyntaxKind, SyntaxNode, TreeIds};
+use edit_map::{SyntaxMapping, SyntaxMappingBuilder};
+use std::alloc::Global;
+use syntax_editor::Position;
+
+/// Chains of so many blocks each, which stand side by side.
+#[derive(Clone, Copy)]
+pub(crate) struct Nest {
+    pub(crate) chains: usize,
+    pub(crate) depth: usize,
+    /// How many blocks the payload of each block has around the copy.
+    pub(crate) wraps: usize,
+}
+
+// Something in so many blocks.
+fn wrapped(alloc: Global, inner: GreenNode, times: usize) -> Result<GreenNode> {
+    let mut node = inner;
+    for _ in 0..times {
+        let mut children = Vec::new(alloc);
+        children.push(GreenElement::Token(GreenToken::new(alloc, SyntaxKind::L_CURLY, "{")?))?;
+        children.push(GreenElement::Node(node))?;
+        children.push(GreenElement::Token(GreenToken::new(alloc, SyntaxKind::R_CURLY, "}")?))?;
+        let list = GreenNode::new(alloc, SyntaxKind::STMT_LIST, children)?;
+        let mut lists = Vec::new(alloc);
+        lists.push(GreenElement::Node(list))?;
+        node = GreenNode::new(alloc, SyntaxKind::BLOCK_EXPR, lists)?;
+    }
+    Ok(node)
+}
+
+fn tree(alloc: Global, nest: Nest) -> Result<GreenNode> {
+    let mut children = Vec::new(alloc);
+    for _ in 0..nest.chains {
+        let chain = wrapped(alloc, leaf(alloc)?, nest.depth)?;
+        children.push(GreenElement::Node(chain))?;
+    }
+    Ok(GreenNode::new(alloc, SyntaxKind::SOURCE_FILE, children)?)
+}
+
+// What stands in so many blocks from this one on.
+fn inside(alloc: Global, block: &SyntaxNode, times: usize) -> Result<SyntaxNode> {
+    let mut path = Vec::new(alloc);
+    for _ in 0..times {
+        path.push(0)?;
+        path.push(1)?;
+    }
+    let inner = block.element_at(alloc, &path)?.context("no block")?;
+    inner.into_node().context("no node")
+}
+
+// A payload that wraps a block, of which the mapping knows the copy.
+fn payload(
+    alloc: Global,
+    ids: &mut TreeIds,
+    block: &SyntaxNode,
+    wraps: usize,
+    mapping: &mut SyntaxMapping,
+) -> Result<SyntaxNode> {
+    let green = wrapped(alloc, block.green(alloc)?, wraps)?;
+    let payload = SyntaxNode::new_root(alloc, ids, green)?;
+    let copy = inside(alloc, &payload, wraps)?;
+    let parent = copy.parent(alloc)?.context("no parent")?;
+    let mut builder = SyntaxMappingBuilder::new(alloc, parent);
+    builder.map_node(alloc, block.try_clone(alloc)?, copy)?;
+    builder.finish(alloc, mapping)?;
+    Ok(payload)
+}
+
+// An insert behind what stands in a block.
+fn insert(alloc: Global, ids: &mut TreeIds, block: &SyntaxNode) -> Result<Call> {
+    let position = Position::after(alloc, inside(alloc, block, 1)?)?.context("no parent")?;
+    let new = SyntaxNode::new_root(alloc, ids, leaf(alloc)?)?;
+    Ok(Call::Insert(position, new))
+}
+
+/// Each block replaced by one that wraps it, and an insert into each.
+pub(crate) fn prepared(alloc: Global, ids: &mut TreeIds, nest: Nest) -> Result<Prepared> {
+    let root = SyntaxNode::new_root(alloc, ids, tree(alloc, nest)?)?;
+    let mut calls = Vec::new(alloc);
+    let mut mapping = SyntaxMapping::new(alloc);
+    for block in root.descendants(alloc)? {
+        if block.kind() == SyntaxKind::BLOCK_EXPR {
+            let payload = payload(alloc, ids, &block, nest.wraps, &mut mapping)?;
+            calls.push(insert(alloc, ids, &block)?)?;
+            calls.push(Call::Replace(block, payload))?;
+        }
+    }
+    let editor = editor_with(alloc, ids, root, mapping)?;
+    Ok(Prepared { editor, calls })
+}
