@@ -43,7 +43,8 @@ impl EditPlan {
     /// A plan of these changes of the tree with this root, where the mapping tells which node is the copy of which.
     ///
     /// `Intersecting` comes first, then `MissingMapping`; `Memory` may come at any time. Nothing is handed back then. Takes time
-    /// near linear in the changes times their depth, the elements of ranges, and what the way up to a place takes for each owner.
+    /// near linear in the changes: for each one, the slots of all paths on the way to it, and the elements of its range; and for
+    /// each owner the way up from its target to its payload.
     pub fn build(
         alloc: Global,
         root: SyntaxNode,
