@@ -3,11 +3,9 @@
 #![tactic(auto)]
 
 mod calls;
-mod each_call;
 mod rows;
 
 use crate::calls::{answer_of, finish_spent};
-use crate::each_call::{CALLS, answer_to};
 use crate::rows::ROWS;
 use anyhow::Result;
 
@@ -19,9 +17,5 @@ fn main(rt: HostRuntime) -> Result<()> {
     }
     let answer = finish_spent(alloc)?;
     println!(rt; "no change, no number left: {answer}")?;
-    for call in CALLS {
-        let answer = answer_to(alloc, *call)?;
-        println!(rt; "{}: {answer}", call.name())?;
-    }
     Ok(())
 }
