@@ -1,5 +1,5 @@
 use crate::piece::{Piece, print_tree};
-use crate::rewriter::Rewriter;
+use crate::rewriter::rewritten;
 use anyhow::Result;
 use cst_core::{GreenElementRef, TreeIds};
 use std::alloc::{AllocError, Global};
@@ -36,7 +36,7 @@ impl Answer {
     // What was made by the editor.
     fn of_edit(alloc: Global, edit: &SyntaxEdit) -> Result<Answer> {
         let root = GreenElementRef::Node(edit.new_root().as_green());
-        let pieces = Rewriter::new(alloc, &[], false).rewritten(root)?;
+        let pieces = rewritten(alloc, root, &[], false)?;
         let mut changed = Vec::new(alloc);
         for element in edit.changed_elements() {
             changed.push(element.path(alloc)?)?;

@@ -3,7 +3,7 @@
 use crate::fate::Fate;
 use crate::piece::{Piece, share_pieces};
 use crate::planned::Planned;
-use crate::rewriter::{Brought, Rewriter};
+use crate::rewriter::{Brought, rewritten};
 use anyhow::{Context, Result};
 use cst_core::SyntaxElement;
 use std::alloc::Global;
@@ -19,8 +19,7 @@ fn push_rewritten(
     brought: &[Brought<'_>],
     is_brought: bool,
 ) -> Result<()> {
-    let rewriter = Rewriter::new(alloc, brought, is_brought);
-    let pieces = rewriter.rewritten(element.as_green())?;
+    let pieces = rewritten(alloc, element.as_green(), brought, is_brought)?;
     share_pieces(alloc, out, &pieces)?;
     Ok(())
 }

@@ -6,13 +6,13 @@ use crate::fate::{Fate, fates, first_lost};
 use crate::given::{given, staying};
 use crate::piece::Piece;
 use crate::planned::{Planned, clash, plan};
-use crate::rewriter::Rewriter;
+use crate::rewriter::rewritten;
 use anyhow::Result;
 use cst_core::{GreenElementRef, SyntaxNode};
 use std::alloc::Global;
 use syntax_editor::{Change, SyntaxMapping};
 
-fn rewritten(
+fn new_tree(
     alloc: Global,
     root: &SyntaxNode,
     planned: &[Planned],
@@ -20,8 +20,8 @@ fn rewritten(
 ) -> Result<Vec<Piece>> {
     let given = given(alloc, planned, fates)?;
     let brought = staying(alloc, planned, fates, &given)?;
-    let rewriter = Rewriter::new(alloc, &brought, false);
-    Ok(rewriter.rewritten(GreenElementRef::Node(root.as_green()))?)
+    let root = GreenElementRef::Node(root.as_green());
+    Ok(rewritten(alloc, root, &brought, false)?)
 }
 
 /// What comes of changes of the tree with this root.
@@ -39,7 +39,7 @@ pub fn model_answer(
     if let Some((change, owner)) = first_lost(&fates) {
         return Ok(Answer::MissingMapping { change, owner });
     }
-    let pieces = rewritten(alloc, root, &planned, &fates)?;
+    let pieces = new_tree(alloc, root, &planned, &fates)?;
     let changed = changed_paths(alloc, &pieces)?;
     Answer::made(alloc, &pieces, &changed)
 }

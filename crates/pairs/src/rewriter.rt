@@ -13,7 +13,7 @@ pub struct Brought<'a> {
 /// Rewrites a tree by what changes bring, listed as they were recorded. Each list of children is written anew: the first gap, the
 /// slot 0, the gap behind it, and so on to the last gap.
 #[derive(Drop)]
-pub struct Rewriter<'a> {
+struct Rewriter<'a> {
     alloc: Global,
     brought: &'a [Brought<'a>],
     // Whether a change without an owner brought the tree itself.
@@ -24,7 +24,7 @@ pub struct Rewriter<'a> {
 }
 
 impl<'a> Rewriter<'a> {
-    pub fn new(alloc: Global, brought: &'a [Brought<'a>], is_brought: bool) -> Rewriter<'a> {
+    fn new(alloc: Global, brought: &'a [Brought<'a>], is_brought: bool) -> Rewriter<'a> {
         Rewriter {
             alloc,
             brought,
@@ -97,14 +97,25 @@ impl<'a> Rewriter<'a> {
         Ok(())
     }
 
-    /// The pieces of the new tree.
-    pub fn rewritten(mut self, element: GreenElementRef<'_>) -> Result<Vec<Piece>, AllocError> {
-        if !self.push_replacement()? {
-            match element {
-                GreenElementRef::Node(node) => self.push_node(node)?,
-                GreenElementRef::Token(token) => self.push_token(token)?,
-            }
+    fn push_element(&mut self, element: GreenElementRef<'_>) -> Result<(), AllocError> {
+        if self.push_replacement()? {
+            return Ok(());
         }
-        Ok(self.out)
+        match element {
+            GreenElementRef::Node(node) => self.push_node(node),
+            GreenElementRef::Token(token) => self.push_token(token),
+        }
     }
+}
+
+/// The pieces of the tree that what changes bring makes of a tree.
+pub fn rewritten(
+    alloc: Global,
+    element: GreenElementRef<'_>,
+    brought: &[Brought<'_>],
+    is_brought: bool,
+) -> Result<Vec<Piece>, AllocError> {
+    let mut rewriter = Rewriter::new(alloc, brought, is_brought);
+    rewriter.push_element(element)?;
+    Ok(rewriter.out)
 }

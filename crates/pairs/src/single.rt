@@ -65,10 +65,8 @@ fn push_forms(
 }
 
 fn push_ranges(alloc: Global, out: &mut Vec<Single>, siblings: &[SyntaxElement]) -> Result<()> {
-    for (slot, last) in siblings.iter().enumerate() {
-        for first in siblings.iter().take(slot) {
-            push_forms(alloc, out, &OF_RANGE, first, last)?;
-        }
+    for (first, last) in siblings.iter().zip(siblings.iter().skip(1)) {
+        push_forms(alloc, out, &OF_RANGE, first, last)?;
     }
     Ok(())
 }
