@@ -6,7 +6,7 @@ use crate::planned::Planned;
 use crate::rewriter::{Brought, rewritten};
 use anyhow::{Context, Result};
 use cst_core::SyntaxElement;
-use std::alloc::Global;
+use std::alloc::{AllocError, Global};
 use syntax_editor::Change;
 
 // The pieces of each change, by its number.
@@ -16,31 +16,22 @@ fn push_rewritten(
     alloc: Global,
     out: &mut Vec<Piece>,
     element: &SyntaxElement,
-    brought: &[Brought<'_>],
     is_brought: bool,
-) -> Result<()> {
-    let pieces = rewritten(alloc, element.as_green(), brought, is_brought)?;
-    share_pieces(alloc, out, &pieces)?;
-    Ok(())
+) -> Result<(), AllocError> {
+    let pieces = rewritten(alloc, element.as_green(), &[], is_brought)?;
+    share_pieces(alloc, out, &pieces)
 }
 
 // Elements that no change moves into.
-fn listed(alloc: Global, elements: &[SyntaxElement], is_brought: bool) -> Result<Vec<Piece>> {
+fn listed(
+    alloc: Global,
+    elements: &[SyntaxElement],
+    is_brought: bool,
+) -> Result<Vec<Piece>, AllocError> {
     let mut out = Vec::new(alloc);
     for element in elements {
-        push_rewritten(alloc, &mut out, element, &[], is_brought)?;
+        push_rewritten(alloc, &mut out, element, is_brought)?;
     }
-    Ok(out)
-}
-
-fn single(
-    alloc: Global,
-    element: &SyntaxElement,
-    brought: &[Brought<'_>],
-    is_brought: bool,
-) -> Result<Vec<Piece>> {
-    let mut out = Vec::new(alloc);
-    push_rewritten(alloc, &mut out, element, brought, is_brought)?;
     Ok(out)
 }
 
@@ -50,11 +41,16 @@ fn payload(
     change: &Change,
     brought: &[Brought<'_>],
     is_brought: bool,
-) -> Result<Vec<Piece>> {
+) -> Result<Vec<Piece>, AllocError> {
     match change {
-        Change::Insert(_, element) => single(alloc, element, brought, is_brought),
+        Change::Insert(_, element) => rewritten(alloc, element.as_green(), brought, is_brought),
         Change::InsertAll(_, list) => listed(alloc, list.as_slice(), is_brought),
-        Change::Replace(_, Some(element)) => single(alloc, element, brought, is_brought),
+        Change::Replace(_, Some(element)) => rewritten(
+            alloc,
+            element.as_green(),
+            brought,
+            is_brought,
+        ),
         Change::Replace(_, None) => Ok(Vec::new(alloc)),
         Change::ReplaceWithMany(_, list) => listed(alloc, list.as_slice(), is_brought),
         Change::ReplaceAll(_, _, list) => listed(alloc, list.as_slice(), is_brought),
@@ -67,7 +63,7 @@ pub fn staying<'a>(
     planned: &'a [Planned<'a>],
     fates: &'a [Fate],
     given: &'a [Vec<Piece>],
-) -> Result<Vec<Brought<'a>>> {
+) -> Result<Vec<Brought<'a>>, AllocError> {
     let mut all = Vec::new(alloc);
     for ((own, fate), pieces) in planned.iter().zip(fates.iter()).zip(given.iter()) {
         if let Fate::Stays = fate {
@@ -86,7 +82,7 @@ fn moving<'a>(
     number: usize,
     fates: &'a [Fate],
     given: &'a [Vec<Piece>],
-) -> Result<Vec<Brought<'a>>> {
+) -> Result<Vec<Brought<'a>>, AllocError> {
     let mut all = Vec::new(alloc);
     for (fate, pieces) in fates.iter().zip(given.iter()) {
         match fate {

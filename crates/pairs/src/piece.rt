@@ -35,8 +35,8 @@ impl Piece {
             }
             Piece::Token { token, .. } => {
                 let number = token.kind().0;
-                write!(out, " {number}")?;
-                out.push_str(token.text())
+                let text = token.text();
+                write!(out, " {number}\"{text}\"")
             }
             Piece::Close => out.push(')'),
         }
