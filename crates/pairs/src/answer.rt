@@ -1,7 +1,7 @@
 use crate::piece::{Piece, print_tree};
 use crate::rewriter::rewritten;
 use anyhow::Result;
-use cst_core::{GreenElementRef, TreeIds};
+use cst_core::{GreenElementRef, SyntaxElement, TreeIds};
 use std::alloc::{AllocError, Global};
 use std::fmt::{self, Display, Formatter, Write};
 use syntax_editor::{EditError, SyntaxEdit, SyntaxEditor};
@@ -23,7 +23,11 @@ fn print_path(out: &mut String, path: &[usize]) -> Result<(), AllocError> {
 }
 
 impl Answer {
-    pub fn made(alloc: Global, pieces: &[Piece], changed: &[Vec<usize>]) -> Result<Answer> {
+    pub fn made(
+        alloc: Global,
+        pieces: &[Piece],
+        changed: &[Vec<usize>],
+    ) -> Result<Answer, AllocError> {
         let mut out = String::new(alloc);
         print_tree(&mut out, pieces)?;
         out.push_str(" changed")?;
@@ -34,15 +38,20 @@ impl Answer {
     }
 
     // What was made by the editor.
-    fn of_edit(alloc: Global, edit: &SyntaxEdit) -> Result<Answer> {
+    fn of_edit(alloc: Global, edit: &SyntaxEdit) -> Result<Answer, AllocError> {
         let root = GreenElementRef::Node(edit.new_root().as_green());
         let pieces = rewritten(alloc, root, &[], false)?;
-        let mut changed = Vec::new(alloc);
-        for element in edit.changed_elements() {
-            changed.push(element.path(alloc)?)?;
-        }
+        let changed = paths_of(alloc, edit.changed_elements())?;
         Answer::made(alloc, &pieces, &changed)
     }
+}
+
+fn paths_of(alloc: Global, elements: &[SyntaxElement]) -> Result<Vec<Vec<usize>>, AllocError> {
+    let mut paths = Vec::new(alloc);
+    for element in elements {
+        paths.push(element.path(alloc)?)?;
+    }
+    Ok(paths)
 }
 
 impl Display for Answer {
@@ -61,7 +70,7 @@ impl Display for Answer {
 /// What the editor answers.
 pub fn editor_answer(alloc: Global, ids: &mut TreeIds, editor: SyntaxEditor) -> Result<Answer> {
     match editor.finish(alloc, ids) {
-        Ok(edit) => Answer::of_edit(alloc, &edit),
+        Ok(edit) => Ok(Answer::of_edit(alloc, &edit)?),
         Err(EditError::Intersecting { first, second }) => {
             Ok(Answer::Intersecting { first, second })
         }

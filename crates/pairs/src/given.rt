@@ -4,7 +4,6 @@ use crate::fate::Fate;
 use crate::piece::{Piece, share_pieces};
 use crate::planned::Planned;
 use crate::rewriter::{Brought, rewritten};
-use anyhow::{Context, Result};
 use cst_core::SyntaxElement;
 use std::alloc::{AllocError, Global};
 use syntax_editor::Change;
@@ -96,26 +95,35 @@ fn moving<'a>(
     Ok(all)
 }
 
-// What each change brings, where what moves into it is as in `given`.
+// What one change brings, where what moves into it is as in `given`.
+fn next_of(
+    alloc: Global,
+    number: usize,
+    own: &Planned,
+    fates: &[Fate],
+    given: &[Vec<Piece>],
+) -> Result<Vec<Piece>, AllocError> {
+    let is_brought = matches!(fates.get(number), Some(Fate::Stays));
+    let brought = moving(alloc, number, fates, given)?;
+    payload(alloc, own.change, &brought, is_brought)
+}
+
 fn next_given(
     alloc: Global,
     planned: &[Planned],
     fates: &[Fate],
     given: &[Vec<Piece>],
-) -> Result<Given> {
+) -> Result<Given, AllocError> {
     let mut next = Vec::new(alloc);
     for (number, own) in planned.iter().enumerate() {
-        let brought = moving(alloc, number, fates, given)?;
-        let fate = fates.get(number).context("no such change")?;
-        let is_brought = matches!(fate, Fate::Stays);
-        next.push(payload(alloc, own.change, &brought, is_brought)?)?;
+        next.push(next_of(alloc, number, own, fates, given)?)?;
     }
     Ok(next)
 }
 
 /// What each change brings. A change that moves is deeper than its owner, so what the first round makes of the deepest changes is
 /// final, and each further round settles one more level.
-pub fn given(alloc: Global, planned: &[Planned], fates: &[Fate]) -> Result<Given> {
+pub fn given(alloc: Global, planned: &[Planned], fates: &[Fate]) -> Result<Given, AllocError> {
     let mut given = Vec::new(alloc);
     for _ in planned {
         given = next_given(alloc, planned, fates, &given)?;

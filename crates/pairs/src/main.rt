@@ -18,42 +18,66 @@ mod trees;
 mod trial;
 
 use crate::report::Report;
-use crate::scenario::{SCENARIOS, Scenario};
+use crate::scenario::SCENARIOS;
 use crate::single::{Single, singles};
 use crate::trees::Trees;
 use crate::trial::Trial;
 use anyhow::Result;
+use cst_core::TreeIds;
+use std::alloc::Global;
 use std::process::ExitCode;
 
-fn try_scenario<R: Print>(
+// Every pair of one scenario.
+fn try_pairs<R: Print>(
     rt: &R,
-    trial: &mut Trial,
+    ids: &mut TreeIds,
+    trial: &Trial,
     singles: &[Single],
     report: &mut Report,
 ) -> Result<()> {
     for (first, before) in singles.iter().enumerate() {
         for (second, behind) in singles.iter().enumerate() {
-            let answers = trial.answers(before, behind)?;
+            let answers = trial.answers(ids, before, behind)?;
             report.note(rt, first, second, &answers)?;
         }
     }
     Ok(())
 }
 
-fn main(rt: HostRuntime) -> Result<ExitCode> {
-    let alloc = rt.alloc();
-    let trees = Trees::new(alloc)?;
-    let singles = singles(alloc, &trees.root)?;
-    let mut trial = Trial::new(alloc, trees);
+// Whether both engines agree on every pair of one scenario.
+fn agrees<R: Print>(rt: &R, ids: &mut TreeIds, trial: &Trial, singles: &[Single]) -> Result<bool> {
+    let mut report = Report::new();
+    try_pairs(rt, ids, trial, singles, &mut report)?;
+    report.close(rt, trial.scenario.name())?;
+    Ok(report.all_agree())
+}
+
+fn all_agree<R: Print>(
+    rt: &R,
+    ids: &mut TreeIds,
+    trial: &mut Trial,
+    singles: &[Single],
+) -> Result<bool> {
     let mut all_agree = true;
     for scenario in SCENARIOS {
-        let mut report = Report::new();
         trial.scenario = scenario;
-        try_scenario(&rt, &mut trial, &singles, &mut report)?;
-        report.close(&rt, scenario.name())?;
-        all_agree = all_agree && report.all_agree();
+        all_agree = agrees(rt, ids, trial, singles)? && all_agree;
     }
-    if all_agree {
+    Ok(all_agree)
+}
+
+// Whether both engines agree on every pair.
+fn compared<R: Print>(rt: &R, alloc: Global) -> Result<bool> {
+    let mut ids = TreeIds::new(1);
+    let trees = Trees::new(alloc, &mut ids)?;
+    let singles = singles(alloc, &trees.root)?;
+    let mut trial = Trial::new(alloc, trees)?;
+    all_agree(rt, &mut ids, &mut trial, &singles)
+}
+
+fn main(rt: HostRuntime) -> Result<ExitCode> {
+    let alloc = rt.alloc();
+    if compared(&rt, alloc)? {
         Ok(ExitCode::SUCCESS)
     } else {
         Ok(ExitCode::FAILURE)

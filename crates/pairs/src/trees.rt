@@ -49,33 +49,63 @@ impl Payload {
     }
 }
 
-/// The trees of all pairs.
+/// Nodes that have copies of others.
 #[derive(Drop)]
-pub struct Trees {
-    pub ids: TreeIds,
-    pub root: SyntaxNode,
+pub struct Copies {
     pub around_literal: SyntaxNode,
     pub around_root: SyntaxNode,
+}
+
+impl Copies {
+    fn new(alloc: Global, ids: &mut TreeIds) -> Result<Copies> {
+        let around_literal = Source::AroundLiteral.root(alloc, ids)?;
+        let around_root = Source::AroundRoot.root(alloc, ids)?;
+        Ok(Copies {
+            around_literal,
+            around_root,
+        })
+    }
+}
+
+/// What the first change of a pair brings, and what the second one does.
+#[derive(Drop)]
+pub struct Payloads {
     pub first: Payload,
     pub second: Payload,
 }
 
+impl Payloads {
+    fn new(alloc: Global, ids: &mut TreeIds) -> Result<Payloads> {
+        let first = Payload::new(alloc, ids, Source::FirstPayload)?;
+        let second = Payload::new(alloc, ids, Source::SecondPayload)?;
+        Ok(Payloads { first, second })
+    }
+}
+
+/// The trees of all pairs.
+#[derive(Drop)]
+pub struct Trees {
+    pub root: SyntaxNode,
+    pub copies: Copies,
+    pub payloads: Payloads,
+}
+
 impl Trees {
-    pub fn new(alloc: Global) -> Result<Trees> {
-        let mut ids = TreeIds::new(1);
-        let root = SyntaxNode::new_root(alloc, &mut ids, row(alloc, "L")?)?;
-        let around_literal = Source::AroundLiteral.root(alloc, &mut ids)?;
-        let around_root = Source::AroundRoot.root(alloc, &mut ids)?;
-        let first = Payload::new(alloc, &mut ids, Source::FirstPayload)?;
-        let second = Payload::new(alloc, &mut ids, Source::SecondPayload)?;
+    pub fn new(alloc: Global, ids: &mut TreeIds) -> Result<Trees> {
+        let root = SyntaxNode::new_root(alloc, ids, row(alloc, "L")?)?;
+        let copies = Copies::new(alloc, ids)?;
+        let payloads = Payloads::new(alloc, ids)?;
         Ok(Trees {
-            ids,
             root,
-            around_literal,
-            around_root,
-            first,
-            second,
+            copies,
+            payloads,
         })
+    }
+
+    // The copy of the literal is noted.
+    fn add_literal(&self, alloc: Global, mapping: &mut SyntaxMapping) -> Result<()> {
+        let literal = self.literal(alloc)?;
+        add_copy(alloc, mapping, &literal, &self.copies.around_literal)
     }
 
     /// The literal that `around_literal` has a copy of.
@@ -86,9 +116,8 @@ impl Trees {
     /// Which node is the copy of which one.
     pub fn mapping(&self, alloc: Global) -> Result<SyntaxMapping> {
         let mut mapping = SyntaxMapping::new(alloc);
-        let literal = self.literal(alloc)?;
-        add_copy(alloc, &mut mapping, &literal, &self.around_literal)?;
-        add_copy(alloc, &mut mapping, &self.root, &self.around_root)?;
+        self.add_literal(alloc, &mut mapping)?;
+        add_copy(alloc, &mut mapping, &self.root, &self.copies.around_root)?;
         Ok(mapping)
     }
 }
@@ -105,8 +134,27 @@ fn add_copy(
     node: &SyntaxNode,
     around: &SyntaxNode,
 ) -> Result<()> {
-    let mut builder = SyntaxMappingBuilder::new(alloc, around.try_clone(alloc)?);
-    builder.map_node(alloc, node.try_clone(alloc)?, node_at(alloc, around, 1)?)?;
+    let builder = builder_of(alloc, node, around)?;
     builder.finish(alloc, mapping)?;
     Ok(())
+}
+
+fn builder_of(
+    alloc: Global,
+    node: &SyntaxNode,
+    around: &SyntaxNode,
+) -> Result<SyntaxMappingBuilder> {
+    let mut builder = SyntaxMappingBuilder::new(alloc, around.try_clone(alloc)?);
+    note_copy(alloc, &mut builder, node, around)?;
+    Ok(builder)
+}
+
+fn note_copy(
+    alloc: Global,
+    builder: &mut SyntaxMappingBuilder,
+    node: &SyntaxNode,
+    around: &SyntaxNode,
+) -> Result<()> {
+    let copy = node_at(alloc, around, 1)?;
+    Ok(builder.map_node(alloc, node.try_clone(alloc)?, copy)?)
 }

@@ -4,8 +4,9 @@ use crate::scenario::Scenario;
 use crate::single::Single;
 use crate::trees::Trees;
 use anyhow::{Context, Result};
+use cst_core::TreeIds;
 use std::alloc::Global;
-use syntax_editor::SyntaxEditor;
+use syntax_editor::{SyntaxEditor, SyntaxMapping};
 
 /// What the two engines answer.
 #[derive(Drop)]
@@ -19,35 +20,42 @@ pub struct Answers {
 pub struct Trial {
     alloc: Global,
     trees: Trees,
+    mapping: SyntaxMapping,
     pub scenario: Scenario,
 }
 
+// The mapping goes to the end of that of the editor.
+fn take_mapping(alloc: Global, editor: &mut SyntaxEditor, mapping: &SyntaxMapping) -> Result<()> {
+    let mapping = mapping.try_clone(alloc)?;
+    let mappings = editor.make_mut().mappings().context("no mappings")?;
+    Ok(mappings.merge(alloc, mapping)?)
+}
+
 impl Trial {
-    pub fn new(alloc: Global, trees: Trees) -> Trial {
-        Trial {
+    pub fn new(alloc: Global, trees: Trees) -> Result<Trial> {
+        let mapping = trees.mapping(alloc)?;
+        Ok(Trial {
             alloc,
             trees,
+            mapping,
             scenario: Scenario::Pair,
-        }
+        })
     }
 
-    // An editor of the tree, with the mapping.
-    fn editor(&mut self) -> Result<SyntaxEditor> {
+    // An editor of the tree.
+    fn editor(&self, ids: &mut TreeIds) -> Result<SyntaxEditor> {
         let root = self.trees.root.try_clone(self.alloc)?;
-        let (mut editor, _) = SyntaxEditor::new(self.alloc, &mut self.trees.ids, root)?;
-        let mapping = self.trees.mapping(self.alloc)?;
-        let mappings = editor.make_mut().mappings().context("no mappings")?;
-        mappings.merge(self.alloc, mapping)?;
+        let (editor, _) = SyntaxEditor::new(self.alloc, ids, root)?;
         Ok(editor)
     }
 
     fn replace_literal(&self, editor: &mut SyntaxEditor) -> Result<()> {
         let literal = self.trees.literal(self.alloc)?;
-        Ok(editor.replace(self.alloc, literal, &self.trees.around_literal)?)
+        Ok(editor.replace(self.alloc, literal, &self.trees.copies.around_literal)?)
     }
 
     fn replace_root(&self, editor: &mut SyntaxEditor) -> Result<()> {
-        Ok(editor.replace(self.alloc, &self.trees.root, &self.trees.around_root)?)
+        Ok(editor.replace(self.alloc, &self.trees.root, &self.trees.copies.around_root)?)
     }
 
     fn record_between(&self, editor: &mut SyntaxEditor) -> Result<()> {
@@ -61,15 +69,32 @@ impl Trial {
         }
     }
 
-    /// What comes of two changes, recorded in this order.
-    pub fn answers(&mut self, before: &Single, behind: &Single) -> Result<Answers> {
-        let mut editor = self.editor()?;
-        before.record(self.alloc, &mut editor, &self.trees.first)?;
-        self.record_between(&mut editor)?;
-        behind.record(self.alloc, &mut editor, &self.trees.second)?;
-        let mapping = self.trees.mapping(self.alloc)?;
-        let model = model_answer(self.alloc, &self.trees.root, editor.changes(), &mapping)?;
-        let editor = editor_answer(self.alloc, &mut self.trees.ids, editor)?;
+    fn record(&self, editor: &mut SyntaxEditor, before: &Single, behind: &Single) -> Result<()> {
+        take_mapping(self.alloc, editor, &self.mapping)?;
+        before.record(self.alloc, editor, &self.trees.payloads.first)?;
+        self.record_between(editor)?;
+        behind.record(self.alloc, editor, &self.trees.payloads.second)
+    }
+
+    fn model_answer(&self, editor: &SyntaxEditor) -> Result<Answer> {
+        model_answer(
+            self.alloc,
+            &self.trees.root,
+            editor.changes(),
+            &self.mapping,
+        )
+    }
+
+    fn answers_of(&self, ids: &mut TreeIds, editor: SyntaxEditor) -> Result<Answers> {
+        let model = self.model_answer(&editor)?;
+        let editor = editor_answer(self.alloc, ids, editor)?;
         Ok(Answers { editor, model })
+    }
+
+    /// What comes of two changes, recorded in this order.
+    pub fn answers(&self, ids: &mut TreeIds, before: &Single, behind: &Single) -> Result<Answers> {
+        let mut editor = self.editor(ids)?;
+        self.record(&mut editor, before, behind)?;
+        self.answers_of(ids, editor)
     }
 }
