@@ -66,18 +66,26 @@ fn all_agree<R: Print>(
     Ok(all_agree)
 }
 
+fn compared<R: Print>(rt: &R, alloc: Global, ids: &mut TreeIds, trial: &mut Trial) -> Result<bool> {
+    let singles = singles(alloc, trial.root())?;
+    all_agree(rt, ids, trial, &singles)
+}
+
+fn new_trial(alloc: Global, ids: &mut TreeIds) -> Result<Trial> {
+    let trees = Trees::new(alloc, ids)?;
+    Trial::new(alloc, trees)
+}
+
 // Whether both engines agree on every pair.
-fn compared<R: Print>(rt: &R, alloc: Global) -> Result<bool> {
+fn agree<R: Print>(rt: &R, alloc: Global) -> Result<bool> {
     let mut ids = TreeIds::new(1);
-    let trees = Trees::new(alloc, &mut ids)?;
-    let singles = singles(alloc, &trees.root)?;
-    let mut trial = Trial::new(alloc, trees)?;
-    all_agree(rt, &mut ids, &mut trial, &singles)
+    let mut trial = new_trial(alloc, &mut ids)?;
+    compared(rt, alloc, &mut ids, &mut trial)
 }
 
 fn main(rt: HostRuntime) -> Result<ExitCode> {
     let alloc = rt.alloc();
-    if compared(&rt, alloc)? {
+    if agree(&rt, alloc)? {
         Ok(ExitCode::SUCCESS)
     } else {
         Ok(ExitCode::FAILURE)

@@ -4,7 +4,7 @@ use crate::scenario::Scenario;
 use crate::single::Single;
 use crate::trees::Trees;
 use anyhow::{Context, Result};
-use cst_core::TreeIds;
+use cst_core::{SyntaxNode, TreeIds};
 use std::alloc::Global;
 use syntax_editor::{SyntaxEditor, SyntaxMapping};
 
@@ -40,6 +40,11 @@ impl Trial {
             mapping,
             scenario: Scenario::Pair,
         })
+    }
+
+    /// The root of the tree that is edited.
+    pub fn root(&self) -> &SyntaxNode {
+        &self.trees.root
     }
 
     // An editor of the tree.
