@@ -16,6 +16,7 @@ mod Fates
 mod Walk
 mod Carried
 mod Moved
+mod Levels
 mod Nested
 mod Placed
 mod GapRule
