@@ -1,0 +1,82 @@
+use crate::piece::{Piece, print_tree};
+use crate::rewriter::rewritten;
+use anyhow::Result;
+use cst_core::{GreenElementRef, SyntaxElement, TreeIds};
+use std::alloc::{AllocError, Global};
+use std::fmt::{self, Display, Formatter, Write};
+use syntax_editor::{EditError, SyntaxEdit, SyntaxEditor};
+
+/// What comes of changes: a refusal, or the new tree with the changed paths, as they are printed.
+#[derive(PartialEq, Eq, Drop)]
+pub enum Answer {
+    Intersecting { first: usize, second: usize },
+    MissingMapping { change: usize, owner: usize },
+    Made(String),
+}
+
+fn print_path(out: &mut String, path: &[usize]) -> Result<(), AllocError> {
+    out.push_str(" .")?;
+    for slot in path {
+        write!(out, "/{slot}")?;
+    }
+    Ok(())
+}
+
+impl Answer {
+    pub fn made(
+        alloc: Global,
+        pieces: &[Piece],
+        changed: &[Vec<usize>],
+    ) -> Result<Answer, AllocError> {
+        let mut out = String::new(alloc);
+        print_tree(&mut out, pieces)?;
+        out.push_str(" changed")?;
+        for path in changed {
+            print_path(&mut out, path.as_slice())?;
+        }
+        Ok(Answer::Made(out))
+    }
+
+    // What was made by the editor.
+    fn of_edit(alloc: Global, edit: &SyntaxEdit) -> Result<Answer, AllocError> {
+        let root = GreenElementRef::Node(edit.new_root().as_green());
+        let pieces = rewritten(alloc, root, &[], false)?;
+        let changed = paths_of(alloc, edit.changed_elements())?;
+        Answer::made(alloc, &pieces, &changed)
+    }
+}
+
+fn paths_of(alloc: Global, elements: &[SyntaxElement]) -> Result<Vec<Vec<usize>>, AllocError> {
+    let mut paths = Vec::new(alloc);
+    for element in elements {
+        paths.push(element.path(alloc)?)?;
+    }
+    Ok(paths)
+}
+
+impl Display for Answer {
+    fn fmt<W: Write>(&self, f: &mut Formatter<W>) -> Result<(), fmt::Error> {
+        match self {
+            Answer::Intersecting { first, second } => write!(f, "Intersecting {first} {second}"),
+            Answer::MissingMapping { change, owner } => write!(
+                f,
+                "MissingMapping {change} {owner}"
+            ),
+            Answer::Made(text) => write!(f, "{text}"),
+        }
+    }
+}
+
+/// What the editor answers.
+pub fn editor_answer(alloc: Global, ids: &mut TreeIds, editor: SyntaxEditor) -> Result<Answer> {
+    match editor.finish(alloc, ids) {
+        Ok(edit) => Ok(Answer::of_edit(alloc, &edit)?),
+        Err(EditError::Intersecting { first, second }) => {
+            Ok(Answer::Intersecting { first, second })
+        }
+        Err(EditError::MissingMapping { change, owner }) => {
+            Ok(Answer::MissingMapping { change, owner })
+        }
+        Err(refusal) => Err(refusal.into()),
+    }
+}
