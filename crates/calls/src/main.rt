@@ -37,8 +37,8 @@ fn print_odd<R: Print>(rt: &R, alloc: Global) -> Result<()> {
     println!(rt; "a list for the root: {dropped}")?;
     let colliding = colliding(alloc)?;
     println!(rt; "trees of one number: {colliding}")?;
-    let fitting = fitting(alloc)?;
-    println!(rt; "a change of another tree: {fitting}")?;
+    let (own, other) = fitting(alloc)?;
+    println!(rt; "a change fits its own tree: {own}, another one: {other}")?;
     Ok(())
 }
 

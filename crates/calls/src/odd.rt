@@ -84,23 +84,25 @@ pub fn colliding(alloc: Global) -> Result<String> {
     Ok(root.text(alloc)?)
 }
 
-// Whether the first change that an editor records fits another tree.
-fn fits(editor: &SyntaxEditor, root: &SyntaxNode) -> Result<bool> {
+// Whether the first change that an editor records fits a tree.
+fn fits(alloc: Global, editor: &SyntaxEditor, root: &SyntaxNode) -> Result<bool> {
+    let root = root.tree_top(alloc)?;
     let change = editor.changes().first().context("no change")?;
-    Ok(change.fits(root))
+    Ok(change.fits(&root))
 }
 
-fn fits_each(editor: &SyntaxEditor, own: &SyntaxNode, other: &SyntaxNode) -> Result<(bool, bool)> {
-    Ok((fits(editor, own)?, fits(editor, other)?))
+// An editor with one deletion.
+fn deleting(alloc: Global, ids: &mut TreeIds, root: &SyntaxNode) -> Result<SyntaxEditor> {
+    let mut editor = editor_of(alloc, ids, root)?;
+    editor.delete(alloc, child(alloc, root, 1)?)?;
+    Ok(editor)
 }
 
 /// Whether a change fits the tree that it was recorded against, and an equal one of another number.
-pub fn fitting(alloc: Global) -> Result<String> {
+pub fn fitting(alloc: Global) -> Result<(bool, bool)> {
     let mut ids = TreeIds::new(1);
     let root = tree(alloc, &mut ids, "L")?;
+    let editor = deleting(alloc, &mut ids, &root)?;
     let other = tree(alloc, &mut ids, "L")?;
-    let mut editor = editor_of(alloc, &mut ids, &root)?;
-    editor.delete(alloc, child(alloc, &root, 1)?)?;
-    let (own, foreign) = fits_each(&editor, &root, &other)?;
-    Ok(format!(in alloc; "fits its own: {own}, the other: {foreign}")?)
+    Ok((fits(alloc, &editor, &root)?, fits(alloc, &editor, &other)?))
 }

@@ -12,4 +12,5 @@ mod script;
 mod session;
 mod stop;
 
+pub use answer::{Recorded, recorded};
 pub use program::run;
