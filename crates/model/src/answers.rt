@@ -27,7 +27,7 @@ fn mapping_of(alloc: Global, editor: &mut SyntaxEditor) -> Result<SyntaxMapping,
 }
 
 /// What both answer to what this editor of the tree with this root has recorded.
-pub fn answers(
+pub fn answers_to(
     alloc: Global,
     ids: &mut TreeIds,
     root: &SyntaxNode,

@@ -15,4 +15,4 @@ mod planned;
 mod rewriter;
 
 pub use answer::Answer;
-pub use answers::{Answers, answers};
+pub use answers::{Answers, answers_to};

@@ -3,7 +3,7 @@
 #![tactic(auto)]
 
 use anyhow::Result;
-use model::{Answers, answers};
+use model::{Answers, answers_to};
 use std::alloc::Global;
 use std::io::read_to_string;
 use std::process::ExitCode;
@@ -12,7 +12,7 @@ use syned_run::recorded;
 // What both answer, where the script comes to its end.
 fn compared(alloc: Global, script: &str) -> Result<Option<Answers>> {
     match recorded(alloc, script) {
-        Some(mut recorded) => Ok(Some(answers(
+        Some(mut recorded) => Ok(Some(answers_to(
             alloc,
             &mut recorded.ids,
             &recorded.root,

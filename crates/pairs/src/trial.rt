@@ -3,7 +3,7 @@ use crate::single::Single;
 use crate::trees::Trees;
 use anyhow::{Context, Result};
 use cst_core::{SyntaxNode, TreeIds};
-use model::{Answers, answers};
+use model::{Answers, answers_to};
 use std::alloc::Global;
 use syntax_editor::{SyntaxEditor, SyntaxMapping};
 
@@ -77,6 +77,6 @@ impl Trial {
     pub fn answers(&self, ids: &mut TreeIds, before: &Single, behind: &Single) -> Result<Answers> {
         let mut editor = self.editor(ids)?;
         self.record(&mut editor, before, behind)?;
-        answers(self.alloc, ids, &self.trees.root, editor)
+        answers_to(self.alloc, ids, &self.trees.root, editor)
     }
 }
