@@ -1,0 +1,25 @@
+#!/usr/bin/env bash
+# Asks the editor and a plain model what comes of the changes of each script of tests/corpus, by the program `models`.
+set -euo pipefail
+cd "$(dirname "$0")/.."
+
+# The gate leaves the program where `rt run` would make it; it is made where it is not there, or older than a source.
+program=crates/models/out/models
+if [ ! -x "$program" ] || [ -n "$(find crates -name out -prune -o -type f -newer "$program" -print -quit)" ]; then
+    (cd crates/models && rt run) <crates/models/stdin >/dev/null 2>&1 || [ -x "$program" ]
+fi
+
+compared=0
+wrong=0
+for answer in tests/corpus/*/*.stdout; do
+    script=${answer%.stdout}
+    status=0
+    said=$(timeout 20 "$program" <"$script") || status=$?
+    case "$(head -c 4 "$answer") $status $said" in
+    'text 0 both: '* | 'refu 0 both: '*) compared=$((compared + 1)) ;;
+    'refu 0 nothing recorded' | 'bad  0 nothing recorded') ;;
+    *) wrong=$((wrong + 1)) && echo "wrong: $script: status $status: $said" ;;
+    esac
+done
+echo "models: both engines answer the same to $compared scripts; wrong: $wrong"
+[ "$wrong" -eq 0 ]
