@@ -7,11 +7,11 @@ use model::{Answers, answers_to};
 use std::alloc::Global;
 use std::io::read_to_string;
 use std::process::ExitCode;
-use syned_run::recorded;
+use syned_run::record_script;
 
 // What both answer, where the script comes to its end.
 fn compared(alloc: Global, script: &str) -> Result<Option<Answers>> {
-    match recorded(alloc, script) {
+    match record_script(alloc, script) {
         Some(mut recorded) => Ok(Some(answers_to(
             alloc,
             &mut recorded.ids,

@@ -146,7 +146,7 @@ pub struct Recorded {
 
 /// What a script records, for another engine that is to carry it out; `None` where a line up to `finish` is bad, or its call
 /// refused, or memory is.
-pub fn recorded(alloc: Global, script: &str) -> Option<Recorded> {
+pub fn record_script(alloc: Global, script: &str) -> Option<Recorded> {
     let lines = lines(alloc, script).ok()?;
     let (session, _) = record(alloc, &lines).ok()?;
     let (Editing { editor, root }, ids) = session.into_editing().ok()?;
