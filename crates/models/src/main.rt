@@ -7,19 +7,21 @@ use model::{Answers, answers_to};
 use std::alloc::Global;
 use std::io::read_to_string;
 use std::process::ExitCode;
-use syned_run::record_script;
+use syned_run::{Recorded, record_script};
 
 // What both answer, where the script comes to its end.
 fn compared(alloc: Global, script: &str) -> Result<Option<Answers>> {
-    match record_script(alloc, script) {
-        Some(mut recorded) => Ok(Some(answers_to(
-            alloc,
-            &mut recorded.ids,
-            &recorded.root,
-            recorded.editor,
-        )?)),
-        None => Ok(None),
-    }
+    let Some(
+        Recorded {
+            root,
+            editor,
+            mut ids,
+        },
+    ) = record_script(alloc, script)
+    else {
+        return Ok(None);
+    };
+    Ok(Some(answers_to(alloc, &mut ids, &root, editor)?))
 }
 
 fn main(rt: HostRuntime) -> Result<ExitCode> {
