@@ -8,4 +8,6 @@ pub mod ChildByChild
 pub mod Tops
 pub mod GivenPlaces
 pub mod Marks
+pub mod MarksGiven
+pub mod MarksKept
 pub mod Rows

@@ -1,7 +1,8 @@
-ghost use Rattle.std.specs.Prelude.{ℕ, ◌+◌, ◌≡◌, ◌++◌, List, [], ◌∷◌, map, flat_map, length, IfOk, OnOk};
+ghost use Rattle.std.specs.Prelude.{ℕ, ◌+◌, ◌≡◌, ◌++◌, false, List, [], ◌∷◌, map, flat_map, length, IfOk, OnOk};
+ghost use Rattle.std.specs.List.{list_any};
 ghost use Rattle.green_tree.specs.GreenElement.{element_tree};
 ghost use Rattle.rewriting.specs.Rewriting.{inserts_at, replacements_at, gap_order, rewritten, rewritten_whole};
-ghost use Rattle.rewriting.specs.Aimed.{aims_of};
+ghost use Rattle.rewriting.specs.Aimed.{aims_of, has_parent};
 ghost use Rattle.rewriting.specs.Marked.{MarkTree, AreMarked, marked, marked_from, below, marks_of, sought_in, wanted};
 
 use crate::aim_list::{alter_some, below, grouped, is_replaced, top_is_replaced};
@@ -70,6 +71,14 @@ fn push_all_given(
     Ok(next)
 }
 
+// Whether an aim alters the children of some node, or a mark is sought.
+fn leads_on(aims: &[Aimed], sought: &[Sought]) -> bool
+    ensures aims { result ≡ false → list_any has_parent (aims_of aims.now) ≡ false }
+    ensures sought { result ≡ false → sought_in sought.now ≡ [] }
+{
+    alter_some(aims) || !sought.is_empty()
+}
+
 /// Puts the marks of the tree that `rebuild` makes by the same aims at the end of `found`, in document order, with paths that
 /// begin with this one: `sought` has the marks of the old tree, and `given` those of what each change gives, by its number.
 /// After a refusal some of them are in `found`.
@@ -103,7 +112,7 @@ pub fn push_marks(
         } else {
             let inner = below(alloc, group, slot)?;
             let inner_sought = lists[slot].as_slice();
-            if alter_some(&inner) || !inner_sought.is_empty() {
+            if leads_on(&inner, inner_sought) {
                 let longer = extended(alloc, path, next)?;
                 push_marks(
                     alloc,
