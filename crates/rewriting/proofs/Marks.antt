@@ -1,12 +1,13 @@
 -- The marks of a tree, child by child, and those of trees that stand side by side.
-use Rattle.std.specs.Prelude.{◌≡◌, ℕ, zero, suc, ◌+◌, List, [], ◌∷◌, ◌++◌, map, length, flat_map, slice_get, drop, Some, refl}
+use Rattle.std.specs.Prelude.{◌≡◌, ℕ, suc, ◌+◌, List, [], ◌∷◌, ◌++◌, map, length, flat_map, slice_get, drop, Some, refl}
 use Rattle.std.proofs.Common.{ap, ap₂, sym, ◌∙◌, arith}
-use Rattle.std.proofs.lemmas.List.{append_assoc, append-nil, map-append, length-append}
+use Rattle.std.proofs.lemmas.List.{append_assoc, append-nil, map-append}
 use Rattle.std.proofs.lemmas.Grind.{flat_map-append}
 use Rattle.green_tree.specs.Path.{Path}
 use Rattle.green_tree.specs.Tree.{Forest, Token, Node, end, more, Tree, trees, forest, node, paths, paths_from, relabelled, forest_relabelled}
 use Rattle.green_tree.proofs.Parts.{slice_get-drop, drop-rest}
-use Rattle.rewriting.specs.Marked.{MarkTree, Marking, marks_on, marked, marked_from, below, shifted, moved}
+use Rattle.rewriting.proofs.Children.{trees-forest}
+use Rattle.rewriting.specs.Marked.{MarkTree, Marking, marks_on, marked, marked_from, below, moved}
 
 -- ---- one child
 own_marks : (i : ℕ) (p : Path) (ns : List ℕ) → map (λ m. (m, i ∷ p)) ns ≡ map (below (i ∷ [])) (map (λ m. (m, p)) ns)
@@ -33,10 +34,6 @@ marks_children l f i (more c g) h =
 
 pub marks-node : (l : List ℕ) (f : Forest (List ℕ)) → marked (Node l f) ≡ map (λ m. (m, [])) l ++ marked_from 0 (trees f)
 marks-node l f = ap (λ ms. map (λ m. (m, [])) l ++ ms) (marks_children l f 0 f refl)
-
-trees-forest : {L : Type 0} (ts : List (Tree L)) → trees (forest ts) ≡ ts
-trees-forest [] = refl
-trees-forest (t ∷ ts) = ap (λ us. t ∷ us) (trees-forest ts)
 
 pub marks-parent : (l : List ℕ) (ts : List MarkTree) → marked (node l ts) ≡ map (λ m. (m, [])) l ++ marked_from 0 ts
 marks-parent l ts = marks-node l (forest ts) ∙ ap (λ us. map (λ m. (m, [])) l ++ marked_from 0 us) (trees-forest ts)

@@ -1,6 +1,6 @@
 -- The marks of what changes give, one after another.
 use Rattle.std.specs.Prelude.{◌≡◌, ℕ, ◌+◌, List, ◌∷◌, ◌++◌, map, length, flat_map, refl}
-use Rattle.std.proofs.Common.{ap, ap₂, sym, ◌∙◌, arith}
+use Rattle.std.proofs.Common.{ap, sym, ◌∙◌, arith}
 use Rattle.std.proofs.lemmas.List.{append_assoc, length-append}
 use Rattle.green_tree.specs.Path.{Path}
 use Rattle.rewriting.specs.declared.mark.GivenMarks.{GivenMarks}
@@ -9,7 +9,7 @@ use Rattle.rewriting.proofs.ChildByChild.{IsShown}
 use Rattle.rewriting.proofs.Marks.{shown, shown-append, shown-moved}
 
 pub are_shown : (path : Path) → IsShown (shown path)
-are_shown path = record { none = λ i. refl; append = shown-append path; }
+are_shown path = record { none = λ i. refl; append = shown-append path }
 
 module _ (table : List GivenMarks) (trees : ℕ → List MarkTree) (are : AreMarked table trees) where
   pub next-one : (before after all c : ℕ) (cs : List ℕ) → after ≡ before + count_in table c → before + length (flat_map trees (c ∷ cs)) ≡ all → after + length (flat_map trees cs) ≡ all

@@ -1,5 +1,5 @@
 -- The marks of what is kept.
-use Rattle.std.specs.Prelude.{◌≡◌, ℕ, Bool, true, false, cond, nat_eq, ◌&&◌, List, [], ◌∷◌, ◌++◌, map, filter, refl}
+use Rattle.std.specs.Prelude.{◌≡◌, ℕ, true, false, cond, nat_eq, ◌&&◌, List, [], ◌∷◌, ◌++◌, map, filter, refl}
 use Rattle.std.proofs.Common.{ap, ap₂, sym, ◌∙◌}
 use Rattle.std.proofs.lemmas.List.{append_assoc, append-nil, map-append}
 use Rattle.green_tree.specs.Path.{Path, same_path}

@@ -11,7 +11,7 @@
 --     count_in, marks_in            how many elements a change gives, and their marks, from a table by its number: none where the table has none
 --     AreMarked                     changes give trees of which a table says this
 --     shifted, moved                a path with its first slot so many further on; a mark of given elements, where the first of these is in this slot of the node at a path
-use Rattle.std.specs.Prelude.{◌≡◌, ℕ, suc, ◌+◌, cond, nat_eq, List, [], ◌∷◌, ◌++◌, map, filter, flat_map, length, slice_get, Option, Some, None}
+use Rattle.std.specs.Prelude.{◌≡◌, ℕ, suc, ◌+◌, cond, nat_eq, List, [], ◌∷◌, ◌++◌, map, filter, flat_map, length, slice_get}
 use Rattle.std.specs.Option.{option_map_or}
 use Rattle.green_tree.specs.Path.{Path, same_path}
 use Rattle.green_tree.specs.Tree.{Tree, label, at, paths}

@@ -9,7 +9,7 @@ pub returns-in_default : goal.returns-in_default
 returns-in_default c =
     let past = slice_get_past c.args.given.now c.args.change c.in_default.ensures.lookup.3 in
     let same : c.args.first ≡ c.args.first + 0 = omega arith in
-    record { next = rw past same; marks = rw past (sym (append-nil (marks_of c.args.found.now.items))); }
+    record { next = rw past same; marks = rw past (sym (append-nil (marks_of c.args.found.now.items))) }
 
 pub returns : goal.returns
 returns c =

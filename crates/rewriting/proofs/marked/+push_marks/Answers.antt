@@ -1,10 +1,10 @@
-use Rattle.std.proofs.Common.{◌≡◌, ℕ, ◌<◌, ◌≤◌, ◌+◌, Bool, false, List, [], ◌∷◌, ◌++◌, length, get_or, map, flat_map, arith, ap, sym, ◌∙◌, refl}
+use Rattle.std.proofs.Common.{◌≡◌, ℕ, ◌<◌, ◌≤◌, ◌+◌, List, [], ◌∷◌, ◌++◌, length, get_or, map, flat_map, arith, ap, sym, ◌∙◌, refl}
 use Rattle.std.proofs.lemmas.List.{length-map, append-nil}
-use Rattle.green_tree.specs.Tree.{Tree, SyntaxTree, Token, forest, node}
+use Rattle.green_tree.specs.Tree.{SyntaxTree, Token, node}
 use Rattle.green_tree.specs.Path.{Path}
 use Rattle.green_tree.specs.Green.{size}
 use Rattle.green_tree.specs.GreenElement.{element_tree, element_trees}
-use Rattle.rewriting.specs.Rewriting.{slot, is_replaced, inserts_at, replacements_at, gap_order, rewritten}
+use Rattle.rewriting.specs.Rewriting.{slot, is_replaced, replacements_at, gap_order, rewritten}
 use Rattle.std.specs.List.{list_any}
 use Rattle.std.specs.Prelude.{Vec}
 use Rattle.std.specs.Global.{Global}

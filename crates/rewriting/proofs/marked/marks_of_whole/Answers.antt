@@ -1,7 +1,7 @@
-use Rattle.std.proofs.Common.{◌≡◌, [], ◌∷◌, ◌++◌, List, map, flat_map, ap, sym, ◌∙◌}
+use Rattle.std.proofs.Common.{[], ◌∷◌, ◌++◌, List, map, flat_map, ap, sym, ◌∙◌}
 use Rattle.std.proofs.lemmas.List.{map-id, append-nil}
 use Rattle.green_tree.specs.GreenElement.{element_tree}
-use Rattle.rewriting.specs.Rewriting.{replacements_at, rewritten}
+use Rattle.rewriting.specs.Rewriting.{rewritten}
 use Rattle.rewriting.specs.Aimed.{aims_of}
 use Rattle.rewriting.specs.Marked.{MarkTree, Marking, marked, marked_from, below, marks_of, sought_in, wanted}
 use Rattle.rewriting.proofs.Children.{slot-replaced, slot-kept}
