@@ -18,6 +18,7 @@ mod places;
 mod plan;
 mod position;
 mod run;
+mod sought;
 mod target_index;
 mod targets;
 
