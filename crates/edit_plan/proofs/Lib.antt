@@ -34,3 +34,5 @@ mod Relabelled
 mod Apart
 mod Swapped
 mod Registered
+mod Levels
+mod MarksFilled

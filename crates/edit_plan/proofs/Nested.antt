@@ -56,7 +56,7 @@ module _ (cs : List Change) (places : ℕ → Path) where
   alone-is-given c table is none = is ∙ sym (plain-given cs places c none)
 
   -- what is past the end owns nothing
-  past-the-end : (c : ℕ) → length cs ≤ c → dependents cs places c ≡ []
+  pub past-the-end : (c : ℕ) → length cs ≤ c → dependents cs places c ≡ []
   past-the-end c l =
       owns_nothing cs places c (λ i d is by. let up : (r : Change) × (slice_get cs c ≡ Some r) × (depth r < depth d) = owner_is_above cs d c by in none-some up.0 (sym (slice_get_past cs c l) ∙ up.1))
 
@@ -96,7 +96,7 @@ module _ (cs : List Change) (places : ℕ → Path) where
   pub nothing-owned : (level i : ℕ) (table : List (Vec GreenElement Global)) → IsLevelled level i table → dependents cs places i ≡ [] → IsLevelled level (i + 1) table
   nothing-owned level i table a none = passed-over level i table a (λ l. a.own_nothing i none)
 
-  owned-is-deeper : (i : ℕ) (n : ℕ) (d : Change) → slice_get cs n ≡ Some d → owner cs d ≡ Some i → depth_of cs i < depth_of cs n
+  pub owned-is-deeper : (i : ℕ) (n : ℕ) (d : Change) → slice_get cs n ≡ Some d → owner cs d ≡ Some i → depth_of cs i < depth_of cs n
   owned-is-deeper i n d is by =
       let up : (r : Change) × (slice_get cs i ≡ Some r) × (depth r < depth d) = owner_is_above cs d i by in
       let its : depth_of cs i ≡ depth up.0 = ap (λ o. option_map_or depth o 0) up.1 in

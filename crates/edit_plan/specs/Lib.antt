@@ -21,3 +21,4 @@ pub mod Unbuilt
 pub mod Planned
 pub mod Laws
 pub mod Sought
+pub mod Marks

@@ -101,7 +101,7 @@ fn payloads(alloc: Global, changes: &[Change]) -> Result<Vec<Vec<GreenElement>>,
 }
 
 // More than the depth of each change.
-fn levels(changes: &[Change]) -> usize
+pub(crate) fn levels(changes: &[Change]) -> usize
     ensures { (c : ℕ) → c < length changes.now → depth_of changes.now c < result }
 {
     let mut levels = 0;

@@ -12,6 +12,7 @@ mod fate;
 mod fits;
 mod given;
 pub mod laws;
+mod marks;
 mod native;
 mod nesting;
 mod places;
