@@ -4,15 +4,16 @@
 --     entry                         an entry exchanged
 --     AreLevelled                   so far as one level is entered, with all that is deeper
 --     level-begins, level-ends, other-level, nothing-owned, level-filled      before its first change, behind its last one, and one change more
+--     table-told                    a table that was made of the payloads alone
 --     from-payloads, to-the-top     before the deepest level, and behind the last one
-use Rattle.std.specs.Prelude.{◌≡◌, ◌≢◌, ℕ, zero, suc, ◌+◌, ◌<◌, ◌≤◌, Bool, true, false, ◌&&◌, cond, nat_eq, List, [], ◌∷◌, ◌++◌, map, filter, length, slice_get, get_or, Option, Some, None, refl}
+use Rattle.std.specs.Prelude.{◌≡◌, ◌≢◌, ℕ, zero, suc, ◌+◌, ◌<◌, ◌≤◌, Bool, true, false, ◌&&◌, cond, nat_eq, List, [], ◌∷◌, ◌++◌, map, filter, length, slice_get, get_or, Option, Some, None, option_map, refl}
 use Rattle.std.specs.Option.{option_map_or}
 use Rattle.std.proofs.Common.{ap, ap₂, sym, subst, ◌∙◌, arith}
 use Rattle.std.proofs.Math.ListN.{set}
 use Rattle.std.proofs.lemmas.Bool.{cases_eq, cases_lt, eq-eqb, ne_eqb}
 use Rattle.std.proofs.lemmas.List.{append-nil, append_assoc, map-append, length-map}
 use Rattle.std.proofs.lemmas.List.Elements.{filter-append}
-use Rattle.std.proofs.lemmas.Option.{slice_get-get_or}
+use Rattle.std.proofs.lemmas.Option.{slice_get-get_or, slice_get-map, none-some, same_Some}
 use mathlib.Core.Logic.{inl, inr}
 use mathlib.Core.Path.{fun_ext}
 use Rattle.cst_core.specs.Path.{Path, same_path}
@@ -177,3 +178,30 @@ module _ (rs : List Address) (cs : List Change) (places : ℕ → Path) where
     count = λ c. ap length (sym (a.deep c (omega (arith, none)))) ∙ a.are.count c;
     marks = λ c. ap (marked_from 0) (sym (a.deep c (omega (arith, none)))) ∙ a.are.marks c;
   }
+
+-- ---- the payloads alone
+abbrev pub told : GivenMarks → ℕ × List Marking
+told g = (g.count, marks_of g.marks.items)
+
+abbrev pub brought : SoughtIndex → Change → ℕ × List Marking
+brought index c = (length (payload c), marked_from 0 (payload_sought index (λ n. []) [] (payload c)))
+
+module _ (index : SoughtIndex) where
+  abbrev its_trees : Option Change → List MarkTree
+  its_trees o = payload_sought index (λ n. []) [] (option_map_or payload o [])
+
+  told-alike : (o : Option GivenMarks) (q : Option Change) → option_map told o ≡ option_map (brought index) q → (length (its_trees q) ≡ option_map_or (λ g. g.count) o 0) × (marked_from 0 (its_trees q) ≡ option_map_or (λ g. marks_of g.marks.items) o [])
+  told-alike None None h = (refl, refl)
+  told-alike None (Some c) h = absurd (none-some (brought index c) h)
+  told-alike (Some g) None h = absurd (none-some (told g) (sym h))
+  told-alike (Some g) (Some c) h =
+      let same = same_Some (told g) (brought index c) h in
+      (length-map (payload c) (element_sought index (λ n. []) []) ∙ sym (ap (λ p. p.0) same), sym (ap (λ p. p.1) same))
+
+  pub table-told : (cs : List Change) (table : List GivenMarks) → map told table ≡ map (brought index) cs → AreMarked table (λ c. payload_sought index (λ n. []) [] (payload_of cs c))
+  table-told cs table h =
+      let both : (c : ℕ) → option_map told (slice_get table c) ≡ option_map (brought index) (slice_get cs c) = λ c. sym (slice_get-map told table c) ∙ ap (λ ts. slice_get ts c) h ∙ slice_get-map (brought index) cs c in
+      record { count = λ c. (told-alike (slice_get table c) (slice_get cs c) (both c)).0; marks = λ c. (told-alike (slice_get table c) (slice_get cs c) (both c)).1 }
+
+pub none-marked : AreMarked [] (λ n. [])
+none-marked = record { count = λ c. refl; marks = λ c. refl }
