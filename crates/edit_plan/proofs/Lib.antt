@@ -36,3 +36,4 @@ mod Swapped
 mod Registered
 mod Levels
 mod MarksFilled
+mod CopiesFound

@@ -51,7 +51,7 @@ marks-more i ts t e =
     marks-behind 0 ts t ∙ ap (λ k. marked_from 0 ts ++ map (below (k ∷ [])) (marked t)) same
 
 -- ---- what is sought, seen from an address
-at-append : (ms ns : List Marking) (p : Path) → marks_at (ms ++ ns) p ≡ marks_at ms p ++ marks_at ns p
+pub at-append : (ms ns : List Marking) (p : Path) → marks_at (ms ++ ns) p ≡ marks_at ms p ++ marks_at ns p
 at-append ms ns p = ap (map (λ m. m.0)) (filter-append (λ m. same_path p m.1) ms ns) ∙ map-append (λ m. m.0) (filter (λ m. same_path p m.1) ms) (filter (λ m. same_path p m.1) ns)
 
 turned : (i j : ℕ) → nat_eq i j ≡ nat_eq j i
@@ -62,10 +62,10 @@ turned i j =
     ]
 
 module _ (n : ℕ) where
-  abbrev found : Option Path → List Marking
+  abbrev pub found : Option Path → List Marking
   found o = option_map_or (λ p. (n, p) ∷ []) o []
 
-  exact : (p s : Path) → marks_at ((n, s) ∷ []) p ≡ marks_at (found (path_below p s)) []
+  pub exact : (p s : Path) → marks_at ((n, s) ∷ []) p ≡ marks_at (found (path_below p s)) []
   exact [] [] = refl
   exact [] (j ∷ s) = refl
   exact (i ∷ p) [] = refl

@@ -4,13 +4,17 @@
 --     IsTableOf                     a table of registered elements has at each address what it should
 --     element_sought, payload_sought      an element, rewritten, with what a table has there as marks; several
 --     exchanged                     another answer for one change
+--     paths_of_mark                 of marks in the trees that stand in a place, the paths of one mark in its tree
+--     path_lists                    lists of paths in code
 --     AreMarksFrom                  a table has the marks of what changes of this depth or more give, and of those that own nothing
-use Rattle.std.specs.Prelude.{◌≡◌, ℕ, ◌≤◌, cond, nat_eq, List, [], map}
+use Rattle.std.specs.Prelude.{◌≡◌, ℕ, ◌≤◌, cond, nat_eq, List, [], map, filter, drop, Vec}
+use Rattle.std.specs.Global.{Global}
 use Rattle.cst_core.specs.Path.{Path}
 use Rattle.cst_core.specs.Tree.{relabelled}
 use Rattle.cst_core.specs.Element.{Address, Element, address, subtree}
 use Rattle.rewriting.specs.Rewriting.{NumberedAim, rewritten}
-use Rattle.rewriting.specs.Marked.{MarkTree, AreMarked, wanted}
+use Rattle.rewriting.specs.Marked.{MarkTree, Marking, AreMarked, wanted}
+use Rattle.rewriting.specs.Topmost.{paths_of}
 use Rattle.rewriting.specs.declared.mark.GivenMarks.{GivenMarks}
 use Rattle.edit_plan.specs.Owned.{depth_of}
 use Rattle.edit_plan.specs.Rewriting.{OriginTree, dependents, given}
@@ -41,3 +45,10 @@ pub record AreMarksFrom (rs : List Address) (changes : List Change) (places : �
   pub are : AreMarked table trees
   pub deep : (c : ℕ) → level ≤ depth_of changes c → trees c ≡ marks_given rs changes places c
   pub own_nothing : (c : ℕ) → dependents changes places c ≡ [] → trees c ≡ marks_given rs changes places c
+
+-- ---- dealt out
+abbrev pub paths_of_mark : ℕ → List Marking → List Path
+paths_of_mark n ms = map (λ m. drop 1 m.1) (filter (λ m. nat_eq n m.0) ms)
+
+abbrev pub path_lists : List (Vec (Vec ℕ Global) Global) → List (List Path)
+path_lists ls = map (λ l. paths_of l.items) ls

@@ -3,6 +3,7 @@
 
 mod change;
 mod change_aims;
+mod copies;
 mod dependent;
 mod edit;
 mod edit_error;
