@@ -8,12 +8,15 @@ ghost use Rattle.cst_core.specs.SyntaxElement.{element_of};
 ghost use Rattle.rewriting.specs.Aimed.{aims_of};
 ghost use Rattle.rewriting.specs.Marked.{AreMarked, mark_of, marks_of, marked_from};
 ghost use Rattle.rewriting.specs.Topmost.{paths_of};
+ghost use Rattle.edit_plan.specs.Owned.{AreDependents};
 ghost use Rattle.edit_plan.specs.Rewriting.{OriginTree, independents, new_tree};
 ghost use Rattle.edit_plan.specs.Results.{copies_of};
 ghost use Rattle.edit_plan.specs.Sought.{addresses};
 ghost use Rattle.edit_plan.specs.Marks.{IsTableOf, with_marks, marks_given, paths_of_mark, path_lists};
-ghost use Rattle.edit_plan.specs.declared.change.Change.{Change};
 
+use crate::change::Change;
+use crate::dependent::Dependent;
+use crate::marks::given_marks;
 use crate::sought::SoughtIndex;
 use cst_core::{SyntaxElement, SyntaxNode};
 use rewriting::{Aimed, GivenMarks, Mark, marks_of_whole};
@@ -107,11 +110,8 @@ fn dealt_out(
     Ok(lists)
 }
 
-/// For each registered element the paths, in document order, of its copies in the new tree, where the aims are those of the
-/// changes without an owner, and `given` has the marks of what each change gives.
-///
-/// Goes only where aims and registered elements are, and takes for each copy the length of its path.
-pub(crate) fn copies(
+// For each registered element the paths of its copies, from the tables of registered elements and of given marks.
+fn copies_from(
     alloc: Global,
     root: &SyntaxNode,
     aims: &[Aimed],
@@ -123,5 +123,28 @@ pub(crate) fn copies(
 {
     let marks = marks_of_tree(alloc, root, aims, index, given)?;
     let lists = dealt_out(alloc, &marks, registered.len())?;
+    Ok(lists)
+}
+
+/// For each registered element the paths, in document order, of its copies in the new tree, where a table has what each change
+/// owns, and the aims are those of the changes without an owner.
+///
+/// Goes only where aims and registered elements are: takes time as the passes through the payloads and the old tree do, for each
+/// registered element what is quadratic in the length of its path, and for each copy the length of its path.
+pub(crate) fn copies(
+    alloc: Global,
+    root: &SyntaxNode,
+    changes: &[Change],
+    dependents: &[Vec<Dependent>],
+    aims: &[Aimed],
+    registered: &[SyntaxElement],
+) -> Result<Vec<Vec<Vec<usize>>>, AllocError>
+    requires owned { length dependents.now ≡ length changes.now }
+    requires aims { aims_of aims.now ≡ independents changes.now }
+    ensures { IfOk result (λ v. (places : ℕ → Path) (made : OriginTree) → AreDependents changes.now places dependents.now → new_tree changes.now places root.now ≡ made ∷ [] → path_lists v.items ≡ map (λ e. copies_of made (address (element_of e))) registered.now) }
+{
+    let index = SoughtIndex::of(alloc, registered)?;
+    let given = given_marks(alloc, changes, dependents, &index)?;
+    let lists = copies_from(alloc, root, aims, registered, &index, &given)?;
     Ok(lists)
 }

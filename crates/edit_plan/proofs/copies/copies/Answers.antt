@@ -1,13 +1,11 @@
-use Rattle.std.proofs.Common.{ap, ◌∙◌, map}
-use Rattle.cst_core.specs.Element.{address}
-use Rattle.rewriting.specs.Marked.{marks_of, marked_from}
-use Rattle.edit_plan.specs.Marks.{with_marks, paths_of_mark}
+use Rattle.std.proofs.Common.{subst, sym}
+use Rattle.rewriting.specs.Marked.{AreMarked}
 use Rattle.edit_plan.specs.Sought.{addresses}
-use Rattle.edit_plan.proofs.CopiesFound.{all-copies}
+use Rattle.edit_plan.specs.Marks.{marks_given}
 use Rattle.edit_plan.proofs.copies.copies.Goals as goal
 
 pub returns : goal.returns
-returns c = λ changes places made aims sought are is.
+returns c = λ places made are is.
     let rs = addresses c.args.registered.now in
-    let marks = c.in_ok-marks.ensures rs changes places aims sought are ∙ ap (λ ts. marked_from 0 ts) (ap (λ us. map (with_marks rs) us) is) in
-    all-copies c.args.registered.now c.in_ok-lists.lists.items (marks_of c.deref.result.now) made c.in_ok-lists.ensures.size c.in_ok-lists.ensures.lists (ap marks_of c.deref.ensures.value ∙ marks)
+    let trees = marks_given rs c.args.changes.now places in
+    c.in_ok-lists.ensures c.args.changes.now places made c.requires.aims c.in_ok-index.ensures (subst (λ t. AreMarked t trees) (sym c.deref.ensures.value) (c.in_ok-given.ensures places rs are c.in_ok-index.ensures)) is
