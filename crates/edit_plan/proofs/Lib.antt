@@ -16,7 +16,7 @@ mod Fates
 mod Walk
 mod Carried
 mod Moved
-mod Levels
+mod OwnersByDepth
 mod Nested
 mod Placed
 mod GapRule
@@ -34,3 +34,7 @@ pub mod Exchanged
 mod Relabelled
 mod Apart
 mod Swapped
+mod Registered
+mod Levels
+mod MarksFilled
+mod CopiesFound

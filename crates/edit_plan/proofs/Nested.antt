@@ -33,7 +33,7 @@ use Rattle.edit_plan.specs.declared.dependent.Dependent.{Dependent}
 use Rattle.edit_plan.proofs.Brought.{given-labelled}
 use Rattle.edit_plan.proofs.Owners.{owner_is_above}
 use Rattle.edit_plan.proofs.Settled.{all_owned, owns_nothing, plain-given, rewritten-agree}
-use Rattle.edit_plan.proofs.Levels.{empty-none, passing-found}
+use Rattle.edit_plan.proofs.OwnersByDepth.{empty-none, passing-found}
 use Rattle.edit_plan.proofs.Lists.{slice_get-set_same, slice_get-set_other}
 
 pub filled : (cs : List Change) (c : ℕ) (change : Change) (owned : List NumberedAim) (table : List (Vec GreenElement Global)) (v : Vec GreenElement Global) → c < length cs → c < length table → change ≡ get_or cs c change → element_trees v.items ≡ map (rewritten kind_only (given_by table) owned []) (map subtree (payload change)) → IsFilled cs c owned table (set table c v)
@@ -57,7 +57,7 @@ module _ (cs : List Change) (places : ℕ → Path) where
   alone-is-given c table is none = is ∙ sym (plain-given cs places c none)
 
   -- what is past the end owns nothing
-  past-the-end : (c : ℕ) → length cs ≤ c → dependents cs places c ≡ []
+  pub past-the-end : (c : ℕ) → length cs ≤ c → dependents cs places c ≡ []
   past-the-end c l =
       owns_nothing cs places c (λ i d is by. let up : (r : Change) × (slice_get cs c ≡ Some r) × (depth r < depth d) = owner_is_above cs d c by in none-some up.0 (sym (slice_get_past cs c l) ∙ up.1))
 
@@ -91,7 +91,7 @@ module _ (cs : List Change) (places : ℕ → Path) where
             | inr past ↦ a.own_nothing c (past-the-end c past)
           ]
 
-  owned-is-deeper : (i : ℕ) (n : ℕ) (d : Change) → slice_get cs n ≡ Some d → owner cs d ≡ Some i → depth_of cs i < depth_of cs n
+  pub owned-is-deeper : (i : ℕ) (n : ℕ) (d : Change) → slice_get cs n ≡ Some d → owner cs d ≡ Some i → depth_of cs i < depth_of cs n
   owned-is-deeper i n d is by =
       let up : (r : Change) × (slice_get cs i ≡ Some r) × (depth r < depth d) = owner_is_above cs d i by in
       let its : depth_of cs i ≡ depth up.0 = ap (λ o. option_map_or depth o 0) up.1 in

@@ -75,7 +75,7 @@ module _ {L M : Type 0} (h : L → M) where
         | Some c ↦ at-relabelled c p
       ]
 
-  label-relabelled : (t : Tree L) → label (relabelled h t) ≡ h (label t)
+  pub label-relabelled : (t : Tree L) → label (relabelled h t) ≡ h (label t)
   label-relabelled (Token l s) = refl
   label-relabelled (Node l f) = refl
 

@@ -20,3 +20,5 @@ pub mod Owned
 pub mod Unbuilt
 pub mod Planned
 pub mod Laws
+pub mod Sought
+pub mod Marks

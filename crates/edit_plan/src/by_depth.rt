@@ -6,7 +6,7 @@ use crate::dependent::Dependent;
 use std::alloc::{AllocError, Global};
 
 // More than the depth of each change.
-fn levels(changes: &[Change]) -> usize
+pub(crate) fn levels(changes: &[Change]) -> usize
     ensures { (c : ℕ) → c < length changes.now → depth_of changes.now c < result }
 {
     let mut levels = 0;

@@ -4,6 +4,7 @@
 mod by_depth;
 mod change;
 mod change_aims;
+mod copies;
 mod dependent;
 mod edit;
 mod edit_error;
@@ -13,12 +14,14 @@ mod fate;
 mod fits;
 mod given;
 pub mod laws;
+mod marks;
 mod native;
 mod nesting;
 mod places;
 mod plan;
 mod position;
 mod run;
+mod sought;
 mod target_index;
 mod targets;
 

@@ -1,13 +1,17 @@
 -- The children of a rewritten node, pushed one after another: gap 0, and then each slot with the gap behind it.
-use Rattle.std.specs.Prelude.{◌≡◌, ℕ, zero, suc, ◌+◌, ◌<◌, ◌≤◌, true, false, cond, List, [], ◌∷◌, ◌++◌, length, drop, flat_map}
+use Rattle.std.specs.Prelude.{◌≡◌, ℕ, zero, suc, ◌+◌, ◌<◌, ◌≤◌, true, false, cond, List, [], ◌∷◌, ◌++◌, length, drop, flat_map, refl}
 use Rattle.std.proofs.Common.{ap, sym, ◌∙◌, get_or, arith}
 use Rattle.std.proofs.lemmas.List.{append_assoc, append-nil, at_drop_more, at_drop_all}
 use Rattle.green_tree.specs.Path.{Path}
-use Rattle.green_tree.specs.Tree.{Tree, Forest, end, more, SyntaxTree, forest}
+use Rattle.green_tree.specs.Tree.{Tree, Forest, end, more, SyntaxTree, trees, forest}
 use Rattle.green_tree.specs.Green.{size, forest_size}
 use Rattle.green_tree.specs.GreenElement.{element_tree, element_trees}
 use Rattle.green_tree.specs.declared.green.GreenElement.{GreenElement}
 use Rattle.rewriting.specs.Rewriting.{NumberedAim, replacements_at, is_replaced, gap, slot, rewritten, rewritten_from}
+
+pub trees-forest : {L : Type 0} (ts : List (Tree L)) → trees (forest ts) ≡ ts
+trees-forest [] = refl
+trees-forest (t ∷ ts) = ap (λ us. t ∷ us) (trees-forest ts)
 
 pub tree_at : (es : List GreenElement) (i : ℕ) (e : GreenElement) (d : SyntaxTree) → i < length es → e ≡ get_or es i e → element_tree e ≡ get_or (element_trees es) i d
 tree_at [] i e d h is = absurd (omega arith)

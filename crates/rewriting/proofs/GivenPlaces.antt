@@ -2,7 +2,7 @@
 use Rattle.std.specs.Prelude.{◌≡◌, ℕ, zero, suc, ◌+◌, ◌<◌, ◌≤◌, Bool, false, List, [], ◌∷◌, ◌++◌, map, length, flat_map, reverse, replicate, refl}
 use Rattle.std.specs.List.{sum_by, All}
 use Rattle.std.proofs.Common.{ap, ap₂, sym, ◌∙◌, arith, get_or}
-use Rattle.std.proofs.lemmas.List.{append-nil, append_assoc, map-append, length-append, at_drop_all, replicate-append-replicate}
+use Rattle.std.proofs.lemmas.List.{append-nil, append_assoc, map-append, length-append, replicate-append-replicate}
 use Rattle.std.proofs.lemmas.List.Elements.{All-tail}
 use Rattle.std.proofs.lemmas.Grind.{flat_map-append}
 use Rattle.std.proofs.lemmas.List.Sums.{sum_by-cons}
@@ -12,7 +12,9 @@ use Rattle.green_tree.specs.Tree.{Tree, SyntaxTree, forest, node}
 use Rattle.rewriting.specs.Rewriting.{NumberedAim, inserts_at, gap_order, gap, slot, rewritten, rewritten_from}
 use Rattle.rewriting.specs.Topmost.{topmost, count_of, AreCounted, not_given}
 use Rattle.rewriting.proofs.Tops.{tops, tops-append, tops-alone, top-children}
-use Rattle.rewriting.proofs.Children.{left, split, slots_from}
+use Rattle.rewriting.proofs.Children.{left}
+use Rattle.rewriting.proofs.ChildByChild.{IsShown}
+use Rattle.rewriting.proofs.ChildByChild as child_by_child
 
 counted-append : (i m n : ℕ) → map {A = ℕ} (λ j. j ∷ []) (counted_from i (m + n)) ≡ map (λ j. j ∷ []) (counted_from i m) ++ map (λ j. j ∷ []) (counted_from (i + m) n)
 counted-append i zero n =
@@ -51,6 +53,9 @@ module _ (counts : List ℕ) (given : ℕ → List (Tree Bool)) (are : AreCounte
     shown-append i xs ys =
         ap (map (λ q. path ++ q)) (tops-append (λ b. b) i xs ys) ∙ map-append (λ q. path ++ q) (tops (λ b. b) i xs) (tops (λ b. b) (i + length xs) ys)
 
+    are_shown : IsShown shown
+    are_shown = record { none = λ i. refl; append = shown-append }
+
     run-map : (i n : ℕ) → map (λ q. path ++ q) (map (λ j. j ∷ []) (counted_from i n)) ≡ run i n
     run-map i zero = refl
     run-map i (suc n) = ap (λ ps. (path ++ i ∷ []) ∷ ps) (run-map (suc i) n)
@@ -75,30 +80,19 @@ module _ (counts : List ℕ) (given : ℕ → List (Tree Bool)) (are : AreCounte
       shown-gap i g n e = shown-given i n (gap_order (inserts_at cs [] g)) (e ∙ sym (any_order (inserts_at cs [] g)))
 
       -- gap 0, and then what is left from slot 0 on
-      pub first : (before after all : List Path) (next n : ℕ) (ts : List SyntaxTree) → n ≡ sum_by (count_of counts) (inserts_at cs [] 0) → after ≡ before ++ run 0 n → next ≡ 0 + n → all ≡ before ++ shown 0 (gap not_given given cs [] 0 ++ left not_given given cs 0 ts) → after ++ shown next (left not_given given cs 0 ts) ≡ all
-      first before after all next n ts e a x h =
-          let g = gap not_given given cs [] 0 in
-          let rest = left not_given given cs 0 ts in
-          let behind : 0 + length g ≡ next = omega (arith, gap-length 0 n e) in
-          let grouped : before ++ (run 0 n ++ shown next rest) ≡ before ++ run 0 n ++ shown next rest = simp append_assoc in
-          ap (λ ps. ps ++ shown next rest) a ∙ sym grouped ∙ ap (λ ps. before ++ (ps ++ shown next rest)) (sym (shown-gap 0 0 n e)) ∙ ap (λ k. before ++ (shown 0 g ++ shown k rest)) (sym behind) ∙ ap (λ ps. before ++ ps) (sym (shown-append 0 g rest)) ∙ sym h
+      pub first : (before after : List Path) (next n : ℕ) (ts : List SyntaxTree) → n ≡ sum_by (count_of counts) (inserts_at cs [] 0) → after ≡ before ++ run 0 n → next ≡ 0 + n → after ++ shown next (left not_given given cs 0 ts) ≡ before ++ shown 0 (rewritten_from not_given given cs [] 0 (forest ts))
+      first before after next n ts e a x =
+          child_by_child.first shown are_shown not_given given cs before after next ts (a ∙ ap (λ ps. before ++ ps) (sym (shown-gap 0 0 n e))) (x ∙ ap (λ k. 0 + k) (sym (gap-length 0 n e)))
 
       -- a slot and the gap behind it
       pub step : (before middle after all : List Path) (next between behind n : ℕ) (s : List (Tree Bool)) (i : ℕ) (ts : List SyntaxTree) (d : SyntaxTree) → i < length ts → s ≡ slot not_given given cs (i ∷ []) (rewritten not_given given cs (i ∷ []) (get_or ts i d)) → n ≡ sum_by (count_of counts) (inserts_at cs [] (i + 1)) → middle ≡ before ++ shown next s → between ≡ next + length s → after ≡ middle ++ run between n → behind ≡ between + n → before ++ shown next (left not_given given cs i ts) ≡ all → after ++ shown behind (left not_given given cs (i + 1) ts) ≡ all
       step before middle after all next between behind n s i ts d l is e m x a y h =
-          let g = gap not_given given cs [] (i + 1) in
-          let rest = left not_given given cs (i + 1) ts in
-          let whole : left not_given given cs i ts ≡ s ++ g ++ rest = split not_given given cs i ts d l ∙ ap (λ u. u ++ g ++ rest) (sym is) in
-          let at_gap : next + length s ≡ between = sym x in
-          let at_rest : next + length (s ++ g) ≡ behind = omega (arith, length-append s g, gap-length (i + 1) n e) in
-          let shown_whole : shown next (left not_given given cs i ts) ≡ shown next s ++ run between n ++ shown behind rest = ap (shown next) whole ∙ shown-append next (s ++ g) rest ∙ ap₂ (λ ps k. ps ++ shown k rest) (shown-append next s g ∙ ap (λ k. shown next s ++ shown k g) at_gap ∙ ap (λ ps. shown next s ++ ps) (shown-gap between (i + 1) n e)) at_rest in
-          let grouped : before ++ shown next s ++ run between n ++ shown behind rest ≡ before ++ (shown next s ++ run between n ++ shown behind rest) = simp append_assoc in
-          ap (λ ps. ps ++ shown behind rest) (a ∙ ap (λ ps. ps ++ run between n) m) ∙ grouped ∙ ap (λ ps. before ++ ps) (sym shown_whole) ∙ h
+          child_by_child.step shown are_shown not_given given cs before middle after all next between behind s i ts d l is m x (a ∙ ap (λ ps. middle ++ ps) (sym (shown-gap between (i + 1) n e))) (y ∙ ap (λ k. between + k) (sym (gap-length (i + 1) n e))) h
 
       -- nothing is left behind the last gap
       pub all_found : (before found : List Path) (next i : ℕ) (ts : List SyntaxTree) (e : SyntaxTree) (k : ℕ) → length ts ≤ i → e ≡ node k ts → found ++ shown next (left not_given given cs i ts) ≡ before ++ shown 0 (rewritten_from not_given given cs [] 0 (forest ts)) → found ≡ before ++ map (λ q. path ++ q) (topmost (λ b. b) (rewritten not_given given cs [] e))
       all_found before found next i ts e k l is h =
-          sym (append-nil found) ∙ ap (λ us. found ++ shown next us) (sym (at_drop_all (λ us. slots_from not_given given cs i (forest us)) ts i l)) ∙ h ∙ ap (λ ps. before ++ map (λ q. path ++ q) ps) (sym (top-children (λ b. b) false (rewritten_from not_given given cs [] 0 (forest ts)) refl)) ∙ ap (λ u. before ++ map (λ q. path ++ q) (topmost (λ b. b) (rewritten not_given given cs [] u))) (sym is)
+          child_by_child.all_shown shown are_shown not_given given cs found _ next i ts l h ∙ ap (λ ps. before ++ map (λ q. path ++ q) ps) (sym (top-children (λ b. b) false (rewritten_from not_given given cs [] 0 (forest ts)) refl)) ∙ ap (λ u. before ++ map (λ q. path ++ q) (topmost (λ b. b) (rewritten not_given given cs [] u))) (sym is)
 
   -- ---- in the place of the top
   tops_of : (gs : List (Tree Bool)) → All (λ g. topmost (λ b. b) g ≡ [] ∷ []) gs → flat_map (topmost (λ b. b)) gs ≡ replicate (length gs) []

@@ -4,6 +4,10 @@ pub mod InGroups
 pub mod Children
 pub mod Built
 pub mod Untouched
+pub mod ChildByChild
 pub mod Tops
 pub mod GivenPlaces
+pub mod Marks
+pub mod MarksGiven
+pub mod MarksKept
 pub mod Rows

@@ -5,6 +5,7 @@ use Rattle.rewriting.specs.Aim.{FirstIn, Over}
 use Rattle.rewriting.specs.Rewriting.{NumberedAim, rewritten}
 use Rattle.rewriting.specs.Aimed.{siblings_from}
 use Rattle.rewriting.specs.Topmost.{topmost, not_given}
+use Rattle.rewriting.specs.Marked.{MarkTree, Marking, marked, wanted}
 
 three_siblings : siblings_from (1 ∷ []) 3 ≡ (1 ∷ []) ∷ (2 ∷ []) ∷ (3 ∷ []) ∷ []
 three_siblings = refl
@@ -25,3 +26,13 @@ given c = cond (nat_eq c 0) (Token true [] ∷ []) (node true (Token true [] ∷
 
 three_places : topmost (λ b. b) (rewritten not_given given aims [] l) ≡ (1 ∷ 0 ∷ []) ∷ (4 ∷ []) ∷ (5 ∷ []) ∷ []
 three_places = refl
+
+-- the mark 0 at L/1, 1 at L/4, 2 at L/5; what stands in the place of L/4 has the mark 1 at its first child
+abbrev sought : List Marking
+sought = (0, 1 ∷ []) ∷ (1, 4 ∷ []) ∷ (2, 5 ∷ []) ∷ []
+
+abbrev given_marks : ℕ → List MarkTree
+given_marks c = cond (nat_eq c 0) (Token [] [] ∷ []) (node [] (Token (1 ∷ []) [] ∷ []) ∷ Token [] [] ∷ [])
+
+three_marks : marked (rewritten (wanted sought) given_marks aims [] l) ≡ (0, 1 ∷ []) ∷ (1, 4 ∷ 0 ∷ []) ∷ (2, 6 ∷ []) ∷ []
+three_marks = refl

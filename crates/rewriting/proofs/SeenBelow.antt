@@ -18,22 +18,23 @@ pub record Shifted (cs ds : List NumberedAim) (i : ℕ) : Type 0 where
   pub replaced : (p : Path) (j : ℕ) → is_replaced cs (i ∷ (p ++ j ∷ [])) ≡ is_replaced ds (p ++ j ∷ [])
   pub replacements : (p : Path) (j : ℕ) → replacements_at cs (i ∷ (p ++ j ∷ [])) ≡ replacements_at ds (p ++ j ∷ [])
 
-module _ {L : Type 0} (h : ℕ → L) (given : ℕ → List (Tree L)) (cs ds : List NumberedAim) (i : ℕ) (same : Shifted cs ds i) where
-  gap-shifted : (p : Path) (j : ℕ) → gap (λ q k. h k) given cs (i ∷ p) j ≡ gap (λ q k. h k) given ds p j
+-- and the labels of what is kept
+module _ {L : Type 0} (above inner : Path → ℕ → L) (given : ℕ → List (Tree L)) (cs ds : List NumberedAim) (i : ℕ) (labels : (p : Path) (k : ℕ) → above (i ∷ p) k ≡ inner p k) (same : Shifted cs ds i) where
+  gap-shifted : (p : Path) (j : ℕ) → gap above given cs (i ∷ p) j ≡ gap inner given ds p j
   gap-shifted p j = ap (λ ns. flat_map given (gap_order ns)) (same.inserts p j)
 
   mutual
-    pub rewritten-shifted : (p : Path) (t : SyntaxTree) → rewritten (λ q k. h k) given cs (i ∷ p) t ≡ rewritten (λ q k. h k) given ds p t
-    rewritten-shifted p (Token k s) = refl
-    rewritten-shifted p (Node k f) = ap (λ ts. Node (h k) (forest ts)) (rewritten_from-shifted p 0 f)
+    pub rewritten-shifted : (p : Path) (t : SyntaxTree) → rewritten above given cs (i ∷ p) t ≡ rewritten inner given ds p t
+    rewritten-shifted p (Token k s) = ap (λ l. Token l s) (labels p k)
+    rewritten-shifted p (Node k f) = ap₂ (λ l ts. Node l (forest ts)) (labels p k) (rewritten_from-shifted p 0 f)
 
-    rewritten_from-shifted : (p : Path) (j : ℕ) (f : Forest ℕ) → rewritten_from (λ q k. h k) given cs (i ∷ p) j f ≡ rewritten_from (λ q k. h k) given ds p j f
+    rewritten_from-shifted : (p : Path) (j : ℕ) (f : Forest ℕ) → rewritten_from above given cs (i ∷ p) j f ≡ rewritten_from inner given ds p j f
     rewritten_from-shifted p j end = gap-shifted p j
     rewritten_from-shifted p j (more t f) =
         ap₂ (λ x y. x ++ y)
         (ap₂ (λ x y. x ++ y)
         (gap-shifted p j)
-        (ap₂ (λ b ns. cond b (flat_map given ns) (rewritten (λ q k. h k) given cs (i ∷ (p ++ j ∷ [])) t ∷ [])) (same.replaced p j) (same.replacements p j) ∙ ap (λ u. cond (is_replaced ds (p ++ j ∷ [])) (flat_map given (replacements_at ds (p ++ j ∷ []))) (u ∷ [])) (rewritten-shifted (p ++ j ∷ []) t)))
+        (ap₂ (λ b ns. cond b (flat_map given ns) (rewritten above given cs (i ∷ (p ++ j ∷ [])) t ∷ [])) (same.replaced p j) (same.replacements p j) ∙ ap (λ u. cond (is_replaced ds (p ++ j ∷ [])) (flat_map given (replacements_at ds (p ++ j ∷ []))) (u ∷ [])) (rewritten-shifted (p ++ j ∷ []) t)))
         (rewritten_from-shifted p (suc j) f)
 
 -- ---- one aim
@@ -142,6 +143,10 @@ aims-placed : (xs : List Aimed) → map of_placed (map placed xs) ≡ aims_of xs
 aims-placed [] = refl
 aims-placed (x ∷ xs) = ap (λ cs. of_placed (placed x) ∷ cs) (aims-placed xs)
 
+pub seen-below : {L : Type 0} (above inner : Path → ℕ → L) (given : ℕ → List (Tree L)) (xs ys : List Aimed) (i : ℕ) (t : SyntaxTree) → ((p : Path) (k : ℕ) → above (i ∷ p) k ≡ inner p k) → map placed ys ≡ placed_below i (map placed xs) → rewritten inner given (aims_of ys) [] t ≡ rewritten above given (aims_of xs) (i ∷ []) t
+seen-below above inner given xs ys i t labels e =
+    ap (λ cs. rewritten inner given cs [] t) (sym (aims-placed ys) ∙ ap (map of_placed) e) ∙ sym (rewritten-shifted above inner given (map of_placed (map placed xs)) (map of_placed (placed_below i (map placed xs))) i labels (below_shifted (map placed xs) i) [] t) ∙ ap (λ cs. rewritten above given cs (i ∷ []) t) (aims-placed xs)
+
+-- where the labels hang on kinds alone
 pub aims-below : {L : Type 0} (h : ℕ → L) (given : ℕ → List (Tree L)) (xs ys : List Aimed) (i : ℕ) (t : SyntaxTree) → map placed ys ≡ placed_below i (map placed xs) → rewritten (λ q k. h k) given (aims_of ys) [] t ≡ rewritten (λ q k. h k) given (aims_of xs) (i ∷ []) t
-aims-below h given xs ys i t e =
-    ap (λ cs. rewritten (λ q k. h k) given cs [] t) (sym (aims-placed ys) ∙ ap (map of_placed) e) ∙ sym (rewritten-shifted h given (map of_placed (map placed xs)) (map of_placed (placed_below i (map placed xs))) i (below_shifted (map placed xs) i) [] t) ∙ ap (λ cs. rewritten (λ q k. h k) given cs (i ∷ []) t) (aims-placed xs)
+aims-below h given xs ys i t e = seen-below (λ q k. h k) (λ q k. h k) given xs ys i t (λ p k. refl) e

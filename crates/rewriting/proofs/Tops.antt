@@ -8,6 +8,7 @@ use Rattle.green_tree.specs.Path.{Path, counted_from}
 use Rattle.green_tree.specs.Tree.{Tree, Forest, Token, Node, end, more, trees, forest, node, label, paths, paths_from, relabelled, forest_relabelled}
 use Rattle.green_tree.proofs.Parts.{filter-map, slice_get-drop, drop-rest}
 use Rattle.rewriting.specs.Topmost.{holds_at, parent_holds, topmost}
+use Rattle.rewriting.proofs.Children.{trees-forest}
 
 module _ {L : Type 0} (test : L → Bool) where
   -- of the children from a slot on
@@ -43,10 +44,6 @@ module _ {L : Type 0} (test : L → Bool) where
   pub top-node : (l : L) (f : Forest L) → test l ≡ false → topmost test (Node l f) ≡ tops 0 (trees f)
   top-node l f none =
       ap (λ b. cond (b && true) ([] ∷ filter (passes (Node l f)) (paths_from 0 f)) (filter (passes (Node l f)) (paths_from 0 f))) none ∙ passes-children l f 0 f none refl
-
-  trees-forest : (ts : List (Tree L)) → trees (forest ts) ≡ ts
-  trees-forest [] = refl
-  trees-forest (t ∷ ts) = ap (λ us. t ∷ us) (trees-forest ts)
 
   pub top-children : (l : L) (ts : List (Tree L)) → test l ≡ false → topmost test (node l ts) ≡ tops 0 ts
   top-children l ts none = top-node l (forest ts) none ∙ ap (tops 0) (trees-forest ts)

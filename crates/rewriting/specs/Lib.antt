@@ -5,3 +5,4 @@ pub mod Aimed
 pub mod Groups
 pub mod Pass
 pub mod Topmost
+pub mod Marked

@@ -3,9 +3,13 @@
 
 mod aim_list;
 mod aimed;
+mod mark;
+mod marked;
 mod pass;
 mod topmost;
 
 pub use aimed::Aimed;
+pub use mark::{GivenMarks, Mark, Sought};
+pub use marked::{marks_of_whole, push_marks};
 pub use pass::{rebuild, rebuild_whole};
 pub use topmost::{places_of_given, places_of_given_whole};

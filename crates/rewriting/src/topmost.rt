@@ -21,7 +21,7 @@ fn count_of(counts: &[usize], change: usize) -> usize
 }
 
 // No node has more children than there are numbers for them, whatever the memory.
-fn added(count: usize, more: usize) -> Result<usize, AllocError>
+pub fn added(count: usize, more: usize) -> Result<usize, AllocError>
     ensures { IfOk result (λ n. n ≡ count + more) }
 {
     match count.checked_add(more) {
@@ -66,7 +66,7 @@ fn count_for_top(aims: &[Aimed], counts: &[usize]) -> Result<usize, AllocError>
     Ok(total)
 }
 
-fn extended(alloc: Global, path: &[usize], slot: usize) -> Result<Vec<usize>, AllocError>
+pub fn extended(alloc: Global, path: &[usize], slot: usize) -> Result<Vec<usize>, AllocError>
     ensures { IfOk result (λ v. v.items ≡ path.now ++ slot ∷ []) }
 {
     let mut longer = Vec::from_slice(alloc, path)?;

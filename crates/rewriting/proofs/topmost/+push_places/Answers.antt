@@ -1,7 +1,7 @@
 use Rattle.std.proofs.Common.{◌≡◌, ℕ, ◌<◌, ◌≤◌, ◌+◌, Bool, false, List, [], ◌∷◌, ◌++◌, length, get_or, map, arith, ap, sym, ◌∙◌, refl}
 use Rattle.std.specs.List.{sum_by, list_any}
 use Rattle.std.proofs.lemmas.List.{length-map, append-nil}
-use Rattle.green_tree.specs.Tree.{Tree, SyntaxTree, Token, forest, node}
+use Rattle.green_tree.specs.Tree.{Tree, SyntaxTree, Token, node}
 use Rattle.green_tree.specs.Path.{Path}
 use Rattle.green_tree.specs.Green.{size}
 use Rattle.green_tree.specs.GreenElement.{element_tree, element_trees}
@@ -11,7 +11,7 @@ use Rattle.rewriting.specs.Topmost.{topmost, count_of, not_given, paths_of}
 use Rattle.rewriting.proofs.SeenBelow.{aims-below}
 use Rattle.rewriting.proofs.Untouched.{untouched}
 use Rattle.rewriting.proofs.InGroups.{group_is, group-inserted, group-replaced, group-replacements, group-below}
-use Rattle.rewriting.proofs.Children.{tree_at, size_at, slot-replaced, slot-kept, gap-slots}
+use Rattle.rewriting.proofs.Children.{tree_at, size_at, slot-replaced, slot-kept}
 use Rattle.rewriting.proofs.Tops.{top-none}
 use Rattle.rewriting.proofs.GivenPlaces.{given-length, shown, shown-given, shown-one, first, step, all_found}
 use Rattle.rewriting.proofs.topmost.+push_places.Goals as goal
@@ -31,7 +31,7 @@ loop-slot-init t c = λ given are.
     let cs = aims_of c.args.aims.now in
     let ts : List SyntaxTree = element_trees c.children-children.result.now in
     let before : List Path = paths_of c.args.found.now.items in
-    first counts given are path cs before (paths_of c.push_run.new.found.items) _ c.in_ok-next.next c.in_ok-inserted.inserted ts c.in_ok-inserted.ensures c.in_ok-next.ensures.paths c.in_ok-next.ensures.next (ap (λ us. before ++ shown counts given are path 0 us) (sym (gap-slots not_given given cs 0 (forest ts))))
+    first counts given are path cs before (paths_of c.push_run.new.found.items) c.in_ok-next.next c.in_ok-inserted.inserted ts c.in_ok-inserted.ensures c.in_ok-next.ensures.paths c.in_ok-next.ensures.next
 
 pub loop-slot-preserved : goal.loop-slot-preserved
 loop-slot-preserved t c = λ given are.

@@ -1,0 +1,13 @@
+use Rattle.std.proofs.Common.{ap, ◌∙◌, map}
+use Rattle.cst_core.specs.Element.{address}
+use Rattle.rewriting.specs.Marked.{marks_of, marked_from}
+use Rattle.edit_plan.specs.Marks.{with_marks, paths_of_mark}
+use Rattle.edit_plan.specs.Sought.{addresses}
+use Rattle.edit_plan.proofs.CopiesFound.{all-copies}
+use Rattle.edit_plan.proofs.copies.copies_from.Goals as goal
+
+pub returns : goal.returns
+returns c = λ changes places made aims sought are is.
+    let rs = addresses c.args.registered.now in
+    let marks = c.in_ok-marks.ensures rs changes places aims sought are ∙ ap (λ ts. marked_from 0 ts) (ap (λ us. map (with_marks rs) us) is) in
+    all-copies c.args.registered.now c.in_ok-lists.lists.items (marks_of c.deref.result.now) made c.in_ok-lists.ensures.size c.in_ok-lists.ensures.lists (ap marks_of c.deref.ensures.value ∙ marks)

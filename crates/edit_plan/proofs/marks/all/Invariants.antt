@@ -1,0 +1,9 @@
+use Rattle.std.proofs.Common.{◌≡◌, ℕ, List, map, take}
+use Rattle.cst_core.specs.SyntaxElement.{element_of}
+use Rattle.rewriting.specs.Aimed.{aims_of}
+use Rattle.rewriting.specs.Marked.{MarkTree, AreMarked, marked_from, marks_of}
+use Rattle.edit_plan.specs.Marks.{payload_sought}
+use Rattle.edit_plan.proofs.marks.all.Given as goal
+
+abbrev pub invariant-loop-slot : goal.invariant-loop-slot
+invariant-loop-slot l = (trees : ℕ → List MarkTree) → AreMarked l.given trees → marks_of l.marks.items ≡ marked_from 0 (payload_sought l.index trees (aims_of l.aims) (map element_of (take l.slot l.elements)))

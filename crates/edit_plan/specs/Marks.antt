@@ -1,0 +1,54 @@
+-- Where registered elements stand in what changes give and in the new tree, as marks.
+--     with_marks                    a tree labelled by the numbers of the registered elements that its elements were copied from
+--     marks_given                   what a change gives, so labelled
+--     IsTableOf                     a table of registered elements has at each address what it should
+--     element_sought, payload_sought      an element, rewritten, with what a table has there as marks; several
+--     exchanged                     another answer for one change
+--     paths_of_mark                 of marks in the trees that stand in a place, the paths of one mark in its tree
+--     path_lists                    lists of paths in code
+--     AreMarksFrom                  a table has the marks of what changes of this depth or more give, and of those that own nothing
+use Rattle.std.specs.Prelude.{◌≡◌, ℕ, ◌≤◌, cond, nat_eq, List, [], map, filter, drop, Vec}
+use Rattle.std.specs.Global.{Global}
+use Rattle.cst_core.specs.Path.{Path}
+use Rattle.cst_core.specs.Tree.{relabelled}
+use Rattle.cst_core.specs.Element.{Address, Element, address, subtree}
+use Rattle.rewriting.specs.Rewriting.{NumberedAim, rewritten}
+use Rattle.rewriting.specs.Marked.{MarkTree, Marking, AreMarked, wanted}
+use Rattle.rewriting.specs.Topmost.{paths_of}
+use Rattle.rewriting.specs.declared.mark.GivenMarks.{GivenMarks}
+use Rattle.edit_plan.specs.Owned.{depth_of}
+use Rattle.edit_plan.specs.Rewriting.{OriginTree, dependents, given}
+use Rattle.edit_plan.specs.Sought.{sought_from, sought_at, registered_at}
+use Rattle.edit_plan.specs.declared.change.Change.{Change}
+use Rattle.edit_plan.specs.declared.sought.SoughtIndex.{SoughtIndex}
+
+abbrev pub with_marks : List Address → OriginTree → MarkTree
+with_marks rs t = relabelled (λ o. registered_at rs o.address) t
+
+abbrev pub marks_given : List Address → List Change → (ℕ → Path) → ℕ → List MarkTree
+marks_given rs changes places c = map (with_marks rs) (given changes places c)
+
+abbrev pub IsTableOf : List Address → SoughtIndex → Type 0
+IsTableOf rs index = (a : Address) → sought_at index a ≡ sought_from 0 rs a
+
+abbrev pub element_sought : SoughtIndex → (ℕ → List MarkTree) → List NumberedAim → Element → MarkTree
+element_sought index trees cs e = rewritten (wanted (sought_at index (address e))) trees cs [] (subtree e)
+
+abbrev pub payload_sought : SoughtIndex → (ℕ → List MarkTree) → List NumberedAim → List Element → List MarkTree
+payload_sought index trees cs es = map (element_sought index trees cs) es
+
+abbrev pub exchanged : (ℕ → List MarkTree) → ℕ → List MarkTree → ℕ → List MarkTree
+exchanged trees c ts n = cond (nat_eq n c) ts (trees n)
+
+pub record AreMarksFrom (rs : List Address) (changes : List Change) (places : ℕ → Path) (level : ℕ) (table : List GivenMarks) : Type 0 where
+  pub trees : ℕ → List MarkTree
+  pub are : AreMarked table trees
+  pub deep : (c : ℕ) → level ≤ depth_of changes c → trees c ≡ marks_given rs changes places c
+  pub own_nothing : (c : ℕ) → dependents changes places c ≡ [] → trees c ≡ marks_given rs changes places c
+
+-- ---- dealt out
+abbrev pub paths_of_mark : ℕ → List Marking → List Path
+paths_of_mark n ms = map (λ m. drop 1 m.1) (filter (λ m. nat_eq n m.0) ms)
+
+abbrev pub path_lists : List (Vec (Vec ℕ Global) Global) → List (List Path)
+path_lists ls = map (λ l. paths_of l.items) ls

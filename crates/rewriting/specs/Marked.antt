@@ -1,0 +1,84 @@
+-- Marked elements: trees whose labels are lists of numbers, here called marks, and where each mark stands.
+--     MarkTree, Marking             such a tree; a mark and the path of an element that has it
+--     marks_on                      the marks of the element at a path
+--     marked                        each mark with the path of its element, in document order
+--     below                         the same from an element at a path up
+--     marked_from                   of trees that stand side by side, the first of them in this slot
+--     mark_of, marks_of             a mark in code and where it stands; a list of these
+--     sought_as, sought_in          a sought mark in code and the path where it is sought; a list of these
+--     marks_at, wanted              the marks sought at a path; each kept element is labelled by these
+--     seen_below, sought_below      a sought mark in a child slot or below, with that slot dropped; of these marks those that there are
+--     count_in, marks_in            how many elements a change gives, and their marks, from a table by its number: none where the table has none
+--     AreMarked                     changes give trees of which a table says this
+--     shifted, moved                a path with its first slot so many further on; a mark of given elements, where the first of these is in this slot of the node at a path
+use Rattle.std.specs.Prelude.{◌≡◌, ℕ, suc, ◌+◌, cond, nat_eq, List, [], ◌∷◌, ◌++◌, map, filter, flat_map, length, slice_get}
+use Rattle.std.specs.Option.{option_map_or}
+use Rattle.green_tree.specs.Path.{Path, same_path}
+use Rattle.green_tree.specs.Tree.{Tree, label, at, paths}
+use Rattle.rewriting.specs.declared.mark.Mark.{Mark}
+use Rattle.rewriting.specs.declared.mark.Sought.{Sought}
+use Rattle.rewriting.specs.declared.mark.GivenMarks.{GivenMarks}
+
+abbrev pub MarkTree : Type 0
+MarkTree = Tree (List ℕ)
+
+abbrev pub Marking : Type 0
+Marking = ℕ × Path
+
+abbrev pub marks_on : MarkTree → Path → List ℕ
+marks_on t p = option_map_or label (at t p) []
+
+abbrev pub marked : MarkTree → List Marking
+marked t = flat_map (λ p. map (λ m. (m, p)) (marks_on t p)) (paths t)
+
+abbrev pub below : Path → Marking → Marking
+below p m = (m.0, p ++ m.1)
+
+abbrev pub marked_from : ℕ → List MarkTree → List Marking
+marked_from i [] = []
+marked_from i (t ∷ ts) = map (below (i ∷ [])) (marked t) ++ marked_from (suc i) ts
+
+-- ---- in code
+abbrev pub mark_of : Mark → Marking
+mark_of m = (m.number, m.path.items)
+
+abbrev pub marks_of : List Mark → List Marking
+marks_of ms = map mark_of ms
+
+abbrev pub sought_as : Sought → Marking
+sought_as s = (s.number, s.path.now)
+
+abbrev pub sought_in : List Sought → List Marking
+sought_in xs = map sought_as xs
+
+-- ---- what is kept
+abbrev pub marks_at : List Marking → Path → List ℕ
+marks_at ms p = map (λ m. m.0) (filter (λ m. same_path p m.1) ms)
+
+abbrev pub wanted : List Marking → Path → ℕ → List ℕ
+wanted ms p k = marks_at ms p
+
+abbrev pub seen_below : ℕ → ℕ → Path → List Marking
+seen_below i n [] = []
+seen_below i n (j ∷ p) = cond (nat_eq i j) ((n, p) ∷ []) []
+
+abbrev pub sought_below : ℕ → List Marking → List Marking
+sought_below i ms = flat_map (λ m. seen_below i m.0 m.1) ms
+
+-- ---- what is given
+abbrev pub count_in : List GivenMarks → ℕ → ℕ
+count_in table c = option_map_or (λ g. g.count) (slice_get table c) 0
+
+abbrev pub marks_in : List GivenMarks → ℕ → List Marking
+marks_in table c = option_map_or (λ g. marks_of g.marks.items) (slice_get table c) []
+
+pub record AreMarked (table : List GivenMarks) (given : ℕ → List MarkTree) : Type 0 where
+  pub count : (c : ℕ) → length (given c) ≡ count_in table c
+  pub marks : (c : ℕ) → marked_from 0 (given c) ≡ marks_in table c
+
+abbrev pub shifted : ℕ → Path → Path
+shifted n [] = []
+shifted n (i ∷ p) = (n + i) ∷ p
+
+abbrev pub moved : Path → ℕ → Marking → Marking
+moved q n m = (m.0, q ++ shifted n m.1)
