@@ -10,3 +10,4 @@ pub mod Followed
 pub mod Climbs
 pub mod RowTrees
 pub mod Rows
+mod Upwards

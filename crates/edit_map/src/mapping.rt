@@ -17,7 +17,7 @@ use std::marker::Model;
 /// path; the pair that comes last stands.
 #[derive(Drop)]
 pub struct SyntaxMapping {
-    copies: HashMap<SyntaxNode, SyntaxNode>,
+    pub(crate) copies: HashMap<SyntaxNode, SyntaxNode>,
 }
 
 impl Model for SyntaxMapping {

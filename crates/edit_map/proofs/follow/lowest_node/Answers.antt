@@ -1,0 +1,5 @@
+use Rattle.edit_map.proofs.Upwards.{parent-of-ok}
+use Rattle.edit_map.proofs.follow.lowest_node.Goals as goal
+
+pub returns-in-Token-clause-some : goal.returns-in-Token-clause-some
+returns-in-Token-clause-some c = rw c.in-Token.is (parent-of-ok c.in-Token.token c.parent.result c.parent.ensures)
