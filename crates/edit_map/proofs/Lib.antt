@@ -11,3 +11,4 @@ pub mod Climbs
 pub mod RowTrees
 pub mod Rows
 mod Upwards
+mod Reached

@@ -1,10 +1,10 @@
 -- The way up from an element, among the paths of those above it.
 --     above-parent, above-none       those above an element are those on the way to its parent, if it has one
---     parent-of-ok                   the same of an answer
+--     parent-of-ok, shorter-parent   the same of an answer
 --     nearest-here, nearest-above    where the lowest of these paths has a copy; where it has none
 --     nearest-found, nearest-passed  the same of a look-up
 --     parent-shorter                 a parent is of the same tree, and less deep
-use Rattle.std.specs.Prelude.{◌≡◌, ℕ, ◌+◌, ◌<◌, List, [], ◌∷◌, ◌++◌, map, filter_map, length, Option, Some, None, option_map, Result, Ok, Err, IfOk, IfSome, refl}
+use Rattle.std.specs.Prelude.{◌≡◌, ℕ, ◌+◌, ◌<◌, ◌≤◌, List, [], ◌∷◌, ◌++◌, map, filter_map, length, Option, Some, None, option_map, Result, Ok, Err, IfOk, IfSome, refl}
 use Rattle.std.specs.List.{cons_option}
 use Rattle.std.proofs.Common.{ap, sym, ◌∙◌, append-nil, arith}
 use Rattle.std.specs.Map.{lookup}
@@ -85,3 +85,8 @@ parent-shorter e parent is =
     let child = child-of-parent e parent is in
     let long : length e.path ≡ length parent.path + 1 = ap (λ (a : Address). length a.path) child ∙ length_push parent.path (last_slot e.path) in
     (sym (ap (λ (a : Address). a.number) child), omega (arith, long))
+
+pub shorter-parent : {E : Type 0} (e : Element) (r : Result (Option Element) E) → IfOk r (λ o. o ≡ parent_of e) → IfOk r (λ o. IfSome o (λ n. length n.path ≤ length e.path))
+shorter-parent e (Err f) is = tt
+shorter-parent e (Ok None) is = tt
+shorter-parent e (Ok (Some n)) is = omega (arith, (parent-shorter e n is).1)

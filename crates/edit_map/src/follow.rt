@@ -16,6 +16,7 @@ fn lowest_node(alloc: Global, element: &SyntaxElement) -> Result<Option<SyntaxNo
     ensures none { IfOk result (λ r. IfNone r (asked_paths element.now ≡ [])) }
     ensures some { IfOk result (λ r. IfSome r (λ n. asked_paths element.now ≡ up_to n.path)) }
     ensures number { IfOk result (λ r. IfSome r (λ n. n.number ≡ (element_of element.now).number)) }
+    ensures short { IfOk result (λ r. IfSome r (λ n. length n.path ≤ length (element_of element.now).path)) }
 {
     match element {
         SyntaxElement::Node(node) => Ok(Some(node.try_clone(alloc)?)),
@@ -36,8 +37,10 @@ impl SyntaxMapping {
         ensures reached { IfOk result (IsReached self.now element.now) }
         ensures followed { NumbersTell (element_of element.now ∷ mapped_elements self.now) → IfOk result (λ e. element_of e ≡ followed self.now (element_of element.now)) }
     {
-        // The copies rise.
+        // The copies rise, and the element is one of its tree.
         let _ = &self.copies;
+        let _ = element.kind();
+        let _ = element.as_green();
         let mut here = element.try_clone(alloc)?;
         'steps: while let Some(next) = self.step(alloc, &here)? {
             here = next;

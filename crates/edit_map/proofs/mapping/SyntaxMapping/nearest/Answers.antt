@@ -1,5 +1,4 @@
-use Rattle.std.proofs.Common.{◌≡◌, ap, sym, ◌∙◌, arith}
-use Rattle.cst_core.specs.Element.{Element}
+use Rattle.std.proofs.Common.{ap, sym, ◌∙◌, arith}
 use Rattle.edit_map.specs.Following.{step_among}
 use Rattle.edit_map.proofs.Upwards.{above-parent, above-none, nearest-found, nearest-passed, parent-shorter}
 use Rattle.edit_map.proofs.mapping.SyntaxMapping.nearest.Goals as goal
