@@ -33,3 +33,4 @@ pub mod Exchanged
 mod Relabelled
 mod Apart
 mod Swapped
+mod FoundNodes
