@@ -8,7 +8,7 @@ use Rattle.std.proofs.lemmas.Bool.{false≢true}
 use Rattle.cst_core.specs.Path.{Path}
 use Rattle.cst_core.specs.Tree.{SyntaxTree, Token, at, label, is_token, paths}
 use Rattle.cst_core.specs.Order.{start}
-use Rattle.cst_core.specs.Element.{Element, subtree, below, element_at, root_of}
+use Rattle.cst_core.specs.Element.{Element, subtree, element_at, root_of}
 use Rattle.cst_core.specs.SyntaxElement.{descendants_of}
 use Rattle.edit_plan.specs.Results.{stands_like, found}
 
