@@ -11,3 +11,4 @@ mod Fitting
 mod Called
 mod Lines
 mod Restored
+mod Noted
