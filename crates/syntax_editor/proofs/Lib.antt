@@ -12,3 +12,4 @@ mod Called
 mod Lines
 mod Restored
 mod Noted
+mod Merged
