@@ -10,3 +10,5 @@ pub mod Followed
 pub mod Climbs
 pub mod RowTrees
 pub mod Rows
+mod Upwards
+mod Reached

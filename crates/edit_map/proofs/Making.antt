@@ -2,7 +2,8 @@
 --     copy-append                    the copy in two lists, one before the other
 --     made-same-order                a table is made of its entries in any order
 --     made-through, made-ahead, ok-ahead    made of what something is made of; the same before other pairs, where a call succeeds
---     made-rises, either-rises       what is made of pairs that rise is rising; whether it was made or refused
+--     made-pairs, either-pairs       what is made of pairs of nodes that rise are such pairs; whether it was made or refused
+--     pairs-rise                     such pairs rise
 use Rattle.std.specs.Prelude.{◌≡◌, true, false, cond, [], ◌∷◌, ◌++◌, find, reverse, Option, Some, None, option_map, Result, Ok, Err, OnOk, OnErr, Contains, refl}
 use Rattle.std.specs.Option.{option_or}
 use Rattle.std.specs.List.{IsDistinct}
@@ -16,7 +17,7 @@ use Rattle.std.proofs.lemmas.List.Elements.{All-same, All-weaker, All-contains, 
 use Rattle.std.proofs.lemmas.List.Sorted.{All-permutation, Contains-permutation, IsPermutation-map, IsPermutation-reverse, IsPermutation-sym}
 use Rattle.cst_core.specs.Element.{Address, Element, address, same_address}
 use Rattle.edit_map.specs.Mapping.{Mapping, copy, Rises, IsRising}
-use Rattle.edit_map.specs.Building.{IsMadeOf}
+use Rattle.edit_map.specs.Building.{IsMadeOf, IsPair, ArePairs}
 use Rattle.edit_map.proofs.Copies.{pair_of_copy}
 use Rattle.edit_map.proofs.Tables.{alike, alike-laws, lookup-copy}
 
@@ -76,14 +77,17 @@ made-ahead l m old n first second = record {
         ]
 
 -- ---- rising
-pub made-rises : (m old n : Mapping) → IsRising m → IsRising old → IsMadeOf (reverse m ++ old) n → IsRising n
-made-rises m old n rising old_rising made =
-    let all : IsRising (reverse m ++ old) = All-append Rises (reverse m) old (All-permutation Rises m (reverse m) (IsPermutation-reverse m) rising) old_rising in
-    All-weaker (Contains (reverse m ++ old)) Rises (λ d there. All-contains Rises (reverse m ++ old) d all there) n made.among
+pub made-pairs : (m old n : Mapping) → ArePairs m → ArePairs old → IsMadeOf (reverse m ++ old) n → ArePairs n
+made-pairs m old n pairs old_pairs made =
+    let all : ArePairs (reverse m ++ old) = All-append IsPair (reverse m) old (All-permutation IsPair m (reverse m) (IsPermutation-reverse m) pairs) old_pairs in
+    All-weaker (Contains (reverse m ++ old)) IsPair (λ d there. All-contains IsPair (reverse m ++ old) d all there) n made.among
 
-pub either-rises : {A E : Type 0} (m old n : Mapping) → IsRising m → IsRising old → (r : Result A E) → OnOk r (IsMadeOf (reverse m ++ old) n) → OnErr r (n ≡ old) → IsRising n
-either-rises m old n rising old_rising (Ok a) made kept = made-rises m old n rising old_rising made
-either-rises m old n rising old_rising (Err e) made kept = All-same Rises n old kept old_rising
+pub either-pairs : {A E : Type 0} (m old n : Mapping) → ArePairs m → ArePairs old → (r : Result A E) → OnOk r (IsMadeOf (reverse m ++ old) n) → OnErr r (n ≡ old) → ArePairs n
+either-pairs m old n pairs old_pairs (Ok a) made kept = made-pairs m old n pairs old_pairs made
+either-pairs m old n pairs old_pairs (Err e) made kept = All-same IsPair n old kept old_pairs
+
+pub pairs-rise : (m : Mapping) → ArePairs m → IsRising m
+pairs-rise m pairs = All-weaker IsPair Rises (λ d pair. pair.rises) m pairs
 
 pub ok-ahead : {A E : Type 0} (l m old n : Mapping) → IsMadeOf l m → (r : Result A E) → OnOk r (IsMadeOf (m ++ old) n) → OnOk r (IsMadeOf (l ++ old) n)
 ok-ahead l m old n first (Ok a) second = made-ahead l m old n first second

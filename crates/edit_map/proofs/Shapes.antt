@@ -29,11 +29,11 @@ same_child : (o : Option SyntaxTree) (v : SyntaxTree) → option_map without_tex
 same_child None v e = cc
 same_child (Some w) v e = cc
 
-children-shape : (t u v : SyntaxTree) (i : ℕ) → SameShape t u → slice_get (children t) i ≡ Some v → IsSomeAnd (slice_get (children u) i) (SameShape v)
+pub children-shape : (t u v : SyntaxTree) (i : ℕ) → SameShape t u → slice_get (children t) i ≡ Some v → IsSomeAnd (slice_get (children u) i) (SameShape v)
 children-shape t u v i same is =
     same_child (slice_get (children u) i) v (sym (slice_get-map without_texts (children u) i) ∙ ap (λ ts. slice_get ts i) (children-without_texts u ∙ ap children (sym same) ∙ sym (children-without_texts t)) ∙ slice_get-map without_texts (children t) i ∙ ap (option_map without_texts) is)
 
-at-append : (t : SyntaxTree) (p q : Path) → at t (p ++ q) ≡ option_and_then (λ c. at c q) (at t p)
+pub at-append : (t : SyntaxTree) (p q : Path) → at t (p ++ q) ≡ option_and_then (λ c. at c q) (at t p)
 at-append t [] q = refl
 at-append t (i ∷ p) q =
     elim (slice_get (children t) i) as (λ o. option_and_then (λ c. at c (p ++ q)) o ≡ option_and_then (λ c. at c q) (option_and_then (λ c. at c p) o)) [
@@ -42,14 +42,14 @@ at-append t (i ∷ p) q =
     ]
 
 -- ---- what is known of an element by its number
-abbrev Tells : Element → Element → Type 0
+abbrev pub Tells : Element → Element → Type 0
 Tells x e = x.number ≡ e.number → x.root ≡ e.root
 
 -- the root that it has is the one that each of these elements of its number has
-abbrev IsTold : List Element → Element → Type 0
+abbrev pub IsTold : List Element → Element → Type 0
 IsTold es x = All (Tells x) es
 
-all_told : (es : List Element) → NumbersTell es → All (IsTold es) es
+pub all_told : (es : List Element) → NumbersTell es → All (IsTold es) es
 all_told es tell k d here j e there =
     elim (cases_eq j k) [
       | inl same ↦ λ _. ap (λ (x : Element). x.root) (get_or_default es k d e here ∙ ap (λ n. slice_index_or es n e) (sym same))
@@ -141,15 +141,15 @@ module _ (m : Mapping) (es : List Element) (known : All (PairIsKnown es) m) (r :
 
 -- ---- from elements of a mapping to its pairs
 module _ {X : Type 0} (P : X → Type 0) where
-  all_left : (xs ys : List X) → AllByRecursion P (xs ++ ys) → AllByRecursion P xs
+  pub all_left : (xs ys : List X) → AllByRecursion P (xs ++ ys) → AllByRecursion P xs
   all_left [] ys a = tt
   all_left (x ∷ xs) ys a = (a.0, all_left xs ys a.1)
 
-  all_right : (xs ys : List X) → AllByRecursion P (xs ++ ys) → AllByRecursion P ys
+  pub all_right : (xs ys : List X) → AllByRecursion P (xs ++ ys) → AllByRecursion P ys
   all_right [] ys a = a
   all_right (x ∷ xs) ys a = all_right xs ys a.1
 
-  all_of_map : {Y : Type 0} (f : Y → X) (ys : List Y) → AllByRecursion P (map f ys) → AllByRecursion (λ y. P (f y)) ys
+  pub all_of_map : {Y : Type 0} (f : Y → X) (ys : List Y) → AllByRecursion P (map f ys) → AllByRecursion (λ y. P (f y)) ys
   all_of_map f [] a = tt
   all_of_map f (y ∷ ys) a = (a.0, all_of_map f ys a.1)
 

@@ -2,6 +2,7 @@
 --     mapping_code                   the code of a mapping, as a model's value
 --     SameCopies                     two mappings give each address the same copy
 --     IsMadeOf                       the mapping is what these pairs make, the newest first: the newest pair of an address stands
+--     IsPair, ArePairs               a pair of nodes that rises; each pair of a mapping is one
 --     Builder, builder_code          the parent of the copies, and the pairs so far, the newest first; its code
 --     IsPairUnder                    what a builder with this parent asks of a pair
 --     RefusesPair                    why it refuses one: the first of these that is missing
@@ -11,7 +12,7 @@ use Rattle.std.specs.Prelude.{◌≡◌, ◌<◌, ◌≤◌, List, ◌∷◌, �
 use Rattle.std.specs.List.{zip}
 use Rattle.std.specs.Coded.{Coded, code_by, coded_list, coded×}
 use Rattle.cst_core.specs.Tree.{SameShape}
-use Rattle.cst_core.specs.Element.{Address, Element, IsChild, subtree, element_code}
+use Rattle.cst_core.specs.Element.{Address, Element, IsChild, IsNode, subtree, element_code}
 use Rattle.edit_map.specs.Mapping.{Mapping, copy, Rises}
 use Rattle.edit_map.specs.declared.map_error.MapError.{MapError}
 use Rattle.edit_map.specs.declared.map_error.MapError.TheVariants.{NotAChild, NotYounger, OtherShape, MoreInputs, Memory}
@@ -26,6 +27,14 @@ pub record IsMadeOf (pairs m : Mapping) : Type 0 where
   pub copies : SameCopies m pairs
   pub among : All (Contains pairs) m
 
+pub record IsPair (pair : Element × Element) : Type 0 where
+  pub rises : Rises pair
+  pub input : IsNode pair.0
+  pub output : IsNode pair.1
+
+abbrev pub ArePairs : Mapping → Type 0
+ArePairs m = All IsPair m
+
 pub record Builder : Type 0 where
   pub parent : Element
   pub pairs : Mapping
@@ -35,7 +44,7 @@ builder_code = code_by (Element × Mapping) (coded× element_code mapping_code) 
 
 pub record IsPairUnder (parent : Element) (pair : Element × Element) : Type 0 where
   pub child : IsChild parent pair.1
-  pub rises : Rises pair
+  pub is_pair : IsPair pair
 
 abbrev pub RefusesPair : Element → Element × Element → MapError → Type 0
 RefusesPair parent pair NotAChild = IsChild parent pair.1 → ⊥

@@ -1,3 +1,4 @@
 pub mod Mapping
 pub mod Building
 pub mod Climbing
+pub mod Following

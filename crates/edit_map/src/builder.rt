@@ -2,7 +2,7 @@ ghost use Rattle.std.specs.Prelude.{◌≡◌, ◌↔◌, ◌≤◌, length, [],
 ghost use Rattle.std.specs.List.{zip};
 ghost use Rattle.cst_core.specs.Element.{IsChild};
 ghost use Rattle.edit_map.specs.Mapping.{IsRising};
-ghost use Rattle.edit_map.specs.Building.{IsMadeOf, IsPairUnder, RefusesPair, RefusesChildren};
+ghost use Rattle.edit_map.specs.Building.{IsMadeOf, ArePairs, IsPairUnder, RefusesPair, RefusesChildren};
 
 use crate::map_error::MapError;
 use crate::mapping::SyntaxMapping;
@@ -46,6 +46,8 @@ fn test_pair(parent: &SyntaxNode, input: &SyntaxNode, output: &SyntaxNode) -> Re
     ensures ok { OnOk result (IsPairUnder parent.now (input.now, output.now)) }
     ensures err { IfErr result (RefusesPair parent.now (input.now, output.now)) }
 {
+    // Both are nodes.
+    let _ = (input.kind(), output.kind());
     if !is_child(parent, output) {
         return Err(MapError::NotAChild);
     }
@@ -149,7 +151,7 @@ impl SyntaxMappingBuilder {
     // The pairs, the oldest first.
     pub(crate) fn into_pairs(self) -> Vec<(SyntaxNode, SyntaxNode)>
         ensures pairs { reverse result.items ≡ self.pairs }
-        ensures rising { IsRising result.items }
+        ensures pairs_of_nodes { ArePairs result.items }
     {
         self.pairs
     }

@@ -2,6 +2,7 @@
 #![tactic(auto)]
 
 mod builder;
+mod follow;
 pub mod laws;
 mod map_error;
 mod mapping;

@@ -1,7 +1,7 @@
 ghost use Rattle.std.specs.Prelude.{◌≡◌, [], ◌++◌, IfOk, OnOk, OnErr, reverse, option_map, MatchOption};
 ghost use Rattle.cst_core.specs.Element.{address};
 ghost use Rattle.edit_map.specs.Mapping.{IsRising, IsPlace, copied};
-ghost use Rattle.edit_map.specs.Building.{IsMadeOf};
+ghost use Rattle.edit_map.specs.Building.{IsMadeOf, ArePairs};
 ghost use Rattle.edit_map.specs.Climbing.{IsAbove};
 
 use crate::builder::SyntaxMappingBuilder;
@@ -17,12 +17,12 @@ use std::marker::Model;
 /// path; the pair that comes last stands.
 #[derive(Drop)]
 pub struct SyntaxMapping {
-    copies: HashMap<SyntaxNode, SyntaxNode>,
+    pub(crate) copies: HashMap<SyntaxNode, SyntaxNode>,
 }
 
 impl Model for SyntaxMapping {
-    ghost use Rattle.edit_map.specs.Mapping.{Mapping, IsRising};
-    ghost use Rattle.edit_map.specs.Building.{mapping_code};
+    ghost use Rattle.edit_map.specs.Mapping.{Mapping};
+    ghost use Rattle.edit_map.specs.Building.{mapping_code, ArePairs};
 
     ghost Value = { Mapping };
 
@@ -30,7 +30,7 @@ impl Model for SyntaxMapping {
 
     ghost view = { λ a. a.copies.entries };
 
-    ghost invariant = { λ a. IsRising a.copies.entries };
+    ghost invariant = { λ a. ArePairs a.copies.entries };
 }
 
 impl SyntaxMapping {
@@ -139,7 +139,7 @@ impl SyntaxMapping {
 
     // Takes up pairs, one after another.
     fn take_in(&mut self, pairs: Vec<(SyntaxNode, SyntaxNode)>) -> Result<(), AllocError>
-        requires { IsRising pairs.items }
+        requires { ArePairs pairs.items }
         ensures ok { OnOk result (IsMadeOf (reverse pairs.items ++ self.old) self.new) }
         ensures err { OnErr result (self.new ≡ self.old) }
         ensures rising { IsRising self.new }
@@ -149,7 +149,7 @@ impl SyntaxMapping {
 
     // The pairs, in some order.
     fn into_pairs(self, alloc: Global) -> Result<Vec<(SyntaxNode, SyntaxNode)>, AllocError>
-        ensures { IfOk result (λ v. IsMadeOf self (reverse v.items) × IsRising v.items) }
+        ensures { IfOk result (λ v. IsMadeOf self (reverse v.items) × ArePairs v.items) }
     {
         let mut pairs = Vec::with_capacity(alloc, self.copies.len())?;
         for pair in self.copies {
@@ -160,7 +160,7 @@ impl SyntaxMapping {
 
     // Clones of the pairs, in some order.
     fn cloned_pairs(&self, alloc: Global) -> Result<Vec<(SyntaxNode, SyntaxNode)>, AllocError>
-        ensures { IfOk result (λ v. IsMadeOf self.now (reverse v.items) × IsRising v.items) }
+        ensures { IfOk result (λ v. IsMadeOf self.now (reverse v.items) × ArePairs v.items) }
     {
         let mut pairs = Vec::with_capacity(alloc, self.copies.len())?;
         for (input, output) in &self.copies {

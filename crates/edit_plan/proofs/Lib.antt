@@ -38,3 +38,4 @@ mod Registered
 mod Levels
 mod MarksFilled
 mod CopiesFound
+mod FoundNodes

@@ -1,3 +1,4 @@
+pub mod Annotation
 pub mod Codes
 pub mod Position
 pub mod Change

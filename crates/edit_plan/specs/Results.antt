@@ -3,7 +3,7 @@
 --     changed                       the paths, in document order, of the brought elements whose parent is none
 --     copies_of                     the paths, in document order, of the elements copied from an address
 --     annotated, annotated_as       an annotation with each path, by registration and then in document order; the paths of one annotation
---     found                         the path of the first node, in document order, of the kind of an old one that starts where that one does
+--     stands_like, found            what is at a path has the kind of an old element and starts where that one does; the path of the first node, in document order, of the kind of an old one that starts where that one does
 use Rattle.std.specs.Prelude.{ℕ, nat_eq, ◌&&◌, Bool, false, List, map, filter, flat_map, find, Option}
 use Rattle.std.specs.Option.{option_map_or}
 use Rattle.cst_core.specs.Path.{Path}
@@ -33,7 +33,7 @@ abbrev pub annotated_as : Mapping → List (Element × ℕ) → OriginTree → �
 annotated_as m registrations t annotation = map (λ n. n.1) (filter (λ n. nat_eq n.0 annotation) (annotated m registrations t))
 
 -- ---- finding a node again
-abbrev stands_like : Element → SyntaxTree → Path → Bool
+abbrev pub stands_like : Element → SyntaxTree → Path → Bool
 stands_like old t p = option_map_or (λ e. nat_eq (label e) (label (subtree old))) (at t p) false && nat_eq (start t p) (start old.root old.path)
 
 abbrev pub found : Element → SyntaxTree → Option Path

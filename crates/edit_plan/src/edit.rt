@@ -1,6 +1,9 @@
-ghost use Rattle.std.specs.Prelude.{◌≡◌};
+ghost use Rattle.std.specs.Prelude.{◌≡◌, IfOk, option_map};
+ghost use Rattle.cst_core.specs.Element.{element_at};
+ghost use Rattle.edit_plan.specs.Results.{found};
 
 use cst_core::{SyntaxElement, SyntaxNode};
+use std::alloc::{AllocError, Global};
 use std::marker::Model;
 
 /// What carrying out a plan gives.
@@ -41,5 +44,24 @@ impl SyntaxEdit {
         ensures { result.now ≡ self.now.changed }
     {
         self.changed.as_slice()
+    }
+
+    /// The first node of the new tree in document order, its root included, that has the kind of `old` and starts where that one
+    /// does, each start counted from the start of its own tree's text.
+    pub fn find_element(
+        &self,
+        alloc: Global,
+        old: &SyntaxNode,
+    ) -> Result<Option<SyntaxNode>, AllocError>
+        ensures { IfOk result (λ r. r ≡ option_map (element_at self.now.new_root) (found old.now self.now.new_root.root)) }
+    {
+        let (kind, start) = (old.kind(), old.text_start());
+        let nodes = self.new_root.tree_top(alloc)?.descendants(alloc)?;
+        for node in nodes {
+            if node.kind() == kind && node.text_start() == start {
+                return Ok(Some(node));
+            }
+        }
+        Ok(None)
     }
 }

@@ -1,6 +1,7 @@
 //! Changes of a tree, and the tree that a set of them makes of it.
 #![tactic(auto)]
 
+mod annotation;
 mod by_depth;
 mod change;
 mod change_aims;
@@ -25,6 +26,7 @@ mod sought;
 mod target_index;
 mod targets;
 
+pub use annotation::{Annotations, SyntaxAnnotation};
 pub use change::Change;
 pub use edit::SyntaxEdit;
 pub use edit_error::EditError;

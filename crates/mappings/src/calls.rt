@@ -5,9 +5,9 @@ use cst_core::SyntaxNode;
 use edit_map::{MapError, SyntaxMapping, SyntaxMappingBuilder};
 use std::alloc::Global;
 
-const SEVEN: &str = "(TUPLE_EXPR L_PAREN\"(\" (LITERAL INT_NUMBER\"7\") R_PAREN\")\")";
+pub const SEVEN: &str = "(TUPLE_EXPR L_PAREN\"(\" (LITERAL INT_NUMBER\"7\") R_PAREN\")\")";
 
-const ONE_TO_SEVEN: Pair = Pair {
+pub const ONE_TO_SEVEN: Pair = Pair {
     input: At {
         tree: 0,
         path: &[1],
@@ -31,8 +31,8 @@ const ONE_TO_OTHER: Pair = Pair {
     parent: At { tree: 2, path: &[] },
 };
 
-// A path as it is printed.
-fn path_text(alloc: Global, path: &[usize]) -> Result<String> {
+/// A path as it is printed.
+pub fn path_text(alloc: Global, path: &[usize]) -> Result<String> {
     let Some((first, rest)) = path.split_first() else {
         return Ok(String::from_str(alloc, ".")?);
     };
@@ -56,8 +56,8 @@ fn place_text(
     }
 }
 
-// A builder that is told of one pair, and why it refuses it.
-fn builder_of(
+/// A builder that is told of one pair, and why it refuses it.
+pub fn builder_of(
     alloc: Global,
     trees: &[SyntaxNode],
     pair: &Pair,

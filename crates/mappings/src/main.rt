@@ -1,12 +1,14 @@
-//! Makes mappings of row trees, and prints which places they give and what is refused. What is expected stands in the file
+//! Makes mappings of row trees, and prints which places they give, what is refused and where elements are followed to. What is expected stands in the file
 //! `stdout` beside this folder.
 #![tactic(auto)]
 
 mod calls;
+mod following;
 mod rows;
 mod trees;
 
 use crate::calls::{answer_of, children, cloned, merged};
+use crate::following::{FOLLOWED, followed_to};
 use crate::rows::ROWS;
 use anyhow::Result;
 
@@ -22,5 +24,9 @@ fn main(rt: HostRuntime) -> Result<()> {
     println!(rt; "merged: {answer}")?;
     let answer = cloned(alloc)?;
     println!(rt; "cloned: {answer}")?;
+    for row in FOLLOWED {
+        let answer = followed_to(alloc, row)?;
+        println!(rt; "followed, {}: {answer}", row.name)?;
+    }
     Ok(())
 }

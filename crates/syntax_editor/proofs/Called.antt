@@ -1,14 +1,15 @@
 -- An editor after a call, of what the call makes of its list.
-use Rattle.std.specs.Prelude.{◌≡◌, List, Option}
+use Rattle.std.specs.Prelude.{◌≡◌, ℕ, List, Option}
 use Rattle.std.proofs.Common.{ap, ◌∙◌}
 use Rattle.cst_core.specs.Element.{Element}
+use Rattle.cst_core.specs.declared.element.SyntaxElement.{SyntaxElement}
 use Rattle.edit_map.specs.Mapping.{Mapping}
 use Rattle.edit_plan.specs.declared.change.Change.{Change}
 use Rattle.syntax_editor.specs.RecordCall.{RecordCall, recorded}
 use Rattle.syntax_editor.specs.Editor.{Editor, after_call}
 
-abbrev pub editor : Element → Option Mapping → List Change → Editor
-editor root factory cs = record { root = root; changes = cs; factory = factory }
+abbrev pub editor : Element → List (SyntaxElement × ℕ) → Option Mapping → List Change → Editor
+editor root registrations factory cs = record { root = root; changes = cs; registrations = registrations; factory = factory }
 
-pub called : (call : RecordCall) (root : Element) (factory : Option Mapping) (cs ds : List Change) (e : Editor) → ds ≡ recorded call cs → editor root factory cs ≡ e → editor root factory ds ≡ after_call call e
-called call root factory cs ds e list is = ap (editor root factory) list ∙ ap (after_call call) is
+pub called : (call : RecordCall) (root : Element) (registrations : List (SyntaxElement × ℕ)) (factory : Option Mapping) (cs ds : List Change) (e : Editor) → ds ≡ recorded call cs → editor root registrations factory cs ≡ e → editor root registrations factory ds ≡ after_call call e
+called call root registrations factory cs ds e list is = ap (editor root registrations factory) list ∙ ap (after_call call) is

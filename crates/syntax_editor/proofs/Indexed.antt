@@ -59,7 +59,7 @@ marked f p q r known =
     ]
 
 -- ---- what is said of a list
-abbrev stated : Option ℕ → List (Option SyntaxElement) → Option Replaced
+abbrev pub stated : Option ℕ → List (Option SyntaxElement) → Option Replaced
 stated o rs = option_map (λ i. record { first = i; is_deleted = list_any is_none rs }) o
 
 pub nothing-said : (p : Path) (cs : List Change) → replaced_at p cs ≡ None → position (is_replace_at p) cs ≡ None
@@ -110,7 +110,7 @@ other_at q (ReplaceWithMany t es) h = refl
 other_at q (ReplaceAll first last es) h = refl
 
 -- one more change at the end, which says nothing of a path
-unsaid : (q : Path) (cs : List Change) (c : Change) → replacement_at q c ≡ None → replaced_at q (cs ++ c ∷ []) ≡ replaced_at q cs
+pub unsaid : (q : Path) (cs : List Change) (c : Change) → replacement_at q c ≡ None → replaced_at q (cs ++ c ∷ []) ≡ replaced_at q cs
 unsaid q cs c none =
     let rest : replacements_at q (cs ++ c ∷ []) ≡ replacements_at q cs = filter_map-append (replacement_at q) cs (c ∷ []) ∙ ap (λ o. replacements_at q cs ++ cons_option o []) none ∙ append-nil (replacements_at q cs) in
     ap (λ o. stated o (replacements_at q (cs ++ c ∷ []))) (position-pushed (is_replace_at q) cs c (ap is_some none)) ∙ ap (stated (position (is_replace_at q) cs)) rest
@@ -119,17 +119,17 @@ pub said-pushed : (cs : List Change) (c : Change) → is_replace c ≡ false →
 said-pushed cs c other q = unsaid q cs c (other_at q c other)
 
 module _ (e : SyntaxElement) where
-  abbrev p : Path
+  abbrev pub p : Path
   p = (element_of e).path
 
   abbrev changed : (Option SyntaxElement → Option SyntaxElement) → Option SyntaxElement → List Change → List Change
   changed h new cs = taken (is_replace_at p) (with_replacement h) (Replace e new) cs
 
   module _ (new : Option SyntaxElement) where
-    here : replacement_at p (Replace e new) ≡ Some new
+    pub here : replacement_at p (Replace e new) ≡ Some new
     here = ap (λ b. cond b (Some new) None) (same_path_from p p refl)
 
-    there : (q : Path) → same_path p q ≡ false → replacement_at q (Replace e new) ≡ None
+    pub there : (q : Path) → same_path p q ≡ false → replacement_at q (Replace e new) ≡ None
     there q differ = ap (λ b. cond b (Some new) None) differ
 
     first-said : (cs : List Change) → position (is_replace_at p) cs ≡ None → replaced_at p (cs ++ Replace e new ∷ []) ≡ Some (record { first = length cs; is_deleted = is_none new })

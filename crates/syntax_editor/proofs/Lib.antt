@@ -11,3 +11,5 @@ mod Fitting
 mod Called
 mod Lines
 mod Restored
+mod Noted
+mod Merged

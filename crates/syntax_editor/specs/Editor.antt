@@ -1,11 +1,12 @@
 -- Editors as contracts see them.
---     Editor, IsEditor              the root that is edited, the changes recorded so far and the factory's mappings; what is true of every editor
+--     Editor, IsEditor              the root that is edited, the changes recorded so far, the registrations (elements with annotations) and the factory's mappings; what is true of every editor
 --     factory_code                  the code of a factory's mappings
 --     edited_root                   the root that a new editor edits, and whether it is one of a tree of its own that is made for it
 --     Records, RecordRefuses        what a call that records leaves behind; why it is refused
+--     registered, annotated         an editor with more registrations, behind those before; each of so many elements with an annotation
 --     FinishRefuses                 why an editor's changes are not carried out
-use Rattle.std.specs.Prelude.{◌≡◌, ℕ, Bool, true, false, cond, List, [], Option, Some, unwrap_or, All, refl}
-use Rattle.std.specs.Coded.{Coded, code_by, coded_list, coded_option, coded×}
+use Rattle.std.specs.Prelude.{◌≡◌, ℕ, Bool, true, false, cond, List, [], ◌++◌, map, Option, Some, unwrap_or, All, refl}
+use Rattle.std.specs.Coded.{Coded, code_by, coded_ℕ, coded_list, coded_option, coded×}
 use Rattle.cst_core.specs.Element.{Element, subtree, element_code}
 use Rattle.cst_core.specs.Path.{same_path}
 use Rattle.edit_map.specs.Building.{mapping_code}
@@ -13,6 +14,8 @@ use Rattle.edit_map.specs.Mapping.{Mapping}
 use Rattle.edit_plan.specs.declared.change.Change.{Change}
 use Rattle.edit_plan.specs.declared.edit_error.EditError.{EditError}
 use Rattle.edit_plan.specs.declared.edit_error.EditError.TheVariants.{Intersecting, MissingMapping, TooLong, NoTreeNumber, Memory}
+use Rattle.cst_core.specs.declared.element.SyntaxElement.{SyntaxElement}
+use Rattle.edit_plan.specs.Codes.{syntax_element_code}
 use Rattle.edit_plan.specs.ChangeCodes.{change_code}
 use Rattle.edit_plan.specs.Building.{Plan, BuildRefuses, RunRefuses}
 use Rattle.edit_plan.specs.Fits.{Fits}
@@ -23,6 +26,7 @@ use Rattle.syntax_editor.specs.declared.error.RecordError.TheVariants as record_
 pub record Editor : Type 0 where
   pub root : Element
   pub changes : List Change
+  pub registrations : List (SyntaxElement × ℕ)
   pub factory : Option Mapping
 
 -- the mappings of a factory, if it keeps some
@@ -30,7 +34,7 @@ abbrev pub factory_code : Coded (Option Mapping)
 factory_code = coded_option mapping_code
 
 abbrev pub editor_code : Coded Editor
-editor_code = code_by (Element × (List Change × Option Mapping)) (coded× element_code (coded× (coded_list change_code) factory_code)) (λ e. (e.root, (e.changes, e.factory))) (λ q. record { root = q.0; changes = q.1.0; factory = q.1.1 }) (λ _. refl)
+editor_code = code_by (Element × (List Change × (List (SyntaxElement × ℕ) × Option Mapping))) (coded× element_code (coded× (coded_list change_code) (coded× (coded_list (coded× syntax_element_code coded_ℕ)) factory_code))) (λ e. (e.root, (e.changes, (e.registrations, e.factory)))) (λ q. record { root = q.0; changes = q.1.0; registrations = q.1.1.0; factory = q.1.1.1 }) (λ _. refl)
 
 pub record IsEditor (e : Editor) : Type 0 where
   pub is_root : e.root.path ≡ []
@@ -57,6 +61,13 @@ RecordRefuses call e record_error.RootReplacement = refusal e.root call ≡ Some
 RecordRefuses call e record_error.LevelTooLarge = ⊥
 RecordRefuses call e record_error.NoTreeNumber = ⊥
 RecordRefuses call e record_error.Memory = Unit {0}
+
+-- ---- registering
+abbrev pub registered : List (SyntaxElement × ℕ) → Editor → Editor
+registered more e = record e { registrations = e.registrations ++ more }
+
+abbrev pub annotated : ℕ → List SyntaxElement → List (SyntaxElement × ℕ)
+annotated annotation es = map (λ e. (e, annotation)) es
 
 -- ---- finishing
 -- where the factory keeps no mappings, nothing is mapped

@@ -6,6 +6,7 @@ pub mod Indentation
 pub mod AttrsAndDocs
 pub mod Spacing
 pub mod Editor
+pub mod Merging
 pub mod Lending
 pub mod Indexing
 pub mod Laws

@@ -1,9 +1,11 @@
-ghost use Rattle.std.specs.Prelude.{◌≡◌, false, [], ◌∷◌, ◌++◌, position, option_map, None, is_none, OnOk, OnErr};
+ghost use Rattle.std.specs.Prelude.{◌≡◌, ◌<◌, ◌+◌, ◌^◌, List, Option, length, IfOk, false, [], ◌∷◌, ◌++◌, position, option_map, None, is_none, OnOk, OnErr};
 ghost use Rattle.std.specs.List.{list_any};
 ghost use Rattle.cst_core.specs.SyntaxElement.{element_of};
+ghost use Rattle.cst_core.specs.declared.element.SyntaxElement.{SyntaxElement};
+ghost use Rattle.edit_plan.specs.declared.change.Change.{Change};
 ghost use Rattle.edit_plan.specs.declared.change.Change.TheVariants.{Replace};
-ghost use Rattle.syntax_editor.specs.Recording.{with_replacement};
-ghost use Rattle.syntax_editor.specs.Indexing.{is_replace, is_replace_at, replacements_at, replace_at, delete_at};
+ghost use Rattle.syntax_editor.specs.Recording.{with_replacement, merged};
+ghost use Rattle.syntax_editor.specs.Indexing.{is_replace, is_replace_at, replacements_at, replace_at, delete_at, Agrees};
 
 use crate::replace_index::{ReplaceIndex, Replaced};
 use cst_core::SyntaxElement;
@@ -100,6 +102,25 @@ impl ChangeList {
         Ok(())
     }
 
+    /// Puts the changes of another list of the same tree at the end and leaves that one empty. No change takes another one up.
+    /// Without memory for that both are unchanged.
+    pub(crate) fn append(
+        &mut self,
+        alloc: Global,
+        other: &mut ChangeList,
+    ) -> Result<(), AllocError>
+        ensures ok { OnOk result (self.new ≡ merged self.old other.old) }
+        ensures taken { OnOk result (other.new ≡ []) }
+        ensures err { OnErr result (self.new ≡ self.old) }
+        ensures kept { OnErr result (other.new ≡ other.old) }
+    {
+        let replaced = index_of(alloc, &self.changes, &other.changes)?;
+        self.changes.append(&mut other.changes)?;
+        self.replaced = replaced;
+        other.replaced = ReplaceIndex::new(alloc);
+        Ok(())
+    }
+
     /// Whether the element at a path is deleted by a Replace of it.
     pub(crate) fn has_deletion(&self, path: &[usize]) -> bool
         ensures { result ≡ list_any is_none (replacements_at path.now self.now) }
@@ -131,6 +152,76 @@ impl ChangeList {
         self.changes.push_reserved(Change::Replace(element, new));
         Ok(())
     }
+}
+
+// The index of two lists, the second behind the first.
+fn index_of(alloc: Global, own: &[Change], other: &[Change]) -> Result<ReplaceIndex, AllocError>
+    requires { length own.now + length other.now < 2 ^ 64 }
+    ensures { IfOk result (λ x. Agrees x (own.now ++ other.now)) }
+{
+    let mut index = ReplaceIndex::new(alloc);
+    note_all(alloc, &mut index, 0, own)?;
+    note_all(alloc, &mut index, own.len(), other)?;
+    Ok(index)
+}
+
+// Tells the index of a list of more changes at its end, where the list has so many.
+fn note_all(
+    alloc: Global,
+    index: &mut ReplaceIndex,
+    before: usize,
+    changes: &[Change],
+) -> Result<(), AllocError>
+    requires { before + length changes.now < 2 ^ 64 }
+    ensures { (cs : List Change) → length cs ≡ before → Agrees index.old cs → OnOk result (Agrees index.new (cs ++ changes.now)) }
+{
+    let mut place = before;
+    for change in changes {
+        note(alloc, index, place, change)?;
+        place += 1;
+    }
+    Ok(())
+}
+
+// Tells the index of a list of one more change, which stands at this place.
+fn note(
+    alloc: Global,
+    index: &mut ReplaceIndex,
+    place: usize,
+    change: &Change,
+) -> Result<(), AllocError>
+    ensures { (cs : List Change) → length cs ≡ place → Agrees index.old cs → OnOk result (Agrees index.new (cs ++ change.now ∷ [])) }
+{
+    match change {
+        Change::Replace(element, new) => {
+            note_replace(alloc, index, place, element, new.is_none())
+        }
+        _ => Ok(()),
+    }
+}
+
+// Tells it of a Replace. The first one of an element stays its first.
+fn note_replace(
+    alloc: Global,
+    index: &mut ReplaceIndex,
+    place: usize,
+    element: &SyntaxElement,
+    is_deleted: bool,
+) -> Result<(), AllocError>
+    ensures { (cs : List Change) (new : Option SyntaxElement) → length cs ≡ place → is_none new ≡ is_deleted → Agrees index.old cs → OnOk result (Agrees index.new (cs ++ Replace element.now new ∷ [])) }
+{
+    if index.get(element.slots()).is_none() {
+        let path = element.path(alloc)?;
+        let replaced = Replaced {
+            first: place,
+            is_deleted,
+        };
+        return index.insert(path, replaced);
+    }
+    if is_deleted {
+        index.mark_deleted(element.slots());
+    }
+    Ok(())
 }
 
 // Makes a Replace bring another element. A deletion stays one, and so does any other change.

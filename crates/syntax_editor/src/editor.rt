@@ -7,8 +7,8 @@ ghost use Rattle.syntax_editor.specs.Editor.{has_parent, edited_root, plan_of, F
 
 use crate::change_list::ChangeList;
 use crate::factory::SyntaxFactory;
-use cst_core::{SyntaxNode, TreeError, TreeIds};
-use edit_plan::{Change, EditError, EditPlan, SyntaxEdit};
+use cst_core::{SyntaxElement, SyntaxNode, TreeError, TreeIds};
+use edit_plan::{Change, EditError, EditPlan, SyntaxAnnotation, SyntaxEdit};
 use std::alloc::Global;
 use std::marker::Model;
 
@@ -20,7 +20,9 @@ use std::marker::Model;
 pub struct SyntaxEditor {
     pub(crate) root: SyntaxNode,
     pub(crate) changes: ChangeList,
-    factory: SyntaxFactory,
+    // The elements that are registered with annotations, in order.
+    pub(crate) registrations: Vec<(SyntaxElement, SyntaxAnnotation)>,
+    pub(crate) factory: SyntaxFactory,
 }
 
 impl Model for SyntaxEditor {
@@ -30,9 +32,9 @@ impl Model for SyntaxEditor {
 
     ghost coded = { editor_code };
 
-    ghost view = { λ a. record { root = a.root; changes = a.changes; factory = a.factory } };
+    ghost view = { λ a. record { root = a.root; changes = a.changes; registrations = a.registrations.items; factory = a.factory } };
 
-    ghost invariant = { λ a. IsEditor (record { root = a.root; changes = a.changes; factory = a.factory }) };
+    ghost invariant = { λ a. IsEditor (record { root = a.root; changes = a.changes; registrations = a.registrations.items; factory = a.factory }) };
 }
 
 impl SyntaxEditor {
@@ -45,7 +47,7 @@ impl SyntaxEditor {
         ids: &mut TreeIds,
         root: SyntaxNode,
     ) -> Result<(SyntaxEditor, SyntaxNode), TreeError>
-        ensures editor { IfOk result (λ r. r.0 ≡ record { root = edited_root ids.old root; changes = []; factory = Some [] }) }
+        ensures editor { IfOk result (λ r. r.0 ≡ record { root = edited_root ids.old root; changes = []; registrations = []; factory = Some [] }) }
         ensures root { IfOk result (λ r. r.1 ≡ edited_root ids.old root) }
         ensures drawn { OnOk result (ids.new ≡ cond (has_parent root) (ids.old + 1) ids.old) }
         ensures fits { ¬ (result ≡ Err TreeError.TooLong) }
@@ -67,11 +69,12 @@ impl SyntaxEditor {
     // An editor of this root, without changes.
     fn of_root(alloc: Global, root: SyntaxNode) -> SyntaxEditor
         requires { root.path ≡ [] }
-        ensures { result ≡ record { root = root; changes = []; factory = Some [] } }
+        ensures { result ≡ record { root = root; changes = []; registrations = []; factory = Some [] } }
     {
         SyntaxEditor {
             root,
             changes: ChangeList::new(alloc),
+            registrations: Vec::new(alloc),
             factory: SyntaxFactory::with_mappings(alloc),
         }
     }
@@ -99,7 +102,7 @@ impl SyntaxEditor {
         self.changes.as_slice()
     }
 
-    /// A plan of the changes, which can be carried out as it is.
+    /// A plan of the changes, which can be carried out as it is. Registrations play no part in it.
     ///
     /// `Intersecting` comes first, then `MissingMapping`; else only `Memory` comes. Nothing is handed back then.
     pub fn plan(self, alloc: Global) -> Result<EditPlan, EditError>

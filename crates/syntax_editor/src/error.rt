@@ -37,3 +37,14 @@ impl From<AllocError> for RecordError {
         RecordError::Memory
     }
 }
+
+/// Why an editor is not merged into another one.
+#[derive(Debug, PartialEq, Eq, Drop, Error)]
+pub enum MergeError {
+    /// The editors have different roots, or roots of one tree number in which a change of the other editor finds no place.
+    #[error("OtherRoot")]
+    OtherRoot,
+    /// Memory was refused.
+    #[error("Memory")]
+    Memory,
+}

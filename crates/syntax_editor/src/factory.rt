@@ -1,9 +1,10 @@
-ghost use Rattle.std.specs.Prelude.{◌≡◌, [], None, Some, unwrap_or, option_map};
+ghost use Rattle.std.specs.Prelude.{◌≡◌, [], None, Some, IfOk, unwrap_or, option_map};
+ghost use Rattle.edit_map.specs.Building.{IsMadeOf};
 ghost use Rattle.std.specs.Borrow.{sem};
 ghost use Rattle.syntax_editor.specs.Lending.{LendsMappings};
 
 use edit_map::SyntaxMapping;
-use std::alloc::Global;
+use std::alloc::{AllocError, Global};
 use std::marker::Model;
 
 /// What makes new elements, and keeps which node is the copy of which one where it has mappings.
@@ -47,6 +48,25 @@ impl SyntaxFactory {
         ensures value { option_map (λ m. m.now) result ≡ self.old }
     {
         self.mappings.as_mut()
+    }
+
+    /// A factory with these mappings.
+    pub(crate) fn keeping(mapping: SyntaxMapping) -> SyntaxFactory
+        ensures { result ≡ Some mapping }
+    {
+        SyntaxFactory {
+            mappings: Some(mapping),
+        }
+    }
+
+    /// A copy of the mappings, of nothing where the factory keeps none.
+    pub(crate) fn cloned_mapping(&self, alloc: Global) -> Result<SyntaxMapping, AllocError>
+        ensures { IfOk result (IsMadeOf (unwrap_or self.now [])) }
+    {
+        match &self.mappings {
+            Some(mapping) => mapping.try_clone(alloc),
+            None => Ok(SyntaxMapping::new(alloc)),
+        }
     }
 
     /// The mappings by value, of nothing where the factory keeps none.

@@ -1,6 +1,7 @@
 use Rattle.std.proofs.Common.{sym, ◌∙◌}
 use Rattle.cst_core.specs.Element.{address}
 use Rattle.edit_map.specs.Mapping.{IsRising}
+use Rattle.edit_map.proofs.Making.{pairs-rise}
 use Rattle.edit_map.proofs.Climbs.{met, not-met, climbed-start, climbed-step, climbed-there, climbed-nowhere, way-falls}
 use Rattle.edit_map.proofs.mapping.SyntaxMapping.place.Goals as goal
 
@@ -11,7 +12,7 @@ up-init c =
 pub up-smaller : goal.up-smaller
 up-smaller c =
     let above = rw c.in-Some.is at c.in_ok-slot.ensures in
-    let rising : IsRising c.args.self.now = rw (← c.self.view_is) c.self.invariant in
+    let rising : IsRising c.args.self.now = rw (← c.self.view_is) (pairs-rise c.self.inside.copies.entries c.self.invariant) in
     way-falls c.args.self.now rising (address c.up.node) (address c.in-Some.parent) c.in-Some.slot above
 
 pub up-preserved : goal.up-preserved

@@ -36,4 +36,4 @@ returns-then-eq-clause-recorded c =
     let one : are_one c.args.first c.args.last ≡ true = sym c.eq.ensures ∙ c.if-eq.true in
     let as_delete : delete_all c.args.first c.args.last cs ≡ delete c.args.first cs = cond-true (are_one c.args.first c.args.last) (delete c.args.first cs) (cs ++ ReplaceAll c.args.first c.args.last [] ∷ []) one in
     let list : c.delete.new.self ≡ delete c.args.first cs = c.in_ok-delete.ensures.ok ∙ sym (delete-by-path root c.args.first (native_number root c.args.first (both_native root c.args.first c.args.last foreign).0) cs c.self.invariant.fit) in
-    called call root c.self.inside.factory cs c.delete.new.self c.args.self.now (list ∙ sym as_delete) c.self.view_is
+    called call root c.self.inside.registrations.items c.self.inside.factory cs c.delete.new.self c.args.self.now (list ∙ sym as_delete) c.self.view_is

@@ -24,4 +24,4 @@ invariant_of-self-2 c =
 pub returns-clause-recorded : goal.returns-clause-recorded
 returns-clause-recorded c =
     let list : c.delete.new.self ≡ delete c.args.element c.self.inside.changes = c.in_ok-delete.ensures.ok ∙ sym (delete-by-path c.self.inside.root c.args.element (native_number c.self.inside.root c.args.element (sym c.is_native.ensures ∙ c.if-not-is_native.false)) c.self.inside.changes c.self.invariant.fit) in
-    called (Deleting c.args.element) c.self.inside.root c.self.inside.factory c.self.inside.changes c.delete.new.self c.args.self.now list c.self.view_is
+    called (Deleting c.args.element) c.self.inside.root c.self.inside.registrations.items c.self.inside.factory c.self.inside.changes c.delete.new.self c.args.self.now list c.self.view_is

@@ -29,4 +29,4 @@ invariant_of-self-2 c =
 pub returns-clause-recorded : goal.returns-clause-recorded
 returns-clause-recorded c =
     let list : c.replace.new.self ≡ replace c.args.element c.args.new c.self.inside.changes = c.in_ok-replace.ensures.ok ∙ sym (replace-by-path c.self.inside.root c.args.element (native_number c.self.inside.root c.args.element (sym c.is_native.ensures ∙ c.if-not-is_native.false)) c.args.new c.self.inside.changes c.self.invariant.fit) in
-    called (Replacing c.args.element c.args.new) c.self.inside.root c.self.inside.factory c.self.inside.changes c.replace.new.self c.args.self.now list c.self.view_is
+    called (Replacing c.args.element c.args.new) c.self.inside.root c.self.inside.registrations.items c.self.inside.factory c.self.inside.changes c.replace.new.self c.args.self.now list c.self.view_is

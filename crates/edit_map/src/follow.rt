@@ -1,0 +1,88 @@
+//! An element followed to where its copies lead.
+
+ghost use Rattle.std.specs.Prelude.{◌≡◌, ◌≤◌, [], ◌∷◌, ◌++◌, length, drop, IfOk, IfSome, IfNone, option_map};
+ghost use Rattle.cst_core.specs.Path.{up_to};
+ghost use Rattle.cst_core.specs.Element.{Element, NumbersTell};
+ghost use Rattle.cst_core.specs.SyntaxElement.{element_of};
+ghost use Rattle.edit_map.specs.Mapping.{followed, mapped_elements};
+ghost use Rattle.edit_map.specs.Following.{asked_paths, step_among, syntax_step, IsReached};
+
+use crate::mapping::SyntaxMapping;
+use cst_core::{SyntaxElement, SyntaxNode};
+use std::alloc::{AllocError, Global};
+
+// The node itself, and the parent of a token.
+fn lowest_node(alloc: Global, element: &SyntaxElement) -> Result<Option<SyntaxNode>, AllocError>
+    ensures none { IfOk result (λ r. IfNone r (asked_paths element.now ≡ [])) }
+    ensures some { IfOk result (λ r. IfSome r (λ n. asked_paths element.now ≡ up_to n.path)) }
+    ensures number { IfOk result (λ r. IfSome r (λ n. n.number ≡ (element_of element.now).number)) }
+    ensures short { IfOk result (λ r. IfSome r (λ n. length n.path ≤ length (element_of element.now).path)) }
+{
+    match element {
+        SyntaxElement::Node(node) => Ok(Some(node.try_clone(alloc)?)),
+        SyntaxElement::Token(token) => token.parent(alloc),
+    }
+}
+
+impl SyntaxMapping {
+    /// Where the element stands once each step is made that its copies allow. One step exchanges the nearest mapped node, of
+    /// those above the element and of a node itself, for its copy; the path below stays. A node stays a node.
+    ///
+    /// Where trees of one number differ, a path may lead nowhere in a copy: there it ends.
+    pub fn follow(
+        &self,
+        alloc: Global,
+        element: &SyntaxElement,
+    ) -> Result<SyntaxElement, AllocError>
+        ensures reached { IfOk result (IsReached self.now element.now) }
+        ensures followed { NumbersTell (element_of element.now ∷ mapped_elements self.now) → IfOk result (λ e. element_of e ≡ followed self.now (element_of element.now)) }
+    {
+        // The copies rise, and the element is one of its tree.
+        let _ = &self.copies;
+        let _ = element.kind();
+        let _ = element.as_green();
+        let mut here = element.try_clone(alloc)?;
+        'steps: while let Some(next) = self.step(alloc, &here)? {
+            here = next;
+        }
+        Ok(here)
+    }
+
+    // The nearest mapped node exchanged for its copy, if there is one and the path below leads on in it.
+    fn step(
+        &self,
+        alloc: Global,
+        element: &SyntaxElement,
+    ) -> Result<Option<SyntaxElement>, AllocError>
+        ensures { IfOk result (λ r. r ≡ syntax_step self.now element.now) }
+    {
+        let Some(node) = lowest_node(alloc, element)? else {
+            return Ok(None);
+        };
+        let Some((copy, depth)) = self.nearest(alloc, node)? else {
+            return Ok(None);
+        };
+        copy.element_at(alloc, &element.slots()[depth..])
+    }
+
+    // The copy of the nearest mapped one of a node and those above it, and how many slots lead to that one.
+    fn nearest(
+        &self,
+        alloc: Global,
+        node: SyntaxNode,
+    ) -> Result<Option<(&SyntaxNode, usize)>, AllocError>
+        ensures nearest { IfOk result (λ r. (e : Element) → e.number ≡ node.number → step_among self.now e (up_to node.path) ≡ option_map (λ f. record f.0.now { path = f.0.now.path ++ drop f.1 e.path }) r) }
+        ensures short { IfOk result (λ r. IfSome r (λ f. f.1 ≤ length node.path)) }
+    {
+        let mut here = node;
+        'up: loop {
+            if let Some(copy) = self.copies.get(&here) {
+                return Ok(Some((copy, here.slots().len())));
+            }
+            let Some(parent) = here.parent(alloc)? else {
+                return Ok(None);
+            };
+            here = parent;
+        }
+    }
+}

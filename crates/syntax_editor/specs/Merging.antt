@@ -1,0 +1,29 @@
+-- Merging one editor into another.
+--     AreMergeable                  the roots are one element, and each change of the other editor fits the own root
+--     IsMerged                      the other's changes and registrations behind the own ones; of what both map, the other's copy stands
+--     MergeRefuses                  why an editor is not merged
+use Rattle.std.specs.Prelude.{◌≡◌, true, List, [], ◌++◌, Some, unwrap_or, All}
+use Rattle.cst_core.specs.Element.{same_element}
+use Rattle.edit_map.specs.Mapping.{Mapping}
+use Rattle.edit_map.specs.Building.{IsMadeOf}
+use Rattle.edit_plan.specs.Fits.{Fits}
+use Rattle.syntax_editor.specs.Recording.{merged}
+use Rattle.syntax_editor.specs.Editor.{Editor}
+use Rattle.syntax_editor.specs.declared.error.MergeError.{MergeError}
+use Rattle.syntax_editor.specs.declared.error.MergeError.TheVariants.{OtherRoot, Memory}
+
+pub record AreMergeable (own other : Editor) : Type 0 where
+  pub one_root : same_element own.root other.root ≡ true
+  pub fit : All (Fits own.root) other.changes
+
+pub record IsMerged (own other new : Editor) : Type 0 where
+  pub root : new.root ≡ own.root
+  pub changes : new.changes ≡ merged own.changes other.changes
+  pub registrations : new.registrations ≡ merged own.registrations other.registrations
+  pub mapping : Mapping
+  pub factory : new.factory ≡ Some mapping
+  pub copies : IsMadeOf (unwrap_or other.factory [] ++ unwrap_or own.factory []) mapping
+
+abbrev pub MergeRefuses : Editor → Editor → MergeError → Type 0
+MergeRefuses own other OtherRoot = AreMergeable own other → ⊥
+MergeRefuses own other Memory = Unit {0}

@@ -1,0 +1,55 @@
+//! The calls that register elements with annotations.
+ghost use Rattle.std.specs.Prelude.{◌≡◌, [], ◌∷◌, map, IfErr, OnOk, OnErr};
+ghost use Rattle.syntax_editor.specs.declared.error.RecordError.{RecordError};
+ghost use Rattle.syntax_editor.specs.Editor.{registered, annotated};
+
+use crate::editor::SyntaxEditor;
+use crate::error::RecordError;
+use edit_plan::{Element, SyntaxAnnotation};
+use std::alloc::Global;
+
+impl SyntaxEditor {
+    /// Registers an element with an annotation, behind what was registered before. The element may be of any tree, and may have
+    /// been registered before.
+    ///
+    /// Refused for `Memory` alone. The editor is unchanged then.
+    pub fn add_annotation<E: Element>(
+        &mut self,
+        alloc: Global,
+        element: E,
+        annotation: SyntaxAnnotation,
+    ) -> Result<(), RecordError>
+        ensures registered { OnOk result (self.new ≡ registered (annotated annotation (E.element element ∷ [])) self.old) }
+        ensures refused { IfErr result (λ e. e ≡ RecordError.Memory) }
+        ensures unchanged { OnErr result (self.new ≡ self.old) }
+    {
+        let element = element.syntax_element(alloc)?;
+        self.registrations
+            .push((element, annotation))
+            .map_err(|_| RecordError::Memory)?;
+        Ok(())
+    }
+
+    /// Registers each of these elements with an annotation, in their order, as `add_annotation` does one.
+    ///
+    /// Refused for `Memory` alone. The editor is unchanged then.
+    pub fn add_annotation_all<E: Element>(
+        &mut self,
+        alloc: Global,
+        elements: Vec<E>,
+        annotation: SyntaxAnnotation,
+    ) -> Result<(), RecordError>
+        ensures registered { OnOk result (self.new ≡ registered (annotated annotation (map E.element elements.items)) self.old) }
+        ensures refused { IfErr result (λ e. e ≡ RecordError.Memory) }
+        ensures unchanged { OnErr result (self.new ≡ self.old) }
+    {
+        let mut added = Vec::with_capacity(alloc, elements.len())?;
+        for element in elements {
+            let element = element.syntax_element(alloc)?;
+            added
+                .push((element, annotation))
+                .map_err(|_| RecordError::Memory)?;
+        }
+        Ok(self.registrations.append(&mut added)?)
+    }
+}

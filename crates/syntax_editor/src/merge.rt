@@ -1,0 +1,88 @@
+//! One editor merged into another one.
+ghost use Rattle.std.specs.Prelude.{◌≡◌, ◌↔◌, [], ◌++◌, IsTrue, IfOk, IfErr, OnOk, OnErr, All, unwrap_or};
+ghost use Rattle.edit_map.specs.Building.{IsMadeOf};
+ghost use Rattle.edit_plan.specs.Fits.{Fits};
+ghost use Rattle.syntax_editor.specs.Recording.{merged};
+ghost use Rattle.syntax_editor.specs.Merging.{AreMergeable, IsMerged, MergeRefuses};
+
+use crate::editor::SyntaxEditor;
+use crate::error::MergeError;
+use crate::factory::SyntaxFactory;
+use cst_core::SyntaxNode;
+use edit_map::SyntaxMapping;
+use edit_plan::Change;
+use std::alloc::{AllocError, Global};
+
+impl SyntaxEditor {
+    /// Puts the changes and the registrations of another editor of the same root behind the own ones. No change takes another one
+    /// up. The copies of both stand, and of a node that both map the other's; after it the factory has mappings.
+    ///
+    /// `OtherRoot` comes first, then `Memory`. Each hands the other editor back, and leaves both as they were. Takes time near linear
+    /// in the changes, registrations and mappings of both.
+    pub fn merge(
+        &mut self,
+        alloc: Global,
+        mut other: SyntaxEditor,
+    ) -> Result<(), (MergeError, SyntaxEditor)>
+        ensures merged { OnOk result (IsMerged self.old other self.new) }
+        ensures accepted { OnOk result (AreMergeable self.old other) }
+        ensures refused { IfErr result (λ r. MergeRefuses self.old other r.0) }
+        ensures handed_back { IfErr result (λ r. r.1 ≡ other) }
+        ensures unchanged { OnErr result (self.new ≡ self.old) }
+    {
+        if !self.is_mergeable(&other) {
+            return Err((MergeError::OtherRoot, other));
+        }
+        let Ok(mapping) = merged_mapping(alloc, &self.factory, &other.factory) else {
+            return Err((MergeError::Memory, other));
+        };
+        if self.take_over(alloc, &mut other).is_err() {
+            return Err((MergeError::Memory, other));
+        }
+        self.factory = SyntaxFactory::keeping(mapping);
+        Ok(())
+    }
+
+    // Whether another editor has the same root, and each of its changes fits the own one.
+    fn is_mergeable(&self, other: &SyntaxEditor) -> bool
+        ensures { IsTrue result ↔ AreMergeable self.now other.now }
+    {
+        self.root == other.root && all_fit(&self.root, other.changes.as_slice())
+    }
+
+    // Takes the changes and the registrations of another editor over, which is left with none of them. Without memory for that both
+    // are unchanged. All growth comes before any change.
+    fn take_over(&mut self, alloc: Global, other: &mut SyntaxEditor) -> Result<(), AllocError>
+        requires { All (Fits self.old.root) other.old.changes }
+        ensures ok { OnOk result (self.new ≡ record self.old { changes = merged self.old.changes other.old.changes; registrations = merged self.old.registrations other.old.registrations }) }
+        ensures err { OnErr result (self.new ≡ self.old) }
+        ensures kept { OnErr result (other.new ≡ other.old) }
+    {
+        self.registrations.reserve(other.registrations.len())?;
+        self.changes.append(alloc, &mut other.changes)?;
+        let appended = self.registrations.append(&mut other.registrations);
+        let _ = appended.unwrap();
+        Ok(())
+    }
+}
+
+// Whether each change fits the tree with this root.
+fn all_fit(root: &SyntaxNode, changes: &[Change]) -> bool
+    requires { root.now.path ≡ [] }
+    ensures { IsTrue result ↔ All (Fits root.now) changes.now }
+{
+    changes.iter().all(|change| change.fits(root))
+}
+
+// The mappings of two factories, where those of the other one stand.
+fn merged_mapping(
+    alloc: Global,
+    own: &SyntaxFactory,
+    other: &SyntaxFactory,
+) -> Result<SyntaxMapping, AllocError>
+    ensures { IfOk result (IsMadeOf (unwrap_or other.now [] ++ unwrap_or own.now [])) }
+{
+    let mut mapping = own.cloned_mapping(alloc)?;
+    mapping.merge(alloc, other.cloned_mapping(alloc)?)?;
+    Ok(mapping)
+}
