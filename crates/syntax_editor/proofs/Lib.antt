@@ -10,4 +10,6 @@ mod Absorbed
 mod Fitting
 mod Called
 mod Lines
+mod LastLines
+mod TokensBefore
 mod Restored

@@ -2,6 +2,7 @@ pub mod Table
 pub mod Recording
 pub mod RecordCall
 pub mod Level
+pub mod LevelCalls
 pub mod Indentation
 pub mod AttrsAndDocs
 pub mod Spacing

@@ -5,7 +5,9 @@ mod change_list;
 mod editor;
 mod error;
 mod factory;
+mod indent_error;
 pub mod laws;
+mod level;
 mod record;
 mod replace_index;
 
@@ -14,3 +16,5 @@ pub use edit_plan::{Change, EditError, EditPlan, Element, ElementList, Position,
 pub use editor::SyntaxEditor;
 pub use error::RecordError;
 pub use factory::SyntaxFactory;
+pub use indent_error::IndentError;
+pub use level::IndentLevel;
