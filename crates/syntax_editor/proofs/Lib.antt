@@ -12,4 +12,5 @@ mod Called
 mod Lines
 mod LastLines
 mod TokensBefore
+mod Openings
 mod Restored

@@ -6,6 +6,8 @@ pub mod LevelCalls
 pub mod Indentation
 pub mod AttrsAndDocs
 pub mod Spacing
+pub mod SpaceRule
+pub mod SpacingCalls
 pub mod Editor
 pub mod Lending
 pub mod Indexing

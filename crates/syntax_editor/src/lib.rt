@@ -10,6 +10,8 @@ pub mod laws;
 mod level;
 mod record;
 mod replace_index;
+mod space_rule;
+mod spacing;
 
 pub use edit_map::{MapError, SyntaxMapping, SyntaxMappingBuilder};
 pub use edit_plan::{Change, EditError, EditPlan, Element, ElementList, Position, SyntaxEdit};
