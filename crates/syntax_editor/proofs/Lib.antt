@@ -12,5 +12,7 @@ mod Called
 mod Lines
 mod LastLines
 mod TokensBefore
+mod Dedented
+mod Shifted
 mod Openings
 mod Restored

@@ -4,6 +4,8 @@ pub mod RecordCall
 pub mod Level
 pub mod LevelCalls
 pub mod Indentation
+pub mod Shift
+pub mod IndentCalls
 pub mod AttrsAndDocs
 pub mod Spacing
 pub mod SpaceRule

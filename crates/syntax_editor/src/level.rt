@@ -156,7 +156,7 @@ fn breaks_line(token: &SyntaxToken) -> bool
 }
 
 // What stands behind the last newline of a text, if it holds one.
-fn last_line(text: &str) -> Option<&str>
+pub(crate) fn last_line(text: &str) -> Option<&str>
     ensures { option_map (λ line. line.now) result ≡ cond (has_newline text.now) (Some (after_last is_newline text.now)) None }
 {
     match text.rsplit_once('\n') {

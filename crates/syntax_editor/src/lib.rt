@@ -1,22 +1,27 @@
 //! Recording changes of a tree, spacing and indentation.
 #![tactic(auto)]
 
+mod ast_node_edit;
 mod change_list;
 mod editor;
 mod error;
 mod factory;
 mod indent_error;
+mod indentation;
 pub mod laws;
 mod level;
 mod record;
 mod replace_index;
+mod shift;
 mod space_rule;
 mod spacing;
 
+pub use ast_node_edit::AstNodeEdit;
 pub use edit_map::{MapError, SyntaxMapping, SyntaxMappingBuilder};
 pub use edit_plan::{Change, EditError, EditPlan, Element, ElementList, Position, SyntaxEdit};
 pub use editor::SyntaxEditor;
 pub use error::RecordError;
 pub use factory::SyntaxFactory;
 pub use indent_error::IndentError;
+pub use indentation::indent;
 pub use level::IndentLevel;
