@@ -14,5 +14,6 @@ mod LastLines
 mod TokensBefore
 mod Dedented
 mod Shifted
+mod ChildPairs
 mod Openings
 mod Restored
