@@ -3,7 +3,7 @@ ghost use Rattle.std.specs.Prelude.{◌≡◌, ◌+◌, ◌<◌, ◌≤◌, [], 
 ghost use Rattle.cst_core.specs.Element.{subtree};
 ghost use Rattle.syntax_editor.specs.Indentation.{indented, dedented};
 ghost use Rattle.syntax_editor.specs.Shift.{shifted};
-ghost use Rattle.syntax_editor.specs.IndentCalls.{fresh_root, RootRefuses};
+ghost use Rattle.syntax_editor.specs.IndentCalls.{fresh_root, CanBeRoot, RootRefuses};
 
 use crate::indent_error::IndentError;
 use crate::level::IndentLevel;
@@ -20,6 +20,7 @@ fn shifted_root(
 ) -> Result<SyntaxNode, IndentError>
     ensures ok { IfOk result (λ n. n ≡ fresh_root ids.old (shifted shift (subtree node.now))) }
     ensures drawn { OnOk result (ids.new ≡ ids.old + 1) }
+    ensures accepted { OnOk result (CanBeRoot (shifted shift (subtree node.now)) ids.old) }
     ensures refused { IfErr result (RootRefuses (shifted shift (subtree node.now)) ids.old) }
     ensures err { OnErr result (ids.new ≡ ids.old) }
 {
@@ -45,6 +46,7 @@ pub fn indent(
 ) -> Result<SyntaxNode, IndentError>
     ensures ok { IfOk result (λ n. n ≡ fresh_root ids.old (indented level.0 (subtree node.now))) }
     ensures drawn { OnOk result (ids.new ≡ ids.old + 1) }
+    ensures accepted { OnOk result (CanBeRoot (indented level.0 (subtree node.now)) ids.old) }
     ensures refused { IfErr result (RootRefuses (indented level.0 (subtree node.now)) ids.old) }
     ensures err { OnErr result (ids.new ≡ ids.old) }
 {
@@ -61,6 +63,7 @@ pub(crate) fn dedent(
 ) -> Result<SyntaxNode, IndentError>
     ensures ok { IfOk result (λ n. n ≡ fresh_root ids.old (dedented level.0 (subtree node.now))) }
     ensures drawn { OnOk result (ids.new ≡ ids.old + 1) }
+    ensures accepted { OnOk result (CanBeRoot (dedented level.0 (subtree node.now)) ids.old) }
     ensures refused { IfErr result (RootRefuses (dedented level.0 (subtree node.now)) ids.old) }
     ensures err { OnErr result (ids.new ≡ ids.old) }
 {
