@@ -10,6 +10,12 @@ mod Absorbed
 mod Fitting
 mod Called
 mod Lines
+mod LastLines
+mod TokensBefore
+mod Dedented
+mod Shifted
+mod ChildPairs
+mod Openings
 mod Restored
 mod Noted
 mod Merged

@@ -2,9 +2,15 @@ pub mod Table
 pub mod Recording
 pub mod RecordCall
 pub mod Level
+pub mod LevelCalls
 pub mod Indentation
+pub mod Shift
+pub mod IndentCalls
+pub mod MappedAlong
 pub mod AttrsAndDocs
 pub mod Spacing
+pub mod SpaceRule
+pub mod SpacingCalls
 pub mod Editor
 pub mod Merging
 pub mod Lending

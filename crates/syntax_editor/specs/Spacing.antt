@@ -72,14 +72,14 @@ abbrev statement_kinds : List SyntaxKind
 statement_kinds =
     LET_STMT ∷ EXPR_STMT ∷ CONST ∷ ENUM ∷ EXTERN_BLOCK ∷ EXTERN_CRATE ∷ FN ∷ IMPL ∷ MACRO_CALL ∷ MACRO_DEF ∷ MACRO_RULES ∷ MODULE ∷ STATIC ∷ STRUCT ∷ TRAIT ∷ TYPE_ALIAS ∷ UNION ∷ USE ∷ []
 
-abbrev is_statement : Neighbor → Bool
+abbrev pub is_statement : Neighbor → Bool
 is_statement n = list_any (is n) statement_kinds
 
 -- an import or a statement that comes first in the braces of its list
-abbrev opens_list : Neighbor → Neighbor → Neighbor → Bool
+abbrev pub opens_list : Neighbor → Neighbor → Neighbor → Bool
 opens_list parent anchor first = is anchor L_CURLY && ((is parent ITEM_LIST && is first USE) || (is parent STMT_LIST && is_statement first))
 
-abbrev space_behind : Neighbor → Neighbor → Neighbor → Space
+abbrev pub space_behind : Neighbor → Neighbor → Neighbor → Space
 space_behind parent anchor first = cond (opens_list parent anchor first) (NewLine (suc parent.level)) (between anchor first)
 
 abbrev pub space_before : Position → Element → Space

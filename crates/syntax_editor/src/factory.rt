@@ -1,9 +1,22 @@
-ghost use Rattle.std.specs.Prelude.{◌≡◌, [], None, Some, IfOk, unwrap_or, option_map};
-ghost use Rattle.edit_map.specs.Building.{IsMadeOf};
+ghost use Rattle.std.specs.Prelude.{◌≡◌, ◌↔◌, ◌+◌, ◌<◌, ◌≤◌, ◌++◌, [], length, reverse, false, None, Some, unwrap_or, option_map, IfOk, IfErr, OnOk, OnErr};
 ghost use Rattle.std.specs.Borrow.{sem};
+ghost use Rattle.cst_core.specs.Tree.{SameShape};
+ghost use Rattle.cst_core.specs.Element.{subtree};
+ghost use Rattle.edit_map.specs.Building.{IsMadeOf};
+ghost use Rattle.syntax_editor.specs.Indentation.{mapped_children};
+ghost use Rattle.syntax_editor.specs.MappedAlong.{is_behind, is_too_old, MapsAlong, AlongRefuses};
+ghost use Rattle.cst_core.specs.Green.{length_limit, branch_tree};
+ghost use Rattle.cst_core.specs.TreeIds.{IsSpent};
+ghost use Rattle.cst_core.specs.declared.element.SyntaxElement.TheVariants.{Token};
+ghost use Rattle.syntax_editor.specs.Spacing.{whitespace, whitespace_tree};
 ghost use Rattle.syntax_editor.specs.Lending.{LendsMappings};
 
-use edit_map::SyntaxMapping;
+use crate::indent_error::IndentError;
+use cst_core::{
+    GreenElement, GreenNode, GreenToken, LENGTH_LIMIT, SyntaxKind, SyntaxNode, SyntaxToken,
+    TreeError, TreeIds,
+};
+use edit_map::{MapError, SyntaxMapping, SyntaxMappingBuilder};
 use std::alloc::{AllocError, Global};
 use std::marker::Model;
 
@@ -69,6 +82,55 @@ impl SyntaxFactory {
         }
     }
 
+    /// A token of the kind WHITESPACE, alone below a root of the kind SOURCE_FILE, in a tree of its own under the next number of
+    /// `ids`. Its text is not looked at.
+    ///
+    /// `TooLong` comes first, where the text passes 4,294,967,295 bytes, then `NoTreeNumber`, then `Memory`; none of them draws
+    /// a number.
+    pub fn whitespace(
+        &self,
+        alloc: Global,
+        ids: &mut TreeIds,
+        text: &str,
+    ) -> Result<SyntaxToken, TreeError>
+        ensures ok { IfOk result (λ t. Token t ≡ whitespace ids.old text.now) }
+        ensures drawn { OnOk result (ids.new ≡ ids.old + 1) }
+        ensures too_long { (result ≡ Err TreeError.TooLong) ↔ (length_limit ≤ length text.now) }
+        ensures no_number { (result ≡ Err TreeError.NoTreeNumber) ↔ (IsSpent ids.old × (length text.now < length_limit)) }
+        ensures err { OnErr result (ids.new ≡ ids.old) }
+    {
+        if text.len() as u64 >= LENGTH_LIMIT {
+            return Err(TreeError::TooLong);
+        }
+        let Some(number) = ids.peek() else {
+            return Err(TreeError::NoTreeNumber);
+        };
+        // The number is drawn last, when nothing can fail any more.
+        let token = whitespace_of(alloc, number, text)?;
+        ids.next();
+        Ok(token)
+    }
+
+    // Maps each child node of a node as the copy of which the child node of another one at the same place is, where the factory
+    // keeps mappings.
+    pub(crate) fn map_children(
+        &mut self,
+        alloc: Global,
+        old: &SyntaxNode,
+        new: &SyntaxNode,
+    ) -> Result<(), IndentError>
+        requires { SameShape (subtree old.now) (subtree new.now) }
+        ensures ok { OnOk result (MapsAlong (mapped_children old.now new.now) self.old self.new) }
+        ensures accepted { OnOk result (is_too_old self.old old.now new.now.number ≡ false) }
+        ensures refused { IfErr result (AlongRefuses (is_too_old self.old old.now new.now.number)) }
+        ensures unchanged { OnErr result (self.new ≡ self.old) }
+    {
+        match &mut self.mappings {
+            Some(mapping) => map_children(alloc, old, new, mapping),
+            None => Ok(()),
+        }
+    }
+
     /// The mappings by value, of nothing where the factory keeps none.
     pub(crate) fn into_mapping(self, alloc: Global) -> SyntaxMapping
         ensures { result ≡ unwrap_or self [] }
@@ -77,5 +139,85 @@ impl SyntaxFactory {
             Some(mapping) => mapping,
             None => SyntaxMapping::new(alloc),
         }
+    }
+}
+
+// Such a token in a tree of this number, of a text that is not too long.
+fn whitespace_of(alloc: Global, number: u64, text: &str) -> Result<SyntaxToken, AllocError>
+    requires number { number < 18446744073709551615 }
+    requires fits { length text.now < length_limit }
+    ensures { IfOk result (λ t. Token t ≡ whitespace number text.now) }
+{
+    let Some(token) = whitespace_root(alloc, number, text)?.first_token(alloc)? else {
+        unreachable!();
+    };
+    Ok(token)
+}
+
+// The root above it.
+fn whitespace_root(alloc: Global, number: u64, text: &str) -> Result<SyntaxNode, AllocError>
+    requires number { number < 18446744073709551615 }
+    requires fits { length text.now < length_limit }
+    ensures { IfOk result (λ n. n ≡ record { number = number; root = whitespace_tree text.now; path = [] }) }
+{
+    let green = whitespace_green(alloc, text)?;
+    match SyntaxNode::new_root(alloc, &mut TreeIds::new(number), green) {
+        Ok(root) => Ok(root),
+        Err(_) => Err(AllocError),
+    }
+}
+
+// The shared tree of that root.
+fn whitespace_green(alloc: Global, text: &str) -> Result<GreenNode, AllocError>
+    requires { length text.now < length_limit }
+    ensures { IfOk result (λ n. branch_tree n ≡ whitespace_tree text.now) }
+{
+    let Ok(token) = GreenToken::new(alloc, SyntaxKind::WHITESPACE, text) else {
+        return Err(AllocError);
+    };
+    let mut children = Vec::new(alloc);
+    children.push(GreenElement::Token(token))?;
+    GreenNode::capped(alloc, SyntaxKind::SOURCE_FILE, children)
+}
+
+fn map_children(
+    alloc: Global,
+    old: &SyntaxNode,
+    new: &SyntaxNode,
+    mapping: &mut SyntaxMapping,
+) -> Result<(), IndentError>
+    requires { SameShape (subtree old.now) (subtree new.now) }
+    ensures ok { OnOk result (IsMadeOf (reverse (mapped_children old.now new.now) ++ mapping.old) mapping.new) }
+    ensures accepted { OnOk result (is_behind old.now new.now.number ≡ false) }
+    ensures refused { IfErr result (AlongRefuses (is_behind old.now new.now.number)) }
+    ensures unchanged { OnErr result (mapping.new ≡ mapping.old) }
+{
+    let builder = children_builder(alloc, old, new)?;
+    Ok(builder.finish(alloc, mapping)?)
+}
+
+// A builder of these pairs.
+fn children_builder(
+    alloc: Global,
+    old: &SyntaxNode,
+    new: &SyntaxNode,
+) -> Result<SyntaxMappingBuilder, IndentError>
+    requires { SameShape (subtree old.now) (subtree new.now) }
+    ensures ok { IfOk result (λ b. b.pairs ≡ reverse (mapped_children old.now new.now)) }
+    ensures accepted { OnOk result (is_behind old.now new.now.number ≡ false) }
+    ensures refused { IfErr result (AlongRefuses (is_behind old.now new.now.number)) }
+{
+    // What stands at their paths are nodes.
+    let _ = (old.kind(), new.kind());
+    let inputs = old.children(alloc)?;
+    let outputs = new.children(alloc)?;
+    let mut builder = SyntaxMappingBuilder::new(alloc, new.try_clone(alloc)?);
+    match builder.map_children(alloc, &inputs, &outputs) {
+        Ok(()) => Ok(builder),
+        Err(MapError::NotYounger) => Err(IndentError::NotYounger),
+        Err(MapError::Memory) => Err(IndentError::Memory),
+        Err(MapError::NotAChild) => unreachable!(),
+        Err(MapError::OtherShape) => unreachable!(),
+        Err(MapError::MoreInputs) => unreachable!(),
     }
 }

@@ -2,15 +2,23 @@
 #![tactic(auto)]
 
 mod annotate;
+mod ast_node_edit;
 mod change_list;
 mod editor;
 mod error;
 mod factory;
+mod indent_error;
+mod indentation;
 pub mod laws;
+mod level;
 mod merge;
 mod record;
 mod replace_index;
+mod shift;
+mod space_rule;
+mod spacing;
 
+pub use ast_node_edit::AstNodeEdit;
 pub use edit_map::{MapError, SyntaxMapping, SyntaxMappingBuilder};
 pub use edit_plan::{
     Annotations, Change, EditError, EditPlan, Element, ElementList, Position, SyntaxAnnotation,
@@ -19,3 +27,6 @@ pub use edit_plan::{
 pub use editor::SyntaxEditor;
 pub use error::{MergeError, RecordError};
 pub use factory::SyntaxFactory;
+pub use indent_error::IndentError;
+pub use indentation::indent;
+pub use level::IndentLevel;

@@ -1,0 +1,148 @@
+//! Levels and indentation of typed nodes.
+ghost use Rattle.std.specs.Prelude.{◌≡◌, ◌+◌, false, IsTrue, IfOk, IfErr, OnOk, OnErr};
+ghost use Rattle.cst_core.specs.Tree.{label};
+ghost use Rattle.cst_core.specs.Element.{subtree};
+ghost use Rattle.syntax_editor.specs.Level.{level, is_too_deep};
+ghost use Rattle.syntax_editor.specs.LevelCalls.{ReadsLevel};
+ghost use Rattle.syntax_editor.specs.Indentation.{indented, dedented, reset, mapped_children};
+ghost use Rattle.syntax_editor.specs.IndentCalls.{fresh_root, CanBeRoot, RootRefuses, ResetRefuses, MappingRefuses, next_after};
+ghost use Rattle.syntax_editor.specs.MappedAlong.{is_too_old, MapsAlong};
+
+use crate::factory::SyntaxFactory;
+use crate::indent_error::IndentError;
+use crate::indentation::{dedent, indent};
+use crate::level::IndentLevel;
+use cst_core::{AstNode, SyntaxNode, TreeIds};
+use std::alloc::Global;
+
+/// Levels and indentation of typed nodes. What is indented or dedented is the root of a tree of its own, under the next
+/// number; a refusal draws none.
+pub trait AstNodeEdit: AstNode {
+    /// The level of the node.
+    ///
+    /// `LevelTooLarge` comes exactly where it passes 255; else only `Memory` comes.
+    fn indent_level(&self, alloc: Global) -> Result<IndentLevel, IndentError>
+        ensures { ReadsLevel (level (Self.syntax_node self.now)) result }
+    {
+        IndentLevel::from_node(alloc, self.syntax())
+    }
+
+    /// The node indented by a level: spaces stand behind the text of each whitespace token that holds a newline.
+    ///
+    /// `TooLong` comes first, where the new text passes 4,294,967,295 bytes, then `NoTreeNumber`, then `Memory`.
+    fn indent(
+        &self,
+        alloc: Global,
+        ids: &mut TreeIds,
+        level: IndentLevel,
+    ) -> Result<Self, IndentError>
+        ensures ok { IfOk result (λ n. Self.syntax_node n ≡ fresh_root ids.old (indented level.0 (subtree (Self.syntax_node self.now)))) }
+        ensures drawn { OnOk result (ids.new ≡ ids.old + 1) }
+        ensures accepted { OnOk result (CanBeRoot (indented level.0 (subtree (Self.syntax_node self.now))) ids.old) }
+        ensures refused { IfErr result (RootRefuses (indented level.0 (subtree (Self.syntax_node self.now))) ids.old) }
+        ensures err { OnErr result (ids.new ≡ ids.old) }
+    {
+        Ok(view_of(indent(alloc, self.syntax(), ids, level)?))
+    }
+
+    /// The node dedented by a level: its spaces are taken away behind each newline in whitespace that so many spaces follow.
+    ///
+    /// Refused as `indent` is.
+    fn dedent(
+        &self,
+        alloc: Global,
+        ids: &mut TreeIds,
+        level: IndentLevel,
+    ) -> Result<Self, IndentError>
+        ensures ok { IfOk result (λ n. Self.syntax_node n ≡ fresh_root ids.old (dedented level.0 (subtree (Self.syntax_node self.now)))) }
+        ensures drawn { OnOk result (ids.new ≡ ids.old + 1) }
+        ensures accepted { OnOk result (CanBeRoot (dedented level.0 (subtree (Self.syntax_node self.now))) ids.old) }
+        ensures refused { IfErr result (RootRefuses (dedented level.0 (subtree (Self.syntax_node self.now))) ids.old) }
+        ensures err { OnErr result (ids.new ≡ ids.old) }
+    {
+        Ok(view_of(dedent(alloc, self.syntax(), ids, level)?))
+    }
+
+    /// The node dedented by its own level.
+    ///
+    /// `LevelTooLarge` comes first, where that passes 255, then the refusals of `dedent`.
+    fn reset_indent(&self, alloc: Global, ids: &mut TreeIds) -> Result<Self, IndentError>
+        ensures ok { IfOk result (λ n. Self.syntax_node n ≡ fresh_root ids.old (reset (Self.syntax_node self.now))) }
+        ensures drawn { OnOk result (ids.new ≡ ids.old + 1) }
+        ensures accepted { OnOk result (is_too_deep (level (Self.syntax_node self.now)) ≡ false) }
+        ensures fits { OnOk result (CanBeRoot (reset (Self.syntax_node self.now)) ids.old) }
+        ensures refused { IfErr result (ResetRefuses (Self.syntax_node self.now) ids.old) }
+        ensures err { OnErr result (ids.new ≡ ids.old) }
+    {
+        let level = IndentLevel::from_node(alloc, self.syntax())?;
+        Ok(view_of(dedent(alloc, self.syntax(), ids, level)?))
+    }
+
+    /// The node indented by a level, as `indent` makes it. Where the factory keeps mappings, each child node of the new node is
+    /// mapped as the copy of the child node of this one at the same place.
+    ///
+    /// `TooLong` comes first, then `NoTreeNumber`, then `NotYounger`, then `Memory`. `NotYounger` comes where the factory keeps
+    /// mappings, this node has a child node and the number drawn is not greater than its own; one number is spent then, and
+    /// none by any other refusal. The mappings are unchanged after each.
+    fn indent_with_mapping(
+        &self,
+        alloc: Global,
+        ids: &mut TreeIds,
+        level: IndentLevel,
+        factory: &mut SyntaxFactory,
+    ) -> Result<Self, IndentError>
+        ensures ok { IfOk result (λ n. Self.syntax_node n ≡ fresh_root ids.old (indented level.0 (subtree (Self.syntax_node self.now)))) }
+        ensures mapped { IfOk result (λ n. MapsAlong (mapped_children (Self.syntax_node self.now) (Self.syntax_node n)) factory.old factory.new) }
+        ensures accepted { OnOk result (is_too_old factory.old (Self.syntax_node self.now) ids.old ≡ false) }
+        ensures fits { OnOk result (CanBeRoot (indented level.0 (subtree (Self.syntax_node self.now))) ids.old) }
+        ensures drawn { OnOk result (ids.new ≡ ids.old + 1) }
+        ensures refused { IfErr result (MappingRefuses (is_too_old factory.old (Self.syntax_node self.now) ids.old) (indented level.0 (subtree (Self.syntax_node self.now))) ids.old) }
+        ensures spent { IfErr result (λ e. ids.new ≡ next_after e ids.old) }
+        ensures unchanged { OnErr result (factory.new ≡ factory.old) }
+    {
+        Ok(view_of(indent_along(alloc, self.syntax(), ids, level, factory)?))
+    }
+}
+
+impl<N: AstNode> AstNodeEdit for N {}
+
+// The node indented by a level, with its child nodes mapped along.
+fn indent_along(
+    alloc: Global,
+    node: &SyntaxNode,
+    ids: &mut TreeIds,
+    level: IndentLevel,
+    factory: &mut SyntaxFactory,
+) -> Result<SyntaxNode, IndentError>
+    ensures ok { IfOk result (λ n. n ≡ fresh_root ids.old (indented level.0 (subtree node.now))) }
+    ensures mapped { IfOk result (λ n. MapsAlong (mapped_children node.now n) factory.old factory.new) }
+    ensures accepted { OnOk result (is_too_old factory.old node.now ids.old ≡ false) }
+    ensures fits { OnOk result (CanBeRoot (indented level.0 (subtree node.now)) ids.old) }
+    ensures drawn { OnOk result (ids.new ≡ ids.old + 1) }
+    ensures refused { IfErr result (MappingRefuses (is_too_old factory.old node.now ids.old) (indented level.0 (subtree node.now)) ids.old) }
+    ensures spent { IfErr result (λ e. ids.new ≡ next_after e ids.old) }
+    ensures unchanged { OnErr result (factory.new ≡ factory.old) }
+{
+    // The number is drawn last, when memory cannot be refused any more.
+    let mut drawn = TreeIds::new(ids.peek().unwrap_or(u64::MAX));
+    let new = indent(alloc, node, &mut drawn, level)?;
+    match factory.map_children(alloc, node, &new) {
+        Ok(()) => {
+            *ids = drawn;
+            Ok(new)
+        }
+        Err(IndentError::NotYounger) => {
+            *ids = drawn;
+            Err(IndentError::NotYounger)
+        }
+        Err(error) => Err(error),
+    }
+}
+
+// The view of a node of a kind that has one.
+fn view_of<N: AstNode>(node: SyntaxNode) -> N
+    requires { IsTrue (N.is_kind (label (subtree node))) }
+    ensures { N.syntax_node result ≡ node }
+{
+    N::cast(node).unwrap()
+}

@@ -1,0 +1,33 @@
+use std::alloc::AllocError;
+use thiserror::Error;
+
+/// Why a level is not read, or a tree is not indented.
+#[derive(Debug, PartialEq, Eq, Drop, Error)]
+pub enum IndentError {
+    /// A level passes 255.
+    #[error("LevelTooLarge")]
+    LevelTooLarge,
+    /// The new text passes 4,294,967,295 bytes.
+    #[error("TooLong")]
+    TooLong,
+    /// The source of tree numbers is spent.
+    #[error("NoTreeNumber")]
+    NoTreeNumber,
+    /// The number of the new tree is not greater than that of the node's, whose children are to be mapped.
+    #[error("NotYounger")]
+    NotYounger,
+    /// Memory was refused.
+    #[error("Memory")]
+    Memory,
+}
+
+impl From<AllocError> for IndentError {
+    ghost use Rattle.std.specs.Prelude.{◌≡◌};
+    ghost use Rattle.syntax_editor.specs.declared.indent_error.IndentError.{IndentError};
+
+    ghost from_gives = { λ _ e. e ≡ IndentError.Memory };
+
+    fn from(_: AllocError) -> IndentError {
+        IndentError::Memory
+    }
+}
