@@ -1,6 +1,6 @@
 use Rattle.std.specs.Prelude.{◌≡◌, ℕ, true, false, cond, [], IsTrue, refl}
 use Rattle.std.proofs.Common.{ap, sym, ◌∙◌, subst}
-use Rattle.cst_core.specs.Tree.{SyntaxTree, label}
+use Rattle.cst_core.specs.Tree.{label}
 use Rattle.cst_core.specs.Element.{Element, subtree}
 use Rattle.syntax_editor.specs.Editor.{has_parent, edited_root}
 use Rattle.syntax_editor.proofs.editor.SyntaxEditor.with_ast_node.Goals as goal
