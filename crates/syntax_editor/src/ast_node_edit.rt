@@ -140,7 +140,7 @@ fn indent_along(
 }
 
 // The view of a node of a kind that has one.
-fn view_of<N: AstNode>(node: SyntaxNode) -> N
+pub(crate) fn view_of<N: AstNode>(node: SyntaxNode) -> N
     requires { IsTrue (N.is_kind (label (subtree node))) }
     ensures { N.syntax_node result ≡ node }
 {

@@ -17,6 +17,7 @@ mod replace_index;
 mod shift;
 mod space_rule;
 mod spacing;
+mod typed_editor;
 
 pub use ast_node_edit::AstNodeEdit;
 pub use edit_map::{MapError, SyntaxMapping, SyntaxMappingBuilder};
