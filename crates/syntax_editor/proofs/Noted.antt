@@ -34,7 +34,7 @@ position-before test (x ∷ xs) ys i is =
     elim (cases_Bool (test x)) [
       | inl passes ↦ position-here test x (xs ++ ys) passes ∙ sym (position-here test x xs passes) ∙ is
       | inr fails ↦ position-behind test x (xs ++ ys) fails
-        ∙ (elim (position test xs) as (λ o. position test xs ≡ o → option_map suc o ≡ Some i → option_map suc (position test (xs ++ ys)) ≡ Some i) [
+          ∙ (elim (position test xs) as (λ o. position test xs ≡ o → option_map suc o ≡ Some i → option_map suc (position test (xs ++ ys)) ≡ Some i) [
             | None ↦ λ _ none. absurd (none-some i none)
             | Some j ↦ λ at some. ap (option_map suc) (position-before test xs ys j at) ∙ some
           ]) refl (sym (position-behind test x xs fails) ∙ is)

@@ -2,7 +2,7 @@
 --     AreMergeable                  the roots are one element, and each change of the other editor fits the own root
 --     IsMerged                      the other's changes and registrations behind the own ones; of what both map, the other's copy stands
 --     MergeRefuses                  why an editor is not merged
-use Rattle.std.specs.Prelude.{◌≡◌, true, List, [], ◌++◌, Some, unwrap_or, All}
+use Rattle.std.specs.Prelude.{◌≡◌, true, [], ◌++◌, Some, unwrap_or, All}
 use Rattle.cst_core.specs.Element.{same_element}
 use Rattle.edit_map.specs.Mapping.{Mapping}
 use Rattle.edit_map.specs.Building.{IsMadeOf}

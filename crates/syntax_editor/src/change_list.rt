@@ -104,11 +104,7 @@ impl ChangeList {
 
     /// Puts the changes of another list of the same tree at the end and leaves that one empty. No change takes another one up.
     /// Without memory for that both are unchanged.
-    pub(crate) fn append(
-        &mut self,
-        alloc: Global,
-        other: &mut ChangeList,
-    ) -> Result<(), AllocError>
+    pub(crate) fn append(&mut self, alloc: Global, other: &mut ChangeList) -> Result<(), AllocError>
         ensures ok { OnOk result (self.new ≡ merged self.old other.old) }
         ensures taken { OnOk result (other.new ≡ []) }
         ensures err { OnErr result (self.new ≡ self.old) }

@@ -11,8 +11,8 @@ loop-change-preserved c =
     record {
       place = omega (arith, c.loop-change.invariant.place);
       agrees = λ cs long start.
-        let before = c.loop-change.invariant.agrees cs long start in
-        let so_many : length (cs ++ take i xs) ≡ c.loop-change.place = length-append cs (take i xs) ∙ omega (arith, long, length-take i xs, c.loop-change.invariant.place, c.loop-change-test.true) in
-        let noted = c.in_ok-note.ensures (cs ++ take i xs) so_many before in
-        subst (Agrees c.note.new.index) (append_assoc cs (take i xs) (c.change-item.result ∷ []) ∙ ap (λ ys. cs ++ ys) (sym more)) noted;
+          let before = c.loop-change.invariant.agrees cs long start in
+          let so_many : length (cs ++ take i xs) ≡ c.loop-change.place = length-append cs (take i xs) ∙ omega (arith, long, length-take i xs, c.loop-change.invariant.place, c.loop-change-test.true) in
+          let noted = c.in_ok-note.ensures (cs ++ take i xs) so_many before in
+          subst (Agrees c.note.new.index) (append_assoc cs (take i xs) (c.change-item.result ∷ []) ∙ ap (λ ys. cs ++ ys) (sym more)) noted;
     }

@@ -1,4 +1,4 @@
-use Rattle.std.proofs.Common.{◌≡◌, ◌++◌, ◌∷◌, [], Result, Ok, Err, OnOk, sym, ◌∙◌}
+use Rattle.std.proofs.Common.{Result, Ok, Err, OnOk, ◌∙◌}
 use Rattle.syntax_editor.specs.Indexing.{found}
 use Rattle.syntax_editor.proofs.Noted.{noted-first, noted-behind, noted-kept}
 use Rattle.syntax_editor.proofs.change_list.note_replace.Goals as goal

@@ -1,6 +1,5 @@
-use Rattle.std.proofs.Common.{◌≡◌, All, sym, subst, ◌∙◌, ap}
+use Rattle.std.proofs.Common.{All, sym, subst, ◌∙◌}
 use Rattle.edit_plan.specs.Fits.{Fits}
-use Rattle.syntax_editor.specs.Merging.{AreMergeable}
 use Rattle.syntax_editor.proofs.editor.SyntaxEditor.is_mergeable.Goals as goal
 
 pub returns-then-eq : goal.returns-then-eq

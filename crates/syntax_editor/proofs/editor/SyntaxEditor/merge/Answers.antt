@@ -1,4 +1,4 @@
-use Rattle.std.proofs.Common.{◌≡◌, ◌++◌, [], Result, Ok, Err, OnOk, unwrap_or, true, false, sym, subst, ◌∙◌}
+use Rattle.std.proofs.Common.{◌≡◌, ◌++◌, [], Result, Ok, Err, OnOk, unwrap_or, false, sym, subst, ◌∙◌}
 use Rattle.std.specs.Prelude.{is_err}
 use Rattle.std.proofs.lemmas.Bool.{true≢false}
 use Rattle.edit_map.specs.Building.{IsMadeOf}
