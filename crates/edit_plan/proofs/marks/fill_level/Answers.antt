@@ -1,6 +1,7 @@
 use Rattle.std.proofs.Common.{◌≡◌, ◌<◌, ◌+◌, ◌∙◌, map, length, sym, ap, subst}
 use Rattle.edit_plan.specs.Owned.{depth_of, moved, dependents_in}
-use Rattle.edit_plan.proofs.Nested.{depth-at, owned-at, empty-none}
+use Rattle.edit_plan.proofs.Nested.{depth-at, owned-at}
+use Rattle.edit_plan.proofs.OwnersByDepth.{empty-none}
 use Rattle.edit_plan.proofs.MarksFilled.{AreLevelled, level-begins, level-ends, other-level, nothing-owned, level-filled}
 use Rattle.edit_plan.proofs.marks.fill_level.Goals as goal
 use Rattle.edit_plan.proofs.marks.fill_level.Goals.{then-depth-level+then-not-is_empty+in_ok-fill, else-depth-level, else-depth-level-via-then-depth-level+else-not-is_empty, else-depth-level-via-else-depth-level}
