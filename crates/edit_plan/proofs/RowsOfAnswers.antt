@@ -1,10 +1,11 @@
 -- Worked examples of annotations, of nodes found again, and of the texts of changes.
 use Rattle.std.specs.Prelude.{◌≡◌, ℕ, List, [], ◌∷◌, ◌++◌, codes, flat_map, map, Option, Some, None, refl}
 use Rattle.cst_core.specs.Path.{Path}
-use Rattle.cst_core.specs.Element.{Element}
+use Rattle.cst_core.specs.Element.{Element, address}
 use Rattle.edit_map.proofs.Rows.{R}
 use Rattle.edit_plan.specs.Rewriting.{plain, new_tree}
 use Rattle.edit_plan.specs.Results.{annotated_as, found}
+use Rattle.edit_plan.specs.Sought.{sought_from}
 use Rattle.edit_plan.specs.Display.{escape, change_text}
 use Rattle.edit_plan.specs.declared.change.Change.{Change}
 use Rattle.edit_plan.proofs.RowChanges.{no_places, after, insert, delete, replace, replace_with_many, replace_all, X}
@@ -28,6 +29,10 @@ row_note_exchanged = refl
 
 row_note_moved : notes (R (4 ∷ []) ∷ []) (replace (R (1 ∷ [])) (R (4 ∷ [])) ∷ replace (R (4 ∷ [])) X ∷ []) ≡ (1 ∷ []) ∷ []
 row_note_moved = refl
+
+-- ---- registered elements, as they are sought at one of them
+row_sought : sought_from 0 (map address (R [] ∷ R (1 ∷ []) ∷ R (1 ∷ 0 ∷ []) ∷ [])) (address (R (1 ∷ []))) ≡ (1, []) ∷ (2, 0 ∷ []) ∷ []
+row_sought = refl
 
 -- ---- a node found again in the tree of row 2
 row_27 : ◌≡◌ {A = List (Option Path)} (flat_map (λ t. found (R []) (plain t) ∷ found (R (4 ∷ [])) (plain t) ∷ []) (new_tree changes_2 no_places (R []))) (Some [] ∷ None ∷ [])
