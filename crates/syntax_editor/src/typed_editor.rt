@@ -17,7 +17,7 @@ impl SyntaxEditor {
         ids: &mut TreeIds,
         node: &N,
     ) -> Result<(SyntaxEditor, N), TreeError>
-        ensures editor { IfOk result (λ r. r.0 ≡ record { root = edited_root ids.old (N.syntax_node node.now); changes = []; factory = Some [] }) }
+        ensures editor { IfOk result (λ r. r.0 ≡ record { root = edited_root ids.old (N.syntax_node node.now); changes = []; registrations = []; factory = Some [] }) }
         ensures root { IfOk result (λ r. N.syntax_node r.1 ≡ edited_root ids.old (N.syntax_node node.now)) }
         ensures drawn { OnOk result (ids.new ≡ cond (has_parent (N.syntax_node node.now)) (ids.old + 1) ids.old) }
         ensures fits { ¬ (result ≡ Err TreeError.TooLong) }
