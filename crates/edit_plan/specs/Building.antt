@@ -1,12 +1,12 @@
 -- Plans and the edits that they make, as contracts see them, and what is refused.
---     Plan, IsPlan                  the root, the changes and the mapping; what is true of every plan
+--     Plan, IsPlan                  the root, the changes, the registrations (elements with annotations) and the mapping; what is true of every plan
 --     BuildRefuses                  why a plan is not built
 --     Edit                          the old root, the new root, and the changed elements
 --     Makes                         the edit is what the plan makes of the old tree, under a tree number
 --     WouldMake, IsRewritten        the tree that a plan makes; its form without origins, and the changed paths in it
 --     RunRefuses                    why a plan is not carried out, where this is the next tree number
 use Rattle.std.specs.Prelude.{◌≡◌, ℕ, List, [], ◌∷◌, map, Some, None, All, refl}
-use Rattle.std.specs.Coded.{Coded, code_by, coded_list, coded×}
+use Rattle.std.specs.Coded.{Coded, code_by, coded_ℕ, coded_list, coded×}
 use Rattle.cst_core.specs.Path.{Path}
 use Rattle.cst_core.specs.Tree.{SyntaxTree}
 use Rattle.cst_core.specs.Element.{Element, IsNode, element_code}
@@ -28,11 +28,12 @@ use Rattle.edit_plan.specs.declared.edit_error.EditError.TheVariants.{Intersecti
 pub record Plan : Type 0 where
   pub root : Element
   pub changes : List Change
+  pub registrations : List (SyntaxElement × ℕ)
   pub mapping : Mapping
 
 -- the code by which a plan is a model's value
 abbrev pub plan_code : Coded Plan
-plan_code = code_by (Element × (List Change × Mapping)) (coded× element_code (coded× (coded_list change_code) (coded_list (coded× element_code element_code)))) (λ p. (p.root, (p.changes, p.mapping))) (λ q. record { root = q.0; changes = q.1.0; mapping = q.1.1 }) (λ _. refl)
+plan_code = code_by (Element × (List Change × (List (SyntaxElement × ℕ) × Mapping))) (coded× element_code (coded× (coded_list change_code) (coded× (coded_list (coded× syntax_element_code coded_ℕ)) (coded_list (coded× element_code element_code))))) (λ p. (p.root, (p.changes, (p.registrations, p.mapping)))) (λ q. record { root = q.0; changes = q.1.0; registrations = q.1.1.0; mapping = q.1.1.1 }) (λ _. refl)
 
 pub record IsPlan (p : Plan) : Type 0 where
   pub is_root : p.root.path ≡ []

@@ -4,12 +4,13 @@ ghost use Rattle.edit_plan.specs.Fits.{Fits};
 ghost use Rattle.edit_plan.specs.Nesting.{is_dropped, owner};
 ghost use Rattle.edit_plan.specs.Building.{BuildRefuses};
 
+use crate::annotation::SyntaxAnnotation;
 use crate::change::Change;
 use crate::edit_error::EditError;
 use crate::fate::{Fate, fates};
 use crate::places::places;
 use crate::target_index::TargetIndex;
-use cst_core::SyntaxNode;
+use cst_core::{SyntaxElement, SyntaxNode};
 use edit_map::SyntaxMapping;
 use std::alloc::Global;
 use std::marker::Model;
@@ -19,6 +20,8 @@ use std::marker::Model;
 pub struct EditPlan {
     pub(crate) root: SyntaxNode,
     pub(crate) changes: Vec<Change>,
+    // The elements that are registered with annotations, in order.
+    pub(crate) registrations: Vec<(SyntaxElement, SyntaxAnnotation)>,
     pub(crate) mapping: SyntaxMapping,
     // What becomes of each change.
     pub(crate) fates: Vec<Fate>,
@@ -34,13 +37,14 @@ impl Model for EditPlan {
 
     ghost coded = { plan_code };
 
-    ghost view = { λ a. record { root = a.root; changes = a.changes.items; mapping = a.mapping } };
+    ghost view = { λ a. record { root = a.root; changes = a.changes.items; registrations = a.registrations.items; mapping = a.mapping } };
 
-    ghost invariant = { λ a. IsPlanned (record { root = a.root; changes = a.changes.items; mapping = a.mapping }) a.fates.items a.places.items };
+    ghost invariant = { λ a. IsPlanned (record { root = a.root; changes = a.changes.items; registrations = a.registrations.items; mapping = a.mapping }) a.fates.items a.places.items };
 }
 
 impl EditPlan {
-    /// A plan of these changes of the tree with this root, where the mapping tells which node is the copy of which.
+    /// A plan of these changes of the tree with this root, where the mapping tells which node is the copy of which. The
+    /// registrations are kept, and nothing is asked of them: their elements may be of any tree.
     ///
     /// `Intersecting` comes first, then `MissingMapping`; `Memory` may come at any time. Nothing is handed back then. Takes time
     /// near linear in the changes: for each one, the slots of all paths on the way to it, and the elements of its range; and for
@@ -49,12 +53,13 @@ impl EditPlan {
         alloc: Global,
         root: SyntaxNode,
         changes: Vec<Change>,
+        registrations: Vec<(SyntaxElement, SyntaxAnnotation)>,
         mapping: SyntaxMapping,
     ) -> Result<EditPlan, EditError>
         requires is_root { root.path ≡ [] }
         requires fit { All (Fits root) changes.items }
-        ensures ok { IfOk result (λ p. p ≡ record { root = root; changes = changes.items; mapping = mapping }) }
-        ensures refused { IfErr result (BuildRefuses (record { root = root; changes = changes.items; mapping = mapping })) }
+        ensures ok { IfOk result (λ p. p ≡ record { root = root; changes = changes.items; registrations = registrations.items; mapping = mapping }) }
+        ensures refused { IfErr result (BuildRefuses (record { root = root; changes = changes.items; registrations = registrations.items; mapping = mapping })) }
     {
         let index = TargetIndex::of(alloc, &changes)?;
         let fates = fates(alloc, &index, &changes)?;
@@ -62,6 +67,7 @@ impl EditPlan {
         Ok(EditPlan {
             root,
             changes,
+            registrations,
             mapping,
             fates,
             places,

@@ -72,7 +72,7 @@ annotated annotation es = map (λ e. (e, annotation)) es
 -- ---- finishing
 -- where the factory keeps no mappings, nothing is mapped
 abbrev pub plan_of : Editor → Plan
-plan_of e = record { root = e.root; changes = e.changes; mapping = unwrap_or e.factory [] }
+plan_of e = record { root = e.root; changes = e.changes; registrations = e.registrations; mapping = unwrap_or e.factory [] }
 
 abbrev pub FinishRefuses : Editor → ℕ → EditError → Type 0
 FinishRefuses e next (Intersecting first second) = BuildRefuses (plan_of e) (Intersecting first second)

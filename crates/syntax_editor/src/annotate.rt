@@ -23,9 +23,9 @@ impl SyntaxEditor {
         ensures refused { IfErr result (λ e. e ≡ RecordError.Memory) }
         ensures unchanged { OnErr result (self.new ≡ self.old) }
     {
-        let element = element.syntax_element(alloc)?;
+        let registration = (element.syntax_element(alloc)?, annotation);
         self.registrations
-            .push((element, annotation))
+            .push(registration)
             .map_err(|_| RecordError::Memory)?;
         Ok(())
     }

@@ -102,7 +102,7 @@ impl SyntaxEditor {
         self.changes.as_slice()
     }
 
-    /// A plan of the changes, which can be carried out as it is. Registrations play no part in it.
+    /// A plan of the changes, which can be carried out as it is. It keeps the registrations.
     ///
     /// `Intersecting` comes first, then `MissingMapping`; else only `Memory` comes. Nothing is handed back then.
     pub fn plan(self, alloc: Global) -> Result<EditPlan, EditError>
@@ -110,7 +110,8 @@ impl SyntaxEditor {
         ensures refused { IfErr result (BuildRefuses (plan_of self)) }
     {
         let mapping = self.factory.into_mapping(alloc);
-        EditPlan::build(alloc, self.root, self.changes.into_vec(), mapping)
+        let changes = self.changes.into_vec();
+        EditPlan::build(alloc, self.root, changes, self.registrations, mapping)
     }
 
     /// Carries the changes out: the new tree under the next number of `ids`, with its changed elements.
