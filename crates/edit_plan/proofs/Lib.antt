@@ -16,6 +16,7 @@ mod Fates
 mod Walk
 mod Carried
 mod Moved
+mod Levels
 mod Nested
 mod Placed
 mod GapRule
@@ -34,6 +35,6 @@ mod Relabelled
 mod Apart
 mod Swapped
 mod Registered
-mod Levels
+mod ByLevel
 mod MarksFilled
 mod CopiesFound

@@ -2,21 +2,21 @@
 --     filled                        an entry exchanged
 --     alone-is-given                what a change that owns nothing gives is its payload
 --     IsLevelled                    so far as one level is entered, with all that is deeper
---     level-begins, level-ends      before its first change, and behind its last one
---     other-level, nothing-owned, level-filled      one change more: of another depth, without dependents, and entered
-use Rattle.std.specs.Prelude.{◌≡◌, ◌≢◌, ℕ, suc, ◌+◌, ◌<◌, ◌≤◌, true, List, [], ◌∷◌, map, length, slice_get, Vec, Option, Some, get_or, refl}
+--     level-begins, level-ends      before its first owner, and behind its last one
+--     level-filled                  one owner more
+use Rattle.std.specs.Prelude.{◌≡◌, ℕ, suc, ◌+◌, ◌<◌, ◌≤◌, ◌&&◌, not, filter, List, [], map, length, slice_get, Vec, Option, Some, None, get_or, refl}
 use Rattle.std.specs.Global.{Global}
-use Rattle.std.specs.Bool.{◌==◌}
 use Rattle.std.specs.List.{AllByRecursion}
 use Rattle.std.specs.Option.{option_map_or}
-use Rattle.std.proofs.Common.{ap, sym, subst, ◌∙◌, arith}
+use Rattle.std.proofs.Common.{ap, ap₂, sym, subst, ◌∙◌, arith}
 use Rattle.std.proofs.Math.ListN.{set}
-use Rattle.std.proofs.lemmas.Bool.{cases_lt, eqb-true}
-use Rattle.std.proofs.lemmas.Option.{none-some, slice_get-get_or, slice_get_past}
+use Rattle.std.proofs.lemmas.Bool.{cases_lt, eq-eqb}
+use Rattle.std.proofs.lemmas.Bool.Decides.{eqb_tells}
+use Rattle.std.proofs.lemmas.Option.{none-some, same_Some, slice_get-get_or, slice_get_past, slice_get_within}
 use mathlib.Core.List.{map-map}
 use mathlib.Core.Logic.{inl, inr}
 use mathlib.Core.Path.{fun_ext}
-use Rattle.cst_core.specs.Path.{Path}
+use Rattle.cst_core.specs.Path.{Path, counted_from}
 use Rattle.cst_core.specs.Element.{subtree}
 use Rattle.cst_core.specs.GreenElement.{element_trees}
 use Rattle.green_tree.specs.declared.green.GreenElement.{GreenElement}
@@ -25,7 +25,7 @@ use Rattle.rewriting.specs.Rewriting.{NumberedAim, numbers, rewritten}
 use Rattle.edit_plan.specs.Change.{payload}
 use Rattle.edit_map.specs.Mapping.{Mapping}
 use Rattle.edit_plan.specs.Nesting.{owner}
-use Rattle.edit_plan.specs.Owned.{depth, depth_of, places_in, moved, dependents_in, AreDependents, IsGiven, AreGiven, AreGivenFrom, IsFilled}
+use Rattle.edit_plan.specs.Owned.{depth, depth_of, places_in, moved, dependents_in, owns_at, AreDependents, AreOwners, IsGiven, AreGiven, AreGivenFrom, IsFilled}
 use Rattle.edit_plan.specs.Plan.{ArePlaces}
 use Rattle.edit_plan.specs.Rewriting.{plain, payload_of, dependents, given}
 use Rattle.edit_plan.specs.declared.change.Change.{Change}
@@ -33,6 +33,7 @@ use Rattle.edit_plan.specs.declared.dependent.Dependent.{Dependent}
 use Rattle.edit_plan.proofs.Brought.{given-labelled}
 use Rattle.edit_plan.proofs.Owners.{owner_is_above}
 use Rattle.edit_plan.proofs.Settled.{all_owned, owns_nothing, plain-given, rewritten-agree}
+use Rattle.edit_plan.proofs.Levels.{empty-none, passing-found}
 use Rattle.edit_plan.proofs.Lists.{slice_get-set_same, slice_get-set_other}
 
 pub filled : (cs : List Change) (c : ℕ) (change : Change) (owned : List NumberedAim) (table : List (Vec GreenElement Global)) (v : Vec GreenElement Global) → c < length cs → c < length table → change ≡ get_or cs c change → element_trees v.items ≡ map (rewritten kind_only (given_by table) owned []) (map subtree (payload change)) → IsFilled cs c owned table (set table c v)
@@ -60,41 +61,35 @@ module _ (cs : List Change) (places : ℕ → Path) where
   past-the-end c l =
       owns_nothing cs places c (λ i d is by. let up : (r : Change) × (slice_get cs c ≡ Some r) × (depth r < depth d) = owner_is_above cs d c by in none-some up.0 (sym (slice_get_past cs c l) ∙ up.1))
 
-  -- ---- one level
-  pub record IsLevelled (level i : ℕ) (table : List (Vec GreenElement Global)) : Type 0 where
+  -- ---- one level, whose owners are these
+  pub record IsLevelled (level : ℕ) (owners : List ℕ) (i : ℕ) (table : List (Vec GreenElement Global)) : Type 0 where
     pub deeper : (c : ℕ) → level < depth_of cs c → IsGiven cs places table c
-    pub before : (c : ℕ) → c < i → level ≤ depth_of cs c → IsGiven cs places table c
+    pub before : (k c : ℕ) → k < i → slice_get owners k ≡ Some c → IsGiven cs places table c
     pub own_nothing : (c : ℕ) → dependents cs places c ≡ [] → IsGiven cs places table c
 
-  pub level-begins : (level : ℕ) (table : List (Vec GreenElement Global)) → AreGivenFrom cs places (suc level) table → IsLevelled level 0 table
-  level-begins level table a = record { deeper = λ c l. a.deep c (omega (arith, l)); before = λ c l m. absurd (omega (arith, l)); own_nothing = a.own_nothing }
+  pub level-begins : (level : ℕ) (owners : List ℕ) (table : List (Vec GreenElement Global)) → AreGivenFrom cs places (suc level) table → IsLevelled level owners 0 table
+  level-begins level owners table a = record { deeper = λ c l. a.deep c (omega (arith, l)); before = λ k c l s. absurd (omega (arith, l)); own_nothing = a.own_nothing }
 
-  pub level-ends : (level i : ℕ) (table : List (Vec GreenElement Global)) → length cs ≤ i → IsLevelled level i table → AreGivenFrom cs places level table
-  level-ends level i table long a = record { deep = deep; own_nothing = a.own_nothing }
+  pub level-ends : (level i : ℕ) (owned : List (Vec Dependent Global)) (owners : List ℕ) (table : List (Vec GreenElement Global)) → AreDependents cs places owned → owners ≡ filter (owns_at cs owned level) (counted_from 0 (length cs)) → length owners ≤ i → IsLevelled level owners i table → AreGivenFrom cs places level table
+  level-ends level i owned owners table are all long a = record { deep = deep; own_nothing = a.own_nothing }
     where
+      at_level : (c : ℕ) → c < length cs → depth_of cs c ≡ level → IsGiven cs places table c
+      at_level c there here =
+          elim (eqb_tells (length (dependents_in owned c)) 0) [
+            | inl none ↦ a.own_nothing c (sym (are c) ∙ empty-none (dependents_in owned c) none.0)
+            | inr some ↦
+                let found = passing-found (owns_at cs owned level) 0 (length cs) c (omega arith) (omega (arith, there)) (ap₂ (λ x y. x && not y) (eq-eqb (depth_of cs c) level here) some.0) in
+                let stands : slice_get owners found.0 ≡ Some c = ap (λ xs. slice_get xs found.0) all ∙ found.1 in
+                let within : found.0 < length owners = slice_get_within owners found.0 c stands in
+                a.before found.0 c (omega (arith, within, long)) stands
+          ]
+
       deep : (c : ℕ) → level ≤ depth_of cs c → IsGiven cs places table c
       deep c l =
           elim (cases_lt c (length cs)) [
-            | inl there ↦ a.before c (omega (arith, there, long)) l
+            | inl there ↦ elim (cases_lt level (depth_of cs c)) [ inl deeper ↦ a.deeper c deeper | inr same ↦ at_level c there (omega (arith, l, same)) ]
             | inr past ↦ a.own_nothing c (past-the-end c past)
           ]
-
-  passed-over : (level i : ℕ) (table : List (Vec GreenElement Global)) → IsLevelled level i table → (level ≤ depth_of cs i → IsGiven cs places table i) → IsLevelled level (i + 1) table
-  passed-over level i table a here = record { deeper = a.deeper; before = before; own_nothing = a.own_nothing }
-    where
-      before : (c : ℕ) → c < i + 1 → level ≤ depth_of cs c → IsGiven cs places table c
-      before c l m =
-          elim (cases_lt c i) [
-            | inl less ↦ a.before c less m
-            | inr more ↦ let same : i ≡ c = omega (arith, l, more) in subst (IsGiven cs places table) same (here (subst (λ n. level ≤ depth_of cs n) (sym same) m))
-          ]
-
-  pub other-level : (level i : ℕ) (table : List (Vec GreenElement Global)) → IsLevelled level i table → (depth_of cs i ≡ level → ⊥) → IsLevelled level (i + 1) table
-  other-level level i table a other =
-      passed-over level i table a (λ l. elim (cases_lt level (depth_of cs i)) [ inl less ↦ a.deeper i less | inr more ↦ absurd (other (omega (arith, l, more))) ])
-
-  pub nothing-owned : (level i : ℕ) (table : List (Vec GreenElement Global)) → IsLevelled level i table → dependents cs places i ≡ [] → IsLevelled level (i + 1) table
-  nothing-owned level i table a none = passed-over level i table a (λ l. a.own_nothing i none)
 
   pub owned-is-deeper : (i : ℕ) (n : ℕ) (d : Change) → slice_get cs n ≡ Some d → owner cs d ≡ Some i → depth_of cs i < depth_of cs n
   owned-is-deeper i n d is by =
@@ -103,27 +98,24 @@ module _ (cs : List Change) (places : ℕ → Path) where
       let own : depth_of cs n ≡ depth d = ap (λ o. option_map_or depth o 0) is in
       omega (arith, its, own, up.2)
 
-  pub level-filled : (level i : ℕ) (table after : List (Vec GreenElement Global)) (owned : List NumberedAim) → IsLevelled level i table → depth_of cs i ≡ level → owned ≡ dependents cs places i → IsFilled cs i owned table after → IsLevelled level (i + 1) after
-  level-filled level i table after owned a at_level are f = record {
-    deeper = λ c l. either c (λ other. a.deeper c l);
-    before = λ c l m. either c (λ other. a.before c (less c l other) m);
-    own_nothing = λ c none. either c (λ other. a.own_nothing c none);
+  pub level-filled : (level i o : ℕ) (owners : List ℕ) (table after : List (Vec GreenElement Global)) (owned : List NumberedAim) → IsLevelled level owners i table → slice_get owners i ≡ Some o → depth_of cs o ≡ level → owned ≡ dependents cs places o → IsFilled cs o owned table after → IsLevelled level owners (i + 1) after
+  level-filled level i o owners table after owned a stands at_level are f = record {
+    deeper = λ c l. either c (a.deeper c l);
+    before = before;
+    own_nothing = λ c none. either c (a.own_nothing c none);
   }
     where
-      here : IsGiven cs places after i
-      here = filled-is-given i table after owned are (all_owned cs places (IsGiven cs places table) i (λ n d is by. a.deeper n (omega (arith, at_level, owned-is-deeper i n d is by)))) f
+      here : IsGiven cs places after o
+      here = filled-is-given o table after owned are (all_owned cs places (IsGiven cs places table) o (λ n d is by. a.deeper n (omega (arith, at_level, owned-is-deeper o n d is by)))) f
 
-      less : (c : ℕ) → c < i + 1 → c ≢ i → c < i
-      less c l other = elim (cases_lt c i) [ inl below ↦ below | inr more ↦ absurd (other (omega (arith, l, more))) ]
+      either : (c : ℕ) → IsGiven cs places table c → IsGiven cs places after c
+      either c given = elim (eqb_tells o c) [ inl same ↦ subst (IsGiven cs places after) same.1 here | inr other ↦ f.elsewhere c (λ same. other.1 (sym same)) ∙ given ]
 
-      either : (c : ℕ) → (c ≢ i → IsGiven cs places table c) → IsGiven cs places after c
-      either c otherwise =
-          elim (cases_lt c i) [
-            | inl below ↦ let other : c ≢ i = λ same. absurd (omega (arith, same, below)) in f.elsewhere c other ∙ otherwise other
-            | inr more ↦ elim (cases_lt i c) [
-              | inl above ↦ let other : c ≢ i = λ same. absurd (omega (arith, same, above)) in f.elsewhere c other ∙ otherwise other
-              | inr no_more ↦ let same : i ≡ c = omega (arith, more, no_more) in subst (IsGiven cs places after) same here
-            ]
+      before : (k c : ℕ) → k < i + 1 → slice_get owners k ≡ Some c → IsGiven cs places after c
+      before k c l s =
+          elim (cases_lt k i) [
+            | inl less ↦ either c (a.before k c less s)
+            | inr more ↦ let same : k ≡ i = omega (arith, l, more) in subst (IsGiven cs places after) (same_Some o c (sym stands ∙ ap (slice_get owners) (sym same) ∙ s)) here
           ]
 
 -- ---- what stands at a number
@@ -133,20 +125,26 @@ depth-at cs i c l is = ap (λ o. option_map_or depth o 0) (slice_get-get_or cs i
 pub owned-at : (table : List (Vec Dependent Global)) (i : ℕ) (v : Vec Dependent Global) → i < length table → v ≡ get_or table i v → dependents_in table i ≡ map moved v.items
 owned-at table i v l is = ap (λ o. option_map_or (λ w. map moved w.items) o []) (slice_get-get_or table i v l ∙ ap (λ x. Some x) (sym is))
 
-pub empty-none : {X : Type 0} (xs : List X) → (length xs == 0) ≡ true → xs ≡ []
-empty-none [] h = refl
-empty-none (x ∷ xs) h = absurd (omega (arith, eqb-true (suc (length xs)) 0 h))
-
 -- ---- all levels
-pub from-payloads : (cs : List Change) (places : ℕ → Path) (levels : ℕ) (table : List (Vec GreenElement Global)) → ((c : ℕ) → given_by table c ≡ map subtree (payload_of cs c)) → ((c : ℕ) → c < length cs → depth_of cs c < levels) → AreGivenFrom cs places levels table
-from-payloads cs places levels table payloads deepest = record { deep = deep; own_nothing = λ c none. alone-is-given cs places c table (payloads c) none }
+pub from-payloads : (cs : List Change) (places : ℕ → Path) (owned : List (Vec Dependent Global)) (owners : List (Vec ℕ Global)) (table : List (Vec GreenElement Global)) → ((c : ℕ) → given_by table c ≡ map subtree (payload_of cs c)) → AreDependents cs places owned → AreOwners cs owned owners → AreGivenFrom cs places (length owners) table
+from-payloads cs places owned owners table payloads are levels = record { deep = deep; own_nothing = λ c none. alone-is-given cs places c table (payloads c) none }
   where
-    deep : (c : ℕ) → levels ≤ depth_of cs c → IsGiven cs places table c
-    deep c l =
-        elim (cases_lt c (length cs)) [
-          | inl there ↦ absurd (omega (arith, l, deepest c there))
-          | inr past ↦ alone-is-given cs places c table (payloads c) (past-the-end cs places c past)
+    alone : (c : ℕ) → dependents cs places c ≡ [] → IsGiven cs places table c
+    alone c none = alone-is-given cs places c table (payloads c) none
+
+    -- no list of so deep owners is there
+    owns_none : (c : ℕ) → c < length cs → length owners ≤ depth_of cs c → dependents cs places c ≡ []
+    owns_none c there l =
+        elim (eqb_tells (length (dependents_in owned c)) 0) [
+          | inl none ↦ sym (are c) ∙ empty-none (dependents_in owned c) none.0
+          | inr some ↦
+              let found = passing-found (owns_at cs owned (depth_of cs c)) 0 (length cs) c (omega arith) (omega (arith, there)) (ap₂ (λ x y. x && not y) (eq-eqb (depth_of cs c) (depth_of cs c) refl) some.0) in
+              let past : slice_get owners (depth_of cs c) ≡ None = slice_get_past owners (depth_of cs c) l in
+              absurd (none-some c (sym (ap (λ o. slice_get (option_map_or (λ v. v.items) o []) found.0) past) ∙ ap (λ xs. slice_get xs found.0) (levels (depth_of cs c)) ∙ found.1))
         ]
+
+    deep : (c : ℕ) → length owners ≤ depth_of cs c → IsGiven cs places table c
+    deep c l = elim (cases_lt c (length cs)) [ inl there ↦ alone c (owns_none c there l) | inr past ↦ alone c (past-the-end cs places c past) ]
 
 pub to-the-top : (cs : List Change) (places : ℕ → Path) (level : ℕ) (table : List (Vec GreenElement Global)) → level ≤ 0 → AreGivenFrom cs places level table → AreGiven cs places table
 to-the-top cs places level table none from = λ c. from.deep c (omega (arith, none))

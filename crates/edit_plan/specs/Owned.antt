@@ -7,13 +7,15 @@
 --     FoundSoFar                    the changes before this one find places in a table
 --     moved                         a change that is owned, and where it aims in its owner's payload
 --     AreDependents                 a table has for each change those that it owns
+--     owns_at, owners_at            a change of this depth owns something; the changes that a table has for a depth
+--     AreOwners                     a table has for each depth the changes of that depth that own something
 --     IsGiven, AreGiven             a table has what a change gives; what each change gives
 --     IsFilled                      what a change gives is entered into a table: its payload, rewritten by what the table has
 --     AreGivenFrom                  it has what changes of this depth or more give, and those that own nothing
-use Rattle.std.specs.Prelude.{◌≡◌, ◌≢◌, ◌↔◌, ◌<◌, ℕ, suc, ◌-◌, ◌≤◌, List, [], map, length, slice_get, unwrap_or, Option, Some, option_map, option_and_then, Vec}
+use Rattle.std.specs.Prelude.{◌≡◌, ◌≢◌, ◌↔◌, ◌<◌, ℕ, suc, ◌-◌, ◌≤◌, ◌&&◌, ◌==◌, not, Bool, List, [], map, filter, length, slice_get, unwrap_or, Option, Some, option_map, option_and_then, Vec}
 use Rattle.std.specs.Global.{Global}
 use Rattle.std.specs.Option.{option_map_or}
-use Rattle.cst_core.specs.Path.{Path, last_slot}
+use Rattle.cst_core.specs.Path.{Path, last_slot, counted_from}
 use Rattle.cst_core.specs.Element.{subtree}
 use Rattle.cst_core.specs.SyntaxElement.{element_of}
 use Rattle.green_tree.specs.declared.green.GreenElement.{GreenElement}
@@ -81,6 +83,15 @@ module _ (m : Mapping) (changes : List Change) (table : List (Option (Vec ℕ Gl
   abbrev pub FoundSoFar : ℕ → Type 0
   FoundSoFar n =
       (i e : ℕ) (c o : Change) → i < n → slice_get changes i ≡ Some c → owner changes c ≡ Some e → slice_get changes e ≡ Some o → (p : Path) × (path_at table e ≡ Some p) × HasPlace m o c p
+
+abbrev pub owns_at : List Change → List (Vec Dependent Global) → ℕ → ℕ → Bool
+owns_at changes table level c = (depth_of changes c == level) && not (length (dependents_in table c) == 0)
+
+abbrev pub owners_at : List (Vec ℕ Global) → ℕ → List ℕ
+owners_at owners level = option_map_or (λ v. v.items) (slice_get owners level) []
+
+abbrev pub AreOwners : List Change → List (Vec Dependent Global) → List (Vec ℕ Global) → Type 0
+AreOwners changes table owners = (level : ℕ) → owners_at owners level ≡ filter (owns_at changes table level) (counted_from 0 (length changes))
 
 module _ (changes : List Change) (places : ℕ → Path) where
   abbrev pub AreDependents : List (Vec Dependent Global) → Type 0

@@ -1,7 +1,7 @@
 //! What each change gives, with what it owns carried out in its payload.
 
-ghost use Rattle.std.specs.Prelude.{ℕ, List, [], ◌≡◌, ◌<◌, suc, map, length, IfOk, OnOk};
-ghost use Rattle.cst_core.specs.Path.{Path};
+ghost use Rattle.std.specs.Prelude.{ℕ, List, [], ◌≡◌, ◌<◌, suc, map, filter, length, All, IfOk, OnOk};
+ghost use Rattle.cst_core.specs.Path.{Path, counted_from};
 ghost use Rattle.cst_core.specs.Element.{subtree};
 ghost use Rattle.cst_core.specs.GreenElement.{element_trees};
 ghost use Rattle.rewriting.specs.Aimed.{aims_of};
@@ -9,8 +9,9 @@ ghost use Rattle.rewriting.specs.Pass.{kind_only, given_by};
 ghost use Rattle.rewriting.specs.Rewriting.{NumberedAim, rewritten};
 ghost use Rattle.edit_plan.specs.Change.{payload};
 ghost use Rattle.edit_plan.specs.Rewriting.{payload_of};
-ghost use Rattle.edit_plan.specs.Owned.{depth_of, moved, IsFilled, AreDependents, AreGiven, AreGivenFrom};
+ghost use Rattle.edit_plan.specs.Owned.{moved, owns_at, IsFilled, AreDependents, AreGiven, AreGivenFrom};
 
+use crate::by_depth::owners_by_depth;
 use crate::change::Change;
 use crate::dependent::{Dependent, moved_aims};
 use cst_core::GreenElement;
@@ -27,7 +28,7 @@ fn rewritten_each(
     ensures { IfOk result (λ v. element_trees v.items ≡ map (rewritten kind_only (given_by given.now) (aims_of aims.now) []) (element_trees elements.now)) }
 {
     let mut builds = 0;
-    let mut rewritten = Vec::new(alloc);
+    let mut rewritten = Vec::with_capacity(alloc, elements.len())?;
     for element in elements {
         rewritten.push(rebuild(alloc, element, aims, given, &mut builds)?)?;
     }
@@ -66,24 +67,22 @@ fn fill(
     Ok(())
 }
 
-// Enters what the owners of this depth give, where all that is deeper has been entered.
+// Enters what the owners of one depth give, where all that is deeper has been entered.
 fn fill_level(
     alloc: Global,
     changes: &[Change],
     dependents: &[Vec<Dependent>],
-    level: usize,
+    owners: &[usize],
     given: &mut Vec<Vec<GreenElement>>,
 ) -> Result<(), AllocError>
     requires owned { length dependents.now ≡ length changes.now }
+    requires there { All (λ c. c < length changes.now) owners.now }
     requires long { length given.now.items ≡ length changes.now }
     ensures long { OnOk result (length given.new.items ≡ length changes.now) }
-    ensures filled { OnOk result ((places : ℕ → Path) → AreDependents changes.now places dependents.now → AreGivenFrom changes.now places (suc level) given.old.items → AreGivenFrom changes.now places level given.new.items) }
+    ensures filled { OnOk result ((places : ℕ → Path) (level : ℕ) → AreDependents changes.now places dependents.now → owners.now ≡ filter (owns_at changes.now dependents.now level) (counted_from 0 (length changes.now)) → AreGivenFrom changes.now places (suc level) given.old.items → AreGivenFrom changes.now places level given.new.items) }
 {
-    for owner in 0..changes.len() {
-        let owned = dependents[owner].as_slice();
-        if changes[owner].depth() == level && !owned.is_empty() {
-            fill(alloc, changes, owner, owned, given)?;
-        }
+    for owner in owners {
+        fill(alloc, changes, *owner, &dependents[*owner], given)?;
     }
     Ok(())
 }
@@ -93,28 +92,17 @@ fn payloads(alloc: Global, changes: &[Change]) -> Result<Vec<Vec<GreenElement>>,
     ensures long { IfOk result (λ v. length v.items ≡ length changes.now) }
     ensures payloads { IfOk result (λ v. (c : ℕ) → given_by v.items c ≡ map subtree (payload_of changes.now c)) }
 {
-    let mut payloads = Vec::new(alloc);
+    let mut payloads = Vec::with_capacity(alloc, changes.len())?;
     for change in changes {
         payloads.push(change.brought(alloc)?)?;
     }
     Ok(payloads)
 }
 
-// More than the depth of each change.
-pub(crate) fn levels(changes: &[Change]) -> usize
-    ensures { (c : ℕ) → c < length changes.now → depth_of changes.now c < result }
-{
-    let mut levels = 0;
-    for change in changes {
-        levels = levels.max(change.depth() + 1);
-    }
-    levels
-}
-
 /// What each change gives, by its number, where a table has what each one owns.
 ///
-/// An owner comes after all that is deeper. Takes time linear in the changes times the depth of the deepest one, and what the
-/// passes through the owners' payloads take.
+/// An owner comes after all that is deeper. Takes time linear in the changes and the depth of the deepest one, and what the passes
+/// through the owners' payloads take.
 pub(crate) fn given(
     alloc: Global,
     changes: &[Change],
@@ -124,9 +112,10 @@ pub(crate) fn given(
     ensures long { IfOk result (λ v. length v.items ≡ length changes.now) }
     ensures given { IfOk result (λ v. (places : ℕ → Path) → AreDependents changes.now places dependents.now → AreGiven changes.now places v.items) }
 {
+    let owners = owners_by_depth(alloc, changes, dependents)?;
     let mut given = payloads(alloc, changes)?;
-    for level in (0..levels(changes)).rev() {
-        fill_level(alloc, changes, dependents, level, &mut given)?;
+    for level in (0..owners.len()).rev() {
+        fill_level(alloc, changes, dependents, &owners[level], &mut given)?;
     }
     Ok(given)
 }

@@ -2,16 +2,7 @@
 //! it. It prints a line for each pair on which they differ, and at the end of each scenario how many pairs there were.
 #![tactic(auto)]
 
-mod aim;
-mod answer;
-mod changed;
-mod fate;
-mod given;
-mod model;
-mod piece;
-mod planned;
 mod report;
-mod rewriter;
 mod scenario;
 mod single;
 mod trees;

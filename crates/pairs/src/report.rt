@@ -1,6 +1,5 @@
-use crate::answer::Answer;
-use crate::trial::Answers;
 use anyhow::Result;
+use model::{Answer, Answers};
 
 /// How many pairs were tried, how many of them are refused and why, and on how many the answers differ.
 #[derive(Drop)]
@@ -43,7 +42,7 @@ impl Report {
         answers: &Answers,
     ) -> Result<()> {
         self.count(&answers.editor);
-        if answers.editor == answers.model {
+        if answers.agree() {
             return Ok(());
         }
         note_one(&mut self.differ);

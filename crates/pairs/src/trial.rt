@@ -1,19 +1,11 @@
-use crate::answer::{Answer, editor_answer};
-use crate::model::model_answer;
 use crate::scenario::Scenario;
 use crate::single::Single;
 use crate::trees::Trees;
 use anyhow::{Context, Result};
 use cst_core::{SyntaxNode, TreeIds};
+use model::{Answers, answers_to};
 use std::alloc::Global;
 use syntax_editor::{SyntaxEditor, SyntaxMapping};
-
-/// What the two engines answer.
-#[derive(Drop)]
-pub struct Answers {
-    pub editor: Answer,
-    pub model: Answer,
-}
 
 /// Tries pairs, each with a new editor.
 #[derive(Drop)]
@@ -81,25 +73,10 @@ impl Trial {
         behind.record(self.alloc, editor, &self.trees.payloads.second)
     }
 
-    fn model_answer(&self, editor: &SyntaxEditor) -> Result<Answer> {
-        model_answer(
-            self.alloc,
-            &self.trees.root,
-            editor.changes(),
-            &self.mapping,
-        )
-    }
-
-    fn answers_of(&self, ids: &mut TreeIds, editor: SyntaxEditor) -> Result<Answers> {
-        let model = self.model_answer(&editor)?;
-        let editor = editor_answer(self.alloc, ids, editor)?;
-        Ok(Answers { editor, model })
-    }
-
     /// What comes of two changes, recorded in this order.
     pub fn answers(&self, ids: &mut TreeIds, before: &Single, behind: &Single) -> Result<Answers> {
         let mut editor = self.editor(ids)?;
         self.record(&mut editor, before, behind)?;
-        self.answers_of(ids, editor)
+        answers_to(self.alloc, ids, &self.trees.root, editor)
     }
 }

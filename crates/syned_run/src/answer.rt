@@ -1,12 +1,14 @@
 //! What a run prints, and its exit status.
-ghost use Rattle.std.specs.Prelude.{◌≤◌, ◌<◌, ◌^◌};
+ghost use Rattle.std.specs.Prelude.{◌≤◌, ◌<◌, ◌^◌, IfOk};
 
 use crate::ends::SCRIPT_LIMIT;
 use crate::print::print_edit;
 use crate::script::{Line, is_blank, read_line};
-use crate::session::Session;
+use crate::session::{Editing, Session};
 use crate::stop::{Refusal, Stop, Stopped};
+use cst_core::{SyntaxNode, TreeIds};
 use std::alloc::{AllocError, Global};
+use syntax_editor::{SyntaxEdit, SyntaxEditor};
 
 /// How a run ended.
 #[derive(Clone, Copy, Debug, PartialEq, Eq)]
@@ -85,16 +87,25 @@ fn refused(alloc: Global, refusal: Refusal) -> Result<Answer, AllocError> {
 
 // What is printed once the script is done.
 fn carry_out(alloc: Global, script: &str) -> Result<String, Stopped> {
-    let lines: Vec<&str> = script
-        .split_terminator('\n')
-        .collect(alloc)
-        .map_err(|_| Stop::Memory.at(0))?;
+    let lines = lines(alloc, script).map_err(|_| Stop::Memory.at(0))?;
+    let (session, number) = record(alloc, &lines)?;
+    end(alloc, session, &lines, number)
+}
+
+fn lines<'a>(alloc: Global, script: &'a str) -> Result<Vec<&'a str>, AllocError> {
+    script.split_terminator('\n').collect(alloc)
+}
+
+// Carries out the lines before `finish`, and tells the number of that one.
+fn record(alloc: Global, lines: &[&str]) -> Result<(Session, usize), Stopped>
+    ensures { IfOk result (λ r. r.1 < 2 ^ 63) }
+{
     let mut session = Session::new(alloc);
     for (index, text) in lines.iter().enumerate() {
         let number = index + 1;
         let line = read_line(alloc, text).map_err(|stop| stop.at(number))?;
         if let Line::Finish = line {
-            return end(alloc, session, &lines, number);
+            return Ok((session, number));
         }
         session.carry_out(line).map_err(|stop| stop.at(number))?;
     }
@@ -113,6 +124,31 @@ fn end(alloc: Global, session: Session, lines: &[&str], number: usize) -> Result
             return Err(Stop::Bad.at(index + 1));
         }
     }
-    let edit = session.finish().map_err(|stop| stop.at(number))?;
+    let edit = finish(alloc, session).map_err(|stop| stop.at(number))?;
     print_edit(alloc, &edit).map_err(|_| Stop::Memory.at(number))
+}
+
+fn finish(alloc: Global, session: Session) -> Result<SyntaxEdit, Stop> {
+    let (editing, mut ids) = session.into_editing()?;
+    Ok(editing.editor.finish(alloc, &mut ids)?)
+}
+
+/// What a script has recorded where it comes to `finish`.
+#[derive(Drop)]
+pub struct Recorded {
+    /// The root that is edited.
+    pub root: SyntaxNode,
+    /// The editor, with its changes and mappings.
+    pub editor: SyntaxEditor,
+    /// The source of the script's tree numbers.
+    pub ids: TreeIds,
+}
+
+/// What a script records, for another engine that is to carry it out; `None` where a line up to `finish` is bad, or its call
+/// refused, or memory is.
+pub fn record_script(alloc: Global, script: &str) -> Option<Recorded> {
+    let lines = lines(alloc, script).ok()?;
+    let (session, _) = record(alloc, &lines).ok()?;
+    let (Editing { editor, root }, ids) = session.into_editing().ok()?;
+    Some(Recorded { root, editor, ids })
 }

@@ -12,4 +12,5 @@ mod script;
 mod session;
 mod stop;
 
+pub use answer::{Recorded, record_script};
 pub use program::run;

@@ -7,15 +7,22 @@ use crate::script::{Line, Place};
 use crate::stop::Stop;
 use cst_core::{GreenNode, SyntaxElement, SyntaxNode, TreeIds};
 use std::alloc::Global;
-use syntax_editor::{Position, SyntaxEdit, SyntaxEditor, SyntaxMappingBuilder};
+use syntax_editor::{Position, SyntaxEditor, SyntaxMappingBuilder};
 
-/// The trees of a script, its source of tree numbers, and its editor once there is one.
+/// The trees of a script, its source of tree numbers, and what it edits once there is something.
 #[derive(Drop)]
 pub(crate) struct Session {
     alloc: Global,
     ids: TreeIds,
     roots: Roots,
-    editor: Option<SyntaxEditor>,
+    editing: Option<Editing>,
+}
+
+/// The editor of a script, and the root that it edits.
+#[derive(Drop)]
+pub(crate) struct Editing {
+    pub(crate) editor: SyntaxEditor,
+    pub(crate) root: SyntaxNode,
 }
 
 // The new elements of a line: one of them, or else none or several.
@@ -31,7 +38,7 @@ impl Session {
             alloc,
             ids: TreeIds::new(1),
             roots: Roots::new(alloc),
-            editor: None,
+            editing: None,
         }
     }
 
@@ -60,19 +67,13 @@ impl Session {
 
     /// Whether there is an editor.
     pub(crate) fn is_editing(&self) -> bool {
-        self.editor.is_some()
+        self.editing.is_some()
     }
 
-    /// What the editor gives; `Bad` where there is none.
-    pub(crate) fn finish(self) -> Result<SyntaxEdit, Stop> {
-        let Session {
-            alloc,
-            mut ids,
-            editor,
-            ..
-        } = self;
-        let editor = editor.ok_or(Stop::Bad)?;
-        Ok(editor.finish(alloc, &mut ids)?)
+    /// What is edited, with the source of tree numbers; `Bad` where there is nothing.
+    pub(crate) fn into_editing(self) -> Result<(Editing, TreeIds), Stop> {
+        let Session { ids, editing, .. } = self;
+        Ok((editing.ok_or(Stop::Bad)?, ids))
     }
 
     fn add_tree(&mut self, name: Name<'_>, root: GreenNode) -> Result<(), Stop> {
@@ -89,8 +90,9 @@ impl Session {
         }
         let node = self.node(node)?;
         let (editor, root) = SyntaxEditor::new(self.alloc, &mut self.ids, node)?;
-        self.editor = Some(editor);
-        self.roots.add(self.alloc, name, root)
+        let named = root.try_clone(self.alloc)?;
+        self.editing = Some(Editing { editor, root });
+        self.roots.add(self.alloc, name, named)
     }
 
     fn map(
@@ -102,7 +104,7 @@ impl Session {
         let parent = self.node(parent)?;
         let input = self.node(input)?;
         let output = self.node(output)?;
-        let editor = self.editor.as_mut().ok_or(Stop::Bad)?;
+        let Editing { editor, .. } = self.editing.as_mut().ok_or(Stop::Bad)?;
         let mut builder = SyntaxMappingBuilder::new(self.alloc, parent);
         builder.map_node(self.alloc, input, output)?;
         if let Some(mapping) = editor.make_mut().mappings() {
@@ -114,7 +116,7 @@ impl Session {
     fn insert(&mut self, place: &Place<'_>, payload: &[Reference<'_>]) -> Result<(), Stop> {
         let at = self.position(place)?;
         let payload = self.payload(payload)?;
-        let editor = self.editor.as_mut().ok_or(Stop::Bad)?;
+        let Editing { editor, .. } = self.editing.as_mut().ok_or(Stop::Bad)?;
         match payload {
             Payload::One(element) => editor.insert(self.alloc, at, element)?,
             Payload::Many(elements) => editor.insert_all(self.alloc, at, elements)?,
@@ -124,7 +126,7 @@ impl Session {
 
     fn delete(&mut self, target: &Reference<'_>) -> Result<(), Stop> {
         let target = self.element(target)?;
-        let editor = self.editor.as_mut().ok_or(Stop::Bad)?;
+        let Editing { editor, .. } = self.editing.as_mut().ok_or(Stop::Bad)?;
         editor.delete(self.alloc, target)?;
         Ok(())
     }
@@ -132,7 +134,7 @@ impl Session {
     fn replace(&mut self, target: &Reference<'_>, payload: &[Reference<'_>]) -> Result<(), Stop> {
         let target = self.element(target)?;
         let payload = self.payload(payload)?;
-        let editor = self.editor.as_mut().ok_or(Stop::Bad)?;
+        let Editing { editor, .. } = self.editing.as_mut().ok_or(Stop::Bad)?;
         match payload {
             Payload::One(element) => editor.replace(self.alloc, target, element)?,
             Payload::Many(elements) => editor.replace_with_many(self.alloc, target, elements)?,
@@ -149,7 +151,7 @@ impl Session {
         let first = self.element(first)?;
         let last = self.element(last)?;
         let payload = self.elements(payload)?;
-        let editor = self.editor.as_mut().ok_or(Stop::Bad)?;
+        let Editing { editor, .. } = self.editing.as_mut().ok_or(Stop::Bad)?;
         if payload.is_empty() {
             editor.delete_all(self.alloc, first, last)?;
         } else {

@@ -1,11 +1,11 @@
-use Rattle.std.proofs.Common.{◌≡◌, ℕ, suc, length}
-use Rattle.cst_core.specs.Path.{Path}
-use Rattle.edit_plan.specs.Owned.{AreDependents, AreGivenFrom}
+use Rattle.std.proofs.Common.{◌≡◌, ℕ, suc, length, filter}
+use Rattle.cst_core.specs.Path.{Path, counted_from}
+use Rattle.edit_plan.specs.Owned.{owns_at, AreDependents, AreGivenFrom}
 use Rattle.edit_plan.proofs.Nested.{IsLevelled}
 use Rattle.edit_plan.proofs.given.fill_level.Given as goal
 
 abbrev pub invariant-loop-owner : goal.invariant-loop-owner
 invariant-loop-owner l = record {
   long : length l.given.items ≡ length l.changes;
-  filled : (places : ℕ → Path) → AreDependents l.changes places l.dependents → AreGivenFrom l.changes places (suc l.level) l.initial.given.items → IsLevelled l.changes places l.level l.owner l.given.items;
+  filled : (places : ℕ → Path) (level : ℕ) → AreDependents l.changes places l.dependents → l.owners ≡ filter (owns_at l.changes l.dependents level) (counted_from 0 (length l.changes)) → AreGivenFrom l.changes places (suc level) l.initial.given.items → IsLevelled l.changes places level l.owners l.owner-index l.given.items;
 }

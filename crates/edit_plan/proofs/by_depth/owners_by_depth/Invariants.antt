@@ -1,0 +1,10 @@
+use Rattle.std.proofs.Common.{◌≡◌, ℕ, length}
+use Rattle.edit_plan.specs.Owned.{owners_at}
+use Rattle.edit_plan.proofs.Levels.{owners-so-far}
+use Rattle.edit_plan.proofs.by_depth.owners_by_depth.Given as goal
+
+abbrev pub invariant-loop-owner : goal.invariant-loop-owner
+invariant-loop-owner l = record {
+  long : length l.owners.items ≡ l.count;
+  so_far : (level : ℕ) → owners_at l.owners.items level ≡ owners-so-far l.changes l.dependents l.owner level;
+}

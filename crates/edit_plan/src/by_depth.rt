@@ -1,0 +1,60 @@
+ghost use Rattle.std.specs.Prelude.{ℕ, ◌≡◌, ◌≢◌, ◌<◌, ◌++◌, [], ◌∷◌, length, IfOk, OnOk};
+ghost use Rattle.edit_plan.specs.Owned.{depth_of, owners_at, AreOwners};
+
+use crate::change::Change;
+use crate::dependent::Dependent;
+use std::alloc::{AllocError, Global};
+
+// More than the depth of each change.
+fn levels(changes: &[Change]) -> usize
+    ensures { (c : ℕ) → c < length changes.now → depth_of changes.now c < result }
+{
+    let mut levels = 0;
+    for change in changes {
+        levels = levels.max(change.depth() + 1);
+    }
+    levels
+}
+
+// So many empty lists.
+fn empty_lists(alloc: Global, count: usize) -> Result<Vec<Vec<usize>>, AllocError>
+    ensures long { IfOk result (λ v. length v.items ≡ count) }
+    ensures empty { IfOk result (λ v. (level : ℕ) → owners_at v.items level ≡ []) }
+{
+    let mut lists = Vec::with_capacity(alloc, count)?;
+    for _ in 0..count {
+        lists.push(Vec::new(alloc))?;
+    }
+    Ok(lists)
+}
+
+// One more owner of a depth.
+fn enter(owners: &mut Vec<Vec<usize>>, level: usize, owner: usize) -> Result<(), AllocError>
+    requires { level < length owners.now.items }
+    ensures long { OnOk result (length owners.new.items ≡ length owners.old.items) }
+    ensures here { OnOk result (owners_at owners.new.items level ≡ owners_at owners.old.items level ++ owner ∷ []) }
+    ensures elsewhere { OnOk result ((l : ℕ) → l ≢ level → owners_at owners.new.items l ≡ owners_at owners.old.items l) }
+{
+    owners[level].push(owner)?;
+    Ok(())
+}
+
+/// For each depth, the changes of that depth that own something, where a table has what each one owns.
+pub(crate) fn owners_by_depth(
+    alloc: Global,
+    changes: &[Change],
+    dependents: &[Vec<Dependent>],
+) -> Result<Vec<Vec<usize>>, AllocError>
+    requires { length dependents.now ≡ length changes.now }
+    ensures { IfOk result (λ v. AreOwners changes.now dependents.now v.items) }
+{
+    let count = levels(changes);
+    let mut owners = empty_lists(alloc, count)?;
+    for owner in 0..changes.len() {
+        let owned = dependents[owner].as_slice();
+        if !owned.is_empty() {
+            enter(&mut owners, changes[owner].depth(), owner)?;
+        }
+    }
+    Ok(owners)
+}

@@ -1,0 +1,18 @@
+//! A plain model of the editor, for tests: it writes the whole tree anew by the definition, with no index and nothing shared.
+//!
+//! What it answers is compared by programs, so its calls have no contracts.
+#![tactic(auto)]
+
+mod aim;
+mod answer;
+mod answers;
+mod changed;
+mod fate;
+mod given;
+mod model;
+mod piece;
+mod planned;
+mod rewriter;
+
+pub use answer::Answer;
+pub use answers::{Answers, answers_to};
