@@ -6,12 +6,12 @@
 --     level-begins, level-ends, level-filled      before its first owner, behind its last one, and one owner more
 --     table-told                    a table that was made of the payloads alone
 --     from-payloads, to-the-top     before the deepest level, and behind the last one
-use Rattle.std.specs.Prelude.{◌≡◌, ◌≢◌, ℕ, zero, suc, ◌+◌, ◌<◌, ◌≤◌, Bool, true, false, ◌&&◌, cond, nat_eq, List, [], ◌∷◌, ◌++◌, map, filter, length, slice_get, get_or, Option, Some, None, option_map, Vec, refl}
+use Rattle.std.specs.Prelude.{◌≡◌, ℕ, suc, ◌+◌, ◌<◌, ◌≤◌, true, false, ◌&&◌, cond, nat_eq, List, [], ◌∷◌, ◌++◌, map, filter, length, slice_get, get_or, Option, Some, None, option_map, Vec, refl}
 use Rattle.std.specs.Global.{Global}
 use Rattle.std.specs.Option.{option_map_or}
-use Rattle.std.proofs.Common.{ap, ap₂, sym, subst, ◌∙◌, arith}
+use Rattle.std.proofs.Common.{ap, ap₂, sym, ◌∙◌, arith}
 use Rattle.std.proofs.Math.ListN.{set}
-use Rattle.std.proofs.lemmas.Bool.{cases_eq, cases_lt, eq-eqb, ne_eqb}
+use Rattle.std.proofs.lemmas.Bool.{cases_eq, eq-eqb, ne_eqb}
 use Rattle.std.proofs.lemmas.List.{append-nil, append_assoc, map-append, length-map}
 use Rattle.std.proofs.lemmas.List.Elements.{filter-append}
 use Rattle.std.proofs.lemmas.Option.{slice_get-get_or, slice_get-map, none-some, same_Some}
@@ -25,9 +25,9 @@ use Rattle.rewriting.specs.declared.mark.GivenMarks.{GivenMarks}
 use Rattle.edit_plan.specs.Change.{payload}
 use Rattle.edit_plan.specs.Nesting.{owner}
 use Rattle.edit_plan.specs.Owned.{depth_of, owns_at, AreDependents, AreOwners}
-use Rattle.edit_plan.specs.Rewriting.{Origin, origin, payload_of, dependents, given}
+use Rattle.edit_plan.specs.Rewriting.{origin, payload_of, dependents}
 use Rattle.edit_plan.specs.Sought.{path_below, sought_one, sought_from, sought_at, registered_at}
-use Rattle.edit_plan.specs.Marks.{with_marks, marks_given, IsTableOf, element_sought, payload_sought, exchanged, AreMarksFrom}
+use Rattle.edit_plan.specs.Marks.{marks_given, IsTableOf, element_sought, payload_sought, exchanged, AreMarksFrom}
 use Rattle.edit_plan.specs.declared.change.Change.{Change}
 use Rattle.edit_plan.specs.declared.dependent.Dependent.{Dependent}
 use Rattle.edit_plan.specs.declared.sought.SoughtIndex.{SoughtIndex}

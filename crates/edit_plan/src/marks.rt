@@ -169,7 +169,14 @@ pub(crate) fn given_marks(
     let owners = owners_by_depth(alloc, changes, dependents)?;
     let mut given = payloads(alloc, changes, index)?;
     for level in (0..owners.len()).rev() {
-        fill_level(alloc, changes, dependents, &owners[level], index, &mut given)?;
+        fill_level(
+            alloc,
+            changes,
+            dependents,
+            &owners[level],
+            index,
+            &mut given,
+        )?;
     }
     Ok(given)
 }
