@@ -13,14 +13,29 @@ use Rattle.std.proofs.lemmas.Option.{none-some, same_Some, slice_get_past, slice
 use mathlib.Core.Logic.{inl, inr}
 use Rattle.cst_core.specs.Path.{Path, counted_from}
 use Rattle.edit_plan.specs.Nesting.{owner}
-use Rattle.edit_plan.specs.Owned.{depth_of, dependents_in, owns_at, AreDependents, AreOwners}
+use Rattle.edit_plan.specs.Owned.{depth, depth_of, dependents_in, owns_at, AreDependents, AreOwners}
 use Rattle.edit_plan.specs.Rewriting.{dependents}
 use Rattle.edit_plan.specs.declared.change.Change.{Change}
 use Rattle.edit_plan.specs.declared.dependent.Dependent.{Dependent}
 use Rattle.edit_plan.proofs.Levels.{empty-none, passing-found}
-use Rattle.edit_plan.proofs.Nested.{past-the-end, owned-is-deeper}
+use Rattle.edit_plan.proofs.Owners.{owner_is_above}
+use Rattle.edit_plan.proofs.Settled.{owns_nothing}
 
 module _ (cs : List Change) (places : ℕ → Path) where
+  -- what is past the end owns nothing
+  past-the-end : (c : ℕ) → length cs ≤ c → dependents cs places c ≡ []
+  past-the-end c l =
+      owns_nothing cs places c (λ i d is by. let up : (r : Change) × (slice_get cs c ≡ Some r) × (depth r < depth d) = owner_is_above cs d c by in none-some up.0 (sym (slice_get_past cs c l) ∙ up.1))
+
+  -- what a change owns is deeper
+  owned-is-deeper : (i : ℕ) (n : ℕ) (d : Change) → slice_get cs n ≡ Some d → owner cs d ≡ Some i → depth_of cs i < depth_of cs n
+  owned-is-deeper i n d is by =
+      let up : (r : Change) × (slice_get cs i ≡ Some r) × (depth r < depth d) = owner_is_above cs d i by in
+      let its : depth_of cs i ≡ depth up.0 = ap (λ o. option_map_or depth o 0) up.1 in
+      let own : depth_of cs n ≡ depth d = ap (λ o. option_map_or depth o 0) is in
+      omega (arith, its, own, up.2)
+
+  -- one level, whose owners are these
   pub record LevelledBy (holds : ℕ → Type 0) (level : ℕ) (owners : List ℕ) (i : ℕ) : Type 0 where
     pub deeper : (c : ℕ) → level < depth_of cs c → holds c
     pub before : (k c : ℕ) → k < i → slice_get owners k ≡ Some c → holds c
@@ -47,7 +62,7 @@ module _ (cs : List Change) (places : ℕ → Path) where
       deep c l =
           elim (cases_lt c (length cs)) [
             | inl there ↦ elim (cases_lt level (depth_of cs c)) [ inl deeper ↦ a.deeper c deeper | inr same ↦ at_level c there (omega (arith, l, same)) ]
-            | inr past ↦ a.own_nothing c (past-the-end cs places c past)
+            | inr past ↦ a.own_nothing c (past-the-end c past)
           ]
 
   -- what holds of all that a change owns makes it hold of the change
@@ -59,7 +74,7 @@ module _ (cs : List Change) (places : ℕ → Path) where
   }
     where
       here : after o
-      here = put (λ n d is by. a.deeper n (omega (arith, at_level, owned-is-deeper cs places o n d is by)))
+      here = put (λ n d is by. a.deeper n (omega (arith, at_level, owned-is-deeper o n d is by)))
 
       either : (c : ℕ) → holds c → after c
       either c h = elim (eqb_tells o c) [ inl same ↦ subst after same.1 here | inr other ↦ keeps c (λ same. other.1 (sym same)) h ]
@@ -73,7 +88,7 @@ module _ (cs : List Change) (places : ℕ → Path) where
 
   pub from-alone : (holds : ℕ → Type 0) (owned : List (Vec Dependent Global)) (owners : List (Vec ℕ Global)) → AreDependents cs places owned → AreOwners cs owned owners → ((c : ℕ) → dependents cs places c ≡ [] → holds c) → (c : ℕ) → length owners ≤ depth_of cs c → holds c
   from-alone holds owned owners are levels alone c l =
-      elim (cases_lt c (length cs)) [ inl there ↦ alone c (owns_none there) | inr past ↦ alone c (past-the-end cs places c past) ]
+      elim (cases_lt c (length cs)) [ inl there ↦ alone c (owns_none there) | inr past ↦ alone c (past-the-end c past) ]
     where
       -- no list of so deep owners is there
       owns_none : c < length cs → dependents cs places c ≡ []
