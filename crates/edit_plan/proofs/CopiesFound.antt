@@ -3,26 +3,26 @@
 --     put                           one path more in the list of its number
 --     copies-marked                 the paths of a mark are those of the copies of its element
 --     all-copies                    so they are for each registered element
-use Rattle.std.specs.Prelude.{◌≡◌, ◌≢◌, ℕ, zero, suc, ◌+◌, ◌<◌, ◌≤◌, Bool, true, false, ◌&&◌, cond, nat_eq, List, [], ◌∷◌, ◌++◌, map, filter, flat_map, drop, length, slice_get, get_or, Option, Some, None, option_map, Vec, refl}
+use Rattle.std.specs.Prelude.{◌≡◌, ◌≢◌, ℕ, zero, suc, ◌+◌, ◌<◌, Bool, true, false, ◌&&◌, cond, nat_eq, List, [], ◌∷◌, ◌++◌, map, filter, flat_map, drop, length, slice_get, get_or, Option, Some, None, option_map, Vec, refl}
 use Rattle.std.specs.Global.{Global}
 use Rattle.std.specs.Option.{option_map_or}
 use Rattle.std.proofs.Common.{ap, ap₂, sym, ◌∙◌, arith}
 use Rattle.std.proofs.lemmas.Bool.{cases_eq, cases_Bool, eq-eqb, ne_eqb, true≢false}
-use Rattle.std.proofs.lemmas.List.{append-nil, map-append, length-map}
+use Rattle.std.proofs.lemmas.List.{append-nil, map-append}
 use Rattle.std.proofs.lemmas.List.Elements.{filter-append}
 use Rattle.std.proofs.lemmas.Option.{slice_get-get_or, slice_get-map, slice_get_past, none-some, same_Some}
 use mathlib.Core.Logic.{inl, inr}
 use mathlib.Core.Path.{fun_ext}
 use Rattle.cst_core.specs.Path.{Path, same_path}
-use Rattle.cst_core.specs.Tree.{Tree, label, at, paths, relabelled}
+use Rattle.cst_core.specs.Tree.{label, at, paths, relabelled}
 use Rattle.cst_core.specs.Element.{Address, Element, address, same_address, subtree}
 use Rattle.cst_core.specs.SyntaxElement.{element_of}
 use Rattle.cst_core.specs.declared.element.SyntaxElement.{SyntaxElement}
 use Rattle.rewriting.specs.Rewriting.{rewritten_whole}
 use Rattle.rewriting.specs.Topmost.{holds_at, paths_of}
-use Rattle.rewriting.specs.Marked.{MarkTree, Marking, marks_on, marked, marked_from, below, marks_at, wanted}
+use Rattle.rewriting.specs.Marked.{Marking, marks_on, marked, marked_from, below, marks_at, wanted}
 use Rattle.edit_plan.specs.Results.{copies_of}
-use Rattle.edit_plan.specs.Rewriting.{Origin, OriginTree, origin, given, independents, new_tree}
+use Rattle.edit_plan.specs.Rewriting.{OriginTree, origin, given, independents, new_tree}
 use Rattle.edit_plan.specs.Sought.{path_below, sought_one, sought_from, sought_at, registered_at, addresses}
 use Rattle.edit_plan.specs.Marks.{with_marks, marks_given, IsTableOf, paths_of_mark, path_lists}
 use Rattle.edit_plan.specs.declared.change.Change.{Change}
@@ -135,6 +135,6 @@ same-items f g (x ∷ xs) (y ∷ ys) l h =
 pub all-copies : (es : List SyntaxElement) (lists : List (Vec (Vec ℕ Global) Global)) (ms : List Marking) (made : OriginTree) → length lists ≡ length es → ((k : ℕ) (d : Vec (Vec ℕ Global) Global) → k < length es → paths_of (get_or lists k d).items ≡ paths_of_mark k ms) → ms ≡ marked_from 0 (with_marks (addresses es) made ∷ []) → path_lists lists ≡ map (λ e. copies_of made (address (element_of e))) es
 all-copies es lists ms made long dealt is =
     same-items (λ l. paths_of l.items) (λ e. copies_of made (address (element_of e))) lists es long (λ k d e l.
-        let inside : k < length es = omega (arith, l, long) in
-        let there : slice_get (addresses es) k ≡ Some (address (element_of (get_or es k e))) = slice_get-map (λ x. address (element_of x)) es k ∙ ap (option_map (λ x. address (element_of x))) (slice_get-get_or es k e inside) in
-        dealt k d inside ∙ ap (paths_of_mark k) is ∙ copies-marked (addresses es) k (address (element_of (get_or es k e))) there made)
+    let inside : k < length es = omega (arith, l, long) in
+    let there : slice_get (addresses es) k ≡ Some (address (element_of (get_or es k e))) = slice_get-map (λ x. address (element_of x)) es k ∙ ap (option_map (λ x. address (element_of x))) (slice_get-get_or es k e inside) in
+    dealt k d inside ∙ ap (paths_of_mark k) is ∙ copies-marked (addresses es) k (address (element_of (get_or es k e))) there made)

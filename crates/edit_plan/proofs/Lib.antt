@@ -16,7 +16,7 @@ mod Fates
 mod Walk
 mod Carried
 mod Moved
-mod OwnersByDepth
+mod Levels
 mod Nested
 mod Placed
 mod GapRule
@@ -35,7 +35,7 @@ mod Relabelled
 mod Apart
 mod Swapped
 mod Registered
-mod Levels
+mod ByLevel
 mod MarksFilled
 mod CopiesFound
 mod FoundNodes

@@ -3,36 +3,37 @@
 --     seen-from                     what is sought below an address, seen from there
 --     entry                         an entry exchanged
 --     AreLevelled                   so far as one level is entered, with all that is deeper
---     level-begins, level-ends, other-level, nothing-owned, level-filled      before its first change, behind its last one, and one change more
+--     level-begins, level-ends, level-filled      before its first owner, behind its last one, and one owner more
 --     table-told                    a table that was made of the payloads alone
 --     from-payloads, to-the-top     before the deepest level, and behind the last one
-use Rattle.std.specs.Prelude.{◌≡◌, ◌≢◌, ℕ, zero, suc, ◌+◌, ◌<◌, ◌≤◌, Bool, true, false, ◌&&◌, cond, nat_eq, List, [], ◌∷◌, ◌++◌, map, filter, length, slice_get, get_or, Option, Some, None, option_map, refl}
+use Rattle.std.specs.Prelude.{◌≡◌, ℕ, suc, ◌+◌, ◌<◌, ◌≤◌, true, false, ◌&&◌, cond, nat_eq, List, [], ◌∷◌, ◌++◌, map, filter, length, slice_get, get_or, Option, Some, None, option_map, Vec, refl}
+use Rattle.std.specs.Global.{Global}
 use Rattle.std.specs.Option.{option_map_or}
-use Rattle.std.proofs.Common.{ap, ap₂, sym, subst, ◌∙◌, arith}
+use Rattle.std.proofs.Common.{ap, ap₂, sym, ◌∙◌, arith}
 use Rattle.std.proofs.Math.ListN.{set}
-use Rattle.std.proofs.lemmas.Bool.{cases_eq, cases_lt, eq-eqb, ne_eqb}
+use Rattle.std.proofs.lemmas.Bool.{cases_eq, eq-eqb, ne_eqb}
 use Rattle.std.proofs.lemmas.List.{append-nil, append_assoc, map-append, length-map}
 use Rattle.std.proofs.lemmas.List.Elements.{filter-append}
 use Rattle.std.proofs.lemmas.Option.{slice_get-get_or, slice_get-map, none-some, same_Some}
 use mathlib.Core.Logic.{inl, inr}
 use mathlib.Core.Path.{fun_ext}
-use Rattle.cst_core.specs.Path.{Path, same_path}
+use Rattle.cst_core.specs.Path.{Path, same_path, counted_from}
 use Rattle.cst_core.specs.Element.{Address, Element, address, subtree}
 use Rattle.rewriting.specs.Rewriting.{NumberedAim, rewritten}
 use Rattle.rewriting.specs.Marked.{MarkTree, Marking, marked, marked_from, below, marks_of, marks_at, wanted, count_in, marks_in, AreMarked}
 use Rattle.rewriting.specs.declared.mark.GivenMarks.{GivenMarks}
 use Rattle.edit_plan.specs.Change.{payload}
 use Rattle.edit_plan.specs.Nesting.{owner}
-use Rattle.edit_plan.specs.Owned.{depth_of}
-use Rattle.edit_plan.specs.Rewriting.{Origin, origin, payload_of, dependents, given}
+use Rattle.edit_plan.specs.Owned.{depth_of, owns_at, AreDependents, AreOwners}
+use Rattle.edit_plan.specs.Rewriting.{origin, payload_of, dependents}
 use Rattle.edit_plan.specs.Sought.{path_below, sought_one, sought_from, sought_at, registered_at}
-use Rattle.edit_plan.specs.Marks.{with_marks, marks_given, IsTableOf, element_sought, payload_sought, exchanged, AreMarksFrom}
+use Rattle.edit_plan.specs.Marks.{marks_given, IsTableOf, element_sought, payload_sought, exchanged, AreMarksFrom}
 use Rattle.edit_plan.specs.declared.change.Change.{Change}
+use Rattle.edit_plan.specs.declared.dependent.Dependent.{Dependent}
 use Rattle.edit_plan.specs.declared.sought.SoughtIndex.{SoughtIndex}
 use Rattle.edit_plan.proofs.Brought.{given-labelled}
-use Rattle.edit_plan.proofs.Levels.{LevelledBy, begins, ends, other, nothing, entered}
+use Rattle.edit_plan.proofs.ByLevel.{LevelledBy, begins, ends, entered, from-alone}
 use Rattle.edit_plan.proofs.Lists.{slice_get-set_same, slice_get-set_other}
-use Rattle.edit_plan.proofs.Nested.{past-the-end}
 use Rattle.edit_plan.proofs.Settled.{all_owned, rewritten-agree}
 
 -- ---- trees side by side
@@ -130,31 +131,25 @@ module _ (rs : List Address) (cs : List Change) (places : ℕ → Path) where
   agreed c index trees holds =
       ap (λ f. map f (payload_of cs c)) (fun_ext (λ e. rewritten-agree (wanted (sought_at index (address e))) trees (marks_given rs cs places) (dependents cs places c) (all_owned cs places (has_given trees) c holds) (subtree e)))
 
-  pub record AreLevelled (level i : ℕ) (table : List GivenMarks) : Type 0 where
+  pub record AreLevelled (level : ℕ) (owners : List ℕ) (i : ℕ) (table : List GivenMarks) : Type 0 where
     pub trees : ℕ → List MarkTree
     pub are : AreMarked table trees
-    pub by : LevelledBy cs places (has_given trees) level i
+    pub by : LevelledBy cs places (has_given trees) level owners i
 
-  pub level-begins : (level : ℕ) (table : List GivenMarks) → AreMarksFrom rs cs places (suc level) table → AreLevelled level 0 table
-  level-begins level table a = record { trees = a.trees; are = a.are; by = begins cs places (has_given a.trees) level a.deep a.own_nothing }
+  pub level-begins : (level : ℕ) (owners : List ℕ) (table : List GivenMarks) → AreMarksFrom rs cs places (suc level) table → AreLevelled level owners 0 table
+  level-begins level owners table a = record { trees = a.trees; are = a.are; by = begins cs places (has_given a.trees) level owners a.deep a.own_nothing }
 
-  pub level-ends : (level i : ℕ) (table : List GivenMarks) → length cs ≤ i → AreLevelled level i table → AreMarksFrom rs cs places level table
-  level-ends level i table long a = record { trees = a.trees; are = a.are; deep = ends cs places (has_given a.trees) level i long a.by; own_nothing = a.by.own_nothing }
+  pub level-ends : (level i : ℕ) (owned : List (Vec Dependent Global)) (owners : List ℕ) (table : List GivenMarks) → AreDependents cs places owned → owners ≡ filter (owns_at cs owned level) (counted_from 0 (length cs)) → length owners ≤ i → AreLevelled level owners i table → AreMarksFrom rs cs places level table
+  level-ends level i owned owners table are all long a = record { trees = a.trees; are = a.are; deep = ends cs places (has_given a.trees) level i owned owners are all long a.by; own_nothing = a.by.own_nothing }
 
-  pub other-level : (level i : ℕ) (table : List GivenMarks) → AreLevelled level i table → (depth_of cs i ≡ level → ⊥) → AreLevelled level (i + 1) table
-  other-level level i table a differs = record { trees = a.trees; are = a.are; by = other cs places (has_given a.trees) level i a.by differs }
-
-  pub nothing-owned : (level i : ℕ) (table : List GivenMarks) → AreLevelled level i table → dependents cs places i ≡ [] → AreLevelled level (i + 1) table
-  nothing-owned level i table a none = record { trees = a.trees; are = a.are; by = nothing cs places (has_given a.trees) level i a.by none }
-
-  pub level-filled : (level i : ℕ) (index : SoughtIndex) (table after : List GivenMarks) (owned : List NumberedAim) → IsTableOf rs index → AreLevelled level i table → depth_of cs i ≡ level → owned ≡ dependents cs places i → ((trees : ℕ → List MarkTree) → AreMarked table trees → AreMarked after (exchanged trees i (payload_sought index trees owned (payload_of cs i)))) → AreLevelled level (i + 1) after
-  level-filled level i index table after owned sought a at_level own fills =
-      let ts : List MarkTree = payload_sought index a.trees owned (payload_of cs i) in
-      let now = exchanged a.trees i ts in
+  pub level-filled : (level i o : ℕ) (owners : List ℕ) (index : SoughtIndex) (table after : List GivenMarks) (owned : List NumberedAim) → IsTableOf rs index → AreLevelled level owners i table → slice_get owners i ≡ Some o → depth_of cs o ≡ level → owned ≡ dependents cs places o → ((trees : ℕ → List MarkTree) → AreMarked table trees → AreMarked after (exchanged trees o (payload_sought index trees owned (payload_of cs o)))) → AreLevelled level owners (i + 1) after
+  level-filled level i o owners index table after owned sought a stands at_level own fills =
+      let ts : List MarkTree = payload_sought index a.trees owned (payload_of cs o) in
+      let now = exchanged a.trees o ts in
       record {
         trees = now;
         are = fills a.trees a.are;
-        by = entered cs places (has_given a.trees) (has_given now) level i a.by at_level (λ all. ap (λ b. cond b ts (a.trees i)) (eq-eqb i i refl) ∙ ap (λ ds. payload_sought index a.trees ds (payload_of cs i)) own ∙ agreed i index a.trees all ∙ payload-given i index sought) (λ c differs h. ap (λ b. cond b ts (a.trees c)) (ne_eqb c i differs) ∙ h);
+        by = entered cs places (has_given a.trees) (has_given now) level i o owners a.by stands at_level (λ all. ap (λ b. cond b ts (a.trees o)) (eq-eqb o o refl) ∙ ap (λ ds. payload_sought index a.trees ds (payload_of cs o)) own ∙ agreed o index a.trees all ∙ payload-given o index sought) (λ c differs h. ap (λ b. cond b ts (a.trees c)) (ne_eqb c o differs) ∙ h);
       }
 
   -- ---- all levels
@@ -162,14 +157,11 @@ module _ (rs : List Address) (cs : List Change) (places : ℕ → Path) where
   alone c index sought none =
       ap (λ f. map f (payload_of cs c)) (fun_ext (λ e. rewritten-agree (wanted (sought_at index (address e))) (λ n. []) (marks_given rs cs places) [] tt (subtree e))) ∙ ap (λ ds. payload_sought index (marks_given rs cs places) ds (payload_of cs c)) (sym none) ∙ payload-given c index sought
 
-  pub from-payloads : (levels : ℕ) (index : SoughtIndex) (table : List GivenMarks) → IsTableOf rs index → AreMarked table (λ c. payload_sought index (λ n. []) [] (payload_of cs c)) → ((c : ℕ) → c < length cs → depth_of cs c < levels) → AreMarksFrom rs cs places levels table
-  from-payloads levels index table sought are deepest = record {
+  pub from-payloads : (owned : List (Vec Dependent Global)) (owners : List (Vec ℕ Global)) (index : SoughtIndex) (table : List GivenMarks) → IsTableOf rs index → AreMarked table (λ c. payload_sought index (λ n. []) [] (payload_of cs c)) → AreDependents cs places owned → AreOwners cs owned owners → AreMarksFrom rs cs places (length owners) table
+  from-payloads owned owners index table sought marked_are are levels = record {
     trees = λ c. payload_sought index (λ n. []) [] (payload_of cs c);
-    are = are;
-    deep = λ c l. elim (cases_lt c (length cs)) [
-      | inl there ↦ absurd (omega (arith, l, deepest c there))
-      | inr past ↦ alone c index sought (past-the-end cs places c past)
-    ];
+    are = marked_are;
+    deep = from-alone cs places (has_given (λ c. payload_sought index (λ n. []) [] (payload_of cs c))) owned owners are levels (λ c none. alone c index sought none);
     own_nothing = λ c none. alone c index sought none;
   }
 

@@ -4,17 +4,14 @@
 --     IsLevelled                    so far as one level is entered, with all that is deeper
 --     level-begins, level-ends      before its first owner, and behind its last one
 --     level-filled                  one owner more
-use Rattle.std.specs.Prelude.{◌≡◌, ℕ, suc, ◌+◌, ◌<◌, ◌≤◌, ◌&&◌, not, filter, List, [], map, length, slice_get, Vec, Option, Some, None, get_or, refl}
+use Rattle.std.specs.Prelude.{◌≡◌, ℕ, suc, ◌+◌, ◌<◌, ◌≤◌, filter, List, [], map, length, slice_get, Vec, Option, Some, get_or}
 use Rattle.std.specs.Global.{Global}
 use Rattle.std.specs.List.{AllByRecursion}
 use Rattle.std.specs.Option.{option_map_or}
-use Rattle.std.proofs.Common.{ap, ap₂, sym, subst, ◌∙◌, arith}
+use Rattle.std.proofs.Common.{ap, sym, subst, ◌∙◌, arith}
 use Rattle.std.proofs.Math.ListN.{set}
-use Rattle.std.proofs.lemmas.Bool.{cases_lt, eq-eqb}
-use Rattle.std.proofs.lemmas.Bool.Decides.{eqb_tells}
-use Rattle.std.proofs.lemmas.Option.{none-some, same_Some, slice_get-get_or, slice_get_past, slice_get_within}
+use Rattle.std.proofs.lemmas.Option.{slice_get-get_or}
 use mathlib.Core.List.{map-map}
-use mathlib.Core.Logic.{inl, inr}
 use mathlib.Core.Path.{fun_ext}
 use Rattle.cst_core.specs.Path.{Path, counted_from}
 use Rattle.cst_core.specs.Element.{subtree}
@@ -24,16 +21,14 @@ use Rattle.rewriting.specs.Pass.{kind_only, given_by}
 use Rattle.rewriting.specs.Rewriting.{NumberedAim, numbers, rewritten}
 use Rattle.edit_plan.specs.Change.{payload}
 use Rattle.edit_map.specs.Mapping.{Mapping}
-use Rattle.edit_plan.specs.Nesting.{owner}
 use Rattle.edit_plan.specs.Owned.{depth, depth_of, places_in, moved, dependents_in, owns_at, AreDependents, AreOwners, IsGiven, AreGiven, AreGivenFrom, IsFilled}
 use Rattle.edit_plan.specs.Plan.{ArePlaces}
 use Rattle.edit_plan.specs.Rewriting.{plain, payload_of, dependents, given}
 use Rattle.edit_plan.specs.declared.change.Change.{Change}
 use Rattle.edit_plan.specs.declared.dependent.Dependent.{Dependent}
 use Rattle.edit_plan.proofs.Brought.{given-labelled}
-use Rattle.edit_plan.proofs.Owners.{owner_is_above}
-use Rattle.edit_plan.proofs.Settled.{all_owned, owns_nothing, plain-given, rewritten-agree}
-use Rattle.edit_plan.proofs.OwnersByDepth.{empty-none, passing-found}
+use Rattle.edit_plan.proofs.Settled.{all_owned, plain-given, rewritten-agree}
+use Rattle.edit_plan.proofs.ByLevel.{LevelledBy, begins, ends, entered, from-alone}
 use Rattle.edit_plan.proofs.Lists.{slice_get-set_same, slice_get-set_other}
 
 pub filled : (cs : List Change) (c : ℕ) (change : Change) (owned : List NumberedAim) (table : List (Vec GreenElement Global)) (v : Vec GreenElement Global) → c < length cs → c < length table → change ≡ get_or cs c change → element_trees v.items ≡ map (rewritten kind_only (given_by table) owned []) (map subtree (payload change)) → IsFilled cs c owned table (set table c v)
@@ -56,67 +51,19 @@ module _ (cs : List Change) (places : ℕ → Path) where
   pub alone-is-given : (c : ℕ) (table : List (Vec GreenElement Global)) → given_by table c ≡ map subtree (payload_of cs c) → dependents cs places c ≡ [] → IsGiven cs places table c
   alone-is-given c table is none = is ∙ sym (plain-given cs places c none)
 
-  -- what is past the end owns nothing
-  pub past-the-end : (c : ℕ) → length cs ≤ c → dependents cs places c ≡ []
-  past-the-end c l =
-      owns_nothing cs places c (λ i d is by. let up : (r : Change) × (slice_get cs c ≡ Some r) × (depth r < depth d) = owner_is_above cs d c by in none-some up.0 (sym (slice_get_past cs c l) ∙ up.1))
-
   -- ---- one level, whose owners are these
-  pub record IsLevelled (level : ℕ) (owners : List ℕ) (i : ℕ) (table : List (Vec GreenElement Global)) : Type 0 where
-    pub deeper : (c : ℕ) → level < depth_of cs c → IsGiven cs places table c
-    pub before : (k c : ℕ) → k < i → slice_get owners k ≡ Some c → IsGiven cs places table c
-    pub own_nothing : (c : ℕ) → dependents cs places c ≡ [] → IsGiven cs places table c
+  abbrev pub IsLevelled : ℕ → List ℕ → ℕ → List (Vec GreenElement Global) → Type 0
+  IsLevelled level owners i table = LevelledBy cs places (IsGiven cs places table) level owners i
 
   pub level-begins : (level : ℕ) (owners : List ℕ) (table : List (Vec GreenElement Global)) → AreGivenFrom cs places (suc level) table → IsLevelled level owners 0 table
-  level-begins level owners table a = record { deeper = λ c l. a.deep c (omega (arith, l)); before = λ k c l s. absurd (omega (arith, l)); own_nothing = a.own_nothing }
+  level-begins level owners table a = begins cs places (IsGiven cs places table) level owners a.deep a.own_nothing
 
   pub level-ends : (level i : ℕ) (owned : List (Vec Dependent Global)) (owners : List ℕ) (table : List (Vec GreenElement Global)) → AreDependents cs places owned → owners ≡ filter (owns_at cs owned level) (counted_from 0 (length cs)) → length owners ≤ i → IsLevelled level owners i table → AreGivenFrom cs places level table
-  level-ends level i owned owners table are all long a = record { deep = deep; own_nothing = a.own_nothing }
-    where
-      at_level : (c : ℕ) → c < length cs → depth_of cs c ≡ level → IsGiven cs places table c
-      at_level c there here =
-          elim (eqb_tells (length (dependents_in owned c)) 0) [
-            | inl none ↦ a.own_nothing c (sym (are c) ∙ empty-none (dependents_in owned c) none.0)
-            | inr some ↦
-                let found = passing-found (owns_at cs owned level) 0 (length cs) c (omega arith) (omega (arith, there)) (ap₂ (λ x y. x && not y) (eq-eqb (depth_of cs c) level here) some.0) in
-                let stands : slice_get owners found.0 ≡ Some c = ap (λ xs. slice_get xs found.0) all ∙ found.1 in
-                let within : found.0 < length owners = slice_get_within owners found.0 c stands in
-                a.before found.0 c (omega (arith, within, long)) stands
-          ]
-
-      deep : (c : ℕ) → level ≤ depth_of cs c → IsGiven cs places table c
-      deep c l =
-          elim (cases_lt c (length cs)) [
-            | inl there ↦ elim (cases_lt level (depth_of cs c)) [ inl deeper ↦ a.deeper c deeper | inr same ↦ at_level c there (omega (arith, l, same)) ]
-            | inr past ↦ a.own_nothing c (past-the-end c past)
-          ]
-
-  pub owned-is-deeper : (i : ℕ) (n : ℕ) (d : Change) → slice_get cs n ≡ Some d → owner cs d ≡ Some i → depth_of cs i < depth_of cs n
-  owned-is-deeper i n d is by =
-      let up : (r : Change) × (slice_get cs i ≡ Some r) × (depth r < depth d) = owner_is_above cs d i by in
-      let its : depth_of cs i ≡ depth up.0 = ap (λ o. option_map_or depth o 0) up.1 in
-      let own : depth_of cs n ≡ depth d = ap (λ o. option_map_or depth o 0) is in
-      omega (arith, its, own, up.2)
+  level-ends level i owned owners table are all long a = record { deep = ends cs places (IsGiven cs places table) level i owned owners are all long a; own_nothing = a.own_nothing }
 
   pub level-filled : (level i o : ℕ) (owners : List ℕ) (table after : List (Vec GreenElement Global)) (owned : List NumberedAim) → IsLevelled level owners i table → slice_get owners i ≡ Some o → depth_of cs o ≡ level → owned ≡ dependents cs places o → IsFilled cs o owned table after → IsLevelled level owners (i + 1) after
-  level-filled level i o owners table after owned a stands at_level are f = record {
-    deeper = λ c l. either c (a.deeper c l);
-    before = before;
-    own_nothing = λ c none. either c (a.own_nothing c none);
-  }
-    where
-      here : IsGiven cs places after o
-      here = filled-is-given o table after owned are (all_owned cs places (IsGiven cs places table) o (λ n d is by. a.deeper n (omega (arith, at_level, owned-is-deeper o n d is by)))) f
-
-      either : (c : ℕ) → IsGiven cs places table c → IsGiven cs places after c
-      either c given = elim (eqb_tells o c) [ inl same ↦ subst (IsGiven cs places after) same.1 here | inr other ↦ f.elsewhere c (λ same. other.1 (sym same)) ∙ given ]
-
-      before : (k c : ℕ) → k < i + 1 → slice_get owners k ≡ Some c → IsGiven cs places after c
-      before k c l s =
-          elim (cases_lt k i) [
-            | inl less ↦ either c (a.before k c less s)
-            | inr more ↦ let same : k ≡ i = omega (arith, l, more) in subst (IsGiven cs places after) (same_Some o c (sym stands ∙ ap (slice_get owners) (sym same) ∙ s)) here
-          ]
+  level-filled level i o owners table after owned a stands at_level are f =
+      entered cs places (IsGiven cs places table) (IsGiven cs places after) level i o owners a stands at_level (λ holds. filled-is-given o table after owned are (all_owned cs places (IsGiven cs places table) o holds) f) (λ c differs h. f.elsewhere c differs ∙ h)
 
 -- ---- what stands at a number
 pub depth-at : (cs : List Change) (i : ℕ) (c : Change) → i < length cs → c ≡ get_or cs i c → depth_of cs i ≡ depth c
@@ -127,24 +74,10 @@ owned-at table i v l is = ap (λ o. option_map_or (λ w. map moved w.items) o []
 
 -- ---- all levels
 pub from-payloads : (cs : List Change) (places : ℕ → Path) (owned : List (Vec Dependent Global)) (owners : List (Vec ℕ Global)) (table : List (Vec GreenElement Global)) → ((c : ℕ) → given_by table c ≡ map subtree (payload_of cs c)) → AreDependents cs places owned → AreOwners cs owned owners → AreGivenFrom cs places (length owners) table
-from-payloads cs places owned owners table payloads are levels = record { deep = deep; own_nothing = λ c none. alone-is-given cs places c table (payloads c) none }
-  where
-    alone : (c : ℕ) → dependents cs places c ≡ [] → IsGiven cs places table c
-    alone c none = alone-is-given cs places c table (payloads c) none
-
-    -- no list of so deep owners is there
-    owns_none : (c : ℕ) → c < length cs → length owners ≤ depth_of cs c → dependents cs places c ≡ []
-    owns_none c there l =
-        elim (eqb_tells (length (dependents_in owned c)) 0) [
-          | inl none ↦ sym (are c) ∙ empty-none (dependents_in owned c) none.0
-          | inr some ↦
-              let found = passing-found (owns_at cs owned (depth_of cs c)) 0 (length cs) c (omega arith) (omega (arith, there)) (ap₂ (λ x y. x && not y) (eq-eqb (depth_of cs c) (depth_of cs c) refl) some.0) in
-              let past : slice_get owners (depth_of cs c) ≡ None = slice_get_past owners (depth_of cs c) l in
-              absurd (none-some c (sym (ap (λ o. slice_get (option_map_or (λ v. v.items) o []) found.0) past) ∙ ap (λ xs. slice_get xs found.0) (levels (depth_of cs c)) ∙ found.1))
-        ]
-
-    deep : (c : ℕ) → length owners ≤ depth_of cs c → IsGiven cs places table c
-    deep c l = elim (cases_lt c (length cs)) [ inl there ↦ alone c (owns_none c there l) | inr past ↦ alone c (past-the-end cs places c past) ]
+from-payloads cs places owned owners table payloads are levels = record {
+  deep = from-alone cs places (IsGiven cs places table) owned owners are levels (λ c none. alone-is-given cs places c table (payloads c) none);
+  own_nothing = λ c none. alone-is-given cs places c table (payloads c) none;
+}
 
 pub to-the-top : (cs : List Change) (places : ℕ → Path) (level : ℕ) (table : List (Vec GreenElement Global)) → level ≤ 0 → AreGivenFrom cs places level table → AreGiven cs places table
 to-the-top cs places level table none from = λ c. from.deep c (omega (arith, none))

@@ -78,11 +78,7 @@ fn enter(
 }
 
 // The path of one mark goes to the list of its number, if there is one.
-fn deal(
-    alloc: Global,
-    lists: &mut Vec<Vec<Vec<usize>>>,
-    mark: &Mark,
-) -> Result<(), AllocError>
+fn deal(alloc: Global, lists: &mut Vec<Vec<Vec<usize>>>, mark: &Mark) -> Result<(), AllocError>
     ensures size { length lists.new.items ≡ length lists.old.items }
     ensures lists { OnOk result ((k : ℕ) (d : Vec (Vec ℕ Global) Global) → k < length lists.old.items → paths_of (get_or lists.new.items k d).items ≡ paths_of (get_or lists.old.items k d).items ++ paths_of_mark k (mark_of mark.now ∷ [])) }
 {

@@ -1,19 +1,19 @@
 //! Where registered elements stand in what each change gives, with what it owns carried out in its payload.
 
-ghost use Rattle.std.specs.Prelude.{ℕ, List, [], ◌∷◌, ◌++◌, ◌≡◌, ◌<◌, suc, map, length, IfOk, OnOk};
-ghost use Rattle.cst_core.specs.Path.{Path};
+ghost use Rattle.std.specs.Prelude.{ℕ, List, [], ◌∷◌, ◌++◌, ◌≡◌, ◌<◌, suc, map, filter, length, All, IfOk, OnOk};
+ghost use Rattle.cst_core.specs.Path.{Path, counted_from};
 ghost use Rattle.cst_core.specs.Element.{Address};
 ghost use Rattle.cst_core.specs.SyntaxElement.{element_of};
 ghost use Rattle.rewriting.specs.Aimed.{aims_of};
 ghost use Rattle.rewriting.specs.Marked.{MarkTree, AreMarked, below, marked, marked_from, marks_of};
 ghost use Rattle.edit_plan.specs.Change.{payload};
 ghost use Rattle.edit_plan.specs.Rewriting.{payload_of};
-ghost use Rattle.edit_plan.specs.Owned.{moved, AreDependents};
+ghost use Rattle.edit_plan.specs.Owned.{moved, owns_at, AreDependents};
 ghost use Rattle.edit_plan.specs.Marks.{IsTableOf, element_sought, payload_sought, exchanged, marks_given, AreMarksFrom};
 
+use crate::by_depth::owners_by_depth;
 use crate::change::Change;
 use crate::dependent::{Dependent, moved_aims};
-use crate::by_depth::levels;
 use crate::sought::SoughtIndex;
 use cst_core::SyntaxElement;
 use rewriting::{Aimed, GivenMarks, Mark, push_marks};
@@ -116,25 +116,23 @@ fn fill(
     Ok(())
 }
 
-// Enters those of the owners of this depth, where all that is deeper has been entered.
+// Enters those of the owners of one depth, where all that is deeper has been entered.
 fn fill_level(
     alloc: Global,
     changes: &[Change],
     dependents: &[Vec<Dependent>],
-    level: usize,
+    owners: &[usize],
     index: &SoughtIndex,
     given: &mut Vec<GivenMarks>,
 ) -> Result<(), AllocError>
     requires owned { length dependents.now ≡ length changes.now }
+    requires there { All (λ c. c < length changes.now) owners.now }
     requires long { length given.now.items ≡ length changes.now }
     ensures long { OnOk result (length given.new.items ≡ length changes.now) }
-    ensures filled { OnOk result ((places : ℕ → Path) (rs : List Address) → AreDependents changes.now places dependents.now → IsTableOf rs index.now → AreMarksFrom rs changes.now places (suc level) given.old.items → AreMarksFrom rs changes.now places level given.new.items) }
+    ensures filled { OnOk result ((places : ℕ → Path) (rs : List Address) (level : ℕ) → AreDependents changes.now places dependents.now → IsTableOf rs index.now → owners.now ≡ filter (owns_at changes.now dependents.now level) (counted_from 0 (length changes.now)) → AreMarksFrom rs changes.now places (suc level) given.old.items → AreMarksFrom rs changes.now places level given.new.items) }
 {
-    for owner in 0..changes.len() {
-        let owned = dependents[owner].as_slice();
-        if changes[owner].depth() == level && !owned.is_empty() {
-            fill(alloc, changes, owner, owned, index, given)?;
-        }
+    for owner in owners {
+        fill(alloc, changes, *owner, &dependents[*owner], index, given)?;
     }
     Ok(())
 }
@@ -158,7 +156,7 @@ fn payloads(
 /// The marks of what each change gives, by its number, where a table has what each one owns, and another one the registered
 /// elements.
 ///
-/// Takes time linear in the changes times the depth of the deepest one, and what the walks through the owners' payloads take.
+/// Takes time linear in the changes and the depth of the deepest one, and what the walks through the owners' payloads take.
 pub(crate) fn given_marks(
     alloc: Global,
     changes: &[Change],
@@ -168,9 +166,17 @@ pub(crate) fn given_marks(
     requires { length dependents.now ≡ length changes.now }
     ensures { IfOk result (λ v. (places : ℕ → Path) (rs : List Address) → AreDependents changes.now places dependents.now → IsTableOf rs index.now → AreMarked v.items (marks_given rs changes.now places)) }
 {
+    let owners = owners_by_depth(alloc, changes, dependents)?;
     let mut given = payloads(alloc, changes, index)?;
-    for level in (0..levels(changes)).rev() {
-        fill_level(alloc, changes, dependents, level, index, &mut given)?;
+    for level in (0..owners.len()).rev() {
+        fill_level(
+            alloc,
+            changes,
+            dependents,
+            &owners[level],
+            index,
+            &mut given,
+        )?;
     }
     Ok(given)
 }

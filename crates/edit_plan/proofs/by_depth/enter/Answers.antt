@@ -1,4 +1,4 @@
-use Rattle.edit_plan.proofs.OwnersByDepth.{entered-here, entered-elsewhere}
+use Rattle.edit_plan.proofs.Levels.{entered-here, entered-elsewhere}
 use Rattle.edit_plan.proofs.by_depth.enter.Goals as goal
 
 pub returns-clause-here : goal.returns-clause-here

@@ -1,6 +1,6 @@
 use Rattle.std.proofs.Common.{◌≡◌, ℕ, length}
 use Rattle.edit_plan.specs.Owned.{owners_at}
-use Rattle.edit_plan.proofs.OwnersByDepth.{owners-so-far}
+use Rattle.edit_plan.proofs.Levels.{owners-so-far}
 use Rattle.edit_plan.proofs.by_depth.owners_by_depth.Given as goal
 
 abbrev pub invariant-loop-owner : goal.invariant-loop-owner

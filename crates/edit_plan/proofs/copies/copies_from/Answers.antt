@@ -1,7 +1,6 @@
 use Rattle.std.proofs.Common.{ap, ◌∙◌, map}
-use Rattle.cst_core.specs.Element.{address}
 use Rattle.rewriting.specs.Marked.{marks_of, marked_from}
-use Rattle.edit_plan.specs.Marks.{with_marks, paths_of_mark}
+use Rattle.edit_plan.specs.Marks.{with_marks}
 use Rattle.edit_plan.specs.Sought.{addresses}
 use Rattle.edit_plan.proofs.CopiesFound.{all-copies}
 use Rattle.edit_plan.proofs.copies.copies_from.Goals as goal

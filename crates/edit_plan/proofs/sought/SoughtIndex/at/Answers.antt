@@ -1,9 +1,7 @@
-use Rattle.std.proofs.Common.{◌≡◌, ℕ, List, [], Vec, ap, ap₂, sym, ◌∙◌}
-use Rattle.std.specs.Prelude.{Result, Ok, Err, Some, IfOk}
+use Rattle.std.proofs.Common.{◌≡◌, List, [], Vec, ap, ap₂, ◌∙◌}
+use Rattle.std.specs.Prelude.{Result, Ok, Err, IfOk}
 use Rattle.std.specs.Global.{Global}
 use Rattle.std.specs.Option.{option_map_or}
-use Rattle.cst_core.specs.Element.{address}
-use Rattle.cst_core.specs.SyntaxElement.{element_of}
 use Rattle.rewriting.specs.declared.mark.Sought.{Sought}
 use Rattle.rewriting.specs.Marked.{Marking, sought_in}
 use Rattle.edit_plan.proofs.Registered.{list_at}

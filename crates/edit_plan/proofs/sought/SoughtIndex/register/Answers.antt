@@ -1,9 +1,8 @@
-use Rattle.std.proofs.Common.{◌≡◌, ◌+◌, suc, ℕ, ◌++◌, [], ◌∷◌, cond, length, take, drop, flat_map, arith, ap, ap₂, sym, ◌∙◌}
-use Rattle.std.proofs.lemmas.List.{append_assoc}
-use Rattle.cst_core.specs.Path.{Path, counted_from}
-use Rattle.cst_core.specs.Element.{Address, address, same_address}
+use Rattle.std.proofs.Common.{◌≡◌, suc, ℕ, ◌++◌, length, take, drop, flat_map, arith, ap, ◌∙◌}
+use Rattle.cst_core.specs.Path.{counted_from}
+use Rattle.cst_core.specs.Element.{Address, address}
 use Rattle.cst_core.specs.SyntaxElement.{element_of}
-use Rattle.edit_plan.specs.Sought.{sought_at, sought_one}
+use Rattle.edit_plan.specs.Sought.{sought_at}
 use Rattle.edit_plan.proofs.Registered.{one_at, one-deeper, all-ancestors}
 use Rattle.edit_plan.proofs.sought.SoughtIndex.register.Goals as goal
 

@@ -1,4 +1,4 @@
-use Rattle.std.proofs.Common.{◌≡◌, ◌++◌, take, flat_map}
+use Rattle.std.proofs.Common.{◌≡◌, ◌++◌, flat_map}
 use Rattle.cst_core.specs.Path.{counted_from}
 use Rattle.cst_core.specs.Element.{Address, address}
 use Rattle.cst_core.specs.SyntaxElement.{element_of}

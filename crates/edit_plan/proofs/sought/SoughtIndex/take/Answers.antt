@@ -1,9 +1,7 @@
-use Rattle.std.proofs.Common.{◌≡◌, ℕ, [], cond, ap, sym, ◌∙◌}
-use Rattle.std.specs.Prelude.{None}
+use Rattle.std.proofs.Common.{[], ap, sym, ◌∙◌}
 use Rattle.std.specs.Option.{option_map_or}
 use Rattle.rewriting.specs.Marked.{sought_in}
-use Rattle.edit_plan.specs.Sought.{spot}
-use Rattle.edit_plan.proofs.Registered.{kept, without}
+use Rattle.edit_plan.proofs.Registered.{without}
 use Rattle.edit_plan.proofs.sought.SoughtIndex.take.Goals as goal
 
 pub returns-in-Some : goal.returns-in-Some
