@@ -191,7 +191,7 @@ module _ (old new : Element) where
   risen [] ys count pairs taken = refl
   risen (x ∷ xs) [] count pairs taken = absurd (omega arith)
   risen (x ∷ xs) (y ∷ ys) count pairs taken =
-      let less = taken.0.rises.0 in
+      let less = taken.0.is_pair.rises.0 in
       let own = pairs.0.2 in
       let copy = pairs.0.3 in
       not_behind (length (x ∷ xs)) new.number old.number (omega arith)
