@@ -1,4 +1,4 @@
-use Rattle.std.proofs.Common.{◌≡◌, ℕ, List, [], ◌∷◌, ◌++◌, map, flat_map, ap, ap₂, sym, ◌∙◌, refl}
+use Rattle.std.proofs.Common.{◌≡◌, ℕ, List, [], ◌∷◌, ◌++◌, map, flat_map, ap, ap₂, ◌∙◌, refl}
 use Rattle.cst_core.specs.Path.{Path}
 use Rattle.edit_plan.specs.Marks.{numbered_paths}
 use Rattle.edit_plan.proofs.annotated.annotated.Goals as goal
