@@ -21,7 +21,7 @@ fn empty_lists(alloc: Global, count: usize) -> Result<Vec<Vec<usize>>, AllocErro
     ensures long { IfOk result (λ v. length v.items ≡ count) }
     ensures empty { IfOk result (λ v. (level : ℕ) → owners_at v.items level ≡ []) }
 {
-    let mut lists = Vec::with_capacity(alloc, count)?;
+    let mut lists = Vec::new(alloc);
     for _ in 0..count {
         lists.push(Vec::new(alloc))?;
     }

@@ -44,7 +44,7 @@ pub(crate) fn moved_aims<'a, 'b>(
 ) -> Result<Vec<Aimed<'a>>, AllocError>
     ensures { IfOk result (λ v. aims_of v.items ≡ map moved dependents.now) }
 {
-    let mut aims = Vec::with_capacity(alloc, dependents.len())?;
+    let mut aims = Vec::new(alloc);
     for dependent in dependents {
         let Some(aim) = dependent
             .change
@@ -62,7 +62,7 @@ fn empty_lists<'a>(alloc: Global, count: usize) -> Result<Vec<Vec<Dependent<'a>>
     ensures long { IfOk result (λ v. length v.items ≡ count) }
     ensures empty { IfOk result (λ v. (c : ℕ) → dependents_in v.items c ≡ []) }
 {
-    let mut lists = Vec::with_capacity(alloc, count)?;
+    let mut lists = Vec::new(alloc);
     for _ in 0..count {
         lists.push(Vec::new(alloc))?;
     }

@@ -99,7 +99,7 @@ pub(crate) fn fates(
     requires { IsIndex changes.now index.now }
     ensures { IfOk result (λ v. v.items ≡ map (fate changes.now) changes.now) }
 {
-    let mut fates = Vec::with_capacity(alloc, changes.len())?;
+    let mut fates = Vec::new(alloc);
     for change in changes {
         fates.push(fate_of(index, changes, change))?;
     }

@@ -28,7 +28,7 @@ fn rewritten_each(
     ensures { IfOk result (λ v. element_trees v.items ≡ map (rewritten kind_only (given_by given.now) (aims_of aims.now) []) (element_trees elements.now)) }
 {
     let mut builds = 0;
-    let mut rewritten = Vec::with_capacity(alloc, elements.len())?;
+    let mut rewritten = Vec::new(alloc);
     for element in elements {
         rewritten.push(rebuild(alloc, element, aims, given, &mut builds)?)?;
     }
@@ -92,7 +92,7 @@ fn payloads(alloc: Global, changes: &[Change]) -> Result<Vec<Vec<GreenElement>>,
     ensures long { IfOk result (λ v. length v.items ≡ length changes.now) }
     ensures payloads { IfOk result (λ v. (c : ℕ) → given_by v.items c ≡ map subtree (payload_of changes.now c)) }
 {
-    let mut payloads = Vec::with_capacity(alloc, changes.len())?;
+    let mut payloads = Vec::new(alloc);
     for change in changes {
         payloads.push(change.brought(alloc)?)?;
     }

@@ -123,7 +123,7 @@ fn no_places(alloc: Global, count: usize) -> Result<Vec<Option<Vec<usize>>>, All
     ensures long { IfOk result (λ v. length v.items ≡ count) }
     ensures none { IfOk result (λ v. (c : ℕ) → path_at v.items c ≡ None) }
 {
-    let mut places = Vec::with_capacity(alloc, count)?;
+    let mut places = Vec::new(alloc);
     for _ in 0..count {
         places.push(None)?;
     }

@@ -118,7 +118,7 @@ fn elements_at(
     requires there { All (λ p. IsElement (element_at root.now p)) (paths_of paths.now) }
     ensures { IfOk result (λ v. map Some v.items ≡ map (syntax_at root.now) (paths_of paths.now)) }
 {
-    let mut elements = Vec::with_capacity(alloc, paths.len())?;
+    let mut elements = Vec::new(alloc);
     for path in paths {
         match root.element_at(alloc, path)? {
             Some(element) => elements.push(element)?,

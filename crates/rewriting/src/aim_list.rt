@@ -88,7 +88,7 @@ pub fn grouped<'a>(
     ensures size { IfOk result (λ v. length v.items ≡ count) }
     ensures groups { IfOk result (λ v. (k : ℕ) (d : Vec Aimed Global) → k < count → (get_or v.items k d).items ≡ filter (concerns k) aims.now) }
 {
-    let mut groups = Vec::with_capacity(alloc, count)?;
+    let mut groups = Vec::new(alloc);
     for _ in 0..count {
         groups.push(Vec::new(alloc))?;
     }
