@@ -6,8 +6,9 @@
 --     exchanged                     another answer for one change
 --     paths_of_mark                 of marks in the trees that stand in a place, the paths of one mark in its tree
 --     path_lists                    lists of paths in code
+--     annotated_path, numbered_paths      an annotation's number with a path, in code; each number with each path of its list
 --     AreMarksFrom                  a table has the marks of what changes of this depth or more give, and of those that own nothing
-use Rattle.std.specs.Prelude.{◌≡◌, ℕ, ◌≤◌, cond, nat_eq, List, [], map, filter, drop, Vec}
+use Rattle.std.specs.Prelude.{◌≡◌, ℕ, ◌≤◌, cond, nat_eq, List, [], ◌∷◌, ◌++◌, map, filter, drop, Vec}
 use Rattle.std.specs.Global.{Global}
 use Rattle.cst_core.specs.Path.{Path}
 use Rattle.cst_core.specs.Tree.{relabelled}
@@ -52,3 +53,12 @@ paths_of_mark n ms = map (λ m. drop 1 m.1) (filter (λ m. nat_eq n m.0) ms)
 
 abbrev pub path_lists : List (Vec (Vec ℕ Global) Global) → List (List Path)
 path_lists ls = map (λ l. paths_of l.items) ls
+
+-- ---- with their annotations
+abbrev pub annotated_path : ℕ × Vec ℕ Global → ℕ × Path
+annotated_path n = (n.0, n.1.items)
+
+abbrev pub numbered_paths : List ℕ → List (List Path) → List (ℕ × Path)
+numbered_paths [] ls = []
+numbered_paths (n ∷ ns) [] = []
+numbered_paths (n ∷ ns) (ps ∷ ls) = map (λ p. (n, p)) ps ++ numbered_paths ns ls

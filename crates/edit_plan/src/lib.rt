@@ -1,6 +1,7 @@
 //! Changes of a tree, and the tree that a set of them makes of it.
 #![tactic(auto)]
 
+mod annotated;
 mod annotation;
 mod by_depth;
 mod change;
