@@ -39,3 +39,4 @@ mod ByLevel
 mod MarksFilled
 mod CopiesFound
 mod FoundNodes
+mod ByAnnotation
