@@ -1,13 +1,15 @@
 -- Annotated paths, and the elements that they lead to, by annotation.
 --     one-more                      a table with one more element has it for its annotation
-use Rattle.std.specs.Prelude.{◌≡◌, ℕ, ◌+◌, ◌<◌, Bool, true, false, cond, nat_eq, List, [], ◌∷◌, ◌++◌, map, filter, take, length, Vec, Option, Some, get_or, refl}
+--     followed-more                 one more registered element is followed
+use Rattle.std.specs.Prelude.{◌≡◌, All, ℕ, ◌+◌, ◌<◌, Bool, true, false, cond, nat_eq, List, [], ◌∷◌, ◌++◌, map, filter, take, length, Vec, Option, Some, get_or, refl}
 use Rattle.std.specs.Global.{Global}
-use Rattle.std.proofs.Common.{ap, ap₂, sym, ◌∙◌}
+use Rattle.std.proofs.Common.{ap, ap₂, sym, subst, ◌∙◌}
 use Rattle.std.proofs.lemmas.List.{take_more, map-append, append-nil}
-use Rattle.std.proofs.lemmas.List.Elements.{filter-append}
+use Rattle.std.proofs.lemmas.List.Elements.{filter-append, All-get_or}
 use Rattle.cst_core.specs.Path.{Path}
-use Rattle.cst_core.specs.Element.{Element}
-use Rattle.cst_core.specs.SyntaxElement.{syntax_at}
+use Rattle.cst_core.specs.Element.{Element, NumbersTell}
+use Rattle.cst_core.specs.SyntaxElement.{element_of, syntax_at}
+use Rattle.edit_map.specs.Mapping.{Mapping, followed, mapped_elements}
 use Rattle.cst_core.specs.declared.element.SyntaxElement.{SyntaxElement}
 use Rattle.edit_plan.specs.Marks.{annotated_path}
 use Rattle.edit_plan.specs.Results.{paths_with}
@@ -22,3 +24,15 @@ one-more root ns i n e before after lt is leads were are a =
     let taken : map annotated_path (take (i + 1) ns) ≡ map annotated_path (take i ns) ++ annotated_path n ∷ [] = ap (map annotated_path) (take_more ns i n lt) ∙ map-append annotated_path (take i ns) (get_or ns i n ∷ []) ∙ ap (λ m. map annotated_path (take i ns) ++ annotated_path m ∷ []) (sym is) in
     let own : map Some (cond (nat_eq n.0 a) (e ∷ []) []) ≡ map (syntax_at root) (cond (nat_eq n.0 a) (n.1.items ∷ []) []) = elim (nat_eq n.0 a) as (λ b. map (λ x. Some x) (cond b (e ∷ []) []) ≡ map (syntax_at root) (cond b (n.1.items ∷ []) [])) [ true ↦ ap (λ o. o ∷ []) leads | false ↦ refl ] in
     ap (map (λ x. Some x)) (are a) ∙ map-append (λ x. Some x) (before a) (cond (nat_eq n.0 a) (e ∷ []) []) ∙ ap₂ (λ xs ys. xs ++ ys) (were a) own ∙ sym (map-append (syntax_at root) (paths_with a (map annotated_path (take i ns))) (cond (nat_eq n.0 a) (n.1.items ∷ []) [])) ∙ ap (map (syntax_at root)) (sym (ap (paths_with a) taken ∙ with-more a (map annotated_path (take i ns)) (annotated_path n)))
+
+-- ---- where registered elements are followed to
+abbrev Tells : Mapping → SyntaxElement × ℕ → Type 0
+Tells m r = NumbersTell (element_of r.0 ∷ mapped_elements m)
+
+abbrev leads_to : Mapping → SyntaxElement × ℕ → Element
+leads_to m r = followed m (element_of r.0)
+
+pub followed-more : (m : Mapping) (rs : List (SyntaxElement × ℕ)) (i : ℕ) (r : SyntaxElement × ℕ) (x : SyntaxElement) (xs ys : List SyntaxElement) → i < length rs → r ≡ get_or rs i r → ys ≡ xs ++ x ∷ [] → (Tells m r → element_of x ≡ leads_to m r) → (All (Tells m) rs → map element_of xs ≡ map (leads_to m) (take i rs)) → All (Tells m) rs → map element_of ys ≡ map (leads_to m) (take (i + 1) rs)
+followed-more m rs i r x xs ys lt is more leads before all =
+    let tells : Tells m r = subst (Tells m) (sym is) (All-get_or (Tells m) rs i r lt all) in
+    ap (map element_of) more ∙ map-append element_of xs (x ∷ []) ∙ ap₂ (λ us e. us ++ e ∷ []) (before all) (leads tells ∙ ap (leads_to m) is) ∙ sym (ap (map (leads_to m)) (take_more rs i r lt) ∙ map-append (leads_to m) (take i rs) (get_or rs i r ∷ []))
