@@ -1,18 +1,25 @@
 -- Annotated paths, and the elements that they lead to, by annotation.
 --     one-more                      a table with one more element has it for its annotation
 --     followed-more                 one more registered element is followed
+--     are-annotated                 the annotated paths of a plan, from where its registered elements lead to
 use Rattle.std.specs.Prelude.{◌≡◌, All, ℕ, ◌+◌, ◌<◌, Bool, true, false, cond, nat_eq, List, [], ◌∷◌, ◌++◌, map, filter, take, length, Vec, Option, Some, get_or, refl}
 use Rattle.std.specs.Global.{Global}
 use Rattle.std.proofs.Common.{ap, ap₂, sym, subst, ◌∙◌}
 use Rattle.std.proofs.lemmas.List.{take_more, map-append, append-nil}
 use Rattle.std.proofs.lemmas.List.Elements.{filter-append, All-get_or}
 use Rattle.cst_core.specs.Path.{Path}
-use Rattle.cst_core.specs.Element.{Element, NumbersTell}
+use Rattle.cst_core.specs.Element.{Element, NumbersTell, address}
 use Rattle.cst_core.specs.SyntaxElement.{element_of, syntax_at}
 use Rattle.edit_map.specs.Mapping.{Mapping, followed, mapped_elements}
 use Rattle.cst_core.specs.declared.element.SyntaxElement.{SyntaxElement}
-use Rattle.edit_plan.specs.Marks.{annotated_path}
-use Rattle.edit_plan.specs.Results.{paths_with}
+use Rattle.edit_plan.specs.Building.{Plan}
+use Rattle.edit_plan.specs.Marks.{annotated_path, numbered_paths}
+use Rattle.edit_plan.specs.Owned.{AreDependents}
+use Rattle.edit_plan.specs.Planned.{AreAnnotated}
+use Rattle.edit_plan.specs.Results.{copies_of, paths_with}
+use Rattle.edit_plan.specs.Rewriting.{OriginTree, new_tree}
+use Rattle.edit_plan.specs.declared.dependent.Dependent.{Dependent}
+use mathlib.Core.List.{map-map}
 
 -- ---- the paths of one annotation
 with-more : (a : ℕ) (ns : List (ℕ × Path)) (n : ℕ × Path) → paths_with a (ns ++ n ∷ []) ≡ paths_with a ns ++ cond (nat_eq n.0 a) (n.1 ∷ []) []
@@ -36,3 +43,11 @@ pub followed-more : (m : Mapping) (rs : List (SyntaxElement × ℕ)) (i : ℕ) (
 followed-more m rs i r x xs ys lt is more leads before all =
     let tells : Tells m r = subst (Tells m) (sym is) (All-get_or (Tells m) rs i r lt all) in
     ap (map element_of) more ∙ map-append element_of xs (x ∷ []) ∙ ap₂ (λ us e. us ++ e ∷ []) (before all) (leads tells ∙ ap (leads_to m) is) ∙ sym (ap (map (leads_to m)) (take_more rs i r lt) ∙ map-append (leads_to m) (take i rs) (get_or rs i r ∷ []))
+
+-- ---- the annotated paths of a plan
+pub are-annotated : (p : Plan) (owned : List (Vec Dependent Global)) (fs : List SyntaxElement) (ls : List (List Path)) (ns : List (ℕ × Path)) → (All (Tells p.mapping) p.registrations → map element_of fs ≡ map (leads_to p.mapping) p.registrations) → ((places : ℕ → Path) (made : OriginTree) → AreDependents p.changes places owned → new_tree p.changes places p.root ≡ made ∷ [] → ls ≡ map (λ e. copies_of made (address (element_of e))) fs) → ns ≡ numbered_paths (map (λ r. r.1) p.registrations) ls → AreAnnotated p owned ns
+are-annotated p owned fs ls ns followed_are copies_are is = record {
+  reached = map (λ e. address (element_of e)) fs;
+  reached_are = λ tells. sym (map-map address element_of fs) ∙ ap (map address) (followed_are tells) ∙ map-map address (leads_to p.mapping) p.registrations ∙ sym (map-map (λ r. address (followed p.mapping r.0)) (λ r. (element_of r.0, r.1)) p.registrations);
+  paths_are = λ places made are new. is ∙ ap (numbered_paths (map (λ r. r.1) p.registrations)) (copies_are places made are new ∙ sym (map-map (copies_of made) (λ e. address (element_of e)) fs));
+}

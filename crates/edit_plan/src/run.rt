@@ -1,22 +1,21 @@
-ghost use Rattle.std.specs.Prelude.{◌≡◌, ◌+◌, ℕ, List, [], ◌∷◌, map, length, All, Some, IfOk, IfErr, IfSome, OnOk, OnErr};
+ghost use Rattle.std.specs.Prelude.{◌≡◌, ◌+◌, ℕ, [], ◌∷◌, map, length, All, Some, IfOk, IfErr, IfSome, OnOk, OnErr};
 ghost use Rattle.cst_core.specs.Green.{branch_tree};
-ghost use Rattle.cst_core.specs.Element.{Address, Element, IsElement, address, element_at, subtree};
+ghost use Rattle.cst_core.specs.Element.{Element, IsElement, element_at, subtree};
 ghost use Rattle.cst_core.specs.GreenElement.{element_trees};
 ghost use Rattle.cst_core.specs.SyntaxElement.{syntax_at};
 ghost use Rattle.rewriting.specs.Aimed.{aims_of};
 ghost use Rattle.rewriting.specs.Pass.{kind_only, given_by};
 ghost use Rattle.rewriting.specs.Rewriting.{rewritten_whole};
 ghost use Rattle.rewriting.specs.Topmost.{paths_of};
-ghost use Rattle.edit_plan.specs.Building.{IsRewritten, Makes, RunRefuses, TellsOf, registered};
-ghost use Rattle.edit_map.specs.Mapping.{followed};
-ghost use Rattle.edit_plan.specs.Marks.{annotated_path, numbered_paths};
-ghost use Rattle.edit_plan.specs.Results.{copies_of};
+ghost use Rattle.edit_plan.specs.Building.{IsRewritten, Makes, RunRefuses};
+ghost use Rattle.edit_plan.specs.Marks.{annotated_path};
+ghost use Rattle.edit_plan.specs.Planned.{AreAnnotated};
 ghost use Rattle.cst_core.specs.Path.{Path};
 ghost use Rattle.edit_plan.specs.Fate.{fate};
 ghost use Rattle.edit_plan.specs.Fits.{Fits};
 ghost use Rattle.edit_plan.specs.Owned.{AreDependents, AreGiven};
 ghost use Rattle.edit_plan.specs.Plan.{ArePlaces};
-ghost use Rattle.edit_plan.specs.Rewriting.{OriginTree, independents, new_tree};
+ghost use Rattle.edit_plan.specs.Rewriting.{independents};
 
 use crate::annotated::{annotated, elements_by_annotation, followed};
 use crate::annotation::SyntaxAnnotation;
@@ -99,7 +98,7 @@ impl EditPlan {
     ) -> Result<Vec<(SyntaxAnnotation, Vec<usize>)>, AllocError>
         requires owned { length dependents.now ≡ length self.now.changes }
         requires aims { aims_of aims.now ≡ independents self.now.changes }
-        ensures { IfOk result (λ v. (reached : List Address) × (All (TellsOf self.now) self.now.registrations → reached ≡ map (λ r. address (followed self.now.mapping r.0)) (registered self.now.registrations)) × ((places : ℕ → Path) (made : OriginTree) → AreDependents self.now.changes places dependents.now → new_tree self.now.changes places self.now.root ≡ made ∷ [] → map annotated_path v.items ≡ numbered_paths (map (λ r. r.1) self.now.registrations) (map (copies_of made) reached))) }
+        ensures { IfOk result (λ v. AreAnnotated self.now dependents.now (map annotated_path v.items)) }
     {
         let followed = followed(alloc, &self.mapping, &self.registrations)?;
         let copies = copies(
