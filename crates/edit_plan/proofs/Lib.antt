@@ -40,3 +40,4 @@ mod MarksFilled
 mod CopiesFound
 mod FoundNodes
 mod ByAnnotation
+mod Told
