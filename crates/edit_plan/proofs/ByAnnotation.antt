@@ -2,6 +2,7 @@
 --     one-more                      a table with one more element has it for its annotation
 --     followed-more                 one more registered element is followed
 --     are-annotated                 the annotated paths of a plan, from where its registered elements lead to
+--     found-in                      what an edit has for an annotation is what the table has
 use Rattle.std.specs.Prelude.{◌≡◌, All, ℕ, ◌+◌, ◌<◌, Bool, true, false, cond, nat_eq, List, [], ◌∷◌, ◌++◌, map, filter, take, length, Vec, Option, Some, get_or, refl}
 use Rattle.std.specs.Global.{Global}
 use Rattle.std.proofs.Common.{ap, ap₂, sym, subst, ◌∙◌}
@@ -12,6 +13,9 @@ use Rattle.cst_core.specs.Element.{Element, NumbersTell, address}
 use Rattle.cst_core.specs.SyntaxElement.{element_of, syntax_at}
 use Rattle.edit_map.specs.Mapping.{Mapping, followed, mapped_elements}
 use Rattle.cst_core.specs.declared.element.SyntaxElement.{SyntaxElement}
+use Rattle.std.specs.Map.{lookup}
+use Rattle.std.specs.Option.{option_map_or}
+use Rattle.edit_plan.specs.AnnotationTable.{entries_of, found_for}
 use Rattle.edit_plan.specs.Building.{Plan}
 use Rattle.edit_plan.specs.Marks.{annotated_path, numbered_paths}
 use Rattle.edit_plan.specs.Owned.{AreDependents}
@@ -51,3 +55,9 @@ are-annotated p owned fs ls ns followed_are copies_are is = record {
   reached_are = λ tells. sym (map-map address element_of fs) ∙ ap (map address) (followed_are tells) ∙ map-map address (leads_to p.mapping) p.registrations ∙ sym (map-map (λ r. address (followed p.mapping r.0)) (λ r. (element_of r.0, r.1)) p.registrations);
   paths_are = λ places made are new. is ∙ ap (numbered_paths (map (λ r. r.1) p.registrations)) (copies_are places made are new ∙ sym (map-map (copies_of made) (λ e. address (element_of e)) fs));
 }
+
+-- ---- tables as edits have them
+pub found-in : (es : List (ℕ × Vec SyntaxElement Global)) (a : ℕ) → found_for (entries_of es) a ≡ option_map_or (λ v. v.items) (lookup (nat_eq a) es) []
+found-in [] a = refl
+found-in (e ∷ es) a =
+    elim (nat_eq a e.0) as (λ b. option_map_or (λ l. l) (cond b (Some e.1.items) (lookup (nat_eq a) (entries_of es))) [] ≡ option_map_or (λ (v : Vec SyntaxElement Global). v.items) (cond b (Some e.1) (lookup (nat_eq a) es)) []) [ true ↦ refl | false ↦ found-in es a ]
