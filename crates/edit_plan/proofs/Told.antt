@@ -1,7 +1,7 @@
 -- From all elements that a plan holds to a registered element and the mapping alone: equal numbers have equal trees there too.
 --     pairs-behind, pairs-without   pairs of a list without its first element, or without some behind the first
 --     all-told                      each registered element with the elements of the mapping
-use Rattle.std.specs.Prelude.{◌≡◌, ℕ, zero, suc, ◌+◌, ◌<◌, List, [], ◌∷◌, ◌++◌, All, AllPairs, map, flat_map, length, get_or}
+use Rattle.std.specs.Prelude.{◌≡◌, ℕ, zero, suc, ◌<◌, List, [], ◌∷◌, ◌++◌, All, AllPairs, map, flat_map, length, get_or}
 use Rattle.std.proofs.Common.{arith, subst}
 use Rattle.std.proofs.lemmas.List.{append_assoc}
 use Rattle.cst_core.specs.Element.{Element, NumbersTell}

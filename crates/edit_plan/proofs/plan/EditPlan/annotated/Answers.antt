@@ -1,6 +1,5 @@
-use Rattle.std.proofs.Common.{◌≡◌, ◌∷◌, ◌∙◌, ℕ, List, [], map, length, sym, ap, ap₂, subst}
+use Rattle.std.proofs.Common.{◌≡◌, ◌∷◌, ◌∙◌, [], map, length, sym, ap, ap₂, subst}
 use Rattle.std.specs.Prelude.{IfOk, All}
-use Rattle.cst_core.specs.Path.{Path}
 use Rattle.cst_core.specs.Element.{NumbersTell, address}
 use Rattle.cst_core.specs.SyntaxElement.{element_of}
 use Rattle.edit_map.specs.Mapping.{followed, mapped_elements}
