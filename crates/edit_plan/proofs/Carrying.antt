@@ -3,31 +3,38 @@
 --     is_rewritten                  its answer is the plan's rewriting
 --     makes                         the edit that is put together is what the plan makes
 --     refuses                       the refusals of the new root, as those of the plan
-use Rattle.std.specs.Prelude.{◌≡◌, ℕ, ◌<◌, ◌≤◌, Bool, List, [], ◌∷◌, map, flat_map, length, slice_get, Vec, Some, None, option_map, Result, Ok, Err, IfErr, refl}
+use Rattle.std.specs.Prelude.{◌≡◌, ℕ, ◌<◌, ◌≤◌, Bool, List, [], ◌∷◌, ◌++◌, map, flat_map, length, slice_get, Vec, Some, None, option_map, Result, Ok, Err, IfErr, refl}
 use Rattle.std.specs.Result.{IsErrAnd}
 use Rattle.std.specs.Global.{Global}
 use Rattle.std.specs.Option.{option_map_or}
-use Rattle.std.proofs.Common.{ap, sym, subst, ◌∙◌, arith}
+use Rattle.std.proofs.Common.{ap, ap₂, sym, subst, ◌∙◌, arith}
 use Rattle.std.proofs.lemmas.List.{append-nil, length-map}
 use Rattle.std.proofs.lemmas.Option.{slice_get-map}
 use Rattle.cst_core.specs.Path.{Path}
 use Rattle.cst_core.specs.Tree.{Tree, text_length}
 use Rattle.cst_core.specs.TreeIds.{IsSpent}
-use Rattle.cst_core.specs.Element.{subtree}
+use Rattle.cst_core.specs.Element.{NumbersTell, address, subtree}
 use Rattle.cst_core.specs.Green.{Branch, branch_tree, length_limit}
 use Rattle.cst_core.specs.GreenElement.{element_trees, element_tree}
-use Rattle.cst_core.specs.SyntaxElement.{syntax_at}
+use Rattle.cst_core.specs.SyntaxElement.{element_of, syntax_at}
 use Rattle.green_tree.specs.declared.green.GreenElement.{GreenElement}
 use Rattle.green_tree.specs.declared.error.TreeError.{TreeError}
 use Rattle.green_tree.specs.declared.error.TreeError.TheVariants as tree
 use Rattle.rewriting.specs.Pass.{kind_only, given_by}
 use Rattle.rewriting.specs.Rewriting.{NumberedAim, rewritten_whole}
 use Rattle.rewriting.specs.Topmost.{topmost, count_of, AreCounted, not_given}
-use Rattle.edit_plan.specs.Building.{Plan, Edit, Makes, WouldMake, IsRewritten, RunRefuses}
+use Rattle.edit_map.specs.Mapping.{followed}
+use Rattle.edit_plan.specs.AnnotationTable.{found_for}
+use Rattle.edit_plan.specs.Building.{Plan, Edit, Makes, WouldMake, IsRewritten, RunRefuses, registered}
+use Rattle.edit_plan.specs.Marks.{numbered_paths}
+use Rattle.edit_plan.specs.Planned.{AreAnnotated}
 use Rattle.edit_plan.specs.Refusal.{of_tree}
-use Rattle.edit_plan.specs.Owned.{AreGiven}
-use Rattle.edit_plan.specs.Plan.{ArePlaces}
-use Rattle.edit_plan.specs.Results.{changed}
+use Rattle.edit_plan.specs.Owned.{AreDependents, AreGiven}
+use Rattle.edit_plan.specs.Plan.{ArePlaces, elements_held}
+use Rattle.edit_plan.specs.Results.{changed, annotated, copies_of, paths_with}
+use Rattle.edit_plan.specs.declared.dependent.Dependent.{Dependent}
+use Rattle.edit_plan.proofs.Told.{all-told}
+use mathlib.Core.List.{map-map}
 use Rattle.edit_plan.specs.Rewriting.{OriginTree, plain, independents, given, is_free, new_tree}
 use Rattle.edit_plan.specs.declared.edit_error.EditError.TheVariants.{TooLong, NoTreeNumber}
 use Rattle.edit_plan.proofs.Filled.{text-relabelled}
@@ -41,7 +48,7 @@ count-given vs c =
       | Some v ↦ length-map v.items element_tree
     ]) ∙ ap (λ o. option_map_or (λ n. n) o 0) (sym (slice_get-map (λ g. length g.items) vs c))
 
-pub record Passed (p : Plan) (green : Branch) (paths : List Path) : Type 0 where
+pub record Passed (p : Plan) (green : Branch) (paths : List Path) (annotations : List (ℕ × Path)) : Type 0 where
   pub places : ℕ → Path
   pub placed : ArePlaces p.mapping p.changes places
   pub table : List (Vec GreenElement Global)
@@ -49,11 +56,14 @@ pub record Passed (p : Plan) (green : Branch) (paths : List Path) : Type 0 where
   pub aims : List NumberedAim
   pub aims_are : aims ≡ independents p.changes
   pub tree_is : rewritten_whole kind_only (given_by table) aims (subtree p.root) ≡ branch_tree green ∷ []
+  pub owned : List (Vec Dependent Global)
+  pub owned_are : AreDependents p.changes places owned
+  pub annotated : AreAnnotated p owned annotations
   pub counts : List ℕ
   pub counts_are : counts ≡ map (λ g. length g.items) table
   pub paths_are : (given : ℕ → List (Tree Bool)) → AreCounted counts given → paths ≡ flat_map (topmost (λ b. b)) (rewritten_whole not_given given aims (subtree p.root))
 
-module _ (p : Plan) (green : Branch) (paths : List Path) (passed : Passed p green paths) where
+module _ (p : Plan) (green : Branch) (paths : List Path) (annotations : List (ℕ × Path)) (passed : Passed p green paths annotations) where
   made : (m : OriginTree) × (new_tree p.changes passed.places p.root ≡ m ∷ []) × (branch_tree green ≡ plain m)
   made =
       one-made (new_tree p.changes passed.places p.root) (branch_tree green) (plain-whole p.changes passed.places p.root (given_by passed.table) passed.table_is ∙ ap (λ ds. rewritten_whole kind_only (given_by passed.table) ds (subtree p.root)) (sym passed.aims_are) ∙ passed.tree_is)
@@ -71,13 +81,30 @@ module _ (p : Plan) (green : Branch) (paths : List Path) (passed : Passed p gree
   would : WouldMake p made.0
   would = record { places = passed.places; are_places = passed.placed; is_new = made.1 }
 
-  pub is_rewritten : IsRewritten p (branch_tree green) paths
-  is_rewritten = record { made = made.0; would = would; tree_is = made.2; changed_is = changed-is }
+  pub is_rewritten : IsRewritten p (branch_tree green) paths annotations
+  is_rewritten = record {
+    made = made.0;
+    would = would;
+    tree_is = made.2;
+    changed_is = changed-is;
+    reached = passed.annotated.reached;
+    annotated_is = passed.annotated.paths_are passed.places made.0 passed.owned_are made.1;
+    reached_are = passed.annotated.reached_are;
+  }
 
 -- ---- what is put together of it
-module _ (p : Plan) (green : Branch) (paths : List Path) (r : IsRewritten p (branch_tree green) paths) where
-  pub makes : (number : ℕ) (e : Edit) → e.old_root ≡ p.root → e.new_root ≡ record { number = number; root = branch_tree green; path = [] } → map Some e.changed ≡ map (syntax_at e.new_root) paths → Makes p number e
-  makes number e old new changed_are = record {
+numbered-each : {R : Type 0} (f : R → List Path) (number : R → ℕ) (rs : List R) → numbered_paths (map number rs) (map f rs) ≡ flat_map (λ r. map (λ p. (number r, p)) (f r)) rs
+numbered-each f number [] = refl
+numbered-each f number (r ∷ rs) = ap (λ ns. map (λ p. (number r, p)) (f r) ++ ns) (numbered-each f number rs)
+
+module _ (p : Plan) (green : Branch) (paths : List Path) (annotations : List (ℕ × Path)) (r : IsRewritten p (branch_tree green) paths annotations) where
+  annotated-is : NumbersTell (elements_held p.root p.changes (registered p.registrations) p.mapping) → annotations ≡ annotated p.mapping (registered p.registrations) r.made
+  annotated-is tell =
+      let rs = registered p.registrations in
+      r.annotated_is ∙ ap₂ (λ ns reached. numbered_paths ns (map (copies_of r.made) reached)) (sym (map-map (λ x. x.1) (λ x. (element_of x.0, x.1)) p.registrations)) (r.reached_are (all-told p tell)) ∙ ap (numbered_paths (map (λ x. x.1) rs)) (map-map (copies_of r.made) (λ x. address (followed p.mapping x.0)) rs) ∙ numbered-each (λ x. copies_of r.made (address (followed p.mapping x.0))) (λ x. x.1) rs
+
+  pub makes : (number : ℕ) (e : Edit) → e.old_root ≡ p.root → e.new_root ≡ record { number = number; root = branch_tree green; path = [] } → map Some e.changed ≡ map (syntax_at e.new_root) paths → ((a : ℕ) → map Some (found_for e.annotated a) ≡ map (syntax_at e.new_root) (paths_with a annotations)) → Makes p number e
+  makes number e old new changed_are annotated_are = record {
     old_is = old;
     number_is = ap (λ x. x.number) new;
     is_root = ap (λ x. x.path) new;
@@ -91,6 +118,17 @@ module _ (p : Plan) (green : Branch) (paths : List Path) (r : IsRewritten p (bra
       tree_is = ap (λ x. x.root) new ∙ r.tree_is;
       changed_is = r.changed_is;
       annotated_is = refl;
+    };
+    annotated_paths = annotations;
+    annotated_are = annotated_are;
+    is_whole = λ tell. record {
+      places = r.would.places;
+      are_places = r.would.are_places;
+      made = r.made;
+      is_new = r.would.is_new;
+      tree_is = ap (λ x. x.root) new ∙ r.tree_is;
+      changed_is = r.changed_is;
+      annotated_is = annotated-is tell;
     };
   }
 

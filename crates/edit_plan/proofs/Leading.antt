@@ -1,8 +1,8 @@
 -- The paths of what is told of a new tree lead to elements of it.
 --     topmost-there                 those of the topmost elements that pass a test
---     changed-there                 those of the changed elements of a plan
---     leads                         a path that leads to an element leads to its value
-use Rattle.std.specs.Prelude.{◌≡◌, ℕ, ◌<◌, ◌&&◌, not, Bool, true, false, List, [], ◌∷◌, ◌++◌, length, Vec, Some, None, option_map, is_some, IsSome, All, get_or, refl}
+--     changed-there, annotated-there      those of the changed and of the annotated elements of a plan
+--     leads, leads-pair             a path that leads to an element leads to its value; one with an annotation
+use Rattle.std.specs.Prelude.{◌≡◌, ℕ, ◌<◌, ◌&&◌, not, Bool, true, false, List, [], ◌∷◌, ◌++◌, length, map, Vec, Some, None, option_map, is_some, IsSome, All, get_or, refl}
 use Rattle.std.specs.Global.{Global}
 use Rattle.std.specs.List.{AllByRecursion}
 use Rattle.std.specs.Option.{option_map_or}
@@ -12,12 +12,13 @@ use Rattle.std.proofs.lemmas.List.{length-map, get_or-map}
 use Rattle.std.proofs.lemmas.List.Elements.{All-from_recursion}
 use Rattle.cst_core.specs.Path.{Path}
 use Rattle.cst_core.specs.Tree.{Tree, SyntaxTree, label, at, paths, relabelled}
-use Rattle.cst_core.specs.Element.{Element, IsElement, element_at}
+use Rattle.cst_core.specs.Element.{Address, Element, IsElement, element_at, same_address}
 use Rattle.cst_core.specs.SyntaxElement.{syntax_as, syntax_at}
 use Rattle.rewriting.specs.Topmost.{holds_at, parent_holds, topmost, paths_of}
 use Rattle.edit_plan.specs.Building.{Plan, IsRewritten}
-use Rattle.edit_plan.specs.Rewriting.{is_free}
-use Rattle.edit_plan.specs.Results.{is_brought}
+use Rattle.edit_plan.specs.Rewriting.{OriginTree, is_free}
+use Rattle.edit_plan.specs.Marks.{annotated_path, numbered_paths}
+use Rattle.edit_plan.specs.Results.{is_brought, copies_of}
 use Rattle.edit_plan.proofs.Lists.{all_filter, all_weaker}
 use Rattle.edit_plan.proofs.Relabelled.{at-relabelled}
 
@@ -40,9 +41,26 @@ still-there : {L M : Type 0} (h : L → M) (t : Tree L) (p : Path) → IsSome (a
 still-there h t p some =
     ap is_some (at-relabelled h t p) ∙ (elim (at t p) as (λ o. is_some (option_map (relabelled h) o) ≡ is_some o) [ None ↦ refl | Some e ↦ refl ]) ∙ some
 
-pub changed-there : (p : Plan) (tree : SyntaxTree) (paths : List Path) → IsRewritten p tree paths → (e : Element) → e.root ≡ tree → All (λ q. IsElement (element_at e q)) paths
-changed-there p tree paths r e is =
-    All-from_recursion (λ q. IsSome (at e.root q)) paths (subst (λ ps. AllByRecursion (λ q. IsSome (at e.root q)) ps) (sym r.changed_is) (all_weaker (λ q. IsSome (at r.made q)) (λ q. IsSome (at e.root q)) _ (λ q h. subst (λ t. IsSome (at t q)) (sym (is ∙ r.tree_is)) (still-there (λ o. o.kind) r.made q h)) (topmost-there (is_brought (is_free p.changes)) r.made)))
+pub changed-there : (p : Plan) (tree : SyntaxTree) (changed : List Path) (annotated : List (ℕ × Path)) → IsRewritten p tree changed annotated → (e : Element) → e.root ≡ tree → All (λ q. IsElement (element_at e q)) changed
+changed-there p tree changed annotated r e is =
+    All-from_recursion (λ q. IsSome (at e.root q)) changed (subst (λ ps. AllByRecursion (λ q. IsSome (at e.root q)) ps) (sym r.changed_is) (all_weaker (λ q. IsSome (at r.made q)) (λ q. IsSome (at e.root q)) _ (λ q h. subst (λ t. IsSome (at t q)) (sym (is ∙ r.tree_is)) (still-there (λ o. o.kind) r.made q h)) (topmost-there (is_brought (is_free p.changes)) r.made)))
+
+copies-there : (t : OriginTree) (a : Address) → AllByRecursion (λ p. IsSome (at t p)) (copies_of t a)
+copies-there t a =
+    all_weaker (λ p. Unit {0} × (holds_at (λ o. same_address a o.address) t p ≡ true)) (λ p. IsSome (at t p)) (copies_of t a) (λ p h. holds-there (λ o. same_address a o.address) t p h.1) (all_filter (λ p. Unit {0}) (holds_at (λ o. same_address a o.address) t) (paths t) (all-any (paths t)))
+
+both-there : (t : OriginTree) (n : ℕ) (ps : List Path) (rest : List (ℕ × Path)) → AllByRecursion (λ p. IsSome (at t p)) ps → AllByRecursion (λ m. IsSome (at t m.1)) rest → AllByRecursion (λ m. IsSome (at t m.1)) (map (λ p. (n, p)) ps ++ rest)
+both-there t n [] rest h k = k
+both-there t n (p ∷ ps) rest h k = (h.0, both-there t n ps rest h.1 k)
+
+numbered-there : (t : OriginTree) (ns : List ℕ) (rs : List Address) → AllByRecursion (λ m. IsSome (at t m.1)) (numbered_paths ns (map (copies_of t) rs))
+numbered-there t [] rs = tt
+numbered-there t (n ∷ ns) [] = tt
+numbered-there t (n ∷ ns) (r ∷ rs) = both-there t n (copies_of t r) (numbered_paths ns (map (copies_of t) rs)) (copies-there t r) (numbered-there t ns rs)
+
+pub annotated-there : (p : Plan) (tree : SyntaxTree) (changed : List Path) (annotated : List (ℕ × Path)) → IsRewritten p tree changed annotated → (e : Element) → e.root ≡ tree → All (λ n. IsElement (element_at e n.1)) annotated
+annotated-there p tree changed annotated r e is =
+    All-from_recursion (λ n. IsSome (at e.root n.1)) annotated (subst (λ ns. AllByRecursion (λ n. IsSome (at e.root n.1)) ns) (sym r.annotated_is) (all_weaker (λ n. IsSome (at r.made n.1)) (λ n. IsSome (at e.root n.1)) _ (λ n h. subst (λ t. IsSome (at t n.1)) (sym (is ∙ r.tree_is)) (still-there (λ o. o.kind) r.made n.1 h)) (numbered-there r.made (map (λ r. r.1) p.registrations) r.reached)))
 
 no-value-nowhere : (e : Element) (q : Path) → IsSome (at e.root q) → syntax_at e q ≡ None → ⊥
 no-value-nowhere e q some none =
@@ -57,3 +75,10 @@ leads e vs i v q root there lt is same none =
     let here : i < length (paths_of vs) = subst (λ n. i < n) (sym (length-map vs (λ w. w.items))) lt in
     let item : get_or (paths_of vs) i v.items ≡ q = get_or-map (λ w. w.items) vs i v v.items lt ∙ sym (ap (λ w. w.items) is) ∙ sym same in
     no-value-nowhere e q (subst (λ p. IsSome (at e.root p)) item (there i v.items here)) (ap (λ p. syntax_at e (p ++ q)) (sym root) ∙ none)
+
+-- the same of paths with annotations
+pub leads-pair : (e : Element) (ns : List (ℕ × Vec ℕ Global)) (i : ℕ) (n : ℕ × Vec ℕ Global) (q : Path) → e.path ≡ [] → All (λ m. IsElement (element_at e m.1)) (map annotated_path ns) → i < length ns → n ≡ get_or ns i n → q ≡ n.1.items → syntax_at e (e.path ++ q) ≡ None → ⊥
+leads-pair e ns i n q root there lt is same none =
+    let here : i < length (map annotated_path ns) = subst (λ k. i < k) (sym (length-map ns annotated_path)) lt in
+    let item : get_or (map annotated_path ns) i (annotated_path n) ≡ annotated_path n = get_or-map annotated_path ns i n (annotated_path n) lt ∙ sym (ap annotated_path is) in
+    no-value-nowhere e q (subst (λ p. IsSome (at e.root p)) (ap (λ m. m.1) item ∙ sym same) (there i (annotated_path n) here)) (ap (λ p. syntax_at e (p ++ q)) (sym root) ∙ none)

@@ -39,3 +39,5 @@ mod ByLevel
 mod MarksFilled
 mod CopiesFound
 mod FoundNodes
+mod ByAnnotation
+mod Told

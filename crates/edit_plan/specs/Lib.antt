@@ -1,4 +1,5 @@
 pub mod Annotation
+pub mod AnnotationTable
 pub mod Codes
 pub mod Position
 pub mod Change

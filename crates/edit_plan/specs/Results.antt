@@ -2,6 +2,7 @@
 --     is_brought                    a change without an owner brought the element
 --     changed                       the paths, in document order, of the brought elements whose parent is none
 --     copies_of                     the paths, in document order, of the elements copied from an address
+--     paths_with                    the paths that stand with an annotation
 --     annotated, annotated_as       an annotation with each path, by registration and then in document order; the paths of one annotation
 --     stands_like, found            what is at a path has the kind of an old element and starts where that one does; the path of the first node, in document order, of the kind of an old one that starts where that one does
 use Rattle.std.specs.Prelude.{ℕ, nat_eq, ◌&&◌, Bool, false, List, map, filter, flat_map, find, Option}
@@ -22,6 +23,9 @@ abbrev pub changed : (ℕ → Bool) → OriginTree → List Path
 changed is_free t = topmost (is_brought is_free) t
 
 -- ---- annotated elements
+abbrev pub paths_with : ℕ → List (ℕ × Path) → List Path
+paths_with annotation ns = map (λ n. n.1) (filter (λ n. nat_eq n.0 annotation) ns)
+
 abbrev pub copies_of : OriginTree → Address → List Path
 copies_of t a = filter (holds_at (λ o. same_address a o.address) t) (paths t)
 
@@ -30,7 +34,7 @@ abbrev pub annotated : Mapping → List (Element × ℕ) → OriginTree → List
 annotated m registrations t = flat_map (λ r. map (λ p. (r.1, p)) (copies_of t (address (followed m r.0)))) registrations
 
 abbrev pub annotated_as : Mapping → List (Element × ℕ) → OriginTree → ℕ → List Path
-annotated_as m registrations t annotation = map (λ n. n.1) (filter (λ n. nat_eq n.0 annotation) (annotated m registrations t))
+annotated_as m registrations t annotation = paths_with annotation (annotated m registrations t)
 
 -- ---- finding a node again
 abbrev pub stands_like : Element → SyntaxTree → Path → Bool

@@ -1,20 +1,25 @@
 //! The annotations of the new tree, from the copies of registered elements.
 
-ghost use Rattle.std.specs.Prelude.{ℕ, List, ◌≡◌, ◌++◌, map, length, IfOk, OnOk};
-ghost use Rattle.cst_core.specs.Element.{Element, address};
-ghost use Rattle.edit_map.specs.Mapping.{Mapping, followed};
+ghost use Rattle.std.specs.Prelude.{ℕ, ◌≡◌, ◌++◌, [], ◌∷◌, map, length, Some, All, IfOk, OnOk};
+ghost use Rattle.cst_core.specs.Element.{NumbersTell, IsElement, element_at};
+ghost use Rattle.cst_core.specs.SyntaxElement.{element_of, syntax_at};
+ghost use Rattle.edit_map.specs.Mapping.{followed, mapped_elements};
 ghost use Rattle.rewriting.specs.Topmost.{paths_of};
-ghost use Rattle.edit_plan.specs.Rewriting.{OriginTree};
-ghost use Rattle.edit_plan.specs.Results.{copies_of, annotated};
+ghost use Rattle.edit_plan.specs.AnnotationTable.{elements_at};
+ghost use Rattle.edit_plan.specs.Results.{paths_with};
 ghost use Rattle.edit_plan.specs.Marks.{annotated_path, numbered_paths, path_lists};
 
+use crate::annotation::SyntaxAnnotation;
+use crate::annotation_table::AnnotationTable;
+use cst_core::{SyntaxElement, SyntaxNode};
+use edit_map::SyntaxMapping;
 use std::alloc::{AllocError, Global};
 
 // One annotation with each of these paths.
 fn push_annotated(
     alloc: Global,
-    found: &mut Vec<(u32, Vec<usize>)>,
-    annotation: u32,
+    found: &mut Vec<(SyntaxAnnotation, Vec<usize>)>,
+    annotation: SyntaxAnnotation,
     paths: &[Vec<usize>],
 ) -> Result<(), AllocError>
     ensures { OnOk result (map annotated_path found.new.items ≡ map annotated_path found.old.items ++ map (λ p. (annotation, p)) (paths_of paths.now)) }
@@ -28,9 +33,9 @@ fn push_annotated(
 // Each annotation with each path of its list.
 fn numbered_paths(
     alloc: Global,
-    annotations: &[u32],
+    annotations: &[SyntaxAnnotation],
     copies: &[Vec<Vec<usize>>],
-) -> Result<Vec<(u32, Vec<usize>)>, AllocError>
+) -> Result<Vec<(SyntaxAnnotation, Vec<usize>)>, AllocError>
     requires { length copies.now ≡ length annotations.now }
     ensures { IfOk result (λ v. map annotated_path v.items ≡ numbered_paths annotations.now (path_lists copies.now)) }
 {
@@ -41,16 +46,65 @@ fn numbered_paths(
     Ok(found)
 }
 
-/// The number of each registration's annotation with each path of a copy of its followed element, by registration and then in
-/// document order. Takes time linear in the paths and their lengths.
+// The annotation of each registration.
+fn annotations(
+    alloc: Global,
+    registrations: &[(SyntaxElement, SyntaxAnnotation)],
+) -> Result<Vec<SyntaxAnnotation>, AllocError>
+    ensures { IfOk result (λ v. v.items ≡ map (λ r. r.1) registrations.now) }
+{
+    registrations
+        .iter()
+        .map(|registration| registration.1)
+        .collect(alloc)
+}
+
+/// Each registration's annotation with each path of a list for it, by registration. Takes time linear in the paths and their
+/// lengths.
 pub(crate) fn annotated(
     alloc: Global,
-    annotations: &[u32],
+    registrations: &[(SyntaxElement, SyntaxAnnotation)],
     copies: &[Vec<Vec<usize>>],
-) -> Result<Vec<(u32, Vec<usize>)>, AllocError>
-    requires { length copies.now ≡ length annotations.now }
-    ensures { IfOk result (λ v. (m : Mapping) (registrations : List (Element × ℕ)) (made : OriginTree) → annotations.now ≡ map (λ r. r.1) registrations → path_lists copies.now ≡ map (λ r. copies_of made (address (followed m r.0))) registrations → map annotated_path v.items ≡ annotated m registrations made) }
+) -> Result<Vec<(SyntaxAnnotation, Vec<usize>)>, AllocError>
+    requires { length copies.now ≡ length registrations.now }
+    ensures { IfOk result (λ v. map annotated_path v.items ≡ numbered_paths (map (λ r. r.1) registrations.now) (path_lists copies.now)) }
 {
-    let found = numbered_paths(alloc, annotations, copies)?;
-    Ok(found)
+    let annotations = annotations(alloc, registrations)?;
+    numbered_paths(alloc, &annotations, copies)
+}
+
+/// Where each registered element is followed to.
+pub(crate) fn followed(
+    alloc: Global,
+    mapping: &SyntaxMapping,
+    registrations: &[(SyntaxElement, SyntaxAnnotation)],
+) -> Result<Vec<SyntaxElement>, AllocError>
+    ensures long { IfOk result (λ v. length v.items ≡ length registrations.now) }
+    ensures followed { All (λ r. NumbersTell (element_of r.0 ∷ mapped_elements mapping.now)) registrations.now → IfOk result (λ v. map element_of v.items ≡ map (λ r. followed mapping.now (element_of r.0)) registrations.now) }
+{
+    let mut reached = Vec::new(alloc);
+    for registration in registrations {
+        reached.push(mapping.follow(alloc, &registration.0)?)?;
+    }
+    Ok(reached)
+}
+
+/// The elements of a tree that these paths lead to, by their annotations.
+pub(crate) fn elements_by_annotation(
+    alloc: Global,
+    root: &SyntaxNode,
+    annotated: &[(SyntaxAnnotation, Vec<usize>)],
+) -> Result<AnnotationTable, AllocError>
+    requires is_root { root.now.path ≡ [] }
+    requires there { All (λ n. IsElement (element_at root.now n.1)) (map annotated_path annotated.now) }
+    ensures { IfOk result (λ t. (a : ℕ) → map Some (elements_at t a) ≡ map (syntax_at root.now) (paths_with a (map annotated_path annotated.now))) }
+{
+    let mut table = AnnotationTable::new(alloc);
+    for (annotation, path) in annotated {
+        match root.element_at(alloc, path)? {
+            Some(element) => table.add(alloc, *annotation, element)?,
+            None => unreachable!(),
+        }
+    }
+    Ok(table)
 }

@@ -115,7 +115,8 @@ fn copies_from(
     index: &SoughtIndex,
     given: &[GivenMarks],
 ) -> Result<Vec<Vec<Vec<usize>>>, AllocError>
-    ensures { IfOk result (λ v. (changes : List Change) (places : ℕ → Path) (made : OriginTree) → aims_of aims.now ≡ independents changes → IsTableOf (addresses registered.now) index.now → AreMarked given.now (marks_given (addresses registered.now) changes places) → new_tree changes places root.now ≡ made ∷ [] → path_lists v.items ≡ map (λ e. copies_of made (address (element_of e))) registered.now) }
+    ensures long { IfOk result (λ v. length v.items ≡ length registered.now) }
+    ensures copies { IfOk result (λ v. (changes : List Change) (places : ℕ → Path) (made : OriginTree) → aims_of aims.now ≡ independents changes → IsTableOf (addresses registered.now) index.now → AreMarked given.now (marks_given (addresses registered.now) changes places) → new_tree changes places root.now ≡ made ∷ [] → path_lists v.items ≡ map (λ e. copies_of made (address (element_of e))) registered.now) }
 {
     let marks = marks_of_tree(alloc, root, aims, index, given)?;
     let lists = dealt_out(alloc, &marks, registered.len())?;
@@ -137,7 +138,8 @@ pub(crate) fn copies(
 ) -> Result<Vec<Vec<Vec<usize>>>, AllocError>
     requires owned { length dependents.now ≡ length changes.now }
     requires aims { aims_of aims.now ≡ independents changes.now }
-    ensures { IfOk result (λ v. (places : ℕ → Path) (made : OriginTree) → AreDependents changes.now places dependents.now → new_tree changes.now places root.now ≡ made ∷ [] → path_lists v.items ≡ map (λ e. copies_of made (address (element_of e))) registered.now) }
+    ensures long { IfOk result (λ v. length v.items ≡ length registered.now) }
+    ensures copies { IfOk result (λ v. (places : ℕ → Path) (made : OriginTree) → AreDependents changes.now places dependents.now → new_tree changes.now places root.now ≡ made ∷ [] → path_lists v.items ≡ map (λ e. copies_of made (address (element_of e))) registered.now) }
 {
     let index = SoughtIndex::of(alloc, registered)?;
     let given = given_marks(alloc, changes, dependents, &index)?;

@@ -1,7 +1,10 @@
 ghost use Rattle.std.specs.Prelude.{◌≡◌, IfOk, option_map};
 ghost use Rattle.cst_core.specs.Element.{element_at};
 ghost use Rattle.edit_plan.specs.Results.{found};
+ghost use Rattle.edit_plan.specs.AnnotationTable.{found_for};
 
+use crate::annotation::SyntaxAnnotation;
+use crate::annotation_table::AnnotationTable;
 use cst_core::{SyntaxElement, SyntaxNode};
 use std::alloc::{AllocError, Global};
 use std::marker::Model;
@@ -12,16 +15,18 @@ pub struct SyntaxEdit {
     pub(crate) old_root: SyntaxNode,
     pub(crate) new_root: SyntaxNode,
     pub(crate) changed: Vec<SyntaxElement>,
+    pub(crate) annotated: AnnotationTable,
 }
 
 impl Model for SyntaxEdit {
     ghost use Rattle.edit_plan.specs.Building.{Edit, edit_code};
+    ghost use Rattle.edit_plan.specs.AnnotationTable.{entries_of};
 
     ghost Value = { Edit };
 
     ghost coded = { edit_code };
 
-    ghost view = { λ a. record { old_root = a.old_root; new_root = a.new_root; changed = a.changed.items } };
+    ghost view = { λ a. record { old_root = a.old_root; new_root = a.new_root; changed = a.changed.items; annotated = entries_of a.annotated.lists.entries } };
 }
 
 impl SyntaxEdit {
@@ -44,6 +49,17 @@ impl SyntaxEdit {
         ensures { result.now ≡ self.now.changed }
     {
         self.changed.as_slice()
+    }
+
+    /// The elements of the new tree that were copied from what is registered with an annotation, by registration and then in
+    /// document order; an element that stayed is a copy of itself. None of an annotation that nothing is registered with.
+    pub fn find_annotation(&self, annotation: SyntaxAnnotation) -> &[SyntaxElement]
+        ensures { result.now ≡ found_for self.now.annotated annotation }
+    {
+        match self.annotated.lists.get(&annotation) {
+            Some(list) => list.as_slice(),
+            None => &[],
+        }
     }
 
     /// The first node of the new tree in document order, its root included, that has the kind of `old` and starts where that one

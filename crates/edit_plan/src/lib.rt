@@ -3,6 +3,7 @@
 
 mod annotated;
 mod annotation;
+mod annotation_table;
 mod by_depth;
 mod change;
 mod change_aims;

@@ -8,15 +8,20 @@ ghost use Rattle.rewriting.specs.Pass.{kind_only, given_by};
 ghost use Rattle.rewriting.specs.Rewriting.{rewritten_whole};
 ghost use Rattle.rewriting.specs.Topmost.{paths_of};
 ghost use Rattle.edit_plan.specs.Building.{IsRewritten, Makes, RunRefuses};
+ghost use Rattle.edit_plan.specs.Marks.{annotated_path};
+ghost use Rattle.edit_plan.specs.Planned.{AreAnnotated};
 ghost use Rattle.cst_core.specs.Path.{Path};
 ghost use Rattle.edit_plan.specs.Fate.{fate};
 ghost use Rattle.edit_plan.specs.Fits.{Fits};
-ghost use Rattle.edit_plan.specs.Owned.{AreGiven};
+ghost use Rattle.edit_plan.specs.Owned.{AreDependents, AreGiven};
 ghost use Rattle.edit_plan.specs.Plan.{ArePlaces};
 ghost use Rattle.edit_plan.specs.Rewriting.{independents};
 
+use crate::annotated::{annotated, elements_by_annotation, followed};
+use crate::annotation::SyntaxAnnotation;
 use crate::change::Change;
-use crate::dependent::dependents;
+use crate::copies::copies;
+use crate::dependent::{Dependent, dependents};
 use crate::edit::SyntaxEdit;
 use crate::edit_error::EditError;
 use crate::fate::Fate;
@@ -26,11 +31,12 @@ use cst_core::{GreenElement, GreenNode, SyntaxElement, SyntaxNode, TreeIds};
 use rewriting::{Aimed, places_of_given_whole, rebuild_whole};
 use std::alloc::{AllocError, Global};
 
-// A tree that is not a root's yet, and the paths of the elements that changes brought.
+// A tree that is not a root's yet, the paths of the elements that changes brought, and those of annotated ones.
 #[derive(Drop)]
 struct Rewritten {
     green: GreenNode,
     changed: Vec<Vec<usize>>,
+    annotated: Vec<(SyntaxAnnotation, Vec<usize>)>,
 }
 
 // The changes without an owner, by where they aim.
@@ -63,12 +69,47 @@ impl EditPlan {
         independent_aims(alloc, &self.changes, &self.fates)
     }
 
-    // What each change gives, by its number.
-    fn given(&self, alloc: Global) -> Result<Vec<Vec<GreenElement>>, AllocError>
-        ensures { IfOk result (λ v. (places : ℕ → Path) × ArePlaces self.now.mapping self.now.changes places × AreGiven self.now.changes places v.items) }
+    // What each change owns, by its number.
+    fn dependents(&self, alloc: Global) -> Result<Vec<Vec<Dependent<'_>>>, AllocError>
+        ensures long { IfOk result (λ v. length v.items ≡ length self.now.changes) }
+        ensures dependents { IfOk result (λ v. (places : ℕ → Path) × ArePlaces self.now.mapping self.now.changes places × AreDependents self.now.changes places v.items) }
     {
-        let dependents = dependents(alloc, &self.changes, &self.fates, &self.places)?;
-        given(alloc, &self.changes, &dependents)
+        dependents(alloc, &self.changes, &self.fates, &self.places)
+    }
+
+    // What each change gives, by its number.
+    fn given(
+        &self,
+        alloc: Global,
+        dependents: &[Vec<Dependent>],
+    ) -> Result<Vec<Vec<GreenElement>>, AllocError>
+        requires { length dependents.now ≡ length self.now.changes }
+        ensures { IfOk result (λ v. (places : ℕ → Path) → AreDependents self.now.changes places dependents.now → AreGiven self.now.changes places v.items) }
+    {
+        given(alloc, &self.changes, dependents)
+    }
+
+    // The annotations with the paths of the copies of what they are registered with.
+    fn annotated(
+        &self,
+        alloc: Global,
+        aims: &[Aimed],
+        dependents: &[Vec<Dependent>],
+    ) -> Result<Vec<(SyntaxAnnotation, Vec<usize>)>, AllocError>
+        requires owned { length dependents.now ≡ length self.now.changes }
+        requires aims { aims_of aims.now ≡ independents self.now.changes }
+        ensures { IfOk result (λ v. AreAnnotated self.now dependents.now (map annotated_path v.items)) }
+    {
+        let followed = followed(alloc, &self.mapping, &self.registrations)?;
+        let copies = copies(
+            alloc,
+            &self.root,
+            &self.changes,
+            dependents,
+            aims,
+            &followed,
+        )?;
+        annotated(alloc, &self.registrations, &copies)
     }
 
     // The new root's shared tree.
@@ -136,17 +177,23 @@ fn next_number(ids: &TreeIds) -> u64
 }
 
 impl EditPlan {
-    // The new tree, and the paths of its changed elements.
+    // The new tree, and the paths of its changed and annotated elements.
     fn carried_out(&self, alloc: Global) -> Result<Rewritten, AllocError>
-        ensures { IfOk result (λ r. IsRewritten self.now (branch_tree r.green) (paths_of r.changed.items)) }
+        ensures { IfOk result (λ r. IsRewritten self.now (branch_tree r.green) (paths_of r.changed.items) (map annotated_path r.annotated.items)) }
     {
         let aims = self.aims(alloc)?;
-        let given = self.given(alloc)?;
+        let dependents = self.dependents(alloc)?;
+        let given = self.given(alloc, &dependents)?;
         let green = self.rewritten(alloc, &aims, &given)?;
         let counts = counts(alloc, &given)?;
         let old = GreenElement::Node(self.root.green(alloc)?);
         let changed = places_of_given_whole(alloc, &old, &aims, &counts)?;
-        Ok(Rewritten { green, changed })
+        let annotated = self.annotated(alloc, &aims, &dependents)?;
+        Ok(Rewritten {
+            green,
+            changed,
+            annotated,
+        })
     }
 
     /// Carries the plan out: the new tree under the next number of `ids`, and its changed elements.
@@ -158,17 +205,23 @@ impl EditPlan {
         ensures refused { IfErr result (RunRefuses self.now ids.old) }
         ensures err { OnErr result (ids.new ≡ ids.old) }
     {
-        let Rewritten { green, changed } = self.carried_out(alloc)?;
+        let Rewritten {
+            green,
+            changed,
+            annotated,
+        } = self.carried_out(alloc)?;
         // The number is drawn last, when nothing can fail any more.
         let mut own = TreeIds::new(next_number(ids));
         let new_root = SyntaxNode::new_root(alloc, &mut own, green)?;
         let changed = elements_at(alloc, &new_root, &changed)?;
+        let annotated = elements_by_annotation(alloc, &new_root, &annotated)?;
         let old_root = self.root.try_clone(alloc)?;
         ids.next();
         Ok(SyntaxEdit {
             old_root,
             new_root,
             changed,
+            annotated,
         })
     }
 }

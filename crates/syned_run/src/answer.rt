@@ -8,7 +8,7 @@ use crate::session::{Editing, Session};
 use crate::stop::{Refusal, Stop, Stopped};
 use cst_core::{SyntaxNode, TreeIds};
 use std::alloc::{AllocError, Global};
-use syntax_editor::{SyntaxEdit, SyntaxEditor};
+use syntax_editor::SyntaxEditor;
 
 /// How a run ended.
 #[derive(Clone, Copy, Debug, PartialEq, Eq)]
@@ -124,13 +124,13 @@ fn end(alloc: Global, session: Session, lines: &[&str], number: usize) -> Result
             return Err(Stop::Bad.at(index + 1));
         }
     }
-    let edit = finish(alloc, session).map_err(|stop| stop.at(number))?;
-    print_edit(alloc, &edit).map_err(|_| Stop::Memory.at(number))
+    finish(alloc, session).map_err(|stop| stop.at(number))
 }
 
-fn finish(alloc: Global, session: Session) -> Result<SyntaxEdit, Stop> {
-    let (editing, mut ids) = session.into_editing()?;
-    Ok(editing.editor.finish(alloc, &mut ids)?)
+fn finish(alloc: Global, session: Session) -> Result<String, Stop> {
+    let (editing, mut ids, words) = session.into_editing()?;
+    let edit = editing.editor.finish(alloc, &mut ids)?;
+    Ok(print_edit(alloc, &edit, words.in_order())?)
 }
 
 /// What a script has recorded where it comes to `finish`.
@@ -149,6 +149,6 @@ pub struct Recorded {
 pub fn record_script(alloc: Global, script: &str) -> Option<Recorded> {
     let lines = lines(alloc, script).ok()?;
     let (session, _) = record(alloc, &lines).ok()?;
-    let (Editing { editor, root }, ids) = session.into_editing().ok()?;
+    let (Editing { editor, root }, ids, _) = session.into_editing().ok()?;
     Some(Recorded { root, editor, ids })
 }

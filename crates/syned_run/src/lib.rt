@@ -11,6 +11,7 @@ mod roots;
 mod script;
 mod session;
 mod stop;
+mod words;
 
 pub use answer::{Recorded, record_script};
 pub use program::run;

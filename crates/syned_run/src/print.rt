@@ -1,19 +1,34 @@
 //! What is printed of an edit that was made.
 
+use crate::words::Word;
 use cst_core::SyntaxElement;
 use std::alloc::{AllocError, Global};
 use syntax_editor::SyntaxEdit;
 use tree_text::push_escaped;
 
-/// The new text, and the paths of the elements that changed.
-pub(crate) fn print_edit(alloc: Global, edit: &SyntaxEdit) -> Result<String, AllocError> {
+/// The new text, the paths of the elements that changed, and for each word those of its elements.
+pub(crate) fn print_edit(
+    alloc: Global,
+    edit: &SyntaxEdit,
+    words: &[Word],
+) -> Result<String, AllocError> {
     let text = edit.new_root().text(alloc)?;
     let mut out = String::from_str(alloc, "text \"")?;
     push_escaped(&mut out, &text)?;
     out.push_str("\"\nchanged")?;
     push_paths(&mut out, edit.changed_elements())?;
     out.push('\n')?;
+    for word in words {
+        push_note(&mut out, edit, word)?;
+    }
     Ok(out)
+}
+
+fn push_note(out: &mut String, edit: &SyntaxEdit, word: &Word) -> Result<(), AllocError> {
+    out.push_str("note ")?;
+    out.push_str(&word.text)?;
+    push_paths(out, edit.find_annotation(word.annotation))?;
+    out.push('\n')
 }
 
 // Each after one space.

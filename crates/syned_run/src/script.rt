@@ -48,6 +48,11 @@ pub(crate) enum Line<'a> {
         last: Reference<'a>,
         payload: Vec<Reference<'a>>,
     },
+    /// An element is registered with an annotation.
+    Note {
+        word: Name<'a>,
+        element: Reference<'a>,
+    },
     /// The new tree is made.
     Finish,
 }
@@ -77,6 +82,7 @@ pub(crate) fn read_line<'a>(alloc: Global, text: &'a str) -> Result<Line<'a>, St
         "delete" => delete_line(alloc, &mut fields)?,
         "replace" => replace_line(alloc, &mut fields)?,
         "range" => range_line(alloc, &mut fields)?,
+        "note" => note_line(alloc, &mut fields)?,
         "finish" => Line::Finish,
         _ => return Err(Stop::Bad),
     };
@@ -150,6 +156,12 @@ fn range_line<'a>(alloc: Global, fields: &mut Fields<'a>) -> Result<Line<'a>, St
         last,
         payload,
     })
+}
+
+fn note_line<'a>(alloc: Global, fields: &mut Fields<'a>) -> Result<Line<'a>, Stop> {
+    let word = fields.name()?;
+    let element = fields.reference(alloc)?;
+    Ok(Line::Note { word, element })
 }
 
 // What is left of a line, without spaces at its ends. Spaces stand between its fields.

@@ -5,6 +5,7 @@ use crate::reference::Reference;
 use crate::roots::Roots;
 use crate::script::{Line, Place};
 use crate::stop::Stop;
+use crate::words::Words;
 use cst_core::{GreenNode, SyntaxElement, SyntaxNode, TreeIds};
 use std::alloc::Global;
 use syntax_editor::{Position, SyntaxEditor, SyntaxMappingBuilder};
@@ -15,6 +16,7 @@ pub(crate) struct Session {
     alloc: Global,
     ids: TreeIds,
     roots: Roots,
+    words: Words,
     editing: Option<Editing>,
 }
 
@@ -38,6 +40,7 @@ impl Session {
             alloc,
             ids: TreeIds::new(1),
             roots: Roots::new(alloc),
+            words: Words::new(alloc),
             editing: None,
         }
     }
@@ -61,6 +64,7 @@ impl Session {
                 last,
                 payload,
             } => self.range(&first, &last, &payload),
+            Line::Note { word, element } => self.note(word, &element),
             Line::Finish => Err(Stop::Bad),
         }
     }
@@ -70,10 +74,15 @@ impl Session {
         self.editing.is_some()
     }
 
-    /// What is edited, with the source of tree numbers; `Bad` where there is nothing.
-    pub(crate) fn into_editing(self) -> Result<(Editing, TreeIds), Stop> {
-        let Session { ids, editing, .. } = self;
-        Ok((editing.ok_or(Stop::Bad)?, ids))
+    /// What is edited, with the source of tree numbers and the annotation words; `Bad` where there is nothing.
+    pub(crate) fn into_editing(self) -> Result<(Editing, TreeIds, Words), Stop> {
+        let Session {
+            ids,
+            words,
+            editing,
+            ..
+        } = self;
+        Ok((editing.ok_or(Stop::Bad)?, ids, words))
     }
 
     fn add_tree(&mut self, name: Name<'_>, root: GreenNode) -> Result<(), Stop> {
@@ -157,6 +166,14 @@ impl Session {
         } else {
             editor.replace_all(self.alloc, first, last, payload)?;
         }
+        Ok(())
+    }
+
+    fn note(&mut self, word: Name<'_>, element: &Reference<'_>) -> Result<(), Stop> {
+        let element = self.element(element)?;
+        let Editing { editor, .. } = self.editing.as_mut().ok_or(Stop::Bad)?;
+        let annotation = self.words.annotation(self.alloc, word)?;
+        editor.add_annotation(self.alloc, element, annotation)?;
         Ok(())
     }
 

@@ -1,26 +1,42 @@
-use Rattle.std.proofs.Common.{◌≡◌, [], map, Err, sym, ◌∙◌, ap, subst}
+use Rattle.std.proofs.Common.{◌≡◌, [], map, Err, Some, sym, ◌∙◌, ap, subst}
 use Rattle.cst_core.specs.Green.{branch_tree}
 use Rattle.cst_core.specs.SyntaxElement.{syntax_at}
 use Rattle.rewriting.specs.Topmost.{paths_of}
 use Rattle.edit_plan.specs.Building.{IsRewritten, RunRefuses}
+use Rattle.edit_plan.specs.Marks.{annotated_path}
 use Rattle.edit_plan.specs.Refusal.{of_tree}
+use Rattle.edit_plan.specs.Results.{paths_with}
+use Rattle.edit_plan.proofs.ByAnnotation.{found-in}
 use Rattle.edit_plan.proofs.Carrying.{makes, refuses, err-gives}
-use Rattle.edit_plan.proofs.Leading.{changed-there}
+use Rattle.edit_plan.proofs.Leading.{changed-there, annotated-there}
 use Rattle.edit_plan.proofs.plan.EditPlan.run.Goals as goal
 
 pub elements_at-requires : goal.elements_at-requires
-elements_at-requires c = record {
-  is_root = ap (λ x. x.path) c.in_ok-new_root.ensures.ok;
-  there = changed-there c.args.self.now (branch_tree c.in_ok-green.field-0.green) (paths_of c.deref.result.now) (subst (λ vs. IsRewritten c.args.self.now (branch_tree c.in_ok-green.field-0.green) (paths_of vs)) (sym c.deref.ensures.value) c.in_ok-green.ensures) c.in_ok-new_root.new_root (ap (λ x. x.root) c.in_ok-new_root.ensures.ok);
-}
+elements_at-requires c =
+    let rewritten = c.in_ok-green.field-0 in
+    record {
+      is_root = ap (λ x. x.path) c.in_ok-new_root.ensures.ok;
+      there = changed-there c.args.self.now (branch_tree rewritten.green) (paths_of c.deref.result.now) (map annotated_path rewritten.annotated.items) (subst (λ vs. IsRewritten c.args.self.now (branch_tree rewritten.green) (paths_of vs) (map annotated_path rewritten.annotated.items)) (sym c.deref.ensures.value) c.in_ok-green.ensures) c.in_ok-new_root.new_root (ap (λ x. x.root) c.in_ok-new_root.ensures.ok);
+    }
+
+pub elements_by_annotation-requires : goal.elements_by_annotation-requires
+elements_by_annotation-requires c =
+    let rewritten = c.in_ok-green.field-0 in
+    record {
+      is_root = ap (λ x. x.path) c.in_ok-new_root.ensures.ok;
+      there = annotated-there c.args.self.now (branch_tree rewritten.green) (paths_of rewritten.changed.items) (map annotated_path c.deref-2.result.now) (subst (λ ns. IsRewritten c.args.self.now (branch_tree rewritten.green) (paths_of rewritten.changed.items) (map annotated_path ns)) (sym c.deref-2.ensures.value) c.in_ok-green.ensures) c.in_ok-new_root.new_root (ap (λ x. x.root) c.in_ok-new_root.ensures.ok);
+    }
 
 pub returns-in_err-new_root-clause-refused : goal.returns-in_err-new_root-clause-refused
 returns-in_err-new_root-clause-refused c =
+    let rewritten = c.in_ok-green.field-0 in
     let own : c.new-own.result ≡ c.args.ids.now = c.new-own.ensures ∙ c.next_number.ensures in
-    let r = refuses c.args.self.now c.in_ok-green.field-0.green (paths_of c.in_ok-green.field-0.changed.items) c.in_ok-green.ensures c.args.ids.now c.in_err-new_root.field-0.0 (λ e. c.in_err-new_root.ensures.too_long.0 (ap Err e)) (λ e. let s = c.in_err-new_root.ensures.no_number.0 (ap Err e) in (sym own ∙ s.0, s.1)) in
+    let r = refuses c.args.self.now rewritten.green (paths_of rewritten.changed.items) (map annotated_path rewritten.annotated.items) c.in_ok-green.ensures c.args.ids.now c.in_err-new_root.field-0.0 (λ e. c.in_err-new_root.ensures.too_long.0 (ap Err e)) (λ e. let s = c.in_err-new_root.ensures.no_number.0 (ap Err e) in (sym own ∙ s.0, s.1)) in
     err-gives (RunRefuses c.args.self.now c.args.ids.now) c.from_residual-in_err-new_root.result (of_tree c.in_err-new_root.field-0.0) c.from_residual-in_err-new_root.ensures.1 r
 
 pub returns-clause-ok : goal.returns-clause-ok
 returns-clause-ok c =
+    let rewritten = c.in_ok-green.field-0 in
+    let root = c.in_ok-new_root.new_root in
     let own : c.new-own.result ≡ c.args.ids.now = c.new-own.ensures ∙ c.next_number.ensures in
-    makes c.args.self.now c.in_ok-green.field-0.green (paths_of c.in_ok-green.field-0.changed.items) c.in_ok-green.ensures c.args.ids.now _ (c.in_ok-old_root.ensures ∙ ap (λ x. x.root) c.self.view_is) (c.in_ok-new_root.ensures.ok ∙ ap (λ n. record { number = n; root = branch_tree c.in_ok-green.field-0.green; path = [] }) own) (c.in_ok-changed.ensures ∙ ap (λ ps. map (syntax_at c.in_ok-new_root.new_root) (paths_of ps)) c.deref.ensures.value)
+    makes c.args.self.now rewritten.green (paths_of rewritten.changed.items) (map annotated_path rewritten.annotated.items) c.in_ok-green.ensures c.args.ids.now _ (c.in_ok-old_root.ensures ∙ ap (λ x. x.root) c.self.view_is) (c.in_ok-new_root.ensures.ok ∙ ap (λ n. record { number = n; root = branch_tree rewritten.green; path = [] }) own) (c.in_ok-changed.ensures ∙ ap (λ ps. map (syntax_at root) (paths_of ps)) c.deref.ensures.value) (λ a. ap (map (λ x. Some x)) (found-in c.in_ok-annotated.annotated.lists.entries a) ∙ c.in_ok-annotated.ensures a ∙ ap (λ ns. map (syntax_at root) (paths_with a (map annotated_path ns))) c.deref-2.ensures.value)

@@ -1,0 +1,63 @@
+-- Annotated paths, and the elements that they lead to, by annotation.
+--     one-more                      a table with one more element has it for its annotation
+--     followed-more                 one more registered element is followed
+--     are-annotated                 the annotated paths of a plan, from where its registered elements lead to
+--     found-in                      what an edit has for an annotation is what the table has
+use Rattle.std.specs.Prelude.{◌≡◌, All, ℕ, ◌+◌, ◌<◌, true, false, cond, nat_eq, List, [], ◌∷◌, ◌++◌, map, filter, take, length, Vec, Some, get_or, refl}
+use Rattle.std.specs.Global.{Global}
+use Rattle.std.proofs.Common.{ap, ap₂, sym, subst, ◌∙◌}
+use Rattle.std.proofs.lemmas.List.{take_more, map-append}
+use Rattle.std.proofs.lemmas.List.Elements.{filter-append, All-get_or}
+use Rattle.cst_core.specs.Path.{Path}
+use Rattle.cst_core.specs.Element.{Element, NumbersTell, address}
+use Rattle.cst_core.specs.SyntaxElement.{element_of, syntax_at}
+use Rattle.edit_map.specs.Mapping.{Mapping, followed, mapped_elements}
+use Rattle.cst_core.specs.declared.element.SyntaxElement.{SyntaxElement}
+use Rattle.std.specs.Map.{lookup}
+use Rattle.std.specs.Option.{option_map_or}
+use Rattle.edit_plan.specs.AnnotationTable.{entries_of, found_for}
+use Rattle.edit_plan.specs.Building.{Plan}
+use Rattle.edit_plan.specs.Marks.{annotated_path, numbered_paths}
+use Rattle.edit_plan.specs.Owned.{AreDependents}
+use Rattle.edit_plan.specs.Planned.{AreAnnotated}
+use Rattle.edit_plan.specs.Results.{copies_of, paths_with}
+use Rattle.edit_plan.specs.Rewriting.{OriginTree, new_tree}
+use Rattle.edit_plan.specs.declared.dependent.Dependent.{Dependent}
+use mathlib.Core.List.{map-map}
+
+-- ---- the paths of one annotation
+with-more : (a : ℕ) (ns : List (ℕ × Path)) (n : ℕ × Path) → paths_with a (ns ++ n ∷ []) ≡ paths_with a ns ++ cond (nat_eq n.0 a) (n.1 ∷ []) []
+with-more a ns n =
+    ap (map (λ m. m.1)) (filter-append (λ m. nat_eq m.0 a) ns (n ∷ [])) ∙ map-append (λ m. m.1) (filter (λ m. nat_eq m.0 a) ns) (filter (λ m. nat_eq m.0 a) (n ∷ [])) ∙ ap (λ ps. paths_with a ns ++ ps) (elim (nat_eq n.0 a) as (λ b. map (λ (m : ℕ × Path). m.1) (cond b (n ∷ []) []) ≡ cond b (n.1 ∷ []) []) [ true ↦ refl | false ↦ refl ])
+
+pub one-more : (root : Element) (ns : List (ℕ × Vec ℕ Global)) (i : ℕ) (n : ℕ × Vec ℕ Global) (e : SyntaxElement) (before after : ℕ → List SyntaxElement) → i < length ns → n ≡ get_or ns i n → Some e ≡ syntax_at root n.1.items → ((a : ℕ) → map Some (before a) ≡ map (syntax_at root) (paths_with a (map annotated_path (take i ns)))) → ((a : ℕ) → after a ≡ before a ++ cond (nat_eq n.0 a) (e ∷ []) []) → (a : ℕ) → map Some (after a) ≡ map (syntax_at root) (paths_with a (map annotated_path (take (i + 1) ns)))
+one-more root ns i n e before after lt is leads were are a =
+    let taken : map annotated_path (take (i + 1) ns) ≡ map annotated_path (take i ns) ++ annotated_path n ∷ [] = ap (map annotated_path) (take_more ns i n lt) ∙ map-append annotated_path (take i ns) (get_or ns i n ∷ []) ∙ ap (λ m. map annotated_path (take i ns) ++ annotated_path m ∷ []) (sym is) in
+    let own : map Some (cond (nat_eq n.0 a) (e ∷ []) []) ≡ map (syntax_at root) (cond (nat_eq n.0 a) (n.1.items ∷ []) []) = elim (nat_eq n.0 a) as (λ b. map (λ x. Some x) (cond b (e ∷ []) []) ≡ map (syntax_at root) (cond b (n.1.items ∷ []) [])) [ true ↦ ap (λ o. o ∷ []) leads | false ↦ refl ] in
+    ap (map (λ x. Some x)) (are a) ∙ map-append (λ x. Some x) (before a) (cond (nat_eq n.0 a) (e ∷ []) []) ∙ ap₂ (λ xs ys. xs ++ ys) (were a) own ∙ sym (map-append (syntax_at root) (paths_with a (map annotated_path (take i ns))) (cond (nat_eq n.0 a) (n.1.items ∷ []) [])) ∙ ap (map (syntax_at root)) (sym (ap (paths_with a) taken ∙ with-more a (map annotated_path (take i ns)) (annotated_path n)))
+
+-- ---- where registered elements are followed to
+abbrev Tells : Mapping → SyntaxElement × ℕ → Type 0
+Tells m r = NumbersTell (element_of r.0 ∷ mapped_elements m)
+
+abbrev leads_to : Mapping → SyntaxElement × ℕ → Element
+leads_to m r = followed m (element_of r.0)
+
+pub followed-more : (m : Mapping) (rs : List (SyntaxElement × ℕ)) (i : ℕ) (r : SyntaxElement × ℕ) (x : SyntaxElement) (xs ys : List SyntaxElement) → i < length rs → r ≡ get_or rs i r → ys ≡ xs ++ x ∷ [] → (Tells m r → element_of x ≡ leads_to m r) → (All (Tells m) rs → map element_of xs ≡ map (leads_to m) (take i rs)) → All (Tells m) rs → map element_of ys ≡ map (leads_to m) (take (i + 1) rs)
+followed-more m rs i r x xs ys lt is more leads before all =
+    let tells : Tells m r = subst (Tells m) (sym is) (All-get_or (Tells m) rs i r lt all) in
+    ap (map element_of) more ∙ map-append element_of xs (x ∷ []) ∙ ap₂ (λ us e. us ++ e ∷ []) (before all) (leads tells ∙ ap (leads_to m) is) ∙ sym (ap (map (leads_to m)) (take_more rs i r lt) ∙ map-append (leads_to m) (take i rs) (get_or rs i r ∷ []))
+
+-- ---- the annotated paths of a plan
+pub are-annotated : (p : Plan) (owned : List (Vec Dependent Global)) (fs : List SyntaxElement) (ls : List (List Path)) (ns : List (ℕ × Path)) → (All (Tells p.mapping) p.registrations → map element_of fs ≡ map (leads_to p.mapping) p.registrations) → ((places : ℕ → Path) (made : OriginTree) → AreDependents p.changes places owned → new_tree p.changes places p.root ≡ made ∷ [] → ls ≡ map (λ e. copies_of made (address (element_of e))) fs) → ns ≡ numbered_paths (map (λ r. r.1) p.registrations) ls → AreAnnotated p owned ns
+are-annotated p owned fs ls ns followed_are copies_are is = record {
+  reached = map (λ e. address (element_of e)) fs;
+  reached_are = λ tells. sym (map-map address element_of fs) ∙ ap (map address) (followed_are tells) ∙ map-map address (leads_to p.mapping) p.registrations ∙ sym (map-map (λ r. address (followed p.mapping r.0)) (λ r. (element_of r.0, r.1)) p.registrations);
+  paths_are = λ places made are new. is ∙ ap (numbered_paths (map (λ r. r.1) p.registrations)) (copies_are places made are new ∙ sym (map-map (copies_of made) (λ e. address (element_of e)) fs));
+}
+
+-- ---- tables as edits have them
+pub found-in : (es : List (ℕ × Vec SyntaxElement Global)) (a : ℕ) → found_for (entries_of es) a ≡ option_map_or (λ v. v.items) (lookup (nat_eq a) es) []
+found-in [] a = refl
+found-in (e ∷ es) a =
+    elim (nat_eq a e.0) as (λ b. option_map_or (λ l. l) (cond b (Some e.1.items) (lookup (nat_eq a) (entries_of es))) [] ≡ option_map_or (λ (v : Vec SyntaxElement Global). v.items) (cond b (Some e.1) (lookup (nat_eq a) es)) []) [ true ↦ refl | false ↦ found-in es a ]

@@ -1,0 +1,9 @@
+use Rattle.std.proofs.Common.{◌≡◌, ℕ, map, take, Some}
+use Rattle.cst_core.specs.SyntaxElement.{syntax_at}
+use Rattle.edit_plan.specs.AnnotationTable.{elements_at}
+use Rattle.edit_plan.specs.Marks.{annotated_path}
+use Rattle.edit_plan.specs.Results.{paths_with}
+use Rattle.edit_plan.proofs.annotated.elements_by_annotation.Given as goal
+
+abbrev pub invariant-loop-annotation : goal.invariant-loop-annotation
+invariant-loop-annotation l = (a : ℕ) → map Some (elements_at l.table a) ≡ map (syntax_at l.root) (paths_with a (map annotated_path (take l.annotation-index l.annotated)))
