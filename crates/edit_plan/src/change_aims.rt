@@ -108,7 +108,7 @@ fn count_of_range(first: &[usize], last: &[usize]) -> Option<usize>
 fn one(alloc: Global, element: &SyntaxElement) -> Result<Vec<GreenElement>, AllocError>
     ensures { IfOk result (λ v. element_trees v.items ≡ subtree (element_of element.now) ∷ []) }
 {
-    let mut greens = Vec::new(alloc);
+    let mut greens = Vec::with_capacity(alloc, 1)?;
     greens.push(element.green(alloc)?)?;
     Ok(greens)
 }
@@ -116,7 +116,7 @@ fn one(alloc: Global, element: &SyntaxElement) -> Result<Vec<GreenElement>, Allo
 fn all(alloc: Global, elements: &[SyntaxElement]) -> Result<Vec<GreenElement>, AllocError>
     ensures { IfOk result (λ v. element_trees v.items ≡ map subtree (map element_of elements.now)) }
 {
-    let mut greens = Vec::new(alloc);
+    let mut greens = Vec::with_capacity(alloc, elements.len())?;
     for element in elements {
         greens.push(element.green(alloc)?)?;
     }

@@ -1,12 +1,11 @@
 -- The aims that matter for a child and for the gap behind it say the same of them as all the aims.
-use Rattle.std.specs.Prelude.{◌≡◌, ℕ, zero, suc, ◌+◌, ◌<◌, ◌≤◌, Bool, true, false, cond, ◌&&◌, ◌||◌, nat_eq, List, [], ◌∷◌, ◌++◌, map, filter, flat_map, Vec, refl, Some, None}
+use Rattle.std.specs.Prelude.{◌≡◌, ℕ, zero, suc, ◌+◌, ◌<◌, ◌≤◌, Bool, true, false, cond, ◌&&◌, ◌||◌, nat_eq, List, [], ◌∷◌, ◌++◌, map, filter, flat_map, refl, Some, None}
 use Rattle.std.specs.List.{list_any}
 use Rattle.std.proofs.Common.{ap, sym, ◌∙◌, arith, get_or}
 use mathlib.Core.Logic.{inl, inr}
 use Rattle.std.proofs.lemmas.List.{append-nil}
 use Rattle.std.proofs.lemmas.List.Elements.{filter-append}
 use Rattle.std.proofs.lemmas.Bool.{cases_lt, ne_eqb, eqb-false}
-use Rattle.std.specs.Global.{Global}
 use Rattle.green_tree.specs.Path.{Path, parent_path, last_slot}
 use Rattle.green_tree.specs.Tree.{Tree}
 use Rattle.rewriting.specs.Aim.{Aim, aims_at_gap, starts_at, replaces}
@@ -120,8 +119,8 @@ grow k old new xs ys a f n e o inside before behind on under past_it =
     ]
 
 -- ---- a group by its index
-pub group_is : (groups : List (Vec Aimed Global)) (aims : List Aimed) (n i : ℕ) (v : Vec Aimed Global) (xs : List Aimed) → ((k : ℕ) (d : Vec Aimed Global) → k < n → (get_or groups k d).items ≡ filter (concerns k) aims) → i < n → v ≡ get_or groups i v → xs ≡ v.items → xs ≡ filter (concerns i) aims
-group_is groups aims n i v xs all l is e = e ∙ ap (λ u. u.items) is ∙ all i v l
+pub group_is : (groups : List (List Aimed)) (aims : List Aimed) (n i : ℕ) (v : List Aimed) (xs : List Aimed) → ((k : ℕ) (d : List Aimed) → k < n → get_or groups k d ≡ filter (concerns k) aims) → i < n → v ≡ get_or groups i v → xs ≡ v → xs ≡ filter (concerns i) aims
+group_is groups aims n i v xs all l is e = e ∙ is ∙ all i v l
 
 pub group-gap : {L : Type 0} (label_at : Path → ℕ → L) (given : ℕ → List (Tree L)) (xs group : List Aimed) (i : ℕ) → group ≡ filter (concerns i) xs → gap label_at given (aims_of group) [] (i + 1) ≡ gap label_at given (aims_of xs) [] (i + 1)
 group-gap label_at given xs group i e =

@@ -3,6 +3,7 @@ pub mod Rewriting
 pub mod Effort
 pub mod Aimed
 pub mod Groups
+pub mod Few
 pub mod Pass
 pub mod Topmost
 pub mod Marked

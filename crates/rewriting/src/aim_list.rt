@@ -1,5 +1,4 @@
-ghost use Rattle.std.specs.Global.{Global};
-ghost use Rattle.std.specs.Prelude.{ℕ, ◌<◌, ◌≤◌, ◌+◌, ◌≡◌, ◌++◌, Vec, [], ◌∷◌, map, filter, length, get_or, IfOk, OnOk};
+ghost use Rattle.std.specs.Prelude.{ℕ, ◌<◌, ◌≤◌, ◌+◌, ◌≡◌, ◌++◌, List, [], ◌∷◌, map, filter, length, get_or, IfOk, OnOk};
 ghost use Rattle.std.specs.List.{list_any};
 ghost use Rattle.rewriting.specs.Rewriting.{is_replaced};
 ghost use Rattle.rewriting.specs.declared.aimed.Aimed.{Aimed};
@@ -7,6 +6,7 @@ ghost use Rattle.rewriting.specs.Aimed.{aims_of, has_parent, placed, placed_belo
 ghost use Rattle.rewriting.specs.Groups.{concerns};
 
 use crate::aimed::Aimed;
+use crate::group::Group;
 use std::alloc::{AllocError, Global};
 
 // Whether some aim alters the children of a node.
@@ -62,19 +62,20 @@ pub fn below<'a>(
 
 // The aim goes to the end of so many groups, from one on, as far as there are groups.
 fn push_into<'a>(
-    groups: &mut Vec<Vec<Aimed<'a>>>,
+    alloc: Global,
+    groups: &mut Vec<Group<'a>>,
     aim: Aimed<'a>,
     first: usize,
     count: usize,
 ) -> Result<(), AllocError>
     ensures size { length groups.new.items ≡ length groups.old.items }
-    ensures inside { OnOk result ((k : ℕ) (d : Vec Aimed Global) → k < length groups.old.items → first ≤ k → k < first + count → (get_or groups.new.items k d).items ≡ (get_or groups.old.items k d).items ++ aim.entry ∷ []) }
-    ensures before { OnOk result ((k : ℕ) (d : Vec Aimed Global) → k < first → (get_or groups.new.items k d).items ≡ (get_or groups.old.items k d).items) }
-    ensures behind { OnOk result ((k : ℕ) (d : Vec Aimed Global) → first + count ≤ k → (get_or groups.new.items k d).items ≡ (get_or groups.old.items k d).items) }
+    ensures inside { OnOk result ((k : ℕ) (d : List Aimed) → k < length groups.old.items → first ≤ k → k < first + count → get_or groups.new.items k d ≡ get_or groups.old.items k d ++ aim.entry ∷ []) }
+    ensures before { OnOk result ((k : ℕ) (d : List Aimed) → k < first → get_or groups.new.items k d ≡ get_or groups.old.items k d) }
+    ensures behind { OnOk result ((k : ℕ) (d : List Aimed) → first + count ≤ k → get_or groups.new.items k d ≡ get_or groups.old.items k d) }
 {
     let end = first.saturating_add(count).min(groups.len());
     for index in first..end {
-        groups[index].push(aim)?;
+        groups[index].push(alloc, aim)?;
     }
     Ok(())
 }
@@ -84,17 +85,17 @@ pub fn grouped<'a>(
     alloc: Global,
     aims: &[Aimed<'a>],
     count: usize,
-) -> Result<Vec<Vec<Aimed<'a>>>, AllocError>
+) -> Result<Vec<Group<'a>>, AllocError>
     ensures size { IfOk result (λ v. length v.items ≡ count) }
-    ensures groups { IfOk result (λ v. (k : ℕ) (d : Vec Aimed Global) → k < count → (get_or v.items k d).items ≡ filter (concerns k) aims.now) }
+    ensures groups { IfOk result (λ v. (k : ℕ) (d : List Aimed) → k < count → get_or v.items k d ≡ filter (concerns k) aims.now) }
 {
     let mut groups = Vec::new(alloc);
     for _ in 0..count {
-        groups.push(Vec::new(alloc))?;
+        groups.push(Group::new())?;
     }
     for aim in aims {
         let (first, reach) = aim.reach();
-        push_into(&mut groups, *aim, first, reach)?;
+        push_into(alloc, &mut groups, *aim, first, reach)?;
     }
     Ok(groups)
 }

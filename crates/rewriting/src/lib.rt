@@ -3,6 +3,9 @@
 
 mod aim_list;
 mod aimed;
+mod few;
+mod group;
+mod lone;
 mod mark;
 mod marked;
 mod pass;

@@ -69,7 +69,8 @@ fn count_for_top(aims: &[Aimed], counts: &[usize]) -> Result<usize, AllocError>
 pub fn extended(alloc: Global, path: &[usize], slot: usize) -> Result<Vec<usize>, AllocError>
     ensures { IfOk result (λ v. v.items ≡ path.now ++ slot ∷ []) }
 {
-    let mut longer = Vec::from_slice(alloc, path)?;
+    let mut longer = Vec::with_capacity(alloc, path.len().saturating_add(1))?;
+    longer.extend_from_slice(path)?;
     longer.push(slot)?;
     Ok(longer)
 }

@@ -14,7 +14,7 @@ loop-aim-preserved c = record {
   size = c.in_ok-push_into.ensures.size ∙ c.loop-aim.invariant.size;
   groups = λ k d l.
       let inside : k < length c.loop-aim.groups.items = omega (arith, c.loop-aim.invariant.size) in
-      grow k (get_or c.loop-aim.groups.items k d).items (get_or c.push_into.new.groups.items k d).items (take c.loop-aim.aim-index c.args.aims.now) (take (c.loop-aim.aim-index + 1) c.args.aims.now) _ _ _
+      grow k (get_or c.loop-aim.groups.items k d) (get_or c.push_into.new.groups.items k d) (take c.loop-aim.aim-index c.args.aims.now) (take (c.loop-aim.aim-index + 1) c.args.aims.now) _ _ _
       (take_more c.args.aims.now c.loop-aim.aim-index _ c.loop-aim-test.true)
       (c.loop-aim.invariant.groups k d l)
       (λ u v. c.in_ok-push_into.ensures.inside k d inside u v)

@@ -1,6 +1,5 @@
-use Rattle.std.proofs.Common.{◌≡◌, ℕ, ◌<◌, [], length, get_or, take, Vec}
+use Rattle.std.proofs.Common.{List, ◌≡◌, ℕ, ◌<◌, [], length, get_or, take}
 use Rattle.std.specs.List.{filter}
-use Rattle.std.specs.Global.{Global}
 use Rattle.rewriting.specs.declared.aimed.Aimed.{Aimed}
 use Rattle.rewriting.specs.Groups.{concerns}
 use Rattle.rewriting.proofs.aim_list.grouped.Given as goal
@@ -8,11 +7,11 @@ use Rattle.rewriting.proofs.aim_list.grouped.Given as goal
 abbrev pub invariant-loop : goal.invariant-loop
 invariant-loop l = record {
   size : length l.groups.items ≡ l.counter;
-  empty : (k : ℕ) (d : Vec Aimed Global) → k < l.counter → (get_or l.groups.items k d).items ≡ [];
+  empty : (k : ℕ) (d : List Aimed) → k < l.counter → get_or l.groups.items k d ≡ [];
 }
 
 abbrev pub invariant-loop-aim : goal.invariant-loop-aim
 invariant-loop-aim l = record {
   size : length l.groups.items ≡ l.count;
-  groups : (k : ℕ) (d : Vec Aimed Global) → k < l.count → (get_or l.groups.items k d).items ≡ filter (concerns k) (take l.aim-index l.aims);
+  groups : (k : ℕ) (d : List Aimed) → k < l.count → get_or l.groups.items k d ≡ filter (concerns k) (take l.aim-index l.aims);
 }
