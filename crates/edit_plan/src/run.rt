@@ -1,5 +1,6 @@
-ghost use Rattle.std.specs.Prelude.{◌≡◌, ◌+◌, ℕ, [], ◌∷◌, map, length, All, Some, IfOk, IfErr, IfSome, OnOk, OnErr};
-ghost use Rattle.cst_core.specs.Green.{branch_tree};
+ghost use Rattle.std.specs.Prelude.{◌≡◌, ◌+◌, ◌<◌, ℕ, [], ◌∷◌, map, length, All, Some, IfOk, IfErr, IfSome, OnOk, OnErr};
+ghost use Rattle.cst_core.specs.Green.{branch_tree, length_limit};
+ghost use Rattle.cst_core.specs.Tree.{text_length};
 ghost use Rattle.cst_core.specs.Element.{Element, IsElement, element_at, subtree};
 ghost use Rattle.cst_core.specs.GreenElement.{element_trees};
 ghost use Rattle.cst_core.specs.SyntaxElement.{syntax_at};
@@ -201,6 +202,7 @@ impl EditPlan {
     /// `TooLong` comes first, then `NoTreeNumber`, then `Memory`; none of them draws a number. The old tree is as it was.
     pub fn run(&self, alloc: Global, ids: &mut TreeIds) -> Result<SyntaxEdit, EditError>
         ensures ok { IfOk result (Makes self.now ids.old) }
+        ensures short { IfOk result (λ e. text_length e.new_root.root < length_limit) }
         ensures drawn { OnOk result (ids.new ≡ ids.old + 1) }
         ensures refused { IfErr result (RunRefuses self.now ids.old) }
         ensures err { OnErr result (ids.new ≡ ids.old) }

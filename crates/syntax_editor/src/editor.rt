@@ -1,6 +1,8 @@
-ghost use Rattle.std.specs.Prelude.{◌≡◌, ◌↔◌, ◌+◌, cond, [], Some, IsTrue, IfOk, IfErr, OnOk, OnErr};
+ghost use Rattle.std.specs.Prelude.{◌≡◌, ◌↔◌, ◌+◌, ◌<◌, cond, [], Some, IsTrue, IfOk, IfErr, OnOk, OnErr};
 ghost use Rattle.cst_core.specs.TreeIds.{IsSpent};
-ghost use Rattle.edit_plan.specs.Building.{Makes, BuildRefuses};
+ghost use Rattle.cst_core.specs.Green.{length_limit};
+ghost use Rattle.cst_core.specs.Tree.{text_length};
+ghost use Rattle.edit_plan.specs.Building.{Makes, IsPlan, BuildRefuses};
 ghost use Rattle.std.specs.Borrow.{sem};
 ghost use Rattle.syntax_editor.specs.Lending.{LendsFactory};
 ghost use Rattle.syntax_editor.specs.Editor.{has_parent, edited_root, plan_of, FinishRefuses};
@@ -119,7 +121,9 @@ impl SyntaxEditor {
     /// `Intersecting` comes first, then `MissingMapping`, then `TooLong`, then `NoTreeNumber`, then `Memory`. None of them draws a
     /// number, and nothing is handed back; the old tree is as it was.
     pub fn finish(self, alloc: Global, ids: &mut TreeIds) -> Result<SyntaxEdit, EditError>
+        ensures planned { OnOk result (IsPlan (plan_of self)) }
         ensures ok { IfOk result (Makes (plan_of self) ids.old) }
+        ensures short { IfOk result (λ e. text_length e.new_root.root < length_limit) }
         ensures drawn { OnOk result (ids.new ≡ ids.old + 1) }
         ensures refused { IfErr result (FinishRefuses self ids.old) }
         ensures err { OnErr result (ids.new ≡ ids.old) }

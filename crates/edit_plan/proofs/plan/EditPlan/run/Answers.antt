@@ -1,5 +1,6 @@
-use Rattle.std.proofs.Common.{◌≡◌, [], map, Err, Some, sym, ◌∙◌, ap, subst}
-use Rattle.cst_core.specs.Green.{branch_tree}
+use Rattle.std.proofs.Common.{◌≡◌, ◌<◌, [], map, Err, Some, sym, ◌∙◌, ap, subst}
+use Rattle.cst_core.specs.Green.{branch_tree, length_limit}
+use Rattle.cst_core.specs.Tree.{text_length}
 use Rattle.cst_core.specs.SyntaxElement.{syntax_at}
 use Rattle.rewriting.specs.Topmost.{paths_of}
 use Rattle.edit_plan.specs.Building.{IsRewritten, RunRefuses}
@@ -40,3 +41,6 @@ returns-clause-ok c =
     let root = c.in_ok-new_root.new_root in
     let own : c.new-own.result ≡ c.args.ids.now = c.new-own.ensures ∙ c.next_number.ensures in
     makes c.args.self.now rewritten.green (paths_of rewritten.changed.items) (map annotated_path rewritten.annotated.items) c.in_ok-green.ensures c.args.ids.now _ (c.in_ok-old_root.ensures ∙ ap (λ x. x.root) c.self.view_is) (c.in_ok-new_root.ensures.ok ∙ ap (λ n. record { number = n; root = branch_tree rewritten.green; path = [] }) own) (c.in_ok-changed.ensures ∙ ap (λ ps. map (syntax_at root) (paths_of ps)) c.deref.ensures.value) (λ a. ap (map (λ x. Some x)) (found-in c.in_ok-annotated.annotated.lists.entries a) ∙ c.in_ok-annotated.ensures a ∙ ap (λ ns. map (syntax_at root) (paths_with a (map annotated_path ns))) c.deref-2.ensures.value)
+
+pub returns-clause-short : goal.returns-clause-short
+returns-clause-short c = subst (λ e. text_length e.root < length_limit) c.new_root-2.view_is c.new_root-2.invariant.fits
