@@ -127,7 +127,8 @@ fn copies_from(
 /// owns, and the aims are those of the changes without an owner.
 ///
 /// Goes only where aims and registered elements are: takes time as the passes through the payloads and the old tree do, for each
-/// registered element what is quadratic in the length of its path, and for each copy the length of its path.
+/// registered element what is quadratic in the length of its path, and for each copy the length of its path. Where nothing is
+/// registered it goes nowhere.
 pub(crate) fn copies(
     alloc: Global,
     root: &SyntaxNode,
@@ -141,6 +142,9 @@ pub(crate) fn copies(
     ensures long { IfOk result (λ v. length v.items ≡ length registered.now) }
     ensures copies { IfOk result (λ v. (places : ℕ → Path) (made : OriginTree) → AreDependents changes.now places dependents.now → new_tree changes.now places root.now ≡ made ∷ [] → path_lists v.items ≡ map (λ e. copies_of made (address (element_of e))) registered.now) }
 {
+    if registered.is_empty() {
+        return Ok(Vec::new(alloc));
+    }
     let index = SoughtIndex::of(alloc, registered)?;
     let given = given_marks(alloc, changes, dependents, &index)?;
     let lists = copies_from(alloc, root, aims, registered, &index, &given)?;
