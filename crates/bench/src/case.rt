@@ -1,6 +1,7 @@
 //! What is edited, and by which changes.
 use crate::edits;
 use crate::nested::{self, Nest};
+use crate::notes::{self, Noted};
 use crate::prepared::Prepared;
 use anyhow::Result;
 use cst_core::TreeIds;
@@ -28,6 +29,8 @@ pub(crate) enum Case {
     },
     /// Chains of blocks, each block wrapped and inserted into.
     Nested(Nest),
+    /// Literals that are registered with annotations, and inserts.
+    Noted(Noted),
 }
 
 impl Subject {
@@ -50,6 +53,7 @@ impl Case {
                 step,
             } => edits::prepared(alloc, ids, subject, size, step),
             Case::Nested(nest) => nested::prepared(alloc, ids, nest),
+            Case::Noted(noted) => notes::prepared(alloc, ids, noted),
         }
     }
 
@@ -67,6 +71,12 @@ impl Case {
                     wraps,
                 } = nest;
                 Ok(format!(in alloc; "blocks, wrapped {wraps} times, {chains} chains of {depth}")?)
+            }
+            Case::Noted(Noted::List(size)) => Ok(format!(in alloc;
+                "notes, inserts, {size} parts"
+            )?),
+            Case::Noted(Noted::Payload { notes, times }) => {
+                Ok(format!(in alloc; "payload of {notes} notes, brought {times} times")?)
             }
         }
     }

@@ -17,7 +17,8 @@ pub(crate) fn leaf(alloc: Global) -> Result<GreenNode> {
     Ok(GreenNode::new(alloc, SyntaxKind::LITERAL, children)?)
 }
 
-fn flat(alloc: Global, size: usize) -> Result<GreenNode> {
+/// So many literals below one node.
+pub(crate) fn flat(alloc: Global, size: usize) -> Result<GreenNode> {
     let mut children = Vec::new(alloc);
     for _ in 0..size {
         children.push(GreenElement::Node(leaf(alloc)?))?;

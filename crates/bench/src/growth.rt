@@ -1,6 +1,7 @@
 //! How long edits take, and how that grows.
 use crate::case::{Case, Subject};
 use crate::nested::Nest;
+use crate::notes::Noted;
 use crate::prepared::{Call, Prepared};
 use anyhow::Result;
 use cst_core::TreeIds;
@@ -35,6 +36,12 @@ enum Growth {
     Payloads,
     /// The blocks of a chain, with as many fewer chains.
     Depth,
+    /// The literals of a list, each with a note and an insert.
+    Notes,
+    /// The notes of a payload that is brought sixteen times.
+    PayloadNotes,
+    /// The times that a payload of 4,096 notes is brought.
+    Times,
 }
 
 /// How many changes were recorded, how many bytes the new text has, and how many seconds it took to record the changes, to
@@ -57,6 +64,9 @@ impl Growth {
             Growth::Chains => "chains",
             Growth::Payloads => "payloads",
             Growth::Depth => "depth",
+            Growth::Notes => "notes",
+            Growth::PayloadNotes => "payload's notes",
+            Growth::Times => "times",
         }
     }
 
@@ -95,6 +105,15 @@ impl Growth {
                     wraps: 1,
                 })
             }
+            Growth::Notes => Case::Noted(Noted::List(number)),
+            Growth::PayloadNotes => Case::Noted(Noted::Payload {
+                notes: number / 8,
+                times: 16,
+            }),
+            Growth::Times => Case::Noted(Noted::Payload {
+                notes: MOST / 8,
+                times: number / LEAST,
+            }),
         }
     }
 }
@@ -144,8 +163,8 @@ fn run<R: Clock>(rt: &R, alloc: Global, ids: &mut TreeIds, plan: &EditPlan) -> R
 fn measured<R: Clock>(rt: &R, alloc: Global, case: Case) -> Result<Figures> {
     let mut ids = TreeIds::new(1);
     let Prepared { mut editor, calls } = case.prepared(alloc, &mut ids)?;
-    let changes = calls.len();
     let recorded = record(rt, alloc, calls, &mut editor)?;
+    let changes = editor.changes().len();
     let (plan, planned) = plan(rt, alloc, editor)?;
     let (bytes, run) = run(rt, alloc, &mut ids, &plan)?;
     Ok(Figures {
@@ -218,7 +237,14 @@ pub(crate) fn report_growth<R: Print + Clock>(rt: &R, alloc: Global) -> Result<(
             grown(rt, alloc, growth)?;
         }
     }
-    for growth in [Growth::Chains, Growth::Payloads, Growth::Depth] {
+    for growth in [
+        Growth::Chains,
+        Growth::Payloads,
+        Growth::Depth,
+        Growth::Notes,
+        Growth::PayloadNotes,
+        Growth::Times,
+    ] {
         grown(rt, alloc, growth)?;
     }
     Ok(())
@@ -231,6 +257,8 @@ pub(crate) fn report_edits<R: Print + Clock>(rt: &R, alloc: Global) -> Result<()
         Growth::Both(Subject::Statements),
         Growth::Both(Subject::Leaves),
         Growth::Chains,
+        Growth::Notes,
+        Growth::PayloadNotes,
     ] {
         let case = growth.case(LEAST);
         let figures = measured(rt, alloc, case)?;

@@ -6,6 +6,7 @@ mod case;
 mod edits;
 mod growth;
 mod nested;
+mod notes;
 mod prepared;
 
 use crate::growth::{report_edits, report_growth};

@@ -3,13 +3,14 @@ use anyhow::Result;
 use cst_core::{SyntaxNode, TreeIds};
 use edit_map::SyntaxMapping;
 use std::alloc::Global;
-use syntax_editor::{Position, SyntaxEditor};
+use syntax_editor::{Position, SyntaxAnnotation, SyntaxEditor};
 
-/// A call that records a change.
+/// A call that records a change, or a registration.
 #[derive(Drop)]
 pub(crate) enum Call {
     Insert(Position, SyntaxNode),
     Replace(SyntaxNode, SyntaxNode),
+    Annotate(SyntaxNode, SyntaxAnnotation),
 }
 
 /// An editor, and the calls to be made.
@@ -25,6 +26,9 @@ impl Call {
         match self {
             Call::Insert(position, new) => editor.insert(alloc, position, new)?,
             Call::Replace(target, new) => editor.replace(alloc, target, new)?,
+            Call::Annotate(element, annotation) => {
+                editor.add_annotation(alloc, element, annotation)?
+            }
         }
         Ok(())
     }

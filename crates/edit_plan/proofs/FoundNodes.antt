@@ -1,41 +1,48 @@
--- The node that is found again, among the nodes of a tree in document order.
---     is_like                        a node has the kind of an old one and starts where that one does
---     find-like                      the first one of the nodes at or below a root is the one found again
-use Rattle.std.specs.Prelude.{◌≡◌, Bool, true, false, not, cond, nat_eq, ◌&&◌, List, [], ◌∷◌, map, filter, find, Option, Some, None, option_map, unwrap_or, refl}
+-- The node that is found again, by its path.
+--     as-found                      the first node of the old one's kind and start is the one found again
+--     node-found                    its path leads from a root to a node
+use Rattle.std.specs.Prelude.{◌≡◌, ℕ, ◌+◌, Bool, true, false, not, cond, nat_eq, ◌&&◌, List, [], ◌∷◌, ◌++◌, filter, find, Option, Some, None, option_map, option_and_then, refl}
 use Rattle.std.specs.Option.{option_map_or}
-use Rattle.std.proofs.Common.{ap, sym, ◌∙◌}
+use Rattle.std.proofs.Common.{ap, ap₂, sym, arith, ◌∙◌}
 use Rattle.std.proofs.lemmas.Bool.{false≢true}
 use Rattle.cst_core.specs.Path.{Path}
-use Rattle.cst_core.specs.Tree.{SyntaxTree, Token, at, label, is_token, paths}
-use Rattle.cst_core.specs.Order.{start}
-use Rattle.cst_core.specs.Element.{Element, subtree, element_at, root_of}
-use Rattle.cst_core.specs.SyntaxElement.{descendants_of}
+use Rattle.cst_core.specs.Tree.{SyntaxTree, Token, Node, at, label, is_token, paths}
+use Rattle.cst_core.specs.Order.{node_paths, start}
+use Rattle.cst_core.specs.Element.{Element, subtree, element_at}
+use Rattle.cst_core.specs.SyntaxElement.{node_of, syntax_as, syntax_at}
+use Rattle.edit_plan.specs.FirstNode.{starts_as, first_from}
 use Rattle.edit_plan.specs.Results.{stands_like, found}
 
-abbrev pub is_like : Element → Element → Bool
-is_like old e = nat_eq (label (subtree e)) (label (subtree old)) && nat_eq (start e.root e.path) (start old.root old.path)
+find-same : {X : Type 0} (g h : X → Bool) (xs : List X) → ((x : X) → g x ≡ h x) → find g xs ≡ find h xs
+find-same g h [] e = refl
+find-same g h (x ∷ xs) e = ap₂ (λ b r. cond b (Some x) r) (e x) (find-same g h xs e)
 
-module _ (old e : Element) where
-  -- where the path leads somewhere, the tests of a node and of its path agree
-  like-there : (p : Path) (o : Option SyntaxTree) → at e.root p ≡ o → option_map_or (λ t. not (is_token t)) o false ≡ true → is_like old (element_at e p) ≡ stands_like old e.root p
-  like-there p None there none = absurd (false≢true none)
-  like-there p (Some t) there some =
-      ap (λ o. nat_eq (label (unwrap_or o (Token 0 []))) (label (subtree old)) && nat_eq (start e.root p) (start old.root old.path)) there
-      ∙ sym (ap (λ o. option_map_or (λ d. nat_eq (label d) (label (subtree old))) o false && nat_eq (start e.root p) (start old.root old.path)) there)
+found-passes : {X : Type 0} (g h : X → Bool) (xs : List X) (x : X) → find g (filter h xs) ≡ Some x → h x ≡ true
+found-passes g h [] x is = absurd (cc)
+found-passes g h (y ∷ xs) x is =
+    (elim (h y) as (λ b. h y ≡ b → find g (cond b (y ∷ filter h xs) (filter h xs)) ≡ Some x → h x ≡ true) [
+      | true ↦ λ passes. elim (g y) as (λ b. cond b (Some y) (find g (filter h xs)) ≡ Some x → h x ≡ true) [
+        | true ↦ λ same. (let s : y ≡ x = cc in ap h (sym s) ∙ passes)
+        | false ↦ λ rest. found-passes g h xs x rest
+      ]
+      | false ↦ λ _. λ rest. found-passes g h xs x rest
+    ]) refl is
 
-  one-more : (p : Path) (b c : Bool) → b ≡ c → (xs : List Element) (ps : List Path) → find (is_like old) xs ≡ option_map (element_at e) (find (stands_like old e.root) ps) → is_like old (element_at e p) ≡ b → stands_like old e.root p ≡ c → find (is_like old) (element_at e p ∷ xs) ≡ option_map (element_at e) (find (stands_like old e.root) (p ∷ ps))
-  one-more p b c same xs ps rest is is' =
-      ap (λ d. cond d (Some (element_at e p)) (find (is_like old) xs)) (is ∙ same)
-      ∙ (elim c as (λ d. cond d (Some (element_at e p)) (find (is_like old) xs) ≡ option_map (element_at e) (cond d (Some p) (find (stands_like old e.root) ps))) [ true ↦ refl | false ↦ rest ])
-      ∙ ap (λ d. option_map (element_at e) (cond d (Some p) (find (stands_like old e.root) ps))) (sym is')
+pub as-found : (old e : Element) (t : SyntaxTree) (kind begin : ℕ) (r : Option Path) → e.path ≡ [] → t ≡ subtree e → kind ≡ label (subtree old) → begin ≡ start old.root old.path → r ≡ first_from kind 0 begin t → r ≡ found old e.root
+as-found old e t kind begin r top tree same starts is =
+    let whole : t ≡ e.root = tree ∙ ap (λ p. subtree (element_at e p)) top in
+    let tests : (p : Path) → starts_as kind 0 begin e.root p ≡ stands_like old e.root p = λ p.
+    let zero_more : 0 + start e.root p ≡ start e.root p = omega arith in
+    ap₂ (λ k b. option_map_or (λ d. nat_eq (label d) k) (at e.root p) false && nat_eq (0 + start e.root p) b) same starts
+    ∙ ap (λ n. option_map_or (λ d. nat_eq (label d) (label (subtree old))) (at e.root p) false && nat_eq n (start old.root old.path)) zero_more in
+    is ∙ ap (first_from kind 0 begin) whole ∙ find-same (starts_as kind 0 begin e.root) (stands_like old e.root) (node_paths e.root) tests
 
-  find-paths : (ps : List Path) → find (is_like old) (map (element_at e) (filter (λ p. option_map_or (λ t. not (is_token t)) (at e.root p) false) ps)) ≡ option_map (element_at e) (find (stands_like old e.root) (filter (λ p. option_map_or (λ t. not (is_token t)) (at e.root p) false) ps))
-  find-paths [] = refl
-  find-paths (p ∷ ps) =
-      (elim (option_map_or (λ t. not (is_token t)) (at e.root p) false) as (λ b. option_map_or (λ t. not (is_token t)) (at e.root p) false ≡ b → find (is_like old) (map (element_at e) (cond b (p ∷ filter (λ p. option_map_or (λ t. not (is_token t)) (at e.root p) false) ps) (filter (λ p. option_map_or (λ t. not (is_token t)) (at e.root p) false) ps))) ≡ option_map (element_at e) (find (stands_like old e.root) (cond b (p ∷ filter (λ p. option_map_or (λ t. not (is_token t)) (at e.root p) false) ps) (filter (λ p. option_map_or (λ t. not (is_token t)) (at e.root p) false) ps)))) [
-        | true ↦ λ node. one-more p (is_like old (element_at e p)) (stands_like old e.root p) (like-there p (at e.root p) refl node) _ _ (find-paths ps) refl refl
-        | false ↦ λ _. find-paths ps
-      ]) refl
+there : (e : Element) (p : Path) (o : Option SyntaxTree) → option_map_or (λ c. not (is_token c)) o false ≡ true → option_and_then node_of (option_map (λ t. syntax_as t (element_at e p)) o) ≡ Some (element_at e p)
+there e p None node = absurd (false≢true node)
+there e p (Some (Token k s)) node = absurd (false≢true node)
+there e p (Some (Node k f)) node = refl
 
-  pub find-like : find (is_like old) (descendants_of (root_of e)) ≡ option_map (element_at e) (found old e.root)
-  find-like = find-paths (paths e.root)
+pub node-found : (old e : Element) (p : Path) (r : Option Element) → e.path ≡ [] → Some p ≡ found old e.root → r ≡ option_and_then node_of (syntax_at e (e.path ++ p)) → r ≡ option_map (element_at e) (found old e.root)
+node-found old e p r top is leads =
+    let node = found-passes (stands_like old e.root) (λ q. option_map_or (λ c. not (is_token c)) (at e.root q) false) (paths e.root) p (sym is) in
+    leads ∙ ap (λ q. option_and_then node_of (syntax_at e (q ++ p))) top ∙ there e p (at e.root p) node ∙ ap (option_map (element_at e)) is

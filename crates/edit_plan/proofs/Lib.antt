@@ -38,6 +38,7 @@ mod Registered
 mod ByLevel
 mod MarksFilled
 mod CopiesFound
+mod FirstNode
 mod FoundNodes
 mod ByAnnotation
 mod Told

@@ -2,15 +2,17 @@
 --     Plan, IsPlan                  the root, the changes, the registrations (elements with annotations) and the mapping; what is true of every plan
 --     BuildRefuses                  why a plan is not built
 --     Edit                          the old root, the new root, the changed elements, and for annotations the elements that are found
+--     IsNewRoot                     a root whose text is within the limit
 --     Makes                         the edit is what the plan makes of the old tree, under a tree number
 --     registered                    registrations, by the values of their elements
 --     TellsOf                       equal tree numbers have equal trees, as far as a registered element and the mapping go
 --     WouldMake, IsRewritten        the tree that a plan makes; its form without origins, and the changed and the annotated paths in it
 --     RunRefuses                    why a plan is not carried out, where this is the next tree number
-use Rattle.std.specs.Prelude.{◌≡◌, ℕ, List, [], ◌∷◌, map, Some, None, All, refl}
+use Rattle.std.specs.Prelude.{◌≡◌, ◌<◌, ℕ, List, [], ◌∷◌, map, Some, None, All, refl}
 use Rattle.std.specs.Coded.{Coded, code_by, coded_ℕ, coded_list, coded×}
 use Rattle.cst_core.specs.Path.{Path}
-use Rattle.cst_core.specs.Tree.{SyntaxTree}
+use Rattle.cst_core.specs.Tree.{SyntaxTree, text_length}
+use Rattle.cst_core.specs.Green.{length_limit}
 use Rattle.cst_core.specs.Element.{Address, Element, IsNode, NumbersTell, address, element_code}
 use Rattle.cst_core.specs.SyntaxElement.{element_of, syntax_at}
 use Rattle.cst_core.specs.TreeIds.{IsSpent}
@@ -62,6 +64,10 @@ pub record Edit : Type 0 where
 
 abbrev pub edit_code : Coded Edit
 edit_code = code_by (Element × (Element × (List SyntaxElement × List (ℕ × List SyntaxElement)))) (coded× element_code (coded× element_code (coded× (coded_list syntax_element_code) (coded_list (coded× coded_ℕ (coded_list syntax_element_code)))))) (λ e. (e.old_root, (e.new_root, (e.changed, e.annotated)))) (λ q. record { old_root = q.0; new_root = q.1.0; changed = q.1.1.0; annotated = q.1.1.1 }) (λ _. refl)
+
+pub record IsNewRoot (e : Element) : Type 0 where
+  pub is_root : e.path ≡ []
+  pub fits : text_length e.root < length_limit
 
 abbrev pub registered : List (SyntaxElement × ℕ) → List (Element × ℕ)
 registered rs = map (λ r. (element_of r.0, r.1)) rs

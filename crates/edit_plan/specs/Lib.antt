@@ -8,6 +8,7 @@ pub mod Fits
 pub mod Nesting
 pub mod Rewriting
 pub mod Results
+pub mod FirstNode
 pub mod Plan
 pub mod Schedule
 pub mod Effort

@@ -5,6 +5,7 @@ ghost use Rattle.edit_plan.specs.AnnotationTable.{found_for};
 
 use crate::annotation::SyntaxAnnotation;
 use crate::annotation_table::AnnotationTable;
+use crate::first_node::first_node;
 use cst_core::{SyntaxElement, SyntaxNode};
 use std::alloc::{AllocError, Global};
 use std::marker::Model;
@@ -27,6 +28,10 @@ impl Model for SyntaxEdit {
     ghost coded = { edit_code };
 
     ghost view = { λ a. record { old_root = a.old_root; new_root = a.new_root; changed = a.changed.items; annotated = entries_of a.annotated.lists.entries } };
+
+    ghost use Rattle.edit_plan.specs.Building.{IsNewRoot};
+
+    ghost invariant = { λ a. IsNewRoot a.new_root };
 }
 
 impl SyntaxEdit {
@@ -64,6 +69,8 @@ impl SyntaxEdit {
 
     /// The first node of the new tree in document order, its root included, that has the kind of `old` and starts where that one
     /// does, each start counted from the start of its own tree's text.
+    ///
+    /// Takes time linear in the children of the nodes that have that start in them or at one of their ends.
     pub fn find_element(
         &self,
         alloc: Global,
@@ -71,13 +78,13 @@ impl SyntaxEdit {
     ) -> Result<Option<SyntaxNode>, AllocError>
         ensures { IfOk result (λ r. r ≡ option_map (element_at self.now.new_root) (found old.now self.now.new_root.root)) }
     {
-        let (kind, start) = (old.kind(), old.text_start());
-        let nodes = self.new_root.tree_top(alloc)?.descendants(alloc)?;
-        for node in nodes {
-            if node.kind() == kind && node.text_start() == start {
-                return Ok(Some(node));
-            }
+        let root = self.new_root.as_green();
+        let Some(path) = first_node(alloc, root, old.kind(), old.text_start())? else {
+            return Ok(None);
+        };
+        match self.new_root.element_at(alloc, &path)? {
+            Some(element) => Ok(element.into_node()),
+            None => unreachable!(),
         }
-        Ok(None)
     }
 }

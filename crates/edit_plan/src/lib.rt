@@ -14,6 +14,7 @@ mod edit_error;
 mod element_like;
 mod element_list;
 mod fate;
+mod first_node;
 mod fits;
 mod given;
 pub mod laws;

@@ -1,0 +1,88 @@
+//! Literals that are registered with annotations, each with one of its own.
+use crate::edits::{flat, leaf};
+use crate::prepared::{Call, Prepared, editor_with};
+use anyhow::{Context, Result};
+use cst_core::{SyntaxNode, TreeIds};
+use edit_map::SyntaxMapping;
+use std::alloc::Global;
+use syntax_editor::{Annotations, Position};
+
+/// Which literals are registered, and what is edited.
+#[derive(Clone, Copy)]
+pub(crate) enum Noted {
+    /// So many literals below one node, behind each of which another one is inserted.
+    List(usize),
+    /// So many literals of a payload, which is inserted so many times.
+    Payload { notes: usize, times: usize },
+}
+
+// The registration of each child of a root.
+fn annotate(alloc: Global, root: &SyntaxNode, calls: &mut Vec<Call>) -> Result<()> {
+    let mut annotations = Annotations::new(1);
+    for literal in root.children(alloc)? {
+        let annotation = annotations.next().context("no annotation")?;
+        calls.push(Call::Annotate(literal, annotation))?;
+    }
+    Ok(())
+}
+
+// An insert of a payload behind a child.
+fn insert(alloc: Global, child: SyntaxNode, payload: SyntaxNode) -> Result<Call> {
+    let position = Position::after(alloc, child)?.context("no parent")?;
+    Ok(Call::Insert(position, payload))
+}
+
+// An insert of another literal behind each child of a root.
+fn insert_leaves(
+    alloc: Global,
+    ids: &mut TreeIds,
+    root: &SyntaxNode,
+    calls: &mut Vec<Call>,
+) -> Result<()> {
+    for child in root.children(alloc)? {
+        let new = SyntaxNode::new_root(alloc, ids, leaf(alloc)?)?;
+        calls.push(insert(alloc, child, new)?)?;
+    }
+    Ok(())
+}
+
+// An insert of a payload behind each child of a root.
+fn insert_payload(
+    alloc: Global,
+    root: &SyntaxNode,
+    payload: &SyntaxNode,
+    calls: &mut Vec<Call>,
+) -> Result<()> {
+    for child in root.children(alloc)? {
+        let new = payload.try_clone(alloc)?;
+        calls.push(insert(alloc, child, new)?)?;
+    }
+    Ok(())
+}
+
+fn list(alloc: Global, ids: &mut TreeIds, size: usize) -> Result<Prepared> {
+    let root = SyntaxNode::new_root(alloc, ids, flat(alloc, size)?)?;
+    let mut calls = Vec::new(alloc);
+    annotate(alloc, &root, &mut calls)?;
+    insert_leaves(alloc, ids, &root, &mut calls)?;
+    let editor = editor_with(alloc, ids, root, SyntaxMapping::new(alloc))?;
+    Ok(Prepared { editor, calls })
+}
+
+fn payload(alloc: Global, ids: &mut TreeIds, notes: usize, times: usize) -> Result<Prepared> {
+    let root = SyntaxNode::new_root(alloc, ids, flat(alloc, times)?)?;
+    let payload = SyntaxNode::new_root(alloc, ids, flat(alloc, notes)?)?;
+    let mut calls = Vec::new(alloc);
+    annotate(alloc, &payload, &mut calls)?;
+    insert_payload(alloc, &root, &payload, &mut calls)?;
+    let editor = editor_with(alloc, ids, root, SyntaxMapping::new(alloc))?;
+    Ok(Prepared { editor, calls })
+}
+
+/// The registrations, and the inserts.
+pub(crate) fn prepared(alloc: Global, ids: &mut TreeIds, noted: Noted) -> Result<Prepared> {
+    match noted {
+        Noted::List(size) => list(alloc, ids, size),
+        Noted::Payload { notes, times } => payload(alloc, ids, notes, times),
+    }
+}
