@@ -1,16 +1,21 @@
 -- Attributes and comments deleted, one after the other.
 --     first_removed                    what is removed of the first so many children
 --     one_removed, none_removed        one more child, which is removed; one that stays
+--     kind_there, kind_past            the kind in a slot of a shared node
+--     tested, untested                 a test of that kind
 --     removed_native                   what is not foreign is of the root's tree, and no root
 --     kept_fitting                     deleting elements of the tree keeps a list of changes of it, and their paths tell them
-use Rattle.std.proofs.Common.{◌≡◌, ℕ, zero, suc, ◌+◌, Bool, true, false, not, ◌||◌, List, [], ◌∷◌, ◌++◌, length, map, filter, Some, None, refl, ap, sym, ◌∙◌, subst, arith}
-use Rattle.std.specs.Prelude.{All, cond, unwrap_or}
+use Rattle.std.proofs.Common.{◌≡◌, ℕ, zero, suc, ◌+◌, Bool, true, false, not, ◌||◌, List, [], ◌∷◌, ◌++◌, length, map, filter, get_or, Option, Some, None, ◌<◌, ◌≤◌, refl, ap, sym, ◌∙◌, subst, arith}
+use Rattle.std.specs.Prelude.{All, cond, unwrap_or, option_map, slice_get}
+use Rattle.std.specs.Option.{option_map_or}
 use Rattle.std.specs.List.{fold, list_any}
 use Rattle.std.proofs.lemmas.Bool.{not-false, or_parts}
 use Rattle.std.proofs.lemmas.List.{map-append, append-nil}
 use Rattle.std.proofs.lemmas.List.Elements.{All-head, All-tail, All-cons, All-nil, filter-append}
 use Rattle.cst_core.specs.Path.{Path, same_path, counted_from}
-use Rattle.cst_core.specs.Tree.{SyntaxTree, Token, Node}
+use Rattle.std.proofs.lemmas.Option.{slice_get-map, slice_get_read, slice_get_past}
+use Rattle.cst_core.specs.Tree.{SyntaxTree, Token, Node, label, children, trees, forest}
+use Rattle.cst_core.specs.Green.{Branch, branch_tree}
 use Rattle.cst_core.specs.Element.{Element, subtree, below}
 use Rattle.cst_core.specs.SyntaxElement.{element_of, syntax_as, syntax_of}
 use Rattle.cst_core.specs.declared.element.SyntaxElement.{SyntaxElement}
@@ -51,6 +56,26 @@ module _ (e : Element) where
 
   pub none_removed : (n : ℕ) → is_removed (subtree e) n ≡ false → first_removed n ≡ first_removed (n + 1)
   none_removed n is = sym (more n false is ∙ append-nil (first_removed n))
+
+-- ---- kinds in slots
+trees-forest : (ts : List SyntaxTree) → trees (forest ts) ≡ ts
+trees-forest [] = refl
+trees-forest (t ∷ ts) = ap (λ us. t ∷ us) (trees-forest ts)
+
+module _ {E : Type 0} (tree_of : E → SyntaxTree) (b : Branch) (es : List E) (slot : ℕ) (same : map tree_of es ≡ b.children) where
+  pub kind_there : (e : E) (kind : ℕ) → slot < length es → e ≡ get_or es slot e → kind ≡ label (tree_of e) → Some kind ≡ option_map label (slice_get (children (branch_tree b)) slot)
+  kind_there e kind inside is kind_is = rw (kind_is, trees-forest b.children, ← same, slice_get-map, slice_get_read es (length es) slot e refl inside is) refl
+
+  pub kind_past : length es ≤ slot → None ≡ option_map label (slice_get (children (branch_tree b)) slot)
+  kind_past past = rw (trees-forest b.children, ← same, slice_get-map, slice_get_past es slot past) refl
+
+pub tested : (test : ℕ → Bool) (o : Option SyntaxTree) (kind : ℕ) → Some kind ≡ option_map label o → test kind ≡ option_map_or (λ c. test (label c)) o false
+tested test None kind is = cc
+tested test (Some t) kind is = ap test (ap (λ x. unwrap_or x kind) is)
+
+pub untested : (test : ℕ → Bool) (o : Option SyntaxTree) → None ≡ option_map label o → false ≡ option_map_or (λ c. test (label c)) o false
+untested test None is = refl
+untested test (Some t) is = cc
 
 -- ---- what is deleted is of the tree
 abbrev pub IsDeletable : Element → SyntaxElement → Type 0

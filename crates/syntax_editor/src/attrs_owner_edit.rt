@@ -1,7 +1,9 @@
 //! Attributes and comments of typed nodes.
-ghost use Rattle.std.specs.Prelude.{◌≡◌, ◌||◌, not, false, IfOk, IfErr, OnOk, OnErr};
+ghost use Rattle.std.specs.Prelude.{◌≡◌, ◌==◌, ◌∷◌, [], not, false, option_map, slice_get, IfOk, IfErr, OnOk, OnErr};
 ghost use Rattle.std.specs.List.{list_any};
+ghost use Rattle.cst_core.specs.Tree.{children, label};
 ghost use Rattle.cst_core.specs.Green.{branch_tree};
+ghost use Rattle.cst_core.specs.Kinds.{ATTR, COMMENT, DOC_COMMENT};
 ghost use Rattle.edit_plan.specs.Fits.{is_native};
 ghost use Rattle.syntax_editor.specs.AttrsAndDocs.{is_attr_or_doc, is_whitespace, is_removed, removed_children, remove_attrs_and_docs, is_foreign, RemovalRefuses};
 
@@ -63,9 +65,10 @@ fn has_foreign(root: &SyntaxNode, elements: &[SyntaxElement]) -> bool
 fn removed_children(alloc: Global, node: &SyntaxNode) -> Result<Vec<SyntaxElement>, AllocError>
     ensures { IfOk result (λ all. all.items ≡ removed_children node.now) }
 {
+    let green = node.as_green();
     let mut removed = Vec::new(alloc);
-    for slot in 0..node.as_green().children().len() {
-        if !is_removed(node.as_green(), slot) {
+    for slot in 0..green.children().len() {
+        if !is_removed(green, slot) {
             continue;
         }
         if let Some(child) = node.element_at(alloc, &[slot])? {
@@ -86,8 +89,8 @@ fn is_removed(node: &GreenNode, slot: usize) -> bool
 fn is_attr_or_doc(node: &GreenNode, slot: usize) -> bool
     ensures { result ≡ is_attr_or_doc (branch_tree node.now) slot }
 {
-    match node.children().get(slot) {
-        Some(child) => is_attr_or_doc_kind(child.kind()),
+    match kind_at(node, slot) {
+        Some(kind) => is_attr_or_doc_kind(kind),
         None => false,
     }
 }
@@ -95,9 +98,19 @@ fn is_attr_or_doc(node: &GreenNode, slot: usize) -> bool
 fn is_whitespace(node: &GreenNode, slot: usize) -> bool
     ensures { result ≡ is_whitespace (branch_tree node.now) slot }
 {
-    match node.children().get(slot) {
-        Some(child) => child.kind() == SyntaxKind::WHITESPACE,
+    match kind_at(node, slot) {
+        Some(kind) => kind == SyntaxKind::WHITESPACE,
         None => false,
+    }
+}
+
+// The kind of the child in a slot, if there is one.
+fn kind_at(node: &GreenNode, slot: usize) -> Option<SyntaxKind>
+    ensures { option_map (λ k. k.0) result ≡ option_map label (slice_get (children (branch_tree node.now)) slot) }
+{
+    match node.children().get(slot) {
+        Some(child) => Some(child.kind()),
+        None => None,
     }
 }
 
