@@ -27,7 +27,7 @@ use Rattle.syntax_editor.specs.Recording.{delete}
 use Rattle.syntax_editor.specs.RecordCall.{Deleting, refusal}
 use Rattle.syntax_editor.specs.declared.error.RecordError.TheVariants.{Foreign, DeletesRoot}
 use Rattle.syntax_editor.specs.Indexing.{delete_at, delete_each_at}
-use Rattle.syntax_editor.specs.AttrsAndDocs.{is_removed, removed_slots, removed_children, is_foreign}
+use Rattle.syntax_editor.specs.AttrsAndDocs.{is_removed, removed_slots, removed_children}
 use Rattle.syntax_editor.proofs.Fitting.{recorded_fits, native_number, no-line}
 use Rattle.syntax_editor.proofs.Indexed.{delete-by-path}
 
@@ -98,8 +98,8 @@ all_deletable root n (i ∷ slots) none =
     let parts = or_parts _ _ none in
     All-cons (IsDeletable root) (syntax_of (below n (i ∷ []))) (map (λ j. syntax_of (below n (j ∷ []))) slots) (not-false _ parts.0, below_top n i) (all_deletable root n slots parts.1)
 
-pub removed_native : (root n : Element) → is_foreign root n ≡ false → All (IsDeletable root) (removed_children n)
-removed_native root n none = all_deletable root n (removed_slots (subtree n)) (or_parts _ _ none).1
+pub removed_native : (root n : Element) → list_any (λ e. not (is_native root e)) (removed_children n) ≡ false → All (IsDeletable root) (removed_children n)
+removed_native root n none = all_deletable root n (removed_slots (subtree n)) none
 
 -- ---- one after the other
 module _ (root : Element) where
