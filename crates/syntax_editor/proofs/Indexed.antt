@@ -58,9 +58,9 @@ keyed items p (e ∷ es) =
     elim (cases_Bool (same_path p (items e.0))) [
       | inl same ↦ inr (e.0, same)
       | inr differ ↦ elim (keyed items p es) [
-          | inl none ↦ inl (cond-false (same_path p (items e.0)) _ _ differ ∙ none)
-          | inr known ↦ inr known
-        ]
+        | inl none ↦ inl (cond-false (same_path p (items e.0)) _ _ differ ∙ none)
+        | inr known ↦ inr known
+      ]
     ]
 
 pub path-kept : {K X S : Type 0} (m n : HashMap K X S) (items : K → Path) → ((q : K) → get_by (λ k. same_path (items q) (items k)) n ≡ get_by (λ k. same_path (items q) (items k)) m)
@@ -69,9 +69,9 @@ path-kept {K = K} m n items same p =
     elim (keyed items p m.entries) [
       | inr known ↦ at_key known
       | inl none ↦ elim (keyed items p n.entries) [
-          | inr known ↦ at_key known
-          | inl neither ↦ neither ∙ sym none
-        ]
+        | inr known ↦ at_key known
+        | inl neither ↦ neither ∙ sym none
+      ]
     ]
   where
     at_key : (k : K) × (same_path p (items k) ≡ true) → get_by (λ j. same_path p (items j)) n ≡ get_by (λ j. same_path p (items j)) m

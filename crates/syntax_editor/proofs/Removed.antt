@@ -5,7 +5,7 @@
 --     tested, untested                 a test of that kind
 --     removed_native                   what is not foreign is of the root's tree, and no root
 --     kept_fitting                     deleting elements of the tree keeps a list of changes of it, and their paths tell them
-use Rattle.std.proofs.Common.{◌≡◌, ℕ, zero, suc, ◌+◌, Bool, true, false, not, ◌||◌, List, [], ◌∷◌, ◌++◌, length, map, filter, get_or, Option, Some, None, ◌<◌, ◌≤◌, refl, ap, sym, ◌∙◌, subst, arith}
+use Rattle.std.proofs.Common.{◌≡◌, ℕ, suc, ◌+◌, Bool, true, false, not, List, [], ◌∷◌, ◌++◌, length, map, filter, get_or, Option, Some, None, ◌<◌, ◌≤◌, refl, ap, sym, ◌∙◌, arith}
 use Rattle.std.specs.Prelude.{All, cond, unwrap_or, option_map, slice_get}
 use Rattle.std.specs.Option.{option_map_or}
 use Rattle.std.specs.List.{fold, list_any}
@@ -17,16 +17,15 @@ use Rattle.std.proofs.lemmas.Option.{slice_get-map, slice_get_read, slice_get_pa
 use Rattle.cst_core.specs.Tree.{SyntaxTree, Token, Node, label, children, trees, forest}
 use Rattle.cst_core.specs.Green.{Branch, branch_tree}
 use Rattle.cst_core.specs.Element.{Element, subtree, below}
-use Rattle.cst_core.specs.SyntaxElement.{element_of, syntax_as, syntax_of}
+use Rattle.cst_core.specs.SyntaxElement.{syntax_as, syntax_of}
 use Rattle.cst_core.specs.declared.element.SyntaxElement.{SyntaxElement}
-use Rattle.cst_core.specs.declared.element.SyntaxElement.TheVariants as element
 use Rattle.cst_core.proofs.Children.{counted_more}
 use Rattle.edit_plan.specs.declared.change.Change.{Change}
 use Rattle.edit_plan.specs.Fits.{Fits, is_native, is_root}
 use Rattle.syntax_editor.specs.Recording.{delete}
 use Rattle.syntax_editor.specs.RecordCall.{Deleting, refusal}
 use Rattle.syntax_editor.specs.declared.error.RecordError.TheVariants.{Foreign, DeletesRoot}
-use Rattle.syntax_editor.specs.Indexing.{delete_at, delete_each_at}
+use Rattle.syntax_editor.specs.Indexing.{delete_each_at}
 use Rattle.syntax_editor.specs.AttrsAndDocs.{is_removed, removed_slots, removed_children}
 use Rattle.syntax_editor.proofs.Fitting.{recorded_fits, native_number, no-line}
 use Rattle.syntax_editor.proofs.Indexed.{delete-by-path}

@@ -1,4 +1,4 @@
-use Rattle.std.proofs.Common.{◌≡◌, Result, Ok, Err, OnOk, sym}
+use Rattle.std.proofs.Common.{Result, Ok, Err, OnOk, sym}
 use Rattle.std.proofs.lemmas.Bool.{true≢false}
 use Rattle.std.specs.Prelude.{IsOk}
 use Rattle.syntax_editor.proofs.Indexed.{path-updated}
