@@ -463,7 +463,8 @@ fn shown(alloc: Global, edit: &SyntaxEdit) -> Result<String, AllocError> {
     Ok(answer)
 }
 
-fn finished(alloc: Global, editor: SyntaxEditor) -> Result<String> {
+/// Carries the changes out: the text of the new tree and the changed paths.
+pub fn finished(alloc: Global, editor: SyntaxEditor) -> Result<String> {
     let mut ids = TreeIds::new(1000);
     let edit = editor.finish(alloc, &mut ids)?;
     Ok(shown(alloc, &edit)?)

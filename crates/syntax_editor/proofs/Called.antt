@@ -1,4 +1,6 @@
 -- An editor after a call, of what the call makes of its list.
+--     called          after a call that records
+--     exchanged       after any other one that changes the list alone
 use Rattle.std.specs.Prelude.{◌≡◌, ℕ, List, Option}
 use Rattle.std.proofs.Common.{ap, ◌∙◌}
 use Rattle.cst_core.specs.Element.{Element}
@@ -13,3 +15,6 @@ editor root registrations factory cs = record { root = root; changes = cs; regis
 
 pub called : (call : RecordCall) (root : Element) (registrations : List (SyntaxElement × ℕ)) (factory : Option Mapping) (cs ds : List Change) (e : Editor) → ds ≡ recorded call cs → editor root registrations factory cs ≡ e → editor root registrations factory ds ≡ after_call call e
 called call root registrations factory cs ds e list is = ap (editor root registrations factory) list ∙ ap (after_call call) is
+
+pub exchanged : (h : List Change → List Change) (root : Element) (registrations : List (SyntaxElement × ℕ)) (factory : Option Mapping) (cs ds : List Change) (e : Editor) → ds ≡ h cs → editor root registrations factory cs ≡ e → editor root registrations factory ds ≡ record e { changes = h e.changes }
+exchanged h root registrations factory cs ds e list is = ap (editor root registrations factory) list ∙ ap (λ (x : Editor). record x { changes = h x.changes }) is

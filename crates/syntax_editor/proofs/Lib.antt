@@ -19,3 +19,4 @@ mod Openings
 mod Restored
 mod Noted
 mod Merged
+mod Removed

@@ -1,9 +1,12 @@
 -- The attributes and comments of a node, each with the whitespace directly behind it.
 --     is_attr_or_doc            the child in a slot is an attribute or a comment
---     removed_slots             the slots of these, and of what is of kind WHITESPACE directly behind one
+--     is_removed                it is one, or is of the kind WHITESPACE directly behind one
+--     removed_slots             the slots of these
 --     removed_children          the children there
 --     remove_attrs_and_docs     the list of changes after their deletion, in order
-use Rattle.std.specs.Prelude.{ℕ, ◌-◌, ◌==◌, ◌&&◌, ◌||◌, Bool, false, List, [], ◌∷◌, length, map, filter, slice_get}
+--     is_foreign                the node, or one of these children, is not of the root's tree
+--     RemovalRefuses            why they are not deleted
+use Rattle.std.specs.Prelude.{◌≡◌, ℕ, ◌-◌, ◌==◌, ◌&&◌, ◌||◌, not, Bool, true, false, List, [], ◌∷◌, length, map, filter, slice_get}
 use Rattle.std.specs.List.{fold, list_any}
 use Rattle.std.specs.Option.{option_map_or}
 use Rattle.cst_core.specs.Path.{counted_from}
@@ -11,21 +14,40 @@ use Rattle.cst_core.specs.Tree.{SyntaxTree, children, label}
 use Rattle.cst_core.specs.Element.{Element, subtree, below}
 use Rattle.cst_core.specs.SyntaxElement.{syntax_of}
 use Rattle.cst_core.specs.declared.element.SyntaxElement.{SyntaxElement}
+use Rattle.cst_core.specs.declared.element.SyntaxElement.TheVariants.{Node}
 use Rattle.cst_core.specs.Kinds.{ATTR, COMMENT, DOC_COMMENT, WHITESPACE}
+use Rattle.edit_plan.specs.Fits.{is_native}
 use Rattle.edit_plan.specs.declared.change.Change.{Change}
 use Rattle.syntax_editor.specs.Recording.{delete}
+use Rattle.syntax_editor.specs.declared.error.RecordError.{RecordError}
+use Rattle.syntax_editor.specs.declared.error.RecordError.TheVariants as record_error
 
 abbrev pub is_attr_or_doc : SyntaxTree → ℕ → Bool
 is_attr_or_doc t i = option_map_or (λ c. list_any (λ k. label c == k.0) (ATTR ∷ COMMENT ∷ DOC_COMMENT ∷ [])) (slice_get (children t) i) false
 
-abbrev is_whitespace : SyntaxTree → ℕ → Bool
+abbrev pub is_whitespace : SyntaxTree → ℕ → Bool
 is_whitespace t i = option_map_or (λ c. label c == WHITESPACE.0) (slice_get (children t) i) false
 
+abbrev pub is_removed : SyntaxTree → ℕ → Bool
+is_removed t i = is_attr_or_doc t i || (is_whitespace t i && is_attr_or_doc t (i - 1))
+
 abbrev pub removed_slots : SyntaxTree → List ℕ
-removed_slots t = filter (λ i. is_attr_or_doc t i || (is_whitespace t i && is_attr_or_doc t (i - 1))) (counted_from 0 (length (children t)))
+removed_slots t = filter (is_removed t) (counted_from 0 (length (children t)))
 
 abbrev pub removed_children : Element → List SyntaxElement
 removed_children n = map (λ i. syntax_of (below n (i ∷ []))) (removed_slots (subtree n))
 
 abbrev pub remove_attrs_and_docs : Element → List Change → List Change
 remove_attrs_and_docs n cs = fold (λ ds e. delete e ds) cs (removed_children n)
+
+abbrev pub is_foreign : Element → Element → Bool
+is_foreign root n = list_any (λ e. not (is_native root e)) (Node n ∷ removed_children n)
+
+abbrev pub RemovalRefuses : Element → Element → RecordError → Type 0
+RemovalRefuses root n record_error.Foreign = is_foreign root n ≡ true
+RemovalRefuses root n record_error.BadRange = ⊥
+RemovalRefuses root n record_error.DeletesRoot = ⊥
+RemovalRefuses root n record_error.RootReplacement = ⊥
+RemovalRefuses root n record_error.LevelTooLarge = ⊥
+RemovalRefuses root n record_error.NoTreeNumber = ⊥
+RemovalRefuses root n record_error.Memory = Unit {0}

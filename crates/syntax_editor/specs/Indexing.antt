@@ -6,12 +6,14 @@
 --     replaced_at                          where the first one of a list stands, and whether one of them is a deletion
 --     as_deleted                           the same of an element that is deleted now
 --     found                                what an index says of a path
+--     room                                 how many more elements it takes without growing
 --     Agrees                               the index says that of each path
 --     replace_at, delete_at                the list after the element is replaced or deleted, its first Replace told by its path
-use Rattle.std.specs.Prelude.{◌≡◌, Bool, true, false, cond, List, [], ◌∷◌, ◌++◌, find, filter_map, position, Option, Some, None, option_map, is_some, is_none}
-use Rattle.std.specs.List.{list_any, before_first, after_first}
+--     delete_each_at                       the list after these are deleted, one after the other
+use Rattle.std.specs.Prelude.{◌≡◌, ℕ, Bool, true, false, cond, List, [], ◌∷◌, ◌++◌, find, filter_map, position, Option, Some, None, option_map, is_some, is_none}
+use Rattle.std.specs.List.{fold, list_any, before_first, after_first}
 use Rattle.std.specs.Option.{option_map_or}
-use Rattle.std.specs.HashMap.{get_by}
+use Rattle.std.specs.HashMap.{get_by, spare}
 use Rattle.cst_core.specs.Path.{Path, same_path}
 use Rattle.cst_core.specs.SyntaxElement.{element_of}
 use Rattle.cst_core.specs.declared.element.SyntaxElement.{SyntaxElement}
@@ -52,6 +54,9 @@ as_deleted (Some r) = Some (record { first = r.first; is_deleted = true })
 abbrev pub found : ReplaceIndex → Path → Option Replaced
 found x p = get_by (λ k. same_path p k.items) x.places
 
+abbrev pub room : ReplaceIndex → ℕ
+room x = spare x.places
+
 abbrev pub Agrees : ReplaceIndex → List Change → Type 0
 Agrees x cs = (p : Path) → found x p ≡ replaced_at p cs
 
@@ -65,3 +70,6 @@ replace_at e new cs = taken_up_at (option_map (λ _. new)) e (Some new) cs
 
 abbrev pub delete_at : SyntaxElement → List Change → List Change
 delete_at e cs = taken_up_at (λ _. None) e None cs
+
+abbrev pub delete_each_at : List SyntaxElement → List Change → List Change
+delete_each_at es cs = fold (λ ds e. delete_at e ds) cs es

@@ -74,8 +74,8 @@ pub trait AstNodeEdit: AstNode {
         ensures refused { IfErr result (ResetRefuses (Self.syntax_node self.now) ids.old) }
         ensures err { OnErr result (ids.new ≡ ids.old) }
     {
-        let level = IndentLevel::from_node(alloc, self.syntax())?;
-        Ok(view_of(dedent(alloc, self.syntax(), ids, level)?))
+        let own = IndentLevel::from_node(alloc, self.syntax())?;
+        Ok(view_of(dedent(alloc, self.syntax(), ids, own)?))
     }
 
     /// The node indented by a level, as `indent` makes it. Where the factory keeps mappings, each child node of the new node is

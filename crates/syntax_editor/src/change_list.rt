@@ -1,11 +1,12 @@
-ghost use Rattle.std.specs.Prelude.{◌≡◌, ◌<◌, ◌+◌, ◌^◌, List, Option, length, IfOk, false, [], ◌∷◌, ◌++◌, position, option_map, None, is_none, OnOk, OnErr};
+ghost use Rattle.std.specs.Prelude.{◌≡◌, ◌<◌, ◌≤◌, ◌+◌, ◌^◌, List, Option, length, IfOk, false, [], ◌∷◌, ◌++◌, position, option_map, None, is_none, OnOk, OnErr};
 ghost use Rattle.std.specs.List.{list_any};
+ghost use Rattle.std.specs.Vec.{vec_len, vec_capacity};
 ghost use Rattle.cst_core.specs.SyntaxElement.{element_of};
 ghost use Rattle.cst_core.specs.declared.element.SyntaxElement.{SyntaxElement};
 ghost use Rattle.edit_plan.specs.declared.change.Change.{Change};
 ghost use Rattle.edit_plan.specs.declared.change.Change.TheVariants.{Replace};
 ghost use Rattle.syntax_editor.specs.Recording.{with_replacement, merged};
-ghost use Rattle.syntax_editor.specs.Indexing.{is_replace, is_replace_at, replacements_at, replace_at, delete_at, Agrees};
+ghost use Rattle.syntax_editor.specs.Indexing.{is_replace, is_replace_at, replacements_at, replace_at, delete_at, delete_each_at, room, Agrees};
 
 use crate::replace_index::{ReplaceIndex, Replaced};
 use cst_core::SyntaxElement;
@@ -35,6 +36,28 @@ impl Model for ChangeList {
     ghost view = { λ a. a.changes.items };
 
     ghost invariant = { λ a. Agrees a.replaced a.changes.items };
+}
+
+// An element that is to be deleted, with its path, so that no memory is asked for any more.
+#[derive(Drop)]
+struct Target {
+    element: SyntaxElement,
+    path: Vec<usize>,
+}
+
+impl Model for Target {
+    ghost use Rattle.std.specs.Prelude.{◌≡◌};
+    ghost use Rattle.cst_core.specs.SyntaxElement.{element_of};
+    ghost use Rattle.cst_core.specs.declared.element.SyntaxElement.{SyntaxElement};
+    ghost use Rattle.edit_plan.specs.Codes.{syntax_element_code};
+
+    ghost Value = { SyntaxElement };
+
+    ghost coded = { syntax_element_code };
+
+    ghost view = { λ a. a.element };
+
+    ghost invariant = { λ a. a.path.items ≡ (element_of a.element).path };
 }
 
 impl ChangeList {
@@ -102,6 +125,23 @@ impl ChangeList {
         Ok(())
     }
 
+    /// Records that each of these elements is deleted, one after the other as `delete` does it. Without memory for all of them the
+    /// list is unchanged.
+    pub(crate) fn delete_each(
+        &mut self,
+        alloc: Global,
+        elements: Vec<SyntaxElement>,
+    ) -> Result<(), AllocError>
+        ensures ok { OnOk result (self.new ≡ delete_each_at elements.items self.old) }
+        ensures err { OnErr result (self.new ≡ self.old) }
+    {
+        let targets = targets_of(alloc, elements)?;
+        self.changes.reserve(targets.len())?;
+        self.replaced.reserve(targets.len())?;
+        delete_targets(&mut self.changes, &mut self.replaced, targets);
+        Ok(())
+    }
+
     /// Puts the changes of another list of the same tree at the end and leaves that one empty. No change takes another one up.
     /// Without memory for that both are unchanged.
     pub(crate) fn append(&mut self, alloc: Global, other: &mut ChangeList) -> Result<(), AllocError>
@@ -148,6 +188,62 @@ impl ChangeList {
         self.changes.push_reserved(Change::Replace(element, new));
         Ok(())
     }
+}
+
+fn targets_of(alloc: Global, elements: Vec<SyntaxElement>) -> Result<Vec<Target>, AllocError>
+    ensures { IfOk result (λ all. all.items ≡ elements.items) }
+{
+    let mut targets = Vec::with_capacity(alloc, elements.len())?;
+    for element in elements {
+        let path = element.path(alloc)?;
+        targets.push(Target { element, path })?;
+    }
+    Ok(targets)
+}
+
+// Deletes these elements one after the other, where there is room for all of them.
+fn delete_targets(changes: &mut Vec<Change>, replaced: &mut ReplaceIndex, targets: Vec<Target>)
+    requires agrees { Agrees replaced.old changes.old.items }
+    requires has_room { vec_len changes.old + length targets.items ≤ vec_capacity changes.old }
+    requires index_room { length targets.items ≤ room replaced.old }
+    ensures list { changes.new.items ≡ delete_each_at targets.items changes.old.items }
+    ensures agrees { Agrees replaced.new changes.new.items }
+{
+    for target in targets {
+        delete_target(changes, replaced, target);
+    }
+}
+
+// Deletes an element, where there is room for that.
+fn delete_target(changes: &mut Vec<Change>, replaced: &mut ReplaceIndex, target: Target)
+    requires agrees { Agrees replaced.old changes.old.items }
+    requires has_room { vec_len changes.old < vec_capacity changes.old }
+    requires index_room { 0 < room replaced.old }
+    ensures list { changes.new.items ≡ delete_at target changes.old.items }
+    ensures agrees { Agrees replaced.new changes.new.items }
+    ensures len { vec_len changes.new ≤ vec_len changes.old + 1 }
+    ensures capacity { vec_capacity changes.new ≡ vec_capacity changes.old }
+    ensures room { room replaced.old ≤ room replaced.new + 1 }
+{
+    let Some(known) = replaced.get(target.path.as_slice()) else {
+        let first = changes.len();
+        changes.push_reserved(Change::Replace(target.element, None));
+        return replaced.insert_reserved(
+            target.path,
+            Replaced {
+                first,
+                is_deleted: true,
+            },
+        );
+    };
+    take_away(&mut changes[known.first]);
+    replaced.insert_reserved(
+        target.path,
+        Replaced {
+            first: known.first,
+            is_deleted: true,
+        },
+    );
 }
 
 // The index of two lists, the second behind the first.

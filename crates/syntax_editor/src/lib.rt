@@ -3,6 +3,7 @@
 
 mod annotate;
 mod ast_node_edit;
+mod attrs_owner_edit;
 mod change_list;
 mod editor;
 mod error;
@@ -20,6 +21,7 @@ mod spacing;
 mod typed_editor;
 
 pub use ast_node_edit::AstNodeEdit;
+pub use attrs_owner_edit::AttrsOwnerEdit;
 pub use edit_map::{MapError, SyntaxMapping, SyntaxMappingBuilder};
 pub use edit_plan::{
     Annotations, Change, EditError, EditPlan, Element, ElementList, Position, SyntaxAnnotation,

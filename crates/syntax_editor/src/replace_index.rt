@@ -1,6 +1,6 @@
-ghost use Rattle.std.specs.Prelude.{◌≡◌, cond, Some, None, OnOk, OnErr};
+ghost use Rattle.std.specs.Prelude.{◌≡◌, ◌<◌, ◌≤◌, ◌+◌, cond, Some, None, OnOk, OnErr};
 ghost use Rattle.cst_core.specs.Path.{Path, same_path};
-ghost use Rattle.syntax_editor.specs.Indexing.{found, as_deleted};
+ghost use Rattle.syntax_editor.specs.Indexing.{found, as_deleted, room};
 
 use std::alloc::{AllocError, Global};
 use std::collections::HashMap;
@@ -43,6 +43,24 @@ impl ReplaceIndex {
     {
         self.places.insert(path, replaced)?;
         Ok(())
+    }
+
+    /// Makes room for so many more elements. It says of each path what it said before, also without memory for them.
+    pub(crate) fn reserve(&mut self, additional: usize) -> Result<(), AllocError>
+        ensures found { (p : Path) → found self.new p ≡ found self.old p }
+        ensures ok { OnOk result (additional ≤ room self.new) }
+    {
+        self.places.reserve(additional)
+    }
+
+    /// Says this of the element at a path from now on, where there is room for it.
+    pub(crate) fn insert_reserved(&mut self, path: Vec<usize>, replaced: Replaced)
+        requires { 0 < room self.old }
+        ensures found { (p : Path) → found self.new p ≡ cond (same_path path.items p) (Some replaced) (found self.old p) }
+        ensures room { room self.old ≤ room self.new + 1 }
+    {
+        let inserted: Result<_, _> = self.places.insert(path, replaced);
+        let _ = inserted.unwrap();
     }
 
     /// Says that the element at a path is deleted, if it says something of it.
