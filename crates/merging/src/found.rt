@@ -76,22 +76,40 @@ fn push_found(
     }
 }
 
+fn push_found_at(
+    alloc: Global,
+    out: &mut String,
+    edit: &SyntaxEdit,
+    trees: &Trees,
+    at: &At,
+) -> Result<()> {
+    let old = trees.node(alloc, at)?;
+    Ok(push_found(alloc, out, edit, &old)?)
+}
+
 // Where each node is found.
 fn found(alloc: Global, trees: &Trees, edit: &SyntaxEdit, sought: &[At]) -> Result<String> {
     let mut out = String::new(alloc);
     for at in sought {
-        let old = trees.node(alloc, at)?;
-        push_found(alloc, &mut out, edit, &old)?;
+        push_found_at(alloc, &mut out, edit, trees, at)?;
     }
     Ok(out)
+}
+
+fn edited(
+    alloc: Global,
+    trees: &Trees,
+    steps: &[Step],
+    annotation: SyntaxAnnotation,
+) -> Result<SyntaxEdit> {
+    let noting = Noting::of(alloc, trees, trees.root(0)?, annotation, steps)?;
+    let mut ids = TreeIds::new(1000);
+    Ok(noting.editor.finish(alloc, &mut ids)?)
 }
 
 /// What a row answers.
 pub fn find_answer(alloc: Global, row: &FindRow, annotation: SyntaxAnnotation) -> Result<String> {
     let trees = Trees::new(alloc, row.trees)?;
-    let root = trees.root(0)?;
-    let noting = Noting::of(alloc, &trees, root, annotation, row.steps)?;
-    let mut ids = TreeIds::new(1000);
-    let edit = noting.editor.finish(alloc, &mut ids)?;
+    let edit = edited(alloc, &trees, row.steps, annotation)?;
     found(alloc, &trees, &edit, row.sought)
 }

@@ -183,13 +183,42 @@ fn push_merged(
     }
 }
 
+fn merged_text(
+    alloc: Global,
+    own: SyntaxEditor,
+    other: SyntaxEditor,
+    annotation: SyntaxAnnotation,
+) -> Result<String, AllocError> {
+    let mut out = String::new(alloc);
+    push_merged(alloc, &mut out, own, other, annotation)?;
+    Ok(out)
+}
+
+fn own_of(
+    alloc: Global,
+    row: &MergeRow,
+    trees: &Trees,
+    annotation: SyntaxAnnotation,
+) -> Result<SyntaxEditor> {
+    let noting = Noting::of(alloc, trees, trees.root(0)?, annotation, row.own)?;
+    Ok(noting.editor)
+}
+
+fn other_of(
+    alloc: Global,
+    row: &MergeRow,
+    trees: &Trees,
+    annotation: SyntaxAnnotation,
+) -> Result<SyntaxEditor> {
+    let root = trees.root(row.edited)?;
+    let noting = Noting::of(alloc, trees, root, annotation, row.other)?;
+    Ok(noting.editor)
+}
+
 /// What a row answers.
 pub fn merge_answer(alloc: Global, row: &MergeRow, annotation: SyntaxAnnotation) -> Result<String> {
     let trees = trees_of(alloc, row)?;
-    let own = Noting::of(alloc, &trees, trees.root(0)?, annotation, row.own)?;
-    let root = trees.root(row.edited)?;
-    let other = Noting::of(alloc, &trees, root, annotation, row.other)?;
-    let mut out = String::new(alloc);
-    push_merged(alloc, &mut out, own.editor, other.editor, annotation)?;
-    Ok(out)
+    let own = own_of(alloc, row, &trees, annotation)?;
+    let other = other_of(alloc, row, &trees, annotation)?;
+    Ok(merged_text(alloc, own, other, annotation)?)
 }

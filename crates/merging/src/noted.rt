@@ -1,12 +1,12 @@
 //! Elements that are registered, and where their copies are found.
 
-use crate::shown::{push_finished, push_paths};
+use crate::shown::{finished, push_paths};
 use crate::step::{Noting, Step};
 use crate::trees::{At, Trees};
 use anyhow::Result;
 use cst_core::TreeIds;
 use std::alloc::{AllocError, Global};
-use syntax_editor::{SyntaxAnnotation, SyntaxEdit};
+use syntax_editor::{SyntaxAnnotation, SyntaxEdit, SyntaxEditor};
 
 /// A name, trees, of which the first is edited, and calls that are made in this order.
 pub struct NoteRow {
@@ -171,28 +171,24 @@ pub const NOTED: &[NoteRow] = &[
 /// What a row answers.
 pub fn note_answer(alloc: Global, row: &NoteRow, annotation: SyntaxAnnotation) -> Result<String> {
     let trees = Trees::new(alloc, row.trees)?;
-    let root = trees.root(0)?;
-    let noting = Noting::of(alloc, &trees, root, annotation, row.steps)?;
-    let mut out = String::new(alloc);
-    push_finished(alloc, &mut out, noting.editor, annotation)?;
-    Ok(out)
+    let noting = Noting::of(alloc, &trees, trees.root(0)?, annotation, row.steps)?;
+    Ok(finished(alloc, noting.editor, annotation)?)
 }
 
 const ONE_NOTED: &[Step] = &[Step::Note(At(0, &[1]))];
 
-// The edit of a tree in which a number is registered with one annotation, and the other number with another one.
+// An editor in which a number is registered with one annotation, and the other number with another one.
 fn two_noted(
     alloc: Global,
     trees: &Trees,
     first: SyntaxAnnotation,
     second: SyntaxAnnotation,
-) -> Result<SyntaxEdit> {
-    let mut noting = Noting::of(alloc, trees, trees.root(0)?, first, ONE_NOTED)?;
-    noting
-        .editor
-        .add_annotation(alloc, trees.element(alloc, &At(0, &[4]))?, second)?;
-    let mut ids = TreeIds::new(1000);
-    Ok(noting.editor.finish(alloc, &mut ids)?)
+) -> Result<SyntaxEditor> {
+    let noting = Noting::of(alloc, trees, trees.root(0)?, first, ONE_NOTED)?;
+    let mut editor = noting.editor;
+    let element = trees.element(alloc, &At(0, &[4]))?;
+    editor.add_annotation(alloc, element, second)?;
+    Ok(editor)
 }
 
 fn push_each(
@@ -207,11 +203,21 @@ fn push_each(
     Ok(())
 }
 
+fn each_of(
+    alloc: Global,
+    editor: SyntaxEditor,
+    annotations: &[SyntaxAnnotation],
+) -> Result<String> {
+    let mut ids = TreeIds::new(1000);
+    let edit = editor.finish(alloc, &mut ids)?;
+    let mut out = String::new(alloc);
+    push_each(&mut out, &edit, annotations)?;
+    Ok(out)
+}
+
 /// What is found of three annotations: two that an element each is registered with, and one that none is.
 pub fn each_of_three(alloc: Global, annotations: [SyntaxAnnotation; 3]) -> Result<String> {
     let trees = Trees::new(alloc, &["L"])?;
-    let edit = two_noted(alloc, &trees, annotations[0], annotations[1])?;
-    let mut out = String::new(alloc);
-    push_each(&mut out, &edit, &annotations)?;
-    Ok(out)
+    let editor = two_noted(alloc, &trees, annotations[0], annotations[1])?;
+    each_of(alloc, editor, &annotations)
 }

@@ -1,4 +1,3 @@
-use anyhow::Result;
 use cst_core::{SyntaxElement, TreeIds};
 use std::alloc::{AllocError, Global};
 use syntax_editor::{SyntaxAnnotation, SyntaxEdit, SyntaxEditor};
@@ -62,4 +61,15 @@ pub fn push_finished(
             Ok(())
         }
     }
+}
+
+/// The same as a text.
+pub fn finished(
+    alloc: Global,
+    editor: SyntaxEditor,
+    annotation: SyntaxAnnotation,
+) -> Result<String, AllocError> {
+    let mut out = String::new(alloc);
+    push_finished(alloc, &mut out, editor, annotation)?;
+    Ok(out)
 }

@@ -1,7 +1,7 @@
 use crate::trees::{At, Trees};
 use anyhow::{Context, Result};
-use cst_core::{SyntaxElement, SyntaxNode, TreeIds};
-use std::alloc::{AllocError, Global};
+use cst_core::{SyntaxNode, TreeIds};
+use std::alloc::Global;
 use syntax_editor::{Position, SyntaxAnnotation, SyntaxEditor, SyntaxMappingBuilder};
 
 /// A call of an editor.
@@ -40,73 +40,99 @@ impl Noting {
         annotation: SyntaxAnnotation,
         steps: &[Step],
     ) -> Result<Noting> {
+        let mut noting = Noting::new(alloc, root, annotation)?;
+        noting.make_all(alloc, trees, steps)?;
+        Ok(noting)
+    }
+
+    fn new(alloc: Global, root: &SyntaxNode, annotation: SyntaxAnnotation) -> Result<Noting> {
         let mut ids = TreeIds::new(500);
         let (editor, _) = SyntaxEditor::new(alloc, &mut ids, root.try_clone(alloc)?)?;
-        let mut noting = Noting { editor, annotation };
+        Ok(Noting { editor, annotation })
+    }
+
+    fn make_all(&mut self, alloc: Global, trees: &Trees, steps: &[Step]) -> Result<()> {
         for step in steps {
-            noting.make(alloc, trees, step)?;
+            self.make(alloc, trees, step)?;
         }
-        Ok(noting)
+        Ok(())
     }
 
     fn make(&mut self, alloc: Global, trees: &Trees, step: &Step) -> Result<()> {
         match step {
-            Step::Note(at) => self.note(alloc, trees.element(alloc, at)?),
+            Step::Note(at) => self.note(alloc, trees, at),
             Step::NoteAll(all) => self.note_all(alloc, trees, all),
-            Step::Map(node, copy) => {
-                self.map(alloc, trees.node(alloc, node)?, trees.node(alloc, copy)?)
-            }
+            Step::Map(node, copy) => self.map(alloc, trees, node, copy),
             Step::InsertAfter(at, new) => {
-                let position = Position::after(alloc, trees.element(alloc, at)?)?;
-                self.insert(alloc, position, trees.element(alloc, new)?)
+                self.insert(alloc, after(alloc, trees, at)?, trees, new)
             }
             Step::InsertFirst(at, new) => {
-                let position = Position::first_child_of(alloc, &trees.node(alloc, at)?)?;
-                self.insert(alloc, Some(position), trees.element(alloc, new)?)
+                self.insert(alloc, first_of(alloc, trees, at)?, trees, new)
             }
             Step::InsertLast(at, new) => {
-                let position = Position::last_child_of(alloc, &trees.node(alloc, at)?)?;
-                self.insert(alloc, Some(position), trees.element(alloc, new)?)
+                self.insert(alloc, last_of(alloc, trees, at)?, trees, new)
             }
-            Step::Delete(at) => Ok(self.editor.delete(alloc, trees.element(alloc, at)?)?),
-            Step::Replace(at, new) => {
-                self.replace(alloc, trees.element(alloc, at)?, trees.element(alloc, new)?)
-            }
+            Step::Delete(at) => self.delete(alloc, trees, at),
+            Step::Replace(at, new) => self.replace(alloc, trees, at, new),
         }
     }
 
-    fn note(&mut self, alloc: Global, element: SyntaxElement) -> Result<()> {
+    fn note(&mut self, alloc: Global, trees: &Trees, at: &At) -> Result<()> {
+        let element = trees.element(alloc, at)?;
         Ok(self.editor.add_annotation(alloc, element, self.annotation)?)
     }
 
     fn note_all(&mut self, alloc: Global, trees: &Trees, all: &[At]) -> Result<()> {
-        let mut elements = Vec::new(alloc);
-        for at in all {
-            elements
-                .push(trees.element(alloc, at)?)
-                .map_err(AllocError::from)?;
-        }
+        let elements = trees.elements(alloc, all)?;
         Ok(
             self.editor
                 .add_annotation_all(alloc, elements, self.annotation)?,
         )
     }
 
-    // The builder is one of the copy's parent.
-    fn map(&mut self, alloc: Global, node: SyntaxNode, copy: SyntaxNode) -> Result<()> {
-        let parent = copy.parent(alloc)?.context("a copy without a parent")?;
-        let mut builder = SyntaxMappingBuilder::new(alloc, parent);
-        builder.map_node(alloc, node, copy)?;
+    fn map(&mut self, alloc: Global, trees: &Trees, node: &At, copy: &At) -> Result<()> {
+        let builder = builder_of(alloc, trees, node, copy)?;
         let mapping = self.editor.make_mut().mappings().context("no mappings")?;
         Ok(builder.finish(alloc, mapping)?)
     }
 
-    fn insert(&mut self, alloc: Global, at: Option<Position>, new: SyntaxElement) -> Result<()> {
-        let at = at.context("no position there")?;
+    fn insert(&mut self, alloc: Global, at: Position, trees: &Trees, new: &At) -> Result<()> {
+        let new = trees.element(alloc, new)?;
         Ok(self.editor.insert(alloc, at, new)?)
     }
 
-    fn replace(&mut self, alloc: Global, target: SyntaxElement, new: SyntaxElement) -> Result<()> {
+    fn delete(&mut self, alloc: Global, trees: &Trees, at: &At) -> Result<()> {
+        let target = trees.element(alloc, at)?;
+        Ok(self.editor.delete(alloc, target)?)
+    }
+
+    fn replace(&mut self, alloc: Global, trees: &Trees, at: &At, new: &At) -> Result<()> {
+        let target = trees.element(alloc, at)?;
+        let new = trees.element(alloc, new)?;
         Ok(self.editor.replace(alloc, target, new)?)
     }
+}
+
+// A builder of the copy's parent, with one pair.
+fn builder_of(alloc: Global, trees: &Trees, node: &At, copy: &At) -> Result<SyntaxMappingBuilder> {
+    let copy = trees.node(alloc, copy)?;
+    let parent = copy.parent(alloc)?.context("a copy without a parent")?;
+    let mut builder = SyntaxMappingBuilder::new(alloc, parent);
+    builder.map_node(alloc, trees.node(alloc, node)?, copy)?;
+    Ok(builder)
+}
+
+fn after(alloc: Global, trees: &Trees, at: &At) -> Result<Position> {
+    let element = trees.element(alloc, at)?;
+    Position::after(alloc, element)?.context("no position there")
+}
+
+fn first_of(alloc: Global, trees: &Trees, at: &At) -> Result<Position> {
+    let node = trees.node(alloc, at)?;
+    Ok(Position::first_child_of(alloc, &node)?)
+}
+
+fn last_of(alloc: Global, trees: &Trees, at: &At) -> Result<Position> {
+    let node = trees.node(alloc, at)?;
+    Ok(Position::last_child_of(alloc, &node)?)
 }

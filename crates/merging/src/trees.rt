@@ -62,6 +62,16 @@ impl Trees {
         root.element_at(alloc, at.1)?.context("no element there")
     }
 
+    pub fn elements(&self, alloc: Global, all: &[At]) -> Result<Vec<SyntaxElement>> {
+        let mut elements = Vec::new(alloc);
+        for at in all {
+            elements
+                .push(self.element(alloc, at)?)
+                .map_err(AllocError::from)?;
+        }
+        Ok(elements)
+    }
+
     pub fn node(&self, alloc: Global, at: &At) -> Result<SyntaxNode> {
         self.element(alloc, at)?
             .into_node()
