@@ -10,7 +10,13 @@ use std::rt::Clock;
 use std::time::Instant;
 use syntax_editor::{EditPlan, SyntaxEditor};
 
+/// How often all sizes are gone through, and how often each is measured then, one time after another.
+const ROUNDS: usize = 3;
+
 const TRIES: usize = 3;
+
+/// Bytes of the list that is taken and freed before anything is measured.
+const SETTLING: usize = 30 << 20;
 
 const LEAST: usize = 512;
 
@@ -118,6 +124,15 @@ impl Growth {
     }
 }
 
+/// A time of the figures.
+#[derive(Clone, Copy)]
+enum Phase {
+    Recorded,
+    Planned,
+    Run,
+    PlannedAndRun,
+}
+
 impl Figures {
     // The shorter of each two times.
     fn best(self, other: Figures) -> Figures {
@@ -126,6 +141,15 @@ impl Figures {
             planned: self.planned.min(other.planned),
             run: self.run.min(other.run),
             ..self
+        }
+    }
+
+    fn of(self, phase: Phase) -> f64 {
+        match phase {
+            Phase::Recorded => self.recorded,
+            Phase::Planned => self.planned,
+            Phase::Run => self.run,
+            Phase::PlannedAndRun => self.planned + self.run,
         }
     }
 }
@@ -160,10 +184,21 @@ fn run<R: Clock>(rt: &R, alloc: Global, ids: &mut TreeIds, plan: &EditPlan) -> R
     Ok((edit.new_root().text_len(), seconds))
 }
 
+// An editor with the changes of a case recorded, and how many seconds recording took.
+fn recorded<R: Clock>(
+    rt: &R,
+    alloc: Global,
+    ids: &mut TreeIds,
+    case: Case,
+) -> Result<(SyntaxEditor, f64)> {
+    let Prepared { mut editor, calls } = case.prepared(alloc, ids)?;
+    let seconds = record(rt, alloc, calls, &mut editor)?;
+    Ok((editor, seconds))
+}
+
 fn measured<R: Clock>(rt: &R, alloc: Global, case: Case) -> Result<Figures> {
     let mut ids = TreeIds::new(1);
-    let Prepared { mut editor, calls } = case.prepared(alloc, &mut ids)?;
-    let recorded = record(rt, alloc, calls, &mut editor)?;
+    let (editor, recorded) = recorded(rt, alloc, &mut ids, case)?;
     let changes = editor.changes().len();
     let (plan, planned) = plan(rt, alloc, editor)?;
     let (bytes, run) = run(rt, alloc, &mut ids, &plan)?;
@@ -176,8 +211,8 @@ fn measured<R: Clock>(rt: &R, alloc: Global, case: Case) -> Result<Figures> {
     })
 }
 
-// The shortest times of some tries.
-fn shortest<R: Clock>(rt: &R, alloc: Global, case: Case) -> Result<Figures> {
+// The shortest times of some tries, one after another.
+fn tried<R: Clock>(rt: &R, alloc: Global, case: Case) -> Result<Figures> {
     let mut best = measured(rt, alloc, case)?;
     for _ in 1..TRIES {
         best = best.best(measured(rt, alloc, case)?);
@@ -185,10 +220,47 @@ fn shortest<R: Clock>(rt: &R, alloc: Global, case: Case) -> Result<Figures> {
     Ok(best)
 }
 
-// The power of the number that a time grows with.
-fn exponent(first: f64, last: f64) -> f64 {
-    let numbers = MOST as f64 / LEAST as f64;
-    (last / first).log2() / numbers.log2()
+// The figures of each size.
+fn round<R: Clock>(rt: &R, alloc: Global, growth: Growth) -> Result<Vec<Figures>> {
+    let mut figures = Vec::with_capacity(alloc, SIZES.len())?;
+    for number in SIZES {
+        figures.push(tried(rt, alloc, growth.case(number))?)?;
+    }
+    Ok(figures)
+}
+
+// The shorter times of each size.
+fn shorter(alloc: Global, one: &[Figures], other: &[Figures]) -> Result<Vec<Figures>> {
+    let mut best = Vec::with_capacity(alloc, one.len())?;
+    for (one, other) in one.iter().zip(other.iter()) {
+        best.push(one.best(*other))?;
+    }
+    Ok(best)
+}
+
+// The shortest times of each size. A while in which the machine is slow does not fall on one size alone, since each round
+// goes through all of them.
+fn shortest<R: Clock>(rt: &R, alloc: Global, growth: Growth) -> Result<Vec<Figures>> {
+    let mut best = round(rt, alloc, growth)?;
+    for _ in 1..ROUNDS {
+        let figures = round(rt, alloc, growth)?;
+        best = shorter(alloc, &best, &figures)?;
+    }
+    Ok(best)
+}
+
+// The power of the number that a time grows with: how steep the straight line is that is nearest, by least squares, to the
+// times of all sizes, where both are drawn by their logarithms. Sizes are doublings, so they are one apart there.
+fn power(figures: &[Figures], phase: Phase) -> f64 {
+    let mut doublings = (SIZES.len() - 1) as f64 / -2.0;
+    let mut rise = 0.0;
+    let mut width = 0.0;
+    for figures in figures {
+        rise += doublings * figures.of(phase).log2();
+        width += doublings * doublings;
+        doublings += 1.0;
+    }
+    rise / width
 }
 
 fn show_times<R: Print>(rt: &R, alloc: Global, case: Case, figures: Figures) -> Result<()> {
@@ -203,12 +275,12 @@ fn show_times<R: Print>(rt: &R, alloc: Global, case: Case, figures: Figures) -> 
     Ok(())
 }
 
-fn show_powers<R: Print>(rt: &R, growth: Growth, first: Figures, last: Figures) -> Result<()> {
+fn show_powers<R: Print>(rt: &R, growth: Growth, figures: &[Figures]) -> Result<()> {
     let name = growth.name();
-    let recorded = exponent(first.recorded, last.recorded);
-    let planned = exponent(first.planned, last.planned);
-    let run = exponent(first.run, last.run);
-    let both = exponent(first.planned + first.run, last.planned + last.run);
+    let recorded = power(figures, Phase::Recorded);
+    let planned = power(figures, Phase::Planned);
+    let run = power(figures, Phase::Run);
+    let both = power(figures, Phase::PlannedAndRun);
     println!(rt;
         "grows with {name}: recorded {recorded:.2}, planned {planned:.2}, run {run:.2}, the last two together {both:.2}"
     )?;
@@ -216,18 +288,24 @@ fn show_powers<R: Print>(rt: &R, growth: Growth, first: Figures, last: Figures) 
 }
 
 fn grown<R: Print + Clock>(rt: &R, alloc: Global, growth: Growth) -> Result<()> {
-    let first = shortest(rt, alloc, growth.case(LEAST))?;
-    let mut last = first;
-    for number in SIZES {
-        let case = growth.case(number);
-        last = shortest(rt, alloc, case)?;
-        show_times(rt, alloc, case, last)?;
+    let figures = shortest(rt, alloc, growth)?;
+    for (number, figures) in SIZES.iter().zip(figures.iter()) {
+        show_times(rt, alloc, growth.case(*number), *figures)?;
     }
-    show_powers(rt, growth, first, last)
+    show_powers(rt, growth, &figures)
+}
+
+// The C library gives a large list back to the system when it is freed, until one that is larger still has been freed; then it
+// keeps what is freed for later ones. So one is taken and freed first, as in a program that has run for a while.
+fn settle(alloc: Global) -> Result<()> {
+    let mut list = Vec::with_capacity(alloc, SETTLING)?;
+    list.push(0u8)?;
+    Ok(())
 }
 
 /// Edits that grow, with the time of each.
 pub(crate) fn report_growth<R: Print + Clock>(rt: &R, alloc: Global) -> Result<()> {
+    settle(alloc)?;
     for subject in [Subject::Literals, Subject::Statements, Subject::Leaves] {
         for growth in [
             Growth::Changes(subject),

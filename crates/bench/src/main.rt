@@ -113,21 +113,38 @@ fn report<R: Print + Clock>(
     }
 }
 
+fn flat_root<R: Print + Clock>(
+    rt: &R,
+    alloc: Global,
+    ids: &mut TreeIds,
+    timed: bool,
+) -> Result<SyntaxNode> {
+    let start = Instant::now(rt)?;
+    let root = SyntaxNode::new_root(alloc, ids, flat(alloc)?)?;
+    let built = root.as_green().children().len();
+    report(rt, timed, start, Work::FlatBuilt, built)?;
+    Ok(root)
+}
+
+fn walk_children<R: Print + Clock>(
+    rt: &R,
+    alloc: Global,
+    root: &SyntaxNode,
+    timed: bool,
+) -> Result<()> {
+    let start = Instant::now(rt)?;
+    let children = root.children_with_tokens(alloc)?;
+    report(rt, timed, start, Work::FlatChildren, children.len())
+}
+
 fn measure_flat<R: Print + Clock>(
     rt: &R,
     alloc: Global,
     ids: &mut TreeIds,
     timed: bool,
 ) -> Result<()> {
-    let start = Instant::now(rt)?;
-    let root = SyntaxNode::new_root(alloc, ids, flat(alloc)?)?;
-    let built = root.as_green().children().len();
-    report(rt, timed, start, Work::FlatBuilt, built)?;
-
-    let start = Instant::now(rt)?;
-    let children = root.children_with_tokens(alloc)?;
-    report(rt, timed, start, Work::FlatChildren, children.len())?;
-
+    let root = flat_root(rt, alloc, ids, timed)?;
+    walk_children(rt, alloc, &root, timed)?;
     let start = Instant::now(rt)?;
     let tokens = tokens_backwards(alloc, &root)?;
     report(rt, timed, start, Work::FlatTokens, tokens)

@@ -52,6 +52,22 @@ fn inside(alloc: Global, block: &SyntaxNode, times: usize) -> Result<SyntaxNode>
     inner.into_node().context("no node")
 }
 
+// Tells the mapping of a block's copy, in so many blocks of a payload.
+fn map_copy(
+    alloc: Global,
+    block: &SyntaxNode,
+    payload: &SyntaxNode,
+    wraps: usize,
+    mapping: &mut SyntaxMapping,
+) -> Result<()> {
+    let copy = inside(alloc, payload, wraps)?;
+    let parent = copy.parent(alloc)?.context("no parent")?;
+    let mut builder = SyntaxMappingBuilder::new(alloc, parent);
+    builder.map_node(alloc, block.try_clone(alloc)?, copy)?;
+    builder.finish(alloc, mapping)?;
+    Ok(())
+}
+
 // A payload that wraps a block, of which the mapping knows the copy.
 fn payload(
     alloc: Global,
@@ -62,11 +78,7 @@ fn payload(
 ) -> Result<SyntaxNode> {
     let green = wrapped(alloc, block.green(alloc)?, wraps)?;
     let payload = SyntaxNode::new_root(alloc, ids, green)?;
-    let copy = inside(alloc, &payload, wraps)?;
-    let parent = copy.parent(alloc)?.context("no parent")?;
-    let mut builder = SyntaxMappingBuilder::new(alloc, parent);
-    builder.map_node(alloc, block.try_clone(alloc)?, copy)?;
-    builder.finish(alloc, mapping)?;
+    map_copy(alloc, block, &payload, wraps, mapping)?;
     Ok(payload)
 }
 
@@ -77,18 +89,30 @@ fn insert(alloc: Global, ids: &mut TreeIds, block: &SyntaxNode) -> Result<Call> 
     Ok(Call::Insert(position, new))
 }
 
-/// Each block replaced by one that wraps it, and an insert into each.
-pub(crate) fn prepared(alloc: Global, ids: &mut TreeIds, nest: Nest) -> Result<Prepared> {
-    let root = SyntaxNode::new_root(alloc, ids, tree(alloc, nest)?)?;
+// For each block below a root an insert into it, and its replacement by one that wraps it.
+fn calls(
+    alloc: Global,
+    ids: &mut TreeIds,
+    root: &SyntaxNode,
+    wraps: usize,
+    mapping: &mut SyntaxMapping,
+) -> Result<Vec<Call>> {
     let mut calls = Vec::new(alloc);
-    let mut mapping = SyntaxMapping::new(alloc);
     for block in root.descendants(alloc)? {
         if block.kind() == SyntaxKind::BLOCK_EXPR {
-            let payload = payload(alloc, ids, &block, nest.wraps, &mut mapping)?;
             calls.push(insert(alloc, ids, &block)?)?;
+            let payload = payload(alloc, ids, &block, wraps, mapping)?;
             calls.push(Call::Replace(block, payload))?;
         }
     }
+    Ok(calls)
+}
+
+/// Each block replaced by one that wraps it, and an insert into each.
+pub(crate) fn prepared(alloc: Global, ids: &mut TreeIds, nest: Nest) -> Result<Prepared> {
+    let root = SyntaxNode::new_root(alloc, ids, tree(alloc, nest)?)?;
+    let mut mapping = SyntaxMapping::new(alloc);
+    let calls = calls(alloc, ids, &root, nest.wraps, &mut mapping)?;
     let editor = editor_with(alloc, ids, root, mapping)?;
     Ok(Prepared { editor, calls })
 }

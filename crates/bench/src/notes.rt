@@ -60,29 +60,46 @@ fn insert_payload(
     Ok(())
 }
 
-fn list(alloc: Global, ids: &mut TreeIds, size: usize) -> Result<Prepared> {
-    let root = SyntaxNode::new_root(alloc, ids, flat(alloc, size)?)?;
+// Each child of a root registered, and an insert behind it.
+fn calls_of_list(alloc: Global, ids: &mut TreeIds, root: &SyntaxNode) -> Result<Vec<Call>> {
     let mut calls = Vec::new(alloc);
-    annotate(alloc, &root, &mut calls)?;
-    insert_leaves(alloc, ids, &root, &mut calls)?;
-    let editor = editor_with(alloc, ids, root, SyntaxMapping::new(alloc))?;
-    Ok(Prepared { editor, calls })
+    annotate(alloc, root, &mut calls)?;
+    insert_leaves(alloc, ids, root, &mut calls)?;
+    Ok(calls)
 }
 
-fn payload(alloc: Global, ids: &mut TreeIds, notes: usize, times: usize) -> Result<Prepared> {
-    let root = SyntaxNode::new_root(alloc, ids, flat(alloc, times)?)?;
-    let payload = SyntaxNode::new_root(alloc, ids, flat(alloc, notes)?)?;
+// Each child of a payload registered, and the payload inserted behind each child of a root.
+fn calls_of_payload(alloc: Global, root: &SyntaxNode, payload: &SyntaxNode) -> Result<Vec<Call>> {
     let mut calls = Vec::new(alloc);
-    annotate(alloc, &payload, &mut calls)?;
-    insert_payload(alloc, &root, &payload, &mut calls)?;
-    let editor = editor_with(alloc, ids, root, SyntaxMapping::new(alloc))?;
-    Ok(Prepared { editor, calls })
+    annotate(alloc, payload, &mut calls)?;
+    insert_payload(alloc, root, payload, &mut calls)?;
+    Ok(calls)
+}
+
+fn calls(alloc: Global, ids: &mut TreeIds, root: &SyntaxNode, noted: Noted) -> Result<Vec<Call>> {
+    match noted {
+        Noted::List(_) => calls_of_list(alloc, ids, root),
+        Noted::Payload { notes, .. } => {
+            let payload = SyntaxNode::new_root(alloc, ids, flat(alloc, notes)?)?;
+            calls_of_payload(alloc, root, &payload)
+        }
+    }
+}
+
+impl Noted {
+    // How many literals stand below the root.
+    fn size(self) -> usize {
+        match self {
+            Noted::List(size) => size,
+            Noted::Payload { times, .. } => times,
+        }
+    }
 }
 
 /// The registrations, and the inserts.
 pub(crate) fn prepared(alloc: Global, ids: &mut TreeIds, noted: Noted) -> Result<Prepared> {
-    match noted {
-        Noted::List(size) => list(alloc, ids, size),
-        Noted::Payload { notes, times } => payload(alloc, ids, notes, times),
-    }
+    let root = SyntaxNode::new_root(alloc, ids, flat(alloc, noted.size())?)?;
+    let calls = calls(alloc, ids, &root, noted)?;
+    let editor = editor_with(alloc, ids, root, SyntaxMapping::new(alloc))?;
+    Ok(Prepared { editor, calls })
 }

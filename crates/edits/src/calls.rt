@@ -3,7 +3,7 @@ use anyhow::{Context, Result};
 use cst_core::{SyntaxElement, SyntaxNode, TreeIds};
 use row_trees::row;
 use std::alloc::Global;
-use syntax_editor::{SyntaxEdit, SyntaxEditor};
+use syntax_editor::{RecordError, SyntaxEdit, SyntaxEditor};
 
 /// The element at a path.
 pub fn element(alloc: Global, root: &SyntaxNode, path: &[usize]) -> Result<SyntaxElement> {
@@ -51,25 +51,60 @@ fn shown(alloc: Global, edit: &SyntaxEdit, next: Option<u64>) -> Result<String> 
     Ok(format!(in alloc; "{answer} next number {is_next} old {old}")?)
 }
 
+// Records one replacement, if the editor takes it.
+fn record(
+    alloc: Global,
+    ids: &mut TreeIds,
+    root: &SyntaxNode,
+    editor: &mut SyntaxEditor,
+    replacement: &Replacement,
+) -> Result<Option<RecordError>> {
+    let target = element(alloc, root, replacement.target)?;
+    let new = payload(alloc, ids, root, replacement)?;
+    Ok(editor.replace(alloc, target, new).err())
+}
+
+// Records the replacements up to the first one that the editor refuses.
+fn record_all(
+    alloc: Global,
+    ids: &mut TreeIds,
+    root: &SyntaxNode,
+    editor: &mut SyntaxEditor,
+    replacements: &[Replacement],
+) -> Result<Option<RecordError>> {
+    for replacement in replacements {
+        let refusal = record(alloc, ids, root, editor, replacement)?;
+        if refusal.is_some() {
+            return Ok(refusal);
+        }
+    }
+    Ok(None)
+}
+
+fn finished(alloc: Global, ids: &mut TreeIds, editor: SyntaxEditor) -> Result<String> {
+    let next = ids.peek();
+    match editor.finish(alloc, ids) {
+        Ok(edit) => shown(alloc, &edit, next),
+        Err(refusal) => Ok(format!(in alloc; "refused {refusal}")?),
+    }
+}
+
+// What finishing answers, and of how many changes.
+fn finished_with_count(alloc: Global, ids: &mut TreeIds, editor: SyntaxEditor) -> Result<String> {
+    let recorded = editor.changes().len();
+    let answer = finished(alloc, ids, editor)?;
+    Ok(format!(in alloc; "{answer}, of {recorded}")?)
+}
+
 /// What a row of replacements answers.
 pub fn answer_of(alloc: Global, row: &Row) -> Result<String> {
     let mut ids = TreeIds::new(1);
     let root = tree(alloc, &mut ids, row.tree)?;
     let (mut editor, root) = SyntaxEditor::new(alloc, &mut ids, root)?;
-    for replacement in row.replacements {
-        let target = element(alloc, &root, replacement.target)?;
-        let new = payload(alloc, &mut ids, &root, replacement)?;
-        if let Err(refusal) = editor.replace(alloc, target, new) {
-            return Ok(format!(in alloc; "refused {refusal}")?);
-        }
+    match record_all(alloc, &mut ids, &root, &mut editor, row.replacements)? {
+        None => finished_with_count(alloc, &mut ids, editor),
+        Some(refusal) => Ok(format!(in alloc; "refused {refusal}")?),
     }
-    let recorded = editor.changes().len();
-    let next = ids.peek();
-    let answer = match editor.finish(alloc, &mut ids) {
-        Ok(edit) => shown(alloc, &edit, next)?,
-        Err(refusal) => format!(in alloc; "refused {refusal}")?,
-    };
-    Ok(format!(in alloc; "{answer}, of {recorded}")?)
 }
 
 /// What finishing without changes answers where no tree number is left.
@@ -77,8 +112,5 @@ pub fn finish_spent(alloc: Global) -> Result<String> {
     let mut ids = TreeIds::new(u64::MAX - 1);
     let root = tree(alloc, &mut ids, "L")?;
     let (editor, _) = SyntaxEditor::new(alloc, &mut ids, root)?;
-    match editor.finish(alloc, &mut ids) {
-        Ok(edit) => shown(alloc, &edit, None),
-        Err(refusal) => Ok(format!(in alloc; "refused {refusal}")?),
-    }
+    finished(alloc, &mut ids, editor)
 }

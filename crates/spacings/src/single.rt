@@ -84,15 +84,31 @@ fn inserted(
     }
 }
 
+// The gap behind the element at a path.
+fn gap_behind(alloc: Global, root: &SyntaxNode, path: &[usize]) -> Result<Position> {
+    let anchor = element(alloc, root, path)?;
+    Position::after(alloc, anchor)?.context("no position there")
+}
+
+// What a row answers, by an editor and the root that it edits.
+fn answer_by(
+    alloc: Global,
+    row: &SingleRow,
+    editor: SyntaxEditor,
+    root: &SyntaxNode,
+    source: &mut TreeIds,
+) -> Result<String> {
+    let at = gap_behind(alloc, root, row.path)?;
+    let new = tree(alloc, &mut TreeIds::new(50), row.new)?;
+    inserted(alloc, editor, source, at, &new)
+}
+
 /// What a row of inserts of one element answers, and which number comes next then.
 pub fn single_answer(alloc: Global, row: &SingleRow) -> Result<String> {
     let mut ids = TreeIds::new(1);
     let root = tree(alloc, &mut ids, row.tree)?;
     let (editor, root) = SyntaxEditor::new(alloc, &mut ids, root)?;
-    let anchor = element(alloc, &root, row.path)?;
-    let at = Position::after(alloc, anchor)?.context("no position there")?;
-    let new = tree(alloc, &mut TreeIds::new(50), row.new)?;
     let mut source = TreeIds::new(row.next);
-    let answer = inserted(alloc, editor, &mut source, at, &new)?;
+    let answer = answer_by(alloc, row, editor, &root, &mut source)?;
     Ok(format!(in alloc; "{answer}, next {:?}", source.peek())?)
 }

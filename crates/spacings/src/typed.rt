@@ -25,17 +25,36 @@ fn reset(alloc: Global) -> Result<String> {
     Ok(format!(in alloc; "{text} from level {}", level.0)?)
 }
 
-// A block indented with its child nodes mapped: the place of its list of statements in the new block.
-fn mapped(alloc: Global) -> Result<String> {
-    let mut ids = TreeIds::new(1);
-    let block = block(alloc, &mut ids, "B", &[])?;
-    let mut factory = SyntaxFactory::with_mappings(alloc);
-    let new = block.indent_with_mapping(alloc, &mut ids, IndentLevel(1), &mut factory)?;
+// A block indented by a level, with its child nodes mapped.
+fn indented(alloc: Global, block: &BlockExpr, factory: &mut SyntaxFactory) -> Result<BlockExpr> {
+    let mut ids = TreeIds::new(2);
+    Ok(block.indent_with_mapping(alloc, &mut ids, IndentLevel(1), factory)?)
+}
+
+// The text of a new block, and the place of another block's list of statements in it.
+fn placed(
+    alloc: Global,
+    block: &BlockExpr,
+    new: &BlockExpr,
+    mapping: &SyntaxMapping,
+) -> Result<String> {
     let list = node(alloc, block.syntax(), &[0])?;
-    let mapping = factory.mappings().context("no mappings")?;
     let place = mapping.place(alloc, &list, new.syntax())?;
     let text = text_of(alloc, new.syntax())?;
     Ok(format!(in alloc; "{text} place {place:?}")?)
+}
+
+// A block indented with its child nodes mapped: the place of its list of statements in the new block.
+fn mapped(alloc: Global) -> Result<String> {
+    let block = block(alloc, &mut TreeIds::new(1), "B", &[])?;
+    let mut factory = SyntaxFactory::with_mappings(alloc);
+    let new = indented(alloc, &block, &mut factory)?;
+    placed(
+        alloc,
+        &block,
+        &new,
+        factory.mappings().context("no mappings")?,
+    )
 }
 
 // The list of statements in a block.
@@ -53,10 +72,9 @@ fn led(alloc: Global, block: &BlockExpr, mapping: &SyntaxMapping) -> Result<Stri
 
 // What the list of statements of a block is followed to, after the block was indented with its child nodes mapped.
 fn followed(alloc: Global) -> Result<String> {
-    let mut ids = TreeIds::new(1);
-    let block = block(alloc, &mut ids, "B", &[])?;
+    let block = block(alloc, &mut TreeIds::new(1), "B", &[])?;
     let mut factory = SyntaxFactory::with_mappings(alloc);
-    block.indent_with_mapping(alloc, &mut ids, IndentLevel(1), &mut factory)?;
+    indented(alloc, &block, &mut factory)?;
     led(alloc, &block, factory.mappings().context("no mappings")?)
 }
 
