@@ -4,6 +4,7 @@ pub mod Effort
 pub mod Aimed
 pub mod Groups
 pub mod Few
+pub mod Given
 pub mod Pass
 pub mod Topmost
 pub mod Marked

@@ -4,6 +4,7 @@
 mod aim_list;
 mod aimed;
 mod few;
+mod given;
 mod group;
 mod lone;
 mod mark;
@@ -12,6 +13,7 @@ mod pass;
 mod topmost;
 
 pub use aimed::Aimed;
+pub use given::Given;
 pub use mark::{GivenMarks, Mark, Sought};
 pub use marked::{marks_of_whole, push_marks};
 pub use pass::{rebuild, rebuild_whole};

@@ -8,34 +8,22 @@ ghost use Rattle.rewriting.specs.Pass.{kind_only, given_by};
 
 use crate::aim_list::{alter_some, below, grouped, is_replaced, top_is_replaced};
 use crate::aimed::Aimed;
+use crate::given::Given;
 use green_tree::{GreenElement, GreenNode, SyntaxKind};
 use std::alloc::{AllocError, Global};
-
-fn share_all(
-    alloc: Global,
-    out: &mut Vec<GreenElement>,
-    from: &[GreenElement],
-) -> Result<(), AllocError>
-    ensures { OnOk result (out.new.items ≡ out.old.items ++ from.now) }
-{
-    for element in from {
-        out.push(element.share(alloc)?)?;
-    }
-    Ok(())
-}
 
 fn push_given(
     alloc: Global,
     out: &mut Vec<GreenElement>,
-    given: &[Vec<GreenElement>],
+    given: &[Given],
     change: usize,
 ) -> Result<(), AllocError>
     ensures { OnOk result (element_trees out.new.items ≡ element_trees out.old.items ++ given_by given.now change) }
 {
-    let Some(elements) = given.get(change) else {
+    let Some(given) = given.get(change) else {
         return Ok(());
     };
-    share_all(alloc, out, elements)?;
+    given.push_to(alloc, out)?;
     Ok(())
 }
 
@@ -43,7 +31,7 @@ fn push_replacements(
     alloc: Global,
     out: &mut Vec<GreenElement>,
     aims: &[Aimed],
-    given: &[Vec<GreenElement>],
+    given: &[Given],
     slot: usize,
 ) -> Result<(), AllocError>
     ensures { OnOk result (element_trees out.new.items ≡ element_trees out.old.items ++ flat_map (given_by given.now) (replacements_at (aims_of aims.now) (slot ∷ []))) }
@@ -60,7 +48,7 @@ fn push_for_top(
     alloc: Global,
     out: &mut Vec<GreenElement>,
     aims: &[Aimed],
-    given: &[Vec<GreenElement>],
+    given: &[Given],
 ) -> Result<(), AllocError>
     ensures { OnOk result (element_trees out.new.items ≡ element_trees out.old.items ++ flat_map (given_by given.now) (replacements_at (aims_of aims.now) [])) }
 {
@@ -77,7 +65,7 @@ fn push_gap(
     alloc: Global,
     out: &mut Vec<GreenElement>,
     aims: &[Aimed],
-    given: &[Vec<GreenElement>],
+    given: &[Given],
     index: usize,
 ) -> Result<(), AllocError>
     ensures { OnOk result (element_trees out.new.items ≡ element_trees out.old.items ++ gap kind_only (given_by given.now) (aims_of aims.now) [] index) }
@@ -115,7 +103,7 @@ pub fn rebuild(
     alloc: Global,
     element: &GreenElement,
     aims: &[Aimed],
-    given: &[Vec<GreenElement>],
+    given: &[Given],
     builds: &mut u64,
 ) -> Result<GreenElement, AllocError>
     ensures builds { OnOk result (builds.new ≤ builds.old + touched (element_tree element.now) (parents_of (aims_of aims.now))) }
@@ -150,7 +138,7 @@ pub fn rebuild_whole(
     alloc: Global,
     element: &GreenElement,
     aims: &[Aimed],
-    given: &[Vec<GreenElement>],
+    given: &[Given],
     builds: &mut u64,
 ) -> Result<Vec<GreenElement>, AllocError>
     ensures builds { OnOk result (builds.new ≤ builds.old + touched (element_tree element.now) (parents_of (aims_of aims.now))) }

@@ -1,0 +1,49 @@
+ghost use Rattle.std.specs.Prelude.{◌≡◌, ◌++◌, length, IfOk, OnOk};
+ghost use Rattle.green_tree.specs.GreenElement.{element_trees};
+ghost use Rattle.rewriting.specs.Given.{given_trees};
+
+use green_tree::{GreenElement, GreenElementRef};
+use std::alloc::{AllocError, Global};
+
+/// What a change gives. An element that stands elsewhere is borrowed, and shared only where it is put.
+#[derive(Drop)]
+pub enum Given<'a> {
+    Borrowed(GreenElementRef<'a>),
+    Shared(Vec<GreenElement>),
+}
+
+fn share_all(
+    alloc: Global,
+    out: &mut Vec<GreenElement>,
+    from: &[GreenElement],
+) -> Result<(), AllocError>
+    ensures { OnOk result (out.new.items ≡ out.old.items ++ from.now) }
+{
+    for element in from {
+        out.push(element.share(alloc)?)?;
+    }
+    Ok(())
+}
+
+impl<'a> Given<'a> {
+    /// How many elements a change gives.
+    pub fn len(&self) -> usize
+        ensures { result ≡ length (given_trees self.now) }
+    {
+        match self {
+            Given::Borrowed(_) => 1,
+            Given::Shared(elements) => elements.len(),
+        }
+    }
+
+    /// Puts the elements behind others.
+    pub fn push_to(&self, alloc: Global, out: &mut Vec<GreenElement>) -> Result<(), AllocError>
+        ensures { OnOk result (element_trees out.new.items ≡ element_trees out.old.items ++ given_trees self.now) }
+    {
+        match self {
+            Given::Borrowed(element) => out.push(element.share(alloc)?)?,
+            Given::Shared(elements) => share_all(alloc, out, elements)?,
+        }
+        Ok(())
+    }
+}
