@@ -93,7 +93,7 @@ fn payloads<'a>(alloc: Global, changes: &'a [Change]) -> Result<Vec<Given<'a>>, 
     ensures long { IfOk result (λ v. length v.items ≡ length changes.now) }
     ensures payloads { IfOk result (λ v. (c : ℕ) → given_by v.items c ≡ map subtree (payload_of changes.now c)) }
 {
-    let mut payloads = Vec::new(alloc);
+    let mut payloads = Vec::with_capacity(alloc, changes.len())?;
     for change in changes {
         payloads.push(change.brought(alloc)?)?;
     }

@@ -51,7 +51,7 @@ fn independent_aims<'a>(
     requires fates { fates.now ≡ map (fate changes.now) changes.now }
     ensures { IfOk result (λ v. aims_of v.items ≡ independents changes.now) }
 {
-    let mut aims = Vec::new(alloc);
+    let mut aims = Vec::with_capacity(alloc, changes.len())?;
     for number in 0..changes.len() {
         if fates[number].is_independent() {
             let Some(aim) = changes[number].aimed(number) else {
@@ -161,7 +161,7 @@ fn elements_at(
     requires there { All (λ p. IsElement (element_at root.now p)) (paths_of paths.now) }
     ensures { IfOk result (λ v. map Some v.items ≡ map (syntax_at root.now) (paths_of paths.now)) }
 {
-    let mut elements = Vec::new(alloc);
+    let mut elements = Vec::with_capacity(alloc, paths.len())?;
     for path in paths {
         match root.element_at(alloc, path)? {
             Some(element) => elements.push(element)?,

@@ -117,7 +117,7 @@ pub fn rebuild(
     };
     let children = node.children();
     let groups = grouped(alloc, aims, children.len())?;
-    let mut out = Vec::new(alloc);
+    let mut out = Vec::with_capacity(alloc, children.len())?;
     push_gap(alloc, &mut out, aims, given, 0)?;
     for slot in 0..children.len() {
         let group = groups[slot].as_slice();

@@ -33,7 +33,7 @@ loop-slot-init t c =
     let cs = aims_of c.args.aims.now in
     let ts : List SyntaxTree = c.in-Node.node.children in
     record {
-      tree = ap (λ xs. xs ++ left kind_only given cs 0 ts) (c.in_ok-push_gap.ensures ∙ ap (λ es. element_trees es ++ gap kind_only given cs [] 0) c.new-out.ensures.items) ∙ gap-slots kind_only given cs 0 (forest ts);
+      tree = ap (λ xs. xs ++ left kind_only given cs 0 ts) (c.in_ok-push_gap.ensures ∙ ap (λ es. element_trees es ++ gap kind_only given cs [] 0) c.in_ok-out.ensures.items) ∙ gap-slots kind_only given cs 0 (forest ts);
       builds = omega arith;
     }
 
