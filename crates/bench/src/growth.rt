@@ -10,8 +10,8 @@ use std::rt::Clock;
 use std::time::Instant;
 use syntax_editor::{EditPlan, SyntaxEditor};
 
-/// How often all sizes are gone through, and how often each is measured then, one time after another.
-const ROUNDS: usize = 3;
+/// How often all growths are gone through, and how often each size is measured then, one time after another.
+const ROUNDS: usize = 5;
 
 const TRIES: usize = 3;
 
@@ -49,6 +49,24 @@ enum Growth {
     /// The times that a payload of 4,096 notes is brought.
     Times,
 }
+
+const GROWTHS: [Growth; 15] = [
+    Growth::Changes(Subject::Literals),
+    Growth::Size(Subject::Literals),
+    Growth::Both(Subject::Literals),
+    Growth::Changes(Subject::Statements),
+    Growth::Size(Subject::Statements),
+    Growth::Both(Subject::Statements),
+    Growth::Changes(Subject::Leaves),
+    Growth::Size(Subject::Leaves),
+    Growth::Both(Subject::Leaves),
+    Growth::Chains,
+    Growth::Payloads,
+    Growth::Depth,
+    Growth::Notes,
+    Growth::PayloadNotes,
+    Growth::Times,
+];
 
 /// How many changes were recorded, how many bytes the new text has, and how many seconds it took to record the changes, to
 /// plan the edit and to carry it out.
@@ -221,12 +239,21 @@ fn tried<R: Clock>(rt: &R, alloc: Global, case: Case) -> Result<Figures> {
 }
 
 // The figures of each size.
-fn round<R: Clock>(rt: &R, alloc: Global, growth: Growth) -> Result<Vec<Figures>> {
+fn sizes<R: Clock>(rt: &R, alloc: Global, growth: Growth) -> Result<Vec<Figures>> {
     let mut figures = Vec::with_capacity(alloc, SIZES.len())?;
     for number in SIZES {
         figures.push(tried(rt, alloc, growth.case(number))?)?;
     }
     Ok(figures)
+}
+
+// The figures of each growth.
+fn round<R: Clock>(rt: &R, alloc: Global) -> Result<Vec<Vec<Figures>>> {
+    let mut round = Vec::with_capacity(alloc, GROWTHS.len())?;
+    for growth in GROWTHS {
+        round.push(sizes(rt, alloc, growth)?)?;
+    }
+    Ok(round)
 }
 
 // The shorter times of each size.
@@ -238,13 +265,26 @@ fn shorter(alloc: Global, one: &[Figures], other: &[Figures]) -> Result<Vec<Figu
     Ok(best)
 }
 
-// The shortest times of each size. A while in which the machine is slow does not fall on one size alone, since each round
-// goes through all of them.
-fn shortest<R: Clock>(rt: &R, alloc: Global, growth: Growth) -> Result<Vec<Figures>> {
-    let mut best = round(rt, alloc, growth)?;
+// The shorter times of each size of each growth.
+fn shorter_of_each(
+    alloc: Global,
+    one: &[Vec<Figures>],
+    other: &[Vec<Figures>],
+) -> Result<Vec<Vec<Figures>>> {
+    let mut best = Vec::with_capacity(alloc, one.len())?;
+    for (one, other) in one.iter().zip(other.iter()) {
+        best.push(shorter(alloc, one, other)?)?;
+    }
+    Ok(best)
+}
+
+// The shortest times of each size of each growth. A while in which the machine is slow does not fall on one growth alone, since each
+// round goes through all of them.
+fn shortest<R: Clock>(rt: &R, alloc: Global) -> Result<Vec<Vec<Figures>>> {
+    let mut best = round(rt, alloc)?;
     for _ in 1..ROUNDS {
-        let figures = round(rt, alloc, growth)?;
-        best = shorter(alloc, &best, &figures)?;
+        let figures = round(rt, alloc)?;
+        best = shorter_of_each(alloc, &best, &figures)?;
     }
     Ok(best)
 }
@@ -287,12 +327,11 @@ fn show_powers<R: Print>(rt: &R, growth: Growth, figures: &[Figures]) -> Result<
     Ok(())
 }
 
-fn grown<R: Print + Clock>(rt: &R, alloc: Global, growth: Growth) -> Result<()> {
-    let figures = shortest(rt, alloc, growth)?;
+fn show_growth<R: Print>(rt: &R, alloc: Global, growth: Growth, figures: &[Figures]) -> Result<()> {
     for (number, figures) in SIZES.iter().zip(figures.iter()) {
         show_times(rt, alloc, growth.case(*number), *figures)?;
     }
-    show_powers(rt, growth, &figures)
+    show_powers(rt, growth, figures)
 }
 
 // The C library gives a large list back to the system when it is freed, until one that is larger still has been freed; then it
@@ -306,24 +345,9 @@ fn settle(alloc: Global) -> Result<()> {
 /// Edits that grow, with the time of each.
 pub(crate) fn report_growth<R: Print + Clock>(rt: &R, alloc: Global) -> Result<()> {
     settle(alloc)?;
-    for subject in [Subject::Literals, Subject::Statements, Subject::Leaves] {
-        for growth in [
-            Growth::Changes(subject),
-            Growth::Size(subject),
-            Growth::Both(subject),
-        ] {
-            grown(rt, alloc, growth)?;
-        }
-    }
-    for growth in [
-        Growth::Chains,
-        Growth::Payloads,
-        Growth::Depth,
-        Growth::Notes,
-        Growth::PayloadNotes,
-        Growth::Times,
-    ] {
-        grown(rt, alloc, growth)?;
+    let figures = shortest(rt, alloc)?;
+    for (growth, figures) in GROWTHS.iter().zip(figures.iter()) {
+        show_growth(rt, alloc, *growth, figures)?;
     }
     Ok(())
 }
