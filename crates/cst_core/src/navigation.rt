@@ -27,6 +27,18 @@ impl SyntaxNode {
         Ok(Some(self.location.moved_to(alloc, slots, green)?))
     }
 
+    /// The element of the whole tree that a path of child slots leads to, counted from the tree's root; the path is taken
+    /// over, not copied. `None` where it leads nowhere.
+    pub fn element_of_tree(
+        &self,
+        alloc: Global,
+        path: Vec<usize>,
+    ) -> Result<Option<SyntaxElement>, AllocError>
+        ensures { IfOk result (λ r. r ≡ syntax_at self.now path.items) }
+    {
+        self.location.element_at(alloc, path)
+    }
+
     /// The children, nodes and tokens, in order.
     pub fn children_with_tokens(&self, alloc: Global) -> Result<Vec<SyntaxElement>, AllocError>
         ensures { IfOk result (λ all. all.items ≡ child_elements self.now) }

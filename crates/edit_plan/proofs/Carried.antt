@@ -6,8 +6,7 @@
 --     one-more, one-passed             one change more
 --     independent-at, passed-at        whether the change at a number has no owner, from its fate; one that has is passed over
 --     own-aim                          where a change aims, by its own path
-use Rattle.std.specs.Prelude.{◌≡◌, ℕ, zero, suc, ◌+◌, ◌-◌, ◌<◌, ◌≤◌, Bool, true, false, cond, not, ◌&&◌, List, [], ◌∷◌, ◌++◌, map, filter, filter_map, length, take, slice_get, Vec, Option, Some, None, option_map, is_none, refl}
-use Rattle.std.specs.Global.{Global}
+use Rattle.std.specs.Prelude.{◌≡◌, ℕ, zero, suc, ◌+◌, ◌-◌, ◌<◌, ◌≤◌, Bool, true, false, cond, not, ◌&&◌, List, [], ◌∷◌, ◌++◌, map, filter, filter_map, length, take, slice_get, Option, Some, None, option_map, is_none, refl}
 use Rattle.std.specs.List.{enumerate_from}
 use Rattle.std.specs.Option.{option_map_or}
 use Rattle.std.proofs.Common.{ap, ap₂, sym, subst, ◌∙◌, arith, get_or}
@@ -22,14 +21,14 @@ use Rattle.cst_core.specs.Tree.{SyntaxTree}
 use Rattle.cst_core.specs.Tree as tree
 use Rattle.cst_core.specs.declared.element.SyntaxElement.TheVariants.{Token}
 use Rattle.cst_core.specs.Element.{Element, subtree}
-use Rattle.cst_core.specs.GreenElement.{element_trees}
 use Rattle.cst_core.specs.SyntaxElement.{element_of}
 use Rattle.cst_core.specs.declared.element.SyntaxElement.{SyntaxElement}
 use Rattle.cst_core.proofs.LastSlot.{parent-and-slot}
 use Rattle.rewriting.specs.Aimed.{siblings_from}
 use Rattle.rewriting.specs.Pass.{given_by}
 use Rattle.rewriting.specs.Rewriting.{NumberedAim}
-use Rattle.green_tree.specs.declared.green.GreenElement.{GreenElement}
+use Rattle.rewriting.specs.declared.given.Given.{Given}
+use Rattle.rewriting.specs.Given.{given_trees}
 use Rattle.edit_plan.specs.Aim.{position_aim, aim, aim_path}
 use Rattle.edit_plan.specs.Position.{anchor}
 use Rattle.edit_plan.specs.Owned.{position_aim_from, aim_from}
@@ -75,13 +74,13 @@ more-trees es i e l is =
     let more : take (i + 1) es ≡ take i es ++ e ∷ [] = let n : i + 1 ≡ suc i = omega arith in ap (λ k. take k es) n ∙ take-suc es i e l ∙ ap (λ x. take i es ++ x ∷ []) (sym is) in
     sym (ap (λ xs. map subtree (map element_of xs)) more ∙ ap (map subtree) (map-append element_of (take i es) (e ∷ [])) ∙ map-append subtree (map element_of (take i es)) (element_of e ∷ []))
 
-abbrev pub tables : List (Vec GreenElement Global) → List (List SyntaxTree)
-tables vs = map (λ v. element_trees v.items) vs
+abbrev pub tables : List Given → List (List SyntaxTree)
+tables vs = map given_trees vs
 
-pub more-tables : (vs : List (Vec GreenElement Global)) (v : Vec GreenElement Global) (cs : List Change) (i : ℕ) (c : Change) → i < length cs → c ≡ get_or cs i c → tables vs ≡ map brought_trees (take i cs) → element_trees v.items ≡ brought_trees c → tables (vs ++ v ∷ []) ≡ map brought_trees (take (i + 1) cs)
+pub more-tables : (vs : List Given) (v : Given) (cs : List Change) (i : ℕ) (c : Change) → i < length cs → c ≡ get_or cs i c → tables vs ≡ map brought_trees (take i cs) → given_trees v ≡ brought_trees c → tables (vs ++ v ∷ []) ≡ map brought_trees (take (i + 1) cs)
 more-tables vs v cs i c l is before here =
     let more : take (i + 1) cs ≡ take i cs ++ c ∷ [] = let n : i + 1 ≡ suc i = omega arith in ap (λ k. take k cs) n ∙ take-suc cs i c l ∙ ap (λ x. take i cs ++ x ∷ []) (sym is) in
-    map-append (λ v. element_trees v.items) vs (v ∷ []) ∙ ap₂ (λ xs x. xs ++ x ∷ []) before here ∙ sym (ap (map brought_trees) more ∙ map-append brought_trees (take i cs) (c ∷ []))
+    map-append given_trees vs (v ∷ []) ∙ ap₂ (λ xs x. xs ++ x ∷ []) before here ∙ sym (ap (map brought_trees) more ∙ map-append brought_trees (take i cs) (c ∷ []))
 
 lookup : {X : Type 0} → (X → List SyntaxTree) → List X → ℕ → List SyntaxTree
 lookup f xs c = option_map_or (λ ts. ts) (slice_get (map f xs) c) []
@@ -95,10 +94,10 @@ payload-of : (cs : List Change) (c : ℕ) → option_map_or brought_trees (slice
 payload-of cs c =
     elim (slice_get cs c) as (λ o. option_map_or brought_trees o [] ≡ map subtree (option_map_or payload o [])) [ None ↦ refl | Some x ↦ refl ]
 
-pub table-is : (vs : List (Vec GreenElement Global)) (cs : List Change) → tables vs ≡ map brought_trees cs → (c : ℕ) → given_by vs c ≡ map subtree (payload_of cs c)
+pub table-is : (vs : List Given) (cs : List Change) → tables vs ≡ map brought_trees cs → (c : ℕ) → given_by vs c ≡ map subtree (payload_of cs c)
 unfolding lookup
 table-is vs cs is c =
-    sym (looked-up (λ v. element_trees v.items) vs c) ∙ ap (λ ts. option_map_or (λ t. t) (slice_get ts c) []) is ∙ looked-up brought_trees cs c ∙ payload-of cs c
+    sym (looked-up given_trees vs c) ∙ ap (λ ts. option_map_or (λ t. t) (slice_get ts c) []) is ∙ looked-up brought_trees cs c ∙ payload-of cs c
 
 -- ---- the changes without an owner, of the first so many
 abbrev pub independents-to : List Change → ℕ → List NumberedAim

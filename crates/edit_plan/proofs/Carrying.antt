@@ -15,9 +15,9 @@ use Rattle.cst_core.specs.Tree.{Tree, text_length}
 use Rattle.cst_core.specs.TreeIds.{IsSpent}
 use Rattle.cst_core.specs.Element.{NumbersTell, address, subtree}
 use Rattle.cst_core.specs.Green.{Branch, branch_tree, length_limit}
-use Rattle.cst_core.specs.GreenElement.{element_trees, element_tree}
 use Rattle.cst_core.specs.SyntaxElement.{element_of, syntax_at}
-use Rattle.green_tree.specs.declared.green.GreenElement.{GreenElement}
+use Rattle.rewriting.specs.declared.given.Given.{Given}
+use Rattle.rewriting.specs.Given.{given_trees}
 use Rattle.green_tree.specs.declared.error.TreeError.{TreeError}
 use Rattle.green_tree.specs.declared.error.TreeError.TheVariants as tree
 use Rattle.rewriting.specs.Pass.{kind_only, given_by}
@@ -41,17 +41,17 @@ use Rattle.edit_plan.proofs.Filled.{text-relabelled}
 use Rattle.edit_plan.proofs.Brought.{marked, alone}
 use Rattle.edit_plan.proofs.Whole.{plain-whole, changed-whole, one-made, count-marked}
 
-count-given : (vs : List (Vec GreenElement Global)) (c : ℕ) → length (given_by vs c) ≡ count_of (map (λ g. length g.items) vs) c
+count-given : (vs : List Given) (c : ℕ) → length (given_by vs c) ≡ count_of (map (λ g. length (given_trees g)) vs) c
 count-given vs c =
-    (elim (slice_get vs c) as (λ o. length (option_map_or (λ v. element_trees v.items) o []) ≡ option_map_or (λ n. n) (option_map (λ g. length g.items) o) 0) [
+    (elim (slice_get vs c) as (λ o. length (option_map_or given_trees o []) ≡ option_map_or (λ n. n) (option_map (λ g. length (given_trees g)) o) 0) [
       | None ↦ refl
-      | Some v ↦ length-map v.items element_tree
-    ]) ∙ ap (λ o. option_map_or (λ n. n) o 0) (sym (slice_get-map (λ g. length g.items) vs c))
+      | Some v ↦ refl
+    ]) ∙ ap (λ o. option_map_or (λ n. n) o 0) (sym (slice_get-map (λ g. length (given_trees g)) vs c))
 
 pub record Passed (p : Plan) (green : Branch) (paths : List Path) (annotations : List (ℕ × Path)) : Type 0 where
   pub places : ℕ → Path
   pub placed : ArePlaces p.mapping p.changes places
-  pub table : List (Vec GreenElement Global)
+  pub table : List Given
   pub table_is : AreGiven p.changes places table
   pub aims : List NumberedAim
   pub aims_are : aims ≡ independents p.changes
@@ -60,7 +60,7 @@ pub record Passed (p : Plan) (green : Branch) (paths : List Path) (annotations :
   pub owned_are : AreDependents p.changes places owned
   pub annotated : AreAnnotated p owned annotations
   pub counts : List ℕ
-  pub counts_are : counts ≡ map (λ g. length g.items) table
+  pub counts_are : counts ≡ map (λ g. length (given_trees g)) table
   pub paths_are : (given : ℕ → List (Tree Bool)) → AreCounted counts given → paths ≡ flat_map (topmost (λ b. b)) (rewritten_whole not_given given aims (subtree p.root))
 
 module _ (p : Plan) (green : Branch) (paths : List Path) (annotations : List (ℕ × Path)) (passed : Passed p green paths annotations) where

@@ -14,7 +14,7 @@ use Rattle.cst_core.specs.Path.{Path}
 use Rattle.cst_core.specs.Tree.{Tree, SyntaxTree, label, at, paths, relabelled}
 use Rattle.cst_core.specs.Element.{Address, Element, IsElement, element_at, same_address}
 use Rattle.cst_core.specs.SyntaxElement.{syntax_as, syntax_at}
-use Rattle.rewriting.specs.Topmost.{holds_at, parent_holds, topmost, paths_of}
+use Rattle.rewriting.specs.Topmost.{holds_at, parent_holds, topmost}
 use Rattle.edit_plan.specs.Building.{Plan, IsRewritten}
 use Rattle.edit_plan.specs.Rewriting.{OriginTree, is_free}
 use Rattle.edit_plan.specs.Marks.{annotated_path, numbered_paths}
@@ -69,14 +69,11 @@ no-value-nowhere e q some none =
       | Some t ↦ λ h n. cc
     ]) some none
 
--- one of these paths, each of which leads to an element, leads to a value
-pub leads : (e : Element) (vs : List (Vec ℕ Global)) (i : ℕ) (v : Vec ℕ Global) (q : Path) → e.path ≡ [] → All (λ p. IsElement (element_at e p)) (paths_of vs) → i < length vs → v ≡ get_or vs i v → q ≡ v.items → syntax_at e (e.path ++ q) ≡ None → ⊥
-leads e vs i v q root there lt is same none =
-    let here : i < length (paths_of vs) = subst (λ n. i < n) (sym (length-map vs (λ w. w.items))) lt in
-    let item : get_or (paths_of vs) i v.items ≡ q = get_or-map (λ w. w.items) vs i v v.items lt ∙ sym (ap (λ w. w.items) is) ∙ sym same in
-    no-value-nowhere e q (subst (λ p. IsSome (at e.root p)) item (there i v.items here)) (ap (λ p. syntax_at e (p ++ q)) (sym root) ∙ none)
+-- where an element stands, its value is found
+pub leads : (e : Element) (q : Path) → IsElement (element_at e q) → syntax_at e q ≡ None → ⊥
+leads = no-value-nowhere
 
--- the same of paths with annotations
+-- one of these paths with annotations, each of which leads to an element, leads to a value
 pub leads-pair : (e : Element) (ns : List (ℕ × Vec ℕ Global)) (i : ℕ) (n : ℕ × Vec ℕ Global) (q : Path) → e.path ≡ [] → All (λ m. IsElement (element_at e m.1)) (map annotated_path ns) → i < length ns → n ≡ get_or ns i n → q ≡ n.1.items → syntax_at e (e.path ++ q) ≡ None → ⊥
 leads-pair e ns i n q root there lt is same none =
     let here : i < length (map annotated_path ns) = subst (λ k. i < k) (sym (length-map ns annotated_path)) lt in

@@ -4,6 +4,7 @@ ghost use Rattle.cst_core.specs.GreenElement.{element_trees};
 ghost use Rattle.cst_core.specs.SyntaxElement.{element_of};
 ghost use Rattle.cst_core.specs.Path.{last_slot};
 ghost use Rattle.rewriting.specs.Aimed.{numbered};
+ghost use Rattle.rewriting.specs.Given.{given_trees};
 ghost use Rattle.edit_plan.specs.Aim.{aim, aim_path};
 ghost use Rattle.edit_plan.specs.Change.{payload};
 ghost use Rattle.edit_plan.specs.Fits.{Fits};
@@ -12,8 +13,8 @@ ghost use Rattle.edit_plan.specs.Owned.{aim_from, position_aim_from, depth};
 use crate::change::Change;
 use crate::position::Position;
 use crate::targets::slot;
-use cst_core::{GreenElement, SyntaxElement};
-use rewriting::Aimed;
+use cst_core::SyntaxElement;
+use rewriting::{Aimed, Given};
 use std::alloc::{AllocError, Global};
 
 impl Position {
@@ -82,17 +83,17 @@ impl Change {
         self.aimed_from(number, self.aim_path())
     }
 
-    /// The shared trees of the elements that the change brings.
-    pub(crate) fn brought(&self, alloc: Global) -> Result<Vec<GreenElement>, AllocError>
-        ensures { IfOk result (λ v. element_trees v.items ≡ map subtree (payload self.now)) }
+    /// The elements that the change brings.
+    pub(crate) fn brought(&self, alloc: Global) -> Result<Given<'_>, AllocError>
+        ensures { IfOk result (λ g. given_trees g ≡ map subtree (payload self.now)) }
     {
         match self {
-            Change::Insert(_, element) => one(alloc, element),
-            Change::InsertAll(_, elements) => all(alloc, elements.as_slice()),
-            Change::Replace(_, None) => Ok(Vec::new(alloc)),
-            Change::Replace(_, Some(element)) => one(alloc, element),
-            Change::ReplaceWithMany(_, elements) => all(alloc, elements.as_slice()),
-            Change::ReplaceAll(_, _, elements) => all(alloc, elements.as_slice()),
+            Change::Insert(_, element) => Ok(Given::Borrowed(element.as_green())),
+            Change::InsertAll(_, elements) => shared(alloc, elements.as_slice()),
+            Change::Replace(_, None) => Ok(Given::Shared(Vec::new(alloc))),
+            Change::Replace(_, Some(element)) => Ok(Given::Borrowed(element.as_green())),
+            Change::ReplaceWithMany(_, elements) => shared(alloc, elements.as_slice()),
+            Change::ReplaceAll(_, _, elements) => shared(alloc, elements.as_slice()),
         }
     }
 }
@@ -105,20 +106,12 @@ fn count_of_range(first: &[usize], last: &[usize]) -> Option<usize>
     behind.checked_add(1)
 }
 
-fn one(alloc: Global, element: &SyntaxElement) -> Result<Vec<GreenElement>, AllocError>
-    ensures { IfOk result (λ v. element_trees v.items ≡ subtree (element_of element.now) ∷ []) }
-{
-    let mut greens = Vec::with_capacity(alloc, 1)?;
-    greens.push(element.green(alloc)?)?;
-    Ok(greens)
-}
-
-fn all(alloc: Global, elements: &[SyntaxElement]) -> Result<Vec<GreenElement>, AllocError>
-    ensures { IfOk result (λ v. element_trees v.items ≡ map subtree (map element_of elements.now)) }
+fn shared<'a>(alloc: Global, elements: &[SyntaxElement]) -> Result<Given<'a>, AllocError>
+    ensures { IfOk result (λ g. given_trees g ≡ map subtree (map element_of elements.now)) }
 {
     let mut greens = Vec::with_capacity(alloc, elements.len())?;
     for element in elements {
         greens.push(element.green(alloc)?)?;
     }
-    Ok(greens)
+    Ok(Given::Shared(greens))
 }

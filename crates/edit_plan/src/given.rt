@@ -15,7 +15,7 @@ use crate::by_depth::owners_by_depth;
 use crate::change::Change;
 use crate::dependent::{Dependent, moved_aims};
 use cst_core::GreenElement;
-use rewriting::{Aimed, rebuild};
+use rewriting::{Aimed, Given, rebuild};
 use std::alloc::{AllocError, Global};
 
 // These elements, each rewritten.
@@ -23,7 +23,7 @@ fn rewritten_each(
     alloc: Global,
     elements: &[GreenElement],
     aims: &[Aimed],
-    given: &[Vec<GreenElement>],
+    given: &[Given],
 ) -> Result<Vec<GreenElement>, AllocError>
     ensures { IfOk result (λ v. element_trees v.items ≡ map (rewritten kind_only (given_by given.now) (aims_of aims.now) []) (element_trees elements.now)) }
 {
@@ -40,11 +40,11 @@ fn rewritten_payload(
     alloc: Global,
     change: &Change,
     aims: &[Aimed],
-    given: &[Vec<GreenElement>],
+    given: &[Given],
 ) -> Result<Vec<GreenElement>, AllocError>
     ensures { IfOk result (λ v. element_trees v.items ≡ map (rewritten kind_only (given_by given.now) (aims_of aims.now) []) (map subtree (payload change.now))) }
 {
-    let brought = change.brought(alloc)?;
+    let brought = change.brought(alloc)?.elements(alloc)?;
     rewritten_each(alloc, &brought, aims, given)
 }
 
@@ -54,7 +54,7 @@ fn fill(
     changes: &[Change],
     owner: usize,
     dependents: &[Dependent],
-    given: &mut Vec<Vec<GreenElement>>,
+    given: &mut Vec<Given>,
 ) -> Result<(), AllocError>
     requires there { owner < length changes.now }
     requires long { length given.now.items ≡ length changes.now }
@@ -63,7 +63,7 @@ fn fill(
 {
     let aims = moved_aims(alloc, dependents)?;
     let rewritten = rewritten_payload(alloc, &changes[owner], &aims, given)?;
-    given[owner] = rewritten;
+    given[owner] = Given::Shared(rewritten);
     Ok(())
 }
 
@@ -73,7 +73,7 @@ fn fill_level(
     changes: &[Change],
     dependents: &[Vec<Dependent>],
     owners: &[usize],
-    given: &mut Vec<Vec<GreenElement>>,
+    given: &mut Vec<Given>,
 ) -> Result<(), AllocError>
     requires owned { length dependents.now ≡ length changes.now }
     requires there { All (λ c. c < length changes.now) owners.now }
@@ -88,11 +88,11 @@ fn fill_level(
 }
 
 // What each change brings, by its number.
-fn payloads(alloc: Global, changes: &[Change]) -> Result<Vec<Vec<GreenElement>>, AllocError>
+fn payloads<'a>(alloc: Global, changes: &'a [Change]) -> Result<Vec<Given<'a>>, AllocError>
     ensures long { IfOk result (λ v. length v.items ≡ length changes.now) }
     ensures payloads { IfOk result (λ v. (c : ℕ) → given_by v.items c ≡ map subtree (payload_of changes.now c)) }
 {
-    let mut payloads = Vec::new(alloc);
+    let mut payloads = Vec::with_capacity(alloc, changes.len())?;
     for change in changes {
         payloads.push(change.brought(alloc)?)?;
     }
@@ -103,11 +103,11 @@ fn payloads(alloc: Global, changes: &[Change]) -> Result<Vec<Vec<GreenElement>>,
 ///
 /// An owner comes after all that is deeper. Takes time linear in the changes and the depth of the deepest one, and what the passes
 /// through the owners' payloads take.
-pub(crate) fn given(
+pub(crate) fn given<'a>(
     alloc: Global,
-    changes: &[Change],
+    changes: &'a [Change],
     dependents: &[Vec<Dependent>],
-) -> Result<Vec<Vec<GreenElement>>, AllocError>
+) -> Result<Vec<Given<'a>>, AllocError>
     requires { length dependents.now ≡ length changes.now }
     ensures long { IfOk result (λ v. length v.items ≡ length changes.now) }
     ensures given { IfOk result (λ v. (places : ℕ → Path) → AreDependents changes.now places dependents.now → AreGiven changes.now places v.items) }

@@ -5,6 +5,7 @@ ghost use Rattle.cst_core.specs.Element.{Element, IsElement, element_at, subtree
 ghost use Rattle.cst_core.specs.GreenElement.{element_trees};
 ghost use Rattle.cst_core.specs.SyntaxElement.{syntax_at};
 ghost use Rattle.rewriting.specs.Aimed.{aims_of};
+ghost use Rattle.rewriting.specs.Given.{given_trees};
 ghost use Rattle.rewriting.specs.Pass.{kind_only, given_by};
 ghost use Rattle.rewriting.specs.Rewriting.{rewritten_whole};
 ghost use Rattle.rewriting.specs.Topmost.{paths_of};
@@ -29,7 +30,7 @@ use crate::fate::Fate;
 use crate::given::given;
 use crate::plan::EditPlan;
 use cst_core::{GreenElement, GreenNode, SyntaxElement, SyntaxNode, TreeIds};
-use rewriting::{Aimed, places_of_given_whole, rebuild_whole};
+use rewriting::{Aimed, Given, places_of_given_whole, rebuild_whole};
 use std::alloc::{AllocError, Global};
 
 // A tree that is not a root's yet, the paths of the elements that changes brought, and those of annotated ones.
@@ -50,7 +51,7 @@ fn independent_aims<'a>(
     requires fates { fates.now ≡ map (fate changes.now) changes.now }
     ensures { IfOk result (λ v. aims_of v.items ≡ independents changes.now) }
 {
-    let mut aims = Vec::new(alloc);
+    let mut aims = Vec::with_capacity(alloc, changes.len())?;
     for number in 0..changes.len() {
         if fates[number].is_independent() {
             let Some(aim) = changes[number].aimed(number) else {
@@ -83,7 +84,7 @@ impl EditPlan {
         &self,
         alloc: Global,
         dependents: &[Vec<Dependent>],
-    ) -> Result<Vec<Vec<GreenElement>>, AllocError>
+    ) -> Result<Vec<Given<'_>>, AllocError>
         requires { length dependents.now ≡ length self.now.changes }
         ensures { IfOk result (λ v. (places : ℕ → Path) → AreDependents self.now.changes places dependents.now → AreGiven self.now.changes places v.items) }
     {
@@ -118,7 +119,7 @@ impl EditPlan {
         &self,
         alloc: Global,
         aims: &[Aimed],
-        given: &[Vec<GreenElement>],
+        given: &[Given],
     ) -> Result<GreenNode, AllocError>
         ensures { IfOk result (λ n. rewritten_whole kind_only (given_by given.now) (aims_of aims.now) (subtree self.now.root) ≡ branch_tree n ∷ []) }
     {
@@ -144,25 +145,24 @@ fn only_node(mut elements: Vec<GreenElement>) -> Option<GreenNode>
 }
 
 // How many elements each change gives.
-fn counts(alloc: Global, given: &[Vec<GreenElement>]) -> Result<Vec<usize>, AllocError>
-    ensures { IfOk result (λ v. v.items ≡ map (λ g. length g.items) given.now) }
+fn counts(alloc: Global, given: &[Given]) -> Result<Vec<usize>, AllocError>
+    ensures { IfOk result (λ v. v.items ≡ map (λ g. length (given_trees g)) given.now) }
 {
-    given.iter().map(|elements| elements.len()).collect(alloc)
+    given.iter().map(|given| given.len()).collect(alloc)
 }
 
 // The elements that these paths lead to, counted from a root.
 fn elements_at(
     alloc: Global,
     root: &SyntaxNode,
-    paths: &[Vec<usize>],
+    paths: Vec<Vec<usize>>,
 ) -> Result<Vec<SyntaxElement>, AllocError>
-    requires is_root { root.now.path ≡ [] }
-    requires there { All (λ p. IsElement (element_at root.now p)) (paths_of paths.now) }
-    ensures { IfOk result (λ v. map Some v.items ≡ map (syntax_at root.now) (paths_of paths.now)) }
+    requires { All (λ p. IsElement (element_at root.now p)) (paths_of paths.items) }
+    ensures { IfOk result (λ v. map Some v.items ≡ map (syntax_at root.now) (paths_of paths.items)) }
 {
-    let mut elements = Vec::new(alloc);
+    let mut elements = Vec::with_capacity(alloc, paths.len())?;
     for path in paths {
-        match root.element_at(alloc, path)? {
+        match root.element_of_tree(alloc, path)? {
             Some(element) => elements.push(element)?,
             None => unreachable!(),
         }
@@ -215,7 +215,7 @@ impl EditPlan {
         // The number is drawn last, when nothing can fail any more.
         let mut own = TreeIds::new(next_number(ids));
         let new_root = SyntaxNode::new_root(alloc, &mut own, green)?;
-        let changed = elements_at(alloc, &new_root, &changed)?;
+        let changed = elements_at(alloc, &new_root, changed)?;
         let annotated = elements_by_annotation(alloc, &new_root, &annotated)?;
         let old_root = self.root.try_clone(alloc)?;
         ids.next();

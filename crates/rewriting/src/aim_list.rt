@@ -89,7 +89,7 @@ pub fn grouped<'a>(
     ensures size { IfOk result (λ v. length v.items ≡ count) }
     ensures groups { IfOk result (λ v. (k : ℕ) (d : List Aimed) → k < count → get_or v.items k d ≡ filter (concerns k) aims.now) }
 {
-    let mut groups = Vec::new(alloc);
+    let mut groups = Vec::with_capacity(alloc, count)?;
     for _ in 0..count {
         groups.push(Group::new())?;
     }

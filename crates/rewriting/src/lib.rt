@@ -4,14 +4,17 @@
 mod aim_list;
 mod aimed;
 mod few;
+mod given;
 mod group;
 mod lone;
 mod mark;
 mod marked;
 mod pass;
+mod piece;
 mod topmost;
 
 pub use aimed::Aimed;
+pub use given::Given;
 pub use mark::{GivenMarks, Mark, Sought};
 pub use marked::{marks_of_whole, push_marks};
 pub use pass::{rebuild, rebuild_whole};

@@ -5,89 +5,75 @@ ghost use Rattle.rewriting.specs.Rewriting.{gap, replacements_at, rewritten, rew
 ghost use Rattle.rewriting.specs.Effort.{touched, parents_of};
 ghost use Rattle.rewriting.specs.Aimed.{aims_of};
 ghost use Rattle.rewriting.specs.Pass.{kind_only, given_by};
+ghost use Rattle.rewriting.specs.Piece.{piece_tree, piece_trees};
 
 use crate::aim_list::{alter_some, below, grouped, is_replaced, top_is_replaced};
 use crate::aimed::Aimed;
+use crate::given::Given;
+use crate::piece::{Piece, elements};
 use green_tree::{GreenElement, GreenNode, SyntaxKind};
 use std::alloc::{AllocError, Global};
 
-fn share_all(
-    alloc: Global,
-    out: &mut Vec<GreenElement>,
-    from: &[GreenElement],
-) -> Result<(), AllocError>
-    ensures { OnOk result (out.new.items ≡ out.old.items ++ from.now) }
-{
-    for element in from {
-        out.push(element.share(alloc)?)?;
-    }
-    Ok(())
-}
-
-fn push_given(
-    alloc: Global,
-    out: &mut Vec<GreenElement>,
-    given: &[Vec<GreenElement>],
+fn push_given<'a>(
+    out: &mut Vec<Piece<'a>>,
+    given: &'a [Given<'a>],
     change: usize,
 ) -> Result<(), AllocError>
-    ensures { OnOk result (element_trees out.new.items ≡ element_trees out.old.items ++ given_by given.now change) }
+    ensures { OnOk result (piece_trees out.new.items ≡ piece_trees out.old.items ++ given_by given.now change) }
 {
-    let Some(elements) = given.get(change) else {
+    let Some(given) = given.get(change) else {
         return Ok(());
     };
-    share_all(alloc, out, elements)?;
+    given.push_to(out)?;
     Ok(())
 }
 
-fn push_replacements(
-    alloc: Global,
-    out: &mut Vec<GreenElement>,
+fn push_replacements<'a>(
+    out: &mut Vec<Piece<'a>>,
     aims: &[Aimed],
-    given: &[Vec<GreenElement>],
+    given: &'a [Given<'a>],
     slot: usize,
 ) -> Result<(), AllocError>
-    ensures { OnOk result (element_trees out.new.items ≡ element_trees out.old.items ++ flat_map (given_by given.now) (replacements_at (aims_of aims.now) (slot ∷ []))) }
+    ensures { OnOk result (piece_trees out.new.items ≡ piece_trees out.old.items ++ flat_map (given_by given.now) (replacements_at (aims_of aims.now) (slot ∷ []))) }
 {
     for aim in aims {
         if aim.starts_at(slot) {
-            push_given(alloc, out, given, aim.change())?;
+            push_given(out, given, aim.change())?;
         }
     }
     Ok(())
 }
 
-fn push_for_top(
-    alloc: Global,
-    out: &mut Vec<GreenElement>,
+fn push_for_top<'a>(
+    out: &mut Vec<Piece<'a>>,
     aims: &[Aimed],
-    given: &[Vec<GreenElement>],
+    given: &'a [Given<'a>],
 ) -> Result<(), AllocError>
-    ensures { OnOk result (element_trees out.new.items ≡ element_trees out.old.items ++ flat_map (given_by given.now) (replacements_at (aims_of aims.now) [])) }
+    ensures { OnOk result (piece_trees out.new.items ≡ piece_trees out.old.items ++ flat_map (given_by given.now) (replacements_at (aims_of aims.now) [])) }
 {
     for aim in aims {
         if aim.replaces_top() {
-            push_given(alloc, out, given, aim.change())?;
+            push_given(out, given, aim.change())?;
         }
     }
     Ok(())
 }
 
 // The insert recorded last stands first.
-fn push_gap(
-    alloc: Global,
-    out: &mut Vec<GreenElement>,
+fn push_gap<'a>(
+    out: &mut Vec<Piece<'a>>,
     aims: &[Aimed],
-    given: &[Vec<GreenElement>],
+    given: &'a [Given<'a>],
     index: usize,
 ) -> Result<(), AllocError>
-    ensures { OnOk result (element_trees out.new.items ≡ element_trees out.old.items ++ gap kind_only (given_by given.now) (aims_of aims.now) [] index) }
+    ensures { OnOk result (piece_trees out.new.items ≡ piece_trees out.old.items ++ gap kind_only (given_by given.now) (aims_of aims.now) [] index) }
 {
     let mut left = aims.len();
     while left > 0 {
         left -= 1;
         let aim = &aims[left];
         if aim.inserts_at(index) {
-            push_given(alloc, out, given, aim.change())?;
+            push_given(out, given, aim.change())?;
         }
     }
     Ok(())
@@ -107,6 +93,41 @@ fn build_node(
     Ok(GreenElement::Node(GreenNode::capped(alloc, kind, children)?))
 }
 
+// Only what an aim is in or below is built. An aim over the top itself is passed over.
+fn rebuilt<'a>(
+    alloc: Global,
+    element: &'a GreenElement,
+    aims: &[Aimed],
+    given: &'a [Given<'a>],
+    builds: &mut u64,
+) -> Result<Piece<'a>, AllocError>
+    ensures builds { OnOk result (builds.new ≤ builds.old + touched (element_tree element.now) (parents_of (aims_of aims.now))) }
+    ensures tree { IfOk result (λ p. piece_tree p ≡ rewritten kind_only (given_by given.now) (aims_of aims.now) [] (element_tree element.now)) }
+{
+    if !alter_some(aims) {
+        return Ok(Piece::Borrowed(element.as_ref()));
+    }
+    let GreenElement::Node(node) = element else {
+        return Ok(Piece::Borrowed(element.as_ref()));
+    };
+    let children = node.children();
+    let groups = grouped(alloc, aims, children.len())?;
+    let mut out = Vec::with_capacity(alloc, children.len())?;
+    push_gap(&mut out, aims, given, 0)?;
+    for slot in 0..children.len() {
+        let group = groups[slot].as_slice();
+        if is_replaced(group, slot) {
+            push_replacements(&mut out, group, given, slot)?;
+        } else {
+            let inner = below(alloc, group, slot)?;
+            out.push(rebuilt(alloc, &children[slot], &inner, given, builds)?)?;
+        }
+        push_gap(&mut out, group, given, slot + 1)?;
+    }
+    let built = build_node(alloc, node.kind(), elements(alloc, out)?, builds)?;
+    Ok(Piece::Built(built))
+}
+
 /// The element made anew by changes whose aims are counted from it: `given` has what each change gives, by its number.
 /// Only the nodes above an aim are built, and what no aim is in or below is shared; `builds` counts the nodes. An aim over
 /// the top itself is passed over: see `rebuild_whole`. Takes time linear in the aims times their depth, the children of
@@ -115,33 +136,13 @@ pub fn rebuild(
     alloc: Global,
     element: &GreenElement,
     aims: &[Aimed],
-    given: &[Vec<GreenElement>],
+    given: &[Given],
     builds: &mut u64,
 ) -> Result<GreenElement, AllocError>
     ensures builds { OnOk result (builds.new ≤ builds.old + touched (element_tree element.now) (parents_of (aims_of aims.now))) }
     ensures tree { IfOk result (λ e. element_tree e ≡ rewritten kind_only (given_by given.now) (aims_of aims.now) [] (element_tree element.now)) }
 {
-    if !alter_some(aims) {
-        return element.share(alloc);
-    }
-    let GreenElement::Node(node) = element else {
-        return element.share(alloc);
-    };
-    let children = node.children();
-    let groups = grouped(alloc, aims, children.len())?;
-    let mut out = Vec::new(alloc);
-    push_gap(alloc, &mut out, aims, given, 0)?;
-    for slot in 0..children.len() {
-        let group = groups[slot].as_slice();
-        if is_replaced(group, slot) {
-            push_replacements(alloc, &mut out, group, given, slot)?;
-        } else {
-            let inner = below(alloc, group, slot)?;
-            out.push(rebuild(alloc, &children[slot], &inner, given, builds)?)?;
-        }
-        push_gap(alloc, &mut out, group, given, slot + 1)?;
-    }
-    build_node(alloc, node.kind(), out, builds)
+    rebuilt(alloc, element, aims, given, builds)?.into_element(alloc)
 }
 
 /// What stands in the place of the element: what `rebuild` makes of it, or, where an aim is over the top itself, what
@@ -150,7 +151,7 @@ pub fn rebuild_whole(
     alloc: Global,
     element: &GreenElement,
     aims: &[Aimed],
-    given: &[Vec<GreenElement>],
+    given: &[Given],
     builds: &mut u64,
 ) -> Result<Vec<GreenElement>, AllocError>
     ensures builds { OnOk result (builds.new ≤ builds.old + touched (element_tree element.now) (parents_of (aims_of aims.now))) }
@@ -158,9 +159,9 @@ pub fn rebuild_whole(
 {
     let mut out = Vec::new(alloc);
     if top_is_replaced(aims) {
-        push_for_top(alloc, &mut out, aims, given)?;
+        push_for_top(&mut out, aims, given)?;
     } else {
-        out.push(rebuild(alloc, element, aims, given, builds)?)?;
+        out.push(rebuilt(alloc, element, aims, given, builds)?)?;
     }
-    Ok(out)
+    elements(alloc, out)
 }

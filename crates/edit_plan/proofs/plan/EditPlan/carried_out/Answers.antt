@@ -2,6 +2,7 @@ use Rattle.std.proofs.Common.{◌≡◌, map, flat_map, length, sym, ◌∙◌, 
 use Rattle.cst_core.specs.Element.{subtree}
 use Rattle.cst_core.specs.Green.{branch_tree}
 use Rattle.rewriting.specs.Aimed.{aims_of}
+use Rattle.rewriting.specs.Given.{given_trees}
 use Rattle.rewriting.specs.Pass.{kind_only, given_by}
 use Rattle.rewriting.specs.Rewriting.{rewritten_whole}
 use Rattle.rewriting.specs.Topmost.{topmost, AreCounted, not_given, paths_of}
@@ -31,6 +32,6 @@ returns c =
       owned_are = owned.2;
       annotated = subst (λ ds. AreAnnotated p ds annotations) c.deref-8.ensures.value c.in_ok-annotated.ensures;
       counts = c.in_ok-counts.counts.items;
-      counts_are = c.in_ok-counts.ensures ∙ ap (map (λ g. length g.items)) c.deref-4.ensures.value;
+      counts_are = c.in_ok-counts.ensures ∙ ap (map (λ g. length (given_trees g))) c.deref-4.ensures.value;
       paths_are = λ given are. c.in_ok-changed.ensures given (subst (λ ns. AreCounted ns given) (sym c.deref-6.ensures.value) are) ∙ ap₂ (λ ds t. flat_map (topmost (λ b. b)) (rewritten_whole not_given given (aims_of ds) t)) c.deref-5.ensures.value old;
     })

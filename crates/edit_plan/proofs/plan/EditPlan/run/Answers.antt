@@ -15,17 +15,14 @@ use Rattle.edit_plan.proofs.plan.EditPlan.run.Goals as goal
 pub elements_at-requires : goal.elements_at-requires
 elements_at-requires c =
     let rewritten = c.in_ok-green.field-0 in
-    record {
-      is_root = ap (λ x. x.path) c.in_ok-new_root.ensures.ok;
-      there = changed-there c.args.self.now (branch_tree rewritten.green) (paths_of c.deref.result.now) (map annotated_path rewritten.annotated.items) (subst (λ vs. IsRewritten c.args.self.now (branch_tree rewritten.green) (paths_of vs) (map annotated_path rewritten.annotated.items)) (sym c.deref.ensures.value) c.in_ok-green.ensures) c.in_ok-new_root.new_root (ap (λ x. x.root) c.in_ok-new_root.ensures.ok);
-    }
+    changed-there c.args.self.now (branch_tree rewritten.green) (paths_of rewritten.changed.items) (map annotated_path rewritten.annotated.items) c.in_ok-green.ensures c.in_ok-new_root.new_root (ap (λ x. x.root) c.in_ok-new_root.ensures.ok)
 
 pub elements_by_annotation-requires : goal.elements_by_annotation-requires
 elements_by_annotation-requires c =
     let rewritten = c.in_ok-green.field-0 in
     record {
       is_root = ap (λ x. x.path) c.in_ok-new_root.ensures.ok;
-      there = annotated-there c.args.self.now (branch_tree rewritten.green) (paths_of rewritten.changed.items) (map annotated_path c.deref-2.result.now) (subst (λ ns. IsRewritten c.args.self.now (branch_tree rewritten.green) (paths_of rewritten.changed.items) (map annotated_path ns)) (sym c.deref-2.ensures.value) c.in_ok-green.ensures) c.in_ok-new_root.new_root (ap (λ x. x.root) c.in_ok-new_root.ensures.ok);
+      there = annotated-there c.args.self.now (branch_tree rewritten.green) (paths_of rewritten.changed.items) (map annotated_path c.deref.result.now) (subst (λ ns. IsRewritten c.args.self.now (branch_tree rewritten.green) (paths_of rewritten.changed.items) (map annotated_path ns)) (sym c.deref.ensures.value) c.in_ok-green.ensures) c.in_ok-new_root.new_root (ap (λ x. x.root) c.in_ok-new_root.ensures.ok);
     }
 
 pub returns-in_err-new_root-clause-refused : goal.returns-in_err-new_root-clause-refused
@@ -40,7 +37,7 @@ returns-clause-ok c =
     let rewritten = c.in_ok-green.field-0 in
     let root = c.in_ok-new_root.new_root in
     let own : c.new-own.result ≡ c.args.ids.now = c.new-own.ensures ∙ c.next_number.ensures in
-    makes c.args.self.now rewritten.green (paths_of rewritten.changed.items) (map annotated_path rewritten.annotated.items) c.in_ok-green.ensures c.args.ids.now _ (c.in_ok-old_root.ensures ∙ ap (λ x. x.root) c.self.view_is) (c.in_ok-new_root.ensures.ok ∙ ap (λ n. record { number = n; root = branch_tree rewritten.green; path = [] }) own) (c.in_ok-changed.ensures ∙ ap (λ ps. map (syntax_at root) (paths_of ps)) c.deref.ensures.value) (λ a. ap (map (λ x. Some x)) (found-in c.in_ok-annotated.annotated.lists.entries a) ∙ c.in_ok-annotated.ensures a ∙ ap (λ ns. map (syntax_at root) (paths_with a (map annotated_path ns))) c.deref-2.ensures.value)
+    makes c.args.self.now rewritten.green (paths_of rewritten.changed.items) (map annotated_path rewritten.annotated.items) c.in_ok-green.ensures c.args.ids.now _ (c.in_ok-old_root.ensures ∙ ap (λ x. x.root) c.self.view_is) (c.in_ok-new_root.ensures.ok ∙ ap (λ n. record { number = n; root = branch_tree rewritten.green; path = [] }) own) c.in_ok-changed.ensures (λ a. ap (map (λ x. Some x)) (found-in c.in_ok-annotated.annotated.lists.entries a) ∙ c.in_ok-annotated.ensures a ∙ ap (λ ns. map (syntax_at root) (paths_with a (map annotated_path ns))) c.deref.ensures.value)
 
 pub returns-clause-short : goal.returns-clause-short
 returns-clause-short c = subst (λ e. text_length e.root < length_limit) c.new_root-2.view_is c.new_root-2.invariant.fits
