@@ -21,6 +21,7 @@ fn make_calls<R: Print>(rt: &R, alloc: Global, trees: &mut Trees) -> io::Result<
     let mut report = Report::new();
     green::make_calls(rt, alloc, &mut report)?;
     nodes::make_calls(rt, alloc, trees, &mut report)?;
+    nodes::look_up(rt, alloc, trees, &mut report)?;
     nodes::walk(rt, alloc, trees, &mut report)?;
     tokens::make_calls(rt, alloc, trees, &mut report)?;
     elements::make_calls(rt, alloc, trees, &mut report)?;

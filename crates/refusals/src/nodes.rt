@@ -58,10 +58,14 @@ pub fn make_calls<R: Print>(
     )
 }
 
-/// The calls of a node that give what is below it.
-pub fn walk<R: Print>(rt: &R, alloc: Global, trees: &Trees, report: &mut Report) -> io::Result<()> {
-    let node = &trees.root;
-    let found = node.element_at(alloc, &[4, 0]);
+/// The calls of a node that give what a path leads to, from the node and from the root of its tree.
+pub fn look_up<R: Print>(
+    rt: &R,
+    alloc: Global,
+    trees: &Trees,
+    report: &mut Report,
+) -> io::Result<()> {
+    let found = trees.root.element_at(alloc, &[4, 0]);
     let is_right = found.map_or(
         true,
         |found| found.is_some_and(|found| found.text_start() == 4),
@@ -71,6 +75,24 @@ pub fn walk<R: Print>(rt: &R, alloc: Global, trees: &Trees, report: &mut Report)
         Call::SyntaxNodeElementAt,
         is_right && trees.are_as_before(),
     )?;
+    let found = match Vec::from_slice(alloc, &[4, 0]) {
+        Ok(path) => trees.literal.element_of_tree(alloc, path),
+        Err(error) => Err(error),
+    };
+    let is_right = found.map_or(
+        true,
+        |found| found.is_some_and(|found| found.text_start() == 4),
+    );
+    report.note(
+        rt,
+        Call::SyntaxNodeElementOfTree,
+        is_right && trees.are_as_before(),
+    )
+}
+
+/// The calls of a node that give what is below it.
+pub fn walk<R: Print>(rt: &R, alloc: Global, trees: &Trees, report: &mut Report) -> io::Result<()> {
+    let node = &trees.root;
     let is_right = node
         .children(alloc)
         .map_or(true, |children| children.len() == 2);

@@ -10,11 +10,13 @@ use std::alloc::Global;
 #[derive(Clone, Copy)]
 pub enum StepQuestion {
     ElementAt,
+    ElementOfTree,
     PrevToken,
 }
 
-const NAMES: [(&str, StepQuestion); 2] = [
+const NAMES: [(&str, StepQuestion); 3] = [
     ("element_at", StepQuestion::ElementAt),
+    ("element_of_tree", StepQuestion::ElementOfTree),
     ("prev_token", StepQuestion::PrevToken),
 ];
 
@@ -24,7 +26,7 @@ impl StepQuestion {
     }
 }
 
-/// `element_at NODE PATH` or `prev_token TOKEN`
+/// `element_at NODE PATH`, `element_of_tree NODE PATH` or `prev_token TOKEN`
 pub fn answer(
     alloc: Global,
     trees: &Trees,
@@ -33,6 +35,7 @@ pub fn answer(
 ) -> Result<String, NoAnswer> {
     match question {
         StepQuestion::ElementAt => element_at(alloc, trees, arguments),
+        StepQuestion::ElementOfTree => element_of_tree(alloc, trees, arguments),
         StepQuestion::PrevToken => prev_token(alloc, &trees.token(alloc, arguments)?),
     }
 }
@@ -42,6 +45,14 @@ fn element_at(alloc: Global, trees: &Trees, arguments: &str) -> Result<String, N
     let (node, path) = words(arguments).ok_or(NoAnswer::Arguments)?;
     let node = trees.node(alloc, node)?;
     let found = node.element_at(alloc, &slots(alloc, path)?)?;
+    place(alloc, node.tree(), found)
+}
+
+// The path is counted from the root of the node's tree.
+fn element_of_tree(alloc: Global, trees: &Trees, arguments: &str) -> Result<String, NoAnswer> {
+    let (node, path) = words(arguments).ok_or(NoAnswer::Arguments)?;
+    let node = trees.node(alloc, node)?;
+    let found = node.element_of_tree(alloc, slots(alloc, path)?)?;
     place(alloc, node.tree(), found)
 }
 
