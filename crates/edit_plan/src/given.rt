@@ -44,7 +44,8 @@ fn rewritten_payload(
 ) -> Result<Vec<GreenElement>, AllocError>
     ensures { IfOk result (λ v. element_trees v.items ≡ map (rewritten kind_only (given_by given.now) (aims_of aims.now) []) (map subtree (payload change.now))) }
 {
-    let brought = change.brought(alloc)?.elements(alloc)?;
+    let mut brought = Vec::new(alloc);
+    change.brought(alloc)?.push_to(alloc, &mut brought)?;
     rewritten_each(alloc, &brought, aims, given)
 }
 

@@ -10,7 +10,6 @@ mod lone;
 mod mark;
 mod marked;
 mod pass;
-mod piece;
 mod topmost;
 
 pub use aimed::Aimed;

@@ -2,27 +2,26 @@ use Rattle.std.proofs.Common.{◌≡◌, ℕ, ◌<◌, ◌+◌, List, [], ◌∷
 use Rattle.std.proofs.lemmas.List.{map-append, length-map}
 use Rattle.green_tree.specs.Tree.{SyntaxTree, Token, forest}
 use Rattle.green_tree.specs.Green.{size}
-use Rattle.green_tree.specs.GreenElement.{element_tree}
+use Rattle.green_tree.specs.GreenElement.{element_tree, element_trees}
 use Rattle.rewriting.specs.Rewriting.{gap, slot, is_replaced, replacements_at, rewritten}
 use Rattle.rewriting.specs.Aimed.{aims_of, placed, placed_below}
-use Rattle.rewriting.specs.Piece.{piece_tree, piece_trees}
 use Rattle.rewriting.specs.Pass.{kind_only, given_by}
 use Rattle.rewriting.specs.Effort.{inside, touched, parents_of}
-use Rattle.rewriting.proofs.Built.{to_come, to_come-step, parents-below, own_node}
+use Rattle.rewriting.proofs.Built.{to_come, to_come-step, parents-below, own_node, on_ok}
 use Rattle.rewriting.proofs.SeenBelow.{aims-below}
 use Rattle.rewriting.proofs.Untouched.{nothing_made}
 use Rattle.rewriting.proofs.InGroups.{group_is, group-gap, group-replaced, group-replacements, group-below}
 use Rattle.rewriting.proofs.Children.{left, tree_at, size_at, step, slot-replaced, slot-kept, gap-slots}
-use Rattle.rewriting.proofs.pass.+rebuilt.Goals as goal
-use Rattle.rewriting.proofs.pass.+rebuilt.Goals.{then-is_replaced+in_ok-push_replacements, else-is_replaced+in_ok-inner+in_ok-rebuilt+in_ok-push}
+use Rattle.rewriting.proofs.pass.+rebuild.Goals as goal
+use Rattle.rewriting.proofs.pass.+rebuild.Goals.{then-is_replaced+in_ok-push_replacements, else-is_replaced+in_ok-inner+in_ok-rebuild+in_ok-push}
 
 pub returns-then-not-alter_some-clause-tree : goal.returns-then-not-alter_some-clause-tree
 returns-then-not-alter_some-clause-tree t c =
     let none = sym c.alter_some.ensures ∙ c.if-not-alter_some.true in
     rw (nothing_made (given_by c.args.given.now) c.args.aims.now (element_tree c.args.element.now) none) (search rules)
 
-pub rebuilt-requires : goal.rebuilt-requires
-rebuilt-requires t c =
+pub rebuild-requires : goal.rebuild-requires
+rebuild-requires t c =
     let below = size_at c.children-children.result.now c.loop-slot.slot c.index-children-slot.result c.loop-slot-test.true c.index-children-slot.is in
     let below_node = rw c.children-children.ensures at below in
     let own = ap (λ e. size (element_tree e)) c.in-Node.is in
@@ -34,7 +33,7 @@ loop-slot-init t c =
     let cs = aims_of c.args.aims.now in
     let ts : List SyntaxTree = c.in-Node.node.children in
     record {
-      tree = ap (λ xs. xs ++ left kind_only given cs 0 ts) (c.in_ok-push_gap.ensures ∙ ap (λ es. piece_trees es ++ gap kind_only given cs [] 0) c.in_ok-out.ensures.items) ∙ gap-slots kind_only given cs 0 (forest ts);
+      tree = ap (λ xs. xs ++ left kind_only given cs 0 ts) (c.in_ok-push_gap.ensures ∙ ap (λ es. element_trees es ++ gap kind_only given cs [] 0) c.in_ok-out.ensures.items) ∙ gap-slots kind_only given cs 0 (forest ts);
       builds = omega arith;
     }
 
@@ -45,33 +44,33 @@ loop-slot-preserved t c =
     let i : ℕ = c.loop-slot.slot in
     let ts : List SyntaxTree = c.in-Node.node.children in
     let d : SyntaxTree = Token 0 [] in
-    let before : List SyntaxTree = piece_trees c.loop-slot.out.items in
+    let before : List SyntaxTree = element_trees c.loop-slot.out.items in
     let in_range : i < length ts = rw (← c.children-children.ensures, length-map) c.loop-slot-test.true in
     let here = group_is c.in_ok-groups.groups.items aims (length c.children-children.result.now) i c.index.result.now c.as_slice-group.result.now c.in_ok-groups.ensures.groups c.loop-slot-test.true c.index.ensures c.as_slice-group.ensures in
     let replaced = c.is_replaced.ensures ∙ ap (λ g. is_replaced (aims_of g) (i ∷ [])) here ∙ group-replaced i aims in
     let kept : SyntaxTree = rewritten kind_only given (aims_of aims) (i ∷ []) (get_or ts i d) in
-    let middle : piece_trees c.if-is_replaced.out.items ≡ before ++ slot kind_only given (aims_of aims) (i ∷ []) kept =
+    let middle : element_trees c.if-is_replaced.out.items ≡ before ++ slot kind_only given (aims_of aims) (i ∷ []) kept =
     elim c.if-is_replaced.branch [
       | then-is_replaced+in_ok-push_replacements w ↦
-          ap (λ o. piece_trees o.items) w.out-is ∙ w.in_ok-push_replacements.ensures ∙ ap (λ g. before ++ flat_map given (replacements_at (aims_of g) (i ∷ []))) here ∙ ap (λ ns. before ++ flat_map given ns) (group-replacements i aims) ∙ ap (λ xs. before ++ xs) (slot-replaced kind_only given (aims_of aims) (i ∷ []) kept (sym replaced ∙ w.if-is_replaced.true))
-      | else-is_replaced+in_ok-inner+in_ok-rebuilt+in_ok-push w ↦
+          ap (λ o. element_trees o.items) w.out-is ∙ w.in_ok-push_replacements.ensures ∙ ap (λ g. before ++ flat_map given (replacements_at (aims_of g) (i ∷ []))) here ∙ ap (λ ns. before ++ flat_map given ns) (group-replacements i aims) ∙ ap (λ xs. before ++ xs) (slot-replaced kind_only given (aims_of aims) (i ∷ []) kept (sym replaced ∙ w.if-is_replaced.true))
+      | else-is_replaced+in_ok-inner+in_ok-rebuild+in_ok-push w ↦
           let child = tree_at c.children-children.result.now i w.index-children-slot.result d c.loop-slot-test.true w.index-children-slot.is ∙ ap (λ us. get_or us i d) c.children-children.ensures in
           let inner = w.in_ok-inner.ensures ∙ ap (λ g. placed_below i (map placed g)) here ∙ group-below i aims in
-          let made = w.in_ok-rebuilt.ensures.tree ∙ ap (λ xs. rewritten kind_only given (aims_of xs) [] (element_tree w.index-children-slot.result)) w.deref.ensures.value ∙ aims-below (λ k. k) given aims w.in_ok-inner.inner.items i (element_tree w.index-children-slot.result) inner ∙ ap (λ u. rewritten kind_only given (aims_of aims) (i ∷ []) u) child in
-          ap (λ o. piece_trees o.items) w.out-is ∙ ap piece_trees w.in_ok-push.ensures.items ∙ map-append piece_tree c.loop-slot.out.items (_ ∷ []) ∙ ap (λ u. before ++ u ∷ []) made ∙ ap (λ xs. before ++ xs) (slot-kept kind_only given (aims_of aims) (i ∷ []) kept (sym replaced ∙ w.if-is_replaced.false))
+          let made = w.in_ok-rebuild.ensures.tree ∙ ap (λ xs. rewritten kind_only given (aims_of xs) [] (element_tree w.index-children-slot.result)) w.deref.ensures.value ∙ aims-below (λ k. k) given aims w.in_ok-inner.inner.items i (element_tree w.index-children-slot.result) inner ∙ ap (λ u. rewritten kind_only given (aims_of aims) (i ∷ []) u) child in
+          ap (λ o. element_trees o.items) w.out-is ∙ ap element_trees w.in_ok-push.ensures.items ∙ map-append element_tree c.loop-slot.out.items (_ ∷ []) ∙ ap (λ u. before ++ u ∷ []) made ∙ ap (λ xs. before ++ xs) (slot-kept kind_only given (aims_of aims) (i ∷ []) kept (sym replaced ∙ w.if-is_replaced.false))
     ] in
-    let after = c.in_ok-push_gap-2.ensures ∙ ap (λ xs. piece_trees c.if-is_replaced.out.items ++ xs) (group-gap kind_only given aims c.as_slice-group.result.now i here) in
+    let after = c.in_ok-push_gap-2.ensures ∙ ap (λ xs. element_trees c.if-is_replaced.out.items ++ xs) (group-gap kind_only given aims c.as_slice-group.result.now i here) in
     record {
-      tree = step kind_only given (aims_of aims) before (piece_trees c.if-is_replaced.out.items) (piece_trees c.push_gap-in-loop-slot.new.out.items) _ i ts d in_range middle after c.loop-slot.invariant.tree;
+      tree = step kind_only given (aims_of aims) before (element_trees c.if-is_replaced.out.items) (element_trees c.push_gap-in-loop-slot.new.out.items) _ i ts d in_range middle after c.loop-slot.invariant.tree;
       builds =
           let more = to_come-step (parents_of (aims_of aims)) i ts d in_range in
           elim c.if-is_replaced.branch [
             | then-is_replaced+in_ok-push_replacements w ↦ omega (arith, w.builds-is)
-            | else-is_replaced+in_ok-inner+in_ok-rebuilt+in_ok-push w ↦
+            | else-is_replaced+in_ok-inner+in_ok-rebuild+in_ok-push w ↦
                 let child = tree_at c.children-children.result.now i w.index-children-slot.result d c.loop-slot-test.true w.index-children-slot.is ∙ ap (λ us. get_or us i d) c.children-children.ensures in
                 let inner = w.in_ok-inner.ensures ∙ ap (λ g. placed_below i (map placed g)) here ∙ group-below i aims in
                 let below = ap (λ xs. touched (element_tree w.index-children-slot.result) (parents_of (aims_of xs))) w.deref.ensures.value ∙ ap (touched (element_tree w.index-children-slot.result)) (parents-below aims w.in_ok-inner.inner.items i inner) ∙ ap (λ u. touched u (inside i (parents_of (aims_of aims)))) child in
-                omega (arith, w.builds-is, w.in_ok-rebuilt.ensures.builds)
+                omega (arith, w.builds-is, w.in_ok-rebuild.ensures.builds)
           ];
     }
 
@@ -81,4 +80,4 @@ returns-clause-builds t c =
     let ts : List SyntaxTree = c.in-Node.node.children in
     let some = sym c.alter_some.ensures ∙ c.if-not-alter_some.false in
     let own : touched (element_tree c.args.element.now) (parents_of cs) ≡ 1 + to_come (parents_of cs) 0 ts = ap (λ e. touched (element_tree e) (parents_of cs)) c.in-Node.is ∙ own_node cs c.in-Node.node.kind ts some in
-    omega arith
+    on_ok c.build_node.result (omega arith)
