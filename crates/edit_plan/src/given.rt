@@ -15,7 +15,7 @@ use crate::by_depth::owners_by_depth;
 use crate::change::Change;
 use crate::dependent::{Dependent, moved_aims};
 use cst_core::GreenElement;
-use rewriting::{Aimed, Given, rebuild};
+use rewriting::{Aimed, Given, push_rebuilt};
 use std::alloc::{AllocError, Global};
 
 // These elements, each rewritten.
@@ -30,7 +30,7 @@ fn rewritten_each(
     let mut builds = 0;
     let mut rewritten = Vec::new(alloc);
     for element in elements {
-        rewritten.push(rebuild(alloc, element, aims, given, &mut builds)?)?;
+        push_rebuilt(alloc, &mut rewritten, element, aims, given, &mut builds)?;
     }
     Ok(rewritten)
 }
@@ -44,7 +44,8 @@ fn rewritten_payload(
 ) -> Result<Vec<GreenElement>, AllocError>
     ensures { IfOk result (λ v. element_trees v.items ≡ map (rewritten kind_only (given_by given.now) (aims_of aims.now) []) (map subtree (payload change.now))) }
 {
-    let brought = change.brought(alloc)?.elements(alloc)?;
+    let mut brought = Vec::new(alloc);
+    change.brought(alloc)?.push_to(alloc, &mut brought)?;
     rewritten_each(alloc, &brought, aims, given)
 }
 

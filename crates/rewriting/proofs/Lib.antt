@@ -2,6 +2,7 @@ pub mod Here
 pub mod SeenBelow
 pub mod InGroups
 pub mod Children
+pub mod SplitOff
 pub mod Built
 pub mod Untouched
 pub mod ChildByChild

@@ -5,7 +5,6 @@ pub mod Aimed
 pub mod Groups
 pub mod Few
 pub mod Given
-pub mod Piece
 pub mod Pass
 pub mod Topmost
 pub mod Marked

@@ -1,9 +1,7 @@
 ghost use Rattle.std.specs.Prelude.{◌≡◌, ◌++◌, length, IfOk, OnOk};
 ghost use Rattle.green_tree.specs.GreenElement.{element_trees};
 ghost use Rattle.rewriting.specs.Given.{given_trees};
-ghost use Rattle.rewriting.specs.Piece.{piece_trees};
 
-use crate::piece::{Piece, elements};
 use green_tree::{GreenElement, GreenElementRef};
 use std::alloc::{AllocError, Global};
 
@@ -14,11 +12,15 @@ pub enum Given<'a> {
     Shared(Vec<GreenElement>),
 }
 
-fn push_borrowed<'a>(out: &mut Vec<Piece<'a>>, from: &'a [GreenElement]) -> Result<(), AllocError>
-    ensures { OnOk result (piece_trees out.new.items ≡ piece_trees out.old.items ++ element_trees from.now) }
+fn share_all(
+    alloc: Global,
+    out: &mut Vec<GreenElement>,
+    from: &[GreenElement],
+) -> Result<(), AllocError>
+    ensures { OnOk result (out.new.items ≡ out.old.items ++ from.now) }
 {
     for element in from {
-        out.push(Piece::Borrowed(element.as_ref()))?;
+        out.push(element.share(alloc)?)?;
     }
     Ok(())
 }
@@ -34,23 +36,14 @@ impl<'a> Given<'a> {
         }
     }
 
-    /// Puts the elements behind others, borrowed.
-    pub(crate) fn push_to(&'a self, out: &mut Vec<Piece<'a>>) -> Result<(), AllocError>
-        ensures { OnOk result (piece_trees out.new.items ≡ piece_trees out.old.items ++ given_trees self.now) }
+    /// Puts the elements behind others.
+    pub fn push_to(&self, alloc: Global, out: &mut Vec<GreenElement>) -> Result<(), AllocError>
+        ensures { OnOk result (element_trees out.new.items ≡ element_trees out.old.items ++ given_trees self.now) }
     {
         match self {
-            Given::Borrowed(element) => out.push(Piece::Borrowed(*element))?,
-            Given::Shared(elements) => push_borrowed(out, elements)?,
+            Given::Borrowed(element) => out.push(element.share(alloc)?)?,
+            Given::Shared(elements) => share_all(alloc, out, elements)?,
         }
         Ok(())
-    }
-
-    /// The elements, shared.
-    pub fn elements(&self, alloc: Global) -> Result<Vec<GreenElement>, AllocError>
-        ensures { IfOk result (λ v. element_trees v.items ≡ given_trees self.now) }
-    {
-        let mut pieces = Vec::with_capacity(alloc, self.len())?;
-        self.push_to(&mut pieces)?;
-        elements(alloc, pieces)
     }
 }

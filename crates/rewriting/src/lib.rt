@@ -10,12 +10,11 @@ mod lone;
 mod mark;
 mod marked;
 mod pass;
-mod piece;
 mod topmost;
 
 pub use aimed::Aimed;
 pub use given::Given;
 pub use mark::{GivenMarks, Mark, Sought};
 pub use marked::{marks_of_whole, push_marks};
-pub use pass::{rebuild, rebuild_whole};
+pub use pass::{push_rebuilt, rebuild_whole};
 pub use topmost::{places_of_given, places_of_given_whole};

@@ -5,75 +5,77 @@ ghost use Rattle.rewriting.specs.Rewriting.{gap, replacements_at, rewritten, rew
 ghost use Rattle.rewriting.specs.Effort.{touched, parents_of};
 ghost use Rattle.rewriting.specs.Aimed.{aims_of};
 ghost use Rattle.rewriting.specs.Pass.{kind_only, given_by};
-ghost use Rattle.rewriting.specs.Piece.{piece_tree, piece_trees};
 
 use crate::aim_list::{alter_some, below, grouped, is_replaced, top_is_replaced};
 use crate::aimed::Aimed;
 use crate::given::Given;
-use crate::piece::{Piece, elements};
 use green_tree::{GreenElement, GreenNode, SyntaxKind};
 use std::alloc::{AllocError, Global};
 
-fn push_given<'a>(
-    out: &mut Vec<Piece<'a>>,
-    given: &'a [Given<'a>],
+fn push_given(
+    alloc: Global,
+    out: &mut Vec<GreenElement>,
+    given: &[Given],
     change: usize,
 ) -> Result<(), AllocError>
-    ensures { OnOk result (piece_trees out.new.items ≡ piece_trees out.old.items ++ given_by given.now change) }
+    ensures { OnOk result (element_trees out.new.items ≡ element_trees out.old.items ++ given_by given.now change) }
 {
     let Some(given) = given.get(change) else {
         return Ok(());
     };
-    given.push_to(out)?;
+    given.push_to(alloc, out)?;
     Ok(())
 }
 
-fn push_replacements<'a>(
-    out: &mut Vec<Piece<'a>>,
+fn push_replacements(
+    alloc: Global,
+    out: &mut Vec<GreenElement>,
     aims: &[Aimed],
-    given: &'a [Given<'a>],
+    given: &[Given],
     slot: usize,
 ) -> Result<(), AllocError>
-    ensures { OnOk result (piece_trees out.new.items ≡ piece_trees out.old.items ++ flat_map (given_by given.now) (replacements_at (aims_of aims.now) (slot ∷ []))) }
+    ensures { OnOk result (element_trees out.new.items ≡ element_trees out.old.items ++ flat_map (given_by given.now) (replacements_at (aims_of aims.now) (slot ∷ []))) }
 {
     for aim in aims {
         if aim.starts_at(slot) {
-            push_given(out, given, aim.change())?;
+            push_given(alloc, out, given, aim.change())?;
         }
     }
     Ok(())
 }
 
-fn push_for_top<'a>(
-    out: &mut Vec<Piece<'a>>,
+fn push_for_top(
+    alloc: Global,
+    out: &mut Vec<GreenElement>,
     aims: &[Aimed],
-    given: &'a [Given<'a>],
+    given: &[Given],
 ) -> Result<(), AllocError>
-    ensures { OnOk result (piece_trees out.new.items ≡ piece_trees out.old.items ++ flat_map (given_by given.now) (replacements_at (aims_of aims.now) [])) }
+    ensures { OnOk result (element_trees out.new.items ≡ element_trees out.old.items ++ flat_map (given_by given.now) (replacements_at (aims_of aims.now) [])) }
 {
     for aim in aims {
         if aim.replaces_top() {
-            push_given(out, given, aim.change())?;
+            push_given(alloc, out, given, aim.change())?;
         }
     }
     Ok(())
 }
 
 // The insert recorded last stands first.
-fn push_gap<'a>(
-    out: &mut Vec<Piece<'a>>,
+fn push_gap(
+    alloc: Global,
+    out: &mut Vec<GreenElement>,
     aims: &[Aimed],
-    given: &'a [Given<'a>],
+    given: &[Given],
     index: usize,
 ) -> Result<(), AllocError>
-    ensures { OnOk result (piece_trees out.new.items ≡ piece_trees out.old.items ++ gap kind_only (given_by given.now) (aims_of aims.now) [] index) }
+    ensures { OnOk result (element_trees out.new.items ≡ element_trees out.old.items ++ gap kind_only (given_by given.now) (aims_of aims.now) [] index) }
 {
     let mut left = aims.len();
     while left > 0 {
         left -= 1;
         let aim = &aims[left];
         if aim.inserts_at(index) {
-            push_given(out, given, aim.change())?;
+            push_given(alloc, out, given, aim.change())?;
         }
     }
     Ok(())
@@ -93,59 +95,50 @@ fn build_node(
     Ok(GreenElement::Node(GreenNode::capped(alloc, kind, children)?))
 }
 
-// Only what an aim is in or below is built. An aim over the top itself is passed over.
-fn rebuilt<'a>(
+/// Puts behind others the element made anew by changes whose aims are counted from it: `given` has what each change gives,
+/// by its number. Only the nodes above an aim are built, and what no aim is in or below is shared; `builds` counts the nodes.
+/// An aim over the top itself is passed over: see `rebuild_whole`. Takes time linear in the aims times their depth, the
+/// children of the nodes that are built, and the children that are replaced. After a refusal more may stand behind the others.
+pub fn push_rebuilt(
     alloc: Global,
-    element: &'a GreenElement,
-    aims: &[Aimed],
-    given: &'a [Given<'a>],
-    builds: &mut u64,
-) -> Result<Piece<'a>, AllocError>
-    ensures builds { OnOk result (builds.new ≤ builds.old + touched (element_tree element.now) (parents_of (aims_of aims.now))) }
-    ensures tree { IfOk result (λ p. piece_tree p ≡ rewritten kind_only (given_by given.now) (aims_of aims.now) [] (element_tree element.now)) }
-{
-    if !alter_some(aims) {
-        return Ok(Piece::Borrowed(element.as_ref()));
-    }
-    let GreenElement::Node(node) = element else {
-        return Ok(Piece::Borrowed(element.as_ref()));
-    };
-    let children = node.children();
-    let groups = grouped(alloc, aims, children.len())?;
-    let mut out = Vec::with_capacity(alloc, children.len())?;
-    push_gap(&mut out, aims, given, 0)?;
-    for slot in 0..children.len() {
-        let group = groups[slot].as_slice();
-        if is_replaced(group, slot) {
-            push_replacements(&mut out, group, given, slot)?;
-        } else {
-            let inner = below(alloc, group, slot)?;
-            out.push(rebuilt(alloc, &children[slot], &inner, given, builds)?)?;
-        }
-        push_gap(&mut out, group, given, slot + 1)?;
-    }
-    let built = build_node(alloc, node.kind(), elements(alloc, out)?, builds)?;
-    Ok(Piece::Built(built))
-}
-
-/// The element made anew by changes whose aims are counted from it: `given` has what each change gives, by its number.
-/// Only the nodes above an aim are built, and what no aim is in or below is shared; `builds` counts the nodes. An aim over
-/// the top itself is passed over: see `rebuild_whole`. Takes time linear in the aims times their depth, the children of
-/// the nodes that are built, and the children that are replaced.
-pub fn rebuild(
-    alloc: Global,
+    out: &mut Vec<GreenElement>,
     element: &GreenElement,
     aims: &[Aimed],
     given: &[Given],
     builds: &mut u64,
-) -> Result<GreenElement, AllocError>
+) -> Result<(), AllocError>
     ensures builds { OnOk result (builds.new ≤ builds.old + touched (element_tree element.now) (parents_of (aims_of aims.now))) }
-    ensures tree { IfOk result (λ e. element_tree e ≡ rewritten kind_only (given_by given.now) (aims_of aims.now) [] (element_tree element.now)) }
+    ensures tree { OnOk result (element_trees out.new.items ≡ element_trees out.old.items ++ rewritten kind_only (given_by given.now) (aims_of aims.now) [] (element_tree element.now) ∷ []) }
 {
-    rebuilt(alloc, element, aims, given, builds)?.into_element(alloc)
+    if !alter_some(aims) {
+        out.push(element.share(alloc)?)?;
+        return Ok(());
+    }
+    let GreenElement::Node(node) = element else {
+        out.push(element.share(alloc)?)?;
+        return Ok(());
+    };
+    let children = node.children();
+    let groups = grouped(alloc, aims, children.len())?;
+    let start = out.len();
+    out.reserve(children.len())?;
+    push_gap(alloc, out, aims, given, 0)?;
+    for slot in 0..children.len() {
+        let group = groups[slot].as_slice();
+        if is_replaced(group, slot) {
+            push_replacements(alloc, out, group, given, slot)?;
+        } else {
+            let inner = below(alloc, group, slot)?;
+            push_rebuilt(alloc, out, &children[slot], &inner, given, builds)?;
+        }
+        push_gap(alloc, out, group, given, slot + 1)?;
+    }
+    let children = out.split_off(start)?;
+    out.push(build_node(alloc, node.kind(), children, builds)?)?;
+    Ok(())
 }
 
-/// What stands in the place of the element: what `rebuild` makes of it, or, where an aim is over the top itself, what
+/// What stands in the place of the element: what `push_rebuilt` makes of it, or, where an aim is over the top itself, what
 /// that change gives.
 pub fn rebuild_whole(
     alloc: Global,
@@ -159,9 +152,9 @@ pub fn rebuild_whole(
 {
     let mut out = Vec::new(alloc);
     if top_is_replaced(aims) {
-        push_for_top(&mut out, aims, given)?;
+        push_for_top(alloc, &mut out, aims, given)?;
     } else {
-        out.push(rebuilt(alloc, element, aims, given, builds)?)?;
+        push_rebuilt(alloc, &mut out, element, aims, given, builds)?;
     }
-    elements(alloc, out)
+    Ok(out)
 }

@@ -1,9 +1,9 @@
 use Rattle.std.proofs.Common.{◌≡◌, ◌++◌, [], drop, flat_map}
+use Rattle.green_tree.specs.GreenElement.{element_trees}
 use Rattle.rewriting.specs.Rewriting.{replacements_at}
 use Rattle.rewriting.specs.Aimed.{aims_of}
-use Rattle.rewriting.specs.Piece.{piece_trees}
 use Rattle.rewriting.specs.Pass.{given_by}
 use Rattle.rewriting.proofs.pass.push_for_top.Given as goal
 
 abbrev pub invariant-loop-aim : goal.invariant-loop-aim
-invariant-loop-aim l = piece_trees l.out.items ++ flat_map (given_by l.given) (replacements_at (aims_of (drop l.aim-index l.aims)) []) ≡ piece_trees l.initial.out.items ++ flat_map (given_by l.given) (replacements_at (aims_of l.aims) [])
+invariant-loop-aim l = element_trees l.out.items ++ flat_map (given_by l.given) (replacements_at (aims_of (drop l.aim-index l.aims)) []) ≡ element_trees l.initial.out.items ++ flat_map (given_by l.given) (replacements_at (aims_of l.aims) [])

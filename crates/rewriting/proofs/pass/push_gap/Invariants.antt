@@ -1,7 +1,7 @@
 use Rattle.std.proofs.Common.{◌≡◌, ◌≤◌, ◌++◌, [], take, length}
+use Rattle.green_tree.specs.GreenElement.{element_trees}
 use Rattle.rewriting.specs.Rewriting.{gap}
 use Rattle.rewriting.specs.Aimed.{aims_of}
-use Rattle.rewriting.specs.Piece.{piece_trees}
 use Rattle.rewriting.specs.Pass.{kind_only, given_by}
 use Rattle.rewriting.proofs.pass.push_gap.Given as goal
 
@@ -11,5 +11,5 @@ decreases-loop-left l = l.left
 abbrev pub invariant-loop-left : goal.invariant-loop-left
 invariant-loop-left l = record {
   within : l.left ≤ length l.aims;
-  rest : piece_trees l.out.items ++ gap kind_only (given_by l.given) (aims_of (take l.left l.aims)) [] l.index ≡ piece_trees l.initial.out.items ++ gap kind_only (given_by l.given) (aims_of l.aims) [] l.index;
+  rest : element_trees l.out.items ++ gap kind_only (given_by l.given) (aims_of (take l.left l.aims)) [] l.index ≡ element_trees l.initial.out.items ++ gap kind_only (given_by l.given) (aims_of l.aims) [] l.index;
 }

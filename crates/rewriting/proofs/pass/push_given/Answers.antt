@@ -1,12 +1,12 @@
 use Rattle.std.proofs.Common.{length, refl, sym}
 use Rattle.std.proofs.lemmas.List.{append-nil}
 use Rattle.std.proofs.lemmas.Option.{slice_get_read, slice_get_past}
-use Rattle.rewriting.specs.Piece.{piece_trees}
+use Rattle.green_tree.specs.GreenElement.{element_trees}
 use Rattle.rewriting.proofs.pass.push_given.Goals as goal
 
 pub returns-in_default : goal.returns-in_default
 returns-in_default c =
-    rw (slice_get_past c.args.given.now c.args.change c.in_default.ensures.lookup.3) (sym (append-nil (piece_trees c.args.out.now.items)))
+    rw (slice_get_past c.args.given.now c.args.change c.in_default.ensures.lookup.3) (sym (append-nil (element_trees c.args.out.now.items)))
 
 pub returns : goal.returns
 returns c =

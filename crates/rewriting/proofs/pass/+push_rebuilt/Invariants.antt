@@ -1,21 +1,20 @@
 use Rattle.std.proofs.Common.{◌≡◌, ◌≤◌, ◌+◌, ◌++◌, []}
 use Rattle.green_tree.specs.Tree.{forest}
 use Rattle.green_tree.specs.Green.{size}
-use Rattle.green_tree.specs.GreenElement.{element_tree}
+use Rattle.green_tree.specs.GreenElement.{element_tree, element_trees}
 use Rattle.rewriting.specs.Rewriting.{rewritten_from}
 use Rattle.rewriting.specs.Aimed.{aims_of}
-use Rattle.rewriting.specs.Piece.{piece_trees}
 use Rattle.rewriting.specs.Pass.{kind_only, given_by}
 use Rattle.rewriting.specs.Effort.{parents_of}
 use Rattle.rewriting.proofs.Built.{to_come}
 use Rattle.rewriting.proofs.Children.{left}
-use Rattle.rewriting.proofs.pass.+rebuilt.Given as goal
+use Rattle.rewriting.proofs.pass.+push_rebuilt.Given as goal
 
-abbrev pub decreases-rebuilt : goal.decreases-rebuilt
-decreases-rebuilt l = size (element_tree l.element.now)
+abbrev pub decreases-push_rebuilt : goal.decreases-push_rebuilt
+decreases-push_rebuilt l = size (element_tree l.element.now)
 
 abbrev pub invariant-loop-slot : goal.invariant-loop-slot
 invariant-loop-slot l = record {
-  tree : piece_trees l.out.items ++ left kind_only (given_by l.given) (aims_of l.aims) l.slot l.node.children ≡ rewritten_from kind_only (given_by l.given) (aims_of l.aims) [] 0 (forest l.node.children);
+  tree : element_trees l.out.items ++ left kind_only (given_by l.given) (aims_of l.aims) l.slot l.node.children ≡ element_trees l.fn.out.items ++ rewritten_from kind_only (given_by l.given) (aims_of l.aims) [] 0 (forest l.node.children);
   builds : l.builds + to_come (parents_of (aims_of l.aims)) l.slot l.node.children ≤ l.fn.builds + to_come (parents_of (aims_of l.aims)) 0 l.node.children;
 }
