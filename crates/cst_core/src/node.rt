@@ -133,6 +133,13 @@ impl SyntaxNode {
         &self.green
     }
 
+    /// The shared tree of the whole tree that the node is in: what `tree_top` stands for.
+    pub fn top_green(&self) -> &GreenNode
+        ensures { branch_tree result.now ≡ self.now.root }
+    {
+        &self.location.root
+    }
+
     /// The shared tree that the node stands for, as a value of its own.
     pub fn green(&self, alloc: Global) -> Result<GreenNode, AllocError>
         ensures { IfOk result (λ n. branch_tree n ≡ subtree self.now) }

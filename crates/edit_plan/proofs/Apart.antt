@@ -24,7 +24,7 @@ use Rattle.edit_plan.specs.Aim.{position_aim, aim}
 use Rattle.edit_plan.specs.Nesting.{region, is_keeping, surroundings, is_around, owner, has_owner}
 use Rattle.edit_plan.specs.Rewriting.{moved_path, moved_aim, targets_of}
 use Rattle.edit_plan.specs.declared.position.Position.{Position}
-use Rattle.edit_plan.specs.declared.position.PositionForm.TheVariants.{FirstChild, After}
+use Rattle.edit_plan.specs.PositionForm.{FirstChild, After}
 use Rattle.edit_plan.specs.declared.change.Change.{Change}
 use Rattle.edit_plan.specs.declared.change.Change.TheVariants.{Insert, InsertAll, Replace, ReplaceWithMany, ReplaceAll}
 use Rattle.edit_plan.proofs.Lists.{all_weaker}

@@ -33,7 +33,7 @@ use Rattle.edit_plan.specs.Aim.{position_aim, aim, aim_path}
 use Rattle.edit_plan.specs.Position.{anchor}
 use Rattle.edit_plan.specs.Owned.{position_aim_from, aim_from}
 use Rattle.edit_plan.specs.declared.position.Position.{Position}
-use Rattle.edit_plan.specs.declared.position.PositionForm.TheVariants.{FirstChild, After}
+use Rattle.edit_plan.specs.PositionForm.{FirstChild, After}
 use Rattle.rewriting.specs.Aim.{Over}
 use Rattle.edit_plan.specs.Change.{payload}
 use Rattle.edit_plan.specs.Fits.{Fits, is_native, is_root, is_range}

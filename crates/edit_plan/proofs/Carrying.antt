@@ -25,9 +25,9 @@ use Rattle.rewriting.specs.Rewriting.{NumberedAim, rewritten_whole}
 use Rattle.rewriting.specs.Topmost.{topmost, count_of, AreCounted, not_given}
 use Rattle.edit_map.specs.Mapping.{followed}
 use Rattle.edit_plan.specs.AnnotationTable.{found_for}
-use Rattle.edit_plan.specs.Building.{Plan, Edit, Makes, WouldMake, IsRewritten, RunRefuses, registered}
+use Rattle.edit_plan.specs.Building.{Plan, Edit, Makes, WouldMake, RunRefuses, registered}
 use Rattle.edit_plan.specs.Marks.{numbered_paths}
-use Rattle.edit_plan.specs.Planned.{AreAnnotated}
+use Rattle.edit_plan.specs.Planned.{AreAnnotated, IsRewritten}
 use Rattle.edit_plan.specs.Refusal.{of_tree}
 use Rattle.edit_plan.specs.Owned.{AreDependents, AreGiven}
 use Rattle.edit_plan.specs.Plan.{ArePlaces, elements_held}
@@ -105,31 +105,16 @@ module _ (p : Plan) (green : Branch) (paths : List Path) (annotations : List (�
 
   pub makes : (number : ℕ) (e : Edit) → e.old_root ≡ p.root → e.new_root ≡ record { number = number; root = branch_tree green; path = [] } → map Some e.changed ≡ map (syntax_at e.new_root) paths → ((a : ℕ) → map Some (found_for e.annotated a) ≡ map (syntax_at e.new_root) (paths_with a annotations)) → Makes p number e
   makes number e old new changed_are annotated_are = record {
+    made = r.made;
+    would = r.would;
     old_is = old;
     number_is = ap (λ x. x.number) new;
     is_root = ap (λ x. x.path) new;
-    changed_paths = paths;
-    changed_are = changed_are;
-    is_rewriting = record {
-      places = r.would.places;
-      are_places = r.would.are_places;
-      made = r.made;
-      is_new = r.would.is_new;
-      tree_is = ap (λ x. x.root) new ∙ r.tree_is;
-      changed_is = r.changed_is;
-      annotated_is = refl;
-    };
+    tree_is = ap (λ x. x.root) new ∙ r.tree_is;
+    changed_are = changed_are ∙ ap (map (syntax_at e.new_root)) r.changed_is;
     annotated_paths = annotations;
     annotated_are = annotated_are;
-    is_whole = λ tell. record {
-      places = r.would.places;
-      are_places = r.would.are_places;
-      made = r.made;
-      is_new = r.would.is_new;
-      tree_is = ap (λ x. x.root) new ∙ r.tree_is;
-      changed_is = r.changed_is;
-      annotated_is = annotated-is tell;
-    };
+    annotated_is = annotated-is;
   }
 
   same-length : text_length r.made ≡ text_length (branch_tree green)

@@ -15,7 +15,8 @@ use Rattle.cst_core.specs.Tree.{Tree, SyntaxTree, label, at, paths, relabelled}
 use Rattle.cst_core.specs.Element.{Address, Element, IsElement, element_at, same_address}
 use Rattle.cst_core.specs.SyntaxElement.{syntax_as, syntax_at}
 use Rattle.rewriting.specs.Topmost.{holds_at, parent_holds, topmost}
-use Rattle.edit_plan.specs.Building.{Plan, IsRewritten}
+use Rattle.edit_plan.specs.Building.{Plan}
+use Rattle.edit_plan.specs.Planned.{IsRewritten}
 use Rattle.edit_plan.specs.Rewriting.{OriginTree, is_free}
 use Rattle.edit_plan.specs.Marks.{annotated_path, numbered_paths}
 use Rattle.edit_plan.specs.Results.{is_brought, copies_of}

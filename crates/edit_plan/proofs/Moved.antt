@@ -37,7 +37,7 @@ use Rattle.edit_plan.specs.declared.fate.Fate.{Fate}
 use Rattle.edit_plan.specs.Owned.{position_aim_from, aim_from, depth, moved, dependents_in}
 use Rattle.edit_plan.specs.Rewriting.{moved_path, moved_aim, targets_of, dependents}
 use Rattle.edit_plan.specs.declared.position.Position.{Position}
-use Rattle.edit_plan.specs.declared.position.PositionForm.TheVariants.{FirstChild, After}
+use Rattle.edit_plan.specs.PositionForm.{FirstChild, After}
 use Rattle.edit_plan.specs.declared.change.Change.{Change}
 use Rattle.edit_plan.specs.declared.dependent.Dependent.{Dependent}
 use Rattle.edit_plan.specs.declared.change.Change.TheVariants.{Insert, InsertAll, Replace, ReplaceWithMany, ReplaceAll}

@@ -11,7 +11,7 @@ use Rattle.edit_plan.specs.Nesting.{owner}
 use Rattle.edit_plan.specs.Rewriting.{new_tree, is_free}
 use Rattle.edit_plan.specs.Results.{changed}
 use Rattle.edit_plan.specs.declared.position.Position.{Position}
-use Rattle.edit_plan.specs.declared.position.PositionForm.TheVariants.{FirstChild}
+use Rattle.edit_plan.specs.PositionForm.{FirstChild}
 use Rattle.edit_plan.specs.declared.change.Change.{Change}
 use Rattle.edit_plan.specs.declared.change.Change.TheVariants.{Insert, InsertAll, Replace, ReplaceWithMany, ReplaceAll}
 

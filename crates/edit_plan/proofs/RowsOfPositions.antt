@@ -6,7 +6,7 @@ use Rattle.edit_plan.specs.Position as place
 use Rattle.rewriting.specs.Aim.{Gap, gap_of}
 use Rattle.edit_plan.specs.Aim.{position_aim}
 use Rattle.edit_plan.specs.declared.position.Position.{Position}
-use Rattle.edit_plan.specs.declared.position.PositionForm.TheVariants.{FirstChild, After}
+use Rattle.edit_plan.specs.PositionForm.{FirstChild, After}
 use Rattle.edit_plan.proofs.RowChanges.{E, after, before, last_in}
 
 -- there is no gap beside a root

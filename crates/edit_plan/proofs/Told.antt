@@ -10,7 +10,8 @@ use Rattle.cst_core.specs.declared.element.SyntaxElement.{SyntaxElement}
 use Rattle.edit_map.specs.Mapping.{mapped_elements}
 use Rattle.edit_plan.specs.Change.{elements}
 use Rattle.edit_plan.specs.Plan.{elements_held}
-use Rattle.edit_plan.specs.Building.{Plan, TellsOf, registered}
+use Rattle.edit_plan.specs.Building.{Plan, registered}
+use Rattle.edit_plan.specs.Planned.{TellsOf}
 
 module _ {X : Type 0} (R : X → X → Type 0) where
   pub pairs-behind : (x : X) (xs : List X) → AllPairs R (x ∷ xs) → AllPairs R xs

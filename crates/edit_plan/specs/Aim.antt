@@ -7,7 +7,7 @@ use Rattle.rewriting.specs.Aim.{Aim, FirstIn, Behind, Over}
 use Rattle.edit_plan.specs.Position.{anchor}
 use Rattle.edit_plan.specs.Change.{targets}
 use Rattle.edit_plan.specs.declared.position.Position.{Position}
-use Rattle.edit_plan.specs.declared.position.PositionForm.TheVariants.{FirstChild, After}
+use Rattle.edit_plan.specs.PositionForm.{FirstChild, After}
 use Rattle.edit_plan.specs.declared.change.Change.{Change}
 use Rattle.edit_plan.specs.declared.change.Change.TheVariants.{Insert, InsertAll, Replace, ReplaceWithMany, ReplaceAll}
 

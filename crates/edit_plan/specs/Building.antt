@@ -2,31 +2,26 @@
 --     Plan, IsPlan                  the root, the changes, the registrations (elements with annotations) and the mapping; what is true of every plan
 --     BuildRefuses                  why a plan is not built
 --     Edit                          the old root, the new root, the changed elements, and for annotations the elements that are found
---     IsNewRoot                     a root whose text is within the limit
---     Makes                         the edit is what the plan makes of the old tree, under a tree number
 --     registered                    registrations, by the values of their elements
---     TellsOf                       equal tree numbers have equal trees, as far as a registered element and the mapping go
---     WouldMake, IsRewritten        the tree that a plan makes; its form without origins, and the changed and the annotated paths in it
+--     WouldMake                     the tree that a plan makes, with its origins
+--     Makes                         the edit is what the plan makes of the old tree, under a tree number
 --     RunRefuses                    why a plan is not carried out, where this is the next tree number
-use Rattle.std.specs.Prelude.{◌≡◌, ◌<◌, ℕ, List, [], ◌∷◌, map, Some, None, All, refl}
+use Rattle.std.specs.Prelude.{◌≡◌, ℕ, List, [], ◌∷◌, map, Some, None, All, refl}
 use Rattle.std.specs.Coded.{Coded, code_by, coded_ℕ, coded_list, coded×}
 use Rattle.cst_core.specs.Path.{Path}
-use Rattle.cst_core.specs.Tree.{SyntaxTree, text_length}
-use Rattle.cst_core.specs.Green.{length_limit}
-use Rattle.cst_core.specs.Element.{Address, Element, IsNode, NumbersTell, address, element_code}
+use Rattle.cst_core.specs.Element.{Element, IsNode, NumbersTell, element_code}
 use Rattle.cst_core.specs.SyntaxElement.{element_of, syntax_at}
 use Rattle.cst_core.specs.TreeIds.{IsSpent}
 use Rattle.cst_core.specs.declared.element.SyntaxElement.{SyntaxElement}
 use Rattle.edit_plan.specs.Codes.{syntax_element_code}
 use Rattle.edit_plan.specs.ChangeCodes.{change_code}
 use Rattle.edit_plan.specs.Fits.{Fits}
-use Rattle.edit_map.specs.Mapping.{Mapping, followed, mapped_elements}
+use Rattle.edit_map.specs.Mapping.{Mapping}
 use Rattle.edit_plan.specs.Nesting.{first_clash}
 use Rattle.edit_plan.specs.Rewriting.{OriginTree, plain, is_free, new_tree}
-use Rattle.edit_plan.specs.Results.{changed, copies_of, paths_with}
-use Rattle.edit_plan.specs.Marks.{numbered_paths}
+use Rattle.edit_plan.specs.Results.{changed, annotated, paths_with}
 use Rattle.edit_plan.specs.AnnotationTable.{found_for}
-use Rattle.edit_plan.specs.Plan.{IsFirstUnplaced, ArePlaces, IsTooLong, IsRewriting, elements_held}
+use Rattle.edit_plan.specs.Plan.{IsFirstUnplaced, ArePlaces, IsTooLong, elements_held}
 use Rattle.edit_plan.specs.declared.change.Change.{Change}
 use Rattle.edit_plan.specs.declared.edit_error.EditError.{EditError}
 use Rattle.edit_plan.specs.declared.edit_error.EditError.TheVariants.{Intersecting, MissingMapping, TooLong, NoTreeNumber, Memory}
@@ -65,42 +60,26 @@ pub record Edit : Type 0 where
 abbrev pub edit_code : Coded Edit
 edit_code = code_by (Element × (Element × (List SyntaxElement × List (ℕ × List SyntaxElement)))) (coded× element_code (coded× element_code (coded× (coded_list syntax_element_code) (coded_list (coded× coded_ℕ (coded_list syntax_element_code)))))) (λ e. (e.old_root, (e.new_root, (e.changed, e.annotated)))) (λ q. record { old_root = q.0; new_root = q.1.0; changed = q.1.1.0; annotated = q.1.1.1 }) (λ _. refl)
 
-pub record IsNewRoot (e : Element) : Type 0 where
-  pub is_root : e.path ≡ []
-  pub fits : text_length e.root < length_limit
-
 abbrev pub registered : List (SyntaxElement × ℕ) → List (Element × ℕ)
 registered rs = map (λ r. (element_of r.0, r.1)) rs
-
--- Of the annotated elements, what is said rests on equal numbers having equal trees, since following goes by numbers.
-pub record Makes (p : Plan) (number : ℕ) (e : Edit) : Type 0 where
-  pub old_is : e.old_root ≡ p.root
-  pub number_is : e.new_root.number ≡ number
-  pub is_root : e.new_root.path ≡ []
-  pub changed_paths : List Path
-  pub changed_are : map Some e.changed ≡ map (syntax_at e.new_root) changed_paths
-  pub is_rewriting : IsRewriting p.root p.changes [] p.mapping e.new_root.root changed_paths []
-  pub annotated_paths : List (ℕ × Path)
-  pub annotated_are : (a : ℕ) → map Some (found_for e.annotated a) ≡ map (syntax_at e.new_root) (paths_with a annotated_paths)
-  pub is_whole : NumbersTell (elements_held p.root p.changes (registered p.registrations) p.mapping) → IsRewriting p.root p.changes (registered p.registrations) p.mapping e.new_root.root changed_paths annotated_paths
 
 pub record WouldMake (p : Plan) (made : OriginTree) : Type 0 where
   pub places : ℕ → Path
   pub are_places : ArePlaces p.mapping p.changes places
   pub is_new : new_tree p.changes places p.root ≡ made ∷ []
 
-abbrev pub TellsOf : Plan → SyntaxElement × ℕ → Type 0
-TellsOf p r = NumbersTell (element_of r.0 ∷ mapped_elements p.mapping)
-
--- the tree, the changed and the annotated paths in it; registered elements lead to these addresses
-pub record IsRewritten (p : Plan) (tree : SyntaxTree) (changed_paths : List Path) (annotated_paths : List (ℕ × Path)) : Type 0 where
+-- What is said of the annotated paths rests on equal numbers having equal trees, since following goes by numbers; nothing else does.
+pub record Makes (p : Plan) (number : ℕ) (e : Edit) : Type 0 where
   pub made : OriginTree
   pub would : WouldMake p made
-  pub tree_is : tree ≡ plain made
-  pub changed_is : changed_paths ≡ changed (is_free p.changes) made
-  pub reached : List Address
-  pub annotated_is : annotated_paths ≡ numbered_paths (map (λ r. r.1) p.registrations) (map (copies_of made) reached)
-  pub reached_are : All (TellsOf p) p.registrations → reached ≡ map (λ r. address (followed p.mapping r.0)) (registered p.registrations)
+  pub old_is : e.old_root ≡ p.root
+  pub number_is : e.new_root.number ≡ number
+  pub is_root : e.new_root.path ≡ []
+  pub tree_is : e.new_root.root ≡ plain made
+  pub changed_are : map Some e.changed ≡ map (syntax_at e.new_root) (changed (is_free p.changes) made)
+  pub annotated_paths : List (ℕ × Path)
+  pub annotated_are : (a : ℕ) → map Some (found_for e.annotated a) ≡ map (syntax_at e.new_root) (paths_with a annotated_paths)
+  pub annotated_is : NumbersTell (elements_held p.root p.changes (registered p.registrations) p.mapping) → annotated_paths ≡ annotated p.mapping (registered p.registrations) made
 
 abbrev pub RunRefuses : Plan → ℕ → EditError → Type 0
 RunRefuses p next (Intersecting first second) = ⊥

@@ -10,7 +10,7 @@ use Rattle.cst_core.specs.Element.{Element, subtree, element_at}
 use Rattle.cst_core.specs.SyntaxElement.{element_of}
 use Rattle.cst_core.specs.declared.element.SyntaxElement.{SyntaxElement}
 use Rattle.edit_plan.specs.declared.position.Position.{Position}
-use Rattle.edit_plan.specs.declared.position.PositionForm.TheVariants.{FirstChild, After}
+use Rattle.edit_plan.specs.PositionForm.{FirstChild, After}
 use Rattle.edit_plan.specs.declared.change.Change.{Change}
 use Rattle.edit_plan.specs.declared.change.Change.TheVariants.{Insert, InsertAll, Replace, ReplaceWithMany, ReplaceAll}
 

@@ -1,6 +1,8 @@
 pub mod Annotation
 pub mod AnnotationTable
 pub mod Codes
+pub mod PositionForm
+pub mod PositionInCode
 pub mod Position
 pub mod Change
 pub mod Aim

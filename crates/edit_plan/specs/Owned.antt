@@ -29,7 +29,7 @@ use Rattle.edit_plan.specs.Plan.{IsPlaceIn, HasPlace}
 use Rattle.edit_plan.specs.Nesting.{owner}
 use Rattle.edit_plan.specs.Rewriting.{plain, payload_of, dependents, given}
 use Rattle.edit_plan.specs.declared.position.Position.{Position}
-use Rattle.edit_plan.specs.declared.position.PositionForm.TheVariants.{FirstChild, After}
+use Rattle.edit_plan.specs.PositionForm.{FirstChild, After}
 use Rattle.edit_plan.specs.declared.change.Change.{Change}
 use Rattle.edit_plan.specs.declared.change.Change.TheVariants.{Insert, InsertAll, Replace, ReplaceWithMany, ReplaceAll}
 use Rattle.edit_plan.specs.declared.dependent.Dependent.{Dependent}

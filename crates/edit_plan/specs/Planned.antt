@@ -1,17 +1,24 @@
--- What a plan keeps beside its changes.
+-- What a plan keeps beside its changes, and what carrying it out comes to before there is a root.
 --     IsPlanned                     what becomes of each change, and the places of owners
+--     IsNewRoot                     a root whose text is within the limit, as that of every edit is
+--     TellsOf                       equal tree numbers have equal trees, as far as a registered element and the mapping go
+--     IsRewritten                   the tree that a plan makes, without its origins, and the changed and the annotated paths in it
 --     AreAnnotated                  where annotated elements stand in the tree that a plan makes, where a table has what each change owns
-use Rattle.std.specs.Prelude.{◌≡◌, ℕ, List, [], ◌∷◌, map, length, Option, All, Vec}
+use Rattle.std.specs.Prelude.{◌≡◌, ◌<◌, ℕ, List, [], ◌∷◌, map, length, Option, All, Vec}
 use Rattle.std.specs.Global.{Global}
 use Rattle.cst_core.specs.Path.{Path}
-use Rattle.cst_core.specs.Element.{Address, address}
-use Rattle.edit_map.specs.Mapping.{followed}
-use Rattle.edit_plan.specs.Building.{Plan, IsPlan, TellsOf, registered}
+use Rattle.cst_core.specs.Tree.{SyntaxTree, text_length}
+use Rattle.cst_core.specs.Green.{length_limit}
+use Rattle.cst_core.specs.Element.{Address, Element, NumbersTell, address}
+use Rattle.cst_core.specs.SyntaxElement.{element_of}
+use Rattle.cst_core.specs.declared.element.SyntaxElement.{SyntaxElement}
+use Rattle.edit_map.specs.Mapping.{followed, mapped_elements}
+use Rattle.edit_plan.specs.Building.{Plan, IsPlan, WouldMake, registered}
 use Rattle.edit_plan.specs.Fate.{fate}
 use Rattle.edit_plan.specs.Marks.{numbered_paths}
 use Rattle.edit_plan.specs.Owned.{places_in, AreDependents}
-use Rattle.edit_plan.specs.Results.{copies_of}
-use Rattle.edit_plan.specs.Rewriting.{OriginTree, new_tree}
+use Rattle.edit_plan.specs.Results.{changed, copies_of}
+use Rattle.edit_plan.specs.Rewriting.{OriginTree, plain, is_free, new_tree}
 use Rattle.edit_plan.specs.declared.dependent.Dependent.{Dependent}
 use Rattle.edit_plan.specs.Plan.{ArePlaces}
 use Rattle.edit_plan.specs.declared.fate.Fate.{Fate}
@@ -21,6 +28,23 @@ pub record IsPlanned (p : Plan) (fates : List Fate) (places : List (Option (Vec 
   pub fates_are : fates ≡ map (fate p.changes) p.changes
   pub long : length places ≡ length p.changes
   pub placed : ArePlaces p.mapping p.changes (places_in places)
+
+pub record IsNewRoot (e : Element) : Type 0 where
+  pub is_root : e.path ≡ []
+  pub fits : text_length e.root < length_limit
+
+abbrev pub TellsOf : Plan → SyntaxElement × ℕ → Type 0
+TellsOf p r = NumbersTell (element_of r.0 ∷ mapped_elements p.mapping)
+
+-- the tree, the changed and the annotated paths in it; registered elements lead to these addresses
+pub record IsRewritten (p : Plan) (tree : SyntaxTree) (changed_paths : List Path) (annotated_paths : List (ℕ × Path)) : Type 0 where
+  pub made : OriginTree
+  pub would : WouldMake p made
+  pub tree_is : tree ≡ plain made
+  pub changed_is : changed_paths ≡ changed (is_free p.changes) made
+  pub reached : List Address
+  pub annotated_is : annotated_paths ≡ numbered_paths (map (λ r. r.1) p.registrations) (map (copies_of made) reached)
+  pub reached_are : All (TellsOf p) p.registrations → reached ≡ map (λ r. address (followed p.mapping r.0)) (registered p.registrations)
 
 pub record AreAnnotated (p : Plan) (owned : List (Vec Dependent Global)) (annotated_paths : List (ℕ × Path)) : Type 0 where
   pub reached : List Address

@@ -11,7 +11,7 @@ use Rattle.cst_core.specs.Element.{Element, parent_of}
 use Rattle.cst_core.specs.declared.element.SyntaxElement.{SyntaxElement}
 use Rattle.cst_core.specs.SyntaxElement.{element_of, child_elements, previous_sibling}
 use Rattle.edit_plan.specs.declared.position.Position.{Position}
-use Rattle.edit_plan.specs.declared.position.PositionForm.TheVariants.{FirstChild, After}
+use Rattle.edit_plan.specs.PositionForm.{FirstChild, After}
 
 abbrev pub anchor : Position → Element
 anchor (FirstChild n) = n

@@ -66,10 +66,9 @@ pub fn is_node(element: &SyntaxElement) -> bool
 }
 
 impl Change {
-    /// Whether it is a change of the tree with this root, as a plan asks: what it aims at is of the tree, the ends of a range
+    /// Whether it is a change of the tree of `root`, as a plan asks: what it aims at is of the tree, the ends of a range
     /// differ, and a root is replaced by one node or not at all. Of which trees the elements are that it brings is all one.
     pub fn fits(&self, root: &SyntaxNode) -> bool
-        requires { root.now.path ≡ [] }
         ensures { result ≡ fits root.now self.now }
     {
         match self {

@@ -1,13 +1,12 @@
-ghost use Rattle.std.specs.Prelude.{◌≡◌, []};
+ghost use Rattle.std.specs.Prelude.{◌≡◌};
 ghost use Rattle.cst_core.specs.declared.element.SyntaxElement.TheVariants.{Node, Token};
 ghost use Rattle.edit_plan.specs.Fits.{is_native, is_native_position};
 
 use crate::position::Position;
 use cst_core::{GreenElementRef, SyntaxElement, SyntaxNode, SyntaxToken};
 
-/// Whether an element is of a root's tree: it has the tree's number, and its path leads to an element of its form there.
+/// Whether an element is of the tree of `root`: it has the tree's number, and its path leads to an element of its form there.
 pub fn is_native(root: &SyntaxNode, element: &SyntaxElement) -> bool
-    requires { root.now.path ≡ [] }
     ensures { result ≡ is_native root.now element.now }
 {
     match element {
@@ -17,13 +16,12 @@ pub fn is_native(root: &SyntaxNode, element: &SyntaxElement) -> bool
 }
 
 fn is_native_node(root: &SyntaxNode, node: &SyntaxNode) -> bool
-    requires { root.now.path ≡ [] }
     ensures { result ≡ is_native root.now (Node node.now) }
 {
     if node.tree() != root.tree() {
         return false;
     }
-    match root.as_green().get(node.slots()) {
+    match root.top_green().get(node.slots()) {
         Some(GreenElementRef::Node(_)) => true,
         Some(GreenElementRef::Token(_)) => false,
         None => false,
@@ -31,13 +29,12 @@ fn is_native_node(root: &SyntaxNode, node: &SyntaxNode) -> bool
 }
 
 fn is_native_token(root: &SyntaxNode, token: &SyntaxToken) -> bool
-    requires { root.now.path ≡ [] }
     ensures { result ≡ is_native root.now (Token token.now) }
 {
     if token.tree() != root.tree() {
         return false;
     }
-    match root.as_green().get(token.slots()) {
+    match root.top_green().get(token.slots()) {
         Some(GreenElementRef::Node(_)) => false,
         Some(GreenElementRef::Token(_)) => true,
         None => false,
@@ -45,9 +42,8 @@ fn is_native_token(root: &SyntaxNode, token: &SyntaxToken) -> bool
 }
 
 impl Position {
-    /// Whether the node or element that it names is of a root's tree.
+    /// Whether the node or element that it names is of the tree of `root`.
     pub fn is_native(&self, root: &SyntaxNode) -> bool
-        requires { root.now.path ≡ [] }
         ensures { result ≡ is_native_position root.now self.now }
     {
         if let Some(element) = self.after_of() {

@@ -2,7 +2,7 @@ ghost use Rattle.std.specs.Prelude.{◌≡◌, ◌<◌, [], length, slice_get, o
 ghost use Rattle.std.specs.Option.{option_map_or};
 ghost use Rattle.edit_plan.specs.Fits.{Fits};
 ghost use Rattle.edit_plan.specs.Nesting.{is_dropped, owner};
-ghost use Rattle.edit_plan.specs.Building.{BuildRefuses};
+ghost use Rattle.edit_plan.specs.Building.{IsPlan, BuildRefuses};
 
 use crate::annotation::SyntaxAnnotation;
 use crate::change::Change;
@@ -59,6 +59,7 @@ impl EditPlan {
         requires is_root { root.path ≡ [] }
         requires fit { All (Fits root) changes.items }
         ensures ok { IfOk result (λ p. p ≡ record { root = root; changes = changes.items; registrations = registrations.items; mapping = mapping }) }
+        ensures planned { IfOk result IsPlan }
         ensures refused { IfErr result (BuildRefuses (record { root = root; changes = changes.items; registrations = registrations.items; mapping = mapping })) }
     {
         let index = TargetIndex::of(alloc, &changes)?;

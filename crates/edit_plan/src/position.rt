@@ -1,4 +1,5 @@
 ghost use Rattle.std.specs.Prelude.{◌≡◌, IfOk, option_map};
+ghost use Rattle.edit_plan.specs.PositionForm.{FirstChild};
 ghost use Rattle.edit_plan.specs.Position.{anchor, first_of, after_of, after, before, last_child_of};
 
 use crate::element_like::Element;
@@ -7,7 +8,7 @@ use std::alloc::{AllocError, Global};
 use std::marker::Model;
 
 #[derive(Drop)]
-enum PositionForm {
+enum Form {
     FirstChild(SyntaxNode),
     After(SyntaxElement),
 }
@@ -15,27 +16,27 @@ enum PositionForm {
 /// A gap among the children of a node, where an insert puts its elements.
 #[derive(Drop)]
 pub struct Position {
-    form: PositionForm,
+    form: Form,
 }
 
 impl Model for Position {
-    ghost use Rattle.edit_plan.specs.declared.position.PositionForm.{PositionForm};
-    ghost use Rattle.edit_plan.specs.Codes.{position_code};
+    ghost use Rattle.edit_plan.specs.PositionForm.{PositionForm, position_code};
+    ghost use Rattle.edit_plan.specs.PositionInCode.{form_of};
 
     ghost Value = { PositionForm };
 
     ghost coded = { position_code };
 
-    ghost view = { λ a. a.form };
+    ghost view = { λ a. form_of a.form };
 }
 
 impl Position {
     /// The gap before the first child of `node`.
     pub fn first_child_of(alloc: Global, node: &SyntaxNode) -> Result<Position, AllocError>
-        ensures { IfOk result (λ p. p ≡ PositionForm.FirstChild node.now) }
+        ensures { IfOk result (λ p. p ≡ FirstChild node.now) }
     {
         Ok(Position {
-            form: PositionForm::FirstChild(node.try_clone(alloc)?),
+            form: Form::FirstChild(node.try_clone(alloc)?),
         })
     }
 
@@ -45,7 +46,7 @@ impl Position {
     {
         match node.last_child_or_token(alloc)? {
             Some(last) => Ok(Position {
-                form: PositionForm::After(last),
+                form: Form::After(last),
             }),
             None => Position::first_child_of(alloc, node),
         }
@@ -75,7 +76,7 @@ impl Position {
             return None;
         }
         Some(Position {
-            form: PositionForm::After(element),
+            form: Form::After(element),
         })
     }
 
@@ -87,10 +88,10 @@ impl Position {
         };
         match element.prev_sibling_or_token(alloc)? {
             Some(previous) => Ok(Some(Position {
-                form: PositionForm::After(previous),
+                form: Form::After(previous),
             })),
             None => Ok(Some(Position {
-                form: PositionForm::FirstChild(parent),
+                form: Form::FirstChild(parent),
             })),
         }
     }
@@ -100,8 +101,8 @@ impl Position {
         ensures { result.now ≡ (anchor self.now).path }
     {
         match &self.form {
-            PositionForm::FirstChild(node) => node.slots(),
-            PositionForm::After(element) => element.slots(),
+            Form::FirstChild(node) => node.slots(),
+            Form::After(element) => element.slots(),
         }
     }
 
@@ -110,8 +111,8 @@ impl Position {
         ensures { option_map (λ n. n.now) result ≡ first_of self.now }
     {
         match &self.form {
-            PositionForm::FirstChild(node) => Some(node),
-            PositionForm::After(_) => None,
+            Form::FirstChild(node) => Some(node),
+            Form::After(_) => None,
         }
     }
 
@@ -120,8 +121,8 @@ impl Position {
         ensures { option_map (λ e. e.now) result ≡ after_of self.now }
     {
         match &self.form {
-            PositionForm::FirstChild(_) => None,
-            PositionForm::After(element) => Some(element),
+            Form::FirstChild(_) => None,
+            Form::After(element) => Some(element),
         }
     }
 }

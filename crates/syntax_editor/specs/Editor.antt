@@ -17,7 +17,7 @@ use Rattle.edit_plan.specs.declared.edit_error.EditError.TheVariants.{Intersecti
 use Rattle.cst_core.specs.declared.element.SyntaxElement.{SyntaxElement}
 use Rattle.edit_plan.specs.Codes.{syntax_element_code}
 use Rattle.edit_plan.specs.ChangeCodes.{change_code}
-use Rattle.edit_plan.specs.Building.{Plan, BuildRefuses, RunRefuses}
+use Rattle.edit_plan.specs.Building.{Plan, IsPlan, BuildRefuses, RunRefuses}
 use Rattle.edit_plan.specs.Fits.{Fits}
 use Rattle.syntax_editor.specs.RecordCall.{RecordCall, recorded, refusal}
 use Rattle.syntax_editor.specs.declared.error.RecordError.{RecordError}
@@ -74,9 +74,10 @@ annotated annotation es = map (λ e. (e, annotation)) es
 abbrev pub plan_of : Editor → Plan
 plan_of e = record { root = e.root; changes = e.changes; registrations = e.registrations; mapping = unwrap_or e.factory [] }
 
+-- Only a list that is a plan gets as far as the new tree: a clash comes first, then a place that is missing.
 abbrev pub FinishRefuses : Editor → ℕ → EditError → Type 0
 FinishRefuses e next (Intersecting first second) = BuildRefuses (plan_of e) (Intersecting first second)
 FinishRefuses e next (MissingMapping change owner) = BuildRefuses (plan_of e) (MissingMapping change owner)
-FinishRefuses e next TooLong = RunRefuses (plan_of e) next TooLong
-FinishRefuses e next NoTreeNumber = RunRefuses (plan_of e) next NoTreeNumber
+FinishRefuses e next TooLong = IsPlan (plan_of e) × RunRefuses (plan_of e) next TooLong
+FinishRefuses e next NoTreeNumber = IsPlan (plan_of e) × RunRefuses (plan_of e) next NoTreeNumber
 FinishRefuses e next Memory = Unit {0}

@@ -26,7 +26,7 @@ use Rattle.cst_core.specs.Kinds.{AMP, ATTR, COMMA, CONST, ENUM, EXPR_STMT, EXTER
 use Rattle.cst_core.specs.declared.element.SyntaxElement.{SyntaxElement}
 use Rattle.cst_core.specs.declared.element.SyntaxElement.TheVariants.{Token}
 use Rattle.edit_plan.specs.declared.position.Position.{Position}
-use Rattle.edit_plan.specs.declared.position.PositionForm.TheVariants.{FirstChild, After}
+use Rattle.edit_plan.specs.PositionForm.{FirstChild, After}
 use Rattle.edit_plan.specs.declared.change.Change.{Change}
 use Rattle.syntax_editor.specs.Table.{first_fit}
 use Rattle.syntax_editor.specs.Level.{newline, space, level_text, level, is_too_deep}

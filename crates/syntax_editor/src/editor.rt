@@ -109,6 +109,7 @@ impl SyntaxEditor {
     /// `Intersecting` comes first, then `MissingMapping`; else only `Memory` comes. Nothing is handed back then.
     pub fn plan(self, alloc: Global) -> Result<EditPlan, EditError>
         ensures ok { IfOk result (λ p. p ≡ plan_of self) }
+        ensures planned { IfOk result IsPlan }
         ensures refused { IfErr result (BuildRefuses (plan_of self)) }
     {
         let mapping = self.factory.into_mapping(alloc);

@@ -22,3 +22,15 @@ invariant_of-result c =
       long = c.in_ok-places.ensures.long ∙ ap length c.deref-3.ensures.value;
       placed = placed;
     }
+
+pub returns-clause-planned : goal.returns-clause-planned
+returns-clause-planned c =
+    let cs = c.args.changes.items in
+    record {
+      is_root = c.requires.is_root;
+      is_node = search rules;
+      fit = c.requires.fit;
+      apart = ap first_clash (sym c.deref.ensures.value) ∙ c.in_ok-index.ensures.apart;
+      places = places_in c.in_ok-places.places.items;
+      placed = subst (λ ds. ArePlaces c.args.mapping ds (places_in c.in_ok-places.places.items)) c.deref-3.ensures.value c.in_ok-places.ensures.placed;
+    }
