@@ -1,7 +1,7 @@
 -- Changes that aim at different gaps and share no target, also once they are moved into a payload.
 --     meets                         two lists with a path in common
 --     same_gap_from                 two aims at one gap
---     start_of                      the first path that a replacement replaces
+--     start_of, start_in_targets    the first path that a replacement replaces; it is a target
 --     IsBelow                       an aim's path is this one or below it
 --     moved-same_gap, moved-start_of      aims below the target, moved
 --     owned_below                   a change that is owned aims at or below the owner's target
@@ -89,7 +89,7 @@ no_start : (at : Position) (p : Path) → start_of (position_aim at) ≡ Some p 
 no_start (FirstChild n) p h = none-some p h
 no_start (After e) p h = none-some p h
 
-start_in_targets : (c : Change) (p : Path) → start_of (aim c) ≡ Some p → has_path (targets c) p ≡ true
+pub start_in_targets : (c : Change) (p : Path) → start_of (aim c) ≡ Some p → has_path (targets c) p ≡ true
 start_in_targets (Insert at e) p h = absurd (no_start at p h)
 start_in_targets (InsertAll at es) p h = absurd (no_start at p h)
 start_in_targets (Replace t e) p h = start_in (targets (Replace t e)) p h

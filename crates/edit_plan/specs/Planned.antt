@@ -3,22 +3,29 @@
 --     IsNewRoot                     a root whose text is within the limit, as that of every edit is
 --     TellsOf                       equal tree numbers have equal trees, as far as a registered element and the mapping go
 --     IsRewritten                   the tree that a plan makes, without its origins, and the changed and the annotated paths in it
+--     IsOneNode, BringsNode         trees that are one node; a change that brings one node
+--     KeepsTop                      one node stands in the place of the root
 --     AreAnnotated                  where annotated elements stand in the tree that a plan makes, where a table has what each change owns
 use Rattle.std.specs.Prelude.{◌≡◌, ◌<◌, ℕ, List, [], ◌∷◌, map, length, Option, All, Vec}
 use Rattle.std.specs.Global.{Global}
 use Rattle.cst_core.specs.Path.{Path}
-use Rattle.cst_core.specs.Tree.{SyntaxTree, text_length}
+use Rattle.cst_core.specs.Tree.{SyntaxTree, Forest, Node, text_length}
 use Rattle.cst_core.specs.Green.{length_limit}
-use Rattle.cst_core.specs.Element.{Address, Element, NumbersTell, address}
+use Rattle.cst_core.specs.Element.{Address, Element, IsNode, NumbersTell, address, subtree}
 use Rattle.cst_core.specs.SyntaxElement.{element_of}
 use Rattle.cst_core.specs.declared.element.SyntaxElement.{SyntaxElement}
 use Rattle.edit_map.specs.Mapping.{followed, mapped_elements}
 use Rattle.edit_plan.specs.Building.{Plan, IsPlan, WouldMake, registered}
 use Rattle.edit_plan.specs.Fate.{fate}
 use Rattle.edit_plan.specs.Marks.{numbered_paths}
-use Rattle.edit_plan.specs.Owned.{places_in, AreDependents}
+use Rattle.edit_plan.specs.Owned.{places_in, AreDependents, AreGiven}
+use Rattle.edit_plan.specs.Change.{payload}
 use Rattle.edit_plan.specs.Results.{changed, copies_of}
-use Rattle.edit_plan.specs.Rewriting.{OriginTree, plain, is_free, new_tree}
+use Rattle.edit_plan.specs.Rewriting.{OriginTree, plain, is_free, independents, new_tree}
+use Rattle.rewriting.specs.declared.given.Given.{Given}
+use Rattle.rewriting.specs.Pass.{kind_only, given_by}
+use Rattle.rewriting.specs.Rewriting.{rewritten_whole}
+use Rattle.edit_plan.specs.declared.change.Change.{Change}
 use Rattle.edit_plan.specs.declared.dependent.Dependent.{Dependent}
 use Rattle.edit_plan.specs.Plan.{ArePlaces}
 use Rattle.edit_plan.specs.declared.fate.Fate.{Fate}
@@ -50,3 +57,14 @@ pub record AreAnnotated (p : Plan) (owned : List (Vec Dependent Global)) (annota
   pub reached : List Address
   pub reached_are : All (TellsOf p) p.registrations → reached ≡ map (λ r. address (followed p.mapping r.0)) (registered p.registrations)
   pub paths_are : (places : ℕ → Path) (made : OriginTree) → AreDependents p.changes places owned → new_tree p.changes places p.root ≡ made ∷ [] → annotated_paths ≡ numbered_paths (map (λ r. r.1) p.registrations) (map (copies_of made) reached)
+
+-- ---- the root of the new tree
+abbrev pub IsOneNode : List SyntaxTree → Type 0
+IsOneNode ts = (kind : ℕ) × (f : Forest ℕ) × (ts ≡ Node kind f ∷ [])
+
+abbrev pub BringsNode : Change → Type 0
+BringsNode c = (e : Element) × (payload c ≡ e ∷ []) × IsNode e
+
+abbrev pub KeepsTop : Plan → Type 0
+KeepsTop p =
+    (places : ℕ → Path) (table : List Given) → AreGiven p.changes places table → IsOneNode (rewritten_whole kind_only (given_by table) (independents p.changes) (subtree p.root))

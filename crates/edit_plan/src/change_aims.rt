@@ -1,19 +1,21 @@
-ghost use Rattle.std.specs.Prelude.{◌≡◌, ◌<◌, ◌-◌, ◌^◌, suc, [], ◌∷◌, map, IfOk, IfSome};
-ghost use Rattle.cst_core.specs.Element.{Element, subtree};
+ghost use Rattle.std.specs.Prelude.{◌≡◌, ◌<◌, ◌-◌, ◌^◌, true, suc, [], ◌∷◌, map, IfOk, IfSome};
+ghost use Rattle.cst_core.specs.Element.{Element, IsNode, subtree};
+ghost use Rattle.cst_core.specs.declared.element.SyntaxElement.TheVariants.{Node};
 ghost use Rattle.cst_core.specs.GreenElement.{element_trees};
 ghost use Rattle.cst_core.specs.SyntaxElement.{element_of};
-ghost use Rattle.cst_core.specs.Path.{last_slot};
+ghost use Rattle.cst_core.specs.Path.{has_path, last_slot};
 ghost use Rattle.rewriting.specs.Aimed.{numbered};
 ghost use Rattle.rewriting.specs.Given.{given_trees};
 ghost use Rattle.edit_plan.specs.Aim.{aim, aim_path};
-ghost use Rattle.edit_plan.specs.Change.{payload};
-ghost use Rattle.edit_plan.specs.Fits.{Fits};
+ghost use Rattle.edit_plan.specs.Change.{payload, targets};
+ghost use Rattle.edit_plan.specs.Fits.{Fits, is_one_node};
 ghost use Rattle.edit_plan.specs.Owned.{aim_from, position_aim_from, depth};
 
 use crate::change::Change;
+use crate::fits::is_root;
 use crate::position::Position;
 use crate::targets::slot;
-use cst_core::SyntaxElement;
+use cst_core::{SyntaxElement, SyntaxNode};
 use rewriting::{Aimed, Given};
 use std::alloc::{AllocError, Global};
 
@@ -83,6 +85,40 @@ impl Change {
         self.aimed_from(number, self.aim_path())
     }
 
+    /// Whether it replaces the root of its tree.
+    pub(crate) fn replaces_root(&self) -> bool
+        ensures { result ≡ has_path (targets self.now) [] }
+    {
+        match self {
+            Change::Insert(_, _) => false,
+            Change::InsertAll(_, _) => false,
+            Change::Replace(target, _) => is_root(target),
+            Change::ReplaceWithMany(target, _) => is_root(target),
+            Change::ReplaceAll(_, _, _) => false,
+        }
+    }
+
+    /// The node that is brought in the place of a root.
+    pub(crate) fn root_brought(&self) -> &SyntaxNode
+        requires fits { (root : Element) × Fits root self.now }
+        requires root { has_path (targets self.now) [] ≡ true }
+        ensures brought { payload self.now ≡ result.now ∷ [] }
+        ensures node { IsNode result.now }
+    {
+        let node = match self {
+            Change::Insert(_, _) => unreachable!(),
+            Change::InsertAll(_, _) => unreachable!(),
+            Change::Replace(_, None) => unreachable!(),
+            Change::Replace(_, Some(SyntaxElement::Token(_))) => unreachable!(),
+            Change::Replace(_, Some(SyntaxElement::Node(node))) => node,
+            Change::ReplaceWithMany(_, elements) => one_node(elements.as_slice()),
+            Change::ReplaceAll(_, _, _) => unreachable!(),
+        };
+        // It is a node.
+        let _ = node.kind();
+        node
+    }
+
     /// The elements that the change brings.
     pub(crate) fn brought(&self, alloc: Global) -> Result<Given<'_>, AllocError>
         ensures { IfOk result (λ g. given_trees g ≡ map subtree (payload self.now)) }
@@ -95,6 +131,18 @@ impl Change {
             Change::ReplaceWithMany(_, elements) => shared(alloc, elements.as_slice()),
             Change::ReplaceAll(_, _, elements) => shared(alloc, elements.as_slice()),
         }
+    }
+}
+
+// The only element, a node.
+fn one_node(elements: &[SyntaxElement]) -> &SyntaxNode
+    requires { is_one_node elements.now ≡ true }
+    ensures { elements.now ≡ Node result.now ∷ [] }
+{
+    match elements {
+        [SyntaxElement::Node(node)] => node,
+        [SyntaxElement::Token(_)] => unreachable!(),
+        _ => unreachable!(),
     }
 }
 

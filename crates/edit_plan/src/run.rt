@@ -1,4 +1,4 @@
-ghost use Rattle.std.specs.Prelude.{◌≡◌, ◌+◌, ◌<◌, ℕ, [], ◌∷◌, map, length, All, Some, IfOk, IfErr, IfSome, OnOk, OnErr};
+ghost use Rattle.std.specs.Prelude.{◌≡◌, ◌+◌, ◌<◌, ℕ, [], ◌∷◌, map, find, length, option_map, All, Some, IfOk, IfErr, OnOk, OnErr};
 ghost use Rattle.cst_core.specs.Green.{branch_tree, length_limit};
 ghost use Rattle.cst_core.specs.Tree.{text_length};
 ghost use Rattle.cst_core.specs.Element.{Element, IsElement, element_at, subtree};
@@ -11,8 +11,9 @@ ghost use Rattle.rewriting.specs.Rewriting.{rewritten_whole};
 ghost use Rattle.rewriting.specs.Topmost.{paths_of};
 ghost use Rattle.edit_plan.specs.Building.{Makes, RunRefuses};
 ghost use Rattle.edit_plan.specs.Marks.{annotated_path};
-ghost use Rattle.edit_plan.specs.Planned.{AreAnnotated, IsRewritten};
-ghost use Rattle.cst_core.specs.Path.{Path};
+ghost use Rattle.edit_plan.specs.Planned.{AreAnnotated, IsOneNode, IsRewritten, KeepsTop};
+ghost use Rattle.cst_core.specs.Path.{Path, has_path};
+ghost use Rattle.edit_plan.specs.Change.{targets};
 ghost use Rattle.edit_plan.specs.Fate.{fate};
 ghost use Rattle.edit_plan.specs.Fits.{Fits};
 ghost use Rattle.edit_plan.specs.Owned.{AreDependents, AreGiven};
@@ -121,26 +122,46 @@ impl EditPlan {
         aims: &[Aimed],
         given: &[Given],
     ) -> Result<GreenNode, AllocError>
+        requires aims { aims_of aims.now ≡ independents self.now.changes }
+        requires given { (places : ℕ → Path) × AreGiven self.now.changes places given.now }
         ensures { IfOk result (λ n. rewritten_whole kind_only (given_by given.now) (aims_of aims.now) (subtree self.now.root) ≡ branch_tree n ∷ []) }
     {
         let old = GreenElement::Node(self.root.green(alloc)?);
         let mut builds = 0;
         let new = rebuild_whole(alloc, &old, aims, given, &mut builds)?;
-        only_node(new).ok_or(AllocError)
+        self.keep_top();
+        Ok(only_node(new))
+    }
+
+    // One node stands in the place of the root: the root itself, or the node that replaces it.
+    fn keep_top(&self)
+        ensures { KeepsTop self.now }
+    {
+        match replacing_root(&self.changes) {
+            Some(change) => {
+                let _ = change.root_brought();
+            }
+            None => {}
+        }
     }
 }
 
-// The only element, if there is one, and it is a node. What stands for the root of a tree is always so.
-fn only_node(mut elements: Vec<GreenElement>) -> Option<GreenNode>
-    ensures { IfSome result (λ n. element_trees elements.items ≡ branch_tree n ∷ []) }
+// The change that replaces the root, if one does.
+fn replacing_root(changes: &[Change]) -> Option<&Change>
+    ensures { option_map (λ c. c.now) result ≡ find (λ c. has_path (targets c) []) changes.now }
 {
-    let element = elements.pop()?;
-    if !elements.is_empty() {
-        return None;
-    }
-    match element {
-        GreenElement::Node(node) => Some(node),
-        GreenElement::Token(_) => None,
+    changes.iter().find(|change| change.replaces_root())
+}
+
+// The only element, a node.
+fn only_node(mut elements: Vec<GreenElement>) -> GreenNode
+    requires { IsOneNode (element_trees elements.items) }
+    ensures { element_trees elements.items ≡ branch_tree result ∷ [] }
+{
+    match elements.pop() {
+        Some(GreenElement::Node(node)) => node,
+        Some(GreenElement::Token(_)) => unreachable!(),
+        None => unreachable!(),
     }
 }
 

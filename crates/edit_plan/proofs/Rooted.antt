@@ -1,0 +1,291 @@
+-- The root of a new tree is a node.
+--     unclashed                     where nothing clashes, no two changes share a target
+--     no-root-range, no-root-in     no range replaces a root
+--     root-alone                    a change that replaces the root is independent, and the only one there
+--     kept-node, brought-node       a node that is kept is one in the new tree, and so is one that is brought
+--     stays-a-node                  what stands in the place of the root is one node
+--     takes-its-place               the node that a change brings which replaces the root
+--     found-fits                    of a change that is found, what is true of all, and that it replaces the root
+use Rattle.std.specs.Prelude.{◌≡◌, ℕ, zero, suc, ◌+◌, ◌-◌, ◌<◌, ◌≤◌, Bool, true, false, ◌&&◌, not, cond, nat_eq, List, [], ◌∷◌, ◌++◌, map, flat_map, filter, filter_map, find, length, slice_get, unwrap_or, option_map, is_none, All, Option, Some, None, refl}
+use Rattle.std.specs.List.{AllByRecursion, list_any, enumerate_from}
+use Rattle.std.specs.Option.{option_or, option_map_or}
+use Rattle.std.proofs.Common.{ap, ap₂, sym, subst, ◌∙◌, arith}
+use Rattle.std.proofs.lemmas.Bool.{cases_Bool, and_parts, or_left, or_right, or_from, or_parts, eqb-true, eqb-false, false≢true, true≢false}
+use Rattle.std.proofs.lemmas.List.Folds.{find-append}
+use Rattle.std.proofs.lemmas.Option.{none-some, same_Some, slice_get_within, get_or_from_slice_get}
+use Rattle.std.proofs.lemmas.List.{append-nil}
+use mathlib.Core.Logic.{inl, inr}
+use Rattle.cst_core.specs.Path.{Path, same_path, has_path, above, parent_path, last_slot, last_item, counted_from}
+use Rattle.cst_core.specs.SyntaxElement.{element_of}
+use Rattle.cst_core.specs.Tree.{SyntaxTree, Forest, Node, Token, at, is_token, forest, forest_relabelled}
+use Rattle.cst_core.specs.Element.{Element, IsNode, subtree, address}
+use Rattle.cst_core.specs.declared.element.SyntaxElement.{SyntaxElement}
+use Rattle.cst_core.specs.declared.element.SyntaxElement.TheVariants as form
+use Rattle.rewriting.specs.Aim.{Aim, FirstIn, Behind, Over, starts_at, replaces}
+use Rattle.rewriting.specs.Pass.{kind_only, given_by}
+use Rattle.rewriting.specs.Rewriting.{NumberedAim, numbers, replacements_at, is_replaced, rewritten, rewritten_from, rewritten_whole}
+use Rattle.rewriting.specs.declared.given.Given.{Given}
+use Rattle.edit_plan.specs.Aim.{position_aim, aim}
+use Rattle.edit_plan.specs.PositionForm.{FirstChild, After}
+use Rattle.edit_plan.specs.declared.position.Position.{Position}
+use Rattle.edit_plan.specs.Change.{payload, targets, shared_targets}
+use Rattle.edit_plan.specs.Nesting.{clashes, pairs, pairs_with, first_clash, is_keeping, region, region_at, surroundings, is_around, is_dropped, owner, is_independent}
+use Rattle.edit_plan.specs.Owned.{AreGiven}
+use Rattle.edit_plan.specs.Planned.{IsOneNode, BringsNode}
+use Rattle.edit_plan.specs.Rewriting.{Origin, OriginTree, plain, origin, aims_of, payload_of, dependents, given, independents}
+use Rattle.edit_plan.specs.declared.change.Change.{Change}
+use Rattle.edit_plan.specs.declared.change.Change.TheVariants.{Insert, InsertAll, Replace, ReplaceWithMany, ReplaceAll}
+use Rattle.edit_plan.proofs.Apart.{meets, starts, start_in_targets}
+use Rattle.edit_plan.proofs.Clashes.{clash, clashes-at}
+use Rattle.edit_plan.proofs.Lists.{all_weaker, all_enumerated}
+use Rattle.edit_plan.proofs.Paths.{same_path-true}
+use Rattle.edit_plan.proofs.Settled.{given_is}
+
+-- ---- where a search finds nothing
+parts-none : {X : Type 0} (a b : Option X) → option_or a b ≡ None → (a ≡ None) × (b ≡ None)
+parts-none None b h = (refl, h)
+parts-none (Some x) b h = absurd (none-some x (sym h))
+
+module _ {X : Type 0} (test : X → Bool) where
+  none-in-each : (g : ℕ → List X) (a n j : ℕ) → a ≤ j → j < a + n → find test (flat_map g (counted_from a n)) ≡ None → find test (g j) ≡ None
+  none-in-each g a zero j l m h = absurd (omega (arith, l, m))
+  none-in-each g a (suc n) j l m h =
+      let both = parts-none (find test (g a)) (find test (flat_map g (counted_from (suc a) n))) (sym (find-append test (g a) (flat_map g (counted_from (suc a) n))) ∙ h) in
+      elim (cases_Bool (nat_eq j a)) [
+        | inl here ↦ ap (λ k. find test (g k)) (eqb-true j a here) ∙ both.0
+        | inr there ↦ let differ : j ≡ a → ⊥ = eqb-false j a there in none-in-each g (suc a) n j (omega (arith, l, differ)) (omega (arith, m)) both.1
+      ]
+
+  none-of-map : (f : ℕ → X) (a n i : ℕ) → a ≤ i → i < a + n → find test (map f (counted_from a n)) ≡ None → test (f i) ≡ false
+  none-of-map f a n i l m h = go (test (f i)) refl (none-in-each (λ k. f k ∷ []) a n i l m (ap (find test) (sym (as-map (counted_from a n))) ∙ h))
+    where
+      as-map : (ks : List ℕ) → map f ks ≡ flat_map (λ k. f k ∷ []) ks
+      as-map [] = refl
+      as-map (k ∷ ks) = ap (λ xs. f k ∷ xs) (as-map ks)
+
+      go : (b : Bool) → test (f i) ≡ b → cond (test (f i)) (Some (f i)) None ≡ None → test (f i) ≡ false
+      go false is none = is
+      go true is none = absurd (none-some (f i) (sym none ∙ ap (λ b. cond b (Some (f i)) None) is))
+
+  none-passes : (xs : List X) → find test xs ≡ None → AllByRecursion (λ x. test x ≡ false) xs
+  none-passes [] h = tt
+  none-passes (x ∷ xs) h =
+      elim (cases_Bool (test x)) [
+        | inl is ↦ absurd (none-some x (sym h ∙ ap (λ b. cond b (Some x) (find test xs)) is))
+        | inr is ↦ (is, none-passes xs (ap (λ b. cond b (Some x) (find test xs)) (sym is) ∙ h))
+      ]
+
+  found-at : (xs : List X) (x : X) → find test xs ≡ Some x → (i : ℕ) × (slice_get xs i ≡ Some x) × (test x ≡ true)
+  found-at [] x h = absurd (none-some x h)
+  found-at (y ∷ xs) x h =
+      elim (cases_Bool (test y)) [
+        | inl is ↦
+            let same : y ≡ x = same_Some y x (ap (λ b. cond b (Some y) (find test xs)) (sym is) ∙ h) in
+            (0, ap Some same, ap test (sym same) ∙ is)
+        | inr is ↦
+            let rest = found-at xs x (ap (λ b. cond b (Some y) (find test xs)) (sym is) ∙ h) in
+            (suc rest.0, rest.1, rest.2)
+      ]
+
+pub unclashed : (cs : List Change) (i j : ℕ) (c d : Change) → first_clash cs ≡ None → i < j → slice_get cs i ≡ Some c → slice_get cs j ≡ Some d → shared_targets c d ≡ false
+unclashed cs i j c d apart less at_i at_j =
+    clashes-at cs i j c d at_i at_j ∙ none-of-map (clash cs) (λ k. (k, j)) 0 j i (omega arith) (omega (arith, less)) (none-in-each (clash cs) pairs_with 0 (length cs) j (omega arith) (omega (arith, slice_get_within cs j d at_j)) apart)
+
+-- ---- a change that replaces the root
+no-root-sibling : (p : Path) (ns : List ℕ) → has_path (map (λ i. p ++ i ∷ []) ns) [] ≡ false
+no-root-sibling p [] = refl
+no-root-sibling [] (n ∷ ns) = no-root-sibling [] ns
+no-root-sibling (j ∷ p) (n ∷ ns) = no-root-sibling (j ∷ p) ns
+
+pub no-root-range : (first last : SyntaxElement) (es : List SyntaxElement) → has_path (targets (ReplaceAll first last es)) [] ≡ false
+no-root-range first last es =
+    no-root-sibling (parent_path (element_of first).path) (counted_from (last_slot (element_of first).path) (suc (last_slot (element_of last).path) - last_slot (element_of first).path))
+
+-- a change that is known to be one
+pub no-root-in : {c : Change} {first last : SyntaxElement} {es : List SyntaxElement} → c ≡ ReplaceAll first last es → has_path (targets c) [] ≡ false
+no-root-in {c} {first} {last} {es} is = ap (λ d. has_path (targets d) []) is ∙ no-root-range first last es
+
+root-target : (p : Path) → has_path (p ∷ []) [] ≡ true → p ≡ []
+root-target [] h = refl
+root-target (i ∷ p) h = absurd (false≢true h)
+
+-- where it aims, it lies in nothing
+pub record AtRoot (c : Change) : Type 0 where
+  pub around : surroundings c ≡ []
+  pub starts : starts_at [] (aim c) ≡ true
+
+at-root : (c : Change) → has_path (targets c) [] ≡ true → AtRoot c
+at-root (Insert at e) h = absurd (false≢true h)
+at-root (InsertAll at es) h = absurd (false≢true h)
+at-root (Replace (form.Node n) e) h = let top = root-target n.path h in record { around = ap above top; starts = ap (same_path []) top }
+at-root (Replace (form.Token t) e) h = let top = root-target t.path h in record { around = ap above top; starts = ap (same_path []) top }
+at-root (ReplaceWithMany (form.Node n) es) h = let top = root-target n.path h in record { around = ap above top; starts = ap (same_path []) top }
+at-root (ReplaceWithMany (form.Token t) es) h = let top = root-target t.path h in record { around = ap above top; starts = ap (same_path []) top }
+at-root (ReplaceAll first last es) h = absurd (false≢true (sym (no-root-range first last es) ∙ h))
+
+nothing-around : (ps : List Path) → list_any (has_path []) ps ≡ false
+nothing-around [] = refl
+nothing-around (p ∷ ps) = nothing-around ps
+
+free-at-root : (cs : List Change) (c : Change) → AtRoot c → is_independent cs c ≡ true
+free-at-root cs c root =
+    let never : (r : Change) → is_around r c ≡ false = λ r. ap (λ ps. list_any (has_path ps) (region r)) root.around ∙ nothing-around (region r) in
+    let kept : is_dropped cs c ≡ false = none cs (λ r. ap (λ b. not (is_keeping r) && b) (never r) ∙ and-false (not (is_keeping r))) in
+    let unowned : owner cs c ≡ None = ap (λ b. cond b None (last_item (filter_map (region_at cs) (surroundings c)))) kept ∙ ap (λ ps. last_item (filter_map (region_at cs) ps)) root.around in
+    ap₂ (λ b o. not b && is_none o) kept unowned
+  where
+    and-false : (b : Bool) → (b && false) ≡ false
+    and-false true = refl
+    and-false false = refl
+
+    none : (rs : List Change) → ((r : Change) → (not (is_keeping r) && is_around r c) ≡ false) → list_any (λ r. not (is_keeping r) && is_around r c) rs ≡ false
+    none [] h = refl
+    none (r ∷ rs) h = or_from _ _ (h r) (none rs h)
+
+-- ---- the only one
+abbrev starting : List Change → ℕ × Change → Bool
+starting cs d = is_independent cs d.1 && starts_at [] (aim d.1)
+
+numbered-starts : (p : ℕ × Change → Bool) (xs : List (ℕ × Change)) → replacements_at (aims_of (filter p xs)) [] ≡ map (λ d. d.0) (filter (λ d. p d && starts_at [] (aim d.1)) xs)
+numbered-starts p [] = refl
+numbered-starts p (d ∷ xs) =
+    let rest = filter (λ d. p d && starts_at [] (aim d.1)) xs in
+    elim (p d) as (λ b. replacements_at (aims_of (cond b (d ∷ filter p xs) (filter p xs))) [] ≡ map (λ d. d.0) (cond (b && starts_at [] (aim d.1)) (d ∷ rest) rest)) [
+      | true ↦
+          (elim (starts_at [] (aim d.1)) as (λ s. numbers (cond s ((d.0, aim d.1) ∷ filter (λ c. starts_at [] c.1) (aims_of (filter p xs))) (filter (λ c. starts_at [] c.1) (aims_of (filter p xs)))) ≡ map (λ d. d.0) (cond s (d ∷ rest) rest)) [
+            | true ↦ ap (λ ns. d.0 ∷ ns) (numbered-starts p xs)
+            | false ↦ numbered-starts p xs
+          ])
+      | false ↦ numbered-starts p xs
+    ]
+
+module _ {X : Type 0} (test : ℕ × X → Bool) (n : ℕ) where
+  abbrev OnlyAt : List (ℕ × X) → Type 0
+  OnlyAt ds = AllByRecursion (λ d. test d ≡ true → d.0 ≡ n) ds
+
+  none-later : (k : ℕ) (xs : List X) → n < k → OnlyAt (enumerate_from k xs) → filter test (enumerate_from k xs) ≡ []
+  none-later k [] l h = refl
+  none-later k (x ∷ xs) l h =
+      let rest = filter test (enumerate_from (k + 1) xs) in
+      elim (cases_Bool (test (k, x))) [
+        | inl is ↦ let same : k ≡ n = h.0 is in absurd (omega (arith, l, same))
+        | inr is ↦ ap (λ b. cond b ((k, x) ∷ rest) rest) is ∙ none-later (k + 1) xs (omega (arith, l)) h.1
+      ]
+
+  only-one : (k i : ℕ) (xs : List X) (x : X) → k + i ≡ n → slice_get xs i ≡ Some x → test (n, x) ≡ true → OnlyAt (enumerate_from k xs) → map (λ d. d.0) (filter test (enumerate_from k xs)) ≡ n ∷ []
+  only-one k i [] x e at_i passes h = absurd (none-some x at_i)
+  only-one k zero (y ∷ xs) x e at_i passes h =
+      let here : k ≡ n = omega (arith, e) in
+      let rest = filter test (enumerate_from (k + 1) xs) in
+      let pass : test (k, y) ≡ true = ap₂ (λ a b. test (a, b)) here (same_Some y x at_i) ∙ passes in
+      ap (λ b. map (λ d. d.0) (cond b ((k, y) ∷ rest) rest)) pass ∙ ap₂ (λ a ds. a ∷ map (λ d. d.0) ds) here (none-later (k + 1) xs (omega (arith, here)) h.1)
+  only-one k (suc i) (y ∷ xs) x e at_i passes h =
+      let rest = filter test (enumerate_from (k + 1) xs) in
+      elim (cases_Bool (test (k, y))) [
+        | inl is ↦ let same : k ≡ n = h.0 is in absurd (omega (arith, e, same))
+        | inr is ↦ ap (λ b. map (λ d. d.0) (cond b ((k, y) ∷ rest) rest)) is ∙ only-one (k + 1) i xs x (omega (arith, e)) at_i passes h.1
+      ]
+
+start-replaces : (p : Path) (a : Aim) → starts_at p a ≡ true → replaces p a ≡ true
+start-replaces p (FirstIn q) s = absurd (false≢true s)
+start-replaces p (Behind q) s = absurd (false≢true s)
+start-replaces p (Over []) s = absurd (false≢true s)
+start-replaces p (Over (q ∷ qs)) s = or_left (same_path p q) (has_path qs p) s
+
+some-starts : (cs : List NumberedAim) (p : Path) (n : ℕ) → replacements_at cs p ≡ n ∷ [] → is_replaced cs p ≡ true
+some-starts [] p n h = let l : 0 ≡ 1 = ap length h in absurd (omega (arith, l))
+some-starts (c ∷ cs) p n h =
+    let rest = filter (λ d. starts_at p d.1) cs in
+    elim (cases_Bool (starts_at p c.1)) [
+      | inl is ↦ or_left (replaces p c.1) (is_replaced cs p) (start-replaces p c.1 is)
+      | inr is ↦ or_right (replaces p c.1) (is_replaced cs p) (some-starts cs p n (ap (λ b. numbers (cond b (c ∷ rest) rest)) (sym is) ∙ h))
+    ]
+
+pub root-alone : (cs : List Change) (i : ℕ) (c : Change) → first_clash cs ≡ None → slice_get cs i ≡ Some c → has_path (targets c) [] ≡ true → replacements_at (independents cs) [] ≡ i ∷ []
+root-alone cs i c apart at_i h =
+    let root = at-root c h in
+    let passes : starting cs (i, c) ≡ true = ap₂ (λ a b. a && b) (free-at-root cs c root) root.starts in
+    numbered-starts (λ d. is_independent cs d.1) (enumerate_from 0 cs) ∙ only-one (starting cs) i 0 i cs c (omega arith) at_i passes (all_weaker (λ d. slice_get cs d.0 ≡ Some d.1) (λ d. starting cs d ≡ true → d.0 ≡ i) (enumerate_from 0 cs) (λ d at_d pass. one d.0 d.1 at_d (start_in_targets d.1 [] (starts (aim d.1) [] (and_parts (is_independent cs d.1) (starts_at [] (aim d.1)) pass).1))) (all_enumerated cs))
+  where
+    one : (j : ℕ) (d : Change) → slice_get cs j ≡ Some d → has_path (targets d) [] ≡ true → j ≡ i
+    one j d at_j k =
+        let before : i < j → ⊥ = λ less. true≢false (sym (meets (targets c) (targets d) [] h k) ∙ unclashed cs i j c d apart less at_i at_j) in
+        let after : j < i → ⊥ = λ less. true≢false (sym (meets (targets d) (targets c) [] k h) ∙ unclashed cs j i d c apart less at_j at_i) in
+        omega (arith, before, after)
+
+-- ---- what stands there
+-- a node, whatever its label and its children
+tree-of-node : (e : Element) → IsNode e → (k : ℕ) × (f : Forest ℕ) × (subtree e ≡ Node k f)
+tree-of-node e node =
+    (elim (at e.root e.path) as (λ o. option_map is_token o ≡ Some false → (k : ℕ) × (f : Forest ℕ) × (unwrap_or o (Token 0 []) ≡ Node k f)) [
+      | None ↦ λ h. absurd (none-some false h)
+      | Some t ↦ λ h. shown t (same_Some (is_token t) false h)
+    ]) node
+  where
+    shown : (t : SyntaxTree) → is_token t ≡ false → (k : ℕ) × (f : Forest ℕ) × (t ≡ Node k f)
+    shown (Token k s) h = absurd (true≢false h)
+    shown (Node k f) h = (k, f, refl)
+
+kept-node : (table : ℕ → List SyntaxTree) (cs : List NumberedAim) (t : SyntaxTree) (k : ℕ) (f : Forest ℕ) → t ≡ Node k f → IsOneNode (rewritten kind_only table cs [] t ∷ [])
+kept-node table cs t k f is = (k, forest (rewritten_from kind_only table cs [] 0 f), ap (λ u. rewritten kind_only table cs [] u ∷ []) is)
+
+brought-node : (o : Path → ℕ → Origin) (g : ℕ → List OriginTree) (cs : List NumberedAim) (t : SyntaxTree) (k : ℕ) (f : Forest ℕ) → t ≡ Node k f → IsOneNode (plain (rewritten o g cs [] t) ∷ [])
+brought-node o g cs t k f is =
+    ((o [] k).kind, forest_relabelled (λ l. l.kind) (forest (rewritten_from o g cs [] 0 f)), ap (λ u. plain (rewritten o g cs [] u) ∷ []) is)
+
+no-replacement : (at : Position) → replaces [] (position_aim at) ≡ false
+no-replacement (FirstChild n) = refl
+no-replacement (After e) = refl
+
+module _ (cs : List Change) (places : ℕ → Path) (table : List Given) (are : AreGiven cs places table) (root : Element) where
+  top-kept : IsNode root → list_any (λ c. has_path (targets c) []) cs ≡ false → IsOneNode (rewritten_whole kind_only (given_by table) (independents cs) (subtree root))
+  top-kept node none =
+      let t = tree-of-node root node in
+      subst IsOneNode (sym (ap (λ b. cond b (flat_map (given_by table) (replacements_at (independents cs) [])) (rewritten kind_only (given_by table) (independents cs) [] (subtree root) ∷ [])) (none-replaced cs 0 none))) (kept-node (given_by table) (independents cs) (subtree root) t.0 t.1 t.2)
+    where
+      not-there : (c : Change) → has_path (targets c) [] ≡ false → replaces [] (aim c) ≡ false
+      not-there (Insert at e) h = no-replacement at
+      not-there (InsertAll at es) h = no-replacement at
+      not-there (Replace t e) h = h
+      not-there (ReplaceWithMany t es) h = h
+      not-there (ReplaceAll first last es) h = h
+
+      none-replaced : (ds : List Change) (k : ℕ) → list_any (λ c. has_path (targets c) []) ds ≡ false → is_replaced (aims_of (filter (λ d. is_independent cs d.1) (enumerate_from k ds))) [] ≡ false
+      none-replaced [] k h = refl
+      none-replaced (d ∷ ds) k h =
+          let both = or_parts (has_path (targets d) []) (list_any (λ c. has_path (targets c) []) ds) h in
+          let rest = none-replaced ds (k + 1) both.1 in
+          elim (is_independent cs d) as (λ b. is_replaced (aims_of (cond b ((k, d) ∷ filter (λ d. is_independent cs d.1) (enumerate_from (k + 1) ds)) (filter (λ d. is_independent cs d.1) (enumerate_from (k + 1) ds)))) [] ≡ false) [
+            | true ↦ or_from (replaces [] (aim d)) _ (not-there d both.0) rest
+            | false ↦ rest
+          ]
+
+  top-brought : (i : ℕ) (c : Change) → first_clash cs ≡ None → slice_get cs i ≡ Some c → has_path (targets c) [] ≡ true → BringsNode c → IsOneNode (rewritten_whole kind_only (given_by table) (independents cs) (subtree root))
+  top-brought i c apart at_i h brings =
+      let alone = root-alone cs i c apart at_i h in
+      let t = tree-of-node brings.0 brings.2 in
+      let own = origin (address brings.0) (Some i) in
+      let payload_is : payload_of cs i ≡ brings.0 ∷ [] = ap (λ o. option_map_or payload o []) at_i ∙ brings.1 in
+      let given_is_one : given_by table i ≡ plain (rewritten own (given cs places) (dependents cs places i) [] (subtree brings.0)) ∷ [] = are i ∙ ap (map plain) (given_is cs places i ∙ ap (map (λ e. rewritten (origin (address e) (Some i)) (given cs places) (dependents cs places i) [] (subtree e))) payload_is) in
+      let whole : rewritten_whole kind_only (given_by table) (independents cs) (subtree root) ≡ given_by table i = ap (λ b. cond b (flat_map (given_by table) (replacements_at (independents cs) [])) (rewritten kind_only (given_by table) (independents cs) [] (subtree root) ∷ [])) (some-starts (independents cs) [] i alone) ∙ ap (flat_map (given_by table)) alone ∙ append-nil (given_by table i) in
+      subst IsOneNode (sym (whole ∙ given_is_one)) (brought-node own (given cs places) (dependents cs places i) (subtree brings.0) t.0 t.1 t.2)
+
+-- where a search for a change that replaces the root ends
+pub stays-a-node : (cs : List Change) (root : Element) → IsNode root → find (λ c. has_path (targets c) []) cs ≡ None → (places : ℕ → Path) (table : List Given) → AreGiven cs places table → IsOneNode (rewritten_whole kind_only (given_by table) (independents cs) (subtree root))
+stays-a-node cs root node none places table are =
+    top-kept cs places table are root node (any-none cs (none-passes (λ c. has_path (targets c) []) cs none))
+  where
+    any-none : (ds : List Change) → AllByRecursion (λ c. has_path (targets c) [] ≡ false) ds → list_any (λ c. has_path (targets c) []) ds ≡ false
+    any-none [] h = refl
+    any-none (d ∷ ds) h = or_from (has_path (targets d) []) _ h.0 (any-none ds h.1)
+
+pub takes-its-place : (cs : List Change) (root : Element) (c : Change) → first_clash cs ≡ None → find (λ c. has_path (targets c) []) cs ≡ Some c → BringsNode c → (places : ℕ → Path) (table : List Given) → AreGiven cs places table → IsOneNode (rewritten_whole kind_only (given_by table) (independents cs) (subtree root))
+takes-its-place cs root c apart found brings places table are =
+    let there = found-at (λ c. has_path (targets c) []) cs c found in
+    top-brought cs places table are root there.0 c apart there.1 there.2 brings
+
+-- a change that is found has what all have
+pub found-fits : (P : Change → Type 0) (cs : List Change) (c : Change) → All P cs → find (λ c. has_path (targets c) []) cs ≡ Some c → P c × (has_path (targets c) [] ≡ true)
+found-fits P cs c all found =
+    let there = found-at (λ c. has_path (targets c) []) cs c found in
+    (subst P (get_or_from_slice_get cs there.0 c c there.1) (all there.0 c (slice_get_within cs there.0 c there.1)), there.2)
