@@ -2,6 +2,7 @@ ghost use Rattle.std.specs.Prelude.{◌≡◌, IfOk, Some, string_bytes};
 ghost use Rattle.green_tree.specs.Path.{last_slot};
 ghost use Rattle.green_tree.specs.Tree.{at, label, text, text_length};
 ghost use Rattle.green_tree.specs.Order.{start};
+ghost use Rattle.green_tree.specs.Green.{branch_tree};
 ghost use Rattle.green_tree.specs.GreenElement.{element_tree};
 ghost use Rattle.green_tree.specs.GreenElementRef.{ref_tree};
 ghost use Rattle.cst_core.specs.Element.{subtree, parent_of, root_of};
@@ -10,7 +11,7 @@ ghost use Rattle.cst_core.specs.SyntaxElement.{element_of, node_of, token_of, sy
 use crate::location::Location;
 use crate::node::SyntaxNode;
 use crate::token::SyntaxToken;
-use green_tree::{GreenElement, GreenElementRef, SyntaxKind};
+use green_tree::{GreenElement, GreenElementRef, GreenNode, SyntaxKind};
 use std::alloc::{AllocError, Global};
 use std::hash::{Hash, Hasher};
 
@@ -100,6 +101,13 @@ impl SyntaxElement {
             SyntaxElement::Node(node) => GreenElementRef::Node(node.as_green()),
             SyntaxElement::Token(token) => GreenElementRef::Token(token.as_green()),
         }
+    }
+
+    /// The shared tree of the whole tree that the element is in: what `tree_top` stands for.
+    pub fn top_green(&self) -> &GreenNode
+        ensures { branch_tree result.now ≡ (element_of self.now).root }
+    {
+        &self.location().root
     }
 
     /// The shared tree that the element stands for, as a value of its own.

@@ -7,14 +7,14 @@ ghost use Rattle.std.specs.Prelude.{◌≡◌, ◌↔◌, ◌==◌, ◌++◌, If
 ghost use Rattle.green_tree.specs.Path.{last_slot};
 ghost use Rattle.green_tree.specs.Tree.{at, label, text, text_length};
 ghost use Rattle.green_tree.specs.Order.{start};
-ghost use Rattle.green_tree.specs.Green.{leaf_tree};
+ghost use Rattle.green_tree.specs.Green.{branch_tree, leaf_tree};
 ghost use Rattle.cst_core.specs.Element.{subtree, parent_of, root_of, IsToken};
 ghost use Rattle.cst_core.specs.SyntaxElement.{next_sibling, previous_sibling, token_before};
 
 use crate::element::SyntaxElement;
 use crate::location::Location;
 use crate::node::SyntaxNode;
-use green_tree::{GreenToken, SyntaxKind, token_before};
+use green_tree::{GreenNode, GreenToken, SyntaxKind, token_before};
 use std::alloc::{AllocError, Global};
 use std::hash::{Hash, Hasher};
 use std::marker::Model;
@@ -83,6 +83,13 @@ impl SyntaxToken {
         ensures there { at self.now.root self.now.path ≡ Some (leaf_tree result.now) }
     {
         &self.green
+    }
+
+    /// The shared tree of the whole tree that the token is in: what `tree_top` stands for.
+    pub fn top_green(&self) -> &GreenNode
+        ensures { branch_tree result.now ≡ self.now.root }
+    {
+        &self.location.root
     }
 
     /// The shared token that the value stands for, as a value of its own.

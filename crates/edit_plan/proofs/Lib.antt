@@ -43,3 +43,4 @@ mod FoundNodes
 mod ByAnnotation
 mod Told
 mod Rooted
+mod Counted

@@ -1,4 +1,4 @@
-ghost use Rattle.std.specs.Prelude.{◌≡◌, ◌<◌, ◌-◌, ◌^◌, true, suc, [], ◌∷◌, map, IfOk, IfSome};
+ghost use Rattle.std.specs.Prelude.{◌≡◌, ◌<◌, ◌-◌, ◌^◌, true, suc, [], ◌∷◌, map, IfOk};
 ghost use Rattle.cst_core.specs.Element.{Element, IsNode, subtree};
 ghost use Rattle.cst_core.specs.declared.element.SyntaxElement.TheVariants.{Node};
 ghost use Rattle.cst_core.specs.GreenElement.{element_trees};
@@ -14,8 +14,8 @@ ghost use Rattle.edit_plan.specs.Owned.{aim_from, position_aim_from, depth};
 use crate::change::Change;
 use crate::fits::is_root;
 use crate::position::Position;
-use crate::targets::slot;
-use cst_core::{SyntaxElement, SyntaxNode};
+use crate::targets::parent;
+use cst_core::{GreenElementRef, SyntaxElement, SyntaxNode};
 use rewriting::{Aimed, Given};
 use std::alloc::{AllocError, Global};
 
@@ -60,27 +60,25 @@ impl Change {
         }
     }
 
-    /// Where the change of this number aims, with another path in place of its own. There is an answer for each change of a
-    /// tree: no node has so many children that the elements of a range could not be counted.
-    pub(crate) fn aimed_from<'a>(&self, number: usize, path: &'a [usize]) -> Option<Aimed<'a>>
-        ensures { IfSome result (λ a. numbered a ≡ (number, aim_from path.now self.now)) }
+    /// Where the change of this number aims, with another path in place of its own.
+    pub(crate) fn aimed_from<'a>(&self, number: usize, path: &'a [usize]) -> Aimed<'a>
+        ensures { numbered result ≡ (number, aim_from path.now self.now) }
     {
         match self {
-            Change::Insert(position, _) => Some(position.aimed_from(number, path)),
-            Change::InsertAll(position, _) => Some(position.aimed_from(number, path)),
-            Change::Replace(_, _) => Some(Aimed::over(number, path, 1)),
-            Change::ReplaceWithMany(_, _) => Some(Aimed::over(number, path, 1)),
+            Change::Insert(position, _) => position.aimed_from(number, path),
+            Change::InsertAll(position, _) => position.aimed_from(number, path),
+            Change::Replace(_, _) => Aimed::over(number, path, 1),
+            Change::ReplaceWithMany(_, _) => Aimed::over(number, path, 1),
             Change::ReplaceAll(first, last, _) => {
-                let count = count_of_range(first.slots(), last.slots())?;
-                Some(Aimed::over(number, path, count))
+                Aimed::over(number, path, count_of_range(first, last))
             }
         }
     }
 
     /// Where the change of this number aims.
-    pub(crate) fn aimed(&self, number: usize) -> Option<Aimed<'_>>
+    pub(crate) fn aimed(&self, number: usize) -> Aimed<'_>
         requires { (root : Element) × Fits root self.now }
-        ensures { IfSome result (λ a. numbered a ≡ (number, aim self.now)) }
+        ensures { numbered result ≡ (number, aim self.now) }
     {
         self.aimed_from(number, self.aim_path())
     }
@@ -146,12 +144,31 @@ fn one_node(elements: &[SyntaxElement]) -> &SyntaxNode
     }
 }
 
-// How many siblings there are from the first to the last, if they can be counted.
-fn count_of_range(first: &[usize], last: &[usize]) -> Option<usize>
-    ensures { IfSome result (λ n. n ≡ suc (last_slot last.now) - last_slot first.now) }
+// How many siblings there are from the first to the last.
+fn count_of_range(first: &SyntaxElement, last: &SyntaxElement) -> usize
+    ensures { result ≡ suc (last_slot (element_of last.now).path) - last_slot (element_of first.now).path }
 {
-    let behind = slot(last).checked_sub(slot(first))?;
-    behind.checked_add(1)
+    slot_after(last).saturating_sub(first.index())
+}
+
+// The slot after that of an element. There is a number for it, since no node has more children than a list has items.
+fn slot_after(element: &SyntaxElement) -> usize
+    ensures { result ≡ suc (last_slot (element_of element.now).path) }
+{
+    // Its path leads to it.
+    let _ = element.as_green();
+    if element.slots().is_empty() {
+        return 1;
+    }
+    match element.top_green().get(parent(element.slots())) {
+        Some(GreenElementRef::Node(node)) => {
+            let slot = element.index();
+            prove!(slot < node.children().len());
+            slot + 1
+        }
+        Some(GreenElementRef::Token(_)) => unreachable!(),
+        None => unreachable!(),
+    }
 }
 
 fn shared<'a>(alloc: Global, elements: &[SyntaxElement]) -> Result<Given<'a>, AllocError>

@@ -46,12 +46,9 @@ pub(crate) fn moved_aims<'a, 'b>(
 {
     let mut aims = Vec::new(alloc);
     for dependent in dependents {
-        let Some(aim) = dependent
+        let aim = dependent
             .change
-            .aimed_from(dependent.number, &dependent.path)
-        else {
-            return Err(AllocError);
-        };
+            .aimed_from(dependent.number, &dependent.path);
         aims.push(aim)?;
     }
     Ok(aims)

@@ -55,10 +55,7 @@ fn independent_aims<'a>(
     let mut aims = Vec::with_capacity(alloc, changes.len())?;
     for number in 0..changes.len() {
         if fates[number].is_independent() {
-            let Some(aim) = changes[number].aimed(number) else {
-                return Err(AllocError);
-            };
-            aims.push(aim)?;
+            aims.push(changes[number].aimed(number))?;
         }
     }
     Ok(aims)

@@ -6,6 +6,7 @@ pub mod LevelCalls
 pub mod Indentation
 pub mod Shift
 pub mod IndentCalls
+pub mod Refusal
 pub mod MappedAlong
 pub mod AttrsAndDocs
 pub mod Spacing

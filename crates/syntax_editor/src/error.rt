@@ -1,3 +1,8 @@
+ghost use Rattle.std.specs.Prelude.{◌≡◌, Some, IsSome};
+ghost use Rattle.syntax_editor.specs.Refusal.{of_level, of_whitespace};
+
+use crate::indent_error::IndentError;
+use cst_core::TreeError;
 use std::alloc::AllocError;
 use thiserror::Error;
 
@@ -35,6 +40,34 @@ impl From<AllocError> for RecordError {
 
     fn from(_: AllocError) -> RecordError {
         RecordError::Memory
+    }
+}
+
+impl RecordError {
+    /// Why nothing is recorded where a level was not read.
+    pub(crate) fn of_level(error: IndentError) -> RecordError
+        requires { IsSome (of_level error) }
+        ensures { of_level error ≡ Some result }
+    {
+        match error {
+            IndentError::LevelTooLarge => RecordError::LevelTooLarge,
+            IndentError::TooLong => unreachable!(),
+            IndentError::NoTreeNumber => unreachable!(),
+            IndentError::NotYounger => unreachable!(),
+            IndentError::Memory => RecordError::Memory,
+        }
+    }
+
+    /// Why nothing is recorded where a whitespace token, which is never too long, was not made.
+    pub(crate) fn of_whitespace(error: TreeError) -> RecordError
+        requires { IsSome (of_whitespace error) }
+        ensures { of_whitespace error ≡ Some result }
+    {
+        match error {
+            TreeError::TooLong => unreachable!(),
+            TreeError::NoTreeNumber => RecordError::NoTreeNumber,
+            TreeError::Memory => RecordError::Memory,
+        }
     }
 }
 

@@ -1,3 +1,4 @@
+use cst_core::TreeError;
 use std::alloc::AllocError;
 use thiserror::Error;
 
@@ -29,5 +30,20 @@ impl From<AllocError> for IndentError {
 
     fn from(_: AllocError) -> IndentError {
         IndentError::Memory
+    }
+}
+
+impl From<TreeError> for IndentError {
+    ghost use Rattle.std.specs.Prelude.{◌≡◌};
+    ghost use Rattle.syntax_editor.specs.Refusal.{of_tree};
+
+    ghost from_gives = { λ t e. e ≡ of_tree t };
+
+    fn from(error: TreeError) -> IndentError {
+        match error {
+            TreeError::TooLong => IndentError::TooLong,
+            TreeError::NoTreeNumber => IndentError::NoTreeNumber,
+            TreeError::Memory => IndentError::Memory,
+        }
     }
 }

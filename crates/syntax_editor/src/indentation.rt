@@ -8,7 +8,7 @@ ghost use Rattle.syntax_editor.specs.IndentCalls.{fresh_root, CanBeRoot, RootRef
 use crate::indent_error::IndentError;
 use crate::level::IndentLevel;
 use crate::shift::{Shift, shifted};
-use cst_core::{SyntaxNode, TreeError, TreeIds};
+use cst_core::{SyntaxNode, TreeIds};
 use std::alloc::Global;
 
 // The node indented or dedented, as the root of a tree of its own under the next number.
@@ -27,9 +27,7 @@ fn shifted_root(
     let green = shifted(alloc, shift, node.as_green())?;
     match SyntaxNode::new_root(alloc, ids, green) {
         Ok(root) => Ok(root),
-        Err(TreeError::TooLong) => Err(IndentError::TooLong),
-        Err(TreeError::NoTreeNumber) => Err(IndentError::NoTreeNumber),
-        Err(TreeError::Memory) => Err(IndentError::Memory),
+        Err(error) => Err(IndentError::from(error)),
     }
 }
 

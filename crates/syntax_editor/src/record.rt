@@ -48,6 +48,7 @@ impl SyntaxEditor {
         ensures recorded { OnOk result (self.new ≡ after_call (InsertingAll at elements.items) self.old) }
         ensures accepted { OnOk result (refusal self.old.root (InsertingAll at elements.items) ≡ None) }
         ensures refused { IfErr result (RecordRefuses (InsertingAll at elements.items) self.old) }
+        ensures memory_last { result ≡ Err RecordError.Memory → refusal self.old.root (InsertingAll at elements.items) ≡ None }
         ensures unchanged { OnErr result (self.new ≡ self.old) }
     {
         if !at.is_native(&self.root) {
@@ -81,6 +82,7 @@ impl SyntaxEditor {
         ensures recorded { OnOk result (self.new ≡ after_call (DeletingAll first last) self.old) }
         ensures accepted { OnOk result (refusal self.old.root (DeletingAll first last) ≡ None) }
         ensures refused { IfErr result (RecordRefuses (DeletingAll first last) self.old) }
+        ensures memory_last { result ≡ Err RecordError.Memory → refusal self.old.root (DeletingAll first last) ≡ None }
         ensures unchanged { OnErr result (self.new ≡ self.old) }
     {
         if is_foreign_range(&self.root, &first, &last) {
@@ -159,6 +161,7 @@ impl SyntaxEditor {
         ensures recorded { OnOk result (self.new ≡ after_call (ReplacingAll first last new.items) self.old) }
         ensures accepted { OnOk result (refusal self.old.root (ReplacingAll first last new.items) ≡ None) }
         ensures refused { IfErr result (RecordRefuses (ReplacingAll first last new.items) self.old) }
+        ensures memory_last { result ≡ Err RecordError.Memory → refusal self.old.root (ReplacingAll first last new.items) ≡ None }
         ensures unchanged { OnErr result (self.new ≡ self.old) }
     {
         if is_foreign_range(&self.root, &first, &last) {

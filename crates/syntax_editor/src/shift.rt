@@ -11,7 +11,7 @@ ghost use Rattle.syntax_editor.specs.Shift.{shifted_text, shifted, ShiftRefuses}
 
 use crate::indent_error::IndentError;
 use crate::level::{IndentLevel, last_line};
-use cst_core::{GreenElement, GreenNode, GreenToken, SyntaxKind, TreeError};
+use cst_core::{GreenElement, GreenNode, GreenToken, SyntaxKind};
 use std::alloc::{AllocError, Global};
 
 /// What becomes of the lines of whitespace tokens.
@@ -101,9 +101,7 @@ fn shifted_token(
     let text = shifted_text(alloc, shift, token.text())?;
     match GreenToken::new(alloc, SyntaxKind::WHITESPACE, text.as_str()) {
         Ok(token) => Ok(Some(GreenElement::Token(token))),
-        Err(TreeError::TooLong) => Err(IndentError::TooLong),
-        Err(TreeError::NoTreeNumber) => unreachable!(),
-        Err(TreeError::Memory) => Err(IndentError::Memory),
+        Err(error) => Err(IndentError::from(error)),
     }
 }
 

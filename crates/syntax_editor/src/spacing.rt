@@ -1,5 +1,5 @@
 //! Inserting elements with the whitespace that goes round them.
-ghost use Rattle.std.specs.Prelude.{ℕ, suc, ◌≡◌, ◌+◌, ◌∷◌, [], ◌++◌, ◌<◌, ◌≤◌, length, max, Some, None, IfOk, IfErr, OnOk, OnErr, string_bytes};
+ghost use Rattle.std.specs.Prelude.{ℕ, suc, ◌≡◌, ◌+◌, ◌∷◌, [], ◌++◌, ◌<◌, ◌≤◌, length, max, Some, None, IsSome, IfOk, IfErr, OnOk, OnErr, string_bytes};
 ghost use Rattle.cst_core.specs.Path.{parent_path};
 ghost use Rattle.cst_core.specs.Element.{subtree, element_at};
 ghost use Rattle.cst_core.specs.SyntaxElement.{element_of};
@@ -7,6 +7,7 @@ ghost use Rattle.syntax_editor.specs.Level.{level};
 ghost use Rattle.syntax_editor.specs.Spacing.{NewLine, neighbor, between, space_behind, space_before, space_after, next_of, space_in_front, space_at_end, space_text, space_elements, spaced, numbers_needed, spacing_refusal};
 ghost use Rattle.syntax_editor.specs.SpacingCalls.{space_of, FindsLevel, FindsSpace, with_spaces, numbers_of, NumbersRefuse, IsRound, RoundRefuses, SpacingRefuses};
 ghost use Rattle.syntax_editor.specs.LevelCalls.{ReadsLevel};
+ghost use Rattle.syntax_editor.specs.Refusal.{of_level};
 ghost use Rattle.syntax_editor.specs.RecordCall.{InsertingAll};
 ghost use Rattle.syntax_editor.specs.Editor.{after_call};
 
@@ -16,7 +17,7 @@ use crate::factory::SyntaxFactory;
 use crate::indent_error::IndentError;
 use crate::level::IndentLevel;
 use crate::space_rule::{SpaceRule, opens_list, space_rule};
-use cst_core::{SyntaxElement, SyntaxNode, TreeError, TreeIds};
+use cst_core::{SyntaxElement, SyntaxNode, TreeIds};
 use edit_plan::{Element, Position};
 use std::alloc::{AllocError, Global};
 
@@ -47,12 +48,14 @@ fn node_level(alloc: Global, node: &SyntaxNode) -> Result<IndentLevel, RecordErr
 
 // A refusal to read a level as one to record.
 fn as_recorded(read: Result<IndentLevel, IndentError>) -> Result<IndentLevel, RecordError>
-    ensures { (level : ℕ) → ReadsLevel level read → FindsLevel level result }
+    requires { IfErr read (λ e. IsSome (of_level e)) }
+    ensures ok { IfOk read (λ level. result ≡ Ok level) }
+    ensures err { IfErr read (λ e. IfErr result (λ f. of_level e ≡ Some f)) }
+    ensures found { (level : ℕ) → ReadsLevel level read → FindsLevel level result }
 {
     match read {
         Ok(level) => Ok(level),
-        Err(IndentError::LevelTooLarge) => Err(RecordError::LevelTooLarge),
-        Err(_) => Err(RecordError::Memory),
+        Err(error) => Err(RecordError::of_level(error)),
     }
 }
 
@@ -212,9 +215,7 @@ fn push_space(
     let text = space_text(alloc, space)?;
     match factory.whitespace(alloc, ids, text.as_str()) {
         Ok(token) => Ok(push(out, SyntaxElement::Token(token))?),
-        Err(TreeError::TooLong) => unreachable!(),
-        Err(TreeError::NoTreeNumber) => Err(RecordError::NoTreeNumber),
-        Err(TreeError::Memory) => Err(RecordError::Memory),
+        Err(error) => Err(RecordError::of_whitespace(error)),
     }
 }
 

@@ -4,18 +4,18 @@ use Rattle.rewriting.specs.Aimed.{aims_of, numbered}
 use Rattle.edit_plan.proofs.Carried.{one-more, passed-at, independents-whole, independent-at}
 use Rattle.edit_plan.proofs.Moved.{change-at}
 use Rattle.edit_plan.proofs.run.independent_aims.Goals as goal
-use Rattle.edit_plan.proofs.run.independent_aims.Goals.{then-is_independent+in-Some+in_ok-push, else-is_independent}
+use Rattle.edit_plan.proofs.run.independent_aims.Goals.{then-is_independent+in_ok-push, else-is_independent}
 
 pub loop-number-preserved : goal.loop-number-preserved
 loop-number-preserved c =
     let cs = c.args.changes.now in
     let i = c.loop-number.number in
     elim c.if-is_independent.branch [
-      | then-is_independent+in-Some+in_ok-push w ↦
+      | then-is_independent+in_ok-push w ↦
           let d = w.index-changes-number.result in
           let at_i = change-at cs i d c.loop-number-test.true w.index-changes-number.is in
           let free = sym (independent-at cs c.args.fates.now i d _ c.requires.fates at_i) ∙ sym c.is_independent.ensures ∙ w.if-is_independent.true in
-          ap (λ v. aims_of v.items) w.aims-is ∙ ap aims_of w.in_ok-push.ensures.items ∙ map-append numbered c.loop-number.aims.items (w.in-Some.aim ∷ []) ∙ ap₂ (λ ns n. ns ++ n ∷ []) c.loop-number.invariant w.in-Some.ensures ∙ sym (one-more cs i d c.loop-number-test.true w.index-changes-number.is free)
+          ap (λ v. aims_of v.items) w.aims-is ∙ ap aims_of w.in_ok-push.ensures.items ∙ map-append numbered c.loop-number.aims.items (w.aimed.result ∷ []) ∙ ap₂ (λ ns n. ns ++ n ∷ []) c.loop-number.invariant w.aimed.ensures ∙ sym (one-more cs i d c.loop-number-test.true w.index-changes-number.is free)
       | else-is_independent w ↦
           ap (λ v. aims_of v.items) w.aims-is ∙ c.loop-number.invariant ∙ sym (passed-at cs c.args.fates.now i _ c.requires.fates c.loop-number-test.true (sym c.is_independent.ensures ∙ w.if-is_independent.false))
     ]
