@@ -17,6 +17,7 @@ pub use green_tree::{
     GreenElement, GreenElementRef, GreenNode, GreenToken, KIND_NAMES, LENGTH_LIMIT, SyntaxKind,
     TreeError,
 };
+pub use green_tree::laws;
 pub use node::SyntaxNode;
 pub use shape::same_shape;
 pub use token::SyntaxToken;
