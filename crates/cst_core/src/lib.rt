@@ -15,9 +15,8 @@ pub use ast_node::{AstNode, HasAttrs};
 pub use element::SyntaxElement;
 pub use green_tree::{
     GreenElement, GreenElementRef, GreenNode, GreenToken, KIND_NAMES, LENGTH_LIMIT, SyntaxKind,
-    TreeError,
+    TreeError, laws,
 };
-pub use green_tree::laws;
 pub use node::SyntaxNode;
 pub use shape::same_shape;
 pub use token::SyntaxToken;
