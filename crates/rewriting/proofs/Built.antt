@@ -106,7 +106,7 @@ some-append : (ps qs : List Path) → some_path (ps ++ qs) ≡ (some_path ps || 
 some-append [] qs = refl
 some-append (p ∷ ps) qs = refl
 
-some-parents : (cs : List NumberedAim) → some_path (parents_of cs) ≡ list_any has_parent cs
+pub some-parents : (cs : List NumberedAim) → some_path (parents_of cs) ≡ list_any has_parent cs
 some-parents [] = refl
 some-parents (c ∷ cs) = some-append (parents c.1) (parents_of cs) ∙ ap (λ b. has_parent c || b) (some-parents cs)
 

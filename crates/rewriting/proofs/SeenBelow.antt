@@ -139,7 +139,7 @@ below_shifted xs i = record {
 }
 
 -- ---- the same for aims in code
-aims-placed : (xs : List Aimed) → map of_placed (map placed xs) ≡ aims_of xs
+pub aims-placed : (xs : List Aimed) → map of_placed (map placed xs) ≡ aims_of xs
 aims-placed [] = refl
 aims-placed (x ∷ xs) = ap (λ cs. of_placed (placed x) ∷ cs) (aims-placed xs)
 
