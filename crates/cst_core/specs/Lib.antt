@@ -1,5 +1,6 @@
 pub use Rattle.green_tree.specs.declared.kind.TheConstants.SyntaxKind as Kinds
 pub use Rattle.green_tree.specs.declared.kind.SyntaxKind
+pub use Rattle.green_tree.specs.declared.error.TreeError
 pub use Rattle.green_tree.specs.Path
 pub use Rattle.green_tree.specs.Tree
 pub use Rattle.green_tree.specs.Order

@@ -1,8 +1,8 @@
-ghost use Rattle.std.specs.Prelude.{◌≡◌, IfOk, Some, string_bytes};
+ghost use Rattle.std.specs.Prelude.{◌≡◌, ◌<◌, IfOk, Some, string_bytes};
 ghost use Rattle.green_tree.specs.Path.{last_slot};
 ghost use Rattle.green_tree.specs.Tree.{at, label, text, text_length};
 ghost use Rattle.green_tree.specs.Order.{start};
-ghost use Rattle.green_tree.specs.Green.{branch_tree};
+ghost use Rattle.green_tree.specs.Green.{branch_tree, length_limit};
 ghost use Rattle.green_tree.specs.GreenElement.{element_tree};
 ghost use Rattle.green_tree.specs.GreenElementRef.{ref_tree};
 ghost use Rattle.cst_core.specs.Element.{subtree, parent_of, root_of};
@@ -117,9 +117,10 @@ impl SyntaxElement {
         self.as_green().share(alloc)
     }
 
-    /// How many bytes the element's text has.
+    /// How many bytes the element's text has, at most 4,294,967,295.
     pub fn text_len(&self) -> u64
-        ensures { result ≡ text_length (subtree (element_of self.now)) }
+        ensures length { result ≡ text_length (subtree (element_of self.now)) }
+        ensures fits { result < length_limit }
     {
         match self {
             SyntaxElement::Node(node) => node.text_len(),

@@ -15,7 +15,7 @@ pub use ast_node::{AstNode, HasAttrs};
 pub use element::SyntaxElement;
 pub use green_tree::{
     GreenElement, GreenElementRef, GreenNode, GreenToken, KIND_NAMES, LENGTH_LIMIT, SyntaxKind,
-    TreeError,
+    TreeError, laws,
 };
 pub use node::SyntaxNode;
 pub use shape::same_shape;

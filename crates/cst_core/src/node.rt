@@ -147,9 +147,10 @@ impl SyntaxNode {
         self.green.share(alloc)
     }
 
-    /// How many bytes the node's text has.
+    /// How many bytes the node's text has, at most 4,294,967,295.
     pub fn text_len(&self) -> u64
-        ensures { result ≡ text_length (subtree self.now) }
+        ensures length { result ≡ text_length (subtree self.now) }
+        ensures fits { result < length_limit }
     {
         self.green.length()
     }

@@ -3,12 +3,12 @@ ghost use Rattle.std.specs.Cmp.Rules.{comparing, hashing};
 ghost use Rattle.std.specs.Cmp.Lexicographic.{pointwise};
 ghost use Rattle.std.specs.Ordering.{on, eq_of_both};
 ghost use Rattle.std.specs.Hash as fed;
-ghost use Rattle.std.specs.Prelude.{◌≡◌, ◌↔◌, ◌==◌, ◌++◌, IfOk, Some};
+ghost use Rattle.std.specs.Prelude.{◌≡◌, ◌↔◌, ◌==◌, ◌<◌, ◌++◌, IfOk, IsSome, Some};
 ghost use Rattle.green_tree.specs.Path.{last_slot};
 ghost use Rattle.green_tree.specs.Tree.{at, label, text, text_length};
 ghost use Rattle.green_tree.specs.Order.{start};
-ghost use Rattle.green_tree.specs.Green.{branch_tree, leaf_tree};
-ghost use Rattle.cst_core.specs.Element.{subtree, parent_of, root_of, IsToken};
+ghost use Rattle.green_tree.specs.Green.{branch_tree, leaf_tree, length_limit};
+ghost use Rattle.cst_core.specs.Element.{subtree, parent_of, root_of, IsNode, IsToken};
 ghost use Rattle.cst_core.specs.SyntaxElement.{next_sibling, previous_sibling, token_before};
 
 use crate::element::SyntaxElement;
@@ -45,6 +45,7 @@ impl SyntaxToken {
     pub fn kind(&self) -> SyntaxKind
         ensures kind { result.0 ≡ label (subtree self.now) }
         ensures form { IsToken self.now }
+        ensures top { IsNode (root_of self.now) }
     {
         self.green.kind()
     }
@@ -99,9 +100,10 @@ impl SyntaxToken {
         self.green.share(alloc)
     }
 
-    /// How many bytes the token's text has.
+    /// How many bytes the token's text has, at most 4,294,967,295.
     pub fn text_len(&self) -> u64
-        ensures { result ≡ text_length (subtree self.now) }
+        ensures length { result ≡ text_length (subtree self.now) }
+        ensures fits { result < length_limit }
     {
         self.green.length()
     }
@@ -139,7 +141,8 @@ impl SyntaxToken {
 
     /// The parent. A token always has one, and `None` does not come.
     pub fn parent(&self, alloc: Global) -> Result<Option<SyntaxNode>, AllocError>
-        ensures { IfOk result (λ r. r ≡ parent_of self.now) }
+        ensures parent { IfOk result (λ r. r ≡ parent_of self.now) }
+        ensures some { IfOk result IsSome }
     {
         self.location.parent(alloc)
     }

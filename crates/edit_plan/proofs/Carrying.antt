@@ -18,8 +18,8 @@ use Rattle.cst_core.specs.Green.{Branch, branch_tree, length_limit}
 use Rattle.cst_core.specs.SyntaxElement.{element_of, syntax_at}
 use Rattle.rewriting.specs.declared.given.Given.{Given}
 use Rattle.rewriting.specs.Given.{given_trees}
-use Rattle.green_tree.specs.declared.error.TreeError.{TreeError}
-use Rattle.green_tree.specs.declared.error.TreeError.TheVariants as tree
+use Rattle.cst_core.specs.TreeError.{TreeError}
+use Rattle.cst_core.specs.TreeError.TheVariants as tree
 use Rattle.rewriting.specs.Pass.{kind_only, given_by}
 use Rattle.rewriting.specs.Rewriting.{NumberedAim, rewritten_whole}
 use Rattle.rewriting.specs.Topmost.{topmost, count_of, AreCounted, not_given}

@@ -1,6 +1,6 @@
 -- The refusal of an edit that stands for one of its new tree.
-use Rattle.green_tree.specs.declared.error.TreeError.{TreeError}
-use Rattle.green_tree.specs.declared.error.TreeError.TheVariants as tree
+use Rattle.cst_core.specs.TreeError.{TreeError}
+use Rattle.cst_core.specs.TreeError.TheVariants as tree
 use Rattle.edit_plan.specs.declared.edit_error.EditError.{EditError}
 use Rattle.edit_plan.specs.declared.edit_error.EditError.TheVariants.{TooLong, NoTreeNumber, Memory}
 

@@ -2,18 +2,19 @@
 --     item-option_copied      what a call of get lends is the item at that place
 --     kind_at, kind_name-is   the kind at a place, if one was found; the same of the kinds' names, which differ
 --     name_of-get             the name that a call of get gives
+--     All-equal               two functions that give the same list agree at each item
 use Rattle.std.proofs.Common.{◌≡◌, ℕ, zero, suc, ◌+◌, Bool, true, false, not, ◌&&◌, cond, List, [], ◌∷◌, length, map, slice_get, position, Option, Some, None, option_map, Bor, ◌↔◌, nat_eq, refl, sym, ap, ◌∙◌, arith}
 use Rattle.std.specs.Cmp.Lexicographic.{pointwise}
-use Rattle.std.specs.List.{list_any, position_from}
+use Rattle.std.specs.List.{All, list_any, position_from}
 use Rattle.std.specs.Option.{option_copied}
 use Rattle.std.specs.Slice.{IsItemAt}
 use Rattle.std.proofs.lemmas.Iterator.Adapters.{position_from-zero}
+use Rattle.std.proofs.lemmas.List.Elements.{All-nil, All-cons}
 use Rattle.std.proofs.lemmas.List.Folds.{list_any_at}
 use Rattle.std.proofs.lemmas.Option.{slice_get-map, slice_get_past, slice_get_read, slice_get_within, get_or_from_slice_get}
 use Rattle.std.proofs.lemmas.Slice.Eq.{bytes_eq-Decides}
-use Rattle.green_tree.specs.Kind.{name_of}
+use Rattle.green_tree.specs.Kind.{kind_names, name_of}
 use Rattle.green_tree.specs.declared.kind.SyntaxKind.{SyntaxKind}
-use Rattle.green_tree.specs.declared.kind.TheConstants.{KIND_NAMES}
 
 pub item-option_copied : {X : Type 0} (xs : List X) (i : ℕ) (r : Option (Bor X)) → IsItemAt xs i r → option_copied r ≡ slice_get xs i
 item-option_copied xs i None h = sym (slice_get_past xs i h.3)
@@ -99,15 +100,26 @@ kind_at-is (Some j) k =
     let number : Option SyntaxKind → Option ℕ = option_map (λ x. x.0) in
     (λ g. ap number g, λ g. ap kind_at g)
 
-pub kind_name-is : (es : List (Bor Name)) → map (λ e. e.now) es ≡ map (λ s. s.now) KIND_NAMES → (n : Name) (r : Option ℕ) → r ≡ place_in es n → (x : Option SyntaxKind) → x ≡ kind_at r → (k : ℕ) → (x ≡ Some (record { 0 = k })) ↔ (name_of k ≡ Some n)
+pub kind_name-is : (es : List (Bor Name)) → map (λ e. e.now) es ≡ kind_names → (n : Name) (r : Option ℕ) → r ≡ place_in es n → (x : Option SyntaxKind) → x ≡ kind_at r → (k : ℕ) → (x ≡ Some (record { 0 = k })) ↔ (name_of k ≡ Some n)
 kind_name-is es h n r e x f k =
-    let named : name_of k ≡ slice_get (map (λ s. s.now) KIND_NAMES) k = sym (slice_get-map (λ s. s.now) KIND_NAMES k) in
-    let it = place-is es (map (λ s. s.now) KIND_NAMES) h refl n k in
+    let it = place-is es kind_names h refl n k in
     let kind = kind_at-is r k in (
-      λ g. named ∙ it.0 (sym e ∙ kind.0 (sym f ∙ g)),
-      λ g. f ∙ kind.1 (e ∙ it.1 (sym named ∙ g)),
+      λ g. it.0 (sym e ∙ kind.0 (sym f ∙ g)),
+      λ g. f ∙ kind.1 (e ∙ it.1 g),
     )
 
-pub name_of-get : (es : List (Bor Name)) → map (λ e. e.now) es ≡ map (λ s. s.now) KIND_NAMES → (k : ℕ) (r : Option (Bor (Bor Name))) → IsItemAt es k r → option_map (λ s. s.now) (option_copied r) ≡ name_of k
+pub name_of-get : (es : List (Bor Name)) → map (λ e. e.now) es ≡ kind_names → (k : ℕ) (r : Option (Bor (Bor Name))) → IsItemAt es k r → option_map (λ s. s.now) (option_copied r) ≡ name_of k
 name_of-get es h k r g =
-    ap (option_map (λ s. s.now)) (item-option_copied es k r g) ∙ sym (slice_get-map (λ e. e.now) es k) ∙ ap (λ ns. slice_get ns k) h ∙ slice_get-map (λ s. s.now) KIND_NAMES k
+    ap (option_map (λ s. s.now)) (item-option_copied es k r g) ∙ sym (slice_get-map (λ e. e.now) es k) ∙ ap (λ ns. slice_get ns k) h
+
+abbrev item_or : {X : Type 0} → X → List X → X
+item_or d [] = d
+item_or d (x ∷ xs) = x
+
+abbrev items_after : {X : Type 0} → List X → List X
+items_after [] = []
+items_after (x ∷ xs) = xs
+
+pub All-equal : {X Y : Type 0} (f g : X → Y) (xs : List X) → map f xs ≡ map g xs → All (λ x. f x ≡ g x) xs
+All-equal f g [] h = All-nil (λ x. f x ≡ g x)
+All-equal f g (x ∷ xs) h = All-cons (λ x. f x ≡ g x) x xs (ap (item_or (f x)) h) (All-equal f g xs (ap items_after h))

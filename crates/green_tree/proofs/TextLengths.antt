@@ -1,10 +1,10 @@
 -- The length of the text of a part.
-use Rattle.std.proofs.Common.{◌≡◌, ℕ, ◌+◌, ◌<◌, ◌≤◌, [], ◌∷◌, Some, None, refl, ap, sym, ◌∙◌, arith}
+use Rattle.std.proofs.Common.{◌≡◌, ◌+◌, ◌<◌, ◌≤◌, [], ◌∷◌, Some, None, refl, arith}
 use Rattle.std.specs.Prelude.{slice_get, option_and_then}
 use Rattle.green_tree.specs.Path.{Path}
-use Rattle.green_tree.specs.Tree.{Tree, SyntaxTree, Token, Node, at, trees, text, text_length}
+use Rattle.green_tree.specs.Tree.{Tree, Token, Node, at, trees, text_length}
 use Rattle.green_tree.specs.Order.{start}
-use Rattle.green_tree.specs.Green.{length_limit, capped_length}
+use Rattle.green_tree.specs.Green.{length_limit}
 use Rattle.green_tree.proofs.Starts.{start-top, start-below, start-child-le}
 
 -- an element ends within the text of the tree

@@ -1,6 +1,6 @@
 ghost use Rattle.std.specs.Prelude.{ℕ, ◌≡◌, ◌↔◌, option_map, map, length, nat_eq, position};
 ghost use Rattle.std.specs.Cmp.Lexicographic.{pointwise};
-ghost use Rattle.green_tree.specs.Kind.{name_of};
+ghost use Rattle.green_tree.specs.Kind.{kind_names, name_of};
 
 /// The name of each kind, at its number.
 pub const KIND_NAMES: [&str; 65] = [
@@ -77,8 +77,7 @@ pub struct SyntaxKind(pub u16);
 
 // The table as a slice.
 fn kind_names() -> &'static [&'static str]
-    ensures names { map (λ s. s.now) result.now ≡ map (λ s. s.now) KIND_NAMES }
-    ensures count { length result.now ≡ 65 }
+    ensures { map (λ s. s.now) result.now ≡ kind_names }
 {
     &KIND_NAMES
 }

@@ -4,6 +4,7 @@
 mod error;
 mod green;
 mod kind;
+pub mod laws;
 mod shape;
 mod start;
 mod text;

@@ -12,8 +12,8 @@ use Rattle.rewriting.specs.Aim as aim
 use Rattle.rewriting.specs.Aim.{parents}
 use Rattle.rewriting.specs.Rewriting.{NumberedAim}
 use Rattle.rewriting.specs.declared.aimed.Aimed.{Aimed}
-use Rattle.rewriting.specs.declared.aimed.Place.{Place}
-use Rattle.rewriting.specs.declared.aimed.Place.TheVariants.{FirstIn, Behind, Over}
+use Rattle.rewriting.specs.declared.aimed.AimForm.{AimForm}
+use Rattle.rewriting.specs.declared.aimed.AimForm.TheVariants.{FirstIn, Behind, Over}
 use Rattle.rewriting.specs.Aimed.{Placed, placed, aim_in, of_placed, aims_of, some_path, has_parent, seen_from, and_those, placed_below}
 use Rattle.rewriting.specs.Effort.{inside, touched, touched_from, parents_of}
 
@@ -44,22 +44,22 @@ inside-append i ((j ∷ p) ∷ ps) qs =
     ap (λ rs. cond (nat_eq j i) (p ∷ rs) rs) (inside-append i ps qs) ∙ elim (nat_eq j i) as (λ b. cond b (p ∷ (inside i ps ++ inside i qs)) (inside i ps ++ inside i qs) ≡ cond b (p ∷ inside i ps) (inside i ps) ++ inside i qs) [ true ↦ refl | false ↦ refl ]
 
 -- one path, of an aim that is seen where its first slot is this one
-one : (i c k : ℕ) (q r : Path) (w : Place) → parents (aim_in q w) ≡ r ∷ [] → inside i ((k ∷ r) ∷ []) ≡ above (and_those (cond (nat_eq i k) (Some (record { change = c; path = q; place = w })) None) [])
+one : (i c k : ℕ) (q r : Path) (w : AimForm) → parents (aim_in q w) ≡ r ∷ [] → inside i ((k ∷ r) ∷ []) ≡ above (and_those (cond (nat_eq i k) (Some (record { change = c; path = q; form = w })) None) [])
 one i c k q r w h =
-    ap (λ b. cond b (r ∷ []) []) (other_way i k) ∙ elim (nat_eq i k) as (λ b. cond b (r ∷ []) [] ≡ above (and_those (cond b (Some (record { change = c; path = q; place = w })) None) [])) [
+    ap (λ b. cond b (r ∷ []) []) (other_way i k) ∙ elim (nat_eq i k) as (λ b. cond b (r ∷ []) [] ≡ above (and_those (cond b (Some (record { change = c; path = q; form = w })) None) [])) [
       | true ↦ ap (λ ps. ps ++ []) (sym h)
       | false ↦ refl
     ]
 
 -- no path, whether or not the aim is seen
-no_one : (i c k : ℕ) (q : Path) (w : Place) → parents (aim_in q w) ≡ [] → [] ≡ above (and_those (cond (nat_eq i k) (Some (record { change = c; path = q; place = w })) None) [])
+no_one : (i c k : ℕ) (q : Path) (w : AimForm) → parents (aim_in q w) ≡ [] → [] ≡ above (and_those (cond (nat_eq i k) (Some (record { change = c; path = q; form = w })) None) [])
 no_one i c k q w h =
-    elim (nat_eq i k) as (λ b. [] ≡ above (and_those (cond b (Some (record { change = c; path = q; place = w })) None) [])) [
+    elim (nat_eq i k) as (λ b. [] ≡ above (and_those (cond b (Some (record { change = c; path = q; form = w })) None) [])) [
       | true ↦ ap (λ ps. ps ++ []) (sym h)
       | false ↦ refl
     ]
 
-own : (i c : ℕ) (q : Path) (w : Place) → inside i (parents (aim_in q w)) ≡ above (and_those (seen_from i (record { change = c; path = q; place = w })) [])
+own : (i c : ℕ) (q : Path) (w : AimForm) → inside i (parents (aim_in q w)) ≡ above (and_those (seen_from i (record { change = c; path = q; form = w })) [])
 own i c [] FirstIn = refl
 own i c [] Behind = refl
 own i c [] (Over zero) = refl
@@ -77,16 +77,16 @@ own i c (k ∷ l ∷ q) (Over (suc n)) =
 
 and_those-above : (a : Option Placed) (xs : List Placed) → above (and_those a []) ++ above xs ≡ above (and_those a xs)
 and_those-above None xs = refl
-and_those-above (Some a) xs = ap (λ ps. ps ++ above xs) (append-nil (parents (aim_in a.path a.place)))
+and_those-above (Some a) xs = ap (λ ps. ps ++ above xs) (append-nil (parents (aim_in a.path a.form)))
 
 above-below : (i : ℕ) (xs : List Placed) → inside i (above xs) ≡ above (placed_below i xs)
 above-below i [] = refl
 above-below i (x ∷ xs) =
-    inside-append i (parents (aim_in x.path x.place)) (above xs) ∙ ap₂ (λ ps qs. ps ++ qs) (own i x.change x.path x.place) (above-below i xs) ∙ and_those-above (seen_from i x) (placed_below i xs)
+    inside-append i (parents (aim_in x.path x.form)) (above xs) ∙ ap₂ (λ ps qs. ps ++ qs) (own i x.change x.path x.form) (above-below i xs) ∙ and_those-above (seen_from i x) (placed_below i xs)
 
 above-placed : (xs : List Aimed) → above (map placed xs) ≡ parents_of (aims_of xs)
 above-placed [] = refl
-above-placed (x ∷ xs) = ap (λ ps. parents (aim_in x.path.now x.place) ++ ps) (above-placed xs)
+above-placed (x ∷ xs) = ap (λ ps. parents (aim_in x.path.now x.form) ++ ps) (above-placed xs)
 
 pub parents-below : (xs ys : List Aimed) (i : ℕ) → map placed ys ≡ placed_below i (map placed xs) → parents_of (aims_of ys) ≡ inside i (parents_of (aims_of xs))
 parents-below xs ys i h =
@@ -106,7 +106,7 @@ some-append : (ps qs : List Path) → some_path (ps ++ qs) ≡ (some_path ps || 
 some-append [] qs = refl
 some-append (p ∷ ps) qs = refl
 
-some-parents : (cs : List NumberedAim) → some_path (parents_of cs) ≡ list_any has_parent cs
+pub some-parents : (cs : List NumberedAim) → some_path (parents_of cs) ≡ list_any has_parent cs
 some-parents [] = refl
 some-parents (c ∷ cs) = some-append (parents c.1) (parents_of cs) ∙ ap (λ b. has_parent c || b) (some-parents cs)
 

@@ -6,8 +6,8 @@ use mathlib.Core.Logic.{inl, inr}
 use Rattle.green_tree.specs.Path.{Path, same_path, has_path, counted_from, parent_path, last_slot}
 use Rattle.rewriting.specs.Aim.{starts_at, replaces}
 use Rattle.rewriting.specs.Aim as aim
-use Rattle.rewriting.specs.declared.aimed.Place.{Place}
-use Rattle.rewriting.specs.declared.aimed.Place.TheVariants.{Over}
+use Rattle.rewriting.specs.declared.aimed.AimForm.{AimForm}
+use Rattle.rewriting.specs.declared.aimed.AimForm.TheVariants.{Over}
 use Rattle.rewriting.specs.Aimed.{aim_in, has_parent}
 use Rattle.rewriting.specs.Groups.{reaches}
 
@@ -128,7 +128,7 @@ neither true x h e = h
 neither false x h e = e
 
 -- ---- what an aim matters for, as a range
-pub record Reach (q : Path) (w : Place) (first count : ℕ) : Type 0 where
+pub record Reach (q : Path) (w : AimForm) (first count : ℕ) : Type 0 where
   pub inside : (k : ℕ) → first ≤ k → k < first + count → reaches k q w ≡ true
   pub before : (k : ℕ) → k < first → reaches k q w ≡ false
   pub behind : (k : ℕ) → first + count ≤ k → reaches k q w ≡ false

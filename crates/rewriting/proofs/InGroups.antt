@@ -10,8 +10,8 @@ use Rattle.green_tree.specs.Path.{Path, parent_path, last_slot}
 use Rattle.green_tree.specs.Tree.{Tree}
 use Rattle.rewriting.specs.Aim.{Aim, aims_at_gap, starts_at, replaces}
 use Rattle.rewriting.specs.Rewriting.{gap, gap_order, numbers, inserts_at, replacements_at, is_replaced}
-use Rattle.rewriting.specs.declared.aimed.Place.{Place}
-use Rattle.rewriting.specs.declared.aimed.Place.TheVariants.{FirstIn, Behind, Over}
+use Rattle.rewriting.specs.declared.aimed.AimForm.{AimForm}
+use Rattle.rewriting.specs.declared.aimed.AimForm.TheVariants.{FirstIn, Behind, Over}
 use Rattle.rewriting.specs.declared.aimed.Aimed.{Aimed}
 use Rattle.rewriting.specs.Aimed.{aim_in, Placed, placed, numbered, aims_of, seen_from, and_those, placed_below}
 use Rattle.rewriting.specs.Groups.{reaches, concerns}
@@ -22,7 +22,7 @@ and-true true h = h
 and-true false h = refl
 
 -- ---- what an aim that does not matter says
-no_gap : (i : ℕ) (q : Path) (w : Place) → reaches i q w ≡ false → aims_at_gap [] (suc i) (aim_in q w) ≡ false
+no_gap : (i : ℕ) (q : Path) (w : AimForm) → reaches i q w ≡ false → aims_at_gap [] (suc i) (aim_in q w) ≡ false
 no_gap i [] FirstIn h = ne_eqb (suc i) 0 (λ e. absurd (omega (arith, e)))
 no_gap i (j ∷ q) FirstIn h = refl
 no_gap i [] Behind h = refl
@@ -30,7 +30,7 @@ no_gap i (j ∷ []) Behind h = ne_eqb (suc i) (suc j) (λ e. eqb-false i j h (om
 no_gap i (j ∷ k ∷ q) Behind h = refl
 no_gap i q (Over n) h = refl
 
-no_range : (i : ℕ) (q : Path) (w : Place) → reaches i q w ≡ false → replaces (i ∷ []) (aim_in q w) ≡ false
+no_range : (i : ℕ) (q : Path) (w : AimForm) → reaches i q w ≡ false → replaces (i ∷ []) (aim_in q w) ≡ false
 no_range i q FirstIn h = refl
 no_range i q Behind h = refl
 no_range i [] (Over zero) h = refl
@@ -38,7 +38,7 @@ no_range i [] (Over (suc n)) h = refl
 no_range i (j ∷ []) (Over n) h = second_false (nat_eq i j) _ h
 no_range i (j ∷ k ∷ q) (Over n) h = range_deeper j (parent_path (k ∷ q)) (last_slot (k ∷ q)) n i
 
-no_start : (i : ℕ) (q : Path) (w : Place) → reaches i q w ≡ false → starts_at (i ∷ []) (aim_in q w) ≡ false
+no_start : (i : ℕ) (q : Path) (w : AimForm) → reaches i q w ≡ false → starts_at (i ∷ []) (aim_in q w) ≡ false
 no_start i q FirstIn h = refl
 no_start i q Behind h = refl
 no_start i [] (Over zero) h = refl
@@ -48,23 +48,23 @@ no_start i (j ∷ []) (Over (suc n)) h = and-true (nat_eq i j) (first_false (nat
 no_start i (j ∷ k ∷ q) (Over n) h = start_deeper (j ∷ k ∷ q) n i (omega arith)
 
 -- ---- the aims as a list
-over : (test : Aim → Bool) (b : Bool) (a : Aimed) (xs : List Aimed) (ns : List ℕ) → numbers (filter (λ c. test c.1) (aims_of xs)) ≡ ns → test (aim_in a.path.now a.place) ≡ b → numbers (filter (λ c. test c.1) (aims_of (a ∷ xs))) ≡ cond b (a.change ∷ ns) ns
+over : (test : Aim → Bool) (b : Bool) (a : Aimed) (xs : List Aimed) (ns : List ℕ) → numbers (filter (λ c. test c.1) (aims_of xs)) ≡ ns → test (aim_in a.path.now a.form) ≡ b → numbers (filter (λ c. test c.1) (aims_of (a ∷ xs))) ≡ cond b (a.change ∷ ns) ns
 over test true a xs ns h e = ap (λ b. numbers (cond b (numbered a ∷ filter (λ c. test c.1) (aims_of xs)) (filter (λ c. test c.1) (aims_of xs)))) e ∙ ap (λ ms. a.change ∷ ms) h
 over test false a xs ns h e = ap (λ b. numbers (cond b (numbered a ∷ filter (λ c. test c.1) (aims_of xs)) (filter (λ c. test c.1) (aims_of xs)))) e ∙ h
 
-module _ (i : ℕ) (test : Aim → Bool) (no : (q : Path) (w : Place) → reaches i q w ≡ false → test (aim_in q w) ≡ false) where
+module _ (i : ℕ) (test : Aim → Bool) (no : (q : Path) (w : AimForm) → reaches i q w ≡ false → test (aim_in q w) ≡ false) where
   numbers-skip : (a : Aimed) (xs ys : List Aimed) (b : Bool) → concerns i a ≡ b → numbers (filter (λ c. test c.1) (aims_of ys)) ≡ numbers (filter (λ c. test c.1) (aims_of xs)) → numbers (filter (λ c. test c.1) (aims_of (cond b (a ∷ ys) ys))) ≡ numbers (filter (λ c. test c.1) (aims_of (a ∷ xs)))
   numbers-skip a xs ys true e h =
-      over test (test (aim_in a.path.now a.place)) a ys (numbers (filter (λ c. test c.1) (aims_of xs))) h refl ∙ sym (over test (test (aim_in a.path.now a.place)) a xs (numbers (filter (λ c. test c.1) (aims_of xs))) refl refl)
-  numbers-skip a xs ys false e h = h ∙ sym (over test false a xs (numbers (filter (λ c. test c.1) (aims_of xs))) refl (no a.path.now a.place e))
+      over test (test (aim_in a.path.now a.form)) a ys (numbers (filter (λ c. test c.1) (aims_of xs))) h refl ∙ sym (over test (test (aim_in a.path.now a.form)) a xs (numbers (filter (λ c. test c.1) (aims_of xs))) refl refl)
+  numbers-skip a xs ys false e h = h ∙ sym (over test false a xs (numbers (filter (λ c. test c.1) (aims_of xs))) refl (no a.path.now a.form e))
 
   numbers-same : (xs : List Aimed) → numbers (filter (λ c. test c.1) (aims_of (filter (concerns i) xs))) ≡ numbers (filter (λ c. test c.1) (aims_of xs))
   numbers-same [] = refl
   numbers-same (a ∷ xs) = numbers-skip a xs (filter (concerns i) xs) (concerns i a) refl (numbers-same xs)
 
   any-skip : (a : Aimed) (xs ys : List Aimed) (b : Bool) → concerns i a ≡ b → list_any (λ c. test c.1) (aims_of ys) ≡ list_any (λ c. test c.1) (aims_of xs) → list_any (λ c. test c.1) (aims_of (cond b (a ∷ ys) ys)) ≡ list_any (λ c. test c.1) (aims_of (a ∷ xs))
-  any-skip a xs ys true e h = ap (λ b. test (aim_in a.path.now a.place) || b) h
-  any-skip a xs ys false e h = h ∙ sym (ap (λ b. b || list_any (λ c. test c.1) (aims_of xs)) (no a.path.now a.place e))
+  any-skip a xs ys true e h = ap (λ b. test (aim_in a.path.now a.form) || b) h
+  any-skip a xs ys false e h = h ∙ sym (ap (λ b. b || list_any (λ c. test c.1) (aims_of xs)) (no a.path.now a.form e))
 
   any-same : (xs : List Aimed) → list_any (λ c. test c.1) (aims_of (filter (concerns i) xs)) ≡ list_any (λ c. test c.1) (aims_of xs)
   any-same [] = refl
@@ -79,19 +79,19 @@ group-replaced i xs = any-same i (replaces (i ∷ [])) (no_range i) xs
 pub group-replacements : (i : ℕ) (xs : List Aimed) → replacements_at (aims_of (filter (concerns i) xs)) (i ∷ []) ≡ replacements_at (aims_of xs) (i ∷ [])
 group-replacements i xs = numbers-same i (starts_at (i ∷ [])) (no_start i) xs
 
-reaches_own : (i j : ℕ) (q : Path) (w : Place) → reaches i (j ∷ q) w ≡ false → nat_eq i j ≡ false
+reaches_own : (i j : ℕ) (q : Path) (w : AimForm) → reaches i (j ∷ q) w ≡ false → nat_eq i j ≡ false
 reaches_own i j q FirstIn h = h
 reaches_own i j q Behind h = h
 reaches_own i j [] (Over n) h = first_false (nat_eq i j) _ h
 reaches_own i j (k ∷ q) (Over n) h = h
 
-below-skip : (i : ℕ) (c : ℕ) (w : Place) (q : Path) (zs ys : List Placed) → reaches i q w ≡ false → zs ≡ ys → zs ≡ and_those (seen_from i (record { change = c; path = q; place = w })) ys
+below-skip : (i : ℕ) (c : ℕ) (w : AimForm) (q : Path) (zs ys : List Placed) → reaches i q w ≡ false → zs ≡ ys → zs ≡ and_those (seen_from i (record { change = c; path = q; form = w })) ys
 below-skip i c w [] zs ys e h = h
-below-skip i c w (j ∷ q) zs ys e h = h ∙ sym (ap (λ b. and_those (cond b (Some (record { change = c; path = q; place = w })) None) ys) (reaches_own i j q w e))
+below-skip i c w (j ∷ q) zs ys e h = h ∙ sym (ap (λ b. and_those (cond b (Some (record { change = c; path = q; form = w })) None) ys) (reaches_own i j q w e))
 
 below-step : (i : ℕ) (a : Aimed) (xs ys : List Aimed) (b : Bool) → concerns i a ≡ b → placed_below i (map placed ys) ≡ placed_below i (map placed xs) → placed_below i (map placed (cond b (a ∷ ys) ys)) ≡ placed_below i (map placed (a ∷ xs))
 below-step i a xs ys true e h = ap (and_those (seen_from i (placed a))) h
-below-step i a xs ys false e h = below-skip i a.change a.place a.path.now (placed_below i (map placed ys)) (placed_below i (map placed xs)) e h
+below-step i a xs ys false e h = below-skip i a.change a.form a.path.now (placed_below i (map placed ys)) (placed_below i (map placed xs)) e h
 
 pub group-below : (i : ℕ) (xs : List Aimed) → placed_below i (map placed (filter (concerns i) xs)) ≡ placed_below i (map placed xs)
 group-below i [] = refl

@@ -3,6 +3,7 @@ pub mod SeenBelow
 pub mod InGroups
 pub mod Children
 pub mod Built
+pub mod Counted
 pub mod Untouched
 pub mod ChildByChild
 pub mod Tops

@@ -7,8 +7,8 @@ use Rattle.green_tree.specs.Path.{Path, same_path, has_path, counted_from, paren
 use Rattle.green_tree.specs.Tree.{Tree, Forest, Token, Node, end, more, SyntaxTree, forest}
 use Rattle.rewriting.specs.Aim.{aims_at_gap, starts_at, replaces}
 use Rattle.rewriting.specs.Rewriting.{NumberedAim, numbers, inserts_at, replacements_at, is_replaced, gap_order, gap, rewritten, rewritten_from}
-use Rattle.rewriting.specs.declared.aimed.Place.{Place}
-use Rattle.rewriting.specs.declared.aimed.Place.TheVariants.{FirstIn, Behind, Over}
+use Rattle.rewriting.specs.declared.aimed.AimForm.{AimForm}
+use Rattle.rewriting.specs.declared.aimed.AimForm.TheVariants.{FirstIn, Behind, Over}
 use Rattle.rewriting.specs.declared.aimed.Aimed.{Aimed}
 use Rattle.rewriting.specs.Aimed.{aim_in, Placed, placed, of_placed, aims_of, seen_from, and_those, placed_below}
 
@@ -50,24 +50,24 @@ pub no_end : (p : Path) (j : ℕ) → same_path (p ++ j ∷ []) [] ≡ false
 no_end [] j = refl
 no_end (i ∷ p) j = refl
 
-gap_above : (i : ℕ) (p : Path) (j : ℕ) (w : Place) → aims_at_gap (i ∷ p) j (aim_in [] w) ≡ false
+gap_above : (i : ℕ) (p : Path) (j : ℕ) (w : AimForm) → aims_at_gap (i ∷ p) j (aim_in [] w) ≡ false
 gap_above i p j FirstIn = refl
 gap_above i p j Behind = refl
 gap_above i p j (Over n) = refl
 
-gap_inside : (i : ℕ) (p : Path) (j k : ℕ) (q : Path) (w : Place) → aims_at_gap (i ∷ p) j (aim_in (k ∷ q) w) ≡ (nat_eq i k && aims_at_gap p j (aim_in q w))
+gap_inside : (i : ℕ) (p : Path) (j k : ℕ) (q : Path) (w : AimForm) → aims_at_gap (i ∷ p) j (aim_in (k ∷ q) w) ≡ (nat_eq i k && aims_at_gap p j (aim_in q w))
 gap_inside i p j k q FirstIn = and_assoc (nat_eq i k) (same_path p q) (nat_eq j 0)
 gap_inside i p j k [] Behind = and-false (nat_eq i k)
 gap_inside i p j k (l ∷ q) Behind = and_assoc (nat_eq i k) (same_path p (parent_path (l ∷ q))) (nat_eq j (suc (last_slot (l ∷ q))))
 gap_inside i p j k q (Over n) = and-false (nat_eq i k)
 
-start_above : (i : ℕ) (p : Path) (w : Place) → starts_at (i ∷ p) (aim_in [] w) ≡ false
+start_above : (i : ℕ) (p : Path) (w : AimForm) → starts_at (i ∷ p) (aim_in [] w) ≡ false
 start_above i p FirstIn = refl
 start_above i p Behind = refl
 start_above i p (Over zero) = refl
 start_above i p (Over (suc n)) = refl
 
-start_inside : (i : ℕ) (p : Path) (k : ℕ) (q : Path) (w : Place) → starts_at (i ∷ p) (aim_in (k ∷ q) w) ≡ (nat_eq i k && starts_at p (aim_in q w))
+start_inside : (i : ℕ) (p : Path) (k : ℕ) (q : Path) (w : AimForm) → starts_at (i ∷ p) (aim_in (k ∷ q) w) ≡ (nat_eq i k && starts_at p (aim_in q w))
 start_inside i p k q FirstIn = and-false (nat_eq i k)
 start_inside i p k q Behind = and-false (nat_eq i k)
 start_inside i p k [] (Over zero) = and-false (nat_eq i k)
@@ -75,7 +75,7 @@ start_inside i p k (l ∷ q) (Over zero) = and-false (nat_eq i k)
 start_inside i p k [] (Over (suc n)) = refl
 start_inside i p k (l ∷ q) (Over (suc n)) = refl
 
-over_above : (i : ℕ) (p : Path) (w : Place) → replaces (i ∷ p) (aim_in [] w) ≡ false
+over_above : (i : ℕ) (p : Path) (w : AimForm) → replaces (i ∷ p) (aim_in [] w) ≡ false
 over_above i p FirstIn = refl
 over_above i p Behind = refl
 over_above i p (Over zero) = refl
@@ -90,7 +90,7 @@ range_inside i p k q f zero = and-false (nat_eq i k)
 range_inside i p k q f (suc n) =
     ap (λ b. (nat_eq i k && same_path p (q ++ f ∷ [])) || b) (range_inside i p k q (suc f) n) ∙ and-or (nat_eq i k) (same_path p (q ++ f ∷ [])) (has_path (map (λ s. q ++ s ∷ []) (counted_from (suc f) n)) p)
 
-over_inside : (i : ℕ) (p : Path) (j k : ℕ) (q : Path) (w : Place) → replaces (i ∷ (p ++ j ∷ [])) (aim_in (k ∷ q) w) ≡ (nat_eq i k && replaces (p ++ j ∷ []) (aim_in q w))
+over_inside : (i : ℕ) (p : Path) (j k : ℕ) (q : Path) (w : AimForm) → replaces (i ∷ (p ++ j ∷ [])) (aim_in (k ∷ q) w) ≡ (nat_eq i k && replaces (p ++ j ∷ []) (aim_in q w))
 over_inside i p j k q FirstIn = and-false (nat_eq i k)
 over_inside i p j k q Behind = and-false (nat_eq i k)
 over_inside i p j k [] (Over zero) = and-false (nat_eq i k)
@@ -102,12 +102,12 @@ over_inside i p j k (l ∷ q) (Over n) = range_inside i (p ++ j ∷ []) k (paren
 module _ (i : ℕ) (above inside : NumberedAim → Bool) where
   -- what a test says of an aim here, and of the aim as it is seen from the child
   abbrev pub Agrees : Type 0
-  Agrees = (c : ℕ) (w : Place) → (above (c, aim_in [] w) ≡ false) × ((k : ℕ) (q : Path) → above (c, aim_in (k ∷ q) w) ≡ (nat_eq i k && inside (c, aim_in q w)))
+  Agrees = (c : ℕ) (w : AimForm) → (above (c, aim_in [] w) ≡ false) × ((k : ℕ) (q : Path) → above (c, aim_in (k ∷ q) w) ≡ (nat_eq i k && inside (c, aim_in q w)))
 
-  one-filter : Agrees → (c : ℕ) (w : Place) (q : Path) (xs bs : List Placed) → numbers (filter above (map of_placed xs)) ≡ numbers (filter inside (map of_placed bs)) → numbers (filter above ((c, aim_in q w) ∷ map of_placed xs)) ≡ numbers (filter inside (map of_placed (and_those (seen_from i (record { change = c; path = q; place = w })) bs)))
+  one-filter : Agrees → (c : ℕ) (w : AimForm) (q : Path) (xs bs : List Placed) → numbers (filter above (map of_placed xs)) ≡ numbers (filter inside (map of_placed bs)) → numbers (filter above ((c, aim_in q w) ∷ map of_placed xs)) ≡ numbers (filter inside (map of_placed (and_those (seen_from i (record { change = c; path = q; form = w })) bs)))
   one-filter a c w [] xs bs h = ap (λ b. numbers (cond b ((c, aim_in [] w) ∷ filter above (map of_placed xs)) (filter above (map of_placed xs)))) (a c w).0 ∙ h
   one-filter a c w (k ∷ q) xs bs h =
-      ap (λ b. numbers (cond b ((c, aim_in (k ∷ q) w) ∷ filter above (map of_placed xs)) (filter above (map of_placed xs)))) ((a c w).1 k q) ∙ elim (nat_eq i k) as (λ b. numbers (cond (b && inside (c, aim_in q w)) ((c, aim_in (k ∷ q) w) ∷ filter above (map of_placed xs)) (filter above (map of_placed xs))) ≡ numbers (filter inside (map of_placed (and_those (cond b (Some (record { change = c; path = q; place = w })) None) bs)))) [
+      ap (λ b. numbers (cond b ((c, aim_in (k ∷ q) w) ∷ filter above (map of_placed xs)) (filter above (map of_placed xs)))) ((a c w).1 k q) ∙ elim (nat_eq i k) as (λ b. numbers (cond (b && inside (c, aim_in q w)) ((c, aim_in (k ∷ q) w) ∷ filter above (map of_placed xs)) (filter above (map of_placed xs))) ≡ numbers (filter inside (map of_placed (and_those (cond b (Some (record { change = c; path = q; form = w })) None) bs)))) [
         | true ↦ elim (inside (c, aim_in q w)) as (λ b. numbers (cond b ((c, aim_in (k ∷ q) w) ∷ filter above (map of_placed xs)) (filter above (map of_placed xs))) ≡ numbers (cond b ((c, aim_in q w) ∷ filter inside (map of_placed bs)) (filter inside (map of_placed bs)))) [
           | true ↦ ap (λ ns. c ∷ ns) h
           | false ↦ h
@@ -117,19 +117,19 @@ module _ (i : ℕ) (above inside : NumberedAim → Bool) where
 
   pub filter-below : Agrees → (xs : List Placed) → numbers (filter above (map of_placed xs)) ≡ numbers (filter inside (map of_placed (placed_below i xs)))
   filter-below a [] = refl
-  filter-below a (x ∷ xs) = one-filter a x.change x.place x.path xs (placed_below i xs) (filter-below a xs)
+  filter-below a (x ∷ xs) = one-filter a x.change x.form x.path xs (placed_below i xs) (filter-below a xs)
 
-  one-any : Agrees → (c : ℕ) (w : Place) (q : Path) (xs bs : List Placed) → list_any above (map of_placed xs) ≡ list_any inside (map of_placed bs) → (above (c, aim_in q w) || list_any above (map of_placed xs)) ≡ list_any inside (map of_placed (and_those (seen_from i (record { change = c; path = q; place = w })) bs))
+  one-any : Agrees → (c : ℕ) (w : AimForm) (q : Path) (xs bs : List Placed) → list_any above (map of_placed xs) ≡ list_any inside (map of_placed bs) → (above (c, aim_in q w) || list_any above (map of_placed xs)) ≡ list_any inside (map of_placed (and_those (seen_from i (record { change = c; path = q; form = w })) bs))
   one-any a c w [] xs bs h = ap (λ b. b || list_any above (map of_placed xs)) (a c w).0 ∙ h
   one-any a c w (k ∷ q) xs bs h =
-      ap₂ (λ x y. x || y) ((a c w).1 k q) h ∙ elim (nat_eq i k) as (λ b. ((b && inside (c, aim_in q w)) || list_any inside (map of_placed bs)) ≡ list_any inside (map of_placed (and_those (cond b (Some (record { change = c; path = q; place = w })) None) bs))) [
+      ap₂ (λ x y. x || y) ((a c w).1 k q) h ∙ elim (nat_eq i k) as (λ b. ((b && inside (c, aim_in q w)) || list_any inside (map of_placed bs)) ≡ list_any inside (map of_placed (and_those (cond b (Some (record { change = c; path = q; form = w })) None) bs))) [
         | true ↦ refl
         | false ↦ refl
       ]
 
   pub any-below : Agrees → (xs : List Placed) → list_any above (map of_placed xs) ≡ list_any inside (map of_placed (placed_below i xs))
   any-below a [] = refl
-  any-below a (x ∷ xs) = one-any a x.change x.place x.path xs (placed_below i xs) (any-below a xs)
+  any-below a (x ∷ xs) = one-any a x.change x.form x.path xs (placed_below i xs) (any-below a xs)
 
 pub below_shifted : (xs : List Placed) (i : ℕ) → Shifted (map of_placed xs) (map of_placed (placed_below i xs)) i
 below_shifted xs i = record {
@@ -139,7 +139,7 @@ below_shifted xs i = record {
 }
 
 -- ---- the same for aims in code
-aims-placed : (xs : List Aimed) → map of_placed (map placed xs) ≡ aims_of xs
+pub aims-placed : (xs : List Aimed) → map of_placed (map placed xs) ≡ aims_of xs
 aims-placed [] = refl
 aims-placed (x ∷ xs) = ap (λ cs. of_placed (placed x) ∷ cs) (aims-placed xs)
 

@@ -6,8 +6,8 @@ use Rattle.green_tree.specs.Path.{Path, parent_path, last_slot, counted_from}
 use Rattle.green_tree.specs.Tree.{Tree, Forest, Token, Node, end, more, SyntaxTree, forest, relabelled, forest_relabelled}
 use Rattle.rewriting.specs.Aim.{aims_at_gap, replaces}
 use Rattle.rewriting.specs.Rewriting.{NumberedAim, numbers, inserts_at, replacements_at, is_replaced, gap_order, gap, rewritten, rewritten_from}
-use Rattle.rewriting.specs.declared.aimed.Place.{Place}
-use Rattle.rewriting.specs.declared.aimed.Place.TheVariants.{FirstIn, Behind, Over}
+use Rattle.rewriting.specs.declared.aimed.AimForm.{AimForm}
+use Rattle.rewriting.specs.declared.aimed.AimForm.TheVariants.{FirstIn, Behind, Over}
 use Rattle.rewriting.specs.declared.aimed.Aimed.{Aimed}
 use Rattle.rewriting.specs.Aimed.{aim_in, numbered, aims_of, has_parent}
 use Rattle.rewriting.specs.Pass.{kind_only}
@@ -15,13 +15,13 @@ use Rattle.rewriting.proofs.Here.{over_some, first_false, second_false}
 use Rattle.rewriting.proofs.SeenBelow.{no_end}
 
 -- ---- one aim
-quiet_gap : (c : ℕ) (q : Path) (w : Place) (p : Path) (j : ℕ) → has_parent (c, aim_in q w) ≡ false → aims_at_gap p j (aim_in q w) ≡ false
+quiet_gap : (c : ℕ) (q : Path) (w : AimForm) (p : Path) (j : ℕ) → has_parent (c, aim_in q w) ≡ false → aims_at_gap p j (aim_in q w) ≡ false
 quiet_gap c q FirstIn p j h = absurd (cc)
 quiet_gap c [] Behind p j h = refl
 quiet_gap c (i ∷ q) Behind p j h = absurd (cc)
 quiet_gap c q (Over n) p j h = refl
 
-quiet_slot : (c : ℕ) (q : Path) (w : Place) (p : Path) (j : ℕ) → has_parent (c, aim_in q w) ≡ false → replaces (p ++ j ∷ []) (aim_in q w) ≡ false
+quiet_slot : (c : ℕ) (q : Path) (w : AimForm) (p : Path) (j : ℕ) → has_parent (c, aim_in q w) ≡ false → replaces (p ++ j ∷ []) (aim_in q w) ≡ false
 quiet_slot c q FirstIn p j h = refl
 quiet_slot c q Behind p j h = refl
 quiet_slot c [] (Over zero) p j h = refl
@@ -39,14 +39,14 @@ no_inserts (a ∷ xs) p j h =
     let rest = filter (λ (c : NumberedAim). aims_at_gap p j c.1) (aims_of xs) in
     let one = first_false (has_parent (numbered a)) (list_any has_parent (aims_of xs)) h in
     let others = second_false (has_parent (numbered a)) (list_any has_parent (aims_of xs)) h in
-    ap (λ b. numbers (cond b (numbered a ∷ rest) rest)) (quiet_gap a.change a.path.now a.place p j one) ∙ no_inserts xs p j others
+    ap (λ b. numbers (cond b (numbered a ∷ rest) rest)) (quiet_gap a.change a.path.now a.form p j one) ∙ no_inserts xs p j others
 
 no_slot : (xs : List Aimed) (p : Path) (j : ℕ) → list_any has_parent (aims_of xs) ≡ false → is_replaced (aims_of xs) (p ++ j ∷ []) ≡ false
 no_slot [] p j h = refl
 no_slot (a ∷ xs) p j h =
     let one = first_false (has_parent (numbered a)) (list_any has_parent (aims_of xs)) h in
     let others = second_false (has_parent (numbered a)) (list_any has_parent (aims_of xs)) h in
-    ap (λ b. b || is_replaced (aims_of xs) (p ++ j ∷ [])) (quiet_slot a.change a.path.now a.place p j one) ∙ no_slot xs p j others
+    ap (λ b. b || is_replaced (aims_of xs) (p ++ j ∷ [])) (quiet_slot a.change a.path.now a.form p j one) ∙ no_slot xs p j others
 
 module _ {L : Type 0} (h : ℕ → L) (given : ℕ → List (Tree L)) (xs : List Aimed) (none : list_any has_parent (aims_of xs) ≡ false) where
   abbrev cs : List NumberedAim

@@ -1,7 +1,7 @@
 -- What aims in code stand for.
 --     siblings_from                 the paths of an element and of the siblings behind it, so many with the first; the top has none
 --     aim_in                        an aim from the element at a path
---     Placed, placed                the number of a change, a path, and where it aims from there
+--     Placed, placed                the number of a change, a path, and the form in which it aims from there
 --     numbered, aims_of             the numbered aim that it stands for; those of a list
 --     has_parent                    it alters the children of some node
 --     seen_from, placed_below       an aim at a child slot or below, with that slot dropped; of these aims those that there are
@@ -9,8 +9,8 @@ use Rattle.std.specs.Prelude.{ℕ, zero, suc, Bool, true, false, cond, nat_eq, L
 use Rattle.green_tree.specs.Path.{Path, parent_path, last_slot, counted_from}
 use Rattle.rewriting.specs.Aim.{Aim, FirstIn, Behind, Over, parents}
 use Rattle.rewriting.specs.Rewriting.{NumberedAim}
-use Rattle.rewriting.specs.declared.aimed.Place.{Place}
-use Rattle.rewriting.specs.declared.aimed.Place.TheVariants as place
+use Rattle.rewriting.specs.declared.aimed.AimForm.{AimForm}
+use Rattle.rewriting.specs.declared.aimed.AimForm.TheVariants as form
 use Rattle.rewriting.specs.declared.aimed.Aimed.{Aimed}
 
 abbrev pub siblings_from : Path → ℕ → List Path
@@ -18,21 +18,21 @@ siblings_from [] zero = []
 siblings_from [] (suc n) = [] ∷ []
 siblings_from (i ∷ p) n = map (λ j. parent_path (i ∷ p) ++ j ∷ []) (counted_from (last_slot (i ∷ p)) n)
 
-abbrev pub aim_in : Path → Place → Aim
-aim_in p place.FirstIn = FirstIn p
-aim_in p place.Behind = Behind p
-aim_in p (place.Over n) = Over (siblings_from p n)
+abbrev pub aim_in : Path → AimForm → Aim
+aim_in p form.FirstIn = FirstIn p
+aim_in p form.Behind = Behind p
+aim_in p (form.Over n) = Over (siblings_from p n)
 
 pub record Placed : Type 0 where
   pub change : ℕ
   pub path : Path
-  pub place : Place
+  pub form : AimForm
 
 abbrev pub placed : Aimed → Placed
-placed a = record { change = a.change; path = a.path.now; place = a.place }
+placed a = record { change = a.change; path = a.path.now; form = a.form }
 
 abbrev pub of_placed : Placed → NumberedAim
-of_placed a = (a.change, aim_in a.path a.place)
+of_placed a = (a.change, aim_in a.path a.form)
 
 abbrev pub numbered : Aimed → NumberedAim
 numbered a = of_placed (placed a)
@@ -48,12 +48,12 @@ abbrev pub has_parent : NumberedAim → Bool
 has_parent c = some_path (parents c.1)
 
 -- ---- as they are seen from a child
-abbrev seen_along : ℕ → ℕ → Place → Path → Option Placed
+abbrev seen_along : ℕ → ℕ → AimForm → Path → Option Placed
 seen_along i c w [] = None
-seen_along i c w (j ∷ q) = cond (nat_eq i j) (Some (record { change = c; path = q; place = w })) None
+seen_along i c w (j ∷ q) = cond (nat_eq i j) (Some (record { change = c; path = q; form = w })) None
 
 abbrev pub seen_from : ℕ → Placed → Option Placed
-seen_from i a = seen_along i a.change a.place a.path
+seen_from i a = seen_along i a.change a.form a.path
 
 abbrev pub option_placed : Option Aimed → Option Placed
 option_placed a = option_map placed a

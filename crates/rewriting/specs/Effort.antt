@@ -2,11 +2,14 @@
 --     inside                        of these paths, those that begin with a slot, without it
 --     touched                       the nodes of a tree that are above one of these paths, or at one
 --     parents_of                    the nodes whose children are altered
-use Rattle.std.specs.Prelude.{ℕ, suc, ◌+◌, nat_eq, cond, List, [], ◌∷◌, flat_map}
+--     built, nodes_built            of the nodes above one of these paths, or at one, those that no aim replaces, nor what they are in; of a whole tree
+--     nodes_built_whole             the same where the top may be replaced
+--     counted                       a count after so many more: at the greatest number it stays
+use Rattle.std.specs.Prelude.{ℕ, suc, ◌+◌, ◌-◌, ◌^◌, min, nat_eq, cond, List, [], ◌∷◌, ◌++◌, flat_map}
 use Rattle.green_tree.specs.Path.{Path}
-use Rattle.green_tree.specs.Tree.{Tree, Forest, Token, Node, end, more}
+use Rattle.green_tree.specs.Tree.{Tree, Forest, Token, Node, end, more, SyntaxTree}
 use Rattle.rewriting.specs.Aim.{parents}
-use Rattle.rewriting.specs.Rewriting.{NumberedAim}
+use Rattle.rewriting.specs.Rewriting.{NumberedAim, is_replaced}
 
 abbrev pub inside : ℕ → List Path → List Path
 inside i [] = []
@@ -25,3 +28,24 @@ abbrev mutual
 
 abbrev pub parents_of : List NumberedAim → List Path
 parents_of cs = flat_map (λ c. parents c.1) cs
+
+module _ (cs : List NumberedAim) where
+  abbrev mutual
+    -- of the part at a path, where the other paths are those of the altered nodes, counted from this part
+    pub built : Path → SyntaxTree → List Path → ℕ
+    built p (Token k s) ps = 0
+    built p (Node k f) [] = 0
+    built p (Node k f) (q ∷ ps) = 1 + built_from p 0 f (q ∷ ps)
+
+    pub built_from : Path → ℕ → Forest ℕ → List Path → ℕ
+    built_from p i end ps = 0
+    built_from p i (more t f) ps = cond (is_replaced cs (p ++ i ∷ [])) 0 (built (p ++ i ∷ []) t (inside i ps)) + built_from p (suc i) f ps
+
+  abbrev pub nodes_built : SyntaxTree → ℕ
+  nodes_built t = built [] t (parents_of cs)
+
+  abbrev pub nodes_built_whole : SyntaxTree → ℕ
+  nodes_built_whole t = cond (is_replaced cs []) 0 (nodes_built t)
+
+abbrev pub counted : ℕ → ℕ → ℕ
+counted n further = min (n + further) (2 ^ 64 - 1)

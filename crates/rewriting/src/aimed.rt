@@ -3,20 +3,26 @@ ghost use Rattle.rewriting.specs.Aim.{FirstIn, Behind, Over, aims_at_gap, starts
 ghost use Rattle.rewriting.specs.Aimed.{aim_in, siblings_from, placed, numbered, option_placed, seen_from, has_parent};
 ghost use Rattle.rewriting.specs.Groups.{concerns};
 
-// Where something aims, from the element at its path.
+/// Where something aims, from the element at a path.
 #[derive(Clone, Copy)]
-enum Place {
+pub enum AimForm {
+    /// Before the first child of the node there.
     FirstIn,
+    /// After the element there, among its siblings.
     Behind,
+    /// Over the element there and the siblings after it, so many of them with the first.
     Over(usize),
 }
 
 /// A change by its number, and where it aims: first in a node, behind an element, or over some siblings. Paths are borrowed.
 #[derive(Clone, Copy)]
 pub struct Aimed<'a> {
-    change: usize,
-    path: &'a [usize],
-    place: Place,
+    /// The number of the change.
+    pub change: usize,
+    /// The child slots on the way to the element from which it aims.
+    pub path: &'a [usize],
+    /// Where it aims from there.
+    pub form: AimForm,
 }
 
 impl<'a> Aimed<'a> {
@@ -27,7 +33,7 @@ impl<'a> Aimed<'a> {
         Aimed {
             change,
             path: node,
-            place: Place::FirstIn,
+            form: AimForm::FirstIn,
         }
     }
 
@@ -38,7 +44,7 @@ impl<'a> Aimed<'a> {
         Aimed {
             change,
             path: element,
-            place: Place::Behind,
+            form: AimForm::Behind,
         }
     }
 
@@ -49,7 +55,7 @@ impl<'a> Aimed<'a> {
         Aimed {
             change,
             path: first,
-            place: Place::Over(count),
+            form: AimForm::Over(count),
         }
     }
 
@@ -64,49 +70,49 @@ impl<'a> Aimed<'a> {
     pub(crate) fn has_parent(&self) -> bool
         ensures { result ≡ has_parent (numbered self.now) }
     {
-        match self.place {
-            Place::FirstIn => true,
-            Place::Behind => !self.path.is_empty(),
-            Place::Over(count) => !self.path.is_empty() && count > 0,
+        match self.form {
+            AimForm::FirstIn => true,
+            AimForm::Behind => !self.path.is_empty(),
+            AimForm::Over(count) => !self.path.is_empty() && count > 0,
         }
     }
 
     // Whether it replaces the top itself.
     pub(crate) fn replaces_top(&self) -> bool
-        ensures over { result ≡ replaces [] (aim_in self.now.path.now self.now.place) }
-        ensures start { result ≡ starts_at [] (aim_in self.now.path.now self.now.place) }
+        ensures over { result ≡ replaces [] (aim_in self.now.path.now self.now.form) }
+        ensures start { result ≡ starts_at [] (aim_in self.now.path.now self.now.form) }
     {
-        match self.place {
-            Place::FirstIn => false,
-            Place::Behind => false,
-            Place::Over(count) => self.path.is_empty() && count > 0,
+        match self.form {
+            AimForm::FirstIn => false,
+            AimForm::Behind => false,
+            AimForm::Over(count) => self.path.is_empty() && count > 0,
         }
     }
 
     // Whether it inserts into this gap of the top.
     pub(crate) fn inserts_at(&self, gap: usize) -> bool
-        ensures { result ≡ aims_at_gap [] gap (aim_in self.now.path.now self.now.place) }
+        ensures { result ≡ aims_at_gap [] gap (aim_in self.now.path.now self.now.form) }
     {
-        match self.place {
-            Place::FirstIn => self.path.is_empty() && gap == 0,
-            Place::Behind => {
+        match self.form {
+            AimForm::FirstIn => self.path.is_empty() && gap == 0,
+            AimForm::Behind => {
                 let [slot] = self.path else {
                     return false;
                 };
                 gap > 0 && gap - 1 == *slot
             }
-            Place::Over(_) => false,
+            AimForm::Over(_) => false,
         }
     }
 
     // Whether it replaces from this child of the top on.
     pub(crate) fn starts_at(&self, slot: usize) -> bool
-        ensures { result ≡ starts_at (slot ∷ []) (aim_in self.now.path.now self.now.place) }
+        ensures { result ≡ starts_at (slot ∷ []) (aim_in self.now.path.now self.now.form) }
     {
-        match self.place {
-            Place::FirstIn => false,
-            Place::Behind => false,
-            Place::Over(count) => {
+        match self.form {
+            AimForm::FirstIn => false,
+            AimForm::Behind => false,
+            AimForm::Over(count) => {
                 let [first] = self.path else {
                     return false;
                 };
@@ -117,12 +123,12 @@ impl<'a> Aimed<'a> {
 
     // Whether it replaces this child of the top.
     pub(crate) fn replaces(&self, slot: usize) -> bool
-        ensures { result ≡ replaces (slot ∷ []) (aim_in self.now.path.now self.now.place) }
+        ensures { result ≡ replaces (slot ∷ []) (aim_in self.now.path.now self.now.form) }
     {
-        match self.place {
-            Place::FirstIn => false,
-            Place::Behind => false,
-            Place::Over(count) => {
+        match self.form {
+            AimForm::FirstIn => false,
+            AimForm::Behind => false,
+            AimForm::Over(count) => {
                 let [first] = self.path else {
                     return false;
                 };
@@ -144,7 +150,7 @@ impl<'a> Aimed<'a> {
         let [slot, ..] = self.path else {
             return (0, 0);
         };
-        let Place::Over(count) = self.place else {
+        let AimForm::Over(count) = self.form else {
             return (*slot, 1);
         };
         if self.path.len() > 1 {
@@ -164,7 +170,7 @@ impl<'a> Aimed<'a> {
             return Some(Aimed {
                 change: self.change,
                 path: rest,
-                place: self.place,
+                form: self.form,
             });
         }
         None

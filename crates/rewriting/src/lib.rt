@@ -12,7 +12,7 @@ mod marked;
 mod pass;
 mod topmost;
 
-pub use aimed::Aimed;
+pub use aimed::{AimForm, Aimed};
 pub use given::Given;
 pub use mark::{GivenMarks, Mark, Sought};
 pub use marked::{marks_of_whole, push_marks};

@@ -1,8 +1,8 @@
-ghost use Rattle.std.specs.Prelude.{◌+◌, ◌≤◌, ◌-◌, ◌^◌, ◌≡◌, ◌++◌, min, [], ◌∷◌, flat_map, IfOk, OnOk};
+ghost use Rattle.std.specs.Prelude.{◌+◌, ◌≤◌, ◌≡◌, ◌++◌, [], ◌∷◌, flat_map, IfOk, OnOk};
 ghost use Rattle.green_tree.specs.Tree.{node};
 ghost use Rattle.green_tree.specs.GreenElement.{element_tree, element_trees};
 ghost use Rattle.rewriting.specs.Rewriting.{gap, replacements_at, rewritten, rewritten_whole};
-ghost use Rattle.rewriting.specs.Effort.{touched, parents_of};
+ghost use Rattle.rewriting.specs.Effort.{counted, nodes_built, nodes_built_whole, touched, parents_of};
 ghost use Rattle.rewriting.specs.Aimed.{aims_of};
 ghost use Rattle.rewriting.specs.Pass.{kind_only, given_by};
 
@@ -88,7 +88,7 @@ fn build_node(
     children: Vec<GreenElement>,
     builds: &mut u64,
 ) -> Result<GreenElement, AllocError>
-    ensures count { builds.new ≡ min (builds.old + 1) (2 ^ 64 - 1) }
+    ensures count { builds.new ≡ counted builds.old 1 }
     ensures tree { IfOk result (λ e. element_tree e ≡ node kind.0 (element_trees children.items)) }
 {
     *builds = builds.saturating_add(1);
@@ -96,7 +96,8 @@ fn build_node(
 }
 
 /// The element made anew by changes whose aims are counted from it: `given` has what each change gives, by its number.
-/// Only the nodes above an aim are built, and what no aim is in or below is shared; `builds` counts the nodes. An aim over
+/// Only the nodes above an aim are built, and what no aim is in or below is shared; `builds` counts the nodes, exactly, up
+/// to its greatest number. An aim over
 /// the top itself is passed over: see `rebuild_whole`. Takes time linear in the aims times their depth, the children of
 /// the nodes that are built, and the children that are replaced.
 pub fn rebuild(
@@ -107,8 +108,10 @@ pub fn rebuild(
     builds: &mut u64,
 ) -> Result<GreenElement, AllocError>
     ensures builds { OnOk result (builds.new ≤ builds.old + touched (element_tree element.now) (parents_of (aims_of aims.now))) }
+    ensures count { OnOk result (builds.new ≡ counted builds.old (nodes_built (aims_of aims.now) (element_tree element.now))) }
     ensures tree { IfOk result (λ e. element_tree e ≡ rewritten kind_only (given_by given.now) (aims_of aims.now) [] (element_tree element.now)) }
 {
+    let _count = *builds;
     if !alter_some(aims) {
         return element.share(alloc);
     }
@@ -142,8 +145,10 @@ pub fn rebuild_whole(
     builds: &mut u64,
 ) -> Result<Vec<GreenElement>, AllocError>
     ensures builds { OnOk result (builds.new ≤ builds.old + touched (element_tree element.now) (parents_of (aims_of aims.now))) }
+    ensures count { OnOk result (builds.new ≡ counted builds.old (nodes_built_whole (aims_of aims.now) (element_tree element.now))) }
     ensures trees { IfOk result (λ v. element_trees v.items ≡ rewritten_whole kind_only (given_by given.now) (aims_of aims.now) (element_tree element.now)) }
 {
+    let _count = *builds;
     let mut out = Vec::new(alloc);
     if top_is_replaced(aims) {
         push_for_top(alloc, &mut out, aims, given)?;

@@ -3,8 +3,8 @@
 --     of_level                      why a level is not read, as why nothing is recorded
 --     of_whitespace                 why a whitespace token is not made, as why nothing is recorded
 use Rattle.std.specs.Prelude.{Option, Some, None}
-use Rattle.green_tree.specs.declared.error.TreeError.{TreeError}
-use Rattle.green_tree.specs.declared.error.TreeError.TheVariants as tree
+use Rattle.cst_core.specs.TreeError.{TreeError}
+use Rattle.cst_core.specs.TreeError.TheVariants as tree
 use Rattle.syntax_editor.specs.declared.indent_error.IndentError.{IndentError}
 use Rattle.syntax_editor.specs.declared.indent_error.IndentError.TheVariants as indent
 use Rattle.syntax_editor.specs.declared.error.RecordError.{RecordError}

@@ -1,4 +1,4 @@
-use Rattle.std.proofs.Common.{◌≡◌, ℕ, ◌<◌, ◌+◌, List, [], ◌∷◌, ◌++◌, length, get_or, map, flat_map, rules, arith, ap, sym, ◌∙◌}
+use Rattle.std.proofs.Common.{◌≡◌, ℕ, ◌<◌, ◌≤◌, ◌+◌, List, [], ◌∷◌, ◌++◌, length, get_or, map, flat_map, rules, refl, arith, ap, sym, ◌∙◌}
 use Rattle.std.proofs.lemmas.List.{map-append, length-map}
 use Rattle.green_tree.specs.Tree.{SyntaxTree, Token, forest}
 use Rattle.green_tree.specs.Green.{size}
@@ -6,8 +6,9 @@ use Rattle.green_tree.specs.GreenElement.{element_tree, element_trees}
 use Rattle.rewriting.specs.Rewriting.{gap, slot, is_replaced, replacements_at, rewritten}
 use Rattle.rewriting.specs.Aimed.{aims_of, placed, placed_below}
 use Rattle.rewriting.specs.Pass.{kind_only, given_by}
-use Rattle.rewriting.specs.Effort.{inside, touched, parents_of}
+use Rattle.rewriting.specs.Effort.{inside, touched, parents_of, built, nodes_built, counted}
 use Rattle.rewriting.proofs.Built.{to_come, to_come-step, parents-below, own_node, on_ok}
+use Rattle.rewriting.proofs.Counted.{still, still-step, still-none, in_slot, counted-below, counted-own, counted-none, slot_counted-replaced, slot_counted-kept, count-step, count-one}
 use Rattle.rewriting.proofs.SeenBelow.{aims-below}
 use Rattle.rewriting.proofs.Untouched.{nothing_made}
 use Rattle.rewriting.proofs.InGroups.{group_is, group-gap, group-replaced, group-replacements, group-below}
@@ -34,6 +35,7 @@ loop-slot-init t c =
     let ts : List SyntaxTree = c.in-Node.node.children in
     record {
       tree = ap (λ xs. xs ++ left kind_only given cs 0 ts) (c.in_ok-push_gap.ensures ∙ ap (λ es. element_trees es ++ gap kind_only given cs [] 0) c.in_ok-out.ensures.items) ∙ gap-slots kind_only given cs 0 (forest ts);
+      count = refl;
       builds = omega arith;
     }
 
@@ -62,6 +64,21 @@ loop-slot-preserved t c =
     let after = c.in_ok-push_gap-2.ensures ∙ ap (λ xs. element_trees c.if-is_replaced.out.items ++ xs) (group-gap kind_only given aims c.as_slice-group.result.now i here) in
     record {
       tree = step kind_only given (aims_of aims) before (element_trees c.if-is_replaced.out.items) (element_trees c.push_gap-in-loop-slot.new.out.items) _ i ts d in_range middle after c.loop-slot.invariant.tree;
+      count =
+          let cs = aims_of aims in
+          let own = get_or ts i d in
+          let more = still-step cs i ts d in_range in
+          elim c.if-is_replaced.branch [
+            | then-is_replaced+in_ok-push_replacements w ↦
+                let nothing_on : 0 + still cs (i + 1) ts ≡ still cs (i + 1) ts = omega arith in
+                let none = slot_counted-replaced cs i own (sym replaced ∙ w.if-is_replaced.true) in
+                ap (λ n. counted n (still cs (i + 1) ts)) w.builds-is ∙ ap (counted c.loop-slot.builds) (sym (more ∙ ap (λ n. n + still cs (i + 1) ts) none ∙ nothing_on)) ∙ c.loop-slot.invariant.count
+            | else-is_replaced+in_ok-inner+in_ok-rebuild+in_ok-push w ↦
+                let child = tree_at c.children-children.result.now i w.index-children-slot.result d c.loop-slot-test.true w.index-children-slot.is ∙ ap (λ us. get_or us i d) c.children-children.ensures in
+                let inner = w.in_ok-inner.ensures ∙ ap (λ g. placed_below i (map placed g)) here ∙ group-below i aims in
+                let below = ap (λ xs. nodes_built (aims_of xs) (element_tree w.index-children-slot.result)) w.deref.ensures.value ∙ counted-below aims w.in_ok-inner.inner.items i (element_tree w.index-children-slot.result) inner ∙ ap (λ u. built cs (i ∷ []) u (inside i (parents_of cs))) child ∙ sym (slot_counted-kept cs i own (sym replaced ∙ w.if-is_replaced.false)) in
+                count-step c.loop-slot.builds (in_slot cs i own) _ (still cs (i + 1) ts) _ (w.builds-is ∙ w.in_ok-rebuild.ensures.count ∙ ap (counted c.loop-slot.builds) below) (ap (counted c.loop-slot.builds) (sym more) ∙ c.loop-slot.invariant.count)
+          ];
       builds =
           let more = to_come-step (parents_of (aims_of aims)) i ts d in_range in
           elim c.if-is_replaced.branch [
@@ -81,3 +98,18 @@ returns-clause-builds t c =
     let some = sym c.alter_some.ensures ∙ c.if-not-alter_some.false in
     let own : touched (element_tree c.args.element.now) (parents_of cs) ≡ 1 + to_come (parents_of cs) 0 ts = ap (λ e. touched (element_tree e) (parents_of cs)) c.in-Node.is ∙ own_node cs c.in-Node.node.kind ts some in
     on_ok c.build_node.result (omega arith)
+
+pub returns-clause-count : goal.returns-clause-count
+returns-clause-count t c =
+    let cs = aims_of c.args.aims.now in
+    let ts : List SyntaxTree = c.in-Node.node.children in
+    let some = sym c.alter_some.ensures ∙ c.if-not-alter_some.false in
+    let own : nodes_built cs (element_tree c.args.element.now) ≡ 1 + still cs 0 ts = ap (λ e. nodes_built cs (element_tree e)) c.in-Node.is ∙ counted-own cs c.in-Node.node.kind ts some in
+    let past : length ts ≤ c.loop-slot.slot = rw (← c.children-children.ensures, length-map) c.loop-slot-test.false in
+    let one = count-one c.args.builds.now c.loop-slot.builds (still cs 0 ts) (still cs c.loop-slot.slot ts) _ c.build_node.ensures.count (still-none cs c.loop-slot.slot ts past) c.loop-slot.invariant.count in
+    on_ok c.build_node.result (one ∙ ap (counted c.args.builds.now) (sym own))
+
+pub returns-then-not-alter_some-clause-count : goal.returns-then-not-alter_some-clause-count
+returns-then-not-alter_some-clause-count t c =
+    let none = sym c.alter_some.ensures ∙ c.if-not-alter_some.true in
+    rw (counted-none (aims_of c.args.aims.now) (element_tree c.args.element.now) none) (on_ok c.share.result (omega arith))

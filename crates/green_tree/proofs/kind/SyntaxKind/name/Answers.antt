@@ -6,5 +6,5 @@ use Rattle.green_tree.proofs.kind.SyntaxKind.name.Goals as goal
 pub returns : goal.returns
 returns c =
     ap (option_map (λ s. s.now)) c.copied.ensures
-    ∙ name_of-get _ c.kind_names.ensures.names _ _ c.get.ensures.lookup
+    ∙ name_of-get _ c.kind_names.ensures _ _ c.get.ensures.lookup
     ∙ ap name_of c.from.ensures
