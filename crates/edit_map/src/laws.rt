@@ -1,11 +1,12 @@
 //! Laws of mappings, of the definitions alone.
 
-ghost use Rattle.std.specs.Prelude.{◌≡◌, ◌∷◌, ◌↔◌, Some, All, IsSomeAnd};
+ghost use Rattle.std.specs.Prelude.{◌≡◌, ◌∷◌, ◌++◌, ◌↔◌, Some, All, IsSomeAnd};
+ghost use Rattle.std.specs.Option.{option_or};
 ghost use Rattle.cst_core.specs.Path.{Path};
 ghost use Rattle.cst_core.specs.Tree.{SameShape, at};
 ghost use Rattle.cst_core.specs.Element.{Address, Element, address, subtree, IsElement, NumbersTell};
 ghost use Rattle.edit_map.specs.Mapping.{Mapping, copy, IsRising, StandsFor, mapped_elements, IsFollowed, followed};
-ghost use Rattle.edit_map.specs.Building.{ArePairs, AreDistinct};
+ghost use Rattle.edit_map.specs.Building.{IsMadeOf, ArePairs, AreDistinct};
 
 /// The pairs of a mapping rise.
 pub fn pairs_rise()
@@ -15,6 +16,12 @@ pub fn pairs_rise()
 /// Where no address has two pairs each pair stands.
 pub fn each_pair_stands()
     ensures { (m : Mapping) → AreDistinct m → All (λ pair. copy m (address pair.0) ≡ Some pair.1) m }
+{}
+
+/// Of what two lists of pairs both map, the copy of the newer list stands in what is made of both.
+pub fn newer_copies_stand()
+    ensures { (newer older m : Mapping) (x : Address)
+        → IsMadeOf (newer ++ older) m → copy m x ≡ option_or (copy newer x) (copy older x) }
 {}
 
 /// A target has at most one place in a payload.
