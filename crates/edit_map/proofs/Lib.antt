@@ -3,6 +3,7 @@ pub mod Copies
 mod Children
 mod Refusals
 pub mod Tables
+mod Distinct
 pub mod Making
 pub mod Places
 mod Shapes

@@ -2,9 +2,10 @@
 --     copy-append                    the copy in two lists, one before the other
 --     made-same-order                a table is made of its entries in any order
 --     made-through, made-ahead, ok-ahead    made of what something is made of; the same before other pairs, where a call succeeds
---     made-pairs, either-pairs       what is made of pairs of nodes that rise are such pairs; whether it was made or refused
+--     made-pairs, either-mapping     what is made of pairs of nodes that rise are such pairs; and a mapping, whether it was made or refused
+--     under-more                     more pairs under a parent, the newest first
 --     pairs-rise                     such pairs rise
-use Rattle.std.specs.Prelude.{◌≡◌, true, false, cond, [], ◌∷◌, ◌++◌, find, reverse, Option, Some, None, option_map, Result, Ok, Err, OnOk, OnErr, Contains, refl}
+use Rattle.std.specs.Prelude.{◌≡◌, true, false, cond, [], ◌∷◌, ◌++◌, find, reverse, Option, Some, None, option_map, Result, Ok, Err, OnOk, OnErr, All, Contains, refl}
 use Rattle.std.specs.Option.{option_or}
 use Rattle.std.specs.List.{IsDistinct}
 use Rattle.std.specs.List.Sorted.{IsPermutation}
@@ -17,7 +18,7 @@ use Rattle.std.proofs.lemmas.List.Elements.{All-same, All-weaker, All-contains, 
 use Rattle.std.proofs.lemmas.List.Sorted.{All-permutation, Contains-permutation, IsPermutation-map, IsPermutation-reverse, IsPermutation-sym}
 use Rattle.cst_core.specs.Element.{Address, Element, address, same_address}
 use Rattle.edit_map.specs.Mapping.{Mapping, copy, Rises, IsRising}
-use Rattle.edit_map.specs.Building.{IsMadeOf, IsPair, ArePairs}
+use Rattle.edit_map.specs.Building.{IsMadeOf, IsPair, ArePairs, AreDistinct, IsMapping, IsPairUnder, ArePairsUnder}
 use Rattle.edit_map.proofs.Copies.{pair_of_copy}
 use Rattle.edit_map.proofs.Tables.{alike, alike-laws, lookup-copy}
 
@@ -82,9 +83,16 @@ made-pairs m old n pairs old_pairs made =
     let all : ArePairs (reverse m ++ old) = All-append IsPair (reverse m) old (All-permutation IsPair m (reverse m) (IsPermutation-reverse m) pairs) old_pairs in
     All-weaker (Contains (reverse m ++ old)) IsPair (λ d there. All-contains IsPair (reverse m ++ old) d all there) n made.among
 
-pub either-pairs : {A E : Type 0} (m old n : Mapping) → ArePairs m → ArePairs old → (r : Result A E) → OnOk r (IsMadeOf (reverse m ++ old) n) → OnErr r (n ≡ old) → ArePairs n
+either-pairs : {A E : Type 0} (m old n : Mapping) → ArePairs m → ArePairs old → (r : Result A E) → OnOk r (IsMadeOf (reverse m ++ old) n) → OnErr r (n ≡ old) → ArePairs n
 either-pairs m old n pairs old_pairs (Ok a) made kept = made-pairs m old n pairs old_pairs made
 either-pairs m old n pairs old_pairs (Err e) made kept = All-same IsPair n old kept old_pairs
+
+pub either-mapping : {A E : Type 0} (m old n : Mapping) → ArePairs m → ArePairs old → AreDistinct n → (r : Result A E) → OnOk r (IsMadeOf (reverse m ++ old) n) → OnErr r (n ≡ old) → IsMapping n
+either-mapping m old n pairs old_pairs distinct r made kept = record { pairs = either-pairs m old n pairs old_pairs r made kept; distinct = distinct }
+
+pub under-more : (parent : Element) (old more new : Mapping) → new ≡ old ++ more → All (IsPairUnder parent) old → All (IsPairUnder parent) more → ArePairsUnder (record { parent = parent; pairs = reverse new })
+under-more parent old more new is old_under more_under =
+    All-permutation (IsPairUnder parent) new (reverse new) (IsPermutation-reverse new) (All-same (IsPairUnder parent) new (old ++ more) is (All-append (IsPairUnder parent) old more old_under more_under))
 
 pub pairs-rise : (m : Mapping) → ArePairs m → IsRising m
 pairs-rise m pairs = All-weaker IsPair Rises (λ d pair. pair.rises) m pairs

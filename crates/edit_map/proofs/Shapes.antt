@@ -1,18 +1,19 @@
 -- What stands at a place has the shape of the target.
 --     children-shape                 the children of trees of one shape have one shape
 --     place-shape                    the shape at a place
-use Rattle.std.specs.Prelude.{◌≡◌, ℕ, zero, suc, ◌≤◌, List, [], ◌∷◌, ◌++◌, map, length, slice_get, slice_index_or, ◌+◌, Option, Some, None, option_map, option_and_then, unwrap_or, is_some, IsSomeAnd, All, Contains, true, refl}
+use Rattle.std.specs.Prelude.{◌≡◌, ℕ, zero, suc, ◌≤◌, List, [], ◌∷◌, ◌++◌, map, length, slice_get, slice_index_or, ◌+◌, Option, Some, None, option_map, option_and_then, unwrap_or, is_some, IsSomeAnd, All, Contains, true, false, refl}
 use Rattle.std.specs.Option.{option_map_or}
 use Rattle.std.specs.List.{AllByRecursion}
 use Rattle.std.proofs.Common.{ap, sym, subst, ◌∙◌, arith, inl, inr}
 use Rattle.std.proofs.lemmas.Bool.{cases_lt, cases_eq, false≢true}
 use Rattle.std.proofs.lemmas.List.{length_push, get_or_default}
 use Rattle.std.proofs.lemmas.List.Elements.{recursion_from_All, All-from_recursion, All-contains, All-contains_itself}
-use Rattle.std.proofs.lemmas.Option.{slice_get-map}
+use Rattle.std.proofs.lemmas.Option.{slice_get-map, none-some}
 use Rattle.cst_core.specs.Path.{Path}
-use Rattle.cst_core.specs.Tree.{SyntaxTree, Forest, Token, Node, end, more, trees, children, at, without_texts, forest_without_texts, SameShape}
-use Rattle.cst_core.specs.Element.{Address, Element, address, subtree, IsElement, NumbersTell}
-use Rattle.edit_map.specs.Mapping.{Mapping, copy, copied, mapped_elements, Rises, IsRising, child_address, StandsFor}
+use Rattle.cst_core.specs.Tree.{SyntaxTree, Forest, Token, Node, end, more, trees, children, is_token, at, without_texts, forest_without_texts, SameShape}
+use Rattle.cst_core.specs.Element.{Address, Element, address, subtree, IsElement, IsNode, NumbersTell}
+use Rattle.edit_map.specs.Mapping.{Mapping, copy, copied, mapped_elements, Rises, child_address, StandsFor}
+use Rattle.edit_map.specs.Building.{IsPair, ArePairs}
 use Rattle.edit_map.proofs.Copies.{pair_of_copy}
 use Rattle.edit_map.proofs.Places.{StandsFor-push, LastView, last_view}
 
@@ -153,22 +154,30 @@ module _ {X : Type 0} (P : X → Type 0) where
   all_of_map f [] a = tt
   all_of_map f (y ∷ ys) a = (a.0, all_of_map f ys a.1)
 
+-- a node is an element
+node-is-element : (e : Element) → IsNode e → IsElement e
+node-is-element e is = some_tree (at e.root e.path) is
+  where
+    some_tree : (o : Option SyntaxTree) → option_map is_token o ≡ Some false → is_some o ≡ true
+    some_tree None none = absurd (none-some false none)
+    some_tree (Some t) some = refl
+
 pairs_known : (es : List Element) (m : Mapping) → AllByRecursion (λ pair. (x : Element) → IsTold es x → Tells x pair.0) m → AllByRecursion (λ pair. IsElement pair.1) m → AllByRecursion (λ pair. IsTold es pair.1) m → AllByRecursion Rises m → AllByRecursion (PairIsKnown es) m
 pairs_known es [] a b c d = tt
 pairs_known es (pair ∷ m) a b c d = ((a.0, (b.0, c.0), d.0.1), pairs_known es m a.1 b.1 c.1 d.1)
 
-pub place-shape : (m : Mapping) (payload target : Element) (p : Path) → IsRising m → All IsElement (payload ∷ target ∷ mapped_elements m) → NumbersTell (payload ∷ target ∷ mapped_elements m) → StandsFor m (address payload) p (address target) → IsSomeAnd (at (subtree payload) p) (SameShape (subtree target))
-place-shape m payload target p rising there tell stands =
+pub place-shape : (m : Mapping) (payload target : Element) (p : Path) → ArePairs m → IsElement target → NumbersTell (payload ∷ target ∷ mapped_elements m) → StandsFor m (address payload) p (address target) → IsSomeAnd (at (subtree payload) p) (SameShape (subtree target))
+place-shape m payload target p pairs there tell stands =
     let es = payload ∷ target ∷ mapped_elements m in
     let firsts = map (λ (pair : Element × Element). pair.0) m in
     let copies = map (λ (pair : Element × Element). pair.1) m in
     let told : AllByRecursion (IsTold es) es = recursion_from_All (IsTold es) es (all_told es tell) in
     let itself : AllByRecursion (Contains es) es = recursion_from_All (Contains es) es (All-contains_itself es) in
-    let present : AllByRecursion IsElement es = recursion_from_All IsElement es there in
+    let each : AllByRecursion IsPair m = recursion_from_All IsPair m pairs in
     let tells : (e x : Element) → Contains es e → IsTold es x → Tells x e = λ e x in' t. All-contains (Tells x) es e t in' in
     let from : AllByRecursion (λ pair. Contains es pair.0) m = all_of_map (Contains es) (λ pair. pair.0) m (all_left (Contains es) firsts copies itself.1.1) in
-    let known : AllByRecursion (PairIsKnown es) m = pairs_known es m (all_weaker _ _ (λ pair in' x t. tells pair.0 x in' t) m from) (all_of_map IsElement (λ pair. pair.1) m (all_right IsElement firsts copies present.1.1)) (all_of_map (IsTold es) (λ pair. pair.1) m (all_right (IsTold es) firsts copies told.1.1)) (recursion_from_All Rises m rising) in
-    place_shape_within m es (All-from_recursion (PairIsKnown es) m known) payload (λ x t. tells payload x itself.0 t) (length p) p target (last_view p) (omega arith) (present.1.0, told.1.0) stands
+    let known : AllByRecursion (PairIsKnown es) m = pairs_known es m (all_weaker _ _ (λ pair in' x t. tells pair.0 x in' t) m from) (all_weaker IsPair _ (λ pair is. node-is-element pair.1 is.output) m each) (all_of_map (IsTold es) (λ pair. pair.1) m (all_right (IsTold es) firsts copies told.1.1)) (all_weaker IsPair Rises (λ pair is. is.rises) m each) in
+    place_shape_within m es (All-from_recursion (PairIsKnown es) m known) payload (λ x t. tells payload x itself.0 t) (length p) p target (last_view p) (omega arith) (there, told.1.0) stands
   where
     all_weaker : (P Q : Element × Element → Type 0) → ((pair : Element × Element) → P pair → Q pair) → (m : Mapping) → AllByRecursion P m → AllByRecursion Q m
     all_weaker P Q h [] a = tt

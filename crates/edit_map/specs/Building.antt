@@ -3,16 +3,18 @@
 --     SameCopies                     two mappings give each address the same copy
 --     IsMadeOf                       the mapping is what these pairs make, the newest first: the newest pair of an address stands
 --     IsPair, ArePairs               a pair of nodes that rises; each pair of a mapping is one
+--     AreDistinct                    no address has two pairs
+--     IsMapping                      what is true of every mapping in code: both of these
 --     Builder, builder_code          the parent of the copies, and the pairs so far, the newest first; its code
---     IsPairUnder                    what a builder with this parent asks of a pair
+--     IsPairUnder, ArePairsUnder     what a builder with this parent asks of a pair; each pair of a builder is such a pair
 --     RefusesPair                    why it refuses one: the first of these that is missing
 --     RefusesFirst                   why it refuses the first pair that it does not take
 --     RefusesChildren                why it refuses inputs and outputs
-use Rattle.std.specs.Prelude.{◌≡◌, ◌<◌, ◌≤◌, List, ◌∷◌, ◌++◌, length, All, Contains, refl}
+use Rattle.std.specs.Prelude.{◌≡◌, ◌≢◌, ◌<◌, ◌≤◌, List, ◌∷◌, ◌++◌, length, All, AllPairs, Contains, refl}
 use Rattle.std.specs.List.{zip}
 use Rattle.std.specs.Coded.{Coded, code_by, coded_list, coded×}
 use Rattle.cst_core.specs.Tree.{SameShape}
-use Rattle.cst_core.specs.Element.{Address, Element, IsChild, IsNode, subtree, element_code}
+use Rattle.cst_core.specs.Element.{Address, Element, address, IsChild, IsNode, subtree, element_code}
 use Rattle.edit_map.specs.Mapping.{Mapping, copy, Rises}
 use Rattle.edit_map.specs.declared.map_error.MapError.{MapError}
 use Rattle.edit_map.specs.declared.map_error.MapError.TheVariants.{NotAChild, NotYounger, OtherShape, MoreInputs, Memory}
@@ -35,6 +37,13 @@ pub record IsPair (pair : Element × Element) : Type 0 where
 abbrev pub ArePairs : Mapping → Type 0
 ArePairs m = All IsPair m
 
+abbrev pub AreDistinct : Mapping → Type 0
+AreDistinct m = AllPairs (λ p q. address p.0 ≢ address q.0) m
+
+pub record IsMapping (m : Mapping) : Type 0 where
+  pub pairs : ArePairs m
+  pub distinct : AreDistinct m
+
 pub record Builder : Type 0 where
   pub parent : Element
   pub pairs : Mapping
@@ -45,6 +54,9 @@ builder_code = code_by (Element × Mapping) (coded× element_code mapping_code) 
 pub record IsPairUnder (parent : Element) (pair : Element × Element) : Type 0 where
   pub child : IsChild parent pair.1
   pub is_pair : IsPair pair
+
+abbrev pub ArePairsUnder : Builder → Type 0
+ArePairsUnder b = All (IsPairUnder b.parent) b.pairs
 
 abbrev pub RefusesPair : Element → Element × Element → MapError → Type 0
 RefusesPair parent pair NotAChild = IsChild parent pair.1 → ⊥

@@ -1,8 +1,7 @@
 ghost use Rattle.std.specs.Prelude.{◌≡◌, ◌↔◌, ◌≤◌, length, [], ◌∷◌, ◌++◌, IsTrue, IfErr, IfOk, OnOk, OnErr, All, reverse};
 ghost use Rattle.std.specs.List.{zip};
 ghost use Rattle.cst_core.specs.Element.{IsChild};
-ghost use Rattle.edit_map.specs.Mapping.{IsRising};
-ghost use Rattle.edit_map.specs.Building.{IsMadeOf, ArePairs, IsPairUnder, RefusesPair, RefusesChildren};
+ghost use Rattle.edit_map.specs.Building.{IsMadeOf, ArePairs, IsMapping, IsPairUnder, ArePairsUnder, RefusesPair, RefusesChildren};
 
 use crate::map_error::MapError;
 use crate::mapping::SyntaxMapping;
@@ -83,7 +82,8 @@ fn pairs_under(
 impl SyntaxMappingBuilder {
     /// A builder without pairs. Each output that it takes has to be a child of `parent`.
     pub fn new(alloc: Global, parent: SyntaxNode) -> SyntaxMappingBuilder
-        ensures { result ≡ record { parent = parent; pairs = [] } }
+        ensures empty { result ≡ record { parent = parent; pairs = [] } }
+        ensures pairs { ArePairsUnder result }
     {
         SyntaxMappingBuilder {
             parent,
@@ -104,6 +104,7 @@ impl SyntaxMappingBuilder {
         ensures taken { OnOk result (IsPairUnder self.old.parent (input, output)) }
         ensures refused { IfErr result (RefusesPair self.old.parent (input, output)) }
         ensures unchanged { OnErr result (self.new ≡ self.old) }
+        ensures pairs { ArePairsUnder self.new }
     {
         test_pair(&self.parent, &input, &output)?;
         self.pairs
@@ -128,7 +129,10 @@ impl SyntaxMappingBuilder {
         ensures taken { OnOk result (All (IsPairUnder self.old.parent) (zip inputs.now outputs.now)) }
         ensures refused { IfErr result (RefusesChildren self.old.parent inputs.now outputs.now) }
         ensures unchanged { OnErr result (self.new ≡ self.old) }
+        ensures pairs { ArePairsUnder self.new }
     {
+        // The pairs so far are such as the builder takes.
+        let _ = &self.pairs;
         if inputs.len() > outputs.len() {
             return Err(MapError::MoreInputs);
         }
@@ -143,8 +147,11 @@ impl SyntaxMappingBuilder {
     pub fn finish(self, alloc: Global, mapping: &mut SyntaxMapping) -> Result<(), AllocError>
         ensures ok { OnOk result (IsMadeOf (self.pairs ++ mapping.old) mapping.new) }
         ensures err { OnErr result (mapping.new ≡ mapping.old) }
-        ensures rising { IsRising mapping.new }
+        ensures pairs { ArePairsUnder self }
+        ensures is_mapping { IsMapping mapping.new }
     {
+        // The pairs are such as the builder takes.
+        let _ = &self.pairs;
         mapping.add_mapping(alloc, self)
     }
 

@@ -5,6 +5,7 @@ ghost use Rattle.cst_core.specs.Path.{up_to};
 ghost use Rattle.cst_core.specs.Element.{Element, NumbersTell};
 ghost use Rattle.cst_core.specs.SyntaxElement.{element_of};
 ghost use Rattle.edit_map.specs.Mapping.{followed, mapped_elements};
+ghost use Rattle.edit_map.specs.Building.{IsMapping};
 ghost use Rattle.edit_map.specs.Following.{asked_paths, step_among, syntax_step, IsReached};
 
 use crate::mapping::SyntaxMapping;
@@ -36,8 +37,9 @@ impl SyntaxMapping {
     ) -> Result<SyntaxElement, AllocError>
         ensures reached { IfOk result (IsReached self.now element.now) }
         ensures followed { NumbersTell (element_of element.now ∷ mapped_elements self.now) → IfOk result (λ e. element_of e ≡ followed self.now (element_of element.now)) }
+        ensures is_mapping { IsMapping self.now }
     {
-        // The copies rise, and the element is one of its tree.
+        // What is true of every mapping, and that the element is one of its tree.
         let _ = &self.copies;
         let _ = element.kind();
         let _ = element.as_green();

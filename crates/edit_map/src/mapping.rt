@@ -1,7 +1,7 @@
 ghost use Rattle.std.specs.Prelude.{◌≡◌, [], ◌++◌, IfOk, OnOk, OnErr, reverse, option_map, MatchOption};
 ghost use Rattle.cst_core.specs.Element.{address};
-ghost use Rattle.edit_map.specs.Mapping.{IsRising, IsPlace, copied};
-ghost use Rattle.edit_map.specs.Building.{IsMadeOf, ArePairs};
+ghost use Rattle.edit_map.specs.Mapping.{IsPlace, copied};
+ghost use Rattle.edit_map.specs.Building.{IsMadeOf, ArePairs, IsMapping};
 ghost use Rattle.edit_map.specs.Climbing.{IsAbove};
 
 use crate::builder::SyntaxMappingBuilder;
@@ -14,7 +14,7 @@ use std::marker::Model;
 /// Which node of a younger tree is the copy of which one.
 ///
 /// A copy has a greater tree number than what it is the copy of, and the same shape. Nodes are told apart by tree number and
-/// path; the pair that comes last stands.
+/// path; the pair that comes last stands, and takes the place of an older one. So no node has two copies, which each call says.
 #[derive(Drop)]
 pub struct SyntaxMapping {
     pub(crate) copies: HashMap<SyntaxNode, SyntaxNode>,
@@ -22,7 +22,7 @@ pub struct SyntaxMapping {
 
 impl Model for SyntaxMapping {
     ghost use Rattle.edit_map.specs.Mapping.{Mapping};
-    ghost use Rattle.edit_map.specs.Building.{mapping_code, ArePairs};
+    ghost use Rattle.edit_map.specs.Building.{mapping_code, IsMapping};
 
     ghost Value = { Mapping };
 
@@ -30,13 +30,14 @@ impl Model for SyntaxMapping {
 
     ghost view = { λ a. a.copies.entries };
 
-    ghost invariant = { λ a. ArePairs a.copies.entries };
+    ghost invariant = { λ a. IsMapping a.copies.entries };
 }
 
 impl SyntaxMapping {
     /// A mapping of nothing.
     pub fn new(alloc: Global) -> SyntaxMapping
-        ensures { result ≡ [] }
+        ensures empty { result ≡ [] }
+        ensures is_mapping { IsMapping result }
     {
         SyntaxMapping {
             copies: HashMap::new(alloc),
@@ -53,7 +54,7 @@ impl SyntaxMapping {
     ) -> Result<(), AllocError>
         ensures ok { OnOk result (IsMadeOf (builder.pairs ++ self.old) self.new) }
         ensures err { OnErr result (self.new ≡ self.old) }
-        ensures rising { IsRising self.new }
+        ensures is_mapping { IsMapping self.new }
     {
         self.take_in(builder.into_pairs())
     }
@@ -64,9 +65,9 @@ impl SyntaxMapping {
     pub fn merge(&mut self, alloc: Global, other: SyntaxMapping) -> Result<(), AllocError>
         ensures ok { OnOk result (IsMadeOf (other ++ self.old) self.new) }
         ensures err { OnErr result (self.new ≡ self.old) }
-        ensures rising { IsRising self.new }
+        ensures is_mapping { IsMapping self.new }
     {
-        // The copies rise.
+        // What is true of every mapping.
         let _ = &self.copies;
         let pairs = other.into_pairs(alloc)?;
         self.take_in(pairs)
@@ -75,8 +76,11 @@ impl SyntaxMapping {
     /// An equal mapping.
     pub fn try_clone(&self, alloc: Global) -> Result<SyntaxMapping, AllocError>
         ensures ok { IfOk result (IsMadeOf self.now) }
-        ensures rising { IfOk result IsRising }
+        ensures is_mapping { IsMapping self.now }
+        ensures clone { IfOk result IsMapping }
     {
+        // What is true of every mapping.
+        let _ = &self.copies;
         let mut clone = SyntaxMapping::new(alloc);
         clone.take_in(self.cloned_pairs(alloc)?)?;
         Ok(clone)
@@ -95,9 +99,9 @@ impl SyntaxMapping {
         payload: &SyntaxNode,
     ) -> Result<Option<Vec<usize>>, AllocError>
         ensures place { IfOk result (λ p. IsPlace self.now (address target.now) (address payload.now) (option_map (λ v. v.items) p)) }
-        ensures rising { IsRising self.now }
+        ensures is_mapping { IsMapping self.now }
     {
-        // The copies rise.
+        // What is true of every mapping.
         let _ = &self.copies;
         let mut slots = Vec::new(alloc);
         let mut node = target.try_clone(alloc)?;
@@ -142,7 +146,7 @@ impl SyntaxMapping {
         requires { ArePairs pairs.items }
         ensures ok { OnOk result (IsMadeOf (reverse pairs.items ++ self.old) self.new) }
         ensures err { OnErr result (self.new ≡ self.old) }
-        ensures rising { IsRising self.new }
+        ensures is_mapping { IsMapping self.new }
     {
         put_all(&mut self.copies, pairs)
     }

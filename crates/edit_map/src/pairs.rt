@@ -2,7 +2,7 @@
 
 ghost use Rattle.std.specs.Prelude.{◌≡◌, ◌<◌, ◌≤◌, ◌+◌, [], ◌∷◌, ◌++◌, OnOk, OnErr, reverse};
 ghost use Rattle.std.specs.HashMap.{spare};
-ghost use Rattle.edit_map.specs.Building.{IsMadeOf};
+ghost use Rattle.edit_map.specs.Building.{IsMadeOf, AreDistinct};
 
 use cst_core::SyntaxNode;
 use std::alloc::{AllocError, Global};
@@ -28,6 +28,7 @@ fn put(copies: &mut HashMap<SyntaxNode, SyntaxNode>, input: SyntaxNode, output: 
     requires { 0 < spare copies.old }
     ensures made { IsMadeOf ((input, output) ∷ copies.old.entries) copies.new.entries }
     ensures room { spare copies.old ≤ spare copies.new + 1 }
+    ensures distinct { AreDistinct copies.new.entries }
 {
     let _ = copies.remove(&input);
     let inserted: Result<_, _> = copies.insert(input, output);
@@ -41,6 +42,7 @@ pub(crate) fn put_all(
 ) -> Result<(), AllocError>
     ensures ok { OnOk result (IsMadeOf (reverse pairs.items ++ copies.old.entries) copies.new.entries) }
     ensures err { OnErr result (copies.new.entries ≡ copies.old.entries) }
+    ensures distinct { AreDistinct copies.new.entries }
 {
     copies.reserve(pairs.len())?;
     for (input, output) in pairs {

@@ -1,17 +1,29 @@
--- What the laws of rewriting speak of.
+-- What the laws of places and of rewriting speak of.
+--     StandsThere                   what stands at this path of a payload is there for a target, and a change is no insert after the target itself
+--                                   where the path is empty
 --     IsUntouched                   no change aims at a gap of the node at this path or of one below, or over an element below
 --     brought_text                  the text of what a change brings
 --     filled_text, text_filled      the old text, in which each gap and each replaced range gives a text for each change that aims there;
 --                                   the same where the top may be replaced
-use Rattle.std.specs.Prelude.{◌≡◌, ℕ, suc, false, cond, List, [], ◌∷◌, ◌++◌, map, flat_map}
+use Rattle.std.specs.Prelude.{◌≡◌, ◌≢◌, ℕ, suc, false, cond, List, [], ◌∷◌, ◌++◌, map, flat_map}
 use Rattle.cst_core.specs.Path.{Path}
 use Rattle.cst_core.specs.Tree.{Forest, Token, Node, end, more, SyntaxTree}
-use Rattle.cst_core.specs.Element.{subtree}
+use Rattle.cst_core.specs.Element.{address, subtree}
+use Rattle.cst_core.specs.SyntaxElement.{element_of}
+use Rattle.cst_core.specs.declared.element.SyntaxElement.{SyntaxElement}
 use Rattle.cst_core.specs.Green.{texts}
+use Rattle.edit_map.specs.Mapping.{Mapping, StandsFor}
+use Rattle.rewriting.specs.Aim.{Behind}
 use Rattle.rewriting.specs.Rewriting.{NumberedAim, inserts_at, replacements_at, is_replaced, gap_order}
+use Rattle.edit_plan.specs.Aim.{aim}
 use Rattle.edit_plan.specs.Rewriting.{payload_of}
 use Rattle.edit_plan.specs.declared.change.Change.{Change}
 
+-- ---- places
+abbrev pub StandsThere : Mapping → SyntaxElement → SyntaxElement → Change → Path → Type 0
+StandsThere m target payload c p = StandsFor m (address (element_of payload)) p (address (element_of target)) × (p ≡ [] → aim c ≢ Behind (element_of target).path)
+
+-- ---- untouched elements
 pub record IsUntouched (cs : List NumberedAim) (p : Path) : Type 0 where
   pub no_inserts : (q : Path) (i : ℕ) → inserts_at cs (p ++ q) i ≡ []
   pub not_replaced : (q : Path) (i : ℕ) → is_replaced cs (p ++ q ++ i ∷ []) ≡ false

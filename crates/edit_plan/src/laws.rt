@@ -1,11 +1,15 @@
-//! Laws of changes and of the tree that they make, of the definitions alone.
+//! Laws of changes, of their places and of the tree that they make, of the definitions alone.
 
-ghost use Rattle.std.specs.Prelude.{ℕ, ◌≡◌, List, [], ◌∷◌, ◌++◌, map, flat_map, slice_get, Option, None, false, All, IsTrue, IsSomeAnd};
+ghost use Rattle.std.specs.Prelude.{ℕ, ◌≡◌, ◌↔◌, List, [], ◌∷◌, ◌++◌, map, flat_map, slice_get, Option, None, Some, false, All, IsTrue, IsSomeAnd};
 ghost use Rattle.cst_core.specs.Path.{Path};
 ghost use Rattle.cst_core.specs.Tree.{SyntaxTree, text};
-ghost use Rattle.cst_core.specs.Element.{Address, Element, subtree};
+ghost use Rattle.cst_core.specs.Element.{Address, Element, subtree, IsElement, NumbersTell};
+ghost use Rattle.cst_core.specs.SyntaxElement.{element_of};
+ghost use Rattle.cst_core.specs.declared.element.SyntaxElement.{SyntaxElement};
 ghost use Rattle.edit_plan.specs.declared.change.Change.{Change};
-ghost use Rattle.edit_map.specs.Mapping.{Mapping};
+ghost use Rattle.edit_plan.specs.declared.change.Change.TheVariants.{Replace};
+ghost use Rattle.edit_map.specs.Mapping.{Mapping, mapped_elements};
+ghost use Rattle.edit_map.specs.Building.{ArePairs};
 ghost use Rattle.edit_plan.specs.Change.{shared_targets};
 ghost use Rattle.rewriting.specs.Aim.{aims_at_gap, same_gap};
 ghost use Rattle.edit_plan.specs.Aim.{aim};
@@ -13,9 +17,11 @@ ghost use Rattle.edit_plan.specs.Nesting.{owner, region};
 ghost use Rattle.rewriting.specs.Rewriting.{NumberedAim, gap, rewritten};
 ghost use Rattle.edit_plan.specs.Rewriting.{Origin, OriginTree, origin, plain, aims_of, payload_of, is_free, given, Gives, new_tree};
 ghost use Rattle.edit_plan.specs.Results.{changed};
-ghost use Rattle.edit_plan.specs.Plan.{IsRewriting};
+ghost use Rattle.edit_plan.specs.Plan.{HasPlace, IsRewriting};
 ghost use Rattle.edit_plan.specs.Schedule.{undropped};
-ghost use Rattle.edit_plan.specs.Laws.{IsUntouched, brought_text, text_filled};
+ghost use Rattle.edit_plan.specs.Laws.{StandsThere, IsUntouched, brought_text, text_filled};
+
+use edit_map::laws::place_keeps_the_shape;
 
 /// Without a change the new tree is the old one, and nothing in it is changed.
 pub fn no_change_makes_no_difference()
@@ -28,6 +34,21 @@ pub fn untouched_stays()
     ensures { (from : Address) (change : Option ℕ) (given : ℕ → List OriginTree) (cs : List NumberedAim) (p : Path) (t : SyntaxTree)
         → IsUntouched cs p → plain (rewritten (origin from change) given cs p t) ≡ t }
 {}
+
+/// Where equal numbers have equal trees, a change has a place in its owner's payload exactly where something stands for the
+/// owner's target. The exception is an insert after the target itself, which has none at the empty path.
+pub fn place_stands_for_the_target()
+    ensures at_a_path { (m : Mapping) (target payload : SyntaxElement) (c : Change) (p : Path)
+        → ArePairs m → IsElement (element_of target)
+        → NumbersTell (element_of payload ∷ element_of target ∷ mapped_elements m)
+        → HasPlace m (Replace target (Some payload)) c p ↔ StandsThere m target payload c p }
+    ensures at_some_path { (m : Mapping) (target payload : SyntaxElement) (c : Change)
+        → ArePairs m → IsElement (element_of target)
+        → NumbersTell (element_of payload ∷ element_of target ∷ mapped_elements m)
+        → ((p : Path) × HasPlace m (Replace target (Some payload)) c p) ↔ ((p : Path) × StandsThere m target payload c p) }
+{
+    place_keeps_the_shape();
+}
 
 /// What a change gives is its payload, rewritten by what the changes that it owns give, and nothing else meets this.
 pub fn given_is_settled()

@@ -1,12 +1,16 @@
 -- What the laws of an editor speak of.
 --     asked_for               what a call asks for in the place of an element, which is nothing where it deletes it; no answer where it asks for nothing
 --     all_asked_for           what each of so many calls asks for, in their order
+--     copy_by                 the copy of an address by an editor's mappings, none where its factory keeps none
 --     lines_between           the lines between two newlines of a text
 --     IsRestorable            a text from which so many spaces can be taken away again after they were added
 --     HasRestorableTexts      each whitespace token of a tree that holds a newline has such a text
-use Rattle.std.specs.Prelude.{◌≡◌, ℕ, ◌-◌, ◌==◌, ◌&&◌, false, cond, nat_eq, List, drop, take, length, filter_map, Option, Some, None, All, IsTrue}
+use Rattle.std.specs.Prelude.{◌≡◌, ℕ, ◌-◌, ◌==◌, ◌&&◌, false, cond, nat_eq, List, [], drop, take, length, filter_map, Option, Some, None, unwrap_or, All, IsTrue}
 use Rattle.std.specs.List.{list_all, after_last, starts_with}
 use Rattle.cst_core.specs.Tree.{SyntaxTree, tokens}
+use Rattle.cst_core.specs.Element.{Address, Element}
+use Rattle.edit_map.specs.Mapping.{copy}
+use Rattle.syntax_editor.specs.Editor.{Editor}
 use Rattle.cst_core.specs.declared.element.SyntaxElement.{SyntaxElement}
 use Rattle.cst_core.specs.Kinds.{WHITESPACE}
 use Rattle.syntax_editor.specs.Recording.{are_one}
@@ -26,6 +30,10 @@ asked_for e (ReplacingAll first last fs) = None
 
 abbrev pub all_asked_for : SyntaxElement → List RecordCall → List (Option SyntaxElement)
 all_asked_for e calls = filter_map (asked_for e) calls
+
+-- ---- mappings
+abbrev pub copy_by : Editor → Address → Option Element
+copy_by e x = copy (unwrap_or e.factory []) x
 
 -- ---- texts
 abbrev pub lines_between : List ℕ → List (List ℕ)

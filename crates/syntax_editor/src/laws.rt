@@ -7,13 +7,16 @@ ghost use Rattle.cst_core.specs.Path.{last_item};
 ghost use Rattle.cst_core.specs.Tree.{SyntaxTree};
 ghost use Rattle.cst_core.specs.Element.{Address, Element};
 ghost use Rattle.cst_core.specs.declared.element.SyntaxElement.{SyntaxElement};
-ghost use Rattle.edit_map.specs.Mapping.{Mapping, copy};
 ghost use Rattle.edit_plan.specs.declared.change.Change.{Change};
-ghost use Rattle.syntax_editor.specs.Recording.{replacements_of, merged};
+ghost use Rattle.syntax_editor.specs.Recording.{replacements_of};
 ghost use Rattle.edit_plan.specs.Fits.{Fits};
 ghost use Rattle.syntax_editor.specs.RecordCall.{RecordCall, recorded, all_recorded, refusal};
+ghost use Rattle.syntax_editor.specs.Editor.{Editor};
+ghost use Rattle.syntax_editor.specs.Merging.{IsMerged};
 ghost use Rattle.syntax_editor.specs.Indentation.{indented, dedented};
-ghost use Rattle.syntax_editor.specs.Laws.{all_asked_for, HasRestorableTexts};
+ghost use Rattle.syntax_editor.specs.Laws.{all_asked_for, copy_by, HasRestorableTexts};
+
+use edit_map::laws::newer_copies_stand;
 
 /// Before any merge a list holds one Replace of an element at most. It is a deletion where a call deleted the element, and
 /// else brings what the last call asked for.
@@ -31,16 +34,22 @@ pub fn recorded_changes_fit()
         → refusal root call ≡ None → All (Fits root) changes → All (Fits root) (recorded call changes) }
 {}
 
-/// A merge puts the other's changes behind the own ones, and none takes another one up. It does the same with
+/// A merge puts the other's changes after the own ones, and none takes another one up. It does the same with
 /// registrations. Of an element that both map, the other's copy stands.
 pub fn merge_keeps_both()
-    ensures own_first { (own other : List Change) (i : ℕ) → i < length own → slice_get (merged own other) i ≡ slice_get own i }
-    ensures other_behind { (own other : List Change) (i : ℕ) → slice_get (merged own other) (length own + i) ≡ slice_get other i }
-    ensures none_taken_up { (e : SyntaxElement) (own other : List Change)
-        → replacements_of e (merged own other) ≡ replacements_of e own ++ replacements_of e other }
-    ensures registrations { (own other : List (Element × ℕ)) → merged own other ≡ own ++ other }
-    ensures copies { (own other : Mapping) (x : Address) → copy (other ++ own) x ≡ option_or (copy other x) (copy own x) }
-{}
+    ensures own_first { (own other new : Editor) (i : ℕ)
+        → IsMerged own other new → i < length own.changes → slice_get new.changes i ≡ slice_get own.changes i }
+    ensures other_after { (own other new : Editor) (i : ℕ)
+        → IsMerged own other new → slice_get new.changes (length own.changes + i) ≡ slice_get other.changes i }
+    ensures none_taken_up { (own other new : Editor) (e : SyntaxElement)
+        → IsMerged own other new → replacements_of e new.changes ≡ replacements_of e own.changes ++ replacements_of e other.changes }
+    ensures registrations { (own other new : Editor)
+        → IsMerged own other new → new.registrations ≡ own.registrations ++ other.registrations }
+    ensures copies { (own other new : Editor) (x : Address)
+        → IsMerged own other new → copy_by new x ≡ option_or (copy_by other x) (copy_by own x) }
+{
+    newer_copies_stand();
+}
 
 /// Dedenting an indented tree by the same level restores it.
 pub fn dedent_restores()

@@ -12,7 +12,7 @@ up-init c =
 pub up-smaller : goal.up-smaller
 up-smaller c =
     let above = rw c.in-Some.is at c.in_ok-slot.ensures in
-    let rising : IsRising c.args.self.now = rw (← c.self.view_is) (pairs-rise c.self.inside.copies.entries c.self.invariant) in
+    let rising : IsRising c.args.self.now = rw (← c.self.view_is) (pairs-rise c.self.inside.copies.entries c.self.invariant.pairs) in
     way-falls c.args.self.now rising (address c.up.node) (address c.in-Some.parent) c.in-Some.slot above
 
 pub up-preserved : goal.up-preserved
