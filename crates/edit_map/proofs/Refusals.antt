@@ -33,4 +33,4 @@ module _ (parent : Element) (inputs outputs : List Element) (enough : length inp
   first-refused NotYounger refused = (enough, found NotYounger refused)
   first-refused OtherShape refused = (enough, found OtherShape refused)
   first-refused MoreInputs refused = absurd refused
-  first-refused Memory refused = tt
+  first-refused Memory refused = enough

@@ -58,12 +58,13 @@ pub record IsPairUnder (parent : Element) (pair : Element × Element) : Type 0 w
 abbrev pub ArePairsUnder : Builder → Type 0
 ArePairsUnder b = All (IsPairUnder b.parent) b.pairs
 
+-- The tests of a pair take no memory, so want of it is answered of a pair that passes them alone.
 abbrev pub RefusesPair : Element → Element × Element → MapError → Type 0
 RefusesPair parent pair NotAChild = IsChild parent pair.1 → ⊥
 RefusesPair parent pair NotYounger = IsChild parent pair.1 × (pair.1.number ≤ pair.0.number)
 RefusesPair parent pair OtherShape = IsChild parent pair.1 × (pair.0.number < pair.1.number) × (SameShape (subtree pair.0) (subtree pair.1) → ⊥)
 RefusesPair parent pair MoreInputs = ⊥
-RefusesPair parent pair Memory = Unit {0}
+RefusesPair parent pair Memory = IsPairUnder parent pair
 
 pub record RefusesFirst (parent : Element) (pairs : List (Element × Element)) (e : MapError) : Type 0 where
   pub before : List (Element × Element)
@@ -81,4 +82,4 @@ RefusesChildren parent inputs outputs NotAChild = refuses_one parent inputs outp
 RefusesChildren parent inputs outputs NotYounger = refuses_one parent inputs outputs NotYounger
 RefusesChildren parent inputs outputs OtherShape = refuses_one parent inputs outputs OtherShape
 RefusesChildren parent inputs outputs MoreInputs = length outputs < length inputs
-RefusesChildren parent inputs outputs Memory = Unit {0}
+RefusesChildren parent inputs outputs Memory = length inputs ≤ length outputs

@@ -116,8 +116,8 @@ impl SyntaxMappingBuilder {
     /// Says of each input, in order, that the output at the same place is its copy. Outputs that are left over count for
     /// nothing.
     ///
-    /// `MoreInputs` comes first, where there are more inputs than outputs; then, pair by pair, the refusals of `map_node`.
-    /// The builder is unchanged after each.
+    /// `MoreInputs` comes first, where there are more inputs than outputs; then, pair by pair, the refusals of `map_node`,
+    /// of which `Memory` may come before another one that a later pair would have. The builder is unchanged after each.
     pub fn map_children(
         &mut self,
         alloc: Global,

@@ -1,4 +1,4 @@
-ghost use Rattle.std.specs.Prelude.{◌≡◌, [], ◌++◌, IfOk, OnOk, OnErr, reverse, option_map, MatchOption};
+ghost use Rattle.std.specs.Prelude.{◌≡◌, length, [], ◌++◌, IfOk, OnOk, OnErr, reverse, option_map, MatchOption};
 ghost use Rattle.cst_core.specs.Element.{address};
 ghost use Rattle.edit_map.specs.Mapping.{IsPlace, copied};
 ghost use Rattle.edit_map.specs.Building.{IsMadeOf, ArePairs, IsMapping};
@@ -42,6 +42,14 @@ impl SyntaxMapping {
         SyntaxMapping {
             copies: HashMap::new(alloc),
         }
+    }
+
+    /// How many nodes are mapped.
+    pub fn len(&self) -> usize
+        ensures count { result ≡ length self.now }
+        ensures is_mapping { IsMapping self.now }
+    {
+        self.copies.len()
     }
 
     /// Takes up the pairs of a builder, which stand where this mapping has other ones.

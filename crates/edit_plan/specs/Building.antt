@@ -17,6 +17,7 @@ use Rattle.edit_plan.specs.Codes.{syntax_element_code}
 use Rattle.edit_plan.specs.ChangeCodes.{change_code}
 use Rattle.edit_plan.specs.Fits.{Fits}
 use Rattle.edit_map.specs.Mapping.{Mapping}
+use Rattle.edit_map.specs.Building.{IsMapping}
 use Rattle.edit_plan.specs.Nesting.{first_clash}
 use Rattle.edit_plan.specs.Rewriting.{OriginTree, plain, is_free, new_tree}
 use Rattle.edit_plan.specs.Results.{changed, annotated, paths_with}
@@ -41,6 +42,7 @@ pub record IsPlan (p : Plan) : Type 0 where
   pub is_node : IsNode p.root
   pub fit : All (Fits p.root) p.changes
   pub apart : first_clash p.changes ≡ None
+  pub mapping_is : IsMapping p.mapping
   pub places : ℕ → Path
   pub placed : ArePlaces p.mapping p.changes places
 

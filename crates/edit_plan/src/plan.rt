@@ -62,6 +62,8 @@ impl EditPlan {
         ensures planned { IfOk result IsPlan }
         ensures refused { IfErr result (BuildRefuses (record { root = root; changes = changes.items; registrations = registrations.items; mapping = mapping })) }
     {
+        // What is true of every mapping.
+        let _ = mapping.len();
         let index = TargetIndex::of(alloc, &changes)?;
         let fates = fates(alloc, &index, &changes)?;
         let places = places(alloc, &changes, &fates, &mapping)?;

@@ -26,4 +26,4 @@ pub record IsMerged (own other new : Editor) : Type 0 where
 
 abbrev pub MergeRefuses : Editor → Editor → MergeError → Type 0
 MergeRefuses own other OtherRoot = AreMergeable own other → ⊥
-MergeRefuses own other Memory = Unit {0}
+MergeRefuses own other Memory = AreMergeable own other

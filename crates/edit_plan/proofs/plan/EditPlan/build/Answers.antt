@@ -15,6 +15,7 @@ invariant_of-result c =
         is_node = search rules;
         fit = c.requires.fit;
         apart = ap first_clash (sym c.deref.ensures.value) ∙ c.in_ok-index.ensures.apart;
+        mapping_is = c.len.ensures.is_mapping;
         places = places_in c.in_ok-places.places.items;
         placed = placed;
       };
@@ -31,6 +32,7 @@ returns-clause-planned c =
       is_node = search rules;
       fit = c.requires.fit;
       apart = ap first_clash (sym c.deref.ensures.value) ∙ c.in_ok-index.ensures.apart;
+      mapping_is = c.len.ensures.is_mapping;
       places = places_in c.in_ok-places.places.items;
       placed = subst (λ ds. ArePlaces c.args.mapping ds (places_in c.in_ok-places.places.items)) c.deref-3.ensures.value c.in_ok-places.ensures.placed;
     }
