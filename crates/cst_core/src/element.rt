@@ -15,8 +15,8 @@ use green_tree::{GreenElement, GreenElementRef, GreenNode, SyntaxKind};
 use std::alloc::{AllocError, Global};
 use std::hash::{Hash, Hasher};
 
-/// A value that stands for a node or a token of a tree. Values are equal, and hash alike, exactly if number and path
-/// are.
+/// A value that stands for a node or a token of a tree. Values are equal exactly if number and path are, and equal values
+/// hash alike.
 #[derive(Drop)]
 pub enum SyntaxElement {
     Node(SyntaxNode),

@@ -19,7 +19,7 @@ use std::hash::{Hash, Hasher};
 use std::marker::Model;
 
 /// A value that stands for a node of a tree: the number of the tree, the tree, and the child slots on the way to the
-/// node. Values are equal, and hash alike, exactly if number and path are.
+/// node. Values are equal exactly if number and path are, and equal values hash alike.
 #[derive(Drop)]
 pub struct SyntaxNode {
     pub(crate) location: Location,

@@ -3,8 +3,8 @@ ghost use Rattle.edit_plan.specs.Annotation.{annotation_after};
 
 use std::marker::Model;
 
-/// A mark that elements are registered with, to be found again in the new tree. Two are equal, hash alike and stand at one place
-/// of the order exactly if their numbers are equal.
+/// A mark that elements are registered with, to be found again in the new tree. Two are equal, and stand at one place of the
+/// order, exactly if their numbers are equal; equal ones hash alike.
 #[derive(Debug, Clone, Copy, PartialEq, Eq, PartialOrd, Ord, Hash)]
 pub struct SyntaxAnnotation {
     number: u32,

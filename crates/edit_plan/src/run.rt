@@ -217,7 +217,8 @@ impl EditPlan {
 
     /// Carries the plan out: the new tree under the next number of `ids`, and its changed elements.
     ///
-    /// `TooLong` comes first, then `NoTreeNumber`, then `Memory`; none of them draws a number. The old tree is as it was.
+    /// `TooLong` comes first, then `NoTreeNumber`; `Memory` may come at any time. None of them draws a number, and the old tree is
+    /// as it was.
     pub fn run(&self, alloc: Global, ids: &mut TreeIds) -> Result<SyntaxEdit, EditError>
         ensures ok { IfOk result (Makes self.now ids.old) }
         ensures short { IfOk result (λ e. text_length e.new_root.root < length_limit) }

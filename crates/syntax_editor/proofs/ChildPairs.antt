@@ -5,20 +5,25 @@
 --     all_at                       what is true of all pairs is true of one
 --     nodes_in                     the pairs of two nodes
 --     enough, no_stranger, no_other_shape, behind, ahead      what a builder makes of them
-use Rattle.std.specs.Prelude.{◌≡◌, ◌≢◌, ℕ, zero, suc, ◌<◌, ◌≤◌, ◌&&◌, not, nat_eq, nat_le, Bool, true, false, All, List, [], ◌∷◌, ◌++◌, length, map, filter_map, slice_get, zip, Option, Some, None, option_map, option_and_then, unwrap_or, refl}
+--     comes, along                 what it can refuse them for, and why a node is not indented then
+use Rattle.std.specs.Prelude.{◌≡◌, ◌≢◌, ℕ, zero, suc, ◌<◌, ◌≤◌, ◌&&◌, not, nat_eq, nat_le, Bool, true, false, All, List, [], ◌∷◌, ◌++◌, length, map, filter_map, slice_get, zip, Option, Some, None, option_map, option_and_then, unwrap_or, IsSome, refl}
 use Rattle.std.specs.List.{AllByRecursion}
 use Rattle.std.proofs.Common.{ap, ap₂, sym, ◌∙◌, subst, arith}
 use Rattle.std.proofs.lemmas.Bool.Decides.{nat_tests}
+use Rattle.std.proofs.lemmas.Option.{same_Some}
 use Rattle.std.proofs.lemmas.List.Elements.{recursion_from_All}
 use Rattle.cst_core.specs.Path.{Path, parent_path, counted_from}
 use Rattle.cst_core.specs.Tree.{Forest, Token, Node, end, more, SyntaxTree, at, is_token, children, trees, without_texts, forest_without_texts, SameShape}
 use Rattle.cst_core.specs.Element.{Element, IsNode, IsChild, below, subtree}
 use Rattle.cst_core.specs.SyntaxElement.{node_of, syntax_as, syntax_of, child_nodes}
 use Rattle.cst_core.specs.declared.element.SyntaxElement.{SyntaxElement}
-use Rattle.edit_map.specs.Building.{IsPairUnder, RefusesFirst}
+use Rattle.edit_map.specs.Building.{IsPairUnder, RefusesFirst, RefusesChildren}
 use Rattle.edit_map.specs.declared.map_error.MapError.{MapError}
-use Rattle.edit_map.specs.declared.map_error.MapError.TheVariants.{NotAChild, NotYounger, OtherShape}
-use Rattle.syntax_editor.specs.MappedAlong.{is_behind}
+use Rattle.edit_map.specs.declared.map_error.MapError.TheVariants.{NotAChild, NotYounger, OtherShape, MoreInputs, Memory}
+use Rattle.syntax_editor.specs.MappedAlong.{is_behind, AlongRefuses}
+use Rattle.syntax_editor.specs.Refusal.{of_pairs}
+use Rattle.syntax_editor.specs.declared.indent_error.IndentError.{IndentError}
+use Rattle.syntax_editor.specs.declared.indent_error.IndentError.TheVariants as indent
 use Rattle.syntax_editor.specs.Indentation.{with_texts, forest_with_texts}
 
 mutual
@@ -228,3 +233,18 @@ module _ (old new : Element) where
     ahead taken =
         subst (λ zs. (not (nat_eq (length zs) 0) && nat_le new.number old.number) ≡ false) is_in
         (risen xs ys count all (recursion_from_All (IsPairUnder new) (zip xs ys) (subst (λ p. All (IsPairUnder p) (zip xs ys)) is_parent taken)))
+
+    -- what a builder can refuse them for, as why a node is not indented with a mapping
+    pub comes : (e : MapError) → RefusesChildren parent xs ys e → IsSome (of_pairs e)
+    comes NotAChild r = absurd (no_stranger r.1)
+    comes NotYounger r = refl
+    comes OtherShape r = absurd (no_other_shape r.1)
+    comes MoreInputs r = absurd (enough r)
+    comes Memory r = refl
+
+    pub along : (e : MapError) (f : IndentError) → RefusesChildren parent xs ys e → of_pairs e ≡ Some f → AlongRefuses (is_behind old new.number) f
+    along NotAChild f r is = absurd (no_stranger r.1)
+    along NotYounger f r is = subst (AlongRefuses (is_behind old new.number)) (same_Some indent.NotYounger f is) (behind r.1)
+    along OtherShape f r is = absurd (no_other_shape r.1)
+    along MoreInputs f r is = absurd (enough r)
+    along Memory f r is = subst (AlongRefuses (is_behind old new.number)) (same_Some indent.Memory f is) tt

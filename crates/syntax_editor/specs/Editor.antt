@@ -2,9 +2,9 @@
 --     Editor, IsEditor              the root that is edited, the changes recorded so far, the registrations (elements with annotations) and the factory's mappings; what is true of every editor
 --     factory_code                  the code of a factory's mappings
 --     edited_root                   the root that a new editor edits, and whether it is one of a tree of its own that is made for it
---     Records, RecordRefuses        what a call that records leaves behind; why it is refused
+--     after_call, RecordRefuses     what a call that records leaves behind; why it is refused
 --     registered, annotated         an editor with more registrations, behind those before; each of so many elements with an annotation
---     FinishRefuses                 why an editor's changes are not carried out
+--     plan_of, FinishRefuses        the plan of an editor; why its changes are not carried out
 use Rattle.std.specs.Prelude.{◌≡◌, ℕ, Bool, true, false, cond, List, [], ◌++◌, map, Option, Some, unwrap_or, All, refl}
 use Rattle.std.specs.Coded.{Coded, code_by, coded_ℕ, coded_list, coded_option, coded×}
 use Rattle.cst_core.specs.Element.{Element, subtree, element_code}

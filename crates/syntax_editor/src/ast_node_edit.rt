@@ -29,7 +29,7 @@ pub trait AstNodeEdit: AstNode {
 
     /// The node indented by a level: spaces stand behind the text of each whitespace token that holds a newline.
     ///
-    /// `TooLong` comes first, where the new text passes 4,294,967,295 bytes, then `NoTreeNumber`, then `Memory`.
+    /// `TooLong` comes first, where the new text passes 4,294,967,295 bytes, then `NoTreeNumber`; `Memory` may come at any time.
     fn indent(
         &self,
         alloc: Global,
@@ -81,7 +81,7 @@ pub trait AstNodeEdit: AstNode {
     /// The node indented by a level, as `indent` makes it. Where the factory keeps mappings, each child node of the new node is
     /// mapped as the copy of the child node of this one at the same place.
     ///
-    /// `TooLong` comes first, then `NoTreeNumber`, then `NotYounger`, then `Memory`. `NotYounger` comes where the factory keeps
+    /// `TooLong` comes first, then `NoTreeNumber`, then `NotYounger`; `Memory` may come at any time. `NotYounger` comes where the factory keeps
     /// mappings, this node has a child node and the number drawn is not greater than its own; one number is spent then, and
     /// none by any other refusal. The mappings are unchanged after each.
     fn indent_with_mapping(

@@ -106,7 +106,7 @@ impl SyntaxEditor {
 
     /// A plan of the changes, which can be carried out as it is. It keeps the registrations.
     ///
-    /// `Intersecting` comes first, then `MissingMapping`; else only `Memory` comes. Nothing is handed back then.
+    /// `Intersecting` comes first, then `MissingMapping`; `Memory` may come at any time. Nothing is handed back then.
     pub fn plan(self, alloc: Global) -> Result<EditPlan, EditError>
         ensures ok { IfOk result (λ p. p ≡ plan_of self) }
         ensures planned { IfOk result IsPlan }
@@ -119,8 +119,8 @@ impl SyntaxEditor {
 
     /// Carries the changes out: the new tree under the next number of `ids`, with its changed elements.
     ///
-    /// `Intersecting` comes first, then `MissingMapping`, then `TooLong`, then `NoTreeNumber`, then `Memory`. None of them draws a
-    /// number, and nothing is handed back; the old tree is as it was.
+    /// `Intersecting` comes first, then `MissingMapping`, then `TooLong`, then `NoTreeNumber`; `Memory` may come at any time. None
+    /// of them draws a number, and nothing is handed back; the old tree is as it was.
     pub fn finish(self, alloc: Global, ids: &mut TreeIds) -> Result<SyntaxEdit, EditError>
         ensures planned { OnOk result (IsPlan (plan_of self)) }
         ensures ok { IfOk result (Makes (plan_of self) ids.old) }

@@ -16,7 +16,7 @@ use cst_core::{
     GreenElement, GreenNode, GreenToken, LENGTH_LIMIT, SyntaxKind, SyntaxNode, SyntaxToken,
     TreeError, TreeIds,
 };
-use edit_map::{MapError, SyntaxMapping, SyntaxMappingBuilder};
+use edit_map::{SyntaxMapping, SyntaxMappingBuilder};
 use std::alloc::{AllocError, Global};
 use std::marker::Model;
 
@@ -163,7 +163,9 @@ fn whitespace_root(alloc: Global, number: u64, text: &str) -> Result<SyntaxNode,
     let green = whitespace_green(alloc, text)?;
     match SyntaxNode::new_root(alloc, &mut TreeIds::new(number), green) {
         Ok(root) => Ok(root),
-        Err(_) => Err(AllocError),
+        Err(TreeError::TooLong) => unreachable!(),
+        Err(TreeError::NoTreeNumber) => unreachable!(),
+        Err(TreeError::Memory) => Err(AllocError),
     }
 }
 
@@ -172,8 +174,11 @@ fn whitespace_green(alloc: Global, text: &str) -> Result<GreenNode, AllocError>
     requires { length text.now < length_limit }
     ensures { IfOk result (λ n. branch_tree n ≡ whitespace_tree text.now) }
 {
-    let Ok(token) = GreenToken::new(alloc, SyntaxKind::WHITESPACE, text) else {
-        return Err(AllocError);
+    let token = match GreenToken::new(alloc, SyntaxKind::WHITESPACE, text) {
+        Ok(token) => token,
+        Err(TreeError::TooLong) => unreachable!(),
+        Err(TreeError::NoTreeNumber) => unreachable!(),
+        Err(TreeError::Memory) => return Err(AllocError),
     };
     let mut children = Vec::new(alloc);
     children.push(GreenElement::Token(token))?;
@@ -214,10 +219,6 @@ fn children_builder(
     let mut builder = SyntaxMappingBuilder::new(alloc, new.try_clone(alloc)?);
     match builder.map_children(alloc, &inputs, &outputs) {
         Ok(()) => Ok(builder),
-        Err(MapError::NotYounger) => Err(IndentError::NotYounger),
-        Err(MapError::Memory) => Err(IndentError::Memory),
-        Err(MapError::NotAChild) => unreachable!(),
-        Err(MapError::OtherShape) => unreachable!(),
-        Err(MapError::MoreInputs) => unreachable!(),
+        Err(error) => Err(IndentError::of_pairs(error)),
     }
 }

@@ -1,4 +1,8 @@
+ghost use Rattle.std.specs.Prelude.{◌≡◌, Some, IsSome};
+ghost use Rattle.syntax_editor.specs.Refusal.{of_pairs};
+
 use cst_core::TreeError;
+use edit_map::MapError;
 use std::alloc::AllocError;
 use thiserror::Error;
 
@@ -44,6 +48,22 @@ impl From<TreeError> for IndentError {
             TreeError::TooLong => IndentError::TooLong,
             TreeError::NoTreeNumber => IndentError::NoTreeNumber,
             TreeError::Memory => IndentError::Memory,
+        }
+    }
+}
+
+impl IndentError {
+    /// Why a node is not indented with a mapping where the pairs of its child nodes and their copies were not taken up.
+    pub(crate) fn of_pairs(error: MapError) -> IndentError
+        requires { IsSome (of_pairs error) }
+        ensures { of_pairs error ≡ Some result }
+    {
+        match error {
+            MapError::NotAChild => unreachable!(),
+            MapError::NotYounger => IndentError::NotYounger,
+            MapError::OtherShape => unreachable!(),
+            MapError::MoreInputs => unreachable!(),
+            MapError::Memory => IndentError::Memory,
         }
     }
 }

@@ -34,8 +34,8 @@ fn shifted_root(
 /// The node indented by a level, as the root of a tree of its own under the next number of `ids`: spaces stand behind the
 /// text of each whitespace token that holds a newline. What holds no such token is shared.
 ///
-/// `TooLong` comes first, where the new text passes 4,294,967,295 bytes, then `NoTreeNumber`, then `Memory`. None of them
-/// draws a number.
+/// `TooLong` comes first, where the new text passes 4,294,967,295 bytes, then `NoTreeNumber`; `Memory` may come at any time.
+/// None of them draws a number.
 pub fn indent(
     alloc: Global,
     node: &SyntaxNode,

@@ -265,8 +265,8 @@ impl SyntaxEditor {
     /// one insert. No elements are an insert too, without whitespace.
     ///
     /// Each whitespace token is in a tree of its own, under the next number of `ids`. `Foreign` comes first, where the position
-    /// is of another tree, then `LevelTooLarge`, where a new line would have a level past 255, then `NoTreeNumber`, then
-    /// `Memory`. The editor is unchanged after each, and no number is drawn.
+    /// is of another tree, then `LevelTooLarge`, where a new line would have a level past 255, then `NoTreeNumber`; `Memory` may come
+    /// after the first test at any time. The editor is unchanged after each, and no number is drawn.
     pub fn insert_all_with_whitespace(
         &mut self,
         alloc: Global,
