@@ -16,8 +16,8 @@ of_pairs-requires c =
     let parent : c.new-builder.result.parent ≡ c.args.new.now = ap (λ b. b.parent) c.new-builder.ensures.empty ∙ c.in_ok-try_clone.ensures in
     comes c.args.old.now c.args.new.now c.new-builder.result.parent c.deref.result.now c.deref-2.result.now parent (c.deref.ensures.value ∙ c.in_ok-inputs.ensures) (c.deref-2.ensures.value ∙ c.in_ok-outputs.ensures) pairs c.in-Err.error c.in-Err.ensures.refused
 
-pub returns-in-Err-clause-refused : goal.returns-in-Err-clause-refused
-returns-in-Err-clause-refused c =
+pub returns-clause-refused : goal.returns-clause-refused
+returns-clause-refused c =
     let pairs : InPairs c.args.old.now c.args.new.now (child_nodes c.args.old.now) (child_nodes c.args.new.now) = nodes_in c.args.old.now c.args.new.now c.kind.ensures.form c.kind-2.ensures.form c.requires in
     let parent : c.new-builder.result.parent ≡ c.args.new.now = ap (λ b. b.parent) c.new-builder.ensures.empty ∙ c.in_ok-try_clone.ensures in
     along c.args.old.now c.args.new.now c.new-builder.result.parent c.deref.result.now c.deref-2.result.now parent (c.deref.ensures.value ∙ c.in_ok-inputs.ensures) (c.deref-2.ensures.value ∙ c.in_ok-outputs.ensures) pairs c.in-Err.error c.of_pairs.result c.in-Err.ensures.refused c.of_pairs.ensures
