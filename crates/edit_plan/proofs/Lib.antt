@@ -42,3 +42,4 @@ mod FirstNode
 mod FoundNodes
 mod ByAnnotation
 mod Told
+mod ToldTarget
