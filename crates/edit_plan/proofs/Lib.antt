@@ -44,3 +44,4 @@ mod ByAnnotation
 mod Told
 mod Rooted
 mod Counted
+mod ToldTarget

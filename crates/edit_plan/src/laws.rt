@@ -17,7 +17,7 @@ ghost use Rattle.edit_plan.specs.Nesting.{owner, region};
 ghost use Rattle.rewriting.specs.Rewriting.{NumberedAim, gap, rewritten};
 ghost use Rattle.edit_plan.specs.Rewriting.{Origin, OriginTree, origin, plain, aims_of, payload_of, is_free, given, Gives, new_tree};
 ghost use Rattle.edit_plan.specs.Results.{changed};
-ghost use Rattle.edit_plan.specs.Plan.{HasPlace, IsRewriting};
+ghost use Rattle.edit_plan.specs.Plan.{HasPlace, elements_held, IsRewriting};
 ghost use Rattle.edit_plan.specs.Schedule.{undropped};
 ghost use Rattle.edit_plan.specs.Laws.{StandsThere, IsUntouched, brought_text, text_filled};
 
@@ -35,7 +35,7 @@ pub fn untouched_stays()
         → IsUntouched cs p → plain (rewritten (origin from change) given cs p t) ≡ t }
 {}
 
-/// Where equal numbers have equal trees, a change has a place in its owner's payload exactly where something stands for the
+/// Where equal numbers have equal trees, as where those of a plan have, a change has a place in its owner's payload exactly where something stands for the
 /// owner's target. The exception is an insert after the target itself, which has none at the empty path.
 pub fn place_stands_for_the_target()
     ensures at_a_path { (m : Mapping) (target payload : SyntaxElement) (c : Change) (p : Path)
@@ -46,6 +46,11 @@ pub fn place_stands_for_the_target()
         → ArePairs m → IsElement (element_of target)
         → NumbersTell (element_of payload ∷ element_of target ∷ mapped_elements m)
         → ((p : Path) × HasPlace m (Replace target (Some payload)) c p) ↔ ((p : Path) × StandsThere m target payload c p) }
+    ensures in_a_plan { (root : Element) (changes : List Change) (registrations : List (Element × ℕ)) (m : Mapping)
+        → ArePairs m → NumbersTell (elements_held root changes registrations m)
+        → (owner : ℕ) (target payload : SyntaxElement)
+        → slice_get changes owner ≡ Some (Replace target (Some payload)) → IsElement (element_of target)
+        → (c : Change) (p : Path) → HasPlace m (Replace target (Some payload)) c p ↔ StandsThere m target payload c p }
 {
     place_keeps_the_shape();
 }

@@ -1,7 +1,12 @@
 use Rattle.std.proofs.Common.{Option, Some, None, IsSome, IsSomeAnd, refl}
+use Rattle.std.proofs.lemmas.List.{append_assoc}
+use Rattle.std.proofs.Common.{subst, map, flat_map, ◌∷◌}
 use Rattle.cst_core.specs.Tree.{SyntaxTree, at, SameShape}
-use Rattle.cst_core.specs.Element.{subtree}
+use Rattle.cst_core.specs.Element.{subtree, NumbersTell}
 use Rattle.cst_core.specs.SyntaxElement.{element_of}
+use Rattle.edit_map.specs.Mapping.{mapped_elements}
+use Rattle.edit_plan.specs.Change.{elements}
+use Rattle.edit_plan.proofs.ToldTarget.{told-target}
 use Rattle.edit_plan.proofs.laws.place_stands_for_the_target.Goals as goal
 
 there : (o : Option SyntaxTree) (t : SyntaxTree) → IsSomeAnd o (SameShape t) → IsSome o
@@ -19,3 +24,8 @@ returns-clause-at_some_path c m target payload change pairs is tell = (
   λ some. (some.0, (returns-clause-at_a_path c m target payload change some.0 pairs is tell).0 some.1),
   λ some. (some.0, (returns-clause-at_a_path c m target payload change some.0 pairs is tell).1 some.1),
 )
+
+pub returns-clause-in_a_plan : goal.returns-clause-in_a_plan
+returns-clause-in_a_plan c root changes registrations m pairs tell owner target payload at is change p =
+    let told : NumbersTell (element_of payload ∷ element_of target ∷ mapped_elements m) = told-target root (map (λ r. r.0) registrations) (mapped_elements m) changes owner target payload (subst (λ es. NumbersTell (root ∷ es)) (append_assoc (flat_map elements changes) (map (λ r. r.0) registrations) (mapped_elements m)) tell) at in
+    returns-clause-at_a_path c m target payload change p pairs is told
