@@ -1,14 +1,17 @@
 /* Stands before the C library in a program whose growths are refused one at a time: the one with the number in
-   REFUSE_GROWTH, counted from 1, gets no memory, and one line on standard error says so. */
+   REFUSE_GROWTH, counted from 1, gets no memory, and one line on standard error says so. Where COUNT_GROWTHS is set, a line
+   says at the end how many growths there were. */
 #define _GNU_SOURCE
 #include <dlfcn.h>
 #include <stddef.h>
+#include <stdio.h>
 #include <stdlib.h>
 #include <unistd.h>
 
+static long seen = 0;
+
 static long refused(void) {
     static long wanted = -1;
-    static long seen = 0;
     if (wanted < 0) {
         const char *number = getenv("REFUSE_GROWTH");
         wanted = number ? atol(number) : 0;
@@ -32,4 +35,9 @@ void *realloc(void *block, size_t size) {
     if (!next)
         next = (void *(*)(void *, size_t))dlsym(RTLD_NEXT, "realloc");
     return refused() ? NULL : next(block, size);
+}
+
+__attribute__((destructor)) static void tell(void) {
+    if (getenv("COUNT_GROWTHS"))
+        dprintf(2, "growths %ld\n", seen);
 }

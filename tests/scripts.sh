@@ -110,6 +110,7 @@ ends_of_lines() {
     printf '\n' >"$room/script" && is_bad 2 'one newline'
     printf '%s\nfinish\n\377' "$opening" >"$room/script" && is_bad 0 'no text behind the end'
     printf 'no\n\300\200\n' >"$room/script" && is_bad 0 'no text behind a bad line'
+    printf '%s\ndelete R\n# \377\n' "$opening" >"$room/script" && is_bad 0 'no text after a refused call'
     printf '# \355\240\200\n' >"$room/script" && is_bad 0 'half a pair in a comment'
     printf '# \303' >"$room/script" && is_bad 0 'half a character'
 }

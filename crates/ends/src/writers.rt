@@ -2,21 +2,28 @@
 
 use crate::reader::FailingReader;
 use crate::report::Report;
-use crate::script::{ANSWER, SCRIPT};
+use crate::script::Script;
 use crate::writer::{FailingWriter, Full};
 use std::alloc::Global;
 use std::io;
 use std::io::ErrorKind;
 use syned_run::run;
 
-pub fn try_all<R: Print>(rt: &R, alloc: Global, report: &mut Report) -> io::Result<()> {
+pub fn try_all<R: Print>(
+    rt: &R,
+    alloc: Global,
+    report: &mut Report,
+    script: &Script,
+) -> io::Result<()> {
     let fails = Full::Fails(ErrorKind::Other);
     let is_interrupted = Full::Fails(ErrorKind::Interrupted);
-    try_writer(rt, alloc, report, "writer that fails", fails)?;
+    let takes_nothing = Full::TakesNothing;
+    try_writer(rt, alloc, report, script, "writer that fails", fails)?;
     try_writer(
         rt,
         alloc,
         report,
+        script,
         "writer that is interrupted",
         is_interrupted,
     )?;
@@ -24,8 +31,9 @@ pub fn try_all<R: Print>(rt: &R, alloc: Global, report: &mut Report) -> io::Resu
         rt,
         alloc,
         report,
+        script,
         "writer that takes nothing",
-        Full::TakesNothing,
+        takes_nothing,
     )
 }
 
@@ -34,25 +42,29 @@ fn try_writer<R: Print>(
     rt: &R,
     alloc: Global,
     report: &mut Report,
+    script: &Script,
     kind: &str,
     full: Full,
 ) -> io::Result<()> {
-    let answer = ANSWER.as_bytes();
+    let answer = script.answer.as_bytes();
     for limit in 0..answer.len() {
-        let (status, taken) = run_with(alloc, limit, full);
+        let (status, taken) = run_with(alloc, script.text, limit, full);
         let is_right = status == 3 && taken.as_slice() == &answer[..limit];
         report.note(rt, kind, limit, is_right)?;
     }
-    let (status, taken) = run_with(alloc, answer.len(), full);
+    let (status, taken) = run_with(alloc, script.text, answer.len(), full);
     let is_right = status == 0 && taken.as_slice() == answer;
     report.note(rt, kind, answer.len(), is_right)?;
     let bytes = answer.len();
-    println!(rt; "{kind}: status 3 and a beginning at each of {bytes} bytes")
+    println!(rt;
+        "{}: {kind}: status 3 and a beginning at each of {bytes} bytes",
+        script.name
+    )
 }
 
-fn run_with(alloc: Global, limit: usize, full: Full) -> (u8, Vec<u8>) {
+fn run_with(alloc: Global, script: &str, limit: usize, full: Full) -> (u8, Vec<u8>) {
     let mut reader = FailingReader {
-        rest: SCRIPT.as_bytes(),
+        rest: script.as_bytes(),
         reads: usize::MAX,
         error: ErrorKind::Other,
     };

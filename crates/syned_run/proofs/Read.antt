@@ -2,7 +2,9 @@
 use Rattle.std.proofs.Common.{◌≡◌, ℕ, ◌≤◌, ◌+◌, arith, length-append, List, ◌++◌, None, Some, Option, IfSome, length, take, sym, ap, ◌∙◌, append_assoc, append-nil}
 use Rattle.std.proofs.Math.Seq.{take-append_seam}
 use Rattle.std.proofs.lemmas.List.{take_all}
+use Rattle.std.proofs.KnownBytes.{Consumes-trans}
 use Rattle.std.specs.Io.KnownBytes.{Consumes, IsAtEnd}
+use Rattle.syned_run.specs.Ends.{TakesAtMost}
 
 -- all of it
 pub read_whole : (a b : Option (List ℕ)) (bs : List ℕ) (k : ℕ) → Consumes a b bs → IsAtEnd b → length bs ≤ k → IfSome a (λ all. bs ≡ take k all)
@@ -18,11 +20,11 @@ read_enough None b bs k read long = tt
 read_enough (Some x) None bs k read long = absurd read
 read_enough (Some x) (Some y) bs k read long = sym (ap (take k) read ∙ ap (λ n. take n (bs ++ y)) (sym long) ∙ take-append_seam bs y)
 
-pub Consumes-trans : (a b c : Option (List ℕ)) (bs cs : List ℕ) → Consumes a b bs → Consumes b c cs → Consumes a c (bs ++ cs)
-Consumes-trans None b c bs cs p q = tt
-Consumes-trans (Some x) None c bs cs p q = absurd p
-Consumes-trans (Some x) (Some y) None bs cs p q = absurd q
-Consumes-trans (Some x) (Some y) (Some z) bs cs p q = p ∙ ap (λ l. bs ++ l) q ∙ sym (append_assoc bs cs z)
+-- what several reads took, and then one more
+pub takes_more : (a b c : Option (List ℕ)) (bs : List ℕ) (k n : ℕ) → Consumes a b bs → TakesAtMost b c k → length bs + k ≤ n → TakesAtMost a c n
+takes_more a b c bs k n read (bytes, consumed, fits) room =
+    let long : length (bs ++ bytes) ≡ length bs + length bytes = length-append bs bytes in
+    (bs ++ bytes, Consumes-trans a b c bs bytes read consumed, omega arith)
 
 -- a read of no byte adds none
 pub no_longer : (old new bytes : List ℕ) (n k : ℕ) → new ≡ old ++ bytes → length bytes ≡ n → n ≡ 0 → length old ≤ k → length new ≤ k

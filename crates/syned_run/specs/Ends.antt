@@ -1,6 +1,10 @@
--- What a read adds to what was read before.
+-- What a read adds to what was read before, and how much of a reader reads take.
 use Rattle.std.specs.Prelude.{◌≡◌, ℕ, ◌≤◌, List, ◌++◌, length, Option}
 use Rattle.std.specs.Io.KnownBytes.{Consumes, IsAtEnd}
+
+-- of a reader's bytes, where these are known, a front of at most so many as the limit was taken
+abbrev pub TakesAtMost : Option (List ℕ) → Option (List ℕ) → ℕ → Type 0
+TakesAtMost left left' limit = (bytes : List ℕ) × Consumes left left' bytes × (length bytes ≤ limit)
 
 -- n bytes of a reader, at most so many as the limit, went to the end of what was there; none only at the reader's end
 pub record ReadsOn (left left' : Option (List ℕ)) (old new : List ℕ) (limit n : ℕ) : Type 0 where

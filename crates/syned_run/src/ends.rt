@@ -1,14 +1,14 @@
 //! The ends of a run: what is read and what is written.
 ghost use Rattle.std.specs.Prelude.{ℕ, ◌≡◌, ◌+◌, ◌<◌, IfOk, OnOk, IfSome, take};
-ghost use Rattle.std.specs.Io.KnownBytes.{Appends};
-ghost use Rattle.syned_run.specs.Ends.{ReadsOn};
+ghost use Rattle.std.specs.Io.KnownBytes.{Appends, Consumes};
+ghost use Rattle.syned_run.specs.Ends.{ReadsOn, TakesAtMost};
 
 use std::alloc::{AllocError, Global};
 use std::io;
 use std::io::{Read, Write};
 
 /// How many bytes a script has at most.
-pub(crate) const SCRIPT_LIMIT: usize = 1_048_576;
+pub const SCRIPT_LIMIT: usize = 1_048_576;
 
 // How many bytes are asked for at once.
 const BLOCK: usize = 4096;
@@ -29,10 +29,12 @@ impl From<AllocError> for EndFailed {
     }
 }
 
-/// All bytes up to the reader's end, or up to one byte more than a script may have. A read that is interrupted has
-/// failed.
+/// All bytes up to the reader's end, or up to one byte more than a script may have; what comes after them stays in the
+/// reader. A read that is interrupted has failed.
 pub(crate) fn read_script<R: Read>(alloc: Global, reader: &mut R) -> Result<Vec<u8>, EndFailed>
-    ensures { IfOk result (λ v. IfSome (R.remaining reader.old) (λ all. v.items ≡ take (SCRIPT_LIMIT + 1) all)) }
+    ensures read { IfOk result (λ v. IfSome (R.remaining reader.old) (λ all. v.items ≡ take (SCRIPT_LIMIT + 1) all)) }
+    ensures left { IfOk result (λ v. Consumes (R.remaining reader.old) (R.remaining reader.new) v.items) }
+    ensures taken { TakesAtMost (R.remaining reader.old) (R.remaining reader.new) (SCRIPT_LIMIT + 1) }
 {
     let mut script = Vec::new(alloc);
     while script.len() <= SCRIPT_LIMIT {
@@ -51,7 +53,8 @@ fn read_more<R: Read>(
     limit: usize,
 ) -> Result<usize, EndFailed>
     requires { 0 < limit }
-    ensures { IfOk result (λ n. ReadsOn (R.remaining reader.old) (R.remaining reader.new) script.old.items script.new.items limit n) }
+    ensures taken { TakesAtMost (R.remaining reader.old) (R.remaining reader.new) limit }
+    ensures ok { IfOk result (λ n. ReadsOn (R.remaining reader.old) (R.remaining reader.new) script.old.items script.new.items limit n) }
 {
     let mut block = [0u8; BLOCK];
     let wanted = limit.min(BLOCK);

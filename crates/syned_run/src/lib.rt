@@ -14,4 +14,5 @@ mod stop;
 mod words;
 
 pub use answer::{Recorded, record_script};
+pub use ends::SCRIPT_LIMIT;
 pub use program::run;

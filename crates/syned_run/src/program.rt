@@ -1,7 +1,8 @@
-ghost use Rattle.std.specs.Prelude.{◌≤◌};
+ghost use Rattle.std.specs.Prelude.{◌≤◌, ◌+◌};
+ghost use Rattle.syned_run.specs.Ends.{TakesAtMost};
 
 use crate::answer::{Status, answer_to};
-use crate::ends::{read_script, write_all_of};
+use crate::ends::{SCRIPT_LIMIT, read_script, write_all_of};
 use std::alloc::Global;
 use std::io::{Read, Write};
 
@@ -9,9 +10,12 @@ use std::io::{Read, Write};
 /// tree was made, 1 where a call was refused, 2 for a bad script, 3 where a read or a write failed or memory was
 /// refused.
 ///
+/// Of the reader it takes at most one byte more than a script may have, so a run over a reader without end ends too.
+///
 /// The answer is made whole before any of it is written, and what was written where a write failed is a beginning of it.
 pub fn run<R: Read, W: Write>(alloc: Global, reader: &mut R, writer: &mut W) -> u8
-    ensures { result ≤ 3 }
+    ensures status { result ≤ 3 }
+    ensures taken { TakesAtMost (R.remaining reader.old) (R.remaining reader.new) (SCRIPT_LIMIT + 1) }
 {
     let Ok(script) = read_script(alloc, reader) else {
         return Status::Failed.code();
