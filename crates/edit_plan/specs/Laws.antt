@@ -1,6 +1,5 @@
 -- What the laws of places and of rewriting speak of.
---     StandsThere                   what stands at this path of a payload is there for a target, and a change is no insert after the target itself
---                                   where the path is empty
+--     StandsThere                   what stands at this path of a payload is there for a target; at the empty path for no insert after the target
 --     IsUntouched                   no change aims at a gap of the node at this path or of one below, or over an element below
 --     brought_text                  the text of what a change brings
 --     filled_text, text_filled      the old text, in which each gap and each replaced range gives a text for each change that aims there;

@@ -35,8 +35,9 @@ pub fn untouched_stays()
         → IsUntouched cs p → plain (rewritten (origin from change) given cs p t) ≡ t }
 {}
 
-/// Where equal numbers have equal trees, as where those of a plan have, a change has a place in its owner's payload exactly where something stands for the
-/// owner's target. The exception is an insert after the target itself, which has none at the empty path.
+/// Where equal numbers have equal trees, a change has a place in its owner's payload exactly where something stands for the
+/// owner's target. The exception is an insert after the target itself, which has none at the empty path. It is enough that
+/// equal numbers have equal trees among all elements of a plan.
 pub fn place_stands_for_the_target()
     ensures at_a_path { (m : Mapping) (target payload : SyntaxElement) (c : Change) (p : Path)
         → ArePairs m → IsElement (element_of target)

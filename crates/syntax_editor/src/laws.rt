@@ -42,7 +42,8 @@ pub fn merge_keeps_both()
     ensures other_after { (own other new : Editor) (i : ℕ)
         → IsMerged own other new → slice_get new.changes (length own.changes + i) ≡ slice_get other.changes i }
     ensures none_taken_up { (own other new : Editor) (e : SyntaxElement)
-        → IsMerged own other new → replacements_of e new.changes ≡ replacements_of e own.changes ++ replacements_of e other.changes }
+        → IsMerged own other new
+        → replacements_of e new.changes ≡ replacements_of e own.changes ++ replacements_of e other.changes }
     ensures registrations { (own other new : Editor)
         → IsMerged own other new → new.registrations ≡ own.registrations ++ other.registrations }
     ensures copies { (own other new : Editor) (x : Address)
