@@ -1,7 +1,6 @@
 -- What shared trees stand for.
 --     Leaf, Branch                a token's kind and bytes; a node's kind and its children
 --     leaf_tree, branch_tree      the trees of these
---     element_tree, element_trees the trees of shared elements
 --     texts                       the texts of trees, one after another
 --     length_limit                the least length in bytes that no tree of an element value has
 --     capped_length               how many bytes a text has, as far as the limit
