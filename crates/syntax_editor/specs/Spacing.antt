@@ -8,7 +8,7 @@
 --     space_text                   whitespace as a text
 --     whitespace_tree, whitespace  the tree of a whitespace token alone; the token, in such a tree with this number
 --     space_elements               whitespace as such a token, or as nothing
---     space_in_front, space_at_end the whitespace round a list of new elements
+--     space_in_front, space_at_end  the whitespace round a list of new elements
 --     spaced                       new elements with that whitespace, whose tokens have the tree numbers from this one on
 --     numbers_needed               how many such tokens there are
 --     insert_all_with_whitespace   the list of changes after such a call

@@ -1,0 +1,85 @@
+"""Compares what the docs and the spec files say is there with what is there.
+
+The tables of files in docs/ARCHITECTURE.md name each source and each spec file of a library once, and no other but spec files
+that it gives again; each name in the head of a spec file is defined in it.
+"""
+
+import re
+import sys
+from pathlib import Path
+
+ROOT = Path(__file__).resolve().parent.parent
+# Libraries whose files no table lists: they are for tests.
+UNLISTED = {"model", "row_trees"}
+wrong = []
+
+
+def library_files(kind, ending):
+    """The files of each library, by crate, without the root file."""
+    found = {}
+    for root in sorted(ROOT.glob("crates/*/src/lib.rt")):
+        crate = root.parent.parent.name
+        if crate not in UNLISTED:
+            files = sorted((root.parent.parent / kind).glob("*" + ending))
+            found[crate] = {file.stem for file in files} - {"lib", "Lib"}
+    return found
+
+
+def listed_files():
+    """The names in the first column of each table of files, as (crate, kind, name)."""
+    crate, kind, listed = None, None, []
+    for line in (ROOT / "docs/ARCHITECTURE.md").read_text().splitlines():
+        section = re.match(r"## (\w+)", line)
+        header = re.match(r"\| (file|definitions)\b(?: of (\w+))?", line)
+        if section:
+            crate, kind = section.group(1), None
+        elif header:
+            kind = "src" if header.group(1) == "file" else "specs"
+            crate = header.group(2) or crate
+        elif not line.startswith("|"):
+            kind = None
+        elif kind:
+            first = line.split("|")[1]
+            named = re.match(r" (\w+): ", first)
+            crate = named.group(1) if named else crate
+            listed += [(crate, kind, name.removesuffix(".rt")) for name in re.findall(r"`([^`]+)`", first)]
+    return listed
+
+
+def given_again(crate):
+    """The spec files of other crates that a crate gives under their own names or others."""
+    text = (ROOT / "crates" / crate / "specs/Lib.antt").read_text()
+    return {line.split(".")[-1].split()[-1] for line in text.splitlines() if line.startswith("pub use ")}
+
+
+def compare_tables():
+    listed = listed_files()
+    for kind, ending in (("src", ".rt"), ("specs", ".antt")):
+        for crate, names in library_files(kind, ending).items():
+            told = [name for c, k, name in listed if c == crate and k == kind]
+            if kind == "specs":
+                told = [name for name in told if name in names or name not in given_again(crate)]
+            for name in sorted(names | set(told)):
+                if told.count(name) != (name in names):
+                    wrong.append(f"{crate}/{kind}/{name}: {told.count(name)} times in docs/ARCHITECTURE.md")
+
+
+def compare_heads():
+    for file in sorted(ROOT.glob("crates/*/specs/*.antt")):
+        text = file.read_text()
+        defined = set(re.findall(r"^\s*(?:abbrev |unfoldable )?(?:pub )?(?:record |data )?([^\s(:]+)", text, re.M))
+        for line in text.splitlines():
+            if not line.startswith("--"):
+                break
+            entry = re.match(r"--     (\S.*?)(?:\s{2,}|$)", line)
+            for name in entry.group(1).split(", ") if entry else []:
+                if name not in defined:
+                    wrong.append(f"{file.relative_to(ROOT)}: its head names {name}, which is not defined in it")
+
+
+compare_tables()
+compare_heads()
+for line in wrong:
+    print("wrong:", line)
+print(f"docs: {len(wrong)} wrong")
+sys.exit(bool(wrong))
