@@ -4,7 +4,7 @@ pub mod Clashes
 pub mod Positions
 pub mod Around
 pub mod Indexed
-pub mod Fates
+pub mod Regions
 pub mod Walk
 pub mod Counted
 pub mod Aiming

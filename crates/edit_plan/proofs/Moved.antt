@@ -45,7 +45,7 @@ use Rattle.edit_change.specs.declared.change.Change.TheVariants.{Insert, InsertA
 use Rattle.edit_change.proofs.Aiming.{one-sibling}
 use Rattle.edit_plan.proofs.Carried.{enumerate-push, take-whole}
 use Rattle.edit_change.proofs.Paths.{meets}
-use Rattle.edit_change.proofs.Fates.{owner-told}
+use Rattle.edit_change.proofs.Regions.{owner-told}
 use Rattle.edit_change.proofs.Lists.{slice_get-set_same, slice_get-set_other}
 use Rattle.edit_plan.proofs.Owners.{HasRegion, owner_cases, owner_region, owner_is_above}
 use Rattle.edit_change.proofs.Paths.{same_path_from}

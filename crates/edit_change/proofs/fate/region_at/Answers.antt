@@ -7,7 +7,7 @@ use Rattle.edit_change.specs.Nesting.{region, region_at}
 use Rattle.edit_change.specs.TargetIndex.{target_at, IsApart}
 use Rattle.edit_change.specs.declared.change.Change.{Change}
 use Rattle.edit_change.proofs.Clashes.{at-index}
-use Rattle.edit_change.proofs.Fates.{region-here, region-none}
+use Rattle.edit_change.proofs.Regions.{region-here, region-none}
 use Rattle.edit_change.proofs.fate.region_at.Goals as goal
 
 -- by what a change says of its region
