@@ -84,7 +84,7 @@ impl Change {
         }
     }
 
-    /// Where the change of this number aims, with another path in place of its own.
+    /// Where the change aims, with this number, and with another path in place of its own.
     pub fn aimed_from<'a>(&self, number: usize, path: &'a [usize]) -> Aimed<'a>
         ensures { numbered result ≡ (number, aim_from path.now self.now) }
     {
@@ -99,7 +99,7 @@ impl Change {
         }
     }
 
-    /// Where the change of this number aims.
+    /// Where the change aims, with this number.
     pub fn aimed(&self, number: usize) -> Aimed<'_>
         requires { (root : Element) × Fits root self.now }
         ensures { numbered result ≡ (number, aim self.now) }
@@ -141,7 +141,7 @@ impl Change {
         node
     }
 
-    /// The elements that the change brings.
+    /// The elements that the change brings, as shared trees: one is borrowed, of several each is shared.
     pub fn brought(&self, alloc: Global) -> Result<Given<'_>, AllocError>
         ensures { IfOk result (λ g. given_trees g ≡ map subtree (payload self.now)) }
     {

@@ -93,8 +93,9 @@ fn fate_of(index: &TargetIndex, changes: &[Change], change: &Change) -> Fate
     }
 }
 
-/// What becomes of each change, by its number, of changes that do not clash; `index` is theirs. Takes time linear in the paths
-/// around the changes.
+/// What becomes of each change, by its number; `index` is that of these changes.
+///
+/// Takes time near linear in the changes: for each one, the slots of all paths on the way to it.
 pub fn fates(
     alloc: Global,
     index: &TargetIndex,

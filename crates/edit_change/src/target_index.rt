@@ -53,7 +53,10 @@ impl TargetIndex {
         least_so_far
     }
 
-    /// The index of these changes, unless two have a target in common: then the first two, by the second and then by the first.
+    /// The index of these changes: at the path of each element that one of them replaces it has the number of that one.
+    ///
+    /// `Intersecting` comes exactly where two changes have a target in common, and names the first two, by the second and then by
+    /// the first; `Memory` may come at any time. Takes time near linear in the paths of all elements that are replaced.
     pub fn of(alloc: Global, changes: &[Change]) -> Result<TargetIndex, ClashError>
         ensures indexed { IfOk result (IsIndex changes.now) }
         ensures apart { OnOk result (first_clash changes.now ≡ None) }

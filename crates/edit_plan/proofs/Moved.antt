@@ -44,11 +44,10 @@ use Rattle.edit_plan.specs.declared.dependent.Dependent.{Dependent}
 use Rattle.edit_change.specs.declared.change.Change.TheVariants.{Insert, InsertAll, Replace, ReplaceWithMany, ReplaceAll}
 use Rattle.edit_change.proofs.Aiming.{one-sibling}
 use Rattle.edit_plan.proofs.Carried.{enumerate-push, take-whole}
-use Rattle.edit_change.proofs.Paths.{meets}
+use Rattle.edit_change.proofs.Paths.{meets, same_path_from}
 use Rattle.edit_change.proofs.Regions.{owner-told}
 use Rattle.edit_change.proofs.Lists.{slice_get-set_same, slice_get-set_other}
 use Rattle.edit_plan.proofs.Owners.{HasRegion, owner_cases, owner_region, owner_is_above}
-use Rattle.edit_change.proofs.Paths.{same_path_from}
 
 -- ---- an owner replaces a node by a node
 any-at : {X : Type 0} (p : X → Bool) (xs : List X) (i : ℕ) (x : X) → list_any p xs ≡ false → slice_get xs i ≡ Some x → p x ≡ false

@@ -34,12 +34,11 @@ use Rattle.edit_plan.specs.Planned.{IsOneNode, BringsNode}
 use Rattle.edit_plan.specs.Rewriting.{Origin, OriginTree, plain, origin, aims_of, payload_of, dependents, given, independents}
 use Rattle.edit_change.specs.declared.change.Change.{Change}
 use Rattle.edit_change.specs.declared.change.Change.TheVariants.{Insert, InsertAll, Replace, ReplaceWithMany, ReplaceAll}
-use Rattle.edit_change.proofs.Paths.{meets}
+use Rattle.edit_change.proofs.Paths.{meets, same_path-true}
 use Rattle.edit_change.proofs.RootTargets.{no-root-range}
 use Rattle.edit_plan.proofs.Apart.{starts, start_in_targets}
 use Rattle.edit_change.proofs.Clashes.{clash, clashes-at}
 use Rattle.edit_change.proofs.Lists.{all_weaker, all_enumerated}
-use Rattle.edit_change.proofs.Paths.{same_path-true}
 use Rattle.edit_plan.proofs.Settled.{given_is}
 
 -- ---- where a search finds nothing
