@@ -6,7 +6,7 @@ use Rattle.std.specs.Prelude.{◌≡◌, ℕ, suc, ◌<◌, List, [], ◌∷◌,
 use Rattle.std.proofs.Common.{ap, sym, ◌∙◌, subst, arith}
 use Rattle.std.proofs.lemmas.Option.{none-some, same_Some, slice_get_within}
 use Rattle.cst_core.specs.Path.{Path, parent_path, last_slot}
-use Rattle.cst_core.specs.Tree.{Tree, SyntaxTree, Token, at, children, trees, forest}
+use Rattle.cst_core.specs.Tree.{SyntaxTree, Token, at, children, trees, forest}
 use Rattle.cst_core.specs.Green.{Branch, branch_tree}
 
 abbrev HasChild : Option SyntaxTree → ℕ → Type 0

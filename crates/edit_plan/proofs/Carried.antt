@@ -3,42 +3,32 @@
 --     independents-to                  the changes without an owner, of the first so many
 --     one-more, one-passed             one change more
 --     independent-at, passed-at        whether the change at a number has no owner, from its fate; one that has is passed over
-use Rattle.std.specs.Prelude.{◌≡◌, ℕ, zero, suc, ◌+◌, ◌-◌, ◌<◌, ◌≤◌, Bool, true, false, cond, not, ◌&&◌, List, [], ◌∷◌, ◌++◌, map, filter, filter_map, length, take, slice_get, Option, Some, None, option_map, is_none, refl}
+use Rattle.std.specs.Prelude.{◌≡◌, ℕ, zero, suc, ◌+◌, ◌<◌, ◌≤◌, Bool, true, false, cond, not, ◌&&◌, List, [], ◌∷◌, ◌++◌, map, filter, filter_map, length, take, slice_get, Option, Some, None, option_map, is_none, refl}
 use Rattle.std.specs.List.{enumerate_from}
 use Rattle.std.specs.Option.{option_map_or}
 use Rattle.std.proofs.Common.{ap, ap₂, sym, subst, ◌∙◌, arith, get_or}
-use Rattle.std.proofs.lemmas.Bool.{and_parts, or_cases, false≢true}
 use Rattle.std.proofs.lemmas.List.{map-append, append-nil, length-map, length-take}
 use Rattle.std.proofs.lemmas.List.Elements.{filter-append}
 use Rattle.std.proofs.lemmas.Option.{same_Some, none-some, slice_get-get_or, slice_get_within, slice_get-map, get_or_from_slice_get}
 use Rattle.std.proofs.Math.Seq.{take-suc}
-use mathlib.Core.Logic.{inl, inr}
-use Rattle.cst_core.specs.Path.{Path, same_path, siblings, counted_from, parent_path, last_slot, last_item}
+use Rattle.cst_core.specs.Path.{last_item}
 use Rattle.cst_core.specs.Tree.{SyntaxTree}
 use Rattle.cst_core.specs.Tree as tree
 use Rattle.cst_core.specs.declared.element.SyntaxElement.TheVariants.{Token}
-use Rattle.cst_core.specs.Element.{Element, subtree}
+use Rattle.cst_core.specs.Element.{subtree}
 use Rattle.cst_core.specs.SyntaxElement.{element_of}
 use Rattle.cst_core.specs.declared.element.SyntaxElement.{SyntaxElement}
-use Rattle.cst_core.proofs.LastSlot.{parent-and-slot}
-use Rattle.rewriting.specs.Aimed.{siblings_from}
 use Rattle.rewriting.specs.Pass.{given_by}
 use Rattle.rewriting.specs.Rewriting.{NumberedAim}
 use Rattle.rewriting.specs.declared.given.Given.{Given}
 use Rattle.rewriting.specs.Given.{given_trees}
-use Rattle.edit_change.specs.Aim.{position_aim, aim, aim_path}
-use Rattle.edit_change.specs.Position.{anchor}
-use Rattle.edit_change.specs.AimFrom.{position_aim_from, aim_from}
-use Rattle.edit_change.specs.declared.position.Position.{Position}
-use Rattle.edit_change.specs.PositionForm.{FirstChild, After}
-use Rattle.rewriting.specs.Aim.{Over}
+use Rattle.edit_change.specs.Aim.{aim}
 use Rattle.edit_change.specs.Change.{payload}
-use Rattle.edit_change.specs.Fits.{Fits, is_native, is_root, is_range}
 use Rattle.edit_change.specs.Fate.{by_owner, fate, is_independent_in}
 use Rattle.edit_change.specs.Nesting.{surroundings, region_at, is_dropped, is_independent}
 use Rattle.edit_plan.specs.Rewriting.{aims_of, payload_of, independents}
 use Rattle.edit_change.specs.declared.change.Change.{Change}
-use Rattle.edit_change.specs.declared.change.Change.TheVariants.{Insert, InsertAll, Replace, ReplaceWithMany, ReplaceAll}
+use Rattle.edit_change.specs.declared.change.Change.TheVariants.{ReplaceWithMany}
 use Rattle.edit_change.specs.declared.fate.Fate.{Fate}
 use Rattle.edit_change.specs.declared.fate.Fate.TheVariants.{Dropped}
 

@@ -5,7 +5,7 @@
 --     stays-a-node                  what stands in the place of the root is one node
 --     takes-its-place               the node that a change brings which replaces the root
 --     found-fits                    of a change that is found, what is true of all, and that it replaces the root
-use Rattle.std.specs.Prelude.{◌≡◌, ℕ, zero, suc, ◌+◌, ◌-◌, ◌<◌, ◌≤◌, Bool, true, false, ◌&&◌, not, cond, nat_eq, List, [], ◌∷◌, ◌++◌, map, flat_map, filter, filter_map, find, length, slice_get, unwrap_or, option_map, is_none, All, Option, Some, None, refl}
+use Rattle.std.specs.Prelude.{◌≡◌, ℕ, zero, suc, ◌+◌, ◌<◌, ◌≤◌, Bool, true, false, ◌&&◌, not, cond, nat_eq, List, [], ◌∷◌, map, flat_map, filter, filter_map, find, length, slice_get, unwrap_or, option_map, is_none, All, Option, Some, None, refl}
 use Rattle.std.specs.List.{AllByRecursion, list_any, enumerate_from}
 use Rattle.std.specs.Option.{option_or, option_map_or}
 use Rattle.std.proofs.Common.{ap, ap₂, sym, subst, ◌∙◌, arith}
@@ -14,11 +14,9 @@ use Rattle.std.proofs.lemmas.List.Folds.{find-append}
 use Rattle.std.proofs.lemmas.Option.{none-some, same_Some, slice_get_within, get_or_from_slice_get}
 use Rattle.std.proofs.lemmas.List.{append-nil}
 use mathlib.Core.Logic.{inl, inr}
-use Rattle.cst_core.specs.Path.{Path, same_path, has_path, above, parent_path, last_slot, last_item, counted_from}
-use Rattle.cst_core.specs.SyntaxElement.{element_of}
+use Rattle.cst_core.specs.Path.{Path, same_path, has_path, above, last_item, counted_from}
 use Rattle.cst_core.specs.Tree.{SyntaxTree, Forest, Node, Token, at, is_token, forest, forest_relabelled}
 use Rattle.cst_core.specs.Element.{Element, IsNode, subtree, address}
-use Rattle.cst_core.specs.declared.element.SyntaxElement.{SyntaxElement}
 use Rattle.cst_core.specs.declared.element.SyntaxElement.TheVariants as form
 use Rattle.rewriting.specs.Aim.{Aim, FirstIn, Behind, Over, starts_at, replaces}
 use Rattle.rewriting.specs.Pass.{kind_only, given_by}
@@ -28,13 +26,13 @@ use Rattle.edit_change.specs.Aim.{position_aim, aim}
 use Rattle.edit_change.specs.PositionForm.{FirstChild, After}
 use Rattle.edit_change.specs.declared.position.Position.{Position}
 use Rattle.edit_change.specs.Change.{payload, targets, shared_targets}
-use Rattle.edit_change.specs.Nesting.{clashes, pairs, pairs_with, first_clash, is_keeping, region, region_at, surroundings, is_around, is_dropped, owner, is_independent}
+use Rattle.edit_change.specs.Nesting.{pairs_with, first_clash, is_keeping, region, region_at, surroundings, is_around, is_dropped, owner, is_independent}
 use Rattle.edit_plan.specs.Owned.{AreGiven}
 use Rattle.edit_plan.specs.Planned.{IsOneNode, BringsNode}
 use Rattle.edit_plan.specs.Rewriting.{Origin, OriginTree, plain, origin, aims_of, payload_of, dependents, given, independents}
 use Rattle.edit_change.specs.declared.change.Change.{Change}
 use Rattle.edit_change.specs.declared.change.Change.TheVariants.{Insert, InsertAll, Replace, ReplaceWithMany, ReplaceAll}
-use Rattle.edit_change.proofs.Paths.{meets, same_path-true}
+use Rattle.edit_change.proofs.Paths.{meets}
 use Rattle.edit_change.proofs.RootTargets.{no-root-range}
 use Rattle.edit_plan.proofs.Apart.{starts, start_in_targets}
 use Rattle.edit_change.proofs.Clashes.{clash, clashes-at}

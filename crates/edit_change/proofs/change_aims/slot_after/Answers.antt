@@ -1,5 +1,5 @@
 use Rattle.std.specs.Prelude.{nat_eq, option_map}
-use Rattle.std.proofs.Common.{◌≡◌, ◌<◌, [], length, Some, None, sym, ◌∙◌, ap, ap₂, arith}
+use Rattle.std.proofs.Common.{◌≡◌, ◌<◌, [], length, Some, sym, ◌∙◌, ap, ap₂, arith}
 use Rattle.std.proofs.lemmas.List.{length-map}
 use Rattle.cst_core.specs.Path.{parent_path, last_slot}
 use Rattle.cst_core.specs.Tree.{at}
