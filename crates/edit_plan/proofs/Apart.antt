@@ -1,5 +1,4 @@
 -- Changes that aim at different gaps and share no target, also once they are moved into a payload.
---     meets                         two lists with a path in common
 --     same_gap_from                 two aims at one gap
 --     start_of, start_in_targets    the first path that a replacement replaces; it is a target
 --     IsBelow                       an aim's path is this one or below it
@@ -17,27 +16,19 @@ use mathlib.Core.Logic.{◌⊎◌, inl, inr}
 use Rattle.cst_core.specs.Path.{Path, same_path, has_path, parent_path, last_slot, above, up_to, counted_from, first_item}
 use Rattle.cst_core.specs.SyntaxElement.{element_of}
 use Rattle.cst_core.specs.declared.element.SyntaxElement.TheVariants.{Node, Token}
-use Rattle.edit_plan.specs.Position.{anchor}
-use Rattle.edit_plan.specs.Change.{targets, shared_targets}
+use Rattle.edit_change.specs.Position.{anchor}
+use Rattle.edit_change.specs.Change.{targets, shared_targets}
 use Rattle.rewriting.specs.Aim.{Aim, FirstIn, Behind, Over, aims_at_gap, same_gap, starts_at}
-use Rattle.edit_plan.specs.Aim.{position_aim, aim}
-use Rattle.edit_plan.specs.Nesting.{region, is_keeping, surroundings, is_around, owner, has_owner}
+use Rattle.edit_change.specs.Aim.{position_aim, aim}
+use Rattle.edit_change.specs.Nesting.{region, is_keeping, surroundings, is_around, owner, has_owner}
 use Rattle.edit_plan.specs.Rewriting.{moved_path, moved_aim, targets_of}
-use Rattle.edit_plan.specs.declared.position.Position.{Position}
-use Rattle.edit_plan.specs.PositionForm.{FirstChild, After}
-use Rattle.edit_plan.specs.declared.change.Change.{Change}
-use Rattle.edit_plan.specs.declared.change.Change.TheVariants.{Insert, InsertAll, Replace, ReplaceWithMany, ReplaceAll}
-use Rattle.edit_plan.proofs.Lists.{all_weaker}
-use Rattle.edit_plan.proofs.Paths.{same_path-true, same_path_from}
+use Rattle.edit_change.specs.declared.position.Position.{Position}
+use Rattle.edit_change.specs.PositionForm.{FirstChild, After}
+use Rattle.edit_change.specs.declared.change.Change.{Change}
+use Rattle.edit_change.specs.declared.change.Change.TheVariants.{Insert, InsertAll, Replace, ReplaceWithMany, ReplaceAll}
+use Rattle.edit_change.proofs.Lists.{all_weaker}
+use Rattle.edit_change.proofs.Paths.{same_path-true, same_path_from, meets}
 use Rattle.edit_plan.proofs.Owners.{owner_cases, owner_from, HasRegion, owner_region}
-
-pub meets : (ps qs : List Path) (p : Path) → has_path ps p ≡ true → has_path qs p ≡ true → list_any (has_path ps) qs ≡ true
-meets ps [] p h k = absurd (false≢true k)
-meets ps (q ∷ qs) p h k =
-    elim (or_cases (same_path p q) (has_path qs p) k) [
-      | inl here ↦ or_left (has_path ps q) (list_any (has_path ps) qs) (ap (has_path ps) (sym (same_path-true p q here)) ∙ h)
-      | inr there ↦ or_right (has_path ps q) (list_any (has_path ps) qs) (meets ps qs p h there)
-    ]
 
 has_own : (p : Path) (ps : List Path) → has_path (p ∷ ps) p ≡ true
 has_own p ps = or_left (same_path p p) (has_path ps p) (same_path_from p p refl)

@@ -20,12 +20,12 @@ use Rattle.green_tree.proofs.Lookup.{at-append}
 use Rattle.cst_core.proofs.LastSlot.{parent-and-slot}
 use Rattle.rewriting.specs.Rewriting.{NumberedAim, numbers, replacements_at, is_replaced, gap_order, inserts_at, rewritten}
 use Rattle.rewriting.specs.Topmost.{holds_at, parent_holds, topmost}
-use Rattle.edit_plan.specs.Nesting.{owner, is_dropped, is_independent}
+use Rattle.edit_change.specs.Nesting.{owner, is_dropped, is_independent}
 use Rattle.edit_plan.specs.Rewriting.{Origin, OriginTree, origin, payload_of, dependents, given, is_free}
 use Rattle.edit_plan.specs.Results.{is_brought}
-use Rattle.edit_plan.specs.declared.change.Change.{Change}
+use Rattle.edit_change.specs.declared.change.Change.{Change}
 use Rattle.edit_plan.proofs.Edits.{Edits, below, filled, edits_of, remade, remade_from, rewritten_is}
-use Rattle.edit_plan.proofs.Lists.{all-append}
+use Rattle.edit_change.proofs.Lists.{all-append}
 use Rattle.edit_plan.proofs.Owners.{rank, rank_less}
 use Rattle.edit_plan.proofs.Relabelled.{relabelled-rewritten, holds-relabelled, topmost-relabelled}
 use Rattle.edit_plan.proofs.Settled.{given_is, all_owned, rewritten-agree}

@@ -12,10 +12,11 @@ use Rattle.std.proofs.lemmas.Bool.Decides.{eqb_tells}
 use Rattle.std.proofs.lemmas.Option.{none-some, same_Some, slice_get_past, slice_get_within}
 use mathlib.Core.Logic.{inl, inr}
 use Rattle.cst_core.specs.Path.{Path, counted_from}
-use Rattle.edit_plan.specs.Nesting.{owner}
-use Rattle.edit_plan.specs.Owned.{depth, depth_of, dependents_in, owns_at, AreDependents, AreOwners}
+use Rattle.edit_change.specs.Nesting.{owner}
+use Rattle.edit_change.specs.AimFrom.{depth}
+use Rattle.edit_plan.specs.Owned.{depth_of, dependents_in, owns_at, AreDependents, AreOwners}
 use Rattle.edit_plan.specs.Rewriting.{dependents}
-use Rattle.edit_plan.specs.declared.change.Change.{Change}
+use Rattle.edit_change.specs.declared.change.Change.{Change}
 use Rattle.edit_plan.specs.declared.dependent.Dependent.{Dependent}
 use Rattle.edit_plan.proofs.Levels.{empty-none, passing-found}
 use Rattle.edit_plan.proofs.Owners.{owner_is_above}

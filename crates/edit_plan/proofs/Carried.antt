@@ -1,68 +1,36 @@
 -- A plan's changes, as its pass is told of them.
---     one-sibling, range-siblings      the targets of a replacement, counted
---     range-has-parent                 the ends of a range are no roots
 --     more-trees, table-is             what the changes bring, one change after another
 --     independents-to                  the changes without an owner, of the first so many
 --     one-more, one-passed             one change more
 --     independent-at, passed-at        whether the change at a number has no owner, from its fate; one that has is passed over
---     own-aim                          where a change aims, by its own path
-use Rattle.std.specs.Prelude.{◌≡◌, ℕ, zero, suc, ◌+◌, ◌-◌, ◌<◌, ◌≤◌, Bool, true, false, cond, not, ◌&&◌, List, [], ◌∷◌, ◌++◌, map, filter, filter_map, length, take, slice_get, Option, Some, None, option_map, is_none, refl}
+use Rattle.std.specs.Prelude.{◌≡◌, ℕ, zero, suc, ◌+◌, ◌<◌, ◌≤◌, Bool, true, false, cond, not, ◌&&◌, List, [], ◌∷◌, ◌++◌, map, filter, filter_map, length, take, slice_get, Option, Some, None, option_map, is_none, refl}
 use Rattle.std.specs.List.{enumerate_from}
 use Rattle.std.specs.Option.{option_map_or}
 use Rattle.std.proofs.Common.{ap, ap₂, sym, subst, ◌∙◌, arith, get_or}
-use Rattle.std.proofs.lemmas.Bool.{and_parts, or_cases, false≢true}
 use Rattle.std.proofs.lemmas.List.{map-append, append-nil, length-map, length-take}
 use Rattle.std.proofs.lemmas.List.Elements.{filter-append}
 use Rattle.std.proofs.lemmas.Option.{same_Some, none-some, slice_get-get_or, slice_get_within, slice_get-map, get_or_from_slice_get}
 use Rattle.std.proofs.Math.Seq.{take-suc}
-use mathlib.Core.Logic.{inl, inr}
-use Rattle.cst_core.specs.Path.{Path, same_path, siblings, counted_from, parent_path, last_slot, last_item}
+use Rattle.cst_core.specs.Path.{last_item}
 use Rattle.cst_core.specs.Tree.{SyntaxTree}
 use Rattle.cst_core.specs.Tree as tree
 use Rattle.cst_core.specs.declared.element.SyntaxElement.TheVariants.{Token}
-use Rattle.cst_core.specs.Element.{Element, subtree}
+use Rattle.cst_core.specs.Element.{subtree}
 use Rattle.cst_core.specs.SyntaxElement.{element_of}
 use Rattle.cst_core.specs.declared.element.SyntaxElement.{SyntaxElement}
-use Rattle.cst_core.proofs.LastSlot.{parent-and-slot}
-use Rattle.rewriting.specs.Aimed.{siblings_from}
 use Rattle.rewriting.specs.Pass.{given_by}
 use Rattle.rewriting.specs.Rewriting.{NumberedAim}
 use Rattle.rewriting.specs.declared.given.Given.{Given}
 use Rattle.rewriting.specs.Given.{given_trees}
-use Rattle.edit_plan.specs.Aim.{position_aim, aim, aim_path}
-use Rattle.edit_plan.specs.Position.{anchor}
-use Rattle.edit_plan.specs.Owned.{position_aim_from, aim_from}
-use Rattle.edit_plan.specs.declared.position.Position.{Position}
-use Rattle.edit_plan.specs.PositionForm.{FirstChild, After}
-use Rattle.rewriting.specs.Aim.{Over}
-use Rattle.edit_plan.specs.Change.{payload}
-use Rattle.edit_plan.specs.Fits.{Fits, is_native, is_root, is_range}
-use Rattle.edit_plan.specs.Fate.{by_owner, fate, is_independent_in}
-use Rattle.edit_plan.specs.Nesting.{surroundings, region_at, is_dropped, is_independent}
+use Rattle.edit_change.specs.Aim.{aim}
+use Rattle.edit_change.specs.Change.{payload}
+use Rattle.edit_change.specs.Fate.{by_owner, fate, is_independent_in}
+use Rattle.edit_change.specs.Nesting.{surroundings, region_at, is_dropped, is_independent}
 use Rattle.edit_plan.specs.Rewriting.{aims_of, payload_of, independents}
-use Rattle.edit_plan.specs.declared.change.Change.{Change}
-use Rattle.edit_plan.specs.declared.change.Change.TheVariants.{Insert, InsertAll, Replace, ReplaceWithMany, ReplaceAll}
-use Rattle.edit_plan.specs.declared.fate.Fate.{Fate}
-use Rattle.edit_plan.specs.declared.fate.Fate.TheVariants.{Dropped}
-
--- ---- targets
-pub one-sibling : (p : Path) → siblings_from p 1 ≡ p ∷ []
-one-sibling [] = refl
-one-sibling (i ∷ p) = ap (λ q. q ∷ []) (sym (parent-and-slot i p))
-
-pub range-siblings : (f l : Path) (n : ℕ) → (f ≡ [] → ⊥) → n ≡ suc (last_slot l) - last_slot f → siblings_from f n ≡ siblings f l
-range-siblings [] l n some is = absurd (some refl)
-range-siblings (i ∷ f) l n some is = ap (λ k. map (λ j. parent_path (i ∷ f) ++ j ∷ []) (counted_from (last_slot (i ∷ f)) k)) is
-
-pub range-has-parent : (root : Element) (first last : SyntaxElement) (es : List SyntaxElement) → Fits root (ReplaceAll first last es) → (element_of first).path ≡ [] → ⊥
-range-has-parent root first last es fits none =
-    let whole = and_parts _ (not (same_path (element_of first).path (element_of last).path)) fits in
-    let range = and_parts (is_native root first && is_native root last) (is_range first last) whole.0 in
-    let root_is : is_root first ≡ true = ap (λ p. same_path p []) none in
-    elim (or_cases (same_path (element_of first).path (element_of last).path) _ range.1) [
-      | inl same ↦ false≢true (sym (ap not same) ∙ whole.1)
-      | inr beside ↦ false≢true (sym (ap not root_is) ∙ (and_parts (not (is_root first)) (not (is_root last)) (and_parts _ _ (and_parts _ _ beside).0).0).0)
-    ]
+use Rattle.edit_change.specs.declared.change.Change.{Change}
+use Rattle.edit_change.specs.declared.change.Change.TheVariants.{ReplaceWithMany}
+use Rattle.edit_change.specs.declared.fate.Fate.{Fate}
+use Rattle.edit_change.specs.declared.fate.Fate.TheVariants.{Dropped}
 
 -- ---- what changes bring
 abbrev pub brought_trees : Change → List SyntaxTree
@@ -158,16 +126,3 @@ passed-at cs fates i f are l other = go (slice_get cs i) refl
     go : (o : Option Change) → slice_get cs i ≡ o → independents-to cs (i + 1) ≡ independents-to cs i
     go None is = absurd (none-some (get_or cs i unused) (sym (sym (slice_get-get_or cs i unused l) ∙ is)))
     go (Some c) is = one-passed cs i c l (sym (get_or_from_slice_get cs i c c is)) (sym (independent-at cs fates i c f are is) ∙ other)
-
--- ---- where a change aims, by its own path
-own-position : (at : Position) → position_aim_from (anchor at).path at ≡ position_aim at
-own-position (FirstChild n) = refl
-own-position (After e) = refl
-
-pub own-aim : (root : Element) (c : Change) → Fits root c → aim_from (aim_path c) c ≡ aim c
-own-aim root (Insert at e) fits = own-position at
-own-aim root (InsertAll at es) fits = own-position at
-own-aim root (Replace t e) fits = ap Over (one-sibling (element_of t).path)
-own-aim root (ReplaceWithMany t es) fits = ap Over (one-sibling (element_of t).path)
-own-aim root (ReplaceAll first last es) fits =
-    ap Over (range-siblings (element_of first).path (element_of last).path (suc (last_slot (element_of last).path) - last_slot (element_of first).path) (range-has-parent root first last es fits) refl)

@@ -25,10 +25,10 @@ use Rattle.edit_plan.specs.Results.{copies_of}
 use Rattle.edit_plan.specs.Rewriting.{OriginTree, origin, given, independents, new_tree}
 use Rattle.edit_plan.specs.Sought.{path_below, sought_one, sought_from, sought_at, registered_at, addresses}
 use Rattle.edit_plan.specs.Marks.{with_marks, marks_given, IsTableOf, paths_of_mark, path_lists}
-use Rattle.edit_plan.specs.declared.change.Change.{Change}
+use Rattle.edit_change.specs.declared.change.Change.{Change}
 use Rattle.edit_plan.specs.declared.sought.SoughtIndex.{SoughtIndex}
 use Rattle.edit_plan.proofs.MarksFilled.{seen-from, exact, found, at-append}
-use Rattle.edit_plan.proofs.Paths.{same_path-true, same_path_from}
+use Rattle.edit_change.proofs.Paths.{same_path-true, same_path_from}
 use Rattle.edit_plan.proofs.Relabelled.{map-rewritten_whole, paths-relabelled, at-relabelled, label-relabelled}
 
 -- ---- the new tree

@@ -5,7 +5,7 @@ use Rattle.std.proofs.Common.{ap, sym, ◌∙◌}
 use Rattle.std.proofs.lemmas.List.{map-append}
 use mathlib.Core.List.{reverse-cons}
 use Rattle.rewriting.specs.Rewriting.{gap_order}
-use Rattle.edit_plan.proofs.Lists.{all-append}
+use Rattle.edit_change.proofs.Lists.{all-append}
 
 -- what holds of each insert holds of each in their order
 pub all-gap_order : (P : ℕ → Type 0) (ns : List ℕ) → AllByRecursion P ns → AllByRecursion P (gap_order ns)

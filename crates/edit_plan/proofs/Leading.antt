@@ -20,7 +20,7 @@ use Rattle.edit_plan.specs.Planned.{IsRewritten}
 use Rattle.edit_plan.specs.Rewriting.{OriginTree, is_free}
 use Rattle.edit_plan.specs.Marks.{annotated_path, numbered_paths}
 use Rattle.edit_plan.specs.Results.{is_brought, copies_of}
-use Rattle.edit_plan.proofs.Lists.{all_filter, all_weaker}
+use Rattle.edit_change.proofs.Lists.{all_filter, all_weaker}
 use Rattle.edit_plan.proofs.Relabelled.{at-relabelled}
 
 all-any : {X : Type 0} (xs : List X) → AllByRecursion (λ x. Unit {0}) xs

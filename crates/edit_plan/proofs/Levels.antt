@@ -18,10 +18,10 @@ use Rattle.std.proofs.lemmas.Option.{slice_get-get_or, none-some, same_Some}
 use mathlib.Core.Logic.{inl, inr}
 use Rattle.cst_core.specs.Path.{counted_from}
 use Rattle.edit_plan.specs.Owned.{depth_of, dependents_in, owns_at, owners_at, AreOwners}
-use Rattle.edit_plan.specs.declared.change.Change.{Change}
+use Rattle.edit_change.specs.declared.change.Change.{Change}
 use Rattle.edit_plan.specs.declared.dependent.Dependent.{Dependent}
-use Rattle.edit_plan.proofs.Clashes.{counted-push}
-use Rattle.edit_plan.proofs.Lists.{slice_get-set_same, slice_get-set_other}
+use Rattle.edit_change.proofs.Clashes.{counted-push}
+use Rattle.edit_change.proofs.Lists.{slice_get-set_same, slice_get-set_other}
 
 pub entered-here : (table : List (Vec ℕ Global)) (l : ℕ) (v w : Vec ℕ Global) (c : ℕ) → l < length table → v ≡ get_or table l v → w.items ≡ v.items ++ c ∷ [] → owners_at (set table l w) l ≡ owners_at table l ++ c ∷ []
 entered-here table l v w c there is more =

@@ -6,14 +6,6 @@ mod RowsOfAnswers
 mod RowsOfPositions
 mod RowsOfLengths
 mod RowsOfGreatest
-mod Lists
-mod Paths
-mod Around
-mod Clashes
-mod Positions
-mod Indexed
-mod Fates
-mod Walk
 mod Carried
 mod Moved
 mod Levels
@@ -43,5 +35,4 @@ mod FoundNodes
 mod ByAnnotation
 mod Told
 mod Rooted
-mod Counted
 mod ToldTarget

@@ -22,18 +22,18 @@ use Rattle.cst_core.specs.Element.{Address, Element, address, subtree}
 use Rattle.rewriting.specs.Rewriting.{NumberedAim, rewritten}
 use Rattle.rewriting.specs.Marked.{MarkTree, Marking, marked, marked_from, below, marks_of, marks_at, wanted, count_in, marks_in, AreMarked}
 use Rattle.rewriting.specs.declared.mark.GivenMarks.{GivenMarks}
-use Rattle.edit_plan.specs.Change.{payload}
-use Rattle.edit_plan.specs.Nesting.{owner}
+use Rattle.edit_change.specs.Change.{payload}
+use Rattle.edit_change.specs.Nesting.{owner}
 use Rattle.edit_plan.specs.Owned.{depth_of, owns_at, AreDependents, AreOwners}
 use Rattle.edit_plan.specs.Rewriting.{origin, payload_of, dependents}
 use Rattle.edit_plan.specs.Sought.{path_below, sought_one, sought_from, sought_at, registered_at}
 use Rattle.edit_plan.specs.Marks.{marks_given, IsTableOf, element_sought, payload_sought, exchanged, AreMarksFrom}
-use Rattle.edit_plan.specs.declared.change.Change.{Change}
+use Rattle.edit_change.specs.declared.change.Change.{Change}
 use Rattle.edit_plan.specs.declared.dependent.Dependent.{Dependent}
 use Rattle.edit_plan.specs.declared.sought.SoughtIndex.{SoughtIndex}
 use Rattle.edit_plan.proofs.Brought.{given-labelled}
 use Rattle.edit_plan.proofs.ByLevel.{LevelledBy, begins, ends, entered, from-alone}
-use Rattle.edit_plan.proofs.Lists.{slice_get-set_same, slice_get-set_other}
+use Rattle.edit_change.proofs.Lists.{slice_get-set_same, slice_get-set_other}
 use Rattle.edit_plan.proofs.Settled.{all_owned, rewritten-agree}
 
 -- ---- trees side by side

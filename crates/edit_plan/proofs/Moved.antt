@@ -27,26 +27,27 @@ use Rattle.cst_core.proofs.LastSlot.{parent_path-push, last_slot-push, parent-an
 use Rattle.rewriting.specs.Aim.{Over}
 use Rattle.rewriting.specs.Aimed.{siblings_from}
 use Rattle.rewriting.specs.Rewriting.{NumberedAim}
-use Rattle.edit_plan.specs.Aim.{position_aim, aim, aim_path}
-use Rattle.edit_plan.specs.Position.{anchor}
-use Rattle.edit_plan.specs.Fits.{Fits}
-use Rattle.edit_plan.specs.Change.{targets}
-use Rattle.edit_plan.specs.Nesting.{region, surroundings, is_keeping, is_around, owner, has_owner}
-use Rattle.edit_plan.specs.Fate.{fate, owner_in}
-use Rattle.edit_plan.specs.declared.fate.Fate.{Fate}
-use Rattle.edit_plan.specs.Owned.{position_aim_from, aim_from, depth, moved, dependents_in}
+use Rattle.edit_change.specs.Aim.{position_aim, aim, aim_path}
+use Rattle.edit_change.specs.Position.{anchor}
+use Rattle.edit_change.specs.Fits.{Fits}
+use Rattle.edit_change.specs.Change.{targets}
+use Rattle.edit_change.specs.Nesting.{region, surroundings, is_keeping, is_around, owner, has_owner}
+use Rattle.edit_change.specs.Fate.{fate, owner_in}
+use Rattle.edit_change.specs.declared.fate.Fate.{Fate}
+use Rattle.edit_change.specs.AimFrom.{position_aim_from, aim_from, depth}
+use Rattle.edit_plan.specs.Owned.{moved, dependents_in}
 use Rattle.edit_plan.specs.Rewriting.{moved_path, moved_aim, targets_of, dependents}
-use Rattle.edit_plan.specs.declared.position.Position.{Position}
-use Rattle.edit_plan.specs.PositionForm.{FirstChild, After}
-use Rattle.edit_plan.specs.declared.change.Change.{Change}
+use Rattle.edit_change.specs.declared.position.Position.{Position}
+use Rattle.edit_change.specs.PositionForm.{FirstChild, After}
+use Rattle.edit_change.specs.declared.change.Change.{Change}
 use Rattle.edit_plan.specs.declared.dependent.Dependent.{Dependent}
-use Rattle.edit_plan.specs.declared.change.Change.TheVariants.{Insert, InsertAll, Replace, ReplaceWithMany, ReplaceAll}
-use Rattle.edit_plan.proofs.Carried.{one-sibling, enumerate-push, take-whole}
-use Rattle.edit_plan.proofs.Apart.{meets}
-use Rattle.edit_plan.proofs.Fates.{owner-told}
-use Rattle.edit_plan.proofs.Lists.{slice_get-set_same, slice_get-set_other}
+use Rattle.edit_change.specs.declared.change.Change.TheVariants.{Insert, InsertAll, Replace, ReplaceWithMany, ReplaceAll}
+use Rattle.edit_change.proofs.Aiming.{one-sibling}
+use Rattle.edit_plan.proofs.Carried.{enumerate-push, take-whole}
+use Rattle.edit_change.proofs.Paths.{meets, same_path_from}
+use Rattle.edit_change.proofs.Regions.{owner-told}
+use Rattle.edit_change.proofs.Lists.{slice_get-set_same, slice_get-set_other}
 use Rattle.edit_plan.proofs.Owners.{HasRegion, owner_cases, owner_region, owner_is_above}
-use Rattle.edit_plan.proofs.Paths.{same_path_from}
 
 -- ---- an owner replaces a node by a node
 any-at : {X : Type 0} (p : X → Bool) (xs : List X) (i : ℕ) (x : X) → list_any p xs ≡ false → slice_get xs i ≡ Some x → p x ≡ false

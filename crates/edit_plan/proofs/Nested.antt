@@ -19,17 +19,18 @@ use Rattle.rewriting.specs.declared.given.Given.{Given}
 use Rattle.rewriting.specs.Given.{given_trees}
 use Rattle.rewriting.specs.Pass.{kind_only, given_by}
 use Rattle.rewriting.specs.Rewriting.{NumberedAim, numbers, rewritten}
-use Rattle.edit_plan.specs.Change.{payload}
+use Rattle.edit_change.specs.Change.{payload}
 use Rattle.edit_map.specs.Mapping.{Mapping}
-use Rattle.edit_plan.specs.Owned.{depth, depth_of, places_in, moved, dependents_in, owns_at, AreDependents, AreOwners, IsGiven, AreGiven, AreGivenFrom, IsFilled}
+use Rattle.edit_change.specs.AimFrom.{depth}
+use Rattle.edit_plan.specs.Owned.{depth_of, places_in, moved, dependents_in, owns_at, AreDependents, AreOwners, IsGiven, AreGiven, AreGivenFrom, IsFilled}
 use Rattle.edit_plan.specs.Plan.{ArePlaces}
 use Rattle.edit_plan.specs.Rewriting.{plain, payload_of, dependents, given}
-use Rattle.edit_plan.specs.declared.change.Change.{Change}
+use Rattle.edit_change.specs.declared.change.Change.{Change}
 use Rattle.edit_plan.specs.declared.dependent.Dependent.{Dependent}
 use Rattle.edit_plan.proofs.Brought.{given-labelled}
 use Rattle.edit_plan.proofs.Settled.{all_owned, plain-given, rewritten-agree}
 use Rattle.edit_plan.proofs.ByLevel.{LevelledBy, begins, ends, entered, from-alone}
-use Rattle.edit_plan.proofs.Lists.{slice_get-set_same, slice_get-set_other}
+use Rattle.edit_change.proofs.Lists.{slice_get-set_same, slice_get-set_other}
 
 pub filled : (cs : List Change) (c : ℕ) (change : Change) (owned : List NumberedAim) (table : List Given) (v : Given) → c < length cs → c < length table → change ≡ get_or cs c change → given_trees v ≡ map (rewritten kind_only (given_by table) owned []) (map subtree (payload change)) → IsFilled cs c owned table (set table c v)
 filled cs c change owned table v there long is trees = record {

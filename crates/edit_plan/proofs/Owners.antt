@@ -18,13 +18,14 @@ use Rattle.cst_core.specs.Tree as tree
 use Rattle.cst_core.specs.SyntaxElement.{element_of}
 use Rattle.cst_core.specs.declared.element.SyntaxElement.{SyntaxElement}
 use Rattle.cst_core.specs.declared.element.SyntaxElement.TheVariants.{Node, Token}
-use Rattle.edit_plan.specs.Position.{anchor}
-use Rattle.edit_plan.specs.Owned.{depth, depth_of}
-use Rattle.edit_plan.specs.Nesting.{region, region_of_one, surroundings, is_dropped, region_at, owner, has_owner}
-use Rattle.edit_plan.specs.declared.change.Change.{Change}
-use Rattle.edit_plan.specs.declared.change.Change.TheVariants.{Insert, InsertAll, Replace, ReplaceWithMany, ReplaceAll}
-use Rattle.edit_plan.proofs.Lists.{all-append, all_last, all_weaker}
-use Rattle.edit_plan.proofs.Paths.{same_path-true}
+use Rattle.edit_change.specs.Position.{anchor}
+use Rattle.edit_change.specs.AimFrom.{depth}
+use Rattle.edit_plan.specs.Owned.{depth_of}
+use Rattle.edit_change.specs.Nesting.{region, region_of_one, surroundings, is_dropped, region_at, owner, has_owner}
+use Rattle.edit_change.specs.declared.change.Change.{Change}
+use Rattle.edit_change.specs.declared.change.Change.TheVariants.{Insert, InsertAll, Replace, ReplaceWithMany, ReplaceAll}
+use Rattle.edit_change.proofs.Lists.{all-append, all_last, all_weaker}
+use Rattle.edit_change.proofs.Paths.{same_path-true}
 
 all_map_cons : (i n : ℕ) (ps : List Path) → AllByRecursion (λ q. length q < n) ps → AllByRecursion (λ q. length q < suc n) (map (λ q. i ∷ q) ps)
 all_map_cons i n [] a = tt

@@ -18,7 +18,7 @@ use Rattle.cst_core.specs.Path.{Path, same_path, counted_from}
 use Rattle.cst_core.specs.Element.{Address, same_address}
 use Rattle.edit_plan.specs.Sought.{spot, path_below, sought_one, sought_from}
 use Rattle.edit_plan.specs.declared.sought.Spot.{Spot}
-use Rattle.edit_plan.proofs.Paths.{same_path-true, same_path_from}
+use Rattle.edit_change.proofs.Paths.{same_path-true, same_path_from}
 
 first-true : (b c : Bool) → (b && c) ≡ true → b ≡ true
 first-true true c h = refl

@@ -1,12 +1,11 @@
 -- The root of a new tree is a node.
 --     unclashed                     where nothing clashes, no two changes share a target
---     no-root-range, no-root-in     no range replaces a root
 --     root-alone                    a change that replaces the root is independent, and the only one there
 --     kept-node, brought-node       a node that is kept is one in the new tree, and so is one that is brought
 --     stays-a-node                  what stands in the place of the root is one node
 --     takes-its-place               the node that a change brings which replaces the root
 --     found-fits                    of a change that is found, what is true of all, and that it replaces the root
-use Rattle.std.specs.Prelude.{◌≡◌, ℕ, zero, suc, ◌+◌, ◌-◌, ◌<◌, ◌≤◌, Bool, true, false, ◌&&◌, not, cond, nat_eq, List, [], ◌∷◌, ◌++◌, map, flat_map, filter, filter_map, find, length, slice_get, unwrap_or, option_map, is_none, All, Option, Some, None, refl}
+use Rattle.std.specs.Prelude.{◌≡◌, ℕ, zero, suc, ◌+◌, ◌<◌, ◌≤◌, Bool, true, false, ◌&&◌, not, cond, nat_eq, List, [], ◌∷◌, map, flat_map, filter, filter_map, find, length, slice_get, unwrap_or, option_map, is_none, All, Option, Some, None, refl}
 use Rattle.std.specs.List.{AllByRecursion, list_any, enumerate_from}
 use Rattle.std.specs.Option.{option_or, option_map_or}
 use Rattle.std.proofs.Common.{ap, ap₂, sym, subst, ◌∙◌, arith}
@@ -15,30 +14,29 @@ use Rattle.std.proofs.lemmas.List.Folds.{find-append}
 use Rattle.std.proofs.lemmas.Option.{none-some, same_Some, slice_get_within, get_or_from_slice_get}
 use Rattle.std.proofs.lemmas.List.{append-nil}
 use mathlib.Core.Logic.{inl, inr}
-use Rattle.cst_core.specs.Path.{Path, same_path, has_path, above, parent_path, last_slot, last_item, counted_from}
-use Rattle.cst_core.specs.SyntaxElement.{element_of}
+use Rattle.cst_core.specs.Path.{Path, same_path, has_path, above, last_item, counted_from}
 use Rattle.cst_core.specs.Tree.{SyntaxTree, Forest, Node, Token, at, is_token, forest, forest_relabelled}
 use Rattle.cst_core.specs.Element.{Element, IsNode, subtree, address}
-use Rattle.cst_core.specs.declared.element.SyntaxElement.{SyntaxElement}
 use Rattle.cst_core.specs.declared.element.SyntaxElement.TheVariants as form
 use Rattle.rewriting.specs.Aim.{Aim, FirstIn, Behind, Over, starts_at, replaces}
 use Rattle.rewriting.specs.Pass.{kind_only, given_by}
 use Rattle.rewriting.specs.Rewriting.{NumberedAim, numbers, replacements_at, is_replaced, rewritten, rewritten_from, rewritten_whole}
 use Rattle.rewriting.specs.declared.given.Given.{Given}
-use Rattle.edit_plan.specs.Aim.{position_aim, aim}
-use Rattle.edit_plan.specs.PositionForm.{FirstChild, After}
-use Rattle.edit_plan.specs.declared.position.Position.{Position}
-use Rattle.edit_plan.specs.Change.{payload, targets, shared_targets}
-use Rattle.edit_plan.specs.Nesting.{clashes, pairs, pairs_with, first_clash, is_keeping, region, region_at, surroundings, is_around, is_dropped, owner, is_independent}
+use Rattle.edit_change.specs.Aim.{position_aim, aim}
+use Rattle.edit_change.specs.PositionForm.{FirstChild, After}
+use Rattle.edit_change.specs.declared.position.Position.{Position}
+use Rattle.edit_change.specs.Change.{payload, targets, shared_targets}
+use Rattle.edit_change.specs.Nesting.{pairs_with, first_clash, is_keeping, region, region_at, surroundings, is_around, is_dropped, owner, is_independent}
 use Rattle.edit_plan.specs.Owned.{AreGiven}
 use Rattle.edit_plan.specs.Planned.{IsOneNode, BringsNode}
 use Rattle.edit_plan.specs.Rewriting.{Origin, OriginTree, plain, origin, aims_of, payload_of, dependents, given, independents}
-use Rattle.edit_plan.specs.declared.change.Change.{Change}
-use Rattle.edit_plan.specs.declared.change.Change.TheVariants.{Insert, InsertAll, Replace, ReplaceWithMany, ReplaceAll}
-use Rattle.edit_plan.proofs.Apart.{meets, starts, start_in_targets}
-use Rattle.edit_plan.proofs.Clashes.{clash, clashes-at}
-use Rattle.edit_plan.proofs.Lists.{all_weaker, all_enumerated}
-use Rattle.edit_plan.proofs.Paths.{same_path-true}
+use Rattle.edit_change.specs.declared.change.Change.{Change}
+use Rattle.edit_change.specs.declared.change.Change.TheVariants.{Insert, InsertAll, Replace, ReplaceWithMany, ReplaceAll}
+use Rattle.edit_change.proofs.Paths.{meets}
+use Rattle.edit_change.proofs.RootTargets.{no-root-range}
+use Rattle.edit_plan.proofs.Apart.{starts, start_in_targets}
+use Rattle.edit_change.proofs.Clashes.{clash, clashes-at}
+use Rattle.edit_change.proofs.Lists.{all_weaker, all_enumerated}
 use Rattle.edit_plan.proofs.Settled.{given_is}
 
 -- ---- where a search finds nothing
@@ -92,19 +90,6 @@ unclashed cs i j c d apart less at_i at_j =
     clashes-at cs i j c d at_i at_j ∙ none-of-map (clash cs) (λ k. (k, j)) 0 j i (omega arith) (omega (arith, less)) (none-in-each (clash cs) pairs_with 0 (length cs) j (omega arith) (omega (arith, slice_get_within cs j d at_j)) apart)
 
 -- ---- a change that replaces the root
-no-root-sibling : (p : Path) (ns : List ℕ) → has_path (map (λ i. p ++ i ∷ []) ns) [] ≡ false
-no-root-sibling p [] = refl
-no-root-sibling [] (n ∷ ns) = no-root-sibling [] ns
-no-root-sibling (j ∷ p) (n ∷ ns) = no-root-sibling (j ∷ p) ns
-
-pub no-root-range : (first last : SyntaxElement) (es : List SyntaxElement) → has_path (targets (ReplaceAll first last es)) [] ≡ false
-no-root-range first last es =
-    no-root-sibling (parent_path (element_of first).path) (counted_from (last_slot (element_of first).path) (suc (last_slot (element_of last).path) - last_slot (element_of first).path))
-
--- a change that is known to be one
-pub no-root-in : {c : Change} {first last : SyntaxElement} {es : List SyntaxElement} → c ≡ ReplaceAll first last es → has_path (targets c) [] ≡ false
-no-root-in {c} {first} {last} {es} is = ap (λ d. has_path (targets d) []) is ∙ no-root-range first last es
-
 root-target : (p : Path) → has_path (p ∷ []) [] ≡ true → p ≡ []
 root-target [] h = refl
 root-target (i ∷ p) h = absurd (false≢true h)

@@ -18,9 +18,9 @@ use Rattle.edit_plan.specs.Rewriting.{OriginTree, new_tree, is_free}
 use Rattle.edit_plan.specs.Results.{changed}
 use Rattle.edit_plan.specs.Plan.{IsTooLong}
 use Rattle.edit_plan.specs.Laws.{IsUntouched, brought_text, filled_text, filled_text_from}
-use Rattle.edit_plan.specs.PositionForm.{After as place_after}
-use Rattle.edit_plan.specs.declared.change.Change.{Change}
-use Rattle.edit_plan.specs.declared.change.Change.TheVariants.{Insert, Replace}
+use Rattle.edit_change.specs.PositionForm.{After as place_after}
+use Rattle.edit_change.specs.declared.change.Change.{Change}
+use Rattle.edit_change.specs.declared.change.Change.TheVariants.{Insert, Replace}
 use Rattle.edit_plan.proofs.RowChanges.{no_places}
 use Rattle.edit_plan.proofs.RowsOfLengths.{doubled, falling, long, longest, P, changes_emptied}
 use Rattle.edit_plan.proofs.Relabelled.{topmost-relabelled}

@@ -12,8 +12,8 @@ use Rattle.edit_map.proofs.RowTrees.{token, branch}
 use Rattle.edit_map.proofs.Rows.{element_of_tree, R}
 use Rattle.edit_plan.specs.Rewriting.{OriginTree, new_tree}
 use Rattle.edit_plan.specs.Plan.{IsTooLong}
-use Rattle.edit_plan.specs.declared.change.Change.{Change}
-use Rattle.edit_plan.specs.declared.change.Change.TheVariants.{Insert, Replace, ReplaceAll}
+use Rattle.edit_change.specs.declared.change.Change.{Change}
+use Rattle.edit_change.specs.declared.change.Change.TheVariants.{Insert, Replace, ReplaceAll}
 use Rattle.edit_plan.proofs.RowChanges.{first_in, no_places}
 use Rattle.edit_plan.proofs.Unowned.{text-unowned}
 

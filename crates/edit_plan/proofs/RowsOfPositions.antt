@@ -2,11 +2,11 @@
 use Rattle.std.specs.Prelude.{◌≡◌, List, [], ◌∷◌, map, Option, Some, None, refl}
 use Rattle.cst_core.specs.SyntaxElement.{syntax_of}
 use Rattle.edit_map.proofs.Rows.{R}
-use Rattle.edit_plan.specs.Position as place
+use Rattle.edit_change.specs.Position as place
 use Rattle.rewriting.specs.Aim.{Gap, gap_of}
-use Rattle.edit_plan.specs.Aim.{position_aim}
-use Rattle.edit_plan.specs.declared.position.Position.{Position}
-use Rattle.edit_plan.specs.PositionForm.{FirstChild, After}
+use Rattle.edit_change.specs.Aim.{position_aim}
+use Rattle.edit_change.specs.declared.position.Position.{Position}
+use Rattle.edit_change.specs.PositionForm.{FirstChild, After}
 use Rattle.edit_plan.proofs.RowChanges.{E, after, before, last_in}
 
 -- there is no gap beside a root

@@ -8,7 +8,7 @@ use Rattle.cst_core.specs.Element.{Element, NumbersTell}
 use Rattle.cst_core.specs.SyntaxElement.{element_of}
 use Rattle.cst_core.specs.declared.element.SyntaxElement.{SyntaxElement}
 use Rattle.edit_map.specs.Mapping.{mapped_elements}
-use Rattle.edit_plan.specs.Change.{elements}
+use Rattle.edit_change.specs.Change.{elements}
 use Rattle.edit_plan.specs.Plan.{elements_held}
 use Rattle.edit_plan.specs.Building.{Plan, registered}
 use Rattle.edit_plan.specs.Planned.{TellsOf}

@@ -16,12 +16,12 @@ use Rattle.cst_core.specs.Element.{Element, address, subtree}
 use Rattle.rewriting.specs.Pass.{kind_only}
 use Rattle.rewriting.specs.Rewriting.{numbers, rewritten, rewritten_whole}
 use Rattle.rewriting.specs.Topmost.{topmost, not_given}
-use Rattle.edit_plan.specs.Nesting.{is_independent}
+use Rattle.edit_change.specs.Nesting.{is_independent}
 use Rattle.edit_plan.specs.Rewriting.{OriginTree, plain, origin, aims_of, payload_of, dependents, given, independents, is_free, new_tree}
 use Rattle.edit_plan.specs.Results.{changed}
-use Rattle.edit_plan.specs.declared.change.Change.{Change}
+use Rattle.edit_change.specs.declared.change.Change.{Change}
 use Rattle.edit_plan.proofs.Brought.{mark, shown, marked, marked-free}
-use Rattle.edit_plan.proofs.Lists.{all_filter, all_weaker, all_enumerated}
+use Rattle.edit_change.proofs.Lists.{all_filter, all_weaker, all_enumerated}
 use Rattle.edit_plan.proofs.Relabelled.{map-rewritten_whole, topmost-relabelled}
 use Rattle.edit_plan.proofs.Settled.{given_is, whole-agree}
 

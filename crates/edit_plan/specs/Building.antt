@@ -13,17 +13,17 @@ use Rattle.cst_core.specs.Element.{Element, IsNode, NumbersTell, element_code}
 use Rattle.cst_core.specs.SyntaxElement.{element_of, syntax_at}
 use Rattle.cst_core.specs.TreeIds.{IsSpent}
 use Rattle.cst_core.specs.declared.element.SyntaxElement.{SyntaxElement}
-use Rattle.edit_plan.specs.Codes.{syntax_element_code}
-use Rattle.edit_plan.specs.ChangeCodes.{change_code}
-use Rattle.edit_plan.specs.Fits.{Fits}
+use Rattle.edit_change.specs.Codes.{syntax_element_code}
+use Rattle.edit_change.specs.ChangeCodes.{change_code}
+use Rattle.edit_change.specs.Fits.{Fits}
 use Rattle.edit_map.specs.Mapping.{Mapping}
 use Rattle.edit_map.specs.Building.{IsMapping}
-use Rattle.edit_plan.specs.Nesting.{first_clash}
+use Rattle.edit_change.specs.Nesting.{first_clash}
 use Rattle.edit_plan.specs.Rewriting.{OriginTree, plain, is_free, new_tree}
 use Rattle.edit_plan.specs.Results.{changed, annotated, paths_with}
 use Rattle.edit_plan.specs.AnnotationTable.{found_for}
 use Rattle.edit_plan.specs.Plan.{IsFirstUnplaced, ArePlaces, IsTooLong, elements_held}
-use Rattle.edit_plan.specs.declared.change.Change.{Change}
+use Rattle.edit_change.specs.declared.change.Change.{Change}
 use Rattle.edit_plan.specs.declared.edit_error.EditError.{EditError}
 use Rattle.edit_plan.specs.declared.edit_error.EditError.TheVariants.{Intersecting, MissingMapping, TooLong, NoTreeNumber, Memory}
 

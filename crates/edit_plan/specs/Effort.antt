@@ -6,7 +6,7 @@ use Rattle.cst_core.specs.Path.{Path}
 use Rattle.cst_core.specs.Element.{Element, subtree}
 use Rattle.rewriting.specs.Effort.{touched, parents_of}
 use Rattle.edit_plan.specs.Rewriting.{independents, dependents, payload_of}
-use Rattle.edit_plan.specs.declared.change.Change.{Change}
+use Rattle.edit_change.specs.declared.change.Change.{Change}
 
 -- a change that owns nothing adds nothing
 abbrev pub touched_by : List Change → (ℕ → Path) → Element → ℕ

@@ -20,7 +20,7 @@ use Rattle.rewriting.specs.declared.mark.GivenMarks.{GivenMarks}
 use Rattle.edit_plan.specs.Owned.{depth_of}
 use Rattle.edit_plan.specs.Rewriting.{OriginTree, dependents, given}
 use Rattle.edit_plan.specs.Sought.{sought_from, sought_at, registered_at}
-use Rattle.edit_plan.specs.declared.change.Change.{Change}
+use Rattle.edit_change.specs.declared.change.Change.{Change}
 use Rattle.edit_plan.specs.declared.sought.SoughtIndex.{SoughtIndex}
 
 abbrev pub with_marks : List Address → OriginTree → MarkTree

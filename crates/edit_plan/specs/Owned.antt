@@ -1,6 +1,5 @@
 -- What code keeps of owners, and of the changes that they own.
---     aim_from                      where a change aims with another path in place of its own
---     depth                         more than the lengths of the paths around a change, and no more than those of what it replaces
+--     depth_of                      the depth of the change at a number
 --     IsPlaceOf                     the only place of an owner's target in its payload, or that there is none
 --     path_in, path_at, places_in   a place, if there is one; that of an owner, from a table by its number; the empty path where there is none
 --     IsPlaced                      a table has no other places than those of owners
@@ -12,47 +11,23 @@
 --     IsGiven, AreGiven             a table has what a change gives; what each change gives
 --     IsFilled                      what a change gives is entered into a table: its payload, rewritten by what the table has
 --     AreGivenFrom                  it has what changes of this depth or more give, and those that own nothing
-use Rattle.std.specs.Prelude.{◌≡◌, ◌≢◌, ◌↔◌, ◌<◌, ℕ, suc, ◌-◌, ◌≤◌, ◌&&◌, ◌==◌, not, Bool, List, [], map, filter, length, slice_get, unwrap_or, Option, Some, option_map, option_and_then, Vec}
+use Rattle.std.specs.Prelude.{◌≡◌, ◌≢◌, ◌↔◌, ◌<◌, ℕ, ◌≤◌, ◌&&◌, ◌==◌, not, Bool, List, [], map, filter, length, slice_get, unwrap_or, Option, Some, option_map, option_and_then, Vec}
 use Rattle.std.specs.Global.{Global}
 use Rattle.std.specs.Option.{option_map_or}
-use Rattle.cst_core.specs.Path.{Path, last_slot, counted_from}
+use Rattle.cst_core.specs.Path.{Path, counted_from}
 use Rattle.cst_core.specs.Element.{subtree}
-use Rattle.cst_core.specs.SyntaxElement.{element_of}
 use Rattle.rewriting.specs.declared.given.Given.{Given}
-use Rattle.rewriting.specs.Aim.{Aim, FirstIn, Behind, Over}
-use Rattle.rewriting.specs.Aimed.{siblings_from}
 use Rattle.rewriting.specs.Pass.{kind_only, given_by}
 use Rattle.rewriting.specs.Rewriting.{NumberedAim, rewritten}
 use Rattle.edit_map.specs.Mapping.{Mapping}
-use Rattle.edit_plan.specs.Position.{anchor}
+use Rattle.edit_change.specs.AimFrom.{aim_from, depth}
 use Rattle.edit_plan.specs.Plan.{IsPlaceIn, HasPlace}
-use Rattle.edit_plan.specs.Nesting.{owner}
+use Rattle.edit_change.specs.Nesting.{owner}
 use Rattle.edit_plan.specs.Rewriting.{plain, payload_of, dependents, given}
-use Rattle.edit_plan.specs.declared.position.Position.{Position}
-use Rattle.edit_plan.specs.PositionForm.{FirstChild, After}
-use Rattle.edit_plan.specs.declared.change.Change.{Change}
-use Rattle.edit_plan.specs.declared.change.Change.TheVariants.{Insert, InsertAll, Replace, ReplaceWithMany, ReplaceAll}
+use Rattle.edit_change.specs.declared.change.Change.{Change}
 use Rattle.edit_plan.specs.declared.dependent.Dependent.{Dependent}
 
--- ---- where a change aims
-abbrev pub position_aim_from : Path → Position → Aim
-position_aim_from p (FirstChild n) = FirstIn p
-position_aim_from p (After e) = Behind p
-
-abbrev pub aim_from : Path → Change → Aim
-aim_from p (Insert at e) = position_aim_from p at
-aim_from p (InsertAll at es) = position_aim_from p at
-aim_from p (Replace t e) = Over (siblings_from p 1)
-aim_from p (ReplaceWithMany t es) = Over (siblings_from p 1)
-aim_from p (ReplaceAll first last es) = Over (siblings_from p (suc (last_slot (element_of last).path) - last_slot (element_of first).path))
-
-abbrev pub depth : Change → ℕ
-depth (Insert at e) = suc (length (anchor at).path)
-depth (InsertAll at es) = suc (length (anchor at).path)
-depth (Replace t e) = length (element_of t).path
-depth (ReplaceWithMany t es) = length (element_of t).path
-depth (ReplaceAll first last es) = length (element_of first).path
-
+-- ---- depth
 abbrev pub depth_of : List Change → ℕ → ℕ
 depth_of changes c = option_map_or depth (slice_get changes c) 0
 

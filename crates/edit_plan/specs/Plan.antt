@@ -13,14 +13,14 @@ use Rattle.cst_core.specs.Element.{Element, address, subtree}
 use Rattle.cst_core.specs.SyntaxElement.{element_of}
 use Rattle.cst_core.specs.Green.{length_limit}
 use Rattle.edit_map.specs.Mapping.{Mapping, StandsFor, mapped_elements}
-use Rattle.edit_plan.specs.Change.{elements}
+use Rattle.edit_change.specs.Change.{elements}
 use Rattle.rewriting.specs.Aim.{Behind}
-use Rattle.edit_plan.specs.Aim.{aim, aim_path}
-use Rattle.edit_plan.specs.Nesting.{owner}
+use Rattle.edit_change.specs.Aim.{aim, aim_path}
+use Rattle.edit_change.specs.Nesting.{owner}
 use Rattle.edit_plan.specs.Rewriting.{OriginTree, plain, new_tree, is_free}
 use Rattle.edit_plan.specs.Results.{changed, annotated}
-use Rattle.edit_plan.specs.declared.change.Change.{Change}
-use Rattle.edit_plan.specs.declared.change.Change.TheVariants.{Insert, InsertAll, Replace, ReplaceWithMany, ReplaceAll}
+use Rattle.edit_change.specs.declared.change.Change.{Change}
+use Rattle.edit_change.specs.declared.change.Change.TheVariants.{Insert, InsertAll, Replace, ReplaceWithMany, ReplaceAll}
 
 -- A payload has an element at each such path where equal numbers have equal trees.
 abbrev pub IsPlaceIn : Mapping → Change → Path → Type 0

@@ -18,10 +18,10 @@ use Rattle.cst_core.specs.Tree.{Tree, SyntaxTree, relabelled}
 use Rattle.cst_core.specs.Element.{Address, Element, address, subtree}
 use Rattle.rewriting.specs.Aim.{Aim, FirstIn, Behind, Over}
 use Rattle.rewriting.specs.Rewriting.{NumberedAim, rewritten, rewritten_whole}
-use Rattle.edit_plan.specs.Change.{payload, targets}
-use Rattle.edit_plan.specs.Aim.{aim}
-use Rattle.edit_plan.specs.Nesting.{is_independent, has_owner}
-use Rattle.edit_plan.specs.declared.change.Change.{Change}
+use Rattle.edit_change.specs.Change.{payload, targets}
+use Rattle.edit_change.specs.Aim.{aim}
+use Rattle.edit_change.specs.Nesting.{is_independent, has_owner}
+use Rattle.edit_change.specs.declared.change.Change.{Change}
 
 -- ---- aims of changes
 abbrev pub aims_of : List (ℕ × Change) → List NumberedAim

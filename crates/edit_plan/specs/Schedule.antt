@@ -13,13 +13,13 @@ use Rattle.std.specs.Option.{option_map_or}
 use Rattle.cst_core.specs.Path.{Path, last_item}
 use Rattle.cst_core.specs.declared.element.SyntaxElement.TheVariants.{Node, Token}
 use Rattle.rewriting.specs.Aim.{same_gap, replaces}
-use Rattle.edit_plan.specs.Aim.{aim}
-use Rattle.edit_plan.specs.Nesting.{is_dropped, has_owner}
+use Rattle.edit_change.specs.Aim.{aim}
+use Rattle.edit_change.specs.Nesting.{is_dropped, has_owner}
 use Rattle.rewriting.specs.Rewriting.{gap_order}
-use Rattle.edit_plan.specs.declared.position.Position.{Position}
-use Rattle.edit_plan.specs.PositionForm.{FirstChild, After}
-use Rattle.edit_plan.specs.declared.change.Change.{Change}
-use Rattle.edit_plan.specs.declared.change.Change.TheVariants.{Insert, InsertAll, Replace, ReplaceWithMany, ReplaceAll}
+use Rattle.edit_change.specs.declared.position.Position.{Position}
+use Rattle.edit_change.specs.PositionForm.{FirstChild, After}
+use Rattle.edit_change.specs.declared.change.Change.{Change}
+use Rattle.edit_change.specs.declared.change.Change.TheVariants.{Insert, InsertAll, Replace, ReplaceWithMany, ReplaceAll}
 
 abbrev pub Numbered : Type 0
 Numbered = ℕ × Change

@@ -1,8 +1,8 @@
 ghost use Rattle.std.specs.Prelude.{ℕ, ◌≡◌, ◌≢◌, ◌<◌, ◌++◌, [], ◌∷◌, length, IfOk, OnOk};
 ghost use Rattle.edit_plan.specs.Owned.{depth_of, owners_at, AreOwners};
 
-use crate::change::Change;
 use crate::dependent::Dependent;
+use edit_change::Change;
 use std::alloc::{AllocError, Global};
 
 // More than the depth of each change.

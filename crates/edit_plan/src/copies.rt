@@ -14,11 +14,11 @@ ghost use Rattle.edit_plan.specs.Results.{copies_of};
 ghost use Rattle.edit_plan.specs.Sought.{addresses};
 ghost use Rattle.edit_plan.specs.Marks.{IsTableOf, with_marks, marks_given, paths_of_mark, path_lists};
 
-use crate::change::Change;
 use crate::dependent::Dependent;
 use crate::marks::given_marks;
 use crate::sought::SoughtIndex;
 use cst_core::{SyntaxElement, SyntaxNode};
+use edit_change::Change;
 use rewriting::{Aimed, GivenMarks, Mark, marks_of_whole};
 use std::alloc::{AllocError, Global};
 

@@ -1,4 +1,5 @@
 use cst_core::TreeError;
+use edit_change::ClashError;
 use std::alloc::AllocError;
 use thiserror::Error;
 
@@ -30,6 +31,20 @@ impl From<AllocError> for EditError {
 
     fn from(_: AllocError) -> EditError {
         EditError::Memory
+    }
+}
+
+impl From<ClashError> for EditError {
+    ghost use Rattle.std.specs.Prelude.{◌≡◌};
+    ghost use Rattle.edit_plan.specs.Refusal.{of_clash};
+
+    ghost from_gives = { λ c e. e ≡ of_clash c };
+
+    fn from(error: ClashError) -> EditError {
+        match error {
+            ClashError::Intersecting { first, second } => EditError::Intersecting { first, second },
+            ClashError::Memory => EditError::Memory,
+        }
     }
 }
 

@@ -7,14 +7,14 @@ ghost use Rattle.cst_core.specs.GreenElement.{element_trees};
 ghost use Rattle.rewriting.specs.Aimed.{aims_of};
 ghost use Rattle.rewriting.specs.Pass.{kind_only, given_by};
 ghost use Rattle.rewriting.specs.Rewriting.{NumberedAim, rewritten};
-ghost use Rattle.edit_plan.specs.Change.{payload};
+ghost use Rattle.edit_change.specs.Change.{payload};
 ghost use Rattle.edit_plan.specs.Rewriting.{payload_of};
 ghost use Rattle.edit_plan.specs.Owned.{moved, owns_at, IsFilled, AreDependents, AreGiven, AreGivenFrom};
 
 use crate::by_depth::owners_by_depth;
-use crate::change::Change;
 use crate::dependent::{Dependent, moved_aims};
 use cst_core::GreenElement;
+use edit_change::Change;
 use rewriting::{Aimed, Given, rebuild};
 use std::alloc::{AllocError, Global};
 

@@ -6,16 +6,16 @@ ghost use Rattle.cst_core.specs.Element.{Address};
 ghost use Rattle.cst_core.specs.SyntaxElement.{element_of};
 ghost use Rattle.rewriting.specs.Aimed.{aims_of};
 ghost use Rattle.rewriting.specs.Marked.{MarkTree, AreMarked, below, marked, marked_from, marks_of};
-ghost use Rattle.edit_plan.specs.Change.{payload};
+ghost use Rattle.edit_change.specs.Change.{payload};
 ghost use Rattle.edit_plan.specs.Rewriting.{payload_of};
 ghost use Rattle.edit_plan.specs.Owned.{moved, owns_at, AreDependents};
 ghost use Rattle.edit_plan.specs.Marks.{IsTableOf, element_sought, payload_sought, exchanged, marks_given, AreMarksFrom};
 
 use crate::by_depth::owners_by_depth;
-use crate::change::Change;
 use crate::dependent::{Dependent, moved_aims};
 use crate::sought::SoughtIndex;
 use cst_core::SyntaxElement;
+use edit_change::Change;
 use rewriting::{Aimed, GivenMarks, Mark, push_marks};
 use std::alloc::{AllocError, Global};
 

@@ -3,51 +3,22 @@
 ghost use Rattle.std.specs.Prelude.{ℕ, true, ◌≡◌, ◌<◌, ◌↔◌, map, length, slice_get, None, Some, IsTrue, IfOk, IfErr, IsSomeAnd, OnOk};
 ghost use Rattle.cst_core.specs.Path.{Path};
 ghost use Rattle.cst_core.specs.declared.element.SyntaxElement.TheVariants.{Node};
-ghost use Rattle.rewriting.specs.Aim.{Behind};
 ghost use Rattle.edit_map.specs.Mapping.{Mapping};
-ghost use Rattle.edit_plan.specs.Aim.{position_aim, aim};
-ghost use Rattle.edit_plan.specs.Fate.{fate};
-ghost use Rattle.edit_plan.specs.Nesting.{is_keeping};
+ghost use Rattle.edit_change.specs.Fate.{fate};
+ghost use Rattle.edit_change.specs.Nesting.{is_keeping};
 ghost use Rattle.edit_plan.specs.Plan.{HasPlace, ArePlaces};
 ghost use Rattle.edit_plan.specs.Owned.{path_in, path_at, places_in, IsPlaceOf, IsPlaced};
 ghost use Rattle.edit_plan.specs.Unbuilt.{PlacesRefuse};
-ghost use Rattle.edit_plan.specs.declared.change.Change.{Change};
-ghost use Rattle.edit_plan.specs.declared.change.Change.TheVariants.{Replace};
+ghost use Rattle.edit_change.specs.declared.change.Change.{Change};
+ghost use Rattle.edit_change.specs.declared.change.Change.TheVariants.{Replace};
 
-use crate::change::Change;
 use crate::dependent::owner_of;
 use crate::edit_error::EditError;
-use crate::fate::Fate;
-use crate::position::Position;
 use cst_core::{SyntaxElement, SyntaxNode};
+use edit_change::{Change, Fate};
 use edit_map::SyntaxMapping;
 use edit_map::laws::place_is_unique;
 use std::alloc::{AllocError, Global};
-
-// Whether an insert is behind the element at a path.
-fn is_behind(position: &Position, path: &[usize]) -> bool
-    ensures { IsTrue result ↔ (position_aim position.now ≡ Behind path.now) }
-{
-    match position.after_of() {
-        Some(element) => element.slots() == path,
-        None => false,
-    }
-}
-
-impl Change {
-    // Whether it inserts behind the element at a path.
-    fn is_behind(&self, path: &[usize]) -> bool
-        ensures { IsTrue result ↔ (aim self.now ≡ Behind path.now) }
-    {
-        match self {
-            Change::Insert(position, _) => is_behind(position, path),
-            Change::InsertAll(position, _) => is_behind(position, path),
-            Change::Replace(_, _) => false,
-            Change::ReplaceWithMany(_, _) => false,
-            Change::ReplaceAll(_, _, _) => false,
-        }
-    }
-}
 
 // The place of a node in a payload, to which the payload has an element.
 fn place_in(

@@ -1,16 +1,14 @@
 ghost use Rattle.std.specs.Prelude.{◌≡◌, ◌<◌, [], length, slice_get, option_and_then, false, All, IfOk, IfErr};
 ghost use Rattle.std.specs.Option.{option_map_or};
-ghost use Rattle.edit_plan.specs.Fits.{Fits};
-ghost use Rattle.edit_plan.specs.Nesting.{is_dropped, owner};
+ghost use Rattle.edit_change.specs.Fits.{Fits};
+ghost use Rattle.edit_change.specs.Nesting.{is_dropped, owner};
 ghost use Rattle.edit_plan.specs.Building.{IsPlan, BuildRefuses};
 
 use crate::annotation::SyntaxAnnotation;
-use crate::change::Change;
 use crate::edit_error::EditError;
-use crate::fate::{Fate, fates};
 use crate::places::places;
-use crate::target_index::TargetIndex;
 use cst_core::{SyntaxElement, SyntaxNode};
+use edit_change::{Change, Fate, TargetIndex, fates};
 use edit_map::SyntaxMapping;
 use std::alloc::Global;
 use std::marker::Model;

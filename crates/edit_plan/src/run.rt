@@ -13,24 +13,23 @@ ghost use Rattle.edit_plan.specs.Building.{Makes, RunRefuses};
 ghost use Rattle.edit_plan.specs.Marks.{annotated_path};
 ghost use Rattle.edit_plan.specs.Planned.{AreAnnotated, IsOneNode, IsRewritten, KeepsTop};
 ghost use Rattle.cst_core.specs.Path.{Path, has_path};
-ghost use Rattle.edit_plan.specs.Change.{targets};
-ghost use Rattle.edit_plan.specs.Fate.{fate};
-ghost use Rattle.edit_plan.specs.Fits.{Fits};
+ghost use Rattle.edit_change.specs.Change.{targets};
+ghost use Rattle.edit_change.specs.Fate.{fate};
+ghost use Rattle.edit_change.specs.Fits.{Fits};
 ghost use Rattle.edit_plan.specs.Owned.{AreDependents, AreGiven};
 ghost use Rattle.edit_plan.specs.Plan.{ArePlaces};
 ghost use Rattle.edit_plan.specs.Rewriting.{independents};
 
 use crate::annotated::{annotated, elements_by_annotation, followed};
 use crate::annotation::SyntaxAnnotation;
-use crate::change::Change;
 use crate::copies::copies;
 use crate::dependent::{Dependent, dependents};
 use crate::edit::SyntaxEdit;
 use crate::edit_error::EditError;
-use crate::fate::Fate;
 use crate::given::given;
 use crate::plan::EditPlan;
 use cst_core::{GreenElement, GreenNode, SyntaxElement, SyntaxNode, TreeIds};
+use edit_change::{Change, Fate};
 use rewriting::{Aimed, Given, places_of_given_whole, rebuild_whole};
 use std::alloc::{AllocError, Global};
 

@@ -6,7 +6,7 @@ use Rattle.std.proofs.Common.{ap, ◌∙◌}
 use Rattle.cst_core.specs.Element.{Element}
 use Rattle.cst_core.specs.declared.element.SyntaxElement.{SyntaxElement}
 use Rattle.edit_map.specs.Mapping.{Mapping}
-use Rattle.edit_plan.specs.declared.change.Change.{Change}
+use Rattle.edit_change.specs.declared.change.Change.{Change}
 use Rattle.syntax_editor.specs.RecordCall.{RecordCall, recorded}
 use Rattle.syntax_editor.specs.Editor.{Editor, after_call}
 

@@ -8,8 +8,8 @@ use Rattle.cst_core.specs.Element.{Element, same_element}
 use Rattle.cst_core.specs.SyntaxElement.{element_of}
 use Rattle.cst_core.specs.declared.element.SyntaxElement.{SyntaxElement}
 use Rattle.cst_core.specs.declared.element.SyntaxElement.TheVariants.{Node, Token}
-use Rattle.edit_plan.specs.declared.change.Change.{Change}
-use Rattle.edit_plan.specs.declared.change.Change.TheVariants.{Insert, InsertAll, Replace, ReplaceWithMany, ReplaceAll}
+use Rattle.edit_change.specs.declared.change.Change.{Change}
+use Rattle.edit_change.specs.declared.change.Change.TheVariants.{Insert, InsertAll, Replace, ReplaceWithMany, ReplaceAll}
 use Rattle.syntax_editor.specs.Table.{first_fit}
 use Rattle.syntax_editor.specs.Recording.{with_replacement, is_replace_of, delete, replace}
 use Rattle.edit_plan.specs.Fits.{is_native, is_native_position, is_root, is_one_node, is_range, Fits}

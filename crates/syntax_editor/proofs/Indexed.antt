@@ -24,8 +24,8 @@ use Rattle.cst_core.specs.Path.{Path, same_path}
 use Rattle.cst_core.specs.Element.{Element}
 use Rattle.cst_core.specs.SyntaxElement.{element_of}
 use Rattle.cst_core.specs.declared.element.SyntaxElement.{SyntaxElement}
-use Rattle.edit_plan.specs.declared.change.Change.{Change}
-use Rattle.edit_plan.specs.declared.change.Change.TheVariants.{Insert, InsertAll, Replace, ReplaceWithMany, ReplaceAll}
+use Rattle.edit_change.specs.declared.change.Change.{Change}
+use Rattle.edit_change.specs.declared.change.Change.TheVariants.{Insert, InsertAll, Replace, ReplaceWithMany, ReplaceAll}
 use Rattle.edit_plan.specs.Fits.{Fits}
 use Rattle.syntax_editor.specs.declared.replace_index.Replaced.{Replaced}
 use Rattle.syntax_editor.specs.Recording.{replacement_of, is_replace_of, with_replacement, replace, delete, is_deleted}

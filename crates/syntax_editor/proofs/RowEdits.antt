@@ -10,7 +10,7 @@ use Rattle.edit_map.proofs.Rows as edited
 use Rattle.edit_map.proofs.Rows.{element_of_tree}
 use Rattle.edit_plan.specs.Rewriting.{new_tree, is_free}
 use Rattle.edit_plan.specs.Results.{changed}
-use Rattle.edit_plan.specs.declared.change.Change.{Change}
+use Rattle.edit_change.specs.declared.change.Change.{Change}
 use Rattle.syntax_editor.specs.Level.{newline, space}
 
 -- ---- trees

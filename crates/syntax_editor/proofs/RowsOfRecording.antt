@@ -6,8 +6,8 @@ use Rattle.cst_core.specs.Kinds.{ATTR, DOC_COMMENT, FN, FN_KW, WHITESPACE}
 use Rattle.cst_core.specs.SyntaxElement.{element_of}
 use Rattle.cst_core.specs.declared.element.SyntaxElement.TheVariants.{Node, Token}
 use Rattle.edit_plan.specs.PositionForm.{FirstChild, After}
-use Rattle.edit_plan.specs.declared.change.Change.{Change}
-use Rattle.edit_plan.specs.declared.change.Change.TheVariants.{Insert, InsertAll, Replace, ReplaceWithMany, ReplaceAll}
+use Rattle.edit_change.specs.declared.change.Change.{Change}
+use Rattle.edit_change.specs.declared.change.Change.TheVariants.{Insert, InsertAll, Replace, ReplaceWithMany, ReplaceAll}
 use Rattle.edit_plan.specs.Nesting.{first_clash}
 use Rattle.edit_map.proofs.RowTrees.{token, branch, tree_L}
 use Rattle.syntax_editor.specs.Recording.{is_deleted, delete, replace, merged}

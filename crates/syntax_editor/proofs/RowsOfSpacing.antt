@@ -5,10 +5,10 @@ use Rattle.cst_core.specs.SyntaxElement.{element_of}
 use Rattle.cst_core.specs.SyntaxKind.{SyntaxKind}
 use Rattle.cst_core.specs.Kinds.{AMP, ATTR, BLOCK_EXPR, COMMA, EXPR_STMT, FN, GENERIC_ARG_LIST, ITEM_LIST, LIFETIME, LITERAL, L_ANGLE, L_CURLY, NAME, R_ANGLE, SEMICOLON, STMT_LIST, USE, WHITESPACE}
 use Rattle.cst_core.specs.declared.element.SyntaxElement.{SyntaxElement}
-use Rattle.edit_plan.specs.declared.position.Position.{Position}
+use Rattle.edit_change.specs.declared.position.Position.{Position}
 use Rattle.edit_plan.specs.PositionForm.{FirstChild, After}
-use Rattle.edit_plan.specs.declared.change.Change.{Change}
-use Rattle.edit_plan.specs.declared.change.Change.TheVariants.{InsertAll}
+use Rattle.edit_change.specs.declared.change.Change.{Change}
+use Rattle.edit_change.specs.declared.change.Change.TheVariants.{InsertAll}
 use Rattle.edit_map.proofs.RowTrees.{token, branch, tree_L, tree_B}
 use Rattle.edit_map.proofs.Rows.{element_of_tree}
 use Rattle.syntax_editor.specs.Spacing.{Space, OneSpace, NoSpace, NewLine, between, space_before, numbers_needed, insert_all_with_whitespace, spacing_refusal}

@@ -17,8 +17,8 @@ use Rattle.std.specs.HashMap.{get_by, spare}
 use Rattle.cst_core.specs.Path.{Path, same_path}
 use Rattle.cst_core.specs.SyntaxElement.{element_of}
 use Rattle.cst_core.specs.declared.element.SyntaxElement.{SyntaxElement}
-use Rattle.edit_plan.specs.declared.change.Change.{Change}
-use Rattle.edit_plan.specs.declared.change.Change.TheVariants.{Insert, InsertAll, Replace, ReplaceWithMany, ReplaceAll}
+use Rattle.edit_change.specs.declared.change.Change.{Change}
+use Rattle.edit_change.specs.declared.change.Change.TheVariants.{Insert, InsertAll, Replace, ReplaceWithMany, ReplaceAll}
 use Rattle.syntax_editor.specs.Recording.{with_replacement}
 use Rattle.syntax_editor.specs.declared.replace_index.Replaced.{Replaced}
 use Rattle.syntax_editor.specs.declared.replace_index.ReplaceIndex.{ReplaceIndex}

@@ -6,8 +6,8 @@ use Rattle.std.specs.Prelude.{Bool, ◌&&◌, ◌||◌, not, List, [], ◌∷◌
 use Rattle.std.specs.List.{fold}
 use Rattle.cst_core.specs.Element.{Element}
 use Rattle.cst_core.specs.declared.element.SyntaxElement.{SyntaxElement}
-use Rattle.edit_plan.specs.declared.position.Position.{Position}
-use Rattle.edit_plan.specs.declared.change.Change.{Change}
+use Rattle.edit_change.specs.declared.position.Position.{Position}
+use Rattle.edit_change.specs.declared.change.Change.{Change}
 use Rattle.syntax_editor.specs.Table.{first_fit}
 use Rattle.syntax_editor.specs.Recording.{delete, replace, insert, insert_all, replace_with_many, delete_all, replace_all}
 use Rattle.edit_plan.specs.Fits.{is_native, is_native_position, is_root, is_range, is_one_node}

@@ -12,9 +12,9 @@ use Rattle.std.specs.Option.{option_map_or}
 use Rattle.cst_core.specs.Element.{same_element}
 use Rattle.cst_core.specs.SyntaxElement.{element_of}
 use Rattle.cst_core.specs.declared.element.SyntaxElement.{SyntaxElement}
-use Rattle.edit_plan.specs.declared.position.Position.{Position}
-use Rattle.edit_plan.specs.declared.change.Change.{Change}
-use Rattle.edit_plan.specs.declared.change.Change.TheVariants.{Insert, InsertAll, Replace, ReplaceWithMany, ReplaceAll}
+use Rattle.edit_change.specs.declared.position.Position.{Position}
+use Rattle.edit_change.specs.declared.change.Change.{Change}
+use Rattle.edit_change.specs.declared.change.Change.TheVariants.{Insert, InsertAll, Replace, ReplaceWithMany, ReplaceAll}
 
 -- ---- what stands in the place of an element
 abbrev pub are_one : SyntaxElement → SyntaxElement → Bool

@@ -25,9 +25,9 @@ use Rattle.cst_core.specs.SyntaxKind.{SyntaxKind}
 use Rattle.cst_core.specs.Kinds.{AMP, ATTR, COMMA, CONST, ENUM, EXPR_STMT, EXTERN_BLOCK, EXTERN_CRATE, FN, GENERIC_ARG_LIST, IMPL, ITEM_LIST, LET_STMT, LIFETIME, L_ANGLE, L_CURLY, MACRO_CALL, MACRO_DEF, MACRO_RULES, MODULE, R_ANGLE, SEMICOLON, SOURCE_FILE, STATIC, STMT_LIST, STRUCT, TRAIT, TYPE_ALIAS, UNION, USE, WHITESPACE}
 use Rattle.cst_core.specs.declared.element.SyntaxElement.{SyntaxElement}
 use Rattle.cst_core.specs.declared.element.SyntaxElement.TheVariants.{Token}
-use Rattle.edit_plan.specs.declared.position.Position.{Position}
+use Rattle.edit_change.specs.declared.position.Position.{Position}
 use Rattle.edit_plan.specs.PositionForm.{FirstChild, After}
-use Rattle.edit_plan.specs.declared.change.Change.{Change}
+use Rattle.edit_change.specs.declared.change.Change.{Change}
 use Rattle.syntax_editor.specs.Table.{first_fit}
 use Rattle.syntax_editor.specs.Level.{newline, space, level_text, level, is_too_deep}
 use Rattle.syntax_editor.specs.Recording.{insert_all}

@@ -8,7 +8,7 @@
 use Rattle.std.specs.Prelude.{◌≡◌, ◌<◌, ◌+◌, ◌||◌, ℕ, true, false, List, ◌++◌, length, Some, Result, Ok, Err}
 use Rattle.cst_core.specs.Element.{Element}
 use Rattle.cst_core.specs.declared.element.SyntaxElement.{SyntaxElement}
-use Rattle.edit_plan.specs.declared.position.Position.{Position}
+use Rattle.edit_change.specs.declared.position.Position.{Position}
 use Rattle.syntax_editor.specs.declared.spacing.Space as code
 use Rattle.syntax_editor.specs.declared.spacing.Space.TheVariants as code_space
 use Rattle.syntax_editor.specs.declared.error.RecordError.{RecordError}

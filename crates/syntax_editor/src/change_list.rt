@@ -3,8 +3,8 @@ ghost use Rattle.std.specs.List.{list_any};
 ghost use Rattle.std.specs.Vec.{vec_len, vec_capacity};
 ghost use Rattle.cst_core.specs.SyntaxElement.{element_of};
 ghost use Rattle.cst_core.specs.declared.element.SyntaxElement.{SyntaxElement};
-ghost use Rattle.edit_plan.specs.declared.change.Change.{Change};
-ghost use Rattle.edit_plan.specs.declared.change.Change.TheVariants.{Replace};
+ghost use Rattle.edit_change.specs.declared.change.Change.{Change};
+ghost use Rattle.edit_change.specs.declared.change.Change.TheVariants.{Replace};
 ghost use Rattle.syntax_editor.specs.Recording.{with_replacement, merged};
 ghost use Rattle.syntax_editor.specs.Indexing.{is_replace, is_replace_at, replacements_at, replace_at, delete_at, delete_each_at, room, Agrees};
 
@@ -25,7 +25,7 @@ pub(crate) struct ChangeList {
 impl Model for ChangeList {
     ghost use Rattle.std.specs.Prelude.{List};
     ghost use Rattle.std.specs.Coded.{coded_list};
-    ghost use Rattle.edit_plan.specs.declared.change.Change.{Change};
+    ghost use Rattle.edit_change.specs.declared.change.Change.{Change};
     ghost use Rattle.edit_plan.specs.ChangeCodes.{change_code};
     ghost use Rattle.syntax_editor.specs.Indexing.{Agrees};
 

@@ -1,5 +1,5 @@
 use Rattle.std.proofs.Common.{◌≡◌, ◌+◌, ◌∙◌, ℕ, length, Some, ap, sym, subst}
-use Rattle.edit_plan.specs.Aim.{aim, aim_path}
+use Rattle.edit_change.specs.Aim.{aim, aim_path}
 use Rattle.edit_plan.specs.Owned.{places_in, moved, dependents_in}
 use Rattle.edit_plan.specs.Rewriting.{moved_aim}
 use Rattle.edit_plan.proofs.Moved.{dependents-to, dependents-whole, none-at, one-entered, change-at, owner-is, owned-is-inside}

@@ -4,7 +4,7 @@ use Rattle.rewriting.specs.Aimed.{aims_of}
 use Rattle.rewriting.specs.declared.given.Given.TheVariants.{Shared}
 use Rattle.rewriting.specs.Pass.{kind_only, given_by}
 use Rattle.rewriting.specs.Rewriting.{rewritten}
-use Rattle.edit_plan.specs.Change.{payload}
+use Rattle.edit_change.specs.Change.{payload}
 use Rattle.edit_plan.proofs.Nested.{filled}
 use Rattle.edit_plan.proofs.given.fill.Goals as goal
 

@@ -4,7 +4,7 @@ use Rattle.cst_core.specs.SyntaxElement.{element_of}
 use Rattle.rewriting.specs.Aimed.{aims_of}
 use Rattle.rewriting.specs.Marked.{MarkTree, marked, marked_from, below}
 use Rattle.edit_plan.specs.Marks.{element_sought}
-use Rattle.edit_plan.proofs.Positions.{push-of-take}
+use Rattle.edit_change.proofs.Positions.{push-of-take}
 use Rattle.edit_plan.proofs.MarksFilled.{marks-more}
 use Rattle.edit_plan.proofs.marks.all.Goals as goal
 

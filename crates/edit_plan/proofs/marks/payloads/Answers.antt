@@ -1,7 +1,7 @@
 use Rattle.std.proofs.Common.{◌≡◌, ℕ, [], ◌++◌, ◌∷◌, map, take, length, ap, ap₂, sym, ◌∙◌}
 use Rattle.std.proofs.lemmas.List.{map-append, length-map}
 use Rattle.edit_plan.proofs.Carried.{take-whole}
-use Rattle.edit_plan.proofs.Positions.{push-of-take}
+use Rattle.edit_change.proofs.Positions.{push-of-take}
 use Rattle.edit_plan.proofs.MarksFilled.{told, brought, table-told, none-marked}
 use Rattle.edit_plan.proofs.marks.payloads.Goals as goal
 

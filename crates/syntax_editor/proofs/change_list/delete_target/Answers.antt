@@ -1,6 +1,6 @@
 use Rattle.std.proofs.Common.{◌≡◌, ◌++◌, ◌∷◌, [], None, Some, true, position, length, set, arith, refl, sym, ◌∙◌, ap}
 use Rattle.cst_core.specs.SyntaxElement.{element_of}
-use Rattle.edit_plan.specs.declared.change.Change.TheVariants.{Replace}
+use Rattle.edit_change.specs.declared.change.Change.TheVariants.{Replace}
 use Rattle.syntax_editor.specs.Recording.{with_replacement}
 use Rattle.syntax_editor.specs.Indexing.{replaced_at, is_replace_at, found, delete_at}
 use Rattle.syntax_editor.proofs.TakenUp.{taken-set, taken-none}

@@ -1,5 +1,5 @@
 use Rattle.std.proofs.Common.{◌≡◌, ◌+◌, ◌++◌, List, length, take}
-use Rattle.edit_plan.specs.declared.change.Change.{Change}
+use Rattle.edit_change.specs.declared.change.Change.{Change}
 use Rattle.syntax_editor.specs.Indexing.{Agrees}
 use Rattle.syntax_editor.proofs.change_list.note_all.Given as goal
 

@@ -1,6 +1,6 @@
 use Rattle.std.specs.Prelude.{All}
 use Rattle.std.proofs.Common.{sym, subst}
-use Rattle.edit_plan.specs.Fits.{Fits}
+use Rattle.edit_change.specs.Fits.{Fits}
 use Rattle.edit_plan.proofs.plan.EditPlan.aims.Goals as goal
 
 pub independent_aims-requires-clause-fit : goal.independent_aims-requires-clause-fit

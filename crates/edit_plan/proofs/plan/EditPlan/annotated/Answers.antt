@@ -10,7 +10,7 @@ use Rattle.edit_plan.specs.Planned.{AreAnnotated}
 use Rattle.edit_plan.specs.Results.{copies_of}
 use Rattle.edit_plan.specs.Rewriting.{new_tree}
 use Rattle.edit_plan.proofs.ByAnnotation.{are-annotated}
-use Rattle.edit_plan.proofs.Lists.{if-ok-weaker}
+use Rattle.edit_change.proofs.Lists.{if-ok-weaker}
 use Rattle.edit_plan.proofs.plan.EditPlan.annotated.Goals as goal
 
 pub annotated-requires : goal.annotated-requires

@@ -1,7 +1,7 @@
 use Rattle.std.proofs.Common.{◌≡◌, false, true, not, ◌||◌, ◌++◌, ◌∷◌, [], None, All, sym, ◌∙◌, ap, subst}
 use Rattle.std.proofs.lemmas.Bool.{cond-true}
 use Rattle.edit_plan.specs.Fits.{Fits, is_native, is_range, is_root}
-use Rattle.edit_plan.specs.declared.change.Change.TheVariants.{ReplaceAll}
+use Rattle.edit_change.specs.declared.change.Change.TheVariants.{ReplaceAll}
 use Rattle.syntax_editor.specs.declared.error.RecordError.TheVariants.{Foreign, BadRange, DeletesRoot}
 use Rattle.syntax_editor.specs.Recording.{are_one, delete, delete_all}
 use Rattle.syntax_editor.specs.RecordCall.{DeletingAll, refusal}

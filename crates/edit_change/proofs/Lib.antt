@@ -1,0 +1,11 @@
+pub mod Lists
+pub mod Paths
+pub mod Clashes
+pub mod Positions
+pub mod Around
+pub mod Indexed
+pub mod Regions
+pub mod Walk
+pub mod Counted
+pub mod Aiming
+pub mod RootTargets

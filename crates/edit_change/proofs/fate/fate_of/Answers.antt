@@ -1,0 +1,16 @@
+use Rattle.std.proofs.Common.{[], sym, ◌∙◌, ap}
+use Rattle.std.specs.Option.{option_map_or}
+use Rattle.cst_core.specs.Path.{up_to}
+use Rattle.edit_change.specs.Fate.{fate_within}
+use Rattle.edit_change.proofs.Regions.{fate-is}
+use Rattle.edit_change.proofs.fate.fate_of.Goals as goal
+
+pub returns-in-Some : goal.returns-in-Some
+returns-in-Some c =
+    let cs = c.args.changes.now in
+    c.fate_within.ensures ∙ ap (fate_within cs) (sym (ap (λ o. option_map_or (λ p. up_to p.now) o []) c.in-Some.is) ∙ c.innermost.ensures) ∙ fate-is cs c.requires.apart c.args.change.now
+
+pub returns-in-None : goal.returns-in-None
+returns-in-None c =
+    let cs = c.args.changes.now in
+    ap (fate_within cs) (sym (ap (λ o. option_map_or (λ p. up_to p.now) o []) c.in-None.is) ∙ c.innermost.ensures) ∙ fate-is cs c.requires.apart c.args.change.now

@@ -1,0 +1,12 @@
+use Rattle.std.proofs.Common.{◌≡◌, take}
+use Rattle.std.specs.Prelude.{find, None}
+use Rattle.edit_change.specs.Nesting.{pairs}
+use Rattle.edit_change.specs.TargetIndex.{IsIndex}
+use Rattle.edit_change.proofs.Clashes.{clash}
+use Rattle.edit_change.proofs.target_index.TargetIndex.of.Given as goal
+
+abbrev pub invariant-loop-second : goal.invariant-loop-second
+invariant-loop-second l = record {
+  indexed : IsIndex (take l.second l.changes) l.index;
+  apart : find (clash l.changes) (pairs l.second) ≡ None;
+}

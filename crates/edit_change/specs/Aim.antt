@@ -1,0 +1,30 @@
+-- Where a change aims.
+--     position_aim, aim             the aim of a position, of a change
+--     aim_path                      the path that says where a change aims: of an insert's anchor, of the first element that is replaced
+use Rattle.cst_core.specs.Path.{Path}
+use Rattle.cst_core.specs.SyntaxElement.{element_of}
+use Rattle.rewriting.specs.Aim.{Aim, FirstIn, Behind, Over}
+use Rattle.edit_change.specs.Position.{anchor}
+use Rattle.edit_change.specs.Change.{targets}
+use Rattle.edit_change.specs.declared.position.Position.{Position}
+use Rattle.edit_change.specs.PositionForm.{FirstChild, After}
+use Rattle.edit_change.specs.declared.change.Change.{Change}
+use Rattle.edit_change.specs.declared.change.Change.TheVariants.{Insert, InsertAll, Replace, ReplaceWithMany, ReplaceAll}
+
+abbrev pub position_aim : Position → Aim
+position_aim (FirstChild n) = FirstIn n.path
+position_aim (After e) = Behind (element_of e).path
+
+abbrev pub aim : Change → Aim
+aim (Insert at e) = position_aim at
+aim (InsertAll at es) = position_aim at
+aim (Replace t e) = Over (targets (Replace t e))
+aim (ReplaceWithMany t es) = Over (targets (ReplaceWithMany t es))
+aim (ReplaceAll first last es) = Over (targets (ReplaceAll first last es))
+
+abbrev pub aim_path : Change → Path
+aim_path (Insert at e) = (anchor at).path
+aim_path (InsertAll at es) = (anchor at).path
+aim_path (Replace t e) = (element_of t).path
+aim_path (ReplaceWithMany t es) = (element_of t).path
+aim_path (ReplaceAll first last es) = (element_of first).path

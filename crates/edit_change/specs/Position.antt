@@ -1,0 +1,36 @@
+-- Positions: the gap before the first child of a node, or the gap behind an element.
+--     anchor              that node or element
+--     first_of            the node, of the first form
+--     after_of            the element, of the second
+--     after, before       the gap behind an element, and the one before it: none beside a root
+--     last_child_of       the last gap of a node
+use Rattle.std.specs.Prelude.{Option, Some, None, option_map}
+use Rattle.std.specs.Option.{option_map_or}
+use Rattle.cst_core.specs.Path.{last_item}
+use Rattle.cst_core.specs.Element.{Element, parent_of}
+use Rattle.cst_core.specs.declared.element.SyntaxElement.{SyntaxElement}
+use Rattle.cst_core.specs.SyntaxElement.{element_of, child_elements, previous_sibling}
+use Rattle.edit_change.specs.declared.position.Position.{Position}
+use Rattle.edit_change.specs.PositionForm.{FirstChild, After}
+
+abbrev pub anchor : Position → Element
+anchor (FirstChild n) = n
+anchor (After e) = element_of e
+
+abbrev pub first_of : Position → Option Element
+first_of (FirstChild n) = Some n
+first_of (After e) = None
+
+abbrev pub after_of : Position → Option SyntaxElement
+after_of (FirstChild n) = None
+after_of (After e) = Some e
+
+abbrev pub after : SyntaxElement → Option Position
+after e = option_map (λ parent. After e) (parent_of (element_of e))
+
+-- a gap has one form: behind the previous sibling where there is one
+abbrev pub before : SyntaxElement → Option Position
+before e = option_map (λ parent. option_map_or After (previous_sibling (element_of e)) (FirstChild parent)) (parent_of (element_of e))
+
+abbrev pub last_child_of : Element → Position
+last_child_of n = option_map_or After (last_item (child_elements n)) (FirstChild n)

@@ -1,0 +1,206 @@
+ghost use Rattle.std.specs.Prelude.{◌≡◌, ◌<◌, ◌-◌, ◌^◌, ◌↔◌, true, suc, [], ◌∷◌, map, IfOk, IsTrue};
+ghost use Rattle.cst_core.specs.Element.{Element, IsNode, subtree};
+ghost use Rattle.cst_core.specs.declared.element.SyntaxElement.TheVariants.{Node};
+ghost use Rattle.cst_core.specs.GreenElement.{element_trees};
+ghost use Rattle.cst_core.specs.SyntaxElement.{element_of};
+ghost use Rattle.cst_core.specs.Path.{has_path, last_slot};
+ghost use Rattle.rewriting.specs.Aimed.{numbered};
+ghost use Rattle.rewriting.specs.Given.{given_trees};
+ghost use Rattle.rewriting.specs.Aim.{Behind};
+ghost use Rattle.edit_change.specs.Aim.{position_aim, aim, aim_path};
+ghost use Rattle.edit_change.specs.Change.{payload, targets};
+ghost use Rattle.edit_change.specs.Fits.{Fits, is_one_node};
+ghost use Rattle.edit_change.specs.AimFrom.{aim_from, position_aim_from, depth};
+
+use crate::change::Change;
+use crate::fits::is_root;
+use crate::position::Position;
+use crate::targets::parent;
+use cst_core::{GreenElementRef, SyntaxElement, SyntaxNode};
+use rewriting::{Aimed, Given};
+use std::alloc::{AllocError, Global};
+
+impl Position {
+    // Whether it is the gap behind the element at a path.
+    fn is_behind(&self, path: &[usize]) -> bool
+        ensures { IsTrue result ↔ (position_aim self.now ≡ Behind path.now) }
+    {
+        match self.after_of() {
+            Some(element) => element.slots() == path,
+            None => false,
+        }
+    }
+
+    // Where an insert at this position aims, with this path in place of its anchor's.
+    fn aimed_from<'a>(&self, number: usize, path: &'a [usize]) -> Aimed<'a>
+        ensures { numbered result ≡ (number, position_aim_from path.now self.now) }
+    {
+        if self.first_of().is_some() {
+            Aimed::first_in(number, path)
+        } else {
+            Aimed::behind(number, path)
+        }
+    }
+}
+
+impl Change {
+    /// The path that says where the change aims: of an insert's anchor, of the first element that a replacement replaces.
+    pub fn aim_path(&self) -> &[usize]
+        ensures { result.now ≡ aim_path self.now }
+    {
+        match self {
+            Change::Insert(position, _) => position.anchor(),
+            Change::InsertAll(position, _) => position.anchor(),
+            Change::Replace(target, _) => target.slots(),
+            Change::ReplaceWithMany(target, _) => target.slots(),
+            Change::ReplaceAll(first, _, _) => first.slots(),
+        }
+    }
+
+    /// Whether it inserts behind the element at a path.
+    pub fn is_behind(&self, path: &[usize]) -> bool
+        ensures { IsTrue result ↔ (aim self.now ≡ Behind path.now) }
+    {
+        match self {
+            Change::Insert(position, _) => position.is_behind(path),
+            Change::InsertAll(position, _) => position.is_behind(path),
+            Change::Replace(_, _) => false,
+            Change::ReplaceWithMany(_, _) => false,
+            Change::ReplaceAll(_, _, _) => false,
+        }
+    }
+
+    /// More than the lengths of the paths around the change, and no more than those of what it replaces.
+    pub fn depth(&self) -> usize
+        ensures value { result ≡ depth self.now }
+        ensures small { result < 2 ^ 62 }
+    {
+        match self {
+            Change::Insert(position, _) => position.anchor().len() + 1,
+            Change::InsertAll(position, _) => position.anchor().len() + 1,
+            Change::Replace(target, _) => target.slots().len(),
+            Change::ReplaceWithMany(target, _) => target.slots().len(),
+            Change::ReplaceAll(first, _, _) => first.slots().len(),
+        }
+    }
+
+    /// Where the change aims, with this number, and with another path in place of its own.
+    pub fn aimed_from<'a>(&self, number: usize, path: &'a [usize]) -> Aimed<'a>
+        ensures { numbered result ≡ (number, aim_from path.now self.now) }
+    {
+        match self {
+            Change::Insert(position, _) => position.aimed_from(number, path),
+            Change::InsertAll(position, _) => position.aimed_from(number, path),
+            Change::Replace(_, _) => Aimed::over(number, path, 1),
+            Change::ReplaceWithMany(_, _) => Aimed::over(number, path, 1),
+            Change::ReplaceAll(first, last, _) => {
+                Aimed::over(number, path, count_of_range(first, last))
+            }
+        }
+    }
+
+    /// Where the change aims, with this number.
+    pub fn aimed(&self, number: usize) -> Aimed<'_>
+        requires { (root : Element) × Fits root self.now }
+        ensures { numbered result ≡ (number, aim self.now) }
+    {
+        self.aimed_from(number, self.aim_path())
+    }
+
+    /// Whether it replaces the root of its tree.
+    pub fn replaces_root(&self) -> bool
+        ensures { result ≡ has_path (targets self.now) [] }
+    {
+        match self {
+            Change::Insert(_, _) => false,
+            Change::InsertAll(_, _) => false,
+            Change::Replace(target, _) => is_root(target),
+            Change::ReplaceWithMany(target, _) => is_root(target),
+            Change::ReplaceAll(_, _, _) => false,
+        }
+    }
+
+    /// The node that is brought in the place of a root.
+    pub fn root_brought(&self) -> &SyntaxNode
+        requires fits { (root : Element) × Fits root self.now }
+        requires root { has_path (targets self.now) [] ≡ true }
+        ensures brought { payload self.now ≡ result.now ∷ [] }
+        ensures node { IsNode result.now }
+    {
+        let node = match self {
+            Change::Insert(_, _) => unreachable!(),
+            Change::InsertAll(_, _) => unreachable!(),
+            Change::Replace(_, None) => unreachable!(),
+            Change::Replace(_, Some(SyntaxElement::Token(_))) => unreachable!(),
+            Change::Replace(_, Some(SyntaxElement::Node(node))) => node,
+            Change::ReplaceWithMany(_, elements) => one_node(elements.as_slice()),
+            Change::ReplaceAll(_, _, _) => unreachable!(),
+        };
+        // It is a node.
+        let _ = node.kind();
+        node
+    }
+
+    /// The elements that the change brings, as shared trees: one is borrowed, of several each is shared.
+    pub fn brought(&self, alloc: Global) -> Result<Given<'_>, AllocError>
+        ensures { IfOk result (λ g. given_trees g ≡ map subtree (payload self.now)) }
+    {
+        match self {
+            Change::Insert(_, element) => Ok(Given::Borrowed(element.as_green())),
+            Change::InsertAll(_, elements) => shared(alloc, elements.as_slice()),
+            Change::Replace(_, None) => Ok(Given::Shared(Vec::new(alloc))),
+            Change::Replace(_, Some(element)) => Ok(Given::Borrowed(element.as_green())),
+            Change::ReplaceWithMany(_, elements) => shared(alloc, elements.as_slice()),
+            Change::ReplaceAll(_, _, elements) => shared(alloc, elements.as_slice()),
+        }
+    }
+}
+
+// The only element, a node.
+fn one_node(elements: &[SyntaxElement]) -> &SyntaxNode
+    requires { is_one_node elements.now ≡ true }
+    ensures { elements.now ≡ Node result.now ∷ [] }
+{
+    match elements {
+        [SyntaxElement::Node(node)] => node,
+        [SyntaxElement::Token(_)] => unreachable!(),
+        _ => unreachable!(),
+    }
+}
+
+// How many siblings there are from the first to the last.
+fn count_of_range(first: &SyntaxElement, last: &SyntaxElement) -> usize
+    ensures { result ≡ suc (last_slot (element_of last.now).path) - last_slot (element_of first.now).path }
+{
+    slot_after(last).saturating_sub(first.index())
+}
+
+// The slot after that of an element. There is a number for it, since no node has more children than a list has items.
+fn slot_after(element: &SyntaxElement) -> usize
+    ensures { result ≡ suc (last_slot (element_of element.now).path) }
+{
+    // Its path leads to it.
+    let _ = element.as_green();
+    if element.slots().is_empty() {
+        return 1;
+    }
+    match element.top_green().get(parent(element.slots())) {
+        Some(GreenElementRef::Node(node)) => {
+            let slot = element.index();
+            prove!(slot < node.children().len());
+            slot + 1
+        }
+        Some(GreenElementRef::Token(_)) => unreachable!(),
+        None => unreachable!(),
+    }
+}
+
+fn shared<'a>(alloc: Global, elements: &[SyntaxElement]) -> Result<Given<'a>, AllocError>
+    ensures { IfOk result (λ g. given_trees g ≡ map subtree (map element_of elements.now)) }
+{
+    let mut greens = Vec::with_capacity(alloc, elements.len())?;
+    for element in elements {
+        greens.push(element.green(alloc)?)?;
+    }
+    Ok(Given::Shared(greens))
+}

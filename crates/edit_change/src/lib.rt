@@ -1,0 +1,25 @@
+//! Changes of a tree: where each aims, what it brings and replaces, and which lie inside which.
+#![tactic(auto)]
+
+mod change;
+mod change_aims;
+mod change_nesting;
+mod clash_error;
+mod element_like;
+mod element_list;
+mod fate;
+mod fits;
+mod native;
+mod position;
+mod target_index;
+mod targets;
+
+pub use change::Change;
+pub use clash_error::ClashError;
+pub use element_like::Element;
+pub use element_list::ElementList;
+pub use fate::{Fate, fates};
+pub use fits::{is_node, is_one_node, is_range, is_root};
+pub use native::is_native;
+pub use position::Position;
+pub use target_index::TargetIndex;

@@ -1,9 +1,0 @@
--- What the form of a position in code stands for (the model of positions cites it).
---     form_of                       the same form, as contracts see it
-use Rattle.edit_plan.specs.PositionForm.{PositionForm, FirstChild, After}
-use Rattle.edit_plan.specs.declared.position.Form.{Form}
-use Rattle.edit_plan.specs.declared.position.Form.TheVariants as code
-
-abbrev pub form_of : Form → PositionForm
-form_of (code.FirstChild n) = FirstChild n
-form_of (code.After e) = After e
