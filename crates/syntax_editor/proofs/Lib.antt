@@ -1,6 +1,5 @@
 mod RowEdits
 mod RowsOfRecording
-mod RowsOfIndentation
 mod RowsOfSpacing
 mod Addresses
 mod TakenUp
@@ -9,14 +8,7 @@ mod Indexed
 mod Absorbed
 mod Fitting
 mod Called
-mod Lines
-mod LastLines
-mod TokensBefore
-mod Dedented
-mod Shifted
-mod ChildPairs
 mod Openings
-mod Restored
 mod Noted
 mod Merged
 mod Removed

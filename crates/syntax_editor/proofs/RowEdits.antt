@@ -3,7 +3,7 @@ use Rattle.std.specs.Prelude.{ℕ, List, [], ◌∷◌, codes, flat_map, replica
 use Rattle.cst_core.specs.Path.{Path}
 use Rattle.cst_core.specs.Tree.{SyntaxTree, text}
 use Rattle.cst_core.specs.SyntaxElement.{syntax_of}
-use Rattle.cst_core.specs.Kinds.{ATTR, BLOCK_EXPR, COMMA, COMMENT, FAT_ARROW, FN, FN_KW, IDENT, ITEM_LIST, L_BRACK, L_CURLY, L_PAREN, MATCH_ARM, MATCH_ARM_LIST, NAME, PARAM_LIST, POUND, R_BRACK, R_CURLY, R_PAREN, SOURCE_FILE, STMT_LIST, UNDERSCORE, USE, USE_KW, WHITESPACE, WILDCARD_PAT}
+use Rattle.cst_core.specs.Kinds.{ATTR, BLOCK_EXPR, COMMENT, FN, FN_KW, IDENT, ITEM_LIST, L_BRACK, L_CURLY, L_PAREN, NAME, PARAM_LIST, POUND, R_BRACK, R_CURLY, R_PAREN, SOURCE_FILE, STMT_LIST, USE, USE_KW, WHITESPACE}
 use Rattle.cst_core.specs.declared.element.SyntaxElement.{SyntaxElement}
 use Rattle.edit_map.proofs.RowTrees.{token, branch, tree_U, tree_V, tree_X, tree_Y, tree_S1}
 use Rattle.edit_map.proofs.Rows as edited
@@ -11,15 +11,9 @@ use Rattle.edit_map.proofs.Rows.{element_of_tree}
 use Rattle.edit_plan.specs.Rewriting.{new_tree, is_free}
 use Rattle.edit_plan.specs.Results.{changed}
 use Rattle.edit_change.specs.declared.change.Change.{Change}
-use Rattle.syntax_editor.specs.Level.{newline, space}
+use Rattle.indentation.specs.Level.{newline, space}
 
 -- ---- trees
-abbrev tree_AR : SyntaxTree
-tree_AR = branch MATCH_ARM (branch WILDCARD_PAT (token UNDERSCORE (codes "_") ∷ []) ∷ token WHITESPACE (codes " ") ∷ token FAT_ARROW (codes "=>") ∷ token WHITESPACE (codes " ") ∷ tree_V ∷ token COMMA (codes ",") ∷ [])
-
-abbrev pub tree_K : SyntaxTree
-tree_K = branch MATCH_ARM_LIST (token L_CURLY (codes "{") ∷ token WHITESPACE (codes "\n    ") ∷ tree_AR ∷ token WHITESPACE (codes "\n    ") ∷ tree_AR ∷ token WHITESPACE (codes "\n") ∷ token R_CURLY (codes "}") ∷ [])
-
 abbrev pub tree_J : SyntaxTree
 tree_J = branch ITEM_LIST (token L_CURLY (codes "{") ∷ token R_CURLY (codes "}") ∷ [])
 
@@ -41,9 +35,6 @@ tree_hash_fn = branch SOURCE_FILE (tree_hash ∷ branch FN (token FN_KW (codes "
 -- the list J behind a new line with 1,020 spaces
 abbrev pub tree_deep : SyntaxTree
 tree_deep = branch SOURCE_FILE (token WHITESPACE (newline ∷ replicate 1020 space) ∷ tree_J ∷ [])
-
-abbrev pub tree_block : SyntaxTree
-tree_block = branch SOURCE_FILE (token WHITESPACE (codes "\n    ") ∷ branch BLOCK_EXPR (branch STMT_LIST (token L_CURLY (codes "{") ∷ token WHITESPACE (codes "\n        ") ∷ token R_CURLY (codes "}") ∷ []) ∷ []) ∷ [])
 
 -- ---- elements: the edited tree has the number 1
 abbrev pub in_tree : SyntaxTree → Path → SyntaxElement

@@ -29,7 +29,7 @@ use Rattle.edit_change.specs.declared.position.Position.{Position}
 use Rattle.edit_plan.specs.PositionForm.{FirstChild, After}
 use Rattle.edit_change.specs.declared.change.Change.{Change}
 use Rattle.syntax_editor.specs.Table.{first_fit}
-use Rattle.syntax_editor.specs.Level.{newline, space, level_text, level, is_too_deep}
+use Rattle.indentation.specs.Level.{newline, space, level_text, level, is_too_deep}
 use Rattle.syntax_editor.specs.Recording.{insert_all}
 use Rattle.edit_plan.specs.Fits.{is_native_position}
 use Rattle.syntax_editor.specs.declared.error.RecordError.{RecordError}

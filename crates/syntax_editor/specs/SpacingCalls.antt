@@ -13,11 +13,11 @@ use Rattle.syntax_editor.specs.declared.spacing.Space as code
 use Rattle.syntax_editor.specs.declared.spacing.Space.TheVariants as code_space
 use Rattle.syntax_editor.specs.declared.error.RecordError.{RecordError}
 use Rattle.syntax_editor.specs.declared.error.RecordError.TheVariants.{Foreign, BadRange, DeletesRoot, RootReplacement, LevelTooLarge, NoTreeNumber, Memory}
-use Rattle.syntax_editor.specs.Level.{is_too_deep}
+use Rattle.indentation.specs.Level.{is_too_deep}
 use Rattle.syntax_editor.specs.Spacing.{Space, NoSpace, OneSpace, NewLine, is_deep, space_elements, space_in_front, space_at_end, spacing_refusal}
 use Rattle.edit_plan.specs.Fits.{is_native_position}
 use Rattle.syntax_editor.specs.Editor.{Editor}
-use Rattle.syntax_editor.specs.declared.level.IndentLevel.{IndentLevel}
+use Rattle.indentation.specs.declared.level.IndentLevel.{IndentLevel}
 
 abbrev pub space_of : code.Space → Space
 space_of code_space.Nothing = NoSpace

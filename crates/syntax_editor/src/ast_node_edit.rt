@@ -2,17 +2,15 @@
 ghost use Rattle.std.specs.Prelude.{◌≡◌, ◌+◌, false, IsTrue, IfOk, IfErr, OnOk, OnErr};
 ghost use Rattle.cst_core.specs.Tree.{label};
 ghost use Rattle.cst_core.specs.Element.{subtree};
-ghost use Rattle.syntax_editor.specs.Level.{level, is_too_deep};
-ghost use Rattle.syntax_editor.specs.LevelCalls.{ReadsLevel};
-ghost use Rattle.syntax_editor.specs.Indentation.{indented, dedented, reset, mapped_children};
-ghost use Rattle.syntax_editor.specs.IndentCalls.{fresh_root, CanBeRoot, RootRefuses, ResetRefuses, MappingRefuses, next_after};
-ghost use Rattle.syntax_editor.specs.MappedAlong.{is_too_old, MapsAlong};
+ghost use Rattle.indentation.specs.Level.{level, is_too_deep};
+ghost use Rattle.indentation.specs.LevelCalls.{ReadsLevel};
+ghost use Rattle.indentation.specs.Indentation.{indented, dedented, reset, mapped_children};
+ghost use Rattle.indentation.specs.IndentCalls.{fresh_root, CanBeRoot, RootRefuses, ResetRefuses, MappingRefuses, next_after};
+ghost use Rattle.indentation.specs.MappedAlong.{is_too_old, MapsAlong};
 
 use crate::factory::SyntaxFactory;
-use crate::indent_error::IndentError;
-use crate::indentation::{dedent, indent};
-use crate::level::IndentLevel;
 use cst_core::{AstNode, SyntaxNode, TreeIds};
+use indentation::{IndentError, IndentLevel, dedent, indent};
 use std::alloc::Global;
 
 /// Levels and indentation of typed nodes. What is indented or dedented is the root of a tree of its own, under the next

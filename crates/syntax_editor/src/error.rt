@@ -1,8 +1,8 @@
 ghost use Rattle.std.specs.Prelude.{◌≡◌, Some, IsSome};
 ghost use Rattle.syntax_editor.specs.Refusal.{of_level, of_whitespace};
 
-use crate::indent_error::IndentError;
 use cst_core::TreeError;
+use indentation::IndentError;
 use std::alloc::AllocError;
 use thiserror::Error;
 

@@ -1,22 +1,22 @@
-ghost use Rattle.std.specs.Prelude.{◌≡◌, ◌↔◌, ◌+◌, ◌<◌, ◌≤◌, ◌++◌, [], length, reverse, false, None, Some, unwrap_or, option_map, IfOk, IfErr, OnOk, OnErr};
+ghost use Rattle.std.specs.Prelude.{◌≡◌, ◌↔◌, ◌+◌, ◌<◌, ◌≤◌, [], length, false, None, Some, unwrap_or, option_map, IfOk, IfErr, OnOk, OnErr};
 ghost use Rattle.std.specs.Borrow.{sem};
 ghost use Rattle.cst_core.specs.Tree.{SameShape};
 ghost use Rattle.cst_core.specs.Element.{subtree};
 ghost use Rattle.edit_map.specs.Building.{IsMadeOf};
-ghost use Rattle.syntax_editor.specs.Indentation.{mapped_children};
-ghost use Rattle.syntax_editor.specs.MappedAlong.{is_behind, is_too_old, MapsAlong, AlongRefuses};
+ghost use Rattle.indentation.specs.Indentation.{mapped_children};
+ghost use Rattle.indentation.specs.MappedAlong.{is_too_old, MapsAlong, AlongRefuses};
 ghost use Rattle.cst_core.specs.Green.{length_limit, branch_tree};
 ghost use Rattle.cst_core.specs.TreeIds.{IsSpent};
 ghost use Rattle.cst_core.specs.declared.element.SyntaxElement.TheVariants.{Token};
 ghost use Rattle.syntax_editor.specs.Spacing.{whitespace, whitespace_tree};
 ghost use Rattle.syntax_editor.specs.Lending.{LendsMappings};
 
-use crate::indent_error::IndentError;
 use cst_core::{
     GreenElement, GreenNode, GreenToken, LENGTH_LIMIT, SyntaxKind, SyntaxNode, SyntaxToken,
     TreeError, TreeIds,
 };
-use edit_map::{SyntaxMapping, SyntaxMappingBuilder};
+use edit_map::SyntaxMapping;
+use indentation::{IndentError, map_children};
 use std::alloc::{AllocError, Global};
 use std::marker::Model;
 
@@ -183,42 +183,4 @@ fn whitespace_green(alloc: Global, text: &str) -> Result<GreenNode, AllocError>
     let mut children = Vec::new(alloc);
     children.push(GreenElement::Token(token))?;
     GreenNode::capped(alloc, SyntaxKind::SOURCE_FILE, children)
-}
-
-fn map_children(
-    alloc: Global,
-    old: &SyntaxNode,
-    new: &SyntaxNode,
-    mapping: &mut SyntaxMapping,
-) -> Result<(), IndentError>
-    requires { SameShape (subtree old.now) (subtree new.now) }
-    ensures ok { OnOk result (IsMadeOf (reverse (mapped_children old.now new.now) ++ mapping.old) mapping.new) }
-    ensures accepted { OnOk result (is_behind old.now new.now.number ≡ false) }
-    ensures refused { IfErr result (AlongRefuses (is_behind old.now new.now.number)) }
-    ensures unchanged { OnErr result (mapping.new ≡ mapping.old) }
-{
-    let builder = children_builder(alloc, old, new)?;
-    Ok(builder.finish(alloc, mapping)?)
-}
-
-// A builder of these pairs.
-fn children_builder(
-    alloc: Global,
-    old: &SyntaxNode,
-    new: &SyntaxNode,
-) -> Result<SyntaxMappingBuilder, IndentError>
-    requires { SameShape (subtree old.now) (subtree new.now) }
-    ensures ok { IfOk result (λ b. b.pairs ≡ reverse (mapped_children old.now new.now)) }
-    ensures accepted { OnOk result (is_behind old.now new.now.number ≡ false) }
-    ensures refused { IfErr result (AlongRefuses (is_behind old.now new.now.number)) }
-{
-    // What stands at their paths are nodes.
-    let _ = (old.kind(), new.kind());
-    let inputs = old.children(alloc)?;
-    let outputs = new.children(alloc)?;
-    let mut builder = SyntaxMappingBuilder::new(alloc, new.try_clone(alloc)?);
-    match builder.map_children(alloc, &inputs, &outputs) {
-        Ok(()) => Ok(builder),
-        Err(error) => Err(IndentError::of_pairs(error)),
-    }
 }

@@ -4,7 +4,6 @@ ghost use Rattle.std.specs.Prelude.{ℕ, ◌≡◌, ◌<◌, ◌+◌, List, [], 
 ghost use Rattle.std.specs.List.{list_any};
 ghost use Rattle.std.specs.Option.{option_or};
 ghost use Rattle.cst_core.specs.Path.{last_item};
-ghost use Rattle.cst_core.specs.Tree.{SyntaxTree};
 ghost use Rattle.cst_core.specs.Element.{Address, Element};
 ghost use Rattle.cst_core.specs.declared.element.SyntaxElement.{SyntaxElement};
 ghost use Rattle.edit_change.specs.declared.change.Change.{Change};
@@ -13,10 +12,10 @@ ghost use Rattle.edit_plan.specs.Fits.{Fits};
 ghost use Rattle.syntax_editor.specs.RecordCall.{RecordCall, recorded, all_recorded, refusal};
 ghost use Rattle.syntax_editor.specs.Editor.{Editor};
 ghost use Rattle.syntax_editor.specs.Merging.{IsMerged};
-ghost use Rattle.syntax_editor.specs.Indentation.{indented, dedented};
-ghost use Rattle.syntax_editor.specs.Laws.{all_asked_for, copy_by, HasRestorableTexts};
+ghost use Rattle.syntax_editor.specs.Laws.{all_asked_for, copy_by};
 
 use edit_map::laws::newer_copies_stand;
+pub use indentation::laws::dedent_restores;
 
 /// Before any merge a list holds one Replace of an element at most. It is a deletion where a call deleted the element, and
 /// else brings what the last call asked for.
@@ -51,8 +50,3 @@ pub fn merge_keeps_both()
 {
     newer_copies_stand();
 }
-
-/// Dedenting an indented tree by the same level restores it.
-pub fn dedent_restores()
-    ensures { (l : ℕ) (t : SyntaxTree) → HasRestorableTexts l t → dedented l (indented l t) ≡ t }
-{}

@@ -3,10 +3,10 @@ ghost use Rattle.std.specs.Prelude.{ℕ, suc, ◌≡◌, ◌+◌, ◌∷◌, [],
 ghost use Rattle.cst_core.specs.Path.{parent_path};
 ghost use Rattle.cst_core.specs.Element.{subtree, element_at};
 ghost use Rattle.cst_core.specs.SyntaxElement.{element_of};
-ghost use Rattle.syntax_editor.specs.Level.{level};
+ghost use Rattle.indentation.specs.Level.{level};
 ghost use Rattle.syntax_editor.specs.Spacing.{NewLine, neighbor, between, space_behind, space_before, space_after, next_of, space_in_front, space_at_end, space_text, space_elements, spaced, numbers_needed, spacing_refusal};
 ghost use Rattle.syntax_editor.specs.SpacingCalls.{space_of, FindsLevel, FindsSpace, with_spaces, numbers_of, NumbersRefuse, IsRound, RoundRefuses, SpacingRefuses};
-ghost use Rattle.syntax_editor.specs.LevelCalls.{ReadsLevel};
+ghost use Rattle.indentation.specs.LevelCalls.{ReadsLevel};
 ghost use Rattle.syntax_editor.specs.Refusal.{of_level};
 ghost use Rattle.syntax_editor.specs.RecordCall.{InsertingAll};
 ghost use Rattle.syntax_editor.specs.Editor.{after_call};
@@ -14,11 +14,10 @@ ghost use Rattle.syntax_editor.specs.Editor.{after_call};
 use crate::editor::SyntaxEditor;
 use crate::error::RecordError;
 use crate::factory::SyntaxFactory;
-use crate::indent_error::IndentError;
-use crate::level::IndentLevel;
 use crate::space_rule::{SpaceRule, opens_list, space_rule};
 use cst_core::{SyntaxElement, SyntaxNode, TreeIds};
 use edit_plan::{Element, Position};
+use indentation::{IndentError, IndentLevel};
 use std::alloc::{AllocError, Global};
 
 /// The whitespace that goes between two elements.

@@ -1,0 +1,8 @@
+mod RowsOfIndentation
+mod Lines
+mod LastLines
+mod TokensBefore
+mod Dedented
+mod Shifted
+pub mod ChildPairs
+mod Restored

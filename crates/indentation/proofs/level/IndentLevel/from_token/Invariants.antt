@@ -1,0 +1,11 @@
+use Rattle.std.proofs.Common.{◌≡◌, length}
+use Rattle.indentation.specs.Level.{token_level}
+use Rattle.indentation.proofs.TokensBefore.{before}
+use Rattle.indentation.proofs.level.IndentLevel.from_token.Given as goal
+
+-- The level is that of the token that is looked at.
+abbrev pub invariant-back : goal.invariant-back
+invariant-back l = token_level l.fn.token ≡ token_level l.current
+
+abbrev pub decreases-back : goal.decreases-back
+decreases-back l = length (before l.current)
