@@ -3,12 +3,12 @@ ghost use Rattle.std.specs.Cmp.Rules.{comparing, hashing};
 ghost use Rattle.std.specs.Cmp.Lexicographic.{pointwise};
 ghost use Rattle.std.specs.Ordering.{on, eq_of_both};
 ghost use Rattle.std.specs.Hash as fed;
-ghost use Rattle.std.specs.Prelude.{◌≡◌, ◌↔◌, ◌==◌, ◌+◌, ◌<◌, ◌≤◌, ◌++◌, [], IfOk, OnOk, OnErr, Some, string_bytes};
+ghost use Rattle.std.specs.Prelude.{◌≡◌, ◌↔◌, ◌==◌, ◌+◌, ◌<◌, ◌++◌, [], IfOk, OnOk, OnErr, Some, string_bytes};
 ghost use Rattle.green_tree.specs.Path.{last_slot};
 ghost use Rattle.green_tree.specs.Tree.{at, label, text, text_length};
 ghost use Rattle.green_tree.specs.Order.{start};
-ghost use Rattle.green_tree.specs.Green.{branch_tree, length_limit};
-ghost use Rattle.cst_core.specs.TreeIds.{IsSpent};
+ghost use Rattle.green_tree.specs.Green.{branch_tree, length_limit, IsTooLong};
+ghost use Rattle.cst_core.specs.TreeIds.{IsSpent, LacksNumber};
 ghost use Rattle.cst_core.specs.Element.{subtree, IsNode};
 
 use crate::location::Location;
@@ -51,8 +51,8 @@ impl SyntaxNode {
     ) -> Result<SyntaxNode, TreeError>
         ensures ok { IfOk result (λ n. n ≡ record { number = ids.old; root = branch_tree root; path = [] }) }
         ensures drawn { OnOk result (ids.new ≡ ids.old + 1) }
-        ensures too_long { (result ≡ Err TreeError.TooLong) ↔ (length_limit ≤ text_length (branch_tree root)) }
-        ensures no_number { (result ≡ Err TreeError.NoTreeNumber) ↔ (IsSpent ids.old × (text_length (branch_tree root) < length_limit)) }
+        ensures too_long { (result ≡ Err TreeError.TooLong) ↔ IsTooLong (text (branch_tree root)) }
+        ensures no_number { (result ≡ Err TreeError.NoTreeNumber) ↔ LacksNumber ids.old (branch_tree root) }
         ensures err { OnErr result (ids.new ≡ ids.old) }
     {
         if root.length() >= LENGTH_LIMIT {

@@ -6,11 +6,12 @@
 --     AreDistinct                    no address has two pairs
 --     IsMapping                      what is true of every mapping in code: both of these
 --     Builder, builder_code          the parent of the copies, and the pairs so far, the newest first; its code
+--     with_pairs                     a builder with more pairs, the newest of them last
 --     IsPairUnder, ArePairsUnder     what a builder with this parent asks of a pair; each pair of a builder is such a pair
 --     RefusesPair                    why it refuses one: the first of these that is missing
 --     RefusesFirst                   why it refuses the first pair that it does not take
 --     RefusesChildren                why it refuses inputs and outputs
-use Rattle.std.specs.Prelude.{◌≡◌, ◌≢◌, ◌<◌, ◌≤◌, List, ◌∷◌, ◌++◌, length, All, AllPairs, Contains, refl}
+use Rattle.std.specs.Prelude.{◌≡◌, ◌≢◌, ◌<◌, ◌≤◌, List, ◌∷◌, ◌++◌, length, reverse, All, AllPairs, Contains, refl}
 use Rattle.std.specs.List.{zip}
 use Rattle.std.specs.Coded.{Coded, code_by, coded_list, coded×}
 use Rattle.cst_core.specs.Tree.{SameShape}
@@ -50,6 +51,9 @@ pub record Builder : Type 0 where
 
 abbrev pub builder_code : Coded Builder
 builder_code = code_by (Element × Mapping) (coded× element_code mapping_code) (λ b. (b.parent, b.pairs)) (λ q. record { parent = q.0; pairs = q.1 }) (λ _. refl)
+
+abbrev pub with_pairs : Builder → List (Element × Element) → Builder
+with_pairs b pairs = record b { pairs = reverse pairs ++ b.pairs }
 
 pub record IsPairUnder (parent : Element) (pair : Element × Element) : Type 0 where
   pub child : IsChild parent pair.1

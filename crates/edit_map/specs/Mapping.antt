@@ -5,11 +5,13 @@
 --     Rises, IsRising                a copy has a greater tree number and the same shape; each copy does
 --     child_address                  the address of a child
 --     StandsFor                      what stands in a payload at a path is there for this address
+--     path_in                        the path of a place in code, if there is one
 --     IsPlace                        the place of a target in a payload, or that there is none
 --     step                           the nearest mapped ancestor-or-self of an element exchanged for its copy, if there is one
 --     Steps, IsFollowed              so many steps lead from one element to another; they do, and no further step is possible
 --     followed                       the element that is reached where no step is possible
-use Rattle.std.specs.Prelude.{◌≡◌, ℕ, zero, suc, ◌<◌, List, [], ◌∷◌, ◌++◌, map, length, drop, find, filter_map, Option, None, option_map, MatchOption, IsSomeAnd, All}
+use Rattle.std.specs.Prelude.{◌≡◌, ℕ, zero, suc, ◌<◌, List, [], ◌∷◌, ◌++◌, map, length, drop, find, filter_map, Option, None, option_map, MatchOption, IsSomeAnd, All, Vec}
+use Rattle.std.specs.Global.{Global}
 use Rattle.std.specs.Option.{option_map_or}
 use Rattle.cst_core.specs.Path.{Path, up_to, last_item}
 use Rattle.cst_core.specs.Tree.{SameShape}
@@ -42,6 +44,9 @@ child_address a i = record { number = a.number; path = a.path ++ i ∷ [] }
 abbrev pub StandsFor : Mapping → Address → Path → Address → Type 0
 StandsFor m r [] x = x ≡ r
 StandsFor m r (i ∷ p) x = (y : Address) × (copied m y ≡ child_address r i) × StandsFor m y p x
+
+abbrev pub path_in : Option (Vec ℕ Global) → Option Path
+path_in place = option_map (λ v. v.items) place
 
 abbrev pub IsPlace : Mapping → Address → Address → Option Path → Type 0
 IsPlace m target payload place = MatchOption place ((p : Path) → StandsFor m payload p target → ⊥) (λ p. StandsFor m payload p target)

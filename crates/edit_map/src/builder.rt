@@ -1,7 +1,7 @@
 ghost use Rattle.std.specs.Prelude.{◌≡◌, ◌↔◌, ◌≤◌, length, [], ◌∷◌, ◌++◌, IsTrue, IfErr, IfOk, OnOk, OnErr, All, reverse};
 ghost use Rattle.std.specs.List.{zip};
 ghost use Rattle.cst_core.specs.Element.{IsChild};
-ghost use Rattle.edit_map.specs.Building.{IsMadeOf, ArePairs, IsMapping, IsPairUnder, ArePairsUnder, RefusesPair, RefusesChildren};
+ghost use Rattle.edit_map.specs.Building.{IsMadeOf, ArePairs, IsMapping, IsPairUnder, ArePairsUnder, RefusesPair, RefusesChildren, with_pairs};
 
 use crate::map_error::MapError;
 use crate::mapping::SyntaxMapping;
@@ -125,7 +125,7 @@ impl SyntaxMappingBuilder {
         outputs: &[SyntaxNode],
     ) -> Result<(), MapError>
         ensures enough { OnOk result (length inputs.now ≤ length outputs.now) }
-        ensures ok { OnOk result (self.new ≡ record self.old { pairs = reverse (zip inputs.now outputs.now) ++ self.old.pairs }) }
+        ensures ok { OnOk result (self.new ≡ with_pairs self.old (zip inputs.now outputs.now)) }
         ensures taken { OnOk result (All (IsPairUnder self.old.parent) (zip inputs.now outputs.now)) }
         ensures refused { IfErr result (RefusesChildren self.old.parent inputs.now outputs.now) }
         ensures unchanged { OnErr result (self.new ≡ self.old) }

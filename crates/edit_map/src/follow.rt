@@ -1,12 +1,10 @@
 //! An element followed to where its copies lead.
 
-ghost use Rattle.std.specs.Prelude.{◌≡◌, ◌≤◌, [], ◌∷◌, ◌++◌, length, drop, IfOk, IfSome, IfNone, option_map};
+ghost use Rattle.std.specs.Prelude.{◌≡◌, ◌≤◌, [], length, IfOk, IfSome, IfNone, option_map};
 ghost use Rattle.cst_core.specs.Path.{up_to};
-ghost use Rattle.cst_core.specs.Element.{Element, NumbersTell};
 ghost use Rattle.cst_core.specs.SyntaxElement.{element_of};
-ghost use Rattle.edit_map.specs.Mapping.{followed, mapped_elements};
 ghost use Rattle.edit_map.specs.Building.{IsMapping};
-ghost use Rattle.edit_map.specs.Following.{asked_paths, step_among, syntax_step, IsReached};
+ghost use Rattle.edit_map.specs.Following.{asked_paths, syntax_step, IsNearest, IsReached, LeadsTo};
 
 use crate::mapping::SyntaxMapping;
 use cst_core::{SyntaxElement, SyntaxNode};
@@ -36,7 +34,7 @@ impl SyntaxMapping {
         element: &SyntaxElement,
     ) -> Result<SyntaxElement, AllocError>
         ensures reached { IfOk result (IsReached self.now element.now) }
-        ensures followed { NumbersTell (element_of element.now ∷ mapped_elements self.now) → IfOk result (λ e. element_of e ≡ followed self.now (element_of element.now)) }
+        ensures followed { IfOk result (LeadsTo self.now element.now) }
         ensures is_mapping { IsMapping self.now }
     {
         // What is true of every mapping, and that the element is one of its tree.
@@ -73,7 +71,7 @@ impl SyntaxMapping {
         alloc: Global,
         node: SyntaxNode,
     ) -> Result<Option<(&SyntaxNode, usize)>, AllocError>
-        ensures nearest { IfOk result (λ r. (e : Element) → e.number ≡ node.number → step_among self.now e (up_to node.path) ≡ option_map (λ f. record f.0.now { path = f.0.now.path ++ drop f.1 e.path }) r) }
+        ensures nearest { IfOk result (λ r. IsNearest self.now node (option_map (λ f. (f.0.now, f.1)) r)) }
         ensures short { IfOk result (λ r. IfSome r (λ f. f.1 ≤ length node.path)) }
     {
         let mut here = node;

@@ -1,6 +1,6 @@
 ghost use Rattle.std.specs.Prelude.{◌≡◌, length, [], ◌++◌, IfOk, OnOk, OnErr, reverse, option_map, MatchOption};
 ghost use Rattle.cst_core.specs.Element.{address};
-ghost use Rattle.edit_map.specs.Mapping.{IsPlace, copied};
+ghost use Rattle.edit_map.specs.Mapping.{IsPlace, copied, path_in};
 ghost use Rattle.edit_map.specs.Building.{IsMadeOf, ArePairs, IsMapping};
 ghost use Rattle.edit_map.specs.Climbing.{IsAbove};
 
@@ -106,7 +106,7 @@ impl SyntaxMapping {
         target: &SyntaxNode,
         payload: &SyntaxNode,
     ) -> Result<Option<Vec<usize>>, AllocError>
-        ensures place { IfOk result (λ p. IsPlace self.now (address target.now) (address payload.now) (option_map (λ v. v.items) p)) }
+        ensures place { IfOk result (λ p. IsPlace self.now (address target.now) (address payload.now) (path_in p)) }
         ensures is_mapping { IsMapping self.now }
     {
         // What is true of every mapping.

@@ -1,10 +1,26 @@
 -- Tokens that a walk finds.
---     FindsToken      the token at this path of the tree, and the slots on the way to it added; or neither, where there is no such path
+--     FindsToken                    the token at this path of the tree, and the slots on the way to it added; or neither, where there is no such path
+--     FindsFirst, FindsLastBefore   that of the first token; of the last one before the element at a path
+--     path_found, IsTokenOf         the path of a token that was found; it leads to that token in the tree
 use Rattle.std.specs.Prelude.{◌≡◌, [], ◌++◌, Option, Some, option_map, unwrap_or}
 use Rattle.green_tree.specs.Path.{Path}
 use Rattle.green_tree.specs.Tree.{SyntaxTree, at}
+use Rattle.green_tree.specs.Order.{first_token, last_token_before}
 use Rattle.green_tree.specs.Green.{Leaf, leaf_tree}
+use Rattle.green_tree.specs.declared.tokens.FoundToken.{FoundToken}
 
 pub record FindsToken (t : SyntaxTree) (way : Option Path) (old new : Path) (found : Option Leaf) : Type 0 where
   pub slots : new ≡ old ++ unwrap_or way []
   pub token : option_map (λ l. Some (leaf_tree l)) found ≡ option_map (at t) way
+
+abbrev pub FindsFirst : SyntaxTree → Path → Path → Option Leaf → Type 0
+FindsFirst t old new = FindsToken t (first_token t) old new
+
+abbrev pub FindsLastBefore : SyntaxTree → Path → Path → Path → Option Leaf → Type 0
+FindsLastBefore t p old new = FindsToken t (last_token_before t p) old new
+
+abbrev pub path_found : Option FoundToken → Option Path
+path_found found = option_map (λ token. token.path.items) found
+
+abbrev pub IsTokenOf : SyntaxTree → FoundToken → Type 0
+IsTokenOf t token = at t token.path.items ≡ Some (leaf_tree token.green)

@@ -1,7 +1,7 @@
-ghost use Rattle.std.specs.Prelude.{◌≡◌, ◌↔◌, ◌+◌, ◌<◌, ◌≤◌, ◌++◌, min, map, length, take, drop, IfOk, OnOk, string_bytes, option_map};
+ghost use Rattle.std.specs.Prelude.{◌≡◌, ◌↔◌, ◌+◌, ◌<◌, ◌≤◌, ◌++◌, min, map, length, IfOk, OnOk, string_bytes, option_map};
 ghost use Rattle.green_tree.specs.Tree.{label, text, at};
 ghost use Rattle.green_tree.specs.GreenElementRef.{ref_tree};
-ghost use Rattle.green_tree.specs.Green.{texts, length_limit, capped_length, branch_tree};
+ghost use Rattle.green_tree.specs.Green.{texts, IsTooLong, capped_length, branch_tree, spliced};
 ghost use Rattle.green_tree.specs.GreenElement.{element_trees, element_tree};
 
 use crate::error::TreeError;
@@ -59,17 +59,17 @@ pub struct GreenNode {
 
 impl Model for GreenNode {
     ghost use Rattle.std.specs.Prelude.{◌≡◌};
-    ghost use Rattle.green_tree.specs.Green.{Branch, branch_code, texts, capped_length, branch_size};
+    ghost use Rattle.green_tree.specs.Green.{Branch, branch_code, branch_size};
 
     ghost Value = { Branch };
 
     ghost coded = { branch_code };
 
-    ghost use Rattle.green_tree.specs.GreenElement.{element_trees};
+    ghost use Rattle.green_tree.specs.GreenElement.{element_trees, IsCappedLength};
 
     ghost view = { λ a. record { kind = a.data.value.kind.0; children = element_trees a.data.value.children.items } };
 
-    ghost invariant = { λ a. a.data.value.length ≡ capped_length (texts (element_trees a.data.value.children.items)) };
+    ghost invariant = { λ a. IsCappedLength a.data.value.children.items a.data.value.length };
 
     ghost size = { branch_size };
 
@@ -90,7 +90,7 @@ impl GreenToken {
     /// A token of this kind and text. `TooLong` where the text passes 4,294,967,295 bytes, else only `Memory` comes.
     pub fn new(alloc: Global, kind: SyntaxKind, text: &str) -> Result<GreenToken, TreeError>
         ensures ok { IfOk result (λ t. t ≡ record { kind = kind.0; text = text.now }) }
-        ensures too_long { (result ≡ Err TreeError.TooLong) ↔ length_limit ≤ length text.now }
+        ensures too_long { (result ≡ Err TreeError.TooLong) ↔ IsTooLong text.now }
         ensures no_number { ¬ (result ≡ Err TreeError.NoTreeNumber) }
     {
         if text.len() as u64 >= LENGTH_LIMIT {
@@ -255,7 +255,7 @@ impl GreenNode {
         children: Vec<GreenElement>,
     ) -> Result<GreenNode, TreeError>
         ensures ok { IfOk result (λ n. n ≡ record { kind = kind.0; children = element_trees children.items }) }
-        ensures too_long { (result ≡ Err TreeError.TooLong) ↔ length_limit ≤ length (texts (element_trees children.items)) }
+        ensures too_long { (result ≡ Err TreeError.TooLong) ↔ IsTooLong (texts (element_trees children.items)) }
         ensures no_number { ¬ (result ≡ Err TreeError.NoTreeNumber) }
     {
         if total_length(&children) >= LENGTH_LIMIT {
@@ -305,7 +305,7 @@ impl GreenNode {
     ) -> Result<GreenNode, AllocError>
         requires ordered { start ≤ end }
         requires within { end ≤ length self.now.children }
-        ensures { IfOk result (λ n. n ≡ record { kind = self.now.kind; children = take start self.now.children ++ element_trees new.items ++ drop end self.now.children }) }
+        ensures { IfOk result (λ n. n ≡ spliced self.now start end (element_trees new.items)) }
     {
         let old = self.children();
         let mut all = Vec::new(alloc);

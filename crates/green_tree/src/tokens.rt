@@ -1,9 +1,8 @@
-ghost use Rattle.std.specs.Prelude.{◌≡◌, ◌≤◌, [], ◌∷◌, length, Some, IfOk, IfSome, IsSome, option_map};
-ghost use Rattle.green_tree.specs.Path.{first_item, last_item};
+ghost use Rattle.std.specs.Prelude.{◌≡◌, ◌≤◌, [], ◌∷◌, length, IfOk, IfSome, IsSome};
 ghost use Rattle.green_tree.specs.Tree.{at};
-ghost use Rattle.green_tree.specs.Order.{token_paths, tokens_before};
-ghost use Rattle.green_tree.specs.Green.{branch_tree, leaf_tree};
-ghost use Rattle.green_tree.specs.FoundToken.{FindsToken};
+ghost use Rattle.green_tree.specs.Order.{first_token, last_token_before};
+ghost use Rattle.green_tree.specs.Green.{branch_tree};
+ghost use Rattle.green_tree.specs.FoundToken.{FindsFirst, FindsLastBefore, IsTokenOf, path_found};
 
 use crate::green::{GreenElement, GreenNode, GreenToken};
 use std::alloc::{AllocError, Global};
@@ -22,7 +21,7 @@ fn push_first_token(
     node: &GreenNode,
     path: &mut Vec<usize>,
 ) -> Result<Option<GreenToken>, AllocError>
-    ensures { IfOk result (FindsToken (branch_tree node.now) (first_item (token_paths (branch_tree node.now))) path.old.items path.new.items) }
+    ensures { IfOk result (FindsFirst (branch_tree node.now) path.old.items path.new.items) }
 {
     for (slot, child) in node.children().iter().enumerate() {
         path.push(slot)?;
@@ -40,8 +39,8 @@ fn push_first_token(
 
 /// The first token below a node. The path is counted from the node.
 pub fn first_token(alloc: Global, node: &GreenNode) -> Result<Option<FoundToken>, AllocError>
-    ensures path { IfOk result (λ found. option_map (λ token. token.path.items) found ≡ first_item (token_paths (branch_tree node.now))) }
-    ensures token { IfOk result (λ found. IfSome found (λ token. at (branch_tree node.now) token.path.items ≡ Some (leaf_tree token.green))) }
+    ensures path { IfOk result (λ found. path_found found ≡ first_token (branch_tree node.now)) }
+    ensures token { IfOk result (λ found. IfSome found (IsTokenOf (branch_tree node.now))) }
 {
     let mut path = Vec::new(alloc);
     let Some(green) = push_first_token(alloc, node, &mut path)? else {
@@ -58,7 +57,7 @@ fn push_last_token(
     path: &mut Vec<usize>,
 ) -> Result<Option<GreenToken>, AllocError>
     requires { end ≤ length node.now.children }
-    ensures { IfOk result (FindsToken (branch_tree node.now) (last_item (tokens_before (branch_tree node.now) (end ∷ []))) path.old.items path.new.items) }
+    ensures { IfOk result (FindsLastBefore (branch_tree node.now) (end ∷ []) path.old.items path.new.items) }
 {
     let children = node.children();
     for slot in (0..end).rev() {
@@ -84,7 +83,7 @@ fn push_token_before(
     way: &mut Vec<usize>,
 ) -> Result<Option<GreenToken>, AllocError>
     requires { IsSome (at (branch_tree node.now) path.now) }
-    ensures { IfOk result (FindsToken (branch_tree node.now) (last_item (tokens_before (branch_tree node.now) path.now)) way.old.items way.new.items) }
+    ensures { IfOk result (FindsLastBefore (branch_tree node.now) path.now way.old.items way.new.items) }
 {
     let [slot, rest @ ..] = path else {
         return Ok(None);
@@ -107,8 +106,8 @@ pub fn token_before(
     path: &[usize],
 ) -> Result<Option<FoundToken>, AllocError>
     requires { IsSome (at (branch_tree root.now) path.now) }
-    ensures path { IfOk result (λ found. option_map (λ token. token.path.items) found ≡ last_item (tokens_before (branch_tree root.now) path.now)) }
-    ensures token { IfOk result (λ found. IfSome found (λ token. at (branch_tree root.now) token.path.items ≡ Some (leaf_tree token.green))) }
+    ensures path { IfOk result (λ found. path_found found ≡ last_token_before (branch_tree root.now) path.now) }
+    ensures token { IfOk result (λ found. IfSome found (IsTokenOf (branch_tree root.now))) }
 {
     let mut way = Vec::new(alloc);
     let Some(green) = push_token_before(alloc, root, path, &mut way)? else {

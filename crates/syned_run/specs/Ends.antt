@@ -1,6 +1,10 @@
 -- What a read adds to what was read before, and how much of a reader reads take.
-use Rattle.std.specs.Prelude.{◌≡◌, ℕ, ◌≤◌, List, ◌++◌, length, Option}
+use Rattle.std.specs.Prelude.{◌≡◌, ℕ, ◌≤◌, List, ◌++◌, length, take, Option, IfSome}
 use Rattle.std.specs.Io.KnownBytes.{Consumes, IsAtEnd}
+
+-- these are the first bytes of a reader, where those are known: so many, or all where they are fewer
+abbrev pub IsFrontOf : Option (List ℕ) → ℕ → List ℕ → Type 0
+IsFrontOf left n bytes = IfSome left (λ all. bytes ≡ take n all)
 
 -- of a reader's bytes, where these are known, a front of at most so many as the limit was taken
 abbrev pub TakesAtMost : Option (List ℕ) → Option (List ℕ) → ℕ → Type 0

@@ -1,7 +1,7 @@
 //! The ends of a run: what is read and what is written.
 ghost use Rattle.std.specs.Prelude.{ℕ, ◌≡◌, ◌+◌, ◌<◌, IfOk, OnOk, IfSome, take};
 ghost use Rattle.std.specs.Io.KnownBytes.{Appends, Consumes};
-ghost use Rattle.syned_run.specs.Ends.{ReadsOn, TakesAtMost};
+ghost use Rattle.syned_run.specs.Ends.{IsFrontOf, ReadsOn, TakesAtMost};
 
 use std::alloc::{AllocError, Global};
 use std::io;
@@ -32,7 +32,7 @@ impl From<AllocError> for EndFailed {
 /// All bytes up to the reader's end, or up to one byte more than a script may have; what comes after them stays in the
 /// reader. A read that is interrupted has failed.
 pub(crate) fn read_script<R: Read>(alloc: Global, reader: &mut R) -> Result<Vec<u8>, EndFailed>
-    ensures read { IfOk result (λ v. IfSome (R.remaining reader.old) (λ all. v.items ≡ take (SCRIPT_LIMIT + 1) all)) }
+    ensures read { IfOk result (λ v. IsFrontOf (R.remaining reader.old) (SCRIPT_LIMIT + 1) v.items) }
     ensures left { IfOk result (λ v. Consumes (R.remaining reader.old) (R.remaining reader.new) v.items) }
     ensures taken { TakesAtMost (R.remaining reader.old) (R.remaining reader.new) (SCRIPT_LIMIT + 1) }
 {
@@ -46,20 +46,20 @@ pub(crate) fn read_script<R: Read>(alloc: Global, reader: &mut R) -> Result<Vec<
     Ok(script)
 }
 
-// One read of at most `limit` bytes, which go to the end of `script`. It tells how many they were, none at the end alone.
+// One read of at most `limit` bytes, which go to the end of `out`. It tells how many they were, none at the end alone.
 fn read_more<R: Read>(
     reader: &mut R,
-    script: &mut Vec<u8>,
+    out: &mut Vec<u8>,
     limit: usize,
 ) -> Result<usize, EndFailed>
     requires { 0 < limit }
     ensures taken { TakesAtMost (R.remaining reader.old) (R.remaining reader.new) limit }
-    ensures ok { IfOk result (λ n. ReadsOn (R.remaining reader.old) (R.remaining reader.new) script.old.items script.new.items limit n) }
+    ensures ok { IfOk result (ReadsOn (R.remaining reader.old) (R.remaining reader.new) out.old.items out.new.items limit) }
 {
     let mut block = [0u8; BLOCK];
     let wanted = limit.min(BLOCK);
     let count = reader.read(&mut block[..wanted])?;
-    script.extend_from_slice(&block[..count])?;
+    out.extend_from_slice(&block[..count])?;
     Ok(count)
 }
 

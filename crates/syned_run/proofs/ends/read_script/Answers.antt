@@ -15,7 +15,7 @@ pub returns-then-branch-eq0-clause-read : goal.returns-then-branch-eq0-clause-re
 returns-then-branch-eq0-clause-read g c =
     let more = c.in_ok-read_more.ensures.ok in
     let read = subst (Consumes _ _) (sym more.added) (Consumes-trans _ _ _ _ _ c.loop-script.invariant.1 more.consumed) in
-    read_whole _ _ c.read_more.new.script.items (SCRIPT_LIMIT + 1) read (more.ended c.if-branch-eq0.true) (no_longer c.loop-script.script.items c.read_more.new.script.items more.bytes _ (SCRIPT_LIMIT + 1) more.added more.count c.if-branch-eq0.true (search rules))
+    read_whole _ _ c.read_more.new.out.items (SCRIPT_LIMIT + 1) read (more.ended c.if-branch-eq0.true) (no_longer c.loop-script.script.items c.read_more.new.out.items more.bytes _ (SCRIPT_LIMIT + 1) more.added more.count c.if-branch-eq0.true (search rules))
 
 pub returns-then-branch-eq0-clause-left : goal.returns-then-branch-eq0-clause-left
 returns-then-branch-eq0-clause-left g c =
