@@ -1,7 +1,7 @@
-//! What a call answers, as a row has it: `ok` and what it gives, or the name of the refusal.
+//! What a step answers, as a row has it: `ok` and what it gives, or the name of the refusal; or a fact.
 
 use anyhow::Result;
-use cst_core::SyntaxNode;
+use cst_core::{SyntaxElement, SyntaxNode};
 use std::alloc::{AllocError, Global};
 use std::fmt::Display;
 use tree_text::push_escaped;
@@ -17,8 +17,24 @@ pub fn none(alloc: Global) -> Result<String> {
     Ok(String::from_str(alloc, "none")?)
 }
 
+/// The answer of a call that gives something, or nothing.
+pub fn some(alloc: Global, is_some: bool) -> Result<String> {
+    if is_some { ok(alloc) } else { none(alloc) }
+}
+
 pub fn refused<E: Display + Drop>(alloc: Global, refusal: E) -> Result<String> {
     Ok(refusal.to_string(alloc)?)
+}
+
+/// Whether something holds.
+pub fn truth(alloc: Global, holds: bool) -> Result<String> {
+    let word = if holds { "true" } else { "false" };
+    Ok(String::from_str(alloc, word)?)
+}
+
+/// A number alone.
+pub fn number(alloc: Global, number: u64) -> Result<String> {
+    Ok(number.to_string(alloc)?)
 }
 
 /// The answer of a call that gives nothing.
@@ -34,23 +50,48 @@ pub fn counted(alloc: Global, number: u64) -> Result<String> {
     Ok(format!(in alloc; "ok {number}")?)
 }
 
+/// The answer of a call that gives a number, or none.
+pub fn counted_or_none(alloc: Global, number: Option<u64>) -> Result<String> {
+    match number {
+        Some(number) => counted(alloc, number),
+        None => none(alloc),
+    }
+}
+
 /// The answer of a call that gives a node: its text, or the length of a long one, and the number of its tree.
 pub fn given(alloc: Global, node: &SyntaxNode) -> Result<String> {
     let mut answer = String::from_str(alloc, "ok ")?;
-    push_text(alloc, &mut answer, node)?;
+    push_short_text(alloc, &mut answer, node)?;
     write!(answer, " of {}", node.tree())?;
     Ok(answer)
 }
 
-fn push_text(alloc: Global, out: &mut String, node: &SyntaxNode) -> Result<(), AllocError> {
+fn push_short_text(alloc: Global, out: &mut String, node: &SyntaxNode) -> Result<(), AllocError> {
     let length = node.text_len();
     if length > SHOWN {
         return write!(out, "{length} bytes");
     }
+    push_text(alloc, out, node)
+}
+
+// The whole text.
+fn push_text(alloc: Global, out: &mut String, node: &SyntaxNode) -> Result<(), AllocError> {
     let text = node.text(alloc)?;
+    push_quoted(out, &text)
+}
+
+/// A text between quotes, with its escapes.
+pub fn push_quoted(out: &mut String, text: &str) -> Result<(), AllocError> {
     out.push('"')?;
-    push_escaped(out, &text)?;
+    push_escaped(out, text)?;
     out.push('"')
+}
+
+/// The whole text of a node.
+pub fn text_of(alloc: Global, node: &SyntaxNode) -> Result<String> {
+    let mut text = String::new(alloc);
+    push_text(alloc, &mut text, node)?;
+    Ok(text)
 }
 
 /// The answer of a call that makes a node.
@@ -59,4 +100,41 @@ pub fn made<E: Display + Drop>(alloc: Global, called: Result<SyntaxNode, E>) -> 
         Ok(node) => given(alloc, &node),
         Err(refusal) => refused(alloc, refusal),
     }
+}
+
+/// The slots with `/` between them, the root as `.`.
+pub fn push_path(out: &mut String, path: &[usize]) -> Result<(), AllocError> {
+    let Some((first, others)) = path.split_first() else {
+        return out.push('.');
+    };
+    write!(out, "{first}")?;
+    for slot in others {
+        write!(out, "/{slot}")?;
+    }
+    Ok(())
+}
+
+/// The paths of elements with a space between them, or that there is none.
+pub fn paths_of(alloc: Global, elements: &[SyntaxElement]) -> Result<String> {
+    let mut paths = String::new(alloc);
+    for element in elements {
+        push_item(&mut paths, element.slots())?;
+    }
+    some_or_none(alloc, paths)
+}
+
+/// One more path of a list, behind a space.
+pub fn push_item(paths: &mut String, path: &[usize]) -> Result<(), AllocError> {
+    if !paths.is_empty() {
+        paths.push(' ')?;
+    }
+    push_path(paths, path)
+}
+
+/// A list as it is, or that it is empty.
+pub fn some_or_none(alloc: Global, list: String) -> Result<String> {
+    if list.is_empty() {
+        return none(alloc);
+    }
+    Ok(list)
 }

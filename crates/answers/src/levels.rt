@@ -1,52 +1,104 @@
-//! Whitespace tokens, levels and indentation.
+//! Whitespace tokens and levels.
 
-use crate::answers::{counted, given, made, ok, refused};
+use crate::answers::{counted, none, push_quoted, refused, truth};
 use crate::session::Session;
-use crate::words::Words;
+use crate::shifts::{block, factory};
+use crate::trees::text_of_tree;
+use crate::words::{Words, find_named};
 use anyhow::{Context, Result};
-use cst_core::AstNode;
-use cst_core::ast::BlockExpr;
-use std::alloc::Global;
-use syntax_editor::{AstNodeEdit, IndentError, IndentLevel, SyntaxFactory, indent};
+use cst_core::{SyntaxNode, SyntaxToken};
+use std::alloc::{AllocError, Global};
+use syntax_editor::{AstNodeEdit, IndentError, IndentLevel, SyntaxFactory};
 
-/// What a call answers, if it is one of these.
+#[derive(Clone, Copy)]
+pub enum LevelStep {
+    Whitespace,
+    FromElement,
+    FromNode,
+    FromToken,
+    IndentLevel,
+    IsZero,
+    Sum,
+    Print,
+}
+
+const NAMES: [(&str, LevelStep); 8] = [
+    ("whitespace", LevelStep::Whitespace),
+    ("from_element", LevelStep::FromElement),
+    ("from_node", LevelStep::FromNode),
+    ("from_token", LevelStep::FromToken),
+    ("indent_level", LevelStep::IndentLevel),
+    ("is_zero", LevelStep::IsZero),
+    ("sum", LevelStep::Sum),
+    ("print", LevelStep::Print),
+];
+
+impl LevelStep {
+    pub fn from_name(name: &str) -> Option<LevelStep> {
+        find_named(&NAMES, name).copied()
+    }
+}
+
 pub fn answer(
     alloc: Global,
     session: &mut Session,
-    call: &str,
+    step: LevelStep,
     words: &mut Words,
-) -> Result<Option<String>> {
-    let answer = match call {
-        "whitespace" => whitespace(alloc, session, words)?,
-        "from_element" => from_element(alloc, session, words)?,
-        "from_node" => from_node(alloc, session, words)?,
-        "from_token" => from_token(alloc, session, words)?,
-        "indent_level" => indent_level(alloc, session, words)?,
-        "free_indent" => free_indent(alloc, session, words)?,
-        "indent" => typed_indent(alloc, session, words)?,
-        "dedent" => dedent(alloc, session, words)?,
-        "reset_indent" => reset_indent(alloc, session, words)?,
-        "indent_with_mapping" => indent_with_mapping(alloc, session, words)?,
-        _ => return Ok(None),
-    };
-    Ok(Some(answer))
-}
-
-fn spaces(alloc: Global, count: u64) -> Result<String> {
-    let mut text = String::new(alloc);
-    for _ in 0..count {
-        text.push(' ')?;
+) -> Result<String> {
+    match step {
+        LevelStep::Whitespace => whitespace(alloc, session, words),
+        LevelStep::FromElement => from_element(alloc, session, words),
+        LevelStep::FromNode => from_node(alloc, session, words),
+        LevelStep::FromToken => from_token(alloc, session, words),
+        LevelStep::IndentLevel => indent_level(alloc, session, words),
+        LevelStep::IsZero => truth(alloc, IndentLevel(words.level()?).is_zero()),
+        LevelStep::Sum => sum(alloc, words),
+        LevelStep::Print => print(alloc, words),
     }
-    Ok(text)
 }
 
+// A token with the text of a tree, of a factory with mappings or without.
 fn whitespace(alloc: Global, session: &mut Session, words: &mut Words) -> Result<String> {
-    let text = spaces(alloc, words.number()?)?;
-    let factory = SyntaxFactory::without_mappings(alloc);
+    let factory = factory(alloc, words.word()?)?;
+    whitespace_of(alloc, session, &factory, words.take_rest())
+}
+
+fn whitespace_of(
+    alloc: Global,
+    session: &mut Session,
+    factory: &SyntaxFactory,
+    tree: &str,
+) -> Result<String> {
+    let text = text_of_tree(alloc, tree)?;
     match factory.whitespace(alloc, &mut session.ids, &text) {
-        Ok(token) => counted(alloc, token.text_len()),
+        Ok(token) => token_answer(alloc, &token),
         Err(refusal) => refused(alloc, refusal),
     }
+}
+
+// The token's kind, its text, the number of its tree, and what it stands below.
+fn token_answer(alloc: Global, token: &SyntaxToken) -> Result<String> {
+    let mut answer = String::from_str(alloc, "ok ")?;
+    push_token(&mut answer, token)?;
+    push_below(
+        alloc,
+        &mut answer,
+        &token.parent(alloc)?.context("no parent")?,
+    )?;
+    Ok(answer)
+}
+
+fn push_token(out: &mut String, token: &SyntaxToken) -> Result<(), AllocError> {
+    out.push_str(token.kind().name().unwrap_or(""))?;
+    out.push(' ')?;
+    push_quoted(out, token.text())?;
+    write!(out, " of {}", token.tree())
+}
+
+fn push_below(alloc: Global, out: &mut String, parent: &SyntaxNode) -> Result<(), AllocError> {
+    let count = parent.children_with_tokens(alloc)?.len();
+    write!(out, ", one of {count} below ")?;
+    out.push_str(parent.kind().name().unwrap_or(""))
 }
 
 fn level(alloc: Global, read: Result<IndentLevel, IndentError>) -> Result<String> {
@@ -71,62 +123,25 @@ fn from_token(alloc: Global, session: &mut Session, words: &mut Words) -> Result
     level(alloc, IndentLevel::from_token(alloc, &token))
 }
 
-fn free_indent(alloc: Global, session: &mut Session, words: &mut Words) -> Result<String> {
-    let node = session.trees.node(alloc, words.word()?)?;
-    let level = IndentLevel(words.level()?);
-    made(alloc, indent(alloc, &node, &mut session.ids, level))
-}
-
-// The block that a reference leads to.
-fn block(alloc: Global, session: &Session, words: &mut Words) -> Result<BlockExpr> {
-    let node = session.trees.node(alloc, words.word()?)?;
-    BlockExpr::cast(node).context("no block")
-}
-
-fn shifted(alloc: Global, called: Result<BlockExpr, IndentError>) -> Result<String> {
-    match called {
-        Ok(block) => given(alloc, block.syntax()),
-        Err(refusal) => refused(alloc, refusal),
-    }
-}
-
 fn indent_level(alloc: Global, session: &mut Session, words: &mut Words) -> Result<String> {
     let block = block(alloc, session, words)?;
     level(alloc, block.indent_level(alloc))
 }
 
-fn typed_indent(alloc: Global, session: &mut Session, words: &mut Words) -> Result<String> {
-    let block = block(alloc, session, words)?;
-    let level = IndentLevel(words.level()?);
-    shifted(alloc, block.indent(alloc, &mut session.ids, level))
-}
-
-fn dedent(alloc: Global, session: &mut Session, words: &mut Words) -> Result<String> {
-    let block = block(alloc, session, words)?;
-    let level = IndentLevel(words.level()?);
-    shifted(alloc, block.dedent(alloc, &mut session.ids, level))
-}
-
-fn reset_indent(alloc: Global, session: &mut Session, words: &mut Words) -> Result<String> {
-    let block = block(alloc, session, words)?;
-    shifted(alloc, block.reset_indent(alloc, &mut session.ids))
-}
-
-// A factory that keeps mappings, or one that keeps none.
-fn factory(alloc: Global, words: &mut Words) -> Result<SyntaxFactory> {
-    match words.word()? {
-        "mapped" => Ok(SyntaxFactory::with_mappings(alloc)),
-        "unmapped" => Ok(SyntaxFactory::without_mappings(alloc)),
-        _ => None.context("no such factory"),
+// Whether no indentation, and first one level more, then another one, is the third level.
+fn sum(alloc: Global, words: &mut Words) -> Result<String> {
+    let first = words.level()?;
+    let second = words.level()?;
+    if first.checked_add(second).is_none() {
+        return none(alloc);
     }
+    let mut level = IndentLevel::zero() + first;
+    level += second;
+    truth(alloc, level == IndentLevel::from(words.level()?))
 }
 
-fn indent_with_mapping(alloc: Global, session: &mut Session, words: &mut Words) -> Result<String> {
-    let block = block(alloc, session, words)?;
+// A level as it prints: as it is, and in a width of 14, 13 and 14, at the right end, at the left end and in the middle.
+fn print(alloc: Global, words: &mut Words) -> Result<String> {
     let level = IndentLevel(words.level()?);
-    let mut factory = factory(alloc, words)?;
-    shifted(
-        alloc,
-        block.indent_with_mapping(alloc, &mut session.ids, level, &mut factory),
-    )
+    Ok(format!(in alloc; "[{level}] [{level:*>14}] [{level:*<13}] [{level:*^14}]")?)
 }

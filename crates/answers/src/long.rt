@@ -62,16 +62,23 @@ fn twice(alloc: Global, element: GreenElement) -> Result<GreenElement> {
 /// A file with whitespace of this level, and then the node.
 pub fn at_level(alloc: Global, node: GreenNode, level: u64) -> Result<GreenNode> {
     let mut children = Vec::new(alloc);
-    children.push(newline(alloc, level)?)?;
+    children.push(line_of(alloc, level, "    ")?)?;
     children.push(GreenElement::Node(node))?;
     Ok(GreenNode::new(alloc, SyntaxKind::SOURCE_FILE, children)?)
 }
 
-// A newline and the spaces of a level.
-fn newline(alloc: Global, level: u64) -> Result<GreenElement> {
+/// A list of statements with one token of whitespace, a newline and so many spaces.
+pub fn blank(alloc: Global, spaces: u64) -> Result<GreenNode> {
+    let mut children = Vec::new(alloc);
+    children.push(line_of(alloc, spaces, " ")?)?;
+    Ok(GreenNode::new(alloc, SyntaxKind::STMT_LIST, children)?)
+}
+
+// A newline and a text so many times.
+fn line_of(alloc: Global, count: u64, part: &str) -> Result<GreenElement> {
     let mut text = String::from_str(alloc, "\n")?;
-    for _ in 0..level {
-        text.push_str("    ")?;
+    for _ in 0..count {
+        text.push_str(part)?;
     }
     let token = GreenToken::new(alloc, SyntaxKind::WHITESPACE, &text)?;
     Ok(GreenElement::Token(token))

@@ -1,27 +1,32 @@
-//! Makes the steps of each row of a table, from standard input, and compares what the last one answers with the expected
-//! answer. It prints a line for each row that answers otherwise, and for each answer that a call owes a row and has none.
+//! Makes the steps of each row of a table, from standard input, and compares what is answered with what is expected. It prints a line for each row that answers otherwise, and for each answer that a call owes a row and has none.
 //!
 //! The head of the table (`stdin`, beside this folder) says how a line is written.
 #![tactic(auto)]
 
 mod answers;
+mod editors;
+mod edits;
 mod levels;
 mod long;
 mod making;
-mod mapping;
+mod mappings;
 mod owed;
+mod pairs;
 mod plans;
+mod recorded;
 mod recording;
 mod report;
 mod row;
 mod session;
+mod shifts;
 mod steps;
 mod trees;
 mod words;
 
 use crate::report::Report;
 use crate::row::Line;
-use crate::steps::answer_of;
+use crate::session::Session;
+use crate::steps::take_steps;
 use anyhow::Result;
 use std::alloc::Global;
 use std::process::ExitCode;
@@ -34,11 +39,12 @@ fn take_row<R: Print>(
     steps: &str,
     wanted: &str,
 ) -> Result<()> {
-    match answer_of(alloc, steps) {
-        Ok(answered) => report.note(rt, alloc, line, answered.call, &answered.answer, wanted),
+    let mut session = Session::new(alloc);
+    match take_steps(alloc, &mut report.asked, &mut session, steps) {
+        Ok(()) => report.note(rt, line, &session.answers, wanted),
         Err(error) => {
             println!(rt; "{error}")?;
-            report.note(rt, alloc, line, "", "no answer", wanted)
+            report.note(rt, line, "no answer", wanted)
         }
     }
 }
@@ -47,7 +53,7 @@ fn take_line<R: Print>(rt: &R, alloc: Global, report: &mut Report, line: &str) -
     match Line::read(line) {
         Line::Blank => Ok(()),
         Line::Row { steps, wanted } => take_row(rt, alloc, report, line, steps, wanted),
-        Line::Malformed => report.note(rt, alloc, line, "", "the line is malformed", ""),
+        Line::Malformed => report.note(rt, line, "the line is malformed", ""),
     }
 }
 

@@ -1,36 +1,71 @@
-//! Trees, numbers, positions and mappings.
+//! Trees, numbers, annotations and positions.
 
-use crate::answers::{counted, done, given, made, none, ok, refused};
-use crate::session::{Session, last};
+use crate::answers::{counted, counted_or_none, given, made, number, ok, refused, some};
+use crate::session::Session;
 use crate::trees::read_tree;
-use crate::words::Words;
+use crate::words::{Words, find_named};
 use anyhow::{Context, Result};
 use cst_core::{GreenElement, GreenNode, SyntaxKind, SyntaxNode, TreeIds};
 use std::alloc::{AllocError, Global};
-use syntax_editor::{Annotations, Position, SyntaxMappingBuilder};
+use syntax_editor::{Annotations, Position, SyntaxAnnotation};
 
-/// What a step answers, if it is one of these.
+#[derive(Clone, Copy)]
+pub enum MakingStep {
+    Tree,
+    Numbers,
+    NewRoot,
+    CloneSubtree,
+    GreenNode,
+    Capped,
+    SpliceChildren,
+    Next,
+    Peek,
+    Annotations,
+    Before,
+    After,
+}
+
+const NAMES: [(&str, MakingStep); 12] = [
+    ("tree", MakingStep::Tree),
+    ("numbers", MakingStep::Numbers),
+    ("new_root", MakingStep::NewRoot),
+    ("clone_subtree", MakingStep::CloneSubtree),
+    ("green_node", MakingStep::GreenNode),
+    ("capped", MakingStep::Capped),
+    ("splice_children", MakingStep::SpliceChildren),
+    ("next", MakingStep::Next),
+    ("peek", MakingStep::Peek),
+    ("annotations", MakingStep::Annotations),
+    ("before", MakingStep::Before),
+    ("after", MakingStep::After),
+];
+
+impl MakingStep {
+    pub fn from_name(name: &str) -> Option<MakingStep> {
+        find_named(&NAMES, name).copied()
+    }
+}
+
 pub fn answer(
     alloc: Global,
     session: &mut Session,
-    call: &str,
+    step: MakingStep,
     words: &mut Words,
-) -> Result<Option<String>> {
-    let answer = match call {
-        "tree" => tree(alloc, session, words)?,
-        "numbers" => numbers(alloc, session, words)?,
-        "new_root" => new_root(alloc, session, words)?,
-        "clone_subtree" => clone_subtree(alloc, session, words)?,
-        "green_node" => green_node(alloc, words)?,
-        "capped" => capped(alloc, words)?,
-        "splice_children" => splice_children(alloc, words)?,
-        "next" => next(alloc, session)?,
-        "annotations" => annotations(alloc, words)?,
-        "before" => before(alloc, session, words)?,
-        "after" => after(alloc, session, words)?,
-        _ => return Ok(None),
-    };
-    Ok(Some(answer))
+) -> Result<String> {
+    match step {
+        MakingStep::Tree => tree(alloc, session, words),
+        MakingStep::Numbers => numbers(alloc, session, words),
+        MakingStep::NewRoot => new_root(alloc, session, words),
+        MakingStep::CloneSubtree => clone_subtree(alloc, session, words),
+        MakingStep::GreenNode => green_node(alloc, words),
+        MakingStep::Capped => capped(alloc, words),
+        MakingStep::SpliceChildren => splice_children(alloc, words),
+        MakingStep::Next => counted_or_none(alloc, session.ids.next()),
+        MakingStep::Peek => peek(alloc, session),
+        MakingStep::Annotations => annotations(alloc, words),
+        MakingStep::Before => before(alloc, session, words),
+        MakingStep::After => after(alloc, session, words),
+    }
 }
 
 fn tree(alloc: Global, session: &mut Session, words: &mut Words) -> Result<String> {
@@ -91,40 +126,52 @@ fn splice_children(alloc: Global, words: &mut Words) -> Result<String> {
     counted(alloc, spliced.length())
 }
 
-fn next(alloc: Global, session: &mut Session) -> Result<String> {
-    match session.ids.next() {
-        Some(number) => counted(alloc, number),
-        None => none(alloc),
+// The number that comes next.
+fn peek(alloc: Global, session: &Session) -> Result<String> {
+    match session.ids.peek() {
+        Some(next) => number(alloc, next),
+        None => some(alloc, false),
     }
 }
 
-// Which of two calls of a source that begins there give an annotation.
+/// The annotation with this number.
+pub fn annotation(digits: &str) -> Result<SyntaxAnnotation> {
+    let number = digits.parse::<u32>().ok().context("no number")?;
+    Annotations::new(number).next().context("no annotation")
+}
+
+// Whether the calls of a source that begins at the first number give the annotations of the others, each above the one before.
 fn annotations(alloc: Global, words: &mut Words) -> Result<String> {
     let first = words.word()?.parse::<u32>().ok().context("no number")?;
     let mut source = Annotations::new(first);
-    let one = source.next();
-    let two = source.next();
-    let is_first = one.is_some() && one == Annotations::new(first).next();
-    match (is_first, two) {
-        (true, None) => ok(alloc),
-        _ => none(alloc),
+    let mut before = None;
+    for word in words.take_rest().split(' ') {
+        let given = source.next();
+        if !is_wanted(before, given, word)? {
+            return some(alloc, false);
+        }
+        before = given;
     }
+    ok(alloc)
+}
+
+fn is_wanted(
+    before: Option<SyntaxAnnotation>,
+    given: Option<SyntaxAnnotation>,
+    wanted: &str,
+) -> Result<bool> {
+    if wanted == "none" {
+        return Ok(given.is_none());
+    }
+    Ok(given == Some(annotation(wanted)?) && before < given)
 }
 
 fn before(alloc: Global, session: &mut Session, words: &mut Words) -> Result<String> {
     let element = session.trees.element(alloc, words.word()?)?;
-    gap(alloc, &Position::before(alloc, element)?)
+    some(alloc, Position::before(alloc, element)?.is_some())
 }
 
 fn after(alloc: Global, session: &mut Session, words: &mut Words) -> Result<String> {
     let element = session.trees.element(alloc, words.word()?)?;
-    gap(alloc, &Position::after(alloc, element)?)
-}
-
-fn gap(alloc: Global, found: &Option<Position>) -> Result<String> {
-    if found.is_some() {
-        ok(alloc)
-    } else {
-        none(alloc)
-    }
+    some(alloc, Position::after(alloc, element)?.is_some())
 }

@@ -62,6 +62,30 @@ pub const OWED: &[Owed] = &[
         answers: &["ok"],
     },
     Owed {
+        call: "finish_builder",
+        answers: &["ok"],
+    },
+    Owed {
+        call: "add_mapping",
+        answers: &["ok"],
+    },
+    Owed {
+        call: "merge_mappings",
+        answers: &["ok"],
+    },
+    Owed {
+        call: "clone_mapping",
+        answers: &["ok"],
+    },
+    Owed {
+        call: "place",
+        answers: &["ok", "none"],
+    },
+    Owed {
+        call: "follow",
+        answers: &["ok"],
+    },
+    Owed {
         call: "new",
         answers: &["ok", "NoTreeNumber"],
     },
@@ -118,6 +142,14 @@ pub const OWED: &[Owed] = &[
         answers: &["ok", "Foreign"],
     },
     Owed {
+        call: "deleted",
+        answers: &["true", "false"],
+    },
+    Owed {
+        call: "fits",
+        answers: &["true", "false"],
+    },
+    Owed {
         call: "merge",
         answers: &["ok", "OtherRoot"],
     },
@@ -126,8 +158,20 @@ pub const OWED: &[Owed] = &[
         answers: &["ok", "Intersecting", "MissingMapping"],
     },
     Owed {
+        call: "build",
+        answers: &["ok", "Intersecting", "MissingMapping"],
+    },
+    Owed {
         call: "run",
         answers: &["ok", "TooLong", "NoTreeNumber"],
+    },
+    Owed {
+        call: "is_dropped",
+        answers: &["true", "false"],
+    },
+    Owed {
+        call: "owner",
+        answers: &["ok", "none"],
     },
     Owed {
         call: "finish",

@@ -1,56 +1,172 @@
-//! Plans, edits, and editors that are merged.
+//! Plans: of an editor, or built of changes and registered elements.
+ghost use Rattle.std.specs.Prelude.{◌≡◌, ◌↔◌, ◌<◌, [], length, IsTrue, IfOk, All};
+ghost use Rattle.edit_plan.specs.Fits.{Fits};
 
-use crate::answers::{counted, given, none, ok, refused};
-use crate::session::{Session, last};
-use crate::words::Words;
+use crate::answers::{counted, counted_or_none, ok, refused, truth};
+use crate::editors::take_last;
+use crate::edits::keep_edit;
+use crate::making::annotation;
+use crate::session::{Session, position};
+use crate::words::{Words, find_named};
 use anyhow::{Context, Result};
 use cst_core::SyntaxNode;
 use std::alloc::{AllocError, Global};
-use syntax_editor::{EditError, EditPlan, SyntaxEdit};
+use std::mem::replace;
+use syntax_editor::{Change, EditError, EditPlan, ElementList, SyntaxMapping};
 
-/// What a call answers, if it is one of these.
+#[derive(Clone, Copy)]
+pub enum PlanStep {
+    Plan,
+    Change,
+    Register,
+    Build,
+    Run,
+    IsDropped,
+    Owner,
+}
+
+const NAMES: [(&str, PlanStep); 7] = [
+    ("plan", PlanStep::Plan),
+    ("change", PlanStep::Change),
+    ("register", PlanStep::Register),
+    ("build", PlanStep::Build),
+    ("run", PlanStep::Run),
+    ("is_dropped", PlanStep::IsDropped),
+    ("owner", PlanStep::Owner),
+];
+
+impl PlanStep {
+    pub fn from_name(name: &str) -> Option<PlanStep> {
+        find_named(&NAMES, name).copied()
+    }
+}
+
 pub fn answer(
     alloc: Global,
     session: &mut Session,
-    call: &str,
+    step: PlanStep,
     words: &mut Words,
-) -> Result<Option<String>> {
-    let answer = match call {
-        "merge" => merge(alloc, session)?,
-        "plan" => plan(alloc, session)?,
-        "run" => run(alloc, session)?,
-        "finish" => finish(alloc, session)?,
-        "find_element" => find_element(alloc, session, words)?,
-        _ => return Ok(None),
-    };
-    Ok(Some(answer))
-}
-
-// The last editor goes into the one before it.
-fn merge(alloc: Global, session: &mut Session) -> Result<String> {
-    let other = session.editors.pop().context("no editor was made")?;
-    match last(&mut session.editors)?.merge(alloc, other) {
-        Ok(()) => ok(alloc),
-        Err((refusal, other)) => {
-            session.editors.push(other).map_err(AllocError::from)?;
-            refused(alloc, refusal)
-        }
+) -> Result<String> {
+    match step {
+        PlanStep::Plan => plan(alloc, session),
+        PlanStep::Change => change(alloc, session, words),
+        PlanStep::Register => register(alloc, session, words),
+        PlanStep::Build => build(alloc, session, words),
+        PlanStep::Run => run(alloc, session),
+        PlanStep::IsDropped => is_dropped(alloc, session, words),
+        PlanStep::Owner => owner(alloc, session, words),
     }
 }
 
 fn plan(alloc: Global, session: &mut Session) -> Result<String> {
-    let editor = session.editors.pop().context("no editor was made")?;
-    match editor.plan(alloc) {
-        Ok(plan) => keep_plan(alloc, session, plan),
+    let editor = take_last(session)?;
+    keep_plan(alloc, session, editor.plan(alloc))
+}
+
+// Keeps a plan, and answers how many changes it has.
+fn keep_plan(
+    alloc: Global,
+    session: &mut Session,
+    plan: Result<EditPlan, EditError>,
+) -> Result<String> {
+    match plan {
+        Ok(plan) => {
+            let count = plan.len();
+            session.plans.push(plan).map_err(AllocError::from)?;
+            counted(alloc, count as u64)
+        }
         Err(refusal) => refused(alloc, refusal),
     }
 }
 
-// Keeps a plan, and answers how many changes it has.
-fn keep_plan(alloc: Global, session: &mut Session, plan: EditPlan) -> Result<String> {
-    let count = plan.len();
-    session.plans.push(plan).map_err(AllocError::from)?;
-    counted(alloc, count as u64)
+// One more change of the plan that is built.
+fn change(alloc: Global, session: &mut Session, words: &mut Words) -> Result<String> {
+    let change = match words.word()? {
+        "insert" => insert(alloc, session, words)?,
+        "insert_all" => insert_all(alloc, session, words)?,
+        "delete" => delete(alloc, session, words)?,
+        "replace" => replacement(alloc, session, words)?,
+        "replace_with_many" => replace_with_many(alloc, session, words)?,
+        "replace_all" => replace_all(alloc, session, words)?,
+        _ => return None.context("no such change"),
+    };
+    session.changes.push(change).map_err(AllocError::from)?;
+    ok(alloc)
+}
+
+fn insert(alloc: Global, session: &Session, words: &mut Words) -> Result<Change> {
+    let at = position(alloc, &session.trees, words)?;
+    let new = session.trees.element(alloc, words.word()?)?;
+    Ok(Change::Insert(at, new))
+}
+
+fn insert_all(alloc: Global, session: &Session, words: &mut Words) -> Result<Change> {
+    let at = position(alloc, &session.trees, words)?;
+    let new = session.trees.elements(alloc, words)?;
+    Ok(Change::InsertAll(at, ElementList::from(new)))
+}
+
+fn delete(alloc: Global, session: &Session, words: &mut Words) -> Result<Change> {
+    let target = session.trees.element(alloc, words.word()?)?;
+    Ok(Change::Replace(target, None))
+}
+
+fn replacement(alloc: Global, session: &Session, words: &mut Words) -> Result<Change> {
+    let target = session.trees.element(alloc, words.word()?)?;
+    let new = session.trees.element(alloc, words.word()?)?;
+    Ok(Change::Replace(target, Some(new)))
+}
+
+fn replace_with_many(alloc: Global, session: &Session, words: &mut Words) -> Result<Change> {
+    let target = session.trees.element(alloc, words.word()?)?;
+    let new = session.trees.elements(alloc, words)?;
+    Ok(Change::ReplaceWithMany(target, ElementList::from(new)))
+}
+
+fn replace_all(alloc: Global, session: &Session, words: &mut Words) -> Result<Change> {
+    let first = session.trees.element(alloc, words.word()?)?;
+    let end = session.trees.element(alloc, words.word()?)?;
+    let new = session.trees.elements(alloc, words)?;
+    Ok(Change::ReplaceAll(first, end, ElementList::from(new)))
+}
+
+// One more registered element of the plan that is built.
+fn register(alloc: Global, session: &mut Session, words: &mut Words) -> Result<String> {
+    let element = session.trees.element(alloc, words.word()?)?;
+    let registration = (element, annotation(words.next().unwrap_or("1"))?);
+    session
+        .registrations
+        .push(registration)
+        .map_err(AllocError::from)?;
+    ok(alloc)
+}
+
+// Whether each change fits the tree with this root.
+fn all_fit(root: &SyntaxNode, changes: &[Change]) -> bool
+    requires { root.now.path ≡ [] }
+    ensures { IsTrue result ↔ All (Fits root.now) changes.now }
+{
+    changes.iter().all(|change| change.fits(root))
+}
+
+// A plan of the changes and registered elements so far, by the last mapping, or by none.
+fn build(alloc: Global, session: &mut Session, words: &mut Words) -> Result<String> {
+    let root = session.trees.node(alloc, words.word()?)?;
+    if !root.slots().is_empty() {
+        return None.context("no root stands there");
+    }
+    let changes = replace(&mut session.changes, Vec::new(alloc));
+    if !all_fit(&root, &changes) {
+        return Ok(String::from_str(alloc, "not fitting")?);
+    }
+    let registrations = replace(&mut session.registrations, Vec::new(alloc));
+    let mapping = session.mappings.pop().unwrap_or(SyntaxMapping::new(alloc));
+    let plan = EditPlan::build(alloc, root, changes, registrations, mapping);
+    keep_plan(alloc, session, plan)
+}
+
+fn last(session: &Session) -> Result<&EditPlan> {
+    session.plans.last().context("no plan was made")
 }
 
 fn run(alloc: Global, session: &mut Session) -> Result<String> {
@@ -59,37 +175,25 @@ fn run(alloc: Global, session: &mut Session) -> Result<String> {
     keep_edit(alloc, session, edit)
 }
 
-fn finish(alloc: Global, session: &mut Session) -> Result<String> {
-    let editor = session.editors.pop().context("no editor was made")?;
-    let edit = editor.finish(alloc, &mut session.ids);
-    keep_edit(alloc, session, edit)
-}
-
-// Keeps an edit, and answers its new root.
-fn keep_edit(
-    alloc: Global,
-    session: &mut Session,
-    edit: Result<SyntaxEdit, EditError>,
-) -> Result<String> {
-    match edit {
-        Ok(edit) => {
-            let answer = given(alloc, edit.new_root())?;
-            session.edits.push(edit).map_err(AllocError::from)?;
-            Ok(answer)
-        }
-        Err(refusal) => refused(alloc, refusal),
+// A change of the last plan.
+fn change_number(plan: &EditPlan, words: &mut Words) -> Result<usize>
+    ensures { IfOk result (λ change. change < length plan.now.changes) }
+{
+    let change = words.word()?.parse::<usize>().ok().context("no number")?;
+    if change >= plan.len() {
+        return None.context("no such change");
     }
+    Ok(change)
 }
 
-fn find_element(alloc: Global, session: &mut Session, words: &mut Words) -> Result<String> {
-    let old = session.trees.node(alloc, words.word()?)?;
-    let edit = session.edits.last().context("no edit was made")?;
-    found(alloc, edit.find_element(alloc, &old)?)
+fn is_dropped(alloc: Global, session: &mut Session, words: &mut Words) -> Result<String> {
+    let plan = last(session)?;
+    let change = change_number(plan, words)?;
+    truth(alloc, plan.is_dropped(change))
 }
 
-fn found(alloc: Global, node: Option<SyntaxNode>) -> Result<String> {
-    match node {
-        Some(node) => given(alloc, &node),
-        None => none(alloc),
-    }
+fn owner(alloc: Global, session: &mut Session, words: &mut Words) -> Result<String> {
+    let plan = last(session)?;
+    let change = change_number(plan, words)?;
+    counted_or_none(alloc, plan.owner(change).map(|owner| owner as u64))
 }

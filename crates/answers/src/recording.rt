@@ -1,66 +1,77 @@
-//! Editors, and the calls that record.
+//! The calls that record.
 
-use crate::answers::{done, given, ok, refused};
+use crate::answers::done;
+use crate::making::annotation;
 use crate::session::{Session, last, position};
-use crate::words::Words;
+use crate::words::{Words, find_named};
 use anyhow::{Context, Result};
-use cst_core::ast::{BlockExpr, Fn};
-use cst_core::{AstNode, SyntaxNode, TreeError};
-use std::alloc::{AllocError, Global};
-use syntax_editor::{Annotations, AttrsOwnerEdit, SyntaxAnnotation, SyntaxEditor};
+use cst_core::ast::{Fn, LetStmt};
+use cst_core::{AstNode, HasAttrs, SyntaxNode};
+use std::alloc::Global;
+use syntax_editor::AttrsOwnerEdit;
 
-/// What a call answers, if it is one of these.
-pub fn answer(
-    alloc: Global,
-    session: &mut Session,
-    call: &str,
-    words: &mut Words,
-) -> Result<Option<String>> {
-    let answer = match call {
-        "new" => new(alloc, session, words)?,
-        "with_ast_node" => with_ast_node(alloc, session, words)?,
-        "insert" => insert(alloc, session, words)?,
-        "insert_all" => insert_all(alloc, session, words)?,
-        "insert_with_whitespace" => insert_with_whitespace(alloc, session, words)?,
-        "insert_all_with_whitespace" => insert_all_with_whitespace(alloc, session, words)?,
-        "delete" => delete(alloc, session, words)?,
-        "delete_all" => delete_all(alloc, session, words)?,
-        "replace" => replace(alloc, session, words)?,
-        "replace_with_many" => replace_with_many(alloc, session, words)?,
-        "replace_all" => replace_all(alloc, session, words)?,
-        "add_annotation" => add_annotation(alloc, session, words)?,
-        "add_annotation_all" => add_annotation_all(alloc, session, words)?,
-        "remove_attrs_and_docs" => remove_attrs_and_docs(alloc, session, words)?,
-        _ => return Ok(None),
-    };
-    Ok(Some(answer))
+#[derive(Clone, Copy)]
+pub enum RecordingStep {
+    Insert,
+    InsertAll,
+    InsertWithWhitespace,
+    InsertAllWithWhitespace,
+    Delete,
+    DeleteAll,
+    Replace,
+    ReplaceWithMany,
+    ReplaceAll,
+    AddAnnotation,
+    AddAnnotationAll,
+    RemoveAttrsAndDocs,
 }
 
-// Keeps a new editor, and answers the root that it edits.
-fn keep(
-    alloc: Global,
-    session: &mut Session,
-    editor: SyntaxEditor,
-    root: &SyntaxNode,
-) -> Result<String> {
-    session.editors.push(editor).map_err(AllocError::from)?;
-    given(alloc, root)
-}
+const NAMES: [(&str, RecordingStep); 12] = [
+    ("insert", RecordingStep::Insert),
+    ("insert_all", RecordingStep::InsertAll),
+    (
+        "insert_with_whitespace",
+        RecordingStep::InsertWithWhitespace,
+    ),
+    (
+        "insert_all_with_whitespace",
+        RecordingStep::InsertAllWithWhitespace,
+    ),
+    ("delete", RecordingStep::Delete),
+    ("delete_all", RecordingStep::DeleteAll),
+    ("replace", RecordingStep::Replace),
+    ("replace_with_many", RecordingStep::ReplaceWithMany),
+    ("replace_all", RecordingStep::ReplaceAll),
+    ("add_annotation", RecordingStep::AddAnnotation),
+    ("add_annotation_all", RecordingStep::AddAnnotationAll),
+    ("remove_attrs_and_docs", RecordingStep::RemoveAttrsAndDocs),
+];
 
-fn new(alloc: Global, session: &mut Session, words: &mut Words) -> Result<String> {
-    let node = session.trees.node(alloc, words.word()?)?;
-    match SyntaxEditor::new(alloc, &mut session.ids, node) {
-        Ok((editor, root)) => keep(alloc, session, editor, &root),
-        Err(refusal) => refused(alloc, refusal),
+impl RecordingStep {
+    pub fn from_name(name: &str) -> Option<RecordingStep> {
+        find_named(&NAMES, name).copied()
     }
 }
 
-fn with_ast_node(alloc: Global, session: &mut Session, words: &mut Words) -> Result<String> {
-    let node = session.trees.node(alloc, words.word()?)?;
-    let block = BlockExpr::cast(node).context("no block")?;
-    match SyntaxEditor::with_ast_node(alloc, &mut session.ids, &block) {
-        Ok((editor, root)) => keep(alloc, session, editor, root.syntax()),
-        Err(refusal) => refused(alloc, refusal),
+pub fn answer(
+    alloc: Global,
+    session: &mut Session,
+    step: RecordingStep,
+    words: &mut Words,
+) -> Result<String> {
+    match step {
+        RecordingStep::Insert => insert(alloc, session, words),
+        RecordingStep::InsertAll => insert_all(alloc, session, words),
+        RecordingStep::InsertWithWhitespace => insert_with_whitespace(alloc, session, words),
+        RecordingStep::InsertAllWithWhitespace => insert_all_with_whitespace(alloc, session, words),
+        RecordingStep::Delete => delete(alloc, session, words),
+        RecordingStep::DeleteAll => delete_all(alloc, session, words),
+        RecordingStep::Replace => replace(alloc, session, words),
+        RecordingStep::ReplaceWithMany => replace_with_many(alloc, session, words),
+        RecordingStep::ReplaceAll => replace_all(alloc, session, words),
+        RecordingStep::AddAnnotation => add_annotation(alloc, session, words),
+        RecordingStep::AddAnnotationAll => add_annotation_all(alloc, session, words),
+        RecordingStep::RemoveAttrsAndDocs => remove_attrs_and_docs(alloc, session, words),
     }
 }
 
@@ -141,20 +152,17 @@ fn replace_all(alloc: Global, session: &mut Session, words: &mut Words) -> Resul
     done(alloc, editor.replace_all(alloc, first, end, new))
 }
 
-fn first_annotation() -> Result<SyntaxAnnotation> {
-    Annotations::new(1).next().context("no annotation")
-}
-
+// Registered with the annotation of the next word, or with the first one.
 fn add_annotation(alloc: Global, session: &mut Session, words: &mut Words) -> Result<String> {
     let element = session.trees.element(alloc, words.word()?)?;
-    let annotation = first_annotation()?;
+    let annotation = annotation(words.next().unwrap_or("1"))?;
     let editor = last(&mut session.editors)?;
     done(alloc, editor.add_annotation(alloc, element, annotation))
 }
 
 fn add_annotation_all(alloc: Global, session: &mut Session, words: &mut Words) -> Result<String> {
     let elements = session.trees.elements(alloc, words)?;
-    let annotation = first_annotation()?;
+    let annotation = annotation("1")?;
     let editor = last(&mut session.editors)?;
     done(
         alloc,
@@ -162,13 +170,25 @@ fn add_annotation_all(alloc: Global, session: &mut Session, words: &mut Words) -
     )
 }
 
+// Of a function or a statement.
 fn remove_attrs_and_docs(
     alloc: Global,
     session: &mut Session,
     words: &mut Words,
 ) -> Result<String> {
     let node = session.trees.node(alloc, words.word()?)?;
-    let function = Fn::cast(node).context("no function")?;
+    if Fn::can_cast(node.kind()) {
+        return remove_from::<Fn>(alloc, session, node);
+    }
+    remove_from::<LetStmt>(alloc, session, node)
+}
+
+fn remove_from<N: HasAttrs>(
+    alloc: Global,
+    session: &mut Session,
+    node: SyntaxNode,
+) -> Result<String> {
+    let owner = N::cast(node).context("no function and no statement")?;
     let editor = last(&mut session.editors)?;
-    done(alloc, function.remove_attrs_and_docs(alloc, editor))
+    done(alloc, owner.remove_attrs_and_docs(alloc, editor))
 }

@@ -9,8 +9,9 @@ pub struct Report {
     rows: u32,
     as_expected: u32,
     owed: u32,
-    asked: u32,
-    pairs: Asked,
+    have_row: u32,
+    /// The pairs that rows asked about so far.
+    pub asked: Asked,
 }
 
 impl Report {
@@ -19,25 +20,17 @@ impl Report {
             rows: 0,
             as_expected: 0,
             owed: 0,
-            asked: 0,
-            pairs: Asked::new(alloc),
+            have_row: 0,
+            asked: Asked::new(alloc),
         }
     }
 
     /// Counts a row, and prints its line where the answer is not the expected one.
-    pub fn note<R: Print>(
-        &mut self,
-        rt: &R,
-        alloc: Global,
-        line: &str,
-        call: &str,
-        answer: &str,
-        wanted: &str,
-    ) -> Result<()> {
+    pub fn note<R: Print>(&mut self, rt: &R, line: &str, answer: &str, wanted: &str) -> Result<()> {
         self.rows = self.rows.saturating_add(1);
         if answer == wanted {
             self.as_expected = self.as_expected.saturating_add(1);
-            return self.pairs.add(alloc, call, answer);
+            return Ok(());
         }
         println!(rt; "{line}")?;
         println!(rt; "    but: {answer}")?;
@@ -48,8 +41,8 @@ impl Report {
     fn note_owed<R: Print>(&mut self, rt: &R, owed: &Owed) -> Result<()> {
         for answer in owed.answers {
             self.owed = self.owed.saturating_add(1);
-            if self.pairs.has(owed.call, answer) {
-                self.asked = self.asked.saturating_add(1);
+            if self.asked.has(owed.call, answer) {
+                self.have_row = self.have_row.saturating_add(1);
             } else {
                 println!(rt; "no row: {} answers {answer}", owed.call)?;
             }
@@ -68,9 +61,9 @@ impl Report {
         )?;
         println!(rt;
             "{} of {} owed pairs of a call and its answer have a row",
-            self.asked, self.owed
+            self.have_row, self.owed
         )?;
-        if self.as_expected == self.rows && self.asked == self.owed {
+        if self.as_expected == self.rows && self.have_row == self.owed {
             Ok(ExitCode::SUCCESS)
         } else {
             Ok(ExitCode::FAILURE)

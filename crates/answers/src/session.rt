@@ -1,19 +1,28 @@
 use crate::trees::Trees;
 use crate::words::Words;
 use anyhow::{Context, Result};
-use cst_core::TreeIds;
-use std::alloc::Global;
-use syntax_editor::{EditPlan, Position, SyntaxEdit, SyntaxEditor, SyntaxMappingBuilder};
+use cst_core::{SyntaxElement, SyntaxNode, TreeIds};
+use std::alloc::{AllocError, Global};
+use syntax_editor::{
+    Change, EditPlan, Position, SyntaxAnnotation, SyntaxEdit, SyntaxEditor, SyntaxMapping,
+    SyntaxMappingBuilder,
+};
 
-/// What the steps of a row work on. A step on an editor, a plan, an edit or a builder is one on the last that was made.
+/// What the steps of a row work on. A step on an editor, a plan, an edit, a mapping or a builder is one on the last that was made.
 #[derive(Drop)]
 pub struct Session {
     pub ids: TreeIds,
     pub trees: Trees,
+    pub builders: Vec<SyntaxMappingBuilder>,
+    pub mappings: Vec<SyntaxMapping>,
     pub editors: Vec<SyntaxEditor>,
+    /// The changes and the registered elements of a plan that is built of them.
+    pub changes: Vec<Change>,
+    pub registrations: Vec<(SyntaxElement, SyntaxAnnotation)>,
     pub plans: Vec<EditPlan>,
     pub edits: Vec<SyntaxEdit>,
-    pub builders: Vec<SyntaxMappingBuilder>,
+    /// What the steps answer that are asked about.
+    pub answers: String,
 }
 
 /// What a refusal leaves as it was: the number that comes next, and how many changes the editors hold.
@@ -29,10 +38,14 @@ impl Session {
         Session {
             ids: TreeIds::new(1),
             trees: Trees::new(alloc),
+            builders: Vec::new(alloc),
+            mappings: Vec::new(alloc),
             editors: Vec::new(alloc),
+            changes: Vec::new(alloc),
+            registrations: Vec::new(alloc),
             plans: Vec::new(alloc),
             edits: Vec::new(alloc),
-            builders: Vec::new(alloc),
+            answers: String::new(alloc),
         }
     }
 
@@ -46,6 +59,20 @@ impl Session {
             editors: self.editors.len(),
             changes,
         }
+    }
+
+    /// One more answer, behind those before.
+    pub fn push_answer(&mut self, answer: &str) -> Result<(), AllocError> {
+        if !self.answers.is_empty() {
+            self.answers.push_str(" ; ")?;
+        }
+        self.answers.push_str(answer)
+    }
+
+    /// A step makes a node, which goes by the name `it` from then on.
+    pub fn keep(&mut self, alloc: Global, node: &SyntaxNode) -> Result<()> {
+        let copy = node.try_clone(alloc)?;
+        self.trees.add(alloc, "it", copy)
     }
 }
 
@@ -68,12 +95,12 @@ pub fn position(alloc: Global, trees: &Trees, words: &mut Words) -> Result<Posit
             Ok(Position::last_child_of(alloc, &node)?)
         }
         "before" => {
-            let found = Position::before(alloc, trees.element(alloc, beside)?)?;
-            found.context("no gap there")
+            let gap = Position::before(alloc, trees.element(alloc, beside)?)?;
+            gap.context("no gap there")
         }
         "after" => {
-            let found = Position::after(alloc, trees.element(alloc, beside)?)?;
-            found.context("no gap there")
+            let gap = Position::after(alloc, trees.element(alloc, beside)?)?;
+            gap.context("no gap there")
         }
         _ => None.context("no such gap"),
     }

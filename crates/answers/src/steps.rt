@@ -1,44 +1,74 @@
 //! The steps of a row.
 
+use crate::editors::{self, EditorStep};
+use crate::edits::{self, EditStep};
+use crate::levels::{self, LevelStep};
+use crate::making::{self, MakingStep};
+use crate::mappings::{self, MappingStep};
+use crate::owed::Asked;
+use crate::pairs::{self, PairStep};
+use crate::plans::{self, PlanStep};
+use crate::recorded::{self, RecordedStep};
+use crate::recording::{self, RecordingStep};
 use crate::session::{Counts, Session};
+use crate::shifts::{self, ShiftStep};
 use crate::words::Words;
-use crate::{levels, making, mapping, plans, recording};
 use anyhow::{Context, Result};
 use std::alloc::Global;
 
-/// What the last step of a row answers, and its call.
-#[derive(Drop)]
-pub struct Answered<'a> {
-    pub call: &'a str,
-    pub answer: String,
+/// Takes the steps in their order. The last one and each behind `?` is asked about; what these answer stands in the session then.
+pub fn take_steps(
+    alloc: Global,
+    asked: &mut Asked,
+    session: &mut Session,
+    steps: &str,
+) -> Result<()> {
+    let (before, last) = steps.rsplit_once(" ; ").unwrap_or(("", steps));
+    for step in before.split(" ; ").filter(|step| !step.is_empty()) {
+        take(alloc, asked, session, step)?;
+    }
+    ask(
+        alloc,
+        asked,
+        session,
+        last.strip_prefix("? ").unwrap_or(last),
+    )
 }
 
-/// Takes the steps in their order. Each but the last one must be done.
-pub fn answer_of<'a>(alloc: Global, steps: &'a str) -> Result<Answered<'a>> {
-    let mut session = Session::new(alloc);
-    let (before, call) = steps.rsplit_once(" ; ").unwrap_or(("", steps));
-    for step in before.split(" ; ").filter(|step| !step.is_empty()) {
-        set_up(alloc, &mut session, step)?;
+// A step that is asked about, one that may be refused, or one that must be done.
+fn take(alloc: Global, asked: &mut Asked, session: &mut Session, step: &str) -> Result<()> {
+    if let Some(step) = step.strip_prefix("? ") {
+        return ask(alloc, asked, session, step);
     }
-    last_answer(alloc, &mut session, call)
+    if let Some(step) = step.strip_prefix("try ") {
+        answer_to(alloc, session, step)?;
+        return Ok(());
+    }
+    set_up(alloc, session, step)
 }
 
 fn set_up(alloc: Global, session: &mut Session, step: &str) -> Result<()> {
-    let answered = answer_to(alloc, session, step)?;
-    if answered.answer.starts_with("ok") {
+    if answer_to(alloc, session, step)?.starts_with("ok") {
         return Ok(());
     }
-    None.context("a step before the last one is refused")
+    None.context("a step that is not asked about is refused")
+}
+
+fn ask(alloc: Global, asked: &mut Asked, session: &mut Session, step: &str) -> Result<()> {
+    let (call, _) = step.split_once(' ').unwrap_or((step, ""));
+    let answer = checked_answer(alloc, session, step)?;
+    session.push_answer(&answer)?;
+    asked.add(alloc, call, &answer)
 }
 
 // A step that is not done leaves the counts as they were; if it does not, the answer says so.
-fn last_answer<'a>(alloc: Global, session: &mut Session, step: &'a str) -> Result<Answered<'a>> {
+fn checked_answer(alloc: Global, session: &mut Session, step: &str) -> Result<String> {
     let before = session.counts();
-    let mut answered = answer_to(alloc, session, step)?;
-    if !answered.answer.starts_with("ok") {
-        push_changed(&mut answered.answer, &before, &session.counts())?;
+    let mut answer = answer_to(alloc, session, step)?;
+    if !answer.starts_with("ok") {
+        push_changed(&mut answer, &before, &session.counts())?;
     }
-    Ok(answered)
+    Ok(answer)
 }
 
 // An editor that is gone took its changes along.
@@ -52,33 +82,60 @@ fn push_changed(answer: &mut String, before: &Counts, after: &Counts) -> Result<
     Ok(())
 }
 
-fn answer_to<'a>(alloc: Global, session: &mut Session, step: &'a str) -> Result<Answered<'a>> {
+fn answer_to(alloc: Global, session: &mut Session, step: &str) -> Result<String> {
     let mut words = Words::of(step);
-    let call = words.word()?;
-    let answer = any_answer(alloc, session, call, &mut words)?.context("no step has this name")?;
+    let name = words.word()?;
+    let answer = any_answer(alloc, session, name, &mut words)?;
     if words.next().is_some() {
         return None.context("the step has too many words");
     }
-    Ok(Answered { call, answer })
+    Ok(answer)
 }
 
 fn any_answer(
     alloc: Global,
     session: &mut Session,
-    call: &str,
+    name: &str,
     words: &mut Words,
-) -> Result<Option<String>> {
-    if let Some(answer) = making::answer(alloc, session, call, words)? {
-        return Ok(Some(answer));
+) -> Result<String> {
+    if let Some(step) = MakingStep::from_name(name) {
+        return making::answer(alloc, session, step, words);
     }
-    if let Some(answer) = recording::answer(alloc, session, call, words)? {
-        return Ok(Some(answer));
+    if let Some(step) = PairStep::from_name(name) {
+        return pairs::answer(alloc, session, step, words);
     }
-    if let Some(answer) = mapping::answer(alloc, session, call, words)? {
-        return Ok(Some(answer));
+    if let Some(step) = MappingStep::from_name(name) {
+        return mappings::answer(alloc, session, step, words);
     }
-    if let Some(answer) = plans::answer(alloc, session, call, words)? {
-        return Ok(Some(answer));
+    if let Some(step) = EditorStep::from_name(name) {
+        return editors::answer(alloc, session, step, words);
     }
-    levels::answer(alloc, session, call, words)
+    if let Some(step) = RecordingStep::from_name(name) {
+        return recording::answer(alloc, session, step, words);
+    }
+    other_answer(alloc, session, name, words)
+}
+
+fn other_answer(
+    alloc: Global,
+    session: &mut Session,
+    name: &str,
+    words: &mut Words,
+) -> Result<String> {
+    if let Some(step) = RecordedStep::from_name(name) {
+        return recorded::answer(alloc, session, step, words);
+    }
+    if let Some(step) = PlanStep::from_name(name) {
+        return plans::answer(alloc, session, step, words);
+    }
+    if let Some(step) = EditStep::from_name(name) {
+        return edits::answer(alloc, session, step, words);
+    }
+    if let Some(step) = LevelStep::from_name(name) {
+        return levels::answer(alloc, session, step, words);
+    }
+    if let Some(step) = ShiftStep::from_name(name) {
+        return shifts::answer(alloc, session, step, words);
+    }
+    None.context("no step has this name")
 }

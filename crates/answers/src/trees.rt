@@ -1,12 +1,12 @@
-use crate::long::{at_level, filled, many};
+use crate::long::{at_level, blank, filled, many};
 use crate::words::Words;
 use anyhow::{Context, Result};
-use cst_core::{GreenNode, SyntaxElement, SyntaxNode, SyntaxToken};
+use cst_core::{GreenNode, SyntaxElement, SyntaxNode, SyntaxToken, TreeIds};
 use row_trees::{green, p_file, row};
 use std::alloc::{AllocError, Global};
 
-/// The tree that a text says: `P`, the name of a row tree, an expression, `long BYTES TREE`, `deep LEVEL TREE` or
-/// `wide COUNT TREE`.
+/// The tree that a text says: `P`, the name of a row tree, an expression, `long BYTES TREE`, `deep LEVEL TREE`,
+/// `wide COUNT TREE` or `blank SPACES`.
 pub fn read_tree(alloc: Global, text: &str) -> Result<GreenNode> {
     let mut words = Words::of(text);
     match words.word()? {
@@ -22,6 +22,7 @@ pub fn read_tree(alloc: Global, text: &str) -> Result<GreenNode> {
             let count = words.number()?;
             many(alloc, &short_tree(alloc, words.take_rest())?, count)
         }
+        "blank" => blank(alloc, words.number()?),
         "P" => Ok(p_file(alloc)?),
         _ => short_tree(alloc, text),
     }
@@ -33,6 +34,12 @@ fn short_tree(alloc: Global, text: &str) -> Result<GreenNode> {
     } else {
         Ok(row(alloc, text)?)
     }
+}
+
+/// The text of such a tree.
+pub fn text_of_tree(alloc: Global, text: &str) -> Result<String> {
+    let root = SyntaxNode::new_root(alloc, &mut TreeIds::new(1), read_tree(alloc, text)?)?;
+    Ok(root.text(alloc)?)
 }
 
 #[derive(Drop)]

@@ -47,3 +47,9 @@ impl<'a> Words<'a> {
         rest
     }
 }
+
+/// What has this name in a table.
+pub fn find_named<'a, T>(table: &'a [(&str, T)], name: &str) -> Option<&'a T> {
+    let (_, named) = table.iter().find(|(own, _)| *own == name)?;
+    Some(named)
+}

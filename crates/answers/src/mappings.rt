@@ -1,0 +1,126 @@
+//! Mappings that no editor has.
+
+use crate::answers::{none, ok, push_path, push_quoted};
+use crate::session::Session;
+use crate::words::{Words, find_named};
+use anyhow::{Context, Result};
+use cst_core::SyntaxElement;
+use std::alloc::{AllocError, Global};
+use syntax_editor::SyntaxMapping;
+
+#[derive(Clone, Copy)]
+pub enum MappingStep {
+    Mapping,
+    MergeMappings,
+    CloneMapping,
+    DropMapping,
+    Place,
+    Follow,
+}
+
+const NAMES: [(&str, MappingStep); 6] = [
+    ("mapping", MappingStep::Mapping),
+    ("merge_mappings", MappingStep::MergeMappings),
+    ("clone_mapping", MappingStep::CloneMapping),
+    ("drop_mapping", MappingStep::DropMapping),
+    ("place", MappingStep::Place),
+    ("follow", MappingStep::Follow),
+];
+
+impl MappingStep {
+    pub fn from_name(name: &str) -> Option<MappingStep> {
+        find_named(&NAMES, name).copied()
+    }
+}
+
+pub fn answer(
+    alloc: Global,
+    session: &mut Session,
+    step: MappingStep,
+    words: &mut Words,
+) -> Result<String> {
+    match step {
+        MappingStep::Mapping => mapping(alloc, session),
+        MappingStep::MergeMappings => merge_mappings(alloc, session),
+        MappingStep::CloneMapping => clone_mapping(alloc, session),
+        MappingStep::DropMapping => drop_mapping(alloc, session),
+        MappingStep::Place => place(alloc, session, words),
+        MappingStep::Follow => follow(alloc, session, words),
+    }
+}
+
+/// The last mapping.
+pub fn last(session: &mut Session) -> Result<&mut SyntaxMapping> {
+    session.mappings.last_mut().context("no mapping was made")
+}
+
+/// One more mapping, the last one from then on.
+pub fn keep(session: &mut Session, mapping: SyntaxMapping) -> Result<(), AllocError> {
+    session.mappings.push(mapping).map_err(AllocError::from)
+}
+
+fn mapping(alloc: Global, session: &mut Session) -> Result<String> {
+    keep(session, SyntaxMapping::new(alloc))?;
+    ok(alloc)
+}
+
+// The last mapping goes into the one before it.
+fn merge_mappings(alloc: Global, session: &mut Session) -> Result<String> {
+    let other = session.mappings.pop().context("no mapping was made")?;
+    last(session)?.merge(alloc, other)?;
+    ok(alloc)
+}
+
+// A clone stands before the last mapping.
+fn clone_mapping(alloc: Global, session: &mut Session) -> Result<String> {
+    let clone = last(session)?.try_clone(alloc)?;
+    keep(session, clone)?;
+    let end = session.mappings.len();
+    if end >= 2 {
+        session.mappings.swap(end - 2, end - 1);
+    }
+    ok(alloc)
+}
+
+// The last mapping goes.
+fn drop_mapping(alloc: Global, session: &mut Session) -> Result<String> {
+    let _ = session.mappings.pop();
+    ok(alloc)
+}
+
+fn place(alloc: Global, session: &mut Session, words: &mut Words) -> Result<String> {
+    let target = session.trees.node(alloc, words.word()?)?;
+    let payload = session.trees.node(alloc, words.word()?)?;
+    match last(session)?.place(alloc, &target, &payload)? {
+        Some(path) => path_answer(alloc, &path),
+        None => none(alloc),
+    }
+}
+
+fn path_answer(alloc: Global, path: &[usize]) -> Result<String> {
+    let mut answer = String::from_str(alloc, "ok ")?;
+    push_path(&mut answer, path)?;
+    Ok(answer)
+}
+
+fn follow(alloc: Global, session: &mut Session, words: &mut Words) -> Result<String> {
+    let element = session.trees.element(alloc, words.word()?)?;
+    let end = last(session)?.follow(alloc, &element)?;
+    element_answer(alloc, &end)
+}
+
+// The form of an element, its text, the number of its tree and its path.
+fn element_answer(alloc: Global, element: &SyntaxElement) -> Result<String> {
+    let mut answer = String::from_str(alloc, form_of(element))?;
+    push_quoted(&mut answer, &element.text(alloc)?)?;
+    write!(answer, " of {} at ", element.tree())?;
+    push_path(&mut answer, element.slots())?;
+    Ok(answer)
+}
+
+fn form_of(element: &SyntaxElement) -> &'static str {
+    match element {
+        SyntaxElement::Node(_) => "ok node ",
+        SyntaxElement::Token(_) => "ok token ",
+    }
+}
