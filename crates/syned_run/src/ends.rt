@@ -47,11 +47,7 @@ pub(crate) fn read_script<R: Read>(alloc: Global, reader: &mut R) -> Result<Vec<
 }
 
 // One read of at most `limit` bytes, which go to the end of `out`. It tells how many they were, none at the end alone.
-fn read_more<R: Read>(
-    reader: &mut R,
-    out: &mut Vec<u8>,
-    limit: usize,
-) -> Result<usize, EndFailed>
+fn read_more<R: Read>(reader: &mut R, out: &mut Vec<u8>, limit: usize) -> Result<usize, EndFailed>
     requires { 0 < limit }
     ensures taken { TakesAtMost (R.remaining reader.old) (R.remaining reader.new) limit }
     ensures ok { IfOk result (ReadsOn (R.remaining reader.old) (R.remaining reader.new) out.old.items out.new.items limit) }
