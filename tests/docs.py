@@ -1,7 +1,7 @@
 """Compares what the docs and the spec files say is there with what is there.
 
 The tables of files in docs/ARCHITECTURE.md name each source and each spec file of a library once, and no other but spec files
-that it gives again; each name in the head of a spec file is defined in it.
+that it gives again; the head of a spec file names what it defines for others, all of it, and nothing else.
 """
 
 import re
@@ -64,17 +64,47 @@ def compare_tables():
                     wrong.append(f"{crate}/{kind}/{name}: {told.count(name)} times in docs/ARCHITECTURE.md")
 
 
+def defined_names(text):
+    """All names that a spec file gives a meaning; of these, without the fields of records, those that others may use."""
+    names, public, record = set(), set(), None
+    for line in text.splitlines():
+        entry = re.match(r"(\s*)(?:abbrev |unfoldable )?(pub )?(record |data )?([^\s(:]+)", line)
+        if not entry or not line.strip():
+            continue
+        indent = len(entry.group(1))
+        if record is not None and indent <= record:
+            record = None
+        names.add(entry.group(4))
+        if entry.group(2) and record is None and entry.group(4) not in ("mod", "use", "mutual"):
+            public.add(entry.group(4))
+        if entry.group(3) == "record ":
+            record = indent
+    return names, public
+
+
+def head_names(text):
+    """The names in the first column of a spec file's head, if it has one."""
+    listed = []
+    for line in text.splitlines():
+        if not line.startswith("--"):
+            break
+        entry = re.match(r"--     (\S.*?)(?:\s{2,}|$)", line)
+        listed += entry.group(1).split(", ") if entry else []
+    return listed
+
+
 def compare_heads():
     for file in sorted(ROOT.glob("crates/*/specs/*.antt")):
+        if file.stem == "Lib":
+            continue
         text = file.read_text()
-        defined = set(re.findall(r"^\s*(?:abbrev |unfoldable )?(?:pub )?(?:record |data )?([^\s(:]+)", text, re.M))
-        for line in text.splitlines():
-            if not line.startswith("--"):
-                break
-            entry = re.match(r"--     (\S.*?)(?:\s{2,}|$)", line)
-            for name in entry.group(1).split(", ") if entry else []:
-                if name not in defined:
-                    wrong.append(f"{file.relative_to(ROOT)}: its head names {name}, which is not defined in it")
+        names, public = defined_names(text)
+        listed = head_names(text)
+        for name in listed:
+            if name not in names:
+                wrong.append(f"{file.relative_to(ROOT)}: its head names {name}, which is not defined in it")
+        for name in sorted(public - set(listed)):
+            wrong.append(f"{file.relative_to(ROOT)}: its head does not name {name}")
 
 
 compare_tables()

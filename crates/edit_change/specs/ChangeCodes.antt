@@ -1,4 +1,6 @@
 -- The code of a change by its form, by which changes are data that proofs can tell apart.
+--     change_code                   that code
+--     change_of_form-form_of_change      a change is told by its form
 use Rattle.std.specs.Prelude.{◌≡◌, ◌⊎◌, List, Option, refl}
 use Rattle.std.specs.Coded.{Coded, code_by, coded⊎, coded×, coded_list, coded_option}
 use mathlib.Core.Logic.{inl, inr}

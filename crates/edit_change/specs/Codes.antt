@@ -1,5 +1,6 @@
 -- Codes, by which values are data that proofs can tell apart.
 --     syntax_element_code         of an element value by its form
+--     of_form-form_of             such a value is told by its form
 use Rattle.std.specs.Prelude.{◌≡◌, ◌⊎◌, refl}
 use Rattle.std.specs.Coded.{Coded, code_by, coded⊎}
 use mathlib.Core.Logic.{inl, inr}

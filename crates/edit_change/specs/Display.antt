@@ -1,4 +1,5 @@
 -- The text that shows a change: green is put in, red is taken away.
+--     escape                        the byte that a colour's code begins with
 --     put_in, taken_away            the colours' beginnings
 --     reset                         their end
 --     change_text                   the text of a change

@@ -1,7 +1,9 @@
 -- Which changes clash, and which lie inside what another one replaces.
 --     pairs_with, pairs             the numbers of a change and of each one before it; of each two of so many changes
+--     clashes                       two changes share a target
 --     first_clash                   the first two that share a target, by the second and then by the first
---     region                        the targets of a replacement with all that is below them: a replaced token alone is no region
+--     region, region_of_one         the targets of a replacement with all that is below them: a replaced token alone is no region; that of one target
+--     region_at                     the change whose region has this path
 --     is_keeping                    the region of a node replaced by a node: what aims into it moves along
 --     surroundings                  an insert's anchor and the elements above it; the elements above a replacement's targets
 --     is_around                     a region is around a change

@@ -1,6 +1,7 @@
 -- The two forms of a position, as contracts see them. Each gap has exactly one.
 --     PositionForm                  the gap before the first child of a node; the gap after an element
 --     position_code                 its code, as a model's value
+--     of_sides-sides                a form is told by its sides
 use Rattle.std.specs.Prelude.{◌≡◌, ◌⊎◌, refl}
 use Rattle.std.specs.Coded.{Coded, code_by, coded⊎}
 use mathlib.Core.Logic.{inl, inr}

@@ -1,5 +1,6 @@
 -- Following of nodes and tokens.
 --     asked_paths                    the paths of the nodes that may be mapped, from the top down: those above an element, and a node itself
+--     step_among                     the lowest of the ancestors at these paths that has a copy, exchanged for it
 --     syntax_step                    the nearest mapped one of these exchanged for its copy, if there is one and the path below leads on in it
 --     LeadsTo                        an element is followed to this one, where equal tree numbers have equal trees
 --     IsNearest                      the copy of the nearest mapped one of a node and those above it, and how many slots lead to that one

@@ -7,9 +7,10 @@
 --     StandsFor                      what stands in a payload at a path is there for this address
 --     path_in                        the path of a place in code, if there is one
 --     IsPlace                        the place of a target in a payload, or that there is none
+--     below_copy                     an element with one of its ancestors exchanged for a copy
 --     step                           the nearest mapped ancestor-or-self of an element exchanged for its copy, if there is one
 --     Steps, IsFollowed              so many steps lead from one element to another; they do, and no further step is possible
---     followed                       the element that is reached where no step is possible
+--     followed, followed_within      the element that is reached where no step is possible; after at most so many steps
 use Rattle.std.specs.Prelude.{◌≡◌, ℕ, zero, suc, ◌<◌, List, [], ◌∷◌, ◌++◌, map, length, drop, find, filter_map, Option, None, option_map, MatchOption, IsSomeAnd, All, Vec}
 use Rattle.std.specs.Global.{Global}
 use Rattle.std.specs.Option.{option_map_or}

@@ -1,5 +1,6 @@
 -- Plans and the edits that they make, as contracts see them, and what is refused.
 --     Plan, IsPlan                  the root, the changes, the registrations (elements with annotations) and the mapping; what is true of every plan
+--     plan_code, edit_code          the codes of plans and of edits, as models' values
 --     BuildRefuses                  why a plan is not built
 --     Edit                          the old root, the new root, the changed elements, and for annotations the elements that are found
 --     registered                    registrations, by the values of their elements

@@ -4,6 +4,7 @@
 --     brought_text                  the text of what a change brings
 --     filled_text, text_filled      the old text, in which each gap and each replaced range gives a text for each change that aims there;
 --                                   the same where the top may be replaced
+--     filled_text_from              that of the children from a slot on
 use Rattle.std.specs.Prelude.{◌≡◌, ◌≢◌, ℕ, suc, false, cond, List, [], ◌∷◌, ◌++◌, map, flat_map}
 use Rattle.cst_core.specs.Path.{Path}
 use Rattle.cst_core.specs.Tree.{Forest, Token, Node, end, more, SyntaxTree}

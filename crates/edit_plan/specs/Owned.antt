@@ -5,6 +5,7 @@
 --     IsPlaced                      a table has no other places than those of owners
 --     FoundSoFar                    the changes before this one find places in a table
 --     moved                         a change that is owned, and where it aims in its owner's payload
+--     dependents_in                 those of an owner, from a table by its number
 --     AreDependents                 a table has for each change those that it owns
 --     owns_at, owners_at            a change of this depth owns something; the changes that a table has for a depth
 --     AreOwners                     a table has for each depth the changes of that depth that own something

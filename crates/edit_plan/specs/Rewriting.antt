@@ -4,10 +4,14 @@
 --     plain                         the tree without its origins
 --     origin                        of what is kept below an address
 --     moved_path, moved_aim         a path, an aim, exchanged into a payload
+--     only                          of numbered aims, those whose changes pass a test
+--     targets_of, payload_of        the targets and the payload of the change at a number
+--     is_free                       that change has no owner and is not dropped
 --     independents, dependents      the changes without an owner; the changes that a change owns, moved into its payload
 --     payload_rewritten             the payload of a change, each element rewritten
---     given                         what a change gives: its payload, rewritten by the moved changes that it owns
+--     given, given_within           what a change gives: its payload, rewritten by the moved changes that it owns; with owners nested at most so deep
 --     Gives                         the equation that `given` meets, and no other function
+--     tree_rewritten                the old tree rewritten by some changes, which give what they give
 --     new_tree                      the old tree rewritten by the changes without an owner
 --     stage_tree, stage_payload     the same by those of the changes that are done; the payload of a keeping replacement then
 use Rattle.std.specs.Prelude.{◌≡◌, ℕ, zero, suc, Bool, false, List, [], ◌++◌, map, length, drop, filter, slice_get, unwrap_or, Option, Some, None}

@@ -6,7 +6,8 @@
 --     length_limit                the least length in bytes that no tree of an element value has
 --     IsTooLong                   a text has that length or a greater one
 --     capped_length               how many bytes a text has, as far as the limit
---     size                        how many elements a tree has
+--     size, forest_size           how many elements a tree has; how many trees side by side have
+--     branch_size, branch_code    how many a node has; its code, as a model's value
 use Rattle.std.specs.Prelude.{ℕ, ◌+◌, ◌++◌, ◌≤◌, min, take, drop, List, length, refl}
 use Rattle.std.specs.Coded.{Coded, coded_ℕ, coded_list, coded×, code_by}
 use Rattle.green_tree.specs.Tree.{Forest, SyntaxTree, Token, Node, end, more, node, forest, forest_text, tree_code}

@@ -1,4 +1,5 @@
--- The tree that a borrowed element stands for.
+-- What borrowed elements stand for.
+--     ref_tree                    the tree of such an element
 use Rattle.green_tree.specs.Tree.{SyntaxTree}
 use Rattle.green_tree.specs.Green.{branch_tree, leaf_tree}
 use Rattle.green_tree.specs.declared.green.GreenElementRef.{GreenElementRef}

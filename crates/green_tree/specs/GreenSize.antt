@@ -1,4 +1,5 @@
 -- Each child has a smaller size than its parent.
+--     most_le                     the greatest size of some elements is at most that of all of them, and one
 use Rattle.std.specs.Prelude.{◌+◌, ◌≤◌, List, [], ◌∷◌}
 use Rattle.std.proofs.Common.{arith}
 use denote.Param.Weighed.{most}

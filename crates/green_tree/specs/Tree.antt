@@ -5,12 +5,15 @@
 --     node                           a node from the list of its children
 --     label, children, is_token      of the element at the top
 --     text, text_length              the bytes of all tokens, in order, and how many they are
+--     forest_text                    those of trees side by side
 --     at                             the element that a path leads to
---     paths                          the paths of all elements in document order: preorder, the top first
---     tokens                         the labels and texts of all tokens, in document order
---     relabelled                     the tree with a function of each label in its place
+--     paths, paths_from              the paths of all elements in document order: preorder, the top first; those of children from a slot on
+--     tokens, forest_tokens          the labels and texts of all tokens, in document order; those of trees side by side
+--     relabelled, forest_relabelled  the tree with a function of each label in its place; trees side by side
 --     without_texts, SameShape       the tree with each text empty; equal but for the texts
+--     forest_without_texts           trees side by side, with each text empty
 --     tree_code                      its code, by which a tree is data that proofs can tell apart
+--     tree_from_steps, built-tree_steps, built-forest_steps      a tree is told by the steps that build it
 use Rattle.std.specs.Prelude.{◌≡◌, ℕ, suc, Bool, true, false, List, [], ◌∷◌, ◌++◌, map, length, slice_get, ◌⊎◌, refl, Option, Some, option_and_then}
 use Rattle.std.specs.Coded.{Coded, code_by, coded_ℕ, coded_list, coded×, coded⊎}
 use base.Stored.{coded_unit}

@@ -1,8 +1,10 @@
 -- Trees indented and dedented: the text of each whitespace token changes, and nothing else.
 --     lines, dedented_line            the parts of a text between its newlines; a line without so many spaces at its start, where it has them
+--     dedented_lines                  lines of which each but the first is such a line
 --     indented_text                   spaces behind a text that holds a newline
 --     dedented_text                   each line but the first dedented
 --     with_texts, in_whitespace       a tree with other texts of its tokens; of its whitespace tokens
+--     forest_with_texts               trees side by side with other texts
 --     indented, dedented, reset       a tree indented or dedented by a level; that of an element dedented by its own level
 --     mapped_children                 each child node of an element, with the child node of another one at the same place
 use Rattle.std.specs.Prelude.{ℕ, ◌*◌, ◌==◌, cond, nat_eq, List, [], ◌∷◌, ◌++◌, map, drop, zip}

@@ -2,9 +2,12 @@
 --     siblings_from                 the paths of an element and of the siblings behind it, so many with the first; the top has none
 --     aim_in                        an aim from the element at a path
 --     Placed, placed                the number of a change, a path, and the form in which it aims from there
+--     option_placed, of_placed      the same of an aim that may not be there; the numbered aim that it stands for
 --     numbered, aims_of             the numbered aim that it stands for; those of a list
+--     some_path                     there is a path among these
 --     has_parent                    it alters the children of some node
 --     seen_from, placed_below       an aim at a child slot or below, with that slot dropped; of these aims those that there are
+--     and_those                     one more of these, if it is there
 use Rattle.std.specs.Prelude.{ℕ, zero, suc, Bool, true, false, cond, nat_eq, List, [], ◌∷◌, ◌++◌, map, Option, Some, None, option_map}
 use Rattle.green_tree.specs.Path.{Path, parent_path, last_slot, counted_from}
 use Rattle.rewriting.specs.Aim.{Aim, FirstIn, Behind, Over, parents}

@@ -1,8 +1,9 @@
 -- How many nodes a pass from the leaves up builds anew.
 --     inside                        of these paths, those that begin with a slot, without it
---     touched                       the nodes of a tree that are above one of these paths, or at one
+--     touched, touched_from         the nodes of a tree that are above one of these paths, or at one; those of children from a slot on
 --     parents_of                    the nodes whose children are altered
 --     built, nodes_built            of the nodes above one of these paths, or at one, those that no aim replaces, nor what they are in; of a whole tree
+--     built_from                    those of children from a slot on
 --     nodes_built_whole             the same where the top may be replaced
 --     counted                       a count after so many more: at the greatest number it stays
 use Rattle.std.specs.Prelude.{ℕ, suc, ◌+◌, ◌-◌, ◌^◌, min, nat_eq, cond, List, [], ◌∷◌, ◌++◌, flat_map}

@@ -5,6 +5,7 @@
 --     gap_order                     the order of several inserts of one gap
 --     gap, slot                     what stands in a gap; in a child's slot
 --     rewritten, rewritten_whole    each child list anew from gap 0, slot 0, gap 1, slot 1, .., the last gap; the same where the top may be replaced
+--     rewritten_from                the children from a slot on
 use Rattle.std.specs.Prelude.{ℕ, suc, Bool, cond, List, [], ◌∷◌, ◌++◌, map, reverse, filter, flat_map}
 use Rattle.std.specs.List.{list_any}
 use Rattle.green_tree.specs.Path.{Path}

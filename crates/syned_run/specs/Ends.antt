@@ -1,16 +1,16 @@
 -- What a read adds to what was read before, and how much of a reader reads take.
+--     IsFrontOf                   these are the first bytes of a reader, where those are known: so many, or all where they are fewer
+--     TakesAtMost                 of a reader's bytes, where these are known, a front of at most so many as the limit was taken
+--     ReadsOn                     n bytes of a reader, at most so many as the limit, went to the end of what was there; none only at the reader's end
 use Rattle.std.specs.Prelude.{◌≡◌, ℕ, ◌≤◌, List, ◌++◌, length, take, Option, IfSome}
 use Rattle.std.specs.Io.KnownBytes.{Consumes, IsAtEnd}
 
--- these are the first bytes of a reader, where those are known: so many, or all where they are fewer
 abbrev pub IsFrontOf : Option (List ℕ) → ℕ → List ℕ → Type 0
 IsFrontOf left n bytes = IfSome left (λ all. bytes ≡ take n all)
 
--- of a reader's bytes, where these are known, a front of at most so many as the limit was taken
 abbrev pub TakesAtMost : Option (List ℕ) → Option (List ℕ) → ℕ → Type 0
 TakesAtMost left left' limit = (bytes : List ℕ) × Consumes left left' bytes × (length bytes ≤ limit)
 
--- n bytes of a reader, at most so many as the limit, went to the end of what was there; none only at the reader's end
 pub record ReadsOn (left left' : Option (List ℕ)) (old new : List ℕ) (limit n : ℕ) : Type 0 where
   pub bytes : List ℕ
   pub added : new ≡ old ++ bytes

@@ -1,5 +1,6 @@
 -- The attributes and comments of a node, each with the whitespace directly behind it.
 --     is_attr_or_doc            the child in a slot is an attribute or a comment
+--     is_whitespace             the child in a slot is of the kind WHITESPACE
 --     is_removed                it is one, or is of the kind WHITESPACE directly behind one
 --     removed_slots             the slots of these
 --     removed_children          the children there

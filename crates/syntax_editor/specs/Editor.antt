@@ -1,6 +1,7 @@
 -- Editors as contracts see them.
 --     Editor, IsEditor              the root that is edited, the changes recorded so far, the registrations (elements with annotations) and the factory's mappings; what is true of every editor
---     factory_code                  the code of a factory's mappings
+--     factory_code, editor_code     the code of a factory's mappings; that of an editor
+--     has_parent                    an element is not the root of its tree
 --     edited_root                   the root that a new editor edits, and whether it is one of a tree of its own that is made for it
 --     after_call, RecordRefuses     what a call that records leaves behind; why it is refused
 --     registered, annotated         an editor with more registrations, behind those before; each of so many elements with an annotation

@@ -1,8 +1,10 @@
 -- The list of changes after each call that records one.
 --     are_one                         two values are of one element
 --     replacement_of                  what a Replace of this element brings, which is nothing in a deletion; no answer for any other change
+--     is_replace_of                   the change is a Replace of this element
 --     replacements_of                 what each Replace of an element brings, in the order of the list
 --     is_deleted                      some Replace of the element brings nothing
+--     with_replacement, taken_up      a Replace that brings what a function makes of what it brought; the first Replace of an element taken up so, or a new one at the end
 --     delete, replace                 the first Replace of the element takes it up, and a deletion stays one; where there is none, a new one stands at the end
 --     insert, insert_all, replace_with_many, delete_all, replace_all      one more at the end; a range of one element is deleted or replaced as that element
 --     merged                          one list behind the other

@@ -1,8 +1,10 @@
 -- The whitespace that goes round elements as they are inserted.
 --     Space                        none, one space, or a new line at a level
 --     Neighbor, neighbor           what it goes by: an element's kind and its level
+--     is_statement, opens_list     a neighbor is a statement; a new element is an import or a statement, first in the braces of its list
 --     between                      the whitespace between two neighbors: the first line of the table that fits
 --     space_before, space_after    the whitespace at a position before the first new element, and behind the last
+--     space_behind                 that after an element, where the parent and the first new element are these
 --     next_of                      the element that stands behind a position
 --     is_deep                      a new line at a level past the greatest one
 --     space_text                   whitespace as a text

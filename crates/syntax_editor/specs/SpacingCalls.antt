@@ -1,5 +1,6 @@
 -- What the calls that find the whitespace round new elements answer.
 --     space_of                    whitespace as code has it
+--     DeepOrMemory, FindsLevel    a level is too deep or memory was refused; a level that is found, or why it is not
 --     FindsSpace                  whitespace that is found, or why it is not
 --     with_spaces                 new elements between two whitespaces
 --     numbers_of, NumbersRefuse   how many numbers whitespace needs; so many are not there

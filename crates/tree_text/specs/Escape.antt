@@ -1,9 +1,10 @@
 -- Texts as they stand between two quotes of a tree expression.
+--     escape     the bytes of a character: those of its escape where it has one, else its own
+--     escaped    a text with each of its characters escaped
 use Rattle.std.specs.Prelude.{ℕ, List, ◌==◌, if◌then◌else◌, codes, encode_utf8}
 use Rattle.std.specs.List.{flat_map}
 use Rattle.std.specs.Str.{chars}
 
--- the bytes of a character: those of its escape where it has one, else its own
 abbrev pub escape : ℕ → List ℕ
 escape c =
     if c == 10 then codes "\\n" else
@@ -13,6 +14,5 @@ escape c =
     if c == 92 then codes "\\\\" else
     encode_utf8 c
 
--- a text with each of its characters escaped
 abbrev pub escaped : List ℕ → List ℕ
 escaped bytes = flat_map escape (chars bytes)
