@@ -4,7 +4,7 @@ pub mod PositionInCode
 pub mod Position
 pub mod Change
 pub mod ChangeCodes
-pub mod Aim
+pub mod ChangeAim
 pub mod AimFrom
 pub mod Fits
 pub mod Nesting

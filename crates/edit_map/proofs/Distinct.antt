@@ -12,7 +12,7 @@ use Rattle.std.proofs.lemmas.List.Kept.{AllPairs-cons}
 use Rattle.std.proofs.lemmas.Map.Keys.{IsDistinct-head, IsDistinct-tail}
 use Rattle.cst_core.specs.Element.{Element, address, same_address}
 use Rattle.edit_map.specs.Mapping.{Mapping, copy}
-use Rattle.edit_map.specs.Building.{AreDistinct}
+use Rattle.edit_map.specs.Builder.{AreDistinct}
 use Rattle.edit_map.proofs.Copies.{same_address-true, same_address-itself}
 use Rattle.edit_map.proofs.Tables.{alike}
 

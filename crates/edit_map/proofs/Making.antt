@@ -18,7 +18,7 @@ use Rattle.std.proofs.lemmas.List.Elements.{All-same, All-weaker, All-contains, 
 use Rattle.std.proofs.lemmas.List.Sorted.{All-permutation, Contains-permutation, IsPermutation-map, IsPermutation-reverse, IsPermutation-sym}
 use Rattle.cst_core.specs.Element.{Address, Element, address, same_address}
 use Rattle.edit_map.specs.Mapping.{Mapping, copy, Rises, IsRising}
-use Rattle.edit_map.specs.Building.{IsMadeOf, IsPair, ArePairs, AreDistinct, IsMapping, IsPairUnder, ArePairsUnder}
+use Rattle.edit_map.specs.Builder.{IsMadeOf, IsPair, ArePairs, AreDistinct, IsMapping, IsPairUnder, ArePairsUnder}
 use Rattle.edit_map.proofs.Copies.{pair_of_copy}
 use Rattle.edit_map.proofs.Tables.{alike, alike-laws, lookup-copy}
 

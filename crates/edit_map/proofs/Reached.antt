@@ -17,7 +17,7 @@ use Rattle.cst_core.specs.SyntaxElement.{element_of, syntax_as, syntax_of, synta
 use Rattle.cst_core.specs.declared.element.SyntaxElement.{SyntaxElement}
 use Rattle.cst_core.specs.declared.element.SyntaxElement.TheVariants.{Node, Token}
 use Rattle.edit_map.specs.Mapping.{Mapping, copy, below_copy, step, Steps, IsFollowed, IsRising, mapped_elements}
-use Rattle.edit_map.specs.Building.{IsPair, ArePairs}
+use Rattle.edit_map.specs.Builder.{IsPair, ArePairs}
 use Rattle.edit_map.specs.Following.{asked_paths, step_among, syntax_step, SyntaxSteps, IsReached}
 use Rattle.edit_map.proofs.Copies.{pair_of_copy}
 use Rattle.edit_map.proofs.Followed.{counted, copy-falls}

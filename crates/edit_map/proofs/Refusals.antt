@@ -7,7 +7,7 @@ use Rattle.std.specs.Result.{IsErrAnd}
 use Rattle.std.specs.List.{zip}
 use Rattle.std.proofs.Common.{subst, sym, arith}
 use Rattle.cst_core.specs.Element.{Element}
-use Rattle.edit_map.specs.Building.{IsPairUnder, RefusesPair, RefusesFirst, RefusesChildren}
+use Rattle.edit_map.specs.Builder.{IsPairUnder, RefusesPair, RefusesFirst, RefusesChildren}
 use Rattle.edit_map.specs.declared.map_error.MapError.{MapError}
 use Rattle.edit_map.specs.declared.map_error.MapError.TheVariants.{NotAChild, NotYounger, OtherShape, MoreInputs, Memory}
 

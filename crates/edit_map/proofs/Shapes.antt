@@ -13,7 +13,7 @@ use Rattle.cst_core.specs.Path.{Path}
 use Rattle.cst_core.specs.Tree.{SyntaxTree, Forest, Token, Node, end, more, trees, children, is_token, at, without_texts, forest_without_texts, SameShape}
 use Rattle.cst_core.specs.Element.{Address, Element, address, subtree, IsElement, IsNode, NumbersTell}
 use Rattle.edit_map.specs.Mapping.{Mapping, copy, copied, mapped_elements, Rises, child_address, StandsFor}
-use Rattle.edit_map.specs.Building.{IsPair, ArePairs}
+use Rattle.edit_map.specs.Builder.{IsPair, ArePairs}
 use Rattle.edit_map.proofs.Copies.{pair_of_copy}
 use Rattle.edit_map.proofs.Places.{StandsFor-push, LastView, last_view}
 

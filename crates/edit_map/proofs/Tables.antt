@@ -17,7 +17,7 @@ use Rattle.std.proofs.lemmas.List.Sorted.{All-permutation}
 use Rattle.cst_core.specs.Tree.{Token}
 use Rattle.cst_core.specs.Element.{Address, Element, address, same_address}
 use Rattle.edit_map.specs.Mapping.{Mapping, copy}
-use Rattle.edit_map.specs.Building.{IsMadeOf}
+use Rattle.edit_map.specs.Builder.{IsMadeOf}
 
 abbrev pub alike : Element → Element → Bool
 alike = eq_of_both (on (λ n. n.number) ◌==◌) (on (λ n. n.path) (pointwise ◌==◌))

@@ -1,4 +1,4 @@
 pub mod Mapping
-pub mod Building
+pub mod Builder
 pub mod Climbing
 pub mod Following

@@ -1,7 +1,7 @@
 ghost use Rattle.std.specs.Prelude.{◌≡◌, ◌↔◌, ◌≤◌, length, [], ◌∷◌, ◌++◌, IsTrue, IfErr, IfOk, OnOk, OnErr, All, reverse};
 ghost use Rattle.std.specs.List.{zip};
 ghost use Rattle.cst_core.specs.Element.{IsChild};
-ghost use Rattle.edit_map.specs.Building.{IsMadeOf, ArePairs, IsMapping, IsPairUnder, ArePairsUnder, RefusesPair, RefusesChildren, with_pairs};
+ghost use Rattle.edit_map.specs.Builder.{IsMadeOf, ArePairs, IsMapping, IsPairUnder, ArePairsUnder, RefusesPair, RefusesChildren, with_pairs};
 
 use crate::map_error::MapError;
 use crate::mapping::SyntaxMapping;
@@ -19,7 +19,7 @@ pub struct SyntaxMappingBuilder {
 
 impl Model for SyntaxMappingBuilder {
     ghost use Rattle.std.specs.Prelude.{reverse, All};
-    ghost use Rattle.edit_map.specs.Building.{Builder, IsPairUnder, builder_code};
+    ghost use Rattle.edit_map.specs.Builder.{Builder, IsPairUnder, builder_code};
 
     ghost Value = { Builder };
 

@@ -3,7 +3,7 @@
 ghost use Rattle.std.specs.Prelude.{◌≡◌, ◌≤◌, [], length, IfOk, IfSome, IfNone, option_map};
 ghost use Rattle.cst_core.specs.Path.{up_to};
 ghost use Rattle.cst_core.specs.SyntaxElement.{element_of};
-ghost use Rattle.edit_map.specs.Building.{IsMapping};
+ghost use Rattle.edit_map.specs.Builder.{IsMapping};
 ghost use Rattle.edit_map.specs.Following.{asked_paths, syntax_step, IsNearest, IsReached, LeadsTo};
 
 use crate::mapping::SyntaxMapping;

@@ -6,7 +6,7 @@ ghost use Rattle.cst_core.specs.Path.{Path};
 ghost use Rattle.cst_core.specs.Tree.{SameShape, at};
 ghost use Rattle.cst_core.specs.Element.{Address, Element, address, subtree, IsElement, NumbersTell};
 ghost use Rattle.edit_map.specs.Mapping.{Mapping, copy, IsRising, StandsFor, mapped_elements, IsFollowed, followed};
-ghost use Rattle.edit_map.specs.Building.{IsMadeOf, ArePairs, AreDistinct};
+ghost use Rattle.edit_map.specs.Builder.{IsMadeOf, ArePairs, AreDistinct};
 
 /// The pairs of a mapping rise.
 pub fn pairs_rise()

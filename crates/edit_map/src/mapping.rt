@@ -1,7 +1,7 @@
 ghost use Rattle.std.specs.Prelude.{◌≡◌, length, [], ◌++◌, IfOk, OnOk, OnErr, reverse, option_map, MatchOption};
 ghost use Rattle.cst_core.specs.Element.{address};
 ghost use Rattle.edit_map.specs.Mapping.{IsPlace, copied, path_in};
-ghost use Rattle.edit_map.specs.Building.{IsMadeOf, ArePairs, IsMapping};
+ghost use Rattle.edit_map.specs.Builder.{IsMadeOf, ArePairs, IsMapping};
 ghost use Rattle.edit_map.specs.Climbing.{IsAbove};
 
 use crate::builder::SyntaxMappingBuilder;
@@ -22,7 +22,7 @@ pub struct SyntaxMapping {
 
 impl Model for SyntaxMapping {
     ghost use Rattle.edit_map.specs.Mapping.{Mapping};
-    ghost use Rattle.edit_map.specs.Building.{mapping_code, IsMapping};
+    ghost use Rattle.edit_map.specs.Builder.{mapping_code, IsMapping};
 
     ghost Value = { Mapping };
 

@@ -2,7 +2,7 @@
 
 ghost use Rattle.std.specs.Prelude.{◌≡◌, ◌<◌, ◌≤◌, ◌+◌, [], ◌∷◌, ◌++◌, OnOk, OnErr, reverse};
 ghost use Rattle.std.specs.HashMap.{spare};
-ghost use Rattle.edit_map.specs.Building.{IsMadeOf, AreDistinct};
+ghost use Rattle.edit_map.specs.Builder.{IsMadeOf, AreDistinct};
 
 use cst_core::SyntaxNode;
 use std::alloc::{AllocError, Global};

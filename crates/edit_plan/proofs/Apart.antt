@@ -19,9 +19,9 @@ use Rattle.cst_core.specs.declared.element.SyntaxElement.TheVariants.{Node, Toke
 use Rattle.edit_change.specs.Position.{anchor}
 use Rattle.edit_change.specs.Change.{targets, shared_targets}
 use Rattle.rewriting.specs.Aim.{Aim, FirstIn, Behind, Over, aims_at_gap, same_gap, starts_at}
-use Rattle.edit_change.specs.Aim.{position_aim, aim}
+use Rattle.edit_change.specs.ChangeAim.{position_aim, aim}
 use Rattle.edit_change.specs.Nesting.{region, is_keeping, surroundings, is_around, owner, has_owner}
-use Rattle.edit_plan.specs.Rewriting.{moved_path, moved_aim, targets_of}
+use Rattle.edit_plan.specs.NewTree.{moved_path, moved_aim, targets_of}
 use Rattle.edit_change.specs.declared.position.Position.{Position}
 use Rattle.edit_change.specs.PositionForm.{FirstChild, After}
 use Rattle.edit_change.specs.declared.change.Change.{Change}

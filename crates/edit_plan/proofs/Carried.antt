@@ -22,11 +22,11 @@ use Rattle.rewriting.specs.Pass.{given_by}
 use Rattle.rewriting.specs.Rewriting.{NumberedAim}
 use Rattle.rewriting.specs.declared.given.Given.{Given}
 use Rattle.rewriting.specs.Given.{given_trees}
-use Rattle.edit_change.specs.Aim.{aim}
+use Rattle.edit_change.specs.ChangeAim.{aim}
 use Rattle.edit_change.specs.Change.{payload}
 use Rattle.edit_change.specs.Fate.{by_owner, fate, is_independent_in}
 use Rattle.edit_change.specs.Nesting.{surroundings, region_at, is_dropped, is_independent}
-use Rattle.edit_plan.specs.Rewriting.{aims_of, payload_of, independents}
+use Rattle.edit_plan.specs.NewTree.{aims_of, payload_of, independents}
 use Rattle.edit_change.specs.declared.change.Change.{Change}
 use Rattle.edit_change.specs.declared.change.Change.TheVariants.{ReplaceWithMany}
 use Rattle.edit_change.specs.declared.fate.Fate.{Fate}

@@ -25,17 +25,17 @@ use Rattle.rewriting.specs.Rewriting.{NumberedAim, rewritten_whole}
 use Rattle.rewriting.specs.Topmost.{topmost, count_of, AreCounted, not_given}
 use Rattle.edit_map.specs.Mapping.{followed}
 use Rattle.edit_plan.specs.AnnotationTable.{found_for}
-use Rattle.edit_plan.specs.Building.{Plan, Edit, Makes, WouldMake, RunRefuses, registered}
+use Rattle.edit_plan.specs.Plan.{Plan, Edit, Makes, WouldMake, RunRefuses, registered}
 use Rattle.edit_plan.specs.Marks.{numbered_paths}
-use Rattle.edit_plan.specs.Planned.{AreAnnotated, IsRewritten}
-use Rattle.edit_plan.specs.Refusal.{of_tree}
-use Rattle.edit_plan.specs.Owned.{AreDependents, AreGiven}
-use Rattle.edit_plan.specs.Plan.{ArePlaces, elements_held}
+use Rattle.edit_plan.specs.PlanRun.{AreAnnotated, IsRewritten}
+use Rattle.edit_plan.specs.EditRefusal.{of_tree}
+use Rattle.edit_plan.specs.OwnerTables.{AreDependents, AreGiven}
+use Rattle.edit_plan.specs.Places.{ArePlaces, elements_held}
 use Rattle.edit_plan.specs.Results.{changed, annotated, copies_of, paths_with}
 use Rattle.edit_plan.specs.declared.dependent.Dependent.{Dependent}
 use Rattle.edit_plan.proofs.Told.{all-told}
 use mathlib.Core.List.{map-map}
-use Rattle.edit_plan.specs.Rewriting.{OriginTree, plain, independents, given, is_free, new_tree}
+use Rattle.edit_plan.specs.NewTree.{OriginTree, plain, independents, given, is_free, new_tree}
 use Rattle.edit_plan.specs.declared.edit_error.EditError.TheVariants.{TooLong, NoTreeNumber}
 use Rattle.edit_plan.proofs.Filled.{text-relabelled}
 use Rattle.edit_plan.proofs.Brought.{marked, alone}

@@ -24,8 +24,8 @@ use Rattle.rewriting.specs.Marked.{MarkTree, Marking, marked, marked_from, below
 use Rattle.rewriting.specs.declared.mark.GivenMarks.{GivenMarks}
 use Rattle.edit_change.specs.Change.{payload}
 use Rattle.edit_change.specs.Nesting.{owner}
-use Rattle.edit_plan.specs.Owned.{depth_of, owns_at, AreDependents, AreOwners}
-use Rattle.edit_plan.specs.Rewriting.{origin, payload_of, dependents}
+use Rattle.edit_plan.specs.OwnerTables.{depth_of, owns_at, AreDependents, AreOwners}
+use Rattle.edit_plan.specs.NewTree.{origin, payload_of, dependents}
 use Rattle.edit_plan.specs.Sought.{path_below, sought_one, sought_from, sought_at, registered_at}
 use Rattle.edit_plan.specs.Marks.{marks_given, IsTableOf, element_sought, payload_sought, exchanged, AreMarksFrom}
 use Rattle.edit_change.specs.declared.change.Change.{Change}

@@ -22,9 +22,9 @@ use Rattle.rewriting.specs.Rewriting.{NumberedAim, numbers, rewritten}
 use Rattle.edit_change.specs.Change.{payload}
 use Rattle.edit_map.specs.Mapping.{Mapping}
 use Rattle.edit_change.specs.AimFrom.{depth}
-use Rattle.edit_plan.specs.Owned.{depth_of, places_in, moved, dependents_in, owns_at, AreDependents, AreOwners, IsGiven, AreGiven, AreGivenFrom, IsFilled}
-use Rattle.edit_plan.specs.Plan.{ArePlaces}
-use Rattle.edit_plan.specs.Rewriting.{plain, payload_of, dependents, given}
+use Rattle.edit_plan.specs.OwnerTables.{depth_of, places_in, moved, dependents_in, owns_at, AreDependents, AreOwners, IsGiven, AreGiven, AreGivenFrom, IsFilled}
+use Rattle.edit_plan.specs.Places.{ArePlaces}
+use Rattle.edit_plan.specs.NewTree.{plain, payload_of, dependents, given}
 use Rattle.edit_change.specs.declared.change.Change.{Change}
 use Rattle.edit_plan.specs.declared.dependent.Dependent.{Dependent}
 use Rattle.edit_plan.proofs.Brought.{given-labelled}

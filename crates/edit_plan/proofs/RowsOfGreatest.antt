@@ -14,10 +14,10 @@ use Rattle.rewriting.specs.Aim.{Behind, Over}
 use Rattle.rewriting.specs.Rewriting.{NumberedAim, numbers, inserts_at, replacements_at, is_replaced, gap_order, rewritten, rewritten_from}
 use Rattle.rewriting.specs.Topmost.{holds_at, parent_holds, topmost, not_given}
 use Rattle.rewriting.proofs.Tops.{tops, top-children, tops-alone}
-use Rattle.edit_plan.specs.Rewriting.{OriginTree, new_tree, is_free}
+use Rattle.edit_plan.specs.NewTree.{OriginTree, new_tree, is_free}
 use Rattle.edit_plan.specs.Results.{changed}
-use Rattle.edit_plan.specs.Plan.{IsTooLong}
-use Rattle.edit_plan.specs.Laws.{IsUntouched, brought_text, filled_text, filled_text_from}
+use Rattle.edit_plan.specs.Places.{IsTooLong}
+use Rattle.edit_plan.specs.RewritingLaws.{IsUntouched, brought_text, filled_text, filled_text_from}
 use Rattle.edit_change.specs.PositionForm.{After as place_after}
 use Rattle.edit_change.specs.declared.change.Change.{Change}
 use Rattle.edit_change.specs.declared.change.Change.TheVariants.{Insert, Replace}

@@ -4,7 +4,7 @@ use Rattle.cst_core.specs.SyntaxElement.{syntax_of}
 use Rattle.edit_map.proofs.Rows.{R}
 use Rattle.edit_change.specs.Position as place
 use Rattle.rewriting.specs.Aim.{Gap, gap_of}
-use Rattle.edit_change.specs.Aim.{position_aim}
+use Rattle.edit_change.specs.ChangeAim.{position_aim}
 use Rattle.edit_change.specs.declared.position.Position.{Position}
 use Rattle.edit_change.specs.PositionForm.{FirstChild, After}
 use Rattle.edit_plan.proofs.RowChanges.{E, after, before, last_in}

@@ -20,13 +20,13 @@ use Rattle.cst_core.specs.Element.{Address, Element, address, same_address, subt
 use Rattle.edit_map.specs.Mapping.{Mapping, followed}
 use Rattle.edit_change.specs.Change.{payload, targets, shared_targets}
 use Rattle.rewriting.specs.Aim.{Aim, aims_at_gap, same_gap, starts_at, replaces}
-use Rattle.edit_change.specs.Aim.{aim}
+use Rattle.edit_change.specs.ChangeAim.{aim}
 use Rattle.edit_change.specs.Nesting.{region, is_keeping, surroundings, is_around, is_dropped, region_at, owner, is_independent, has_owner}
 use Rattle.rewriting.specs.Rewriting.{NumberedAim, numbers, inserts_at, replacements_at, is_replaced, gap_order, gap, rewritten, rewritten_whole}
-use Rattle.edit_plan.specs.Rewriting.{Origin, OriginTree, plain, origin, moved_aim, targets_of, payload_of, is_free, independents, dependents, given, Gives, new_tree}
+use Rattle.edit_plan.specs.NewTree.{Origin, OriginTree, plain, origin, moved_aim, targets_of, payload_of, is_free, independents, dependents, given, Gives, new_tree}
 use Rattle.edit_plan.specs.Results.{is_brought, changed, copies_of, annotated}
 use Rattle.rewriting.specs.Topmost.{topmost}
-use Rattle.edit_plan.specs.Plan.{HasPlace, FindsPlace, ArePlaces, IsRewriting}
+use Rattle.edit_plan.specs.Places.{HasPlace, FindsPlace, ArePlaces, IsRewriting}
 use Rattle.edit_change.specs.declared.change.Change.{Change}
 use Rattle.edit_change.proofs.Lists.{all_weaker}
 use Rattle.edit_plan.proofs.GapRule.{gap_order-map}

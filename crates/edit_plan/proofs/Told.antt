@@ -9,9 +9,9 @@ use Rattle.cst_core.specs.SyntaxElement.{element_of}
 use Rattle.cst_core.specs.declared.element.SyntaxElement.{SyntaxElement}
 use Rattle.edit_map.specs.Mapping.{mapped_elements}
 use Rattle.edit_change.specs.Change.{elements}
-use Rattle.edit_plan.specs.Plan.{elements_held}
-use Rattle.edit_plan.specs.Building.{Plan, registered}
-use Rattle.edit_plan.specs.Planned.{TellsOf}
+use Rattle.edit_plan.specs.Places.{elements_held}
+use Rattle.edit_plan.specs.Plan.{Plan, registered}
+use Rattle.edit_plan.specs.PlanRun.{TellsOf}
 
 module _ {X : Type 0} (R : X → X → Type 0) where
   pub pairs-behind : (x : X) (xs : List X) → AllPairs R (x ∷ xs) → AllPairs R xs

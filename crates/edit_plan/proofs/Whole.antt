@@ -17,7 +17,7 @@ use Rattle.rewriting.specs.Pass.{kind_only}
 use Rattle.rewriting.specs.Rewriting.{numbers, rewritten, rewritten_whole}
 use Rattle.rewriting.specs.Topmost.{topmost, not_given}
 use Rattle.edit_change.specs.Nesting.{is_independent}
-use Rattle.edit_plan.specs.Rewriting.{OriginTree, plain, origin, aims_of, payload_of, dependents, given, independents, is_free, new_tree}
+use Rattle.edit_plan.specs.NewTree.{OriginTree, plain, origin, aims_of, payload_of, dependents, given, independents, is_free, new_tree}
 use Rattle.edit_plan.specs.Results.{changed}
 use Rattle.edit_change.specs.declared.change.Change.{Change}
 use Rattle.edit_plan.proofs.Brought.{mark, shown, marked, marked-free}

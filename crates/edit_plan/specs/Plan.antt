@@ -1,68 +1,92 @@
--- What finishing a list of changes answers: the new tree with what is told of it, or a refusal.
---     IsPlaceIn                     this path of an owner's payload leads to an element that stands there for the owner's target
---     HasPlace                      this path is the place from which a change finds where it moves to in its owner's payload
---     IsUnplaced, IsFirstUnplaced   a change that is not dropped and has no place in its owner's payload; the least such change
---     FindsPlace, ArePlaces         a change has its place where one is kept for each owner; each change does
---     elements_held                 all element values that a plan holds, of which NumbersTell is the premise of every promise on the tree
---     IsTooLong                     the new text passes the limit
---     IsRewriting                   a tree with changed and annotated paths is the simultaneous rewriting of the old tree
-use Rattle.std.specs.Prelude.{◌≡◌, ◌≢◌, ℕ, ◌<◌, ◌≤◌, List, [], ◌∷◌, ◌++◌, map, flat_map, slice_get, Some, None, IfSome, IsSome, IsSomeAnd, All}
+-- Plans and the edits that they make, as contracts see them, and what is refused.
+--     Plan, IsPlan                  the root, the changes, the registrations (elements with annotations) and the mapping; what is true of every plan
+--     plan_code, edit_code          the codes of plans and of edits, as models' values
+--     BuildRefuses                  why a plan is not built
+--     Edit                          the old root, the new root, the changed elements, and for annotations the elements that are found
+--     registered                    registrations, by the values of their elements
+--     WouldMake                     the tree that a plan makes, with its origins
+--     Makes                         the edit is what the plan makes of the old tree, under a tree number
+--     RunRefuses                    why a plan is not carried out, where this is the next tree number
+use Rattle.std.specs.Prelude.{◌≡◌, ℕ, List, [], ◌∷◌, map, Some, None, All, refl}
+use Rattle.std.specs.Coded.{Coded, code_by, coded_ℕ, coded_list, coded×}
 use Rattle.cst_core.specs.Path.{Path}
-use Rattle.cst_core.specs.Tree.{SyntaxTree, at, text_length}
-use Rattle.cst_core.specs.Element.{Element, address, subtree}
-use Rattle.cst_core.specs.SyntaxElement.{element_of}
-use Rattle.cst_core.specs.Green.{length_limit}
-use Rattle.edit_map.specs.Mapping.{Mapping, StandsFor, mapped_elements}
-use Rattle.edit_change.specs.Change.{elements}
-use Rattle.rewriting.specs.Aim.{Behind}
-use Rattle.edit_change.specs.Aim.{aim, aim_path}
-use Rattle.edit_change.specs.Nesting.{owner}
-use Rattle.edit_plan.specs.Rewriting.{OriginTree, plain, new_tree, is_free}
-use Rattle.edit_plan.specs.Results.{changed, annotated}
+use Rattle.cst_core.specs.Element.{Element, IsNode, NumbersTell, element_code}
+use Rattle.cst_core.specs.SyntaxElement.{element_of, syntax_at}
+use Rattle.cst_core.specs.TreeIds.{IsSpent}
+use Rattle.cst_core.specs.declared.element.SyntaxElement.{SyntaxElement}
+use Rattle.edit_change.specs.Codes.{syntax_element_code}
+use Rattle.edit_change.specs.ChangeCodes.{change_code}
+use Rattle.edit_change.specs.Fits.{Fits}
+use Rattle.edit_map.specs.Mapping.{Mapping}
+use Rattle.edit_map.specs.Builder.{IsMapping}
+use Rattle.edit_change.specs.Nesting.{first_clash}
+use Rattle.edit_plan.specs.NewTree.{OriginTree, plain, is_free, new_tree}
+use Rattle.edit_plan.specs.Results.{changed, annotated, paths_with}
+use Rattle.edit_plan.specs.AnnotationTable.{found_for}
+use Rattle.edit_plan.specs.Places.{IsFirstUnplaced, ArePlaces, IsTooLong, elements_held}
 use Rattle.edit_change.specs.declared.change.Change.{Change}
-use Rattle.edit_change.specs.declared.change.Change.TheVariants.{Insert, InsertAll, Replace, ReplaceWithMany, ReplaceAll}
+use Rattle.edit_plan.specs.declared.edit_error.EditError.{EditError}
+use Rattle.edit_plan.specs.declared.edit_error.EditError.TheVariants.{Intersecting, MissingMapping, TooLong, NoTreeNumber, Memory}
 
--- A payload has an element at each such path where equal numbers have equal trees.
-abbrev pub IsPlaceIn : Mapping → Change → Path → Type 0
-IsPlaceIn m (Replace t (Some r)) place = StandsFor m (address (element_of r)) place (address (element_of t)) × IsSome (at (subtree (element_of r)) place)
-IsPlaceIn m (Replace t None) place = ⊥
-IsPlaceIn m (Insert gap e) place = ⊥
-IsPlaceIn m (InsertAll gap es) place = ⊥
-IsPlaceIn m (ReplaceWithMany t es) place = ⊥
-IsPlaceIn m (ReplaceAll first last es) place = ⊥
+pub record Plan : Type 0 where
+  pub root : Element
+  pub changes : List Change
+  pub registrations : List (SyntaxElement × ℕ)
+  pub mapping : Mapping
 
--- An insert behind the target itself has no gap where the payload stands in the target's place whole.
-abbrev pub HasPlace : Mapping → Change → Change → Path → Type 0
-HasPlace m o c place = IsPlaceIn m o place × (place ≡ [] → aim c ≢ Behind (aim_path o))
+-- the code by which a plan is a model's value
+abbrev pub plan_code : Coded Plan
+plan_code = code_by (Element × (List Change × (List (SyntaxElement × ℕ) × Mapping))) (coded× element_code (coded× (coded_list change_code) (coded× (coded_list (coded× syntax_element_code coded_ℕ)) (coded_list (coded× element_code element_code))))) (λ p. (p.root, (p.changes, (p.registrations, p.mapping)))) (λ q. record { root = q.0; changes = q.1.0; registrations = q.1.1.0; mapping = q.1.1.1 }) (λ _. refl)
 
--- change i has the owner d, and no place in its payload
-abbrev pub IsUnplaced : Mapping → List Change → ℕ → ℕ → Type 0
-IsUnplaced m changes i d =
-    IsSomeAnd (slice_get changes i) (λ c. (owner changes c ≡ Some d) × IsSomeAnd (slice_get changes d) (λ o. (place : Path) → HasPlace m o c place → ⊥))
-
-pub record IsFirstUnplaced (m : Mapping) (changes : List Change) (i d : ℕ) : Type 0 where
-  pub unplaced : IsUnplaced m changes i d
-  pub first : (j e : ℕ) → j < i → IsUnplaced m changes j e → ⊥
-
--- if the change has an owner, it has its place at the one that is kept for the owner
-abbrev pub FindsPlace : Mapping → List Change → (ℕ → Path) → Change → Type 0
-FindsPlace m changes places c = IfSome (owner changes c) (λ d. IfSome (slice_get changes d) (λ o. HasPlace m o c (places d)))
-
-abbrev pub ArePlaces : Mapping → List Change → (ℕ → Path) → Type 0
-ArePlaces m changes places = All (FindsPlace m changes places) changes
-
-abbrev pub elements_held : Element → List Change → List (Element × ℕ) → Mapping → List Element
-elements_held root changes registrations m = root ∷ flat_map elements changes ++ map (λ r. r.0) registrations ++ mapped_elements m
-
-abbrev pub IsTooLong : OriginTree → Type 0
-IsTooLong t = length_limit ≤ text_length t
-
--- a registration is an element and the number of an annotation
-pub record IsRewriting (root : Element) (changes : List Change) (registrations : List (Element × ℕ)) (m : Mapping) (tree : SyntaxTree) (changed_paths : List Path) (annotated_paths : List (ℕ × Path)) : Type 0 where
+pub record IsPlan (p : Plan) : Type 0 where
+  pub is_root : p.root.path ≡ []
+  pub is_node : IsNode p.root
+  pub fit : All (Fits p.root) p.changes
+  pub apart : first_clash p.changes ≡ None
+  pub mapping_is : IsMapping p.mapping
   pub places : ℕ → Path
-  pub are_places : ArePlaces m changes places
+  pub placed : ArePlaces p.mapping p.changes places
+
+abbrev pub BuildRefuses : Plan → EditError → Type 0
+BuildRefuses p (Intersecting first second) = first_clash p.changes ≡ Some (first, second)
+BuildRefuses p (MissingMapping change owner) = (first_clash p.changes ≡ None) × IsFirstUnplaced p.mapping p.changes change owner
+BuildRefuses p TooLong = ⊥
+BuildRefuses p NoTreeNumber = ⊥
+BuildRefuses p Memory = Unit {0}
+
+pub record Edit : Type 0 where
+  pub old_root : Element
+  pub new_root : Element
+  pub changed : List SyntaxElement
+  pub annotated : List (ℕ × List SyntaxElement)
+
+abbrev pub edit_code : Coded Edit
+edit_code = code_by (Element × (Element × (List SyntaxElement × List (ℕ × List SyntaxElement)))) (coded× element_code (coded× element_code (coded× (coded_list syntax_element_code) (coded_list (coded× coded_ℕ (coded_list syntax_element_code)))))) (λ e. (e.old_root, (e.new_root, (e.changed, e.annotated)))) (λ q. record { old_root = q.0; new_root = q.1.0; changed = q.1.1.0; annotated = q.1.1.1 }) (λ _. refl)
+
+abbrev pub registered : List (SyntaxElement × ℕ) → List (Element × ℕ)
+registered rs = map (λ r. (element_of r.0, r.1)) rs
+
+pub record WouldMake (p : Plan) (made : OriginTree) : Type 0 where
+  pub places : ℕ → Path
+  pub are_places : ArePlaces p.mapping p.changes places
+  pub is_new : new_tree p.changes places p.root ≡ made ∷ []
+
+-- What is said of the annotated paths rests on equal numbers having equal trees, since following goes by numbers; nothing else does.
+pub record Makes (p : Plan) (number : ℕ) (e : Edit) : Type 0 where
   pub made : OriginTree
-  pub is_new : new_tree changes places root ≡ made ∷ []
-  pub tree_is : tree ≡ plain made
-  pub changed_is : changed_paths ≡ changed (is_free changes) made
-  pub annotated_is : annotated_paths ≡ annotated m registrations made
+  pub would : WouldMake p made
+  pub old_is : e.old_root ≡ p.root
+  pub number_is : e.new_root.number ≡ number
+  pub is_root : e.new_root.path ≡ []
+  pub tree_is : e.new_root.root ≡ plain made
+  pub changed_are : map Some e.changed ≡ map (syntax_at e.new_root) (changed (is_free p.changes) made)
+  pub annotated_paths : List (ℕ × Path)
+  pub annotated_are : (a : ℕ) → map Some (found_for e.annotated a) ≡ map (syntax_at e.new_root) (paths_with a annotated_paths)
+  pub annotated_is : NumbersTell (elements_held p.root p.changes (registered p.registrations) p.mapping) → annotated_paths ≡ annotated p.mapping (registered p.registrations) made
+
+abbrev pub RunRefuses : Plan → ℕ → EditError → Type 0
+RunRefuses p next (Intersecting first second) = ⊥
+RunRefuses p next (MissingMapping change owner) = ⊥
+RunRefuses p next TooLong = (made : OriginTree) × WouldMake p made × IsTooLong made
+RunRefuses p next NoTreeNumber = (made : OriginTree) × WouldMake p made × (IsTooLong made → ⊥) × IsSpent next
+RunRefuses p next Memory = Unit {0}

@@ -13,7 +13,7 @@ use Rattle.std.specs.Option.{option_map_or}
 use Rattle.cst_core.specs.Path.{Path, last_item}
 use Rattle.cst_core.specs.declared.element.SyntaxElement.TheVariants.{Node, Token}
 use Rattle.rewriting.specs.Aim.{same_gap, replaces}
-use Rattle.edit_change.specs.Aim.{aim}
+use Rattle.edit_change.specs.ChangeAim.{aim}
 use Rattle.edit_change.specs.Nesting.{is_dropped, has_owner}
 use Rattle.rewriting.specs.Rewriting.{gap_order}
 use Rattle.edit_change.specs.declared.position.Position.{Position}

@@ -20,7 +20,7 @@ pub struct SyntaxEdit {
 }
 
 impl Model for SyntaxEdit {
-    ghost use Rattle.edit_plan.specs.Building.{Edit, edit_code};
+    ghost use Rattle.edit_plan.specs.Plan.{Edit, edit_code};
     ghost use Rattle.edit_plan.specs.AnnotationTable.{entries_of};
 
     ghost Value = { Edit };
@@ -29,7 +29,7 @@ impl Model for SyntaxEdit {
 
     ghost view = { λ a. record { old_root = a.old_root; new_root = a.new_root; changed = a.changed.items; annotated = entries_of a.annotated.lists.entries } };
 
-    ghost use Rattle.edit_plan.specs.Planned.{IsNewRoot};
+    ghost use Rattle.edit_plan.specs.PlanRun.{IsNewRoot};
 
     ghost invariant = { λ a. IsNewRoot a.new_root };
 }

@@ -36,7 +36,7 @@ impl From<AllocError> for EditError {
 
 impl From<ClashError> for EditError {
     ghost use Rattle.std.specs.Prelude.{◌≡◌};
-    ghost use Rattle.edit_plan.specs.Refusal.{of_clash};
+    ghost use Rattle.edit_plan.specs.EditRefusal.{of_clash};
 
     ghost from_gives = { λ c e. e ≡ of_clash c };
 
@@ -50,7 +50,7 @@ impl From<ClashError> for EditError {
 
 impl From<TreeError> for EditError {
     ghost use Rattle.std.specs.Prelude.{◌≡◌};
-    ghost use Rattle.edit_plan.specs.Refusal.{of_tree};
+    ghost use Rattle.edit_plan.specs.EditRefusal.{of_tree};
 
     ghost from_gives = { λ t e. e ≡ of_tree t };
 

@@ -8,8 +8,8 @@ ghost use Rattle.rewriting.specs.Aimed.{aims_of};
 ghost use Rattle.rewriting.specs.Pass.{kind_only, given_by};
 ghost use Rattle.rewriting.specs.Rewriting.{NumberedAim, rewritten};
 ghost use Rattle.edit_change.specs.Change.{payload};
-ghost use Rattle.edit_plan.specs.Rewriting.{payload_of};
-ghost use Rattle.edit_plan.specs.Owned.{moved, owns_at, IsFilled, AreDependents, AreGiven, AreGivenFrom};
+ghost use Rattle.edit_plan.specs.NewTree.{payload_of};
+ghost use Rattle.edit_plan.specs.OwnerTables.{moved, owns_at, IsFilled, AreDependents, AreGiven, AreGivenFrom};
 
 use crate::by_depth::owners_by_depth;
 use crate::dependent::{Dependent, moved_aims};

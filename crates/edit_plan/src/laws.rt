@@ -9,17 +9,17 @@ ghost use Rattle.cst_core.specs.declared.element.SyntaxElement.{SyntaxElement};
 ghost use Rattle.edit_change.specs.declared.change.Change.{Change};
 ghost use Rattle.edit_change.specs.declared.change.Change.TheVariants.{Replace};
 ghost use Rattle.edit_map.specs.Mapping.{Mapping, mapped_elements};
-ghost use Rattle.edit_map.specs.Building.{ArePairs};
+ghost use Rattle.edit_map.specs.Builder.{ArePairs};
 ghost use Rattle.edit_change.specs.Change.{shared_targets};
 ghost use Rattle.rewriting.specs.Aim.{aims_at_gap, same_gap};
-ghost use Rattle.edit_change.specs.Aim.{aim};
+ghost use Rattle.edit_change.specs.ChangeAim.{aim};
 ghost use Rattle.edit_change.specs.Nesting.{owner, region};
 ghost use Rattle.rewriting.specs.Rewriting.{NumberedAim, gap, rewritten};
-ghost use Rattle.edit_plan.specs.Rewriting.{Origin, OriginTree, origin, plain, aims_of, payload_of, is_free, given, Gives, new_tree};
+ghost use Rattle.edit_plan.specs.NewTree.{Origin, OriginTree, origin, plain, aims_of, payload_of, is_free, given, Gives, new_tree};
 ghost use Rattle.edit_plan.specs.Results.{changed};
-ghost use Rattle.edit_plan.specs.Plan.{HasPlace, elements_held, IsRewriting};
+ghost use Rattle.edit_plan.specs.Places.{HasPlace, elements_held, IsRewriting};
 ghost use Rattle.edit_plan.specs.Schedule.{undropped};
-ghost use Rattle.edit_plan.specs.Laws.{StandsThere, IsUntouched, brought_text, text_filled};
+ghost use Rattle.edit_plan.specs.RewritingLaws.{StandsThere, IsUntouched, brought_text, text_filled};
 
 use edit_map::laws::place_keeps_the_shape;
 

@@ -7,8 +7,8 @@ ghost use Rattle.cst_core.specs.SyntaxElement.{element_of};
 ghost use Rattle.rewriting.specs.Aimed.{aims_of};
 ghost use Rattle.rewriting.specs.Marked.{MarkTree, AreMarked, below, marked, marked_from, marks_of};
 ghost use Rattle.edit_change.specs.Change.{payload};
-ghost use Rattle.edit_plan.specs.Rewriting.{payload_of};
-ghost use Rattle.edit_plan.specs.Owned.{moved, owns_at, AreDependents};
+ghost use Rattle.edit_plan.specs.NewTree.{payload_of};
+ghost use Rattle.edit_plan.specs.OwnerTables.{moved, owns_at, AreDependents};
 ghost use Rattle.edit_plan.specs.Marks.{IsTableOf, element_sought, payload_sought, exchanged, marks_given, AreMarksFrom};
 
 use crate::by_depth::owners_by_depth;

@@ -2,7 +2,7 @@ ghost use Rattle.std.specs.Prelude.{◌≡◌, ◌<◌, [], length, slice_get, o
 ghost use Rattle.std.specs.Option.{option_map_or};
 ghost use Rattle.edit_change.specs.Fits.{Fits};
 ghost use Rattle.edit_change.specs.Nesting.{is_dropped, owner};
-ghost use Rattle.edit_plan.specs.Building.{IsPlan, BuildRefuses};
+ghost use Rattle.edit_plan.specs.Plan.{IsPlan, BuildRefuses};
 
 use crate::annotation::SyntaxAnnotation;
 use crate::edit_error::EditError;
@@ -28,8 +28,8 @@ pub struct EditPlan {
 }
 
 impl Model for EditPlan {
-    ghost use Rattle.edit_plan.specs.Building.{Plan, plan_code};
-    ghost use Rattle.edit_plan.specs.Planned.{IsPlanned};
+    ghost use Rattle.edit_plan.specs.Plan.{Plan, plan_code};
+    ghost use Rattle.edit_plan.specs.PlanRun.{IsPlanned};
 
     ghost Value = { Plan };
 

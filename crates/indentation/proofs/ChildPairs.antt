@@ -17,7 +17,7 @@ use Rattle.cst_core.specs.Tree.{Forest, Token, Node, end, more, SyntaxTree, at, 
 use Rattle.cst_core.specs.Element.{Element, IsNode, IsChild, below, subtree}
 use Rattle.cst_core.specs.SyntaxElement.{node_of, syntax_as, syntax_of, child_nodes}
 use Rattle.cst_core.specs.declared.element.SyntaxElement.{SyntaxElement}
-use Rattle.edit_map.specs.Building.{IsPairUnder, RefusesFirst, RefusesChildren}
+use Rattle.edit_map.specs.Builder.{IsPairUnder, RefusesFirst, RefusesChildren}
 use Rattle.edit_map.specs.declared.map_error.MapError.{MapError}
 use Rattle.edit_map.specs.declared.map_error.MapError.TheVariants.{NotAChild, NotYounger, OtherShape, MoreInputs, Memory}
 use Rattle.indentation.specs.MappedAlong.{is_behind, AlongRefuses}

@@ -6,7 +6,7 @@ use Rattle.std.specs.Prelude.{◌≡◌, ◌&&◌, not, nat_le, nat_eq, ℕ, Boo
 use Rattle.cst_core.specs.Element.{Element}
 use Rattle.cst_core.specs.SyntaxElement.{child_nodes}
 use Rattle.edit_map.specs.Mapping.{Mapping}
-use Rattle.edit_map.specs.Building.{IsMadeOf}
+use Rattle.edit_map.specs.Builder.{IsMadeOf}
 use Rattle.indentation.specs.declared.indent_error.IndentError.{IndentError}
 use Rattle.indentation.specs.declared.indent_error.IndentError.TheVariants.{LevelTooLarge, TooLong, NoTreeNumber, NotYounger, Memory}
 

@@ -2,7 +2,7 @@
 ghost use Rattle.std.specs.Prelude.{◌≡◌, ◌++◌, reverse, false, IfOk, IfErr, OnOk, OnErr};
 ghost use Rattle.cst_core.specs.Tree.{SameShape};
 ghost use Rattle.cst_core.specs.Element.{subtree};
-ghost use Rattle.edit_map.specs.Building.{IsMadeOf};
+ghost use Rattle.edit_map.specs.Builder.{IsMadeOf};
 ghost use Rattle.indentation.specs.Indentation.{mapped_children};
 ghost use Rattle.indentation.specs.MappedAlong.{is_behind, AlongRefuses};
 

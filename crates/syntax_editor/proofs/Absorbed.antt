@@ -14,7 +14,7 @@ use Rattle.edit_change.specs.declared.change.Change.{Change}
 use Rattle.edit_change.specs.declared.change.Change.TheVariants.{Insert, InsertAll, Replace, ReplaceWithMany, ReplaceAll}
 use Rattle.syntax_editor.specs.Recording.{replacement_of, replacements_of, with_replacement, is_replace_of, taken_up, delete}
 use Rattle.syntax_editor.specs.RecordCall.{RecordCall, Inserting, InsertingAll, Deleting, Replacing, ReplacingWithMany, DeletingAll, ReplacingAll, recorded, all_recorded}
-use Rattle.syntax_editor.specs.Laws.{asked_for, all_asked_for}
+use Rattle.syntax_editor.specs.EditorLaws.{asked_for, all_asked_for}
 use Rattle.syntax_editor.proofs.Addresses.{same_element-left, same_element-right}
 use Rattle.syntax_editor.proofs.TakenUp.{answered, filter_map-taken, filter_map-passed}
 

@@ -2,7 +2,7 @@
 use Rattle.std.specs.Prelude.{◌≡◌, [], ◌++◌, Option, Some, unwrap_or}
 use Rattle.std.proofs.Common.{ap}
 use Rattle.edit_map.specs.Mapping.{Mapping}
-use Rattle.edit_map.specs.Building.{IsMadeOf}
+use Rattle.edit_map.specs.Builder.{IsMadeOf}
 use Rattle.syntax_editor.specs.Editor.{Editor}
 use Rattle.syntax_editor.specs.Recording.{merged}
 use Rattle.syntax_editor.specs.Merging.{IsMerged}

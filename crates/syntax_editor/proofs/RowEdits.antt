@@ -8,7 +8,7 @@ use Rattle.cst_core.specs.declared.element.SyntaxElement.{SyntaxElement}
 use Rattle.edit_map.proofs.RowTrees.{token, branch, tree_U, tree_V, tree_X, tree_Y, tree_S1}
 use Rattle.edit_map.proofs.Rows as edited
 use Rattle.edit_map.proofs.Rows.{element_of_tree}
-use Rattle.edit_plan.specs.Rewriting.{new_tree, is_free}
+use Rattle.edit_plan.specs.NewTree.{new_tree, is_free}
 use Rattle.edit_plan.specs.Results.{changed}
 use Rattle.edit_change.specs.declared.change.Change.{Change}
 use Rattle.indentation.specs.Level.{newline, space}

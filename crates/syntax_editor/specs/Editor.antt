@@ -10,7 +10,7 @@ use Rattle.std.specs.Prelude.{◌≡◌, ℕ, Bool, true, false, cond, List, [],
 use Rattle.std.specs.Coded.{Coded, code_by, coded_ℕ, coded_list, coded_option, coded×}
 use Rattle.cst_core.specs.Element.{Element, subtree, element_code}
 use Rattle.cst_core.specs.Path.{same_path}
-use Rattle.edit_map.specs.Building.{mapping_code}
+use Rattle.edit_map.specs.Builder.{mapping_code}
 use Rattle.edit_map.specs.Mapping.{Mapping}
 use Rattle.edit_change.specs.declared.change.Change.{Change}
 use Rattle.edit_plan.specs.declared.edit_error.EditError.{EditError}
@@ -18,7 +18,7 @@ use Rattle.edit_plan.specs.declared.edit_error.EditError.TheVariants.{Intersecti
 use Rattle.cst_core.specs.declared.element.SyntaxElement.{SyntaxElement}
 use Rattle.edit_plan.specs.Codes.{syntax_element_code}
 use Rattle.edit_plan.specs.ChangeCodes.{change_code}
-use Rattle.edit_plan.specs.Building.{Plan, IsPlan, BuildRefuses, RunRefuses}
+use Rattle.edit_plan.specs.Plan.{Plan, IsPlan, BuildRefuses, RunRefuses}
 use Rattle.edit_plan.specs.Fits.{Fits}
 use Rattle.syntax_editor.specs.RecordCall.{RecordCall, recorded, refusal}
 use Rattle.syntax_editor.specs.declared.error.RecordError.{RecordError}

@@ -10,7 +10,7 @@ pub use Rattle.indentation.specs.Restorable
 pub mod Table
 pub mod Recording
 pub mod RecordCall
-pub mod Refusal
+pub mod RecordRefusal
 pub mod AttrsAndDocs
 pub mod Spacing
 pub mod SpaceRule
@@ -19,4 +19,4 @@ pub mod Editor
 pub mod Merging
 pub mod Lending
 pub mod Indexing
-pub mod Laws
+pub mod EditorLaws

@@ -5,7 +5,7 @@
 use Rattle.std.specs.Prelude.{◌≡◌, true, [], ◌++◌, Some, unwrap_or, All}
 use Rattle.cst_core.specs.Element.{same_element}
 use Rattle.edit_map.specs.Mapping.{Mapping}
-use Rattle.edit_map.specs.Building.{IsMadeOf}
+use Rattle.edit_map.specs.Builder.{IsMadeOf}
 use Rattle.edit_plan.specs.Fits.{Fits}
 use Rattle.syntax_editor.specs.Recording.{merged}
 use Rattle.syntax_editor.specs.Editor.{Editor}

@@ -2,7 +2,7 @@ ghost use Rattle.std.specs.Prelude.{◌≡◌, ◌↔◌, ◌+◌, ◌<◌, cond
 ghost use Rattle.cst_core.specs.TreeIds.{IsSpent};
 ghost use Rattle.cst_core.specs.Green.{length_limit};
 ghost use Rattle.cst_core.specs.Tree.{text_length};
-ghost use Rattle.edit_plan.specs.Building.{Makes, IsPlan, BuildRefuses};
+ghost use Rattle.edit_plan.specs.Plan.{Makes, IsPlan, BuildRefuses};
 ghost use Rattle.std.specs.Borrow.{sem};
 ghost use Rattle.syntax_editor.specs.Lending.{LendsFactory};
 ghost use Rattle.syntax_editor.specs.Editor.{has_parent, edited_root, plan_of, FinishRefuses};

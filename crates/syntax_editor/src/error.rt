@@ -1,5 +1,5 @@
 ghost use Rattle.std.specs.Prelude.{◌≡◌, Some, IsSome};
-ghost use Rattle.syntax_editor.specs.Refusal.{of_level, of_whitespace};
+ghost use Rattle.syntax_editor.specs.RecordRefusal.{of_level, of_whitespace};
 
 use cst_core::TreeError;
 use indentation::IndentError;

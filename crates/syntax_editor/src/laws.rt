@@ -12,7 +12,7 @@ ghost use Rattle.edit_plan.specs.Fits.{Fits};
 ghost use Rattle.syntax_editor.specs.RecordCall.{RecordCall, recorded, all_recorded, refusal};
 ghost use Rattle.syntax_editor.specs.Editor.{Editor};
 ghost use Rattle.syntax_editor.specs.Merging.{IsMerged};
-ghost use Rattle.syntax_editor.specs.Laws.{all_asked_for, copy_by};
+ghost use Rattle.syntax_editor.specs.EditorLaws.{all_asked_for, copy_by};
 
 use edit_map::laws::newer_copies_stand;
 pub use indentation::laws::dedent_restores;

@@ -1,6 +1,6 @@
 //! One editor merged into another one.
 ghost use Rattle.std.specs.Prelude.{◌≡◌, ◌↔◌, [], ◌++◌, IsTrue, IfOk, IfErr, OnOk, OnErr, All, unwrap_or};
-ghost use Rattle.edit_map.specs.Building.{IsMadeOf};
+ghost use Rattle.edit_map.specs.Builder.{IsMadeOf};
 ghost use Rattle.edit_plan.specs.Fits.{Fits};
 ghost use Rattle.syntax_editor.specs.Recording.{merged};
 ghost use Rattle.syntax_editor.specs.Merging.{AreMergeable, IsMerged, MergeRefuses};

@@ -7,7 +7,7 @@ ghost use Rattle.indentation.specs.Level.{level};
 ghost use Rattle.syntax_editor.specs.Spacing.{NewLine, neighbor, between, space_behind, space_before, space_after, next_of, space_in_front, space_at_end, space_text, space_elements, spaced, numbers_needed, spacing_refusal};
 ghost use Rattle.syntax_editor.specs.SpacingCalls.{space_of, FindsLevel, FindsSpace, with_spaces, numbers_of, NumbersRefuse, IsRound, RoundRefuses, SpacingRefuses};
 ghost use Rattle.indentation.specs.LevelCalls.{ReadsLevel};
-ghost use Rattle.syntax_editor.specs.Refusal.{of_level};
+ghost use Rattle.syntax_editor.specs.RecordRefusal.{of_level};
 ghost use Rattle.syntax_editor.specs.RecordCall.{InsertingAll};
 ghost use Rattle.syntax_editor.specs.Editor.{after_call};
 

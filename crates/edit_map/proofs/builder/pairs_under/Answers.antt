@@ -1,7 +1,7 @@
 use Rattle.std.proofs.Common.{◌≡◌, ◌++◌, [], ap, ap₂, sym, ◌∙◌, inl, inr, append_assoc, append-nil}
 use Rattle.std.specs.List.{zip}
 use Rattle.std.proofs.lemmas.List.Elements.{All-push}
-use Rattle.edit_map.specs.Building.{IsPairUnder, RefusesChildren}
+use Rattle.edit_map.specs.Builder.{IsPairUnder, RefusesChildren}
 use Rattle.edit_map.proofs.Refusals.{err-given, zip-left, zip-right, first-refused}
 use Rattle.edit_map.proofs.builder.pairs_under.Goals as goal
 

@@ -1,6 +1,6 @@
 use Rattle.std.proofs.Common.{◌≡◌, ◌++◌, All}
 use Rattle.std.specs.List.{zip}
-use Rattle.edit_map.specs.Building.{IsPairUnder}
+use Rattle.edit_map.specs.Builder.{IsPairUnder}
 use Rattle.edit_map.proofs.builder.pairs_under.Given as goal
 
 abbrev pub invariant-loop-input : goal.invariant-loop-input

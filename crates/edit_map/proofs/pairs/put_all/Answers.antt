@@ -1,6 +1,6 @@
 use Rattle.std.proofs.Common.{◌≡◌, ◌+◌, ◌++◌, [], length, reverse, ap, sym, ◌∙◌, arith, append_assoc, append-nil}
 use Rattle.std.proofs.lemmas.List.{reverse-append}
-use Rattle.edit_map.specs.Building.{IsMadeOf}
+use Rattle.edit_map.specs.Builder.{IsMadeOf}
 use Rattle.edit_map.proofs.Distinct.{distinct-keys}
 use Rattle.edit_map.proofs.Tables.{empty, made-itself, made-more, made-again, made-reordered}
 use Rattle.edit_map.proofs.pairs.put_all.Goals as goal

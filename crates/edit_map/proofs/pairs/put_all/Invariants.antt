@@ -1,6 +1,6 @@
 use Rattle.std.proofs.Common.{◌≡◌, ◌≤◌, ◌++◌, length, reverse}
 use Rattle.std.specs.HashMap.{spare}
-use Rattle.edit_map.specs.Building.{IsMadeOf, AreDistinct}
+use Rattle.edit_map.specs.Builder.{IsMadeOf, AreDistinct}
 use Rattle.edit_map.proofs.pairs.put_all.Given as goal
 
 abbrev pub invariant-loop-input : goal.invariant-loop-input

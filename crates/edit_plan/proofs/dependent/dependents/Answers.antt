@@ -1,7 +1,7 @@
 use Rattle.std.proofs.Common.{◌≡◌, ◌+◌, ◌∙◌, ℕ, length, Some, ap, sym, subst}
-use Rattle.edit_change.specs.Aim.{aim, aim_path}
-use Rattle.edit_plan.specs.Owned.{places_in, moved, dependents_in}
-use Rattle.edit_plan.specs.Rewriting.{moved_aim}
+use Rattle.edit_change.specs.ChangeAim.{aim, aim_path}
+use Rattle.edit_plan.specs.OwnerTables.{places_in, moved, dependents_in}
+use Rattle.edit_plan.specs.NewTree.{moved_aim}
 use Rattle.edit_plan.proofs.Moved.{dependents-to, dependents-whole, none-at, one-entered, change-at, owner-is, owned-is-inside}
 use Rattle.edit_plan.proofs.dependent.dependents.Goals as goal
 use Rattle.edit_plan.proofs.dependent.dependents.Goals.{in-Some+in_ok-dependent+in_ok-enter, in_default}

@@ -1,7 +1,7 @@
 use Rattle.std.proofs.Common.{◌≡◌, ◌-◌, ◌<◌, ◌∙◌, suc, length, filter, All, arith, sym, subst}
 use Rattle.std.proofs.lemmas.List.Elements.{All-get_or}
 use Rattle.cst_core.specs.Path.{counted_from}
-use Rattle.edit_plan.specs.Owned.{owns_at, owners_at}
+use Rattle.edit_plan.specs.OwnerTables.{owns_at, owners_at}
 use Rattle.edit_plan.specs.Marks.{AreMarksFrom}
 use Rattle.edit_plan.proofs.Levels.{owners-are-there, list-at}
 use Rattle.edit_plan.proofs.MarksFilled.{from-payloads, to-the-top}

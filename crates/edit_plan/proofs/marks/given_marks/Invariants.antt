@@ -1,7 +1,7 @@
 use Rattle.std.proofs.Common.{◌≡◌, ℕ, List, length}
 use Rattle.cst_core.specs.Path.{Path}
 use Rattle.cst_core.specs.Element.{Address}
-use Rattle.edit_plan.specs.Owned.{AreDependents}
+use Rattle.edit_plan.specs.OwnerTables.{AreDependents}
 use Rattle.edit_plan.specs.Marks.{IsTableOf, AreMarksFrom}
 use Rattle.edit_plan.proofs.marks.given_marks.Given as goal
 

@@ -1,6 +1,6 @@
 use Rattle.std.proofs.Common.{◌≡◌, sym}
 use Rattle.cst_core.specs.SyntaxElement.{element_of}
-use Rattle.edit_map.specs.Building.{ArePairs}
+use Rattle.edit_map.specs.Builder.{ArePairs}
 use Rattle.edit_map.proofs.Making.{pairs-rise}
 use Rattle.edit_map.proofs.Followed.{followed_unique}
 use Rattle.edit_map.proofs.Reached.{standing-given, standing-next, syntax-falls, told-first, step-told, no_step-told, followed-there, followed-back, reached-back}

@@ -1,5 +1,5 @@
 use Rattle.std.proofs.Common.{◌≡◌, ◌++◌, reverse, append-nil, ap, ◌∙◌}
-use Rattle.edit_map.specs.Building.{IsMadeOf}
+use Rattle.edit_map.specs.Builder.{IsMadeOf}
 use Rattle.edit_map.proofs.Making.{made-through}
 use Rattle.edit_map.proofs.mapping.SyntaxMapping.try_clone.Goals as goal
 

@@ -3,7 +3,7 @@ use Rattle.std.specs.Global.{Global}
 use Rattle.std.specs.Option.{option_map_or}
 use Rattle.cst_core.specs.declared.element.SyntaxElement.{SyntaxElement}
 use Rattle.edit_plan.specs.AnnotationTable.{found_for}
-use Rattle.edit_plan.specs.Building.{Edit}
+use Rattle.edit_plan.specs.Plan.{Edit}
 use Rattle.edit_plan.proofs.ByAnnotation.{found-in}
 use Rattle.edit_plan.proofs.edit.SyntaxEdit.find_annotation.Goals as goal
 

@@ -3,12 +3,12 @@ use Rattle.std.specs.Prelude.{IfOk, All}
 use Rattle.cst_core.specs.Element.{NumbersTell, address}
 use Rattle.cst_core.specs.SyntaxElement.{element_of}
 use Rattle.edit_map.specs.Mapping.{followed, mapped_elements}
-use Rattle.edit_plan.specs.Building.{Plan}
+use Rattle.edit_plan.specs.Plan.{Plan}
 use Rattle.edit_plan.specs.Marks.{annotated_path, numbered_paths, path_lists}
-use Rattle.edit_plan.specs.Owned.{AreDependents}
-use Rattle.edit_plan.specs.Planned.{AreAnnotated}
+use Rattle.edit_plan.specs.OwnerTables.{AreDependents}
+use Rattle.edit_plan.specs.PlanRun.{AreAnnotated}
 use Rattle.edit_plan.specs.Results.{copies_of}
-use Rattle.edit_plan.specs.Rewriting.{new_tree}
+use Rattle.edit_plan.specs.NewTree.{new_tree}
 use Rattle.edit_plan.proofs.ByAnnotation.{are-annotated}
 use Rattle.edit_change.proofs.Lists.{if-ok-weaker}
 use Rattle.edit_plan.proofs.plan.EditPlan.annotated.Goals as goal

@@ -7,8 +7,8 @@ use Rattle.rewriting.specs.Pass.{kind_only, given_by}
 use Rattle.rewriting.specs.Rewriting.{rewritten_whole}
 use Rattle.rewriting.specs.Topmost.{topmost, AreCounted, not_given, paths_of}
 use Rattle.edit_plan.specs.Marks.{annotated_path}
-use Rattle.edit_plan.specs.Owned.{AreDependents}
-use Rattle.edit_plan.specs.Planned.{AreAnnotated}
+use Rattle.edit_plan.specs.OwnerTables.{AreDependents}
+use Rattle.edit_plan.specs.PlanRun.{AreAnnotated}
 use Rattle.edit_plan.proofs.Carrying.{is_rewritten}
 use Rattle.edit_plan.proofs.plan.EditPlan.carried_out.Goals as goal
 

@@ -3,10 +3,10 @@ use Rattle.cst_core.specs.Green.{branch_tree, length_limit}
 use Rattle.cst_core.specs.Tree.{text_length}
 use Rattle.cst_core.specs.SyntaxElement.{syntax_at}
 use Rattle.rewriting.specs.Topmost.{paths_of}
-use Rattle.edit_plan.specs.Building.{RunRefuses}
-use Rattle.edit_plan.specs.Planned.{IsRewritten}
+use Rattle.edit_plan.specs.Plan.{RunRefuses}
+use Rattle.edit_plan.specs.PlanRun.{IsRewritten}
 use Rattle.edit_plan.specs.Marks.{annotated_path}
-use Rattle.edit_plan.specs.Refusal.{of_tree}
+use Rattle.edit_plan.specs.EditRefusal.{of_tree}
 use Rattle.edit_plan.specs.Results.{paths_with}
 use Rattle.edit_plan.proofs.ByAnnotation.{found-in}
 use Rattle.edit_plan.proofs.Carrying.{makes, refuses, err-gives}

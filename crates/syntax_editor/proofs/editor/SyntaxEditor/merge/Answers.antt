@@ -1,7 +1,7 @@
 use Rattle.std.proofs.Common.{◌≡◌, ◌++◌, [], Result, Ok, Err, OnOk, unwrap_or, false, sym, subst, ◌∙◌}
 use Rattle.std.specs.Prelude.{is_err}
 use Rattle.std.proofs.lemmas.Bool.{true≢false}
-use Rattle.edit_map.specs.Building.{IsMadeOf}
+use Rattle.edit_map.specs.Builder.{IsMadeOf}
 use Rattle.syntax_editor.specs.Editor.{Editor}
 use Rattle.syntax_editor.proofs.Merged.{merged-editor}
 use Rattle.syntax_editor.proofs.editor.SyntaxEditor.merge.Goals as goal

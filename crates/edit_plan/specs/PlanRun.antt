@@ -15,19 +15,19 @@ use Rattle.cst_core.specs.Element.{Address, Element, IsNode, NumbersTell, addres
 use Rattle.cst_core.specs.SyntaxElement.{element_of}
 use Rattle.cst_core.specs.declared.element.SyntaxElement.{SyntaxElement}
 use Rattle.edit_map.specs.Mapping.{followed, mapped_elements}
-use Rattle.edit_plan.specs.Building.{Plan, IsPlan, WouldMake, registered}
+use Rattle.edit_plan.specs.Plan.{Plan, IsPlan, WouldMake, registered}
 use Rattle.edit_change.specs.Fate.{fate}
 use Rattle.edit_plan.specs.Marks.{numbered_paths}
-use Rattle.edit_plan.specs.Owned.{places_in, AreDependents, AreGiven}
+use Rattle.edit_plan.specs.OwnerTables.{places_in, AreDependents, AreGiven}
 use Rattle.edit_change.specs.Change.{payload}
 use Rattle.edit_plan.specs.Results.{changed, copies_of}
-use Rattle.edit_plan.specs.Rewriting.{OriginTree, plain, is_free, independents, new_tree}
+use Rattle.edit_plan.specs.NewTree.{OriginTree, plain, is_free, independents, new_tree}
 use Rattle.rewriting.specs.declared.given.Given.{Given}
 use Rattle.rewriting.specs.Pass.{kind_only, given_by}
 use Rattle.rewriting.specs.Rewriting.{rewritten_whole}
 use Rattle.edit_change.specs.declared.change.Change.{Change}
 use Rattle.edit_plan.specs.declared.dependent.Dependent.{Dependent}
-use Rattle.edit_plan.specs.Plan.{ArePlaces}
+use Rattle.edit_plan.specs.Places.{ArePlaces}
 use Rattle.edit_change.specs.declared.fate.Fate.{Fate}
 
 pub record IsPlanned (p : Plan) (fates : List Fate) (places : List (Option (Vec ℕ Global))) : Type 0 where

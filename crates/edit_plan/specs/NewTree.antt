@@ -23,7 +23,7 @@ use Rattle.cst_core.specs.Element.{Address, Element, address, subtree}
 use Rattle.rewriting.specs.Aim.{Aim, FirstIn, Behind, Over}
 use Rattle.rewriting.specs.Rewriting.{NumberedAim, rewritten, rewritten_whole}
 use Rattle.edit_change.specs.Change.{payload, targets}
-use Rattle.edit_change.specs.Aim.{aim}
+use Rattle.edit_change.specs.ChangeAim.{aim}
 use Rattle.edit_change.specs.Nesting.{is_independent, has_owner}
 use Rattle.edit_change.specs.declared.change.Change.{Change}
 

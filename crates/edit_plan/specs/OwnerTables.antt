@@ -22,9 +22,9 @@ use Rattle.rewriting.specs.Pass.{kind_only, given_by}
 use Rattle.rewriting.specs.Rewriting.{NumberedAim, rewritten}
 use Rattle.edit_map.specs.Mapping.{Mapping}
 use Rattle.edit_change.specs.AimFrom.{aim_from, depth}
-use Rattle.edit_plan.specs.Plan.{IsPlaceIn, HasPlace}
+use Rattle.edit_plan.specs.Places.{IsPlaceIn, HasPlace}
 use Rattle.edit_change.specs.Nesting.{owner}
-use Rattle.edit_plan.specs.Rewriting.{plain, payload_of, dependents, given}
+use Rattle.edit_plan.specs.NewTree.{plain, payload_of, dependents, given}
 use Rattle.edit_change.specs.declared.change.Change.{Change}
 use Rattle.edit_plan.specs.declared.dependent.Dependent.{Dependent}
 
