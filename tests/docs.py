@@ -20,8 +20,8 @@ def library_files(kind, ending):
     for root in sorted(ROOT.glob("crates/*/src/lib.rt")):
         crate = root.parent.parent.name
         if crate not in UNLISTED:
-            files = sorted((root.parent.parent / kind).glob("*" + ending))
-            found[crate] = {file.stem for file in files} - {"lib", "Lib"}
+            files = sorted((root.parent.parent / kind).rglob("*" + ending))
+            found[crate] = {file.stem for file in files} - {"lib", "Lib", "inner"}
     return found
 
 
@@ -94,8 +94,8 @@ def head_names(text):
 
 
 def compare_heads():
-    for file in sorted(ROOT.glob("crates/*/specs/*.antt")):
-        if file.stem == "Lib":
+    for file in sorted(ROOT.glob("crates/*/specs/**/*.antt")):
+        if file.stem in ("Lib", "inner"):
             continue
         text = file.read_text()
         names, public = defined_names(text)

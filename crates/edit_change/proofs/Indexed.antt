@@ -20,7 +20,7 @@ use Rattle.cst_core.specs.Path.{Path, same_path, has_path, counted_from}
 use Rattle.rewriting.specs.Topmost.{paths_of}
 use Rattle.edit_change.specs.Change.{targets, shared_targets}
 use Rattle.edit_change.specs.Nesting.{pairs, pairs_with, first_clash}
-use Rattle.edit_change.specs.TargetIndex.{lesser, least, number_at, target_at, IsApart, IsIndex}
+use Rattle.edit_change.specs.inner.TargetIndex.{lesser, least, number_at, target_at, IsApart, IsIndex}
 use Rattle.edit_change.specs.declared.change.Change.{Change}
 use Rattle.edit_change.specs.declared.target_index.TargetIndex.{TargetIndex}
 use Rattle.edit_change.proofs.Clashes.{clash, clashes-at, at-index, first-found, none-more}

@@ -12,7 +12,7 @@ use Rattle.std.proofs.lemmas.Bool.{ltb-true, lt-ltb, cases_Bool}
 use Rattle.std.proofs.lemmas.Option.{none-some}
 use Rattle.std.proofs.Math.Seq.{take-suc}
 use mathlib.Core.Logic.{inl, inr}
-use Rattle.edit_change.specs.TargetIndex.{lesser}
+use Rattle.edit_change.specs.inner.TargetIndex.{lesser}
 
 -- two tests that hold in the same cases are equal
 pub same-test : (a b : Bool) → (a ≡ true → b ≡ true) → (b ≡ true → a ≡ true) → a ≡ b

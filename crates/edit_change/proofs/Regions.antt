@@ -14,8 +14,8 @@ use Rattle.cst_core.specs.Path.{Path, has_path, last_item}
 use Rattle.cst_core.specs.declared.element.SyntaxElement.TheVariants.{Node, Token}
 use Rattle.edit_change.specs.Change.{targets, shared_targets}
 use Rattle.edit_change.specs.Nesting.{region, is_keeping, surroundings, is_around, is_dropped, region_at, owner}
-use Rattle.edit_change.specs.TargetIndex.{target_at, IsApart}
-use Rattle.edit_change.specs.Fate.{by_owner, owner_in, drops_at, fate_within, fate}
+use Rattle.edit_change.specs.inner.TargetIndex.{target_at, IsApart}
+use Rattle.edit_change.specs.inner.Fate.{by_owner, owner_in, drops_at, fate_within, fate}
 use Rattle.edit_change.specs.declared.change.Change.{Change}
 use Rattle.edit_change.specs.declared.change.Change.TheVariants.{Insert, InsertAll, Replace, ReplaceWithMany, ReplaceAll}
 use Rattle.edit_change.specs.declared.fate.Fate.TheVariants.{Dropped}

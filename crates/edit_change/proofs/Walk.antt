@@ -17,7 +17,7 @@ use Rattle.std.proofs.lemmas.List.Folds.{list_any-append}
 use mathlib.Core.Logic.{inl, inr}
 use Rattle.cst_core.specs.Path.{Path, has_path, up_to, last_item}
 use Rattle.edit_change.specs.Nesting.{region, is_keeping, region_at}
-use Rattle.edit_change.specs.Fate.{by_owner, drops_at, fate_within}
+use Rattle.edit_change.specs.inner.Fate.{by_owner, drops_at, fate_within}
 use Rattle.edit_change.specs.declared.change.Change.{Change}
 use Rattle.edit_change.specs.declared.fate.Fate.{Fate}
 use Rattle.edit_change.specs.declared.fate.Fate.TheVariants.{Dropped, Owned}

@@ -1,15 +1,11 @@
 pub mod Codes
 pub mod PositionForm
-pub mod PositionInCode
 pub mod Position
 pub mod Change
 pub mod ChangeCodes
 pub mod ChangeAim
-pub mod AimFrom
 pub mod Fits
 pub mod Nesting
 pub mod Display
-pub mod Targets
-pub mod TargetIndex
 pub mod Clash
-pub mod Fate
+pub mod inner

@@ -4,7 +4,7 @@ ghost use Rattle.std.specs.Option.{option_map_or};
 ghost use Rattle.cst_core.specs.Path.{above, up_to};
 ghost use Rattle.edit_change.specs.Change.{targets};
 ghost use Rattle.edit_change.specs.Nesting.{region, surroundings, is_keeping};
-ghost use Rattle.edit_change.specs.Targets.{paths_in};
+ghost use Rattle.edit_change.specs.inner.Targets.{paths_in};
 
 use crate::change::Change;
 use crate::targets::{Targets, parent};

@@ -1,8 +1,8 @@
 ghost use Rattle.std.specs.Prelude.{◌≡◌, None, map, position, is_some, IfOk};
 ghost use Rattle.cst_core.specs.Path.{up_to};
 ghost use Rattle.edit_change.specs.Nesting.{region_at};
-ghost use Rattle.edit_change.specs.TargetIndex.{IsIndex};
-ghost use Rattle.edit_change.specs.Fate.{fate, owner_in, is_dropped_in, is_independent_in, fate_within};
+ghost use Rattle.edit_change.specs.inner.TargetIndex.{IsIndex};
+ghost use Rattle.edit_change.specs.inner.Fate.{fate, owner_in, is_dropped_in, is_independent_in, fate_within};
 
 use crate::change::Change;
 use crate::target_index::TargetIndex;

@@ -1,7 +1,7 @@
 ghost use Rattle.std.specs.Prelude.{◌≡◌, cond, Some, None, OnOk, IfOk, IfErr};
 ghost use Rattle.cst_core.specs.Path.{Path, has_path};
 ghost use Rattle.rewriting.specs.Topmost.{paths_of};
-ghost use Rattle.edit_change.specs.TargetIndex.{number_at, lesser, least, IsIndex};
+ghost use Rattle.edit_change.specs.inner.TargetIndex.{number_at, lesser, least, IsIndex};
 ghost use Rattle.edit_change.specs.Nesting.{first_clash};
 ghost use Rattle.edit_change.specs.Clash.{ClashRefuses};
 

@@ -1,7 +1,7 @@
 ghost use Rattle.std.specs.Prelude.{◌≡◌, ◌∷◌, ◌++◌, [], IfOk};
 ghost use Rattle.cst_core.specs.Path.{parent_path, last_slot, siblings};
 ghost use Rattle.rewriting.specs.Topmost.{paths_of};
-ghost use Rattle.edit_change.specs.Targets.{paths_in};
+ghost use Rattle.edit_change.specs.inner.Targets.{paths_in};
 
 use std::alloc::{AllocError, Global};
 

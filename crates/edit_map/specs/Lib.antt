@@ -1,4 +1,4 @@
 pub mod Mapping
 pub mod Builder
-pub mod Climbing
 pub mod Following
+pub mod inner

@@ -2,7 +2,7 @@ ghost use Rattle.std.specs.Prelude.{◌≡◌, length, [], ◌++◌, IfOk, OnOk,
 ghost use Rattle.cst_core.specs.Element.{address};
 ghost use Rattle.edit_map.specs.Mapping.{IsPlace, copied, path_in};
 ghost use Rattle.edit_map.specs.Builder.{IsMadeOf, ArePairs, IsMapping};
-ghost use Rattle.edit_map.specs.Climbing.{IsAbove};
+ghost use Rattle.edit_map.specs.inner.Climbing.{IsAbove};
 
 use crate::builder::SyntaxMappingBuilder;
 use crate::pairs::{push_clones, put_all};

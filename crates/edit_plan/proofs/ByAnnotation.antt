@@ -17,9 +17,9 @@ use Rattle.std.specs.Map.{lookup}
 use Rattle.std.specs.Option.{option_map_or}
 use Rattle.edit_plan.specs.AnnotationTable.{entries_of, found_for}
 use Rattle.edit_plan.specs.Plan.{Plan}
-use Rattle.edit_plan.specs.Marks.{annotated_path, numbered_paths}
-use Rattle.edit_plan.specs.OwnerTables.{AreDependents}
-use Rattle.edit_plan.specs.PlanRun.{AreAnnotated}
+use Rattle.edit_plan.specs.inner.Marks.{annotated_path, numbered_paths}
+use Rattle.edit_plan.specs.inner.OwnerTables.{AreDependents}
+use Rattle.edit_plan.specs.inner.PlanRun.{AreAnnotated}
 use Rattle.edit_plan.specs.Results.{copies_of, paths_with}
 use Rattle.edit_plan.specs.NewTree.{OriginTree, new_tree}
 use Rattle.edit_plan.specs.declared.dependent.Dependent.{Dependent}

@@ -13,8 +13,8 @@ use Rattle.std.proofs.lemmas.Option.{none-some, same_Some, slice_get_past, slice
 use mathlib.Core.Logic.{inl, inr}
 use Rattle.cst_core.specs.Path.{Path, counted_from}
 use Rattle.edit_change.specs.Nesting.{owner}
-use Rattle.edit_change.specs.AimFrom.{depth}
-use Rattle.edit_plan.specs.OwnerTables.{depth_of, dependents_in, owns_at, AreDependents, AreOwners}
+use Rattle.edit_change.specs.inner.AimFrom.{depth}
+use Rattle.edit_plan.specs.inner.OwnerTables.{depth_of, dependents_in, owns_at, AreDependents, AreOwners}
 use Rattle.edit_plan.specs.NewTree.{dependents}
 use Rattle.edit_change.specs.declared.change.Change.{Change}
 use Rattle.edit_plan.specs.declared.dependent.Dependent.{Dependent}

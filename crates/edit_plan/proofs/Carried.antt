@@ -18,13 +18,13 @@ use Rattle.cst_core.specs.declared.element.SyntaxElement.TheVariants.{Token}
 use Rattle.cst_core.specs.Element.{subtree}
 use Rattle.cst_core.specs.SyntaxElement.{element_of}
 use Rattle.cst_core.specs.declared.element.SyntaxElement.{SyntaxElement}
-use Rattle.rewriting.specs.Pass.{given_by}
+use Rattle.rewriting.specs.inner.Pass.{given_by}
 use Rattle.rewriting.specs.Rewriting.{NumberedAim}
 use Rattle.rewriting.specs.declared.given.Given.{Given}
-use Rattle.rewriting.specs.Given.{given_trees}
+use Rattle.rewriting.specs.inner.Given.{given_trees}
 use Rattle.edit_change.specs.ChangeAim.{aim}
 use Rattle.edit_change.specs.Change.{payload}
-use Rattle.edit_change.specs.Fate.{by_owner, fate, is_independent_in}
+use Rattle.edit_change.specs.inner.Fate.{by_owner, fate, is_independent_in}
 use Rattle.edit_change.specs.Nesting.{surroundings, region_at, is_dropped, is_independent}
 use Rattle.edit_plan.specs.NewTree.{aims_of, payload_of, independents}
 use Rattle.edit_change.specs.declared.change.Change.{Change}

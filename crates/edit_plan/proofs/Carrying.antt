@@ -17,19 +17,19 @@ use Rattle.cst_core.specs.Element.{NumbersTell, address, subtree}
 use Rattle.cst_core.specs.Green.{Branch, branch_tree, length_limit}
 use Rattle.cst_core.specs.SyntaxElement.{element_of, syntax_at}
 use Rattle.rewriting.specs.declared.given.Given.{Given}
-use Rattle.rewriting.specs.Given.{given_trees}
+use Rattle.rewriting.specs.inner.Given.{given_trees}
 use Rattle.cst_core.specs.TreeError.{TreeError}
 use Rattle.cst_core.specs.TreeError.TheVariants as tree
-use Rattle.rewriting.specs.Pass.{kind_only, given_by}
+use Rattle.rewriting.specs.inner.Pass.{kind_only, given_by}
 use Rattle.rewriting.specs.Rewriting.{NumberedAim, rewritten_whole}
 use Rattle.rewriting.specs.Topmost.{topmost, count_of, AreCounted, not_given}
 use Rattle.edit_map.specs.Mapping.{followed}
 use Rattle.edit_plan.specs.AnnotationTable.{found_for}
 use Rattle.edit_plan.specs.Plan.{Plan, Edit, Makes, WouldMake, RunRefuses, registered}
-use Rattle.edit_plan.specs.Marks.{numbered_paths}
-use Rattle.edit_plan.specs.PlanRun.{AreAnnotated, IsRewritten}
+use Rattle.edit_plan.specs.inner.Marks.{numbered_paths}
+use Rattle.edit_plan.specs.inner.PlanRun.{AreAnnotated, IsRewritten}
 use Rattle.edit_plan.specs.EditRefusal.{of_tree}
-use Rattle.edit_plan.specs.OwnerTables.{AreDependents, AreGiven}
+use Rattle.edit_plan.specs.inner.OwnerTables.{AreDependents, AreGiven}
 use Rattle.edit_plan.specs.Places.{ArePlaces, elements_held}
 use Rattle.edit_plan.specs.Results.{changed, annotated, copies_of, paths_with}
 use Rattle.edit_plan.specs.declared.dependent.Dependent.{Dependent}

@@ -20,11 +20,11 @@ use Rattle.cst_core.specs.SyntaxElement.{element_of}
 use Rattle.cst_core.specs.declared.element.SyntaxElement.{SyntaxElement}
 use Rattle.rewriting.specs.Rewriting.{rewritten_whole}
 use Rattle.rewriting.specs.Topmost.{holds_at, paths_of}
-use Rattle.rewriting.specs.Marked.{Marking, marks_on, marked, marked_from, below, marks_at, wanted}
+use Rattle.rewriting.specs.inner.Marked.{Marking, marks_on, marked, marked_from, below, marks_at, wanted}
 use Rattle.edit_plan.specs.Results.{copies_of}
 use Rattle.edit_plan.specs.NewTree.{OriginTree, origin, given, independents, new_tree}
-use Rattle.edit_plan.specs.Sought.{path_below, sought_one, sought_from, sought_at, registered_at, addresses}
-use Rattle.edit_plan.specs.Marks.{with_marks, marks_given, IsTableOf, paths_of_mark, path_lists}
+use Rattle.edit_plan.specs.inner.Sought.{path_below, sought_one, sought_from, sought_at, registered_at, addresses}
+use Rattle.edit_plan.specs.inner.Marks.{with_marks, marks_given, IsTableOf, paths_of_mark, path_lists}
 use Rattle.edit_change.specs.declared.change.Change.{Change}
 use Rattle.edit_plan.specs.declared.sought.SoughtIndex.{SoughtIndex}
 use Rattle.edit_plan.proofs.MarksFilled.{seen-from, exact, found, at-append}

@@ -22,7 +22,7 @@ use Rattle.cst_core.specs.GreenElement.{element_tree, element_trees}
 use Rattle.green_tree.specs.declared.green.GreenElement.{GreenElement}
 use Rattle.green_tree.proofs.Slots.{slice_get-child}
 use Rattle.green_tree.proofs.Lookup.{forest-trees, trees-forest}
-use Rattle.edit_plan.specs.FirstNode.{starts_as, first_from}
+use Rattle.edit_plan.specs.inner.FirstNode.{starts_as, first_from}
 
 abbrev is_node_tree : SyntaxTree → Bool
 is_node_tree t = not (is_token t)

@@ -20,14 +20,14 @@ use mathlib.Core.Path.{fun_ext}
 use Rattle.cst_core.specs.Path.{Path, same_path, counted_from}
 use Rattle.cst_core.specs.Element.{Address, Element, address, subtree}
 use Rattle.rewriting.specs.Rewriting.{NumberedAim, rewritten}
-use Rattle.rewriting.specs.Marked.{MarkTree, Marking, marked, marked_from, below, marks_of, marks_at, wanted, count_in, marks_in, AreMarked}
+use Rattle.rewriting.specs.inner.Marked.{MarkTree, Marking, marked, marked_from, below, marks_of, marks_at, wanted, count_in, marks_in, AreMarked}
 use Rattle.rewriting.specs.declared.mark.GivenMarks.{GivenMarks}
 use Rattle.edit_change.specs.Change.{payload}
 use Rattle.edit_change.specs.Nesting.{owner}
-use Rattle.edit_plan.specs.OwnerTables.{depth_of, owns_at, AreDependents, AreOwners}
+use Rattle.edit_plan.specs.inner.OwnerTables.{depth_of, owns_at, AreDependents, AreOwners}
 use Rattle.edit_plan.specs.NewTree.{origin, payload_of, dependents}
-use Rattle.edit_plan.specs.Sought.{path_below, sought_one, sought_from, sought_at, registered_at}
-use Rattle.edit_plan.specs.Marks.{marks_given, IsTableOf, element_sought, payload_sought, exchanged, AreMarksFrom}
+use Rattle.edit_plan.specs.inner.Sought.{path_below, sought_one, sought_from, sought_at, registered_at}
+use Rattle.edit_plan.specs.inner.Marks.{marks_given, IsTableOf, element_sought, payload_sought, exchanged, AreMarksFrom}
 use Rattle.edit_change.specs.declared.change.Change.{Change}
 use Rattle.edit_plan.specs.declared.dependent.Dependent.{Dependent}
 use Rattle.edit_plan.specs.declared.sought.SoughtIndex.{SoughtIndex}

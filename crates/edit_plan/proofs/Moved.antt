@@ -25,17 +25,17 @@ use Rattle.cst_core.specs.SyntaxElement.{element_of}
 use Rattle.cst_core.specs.declared.element.SyntaxElement.TheVariants.{Token}
 use Rattle.cst_core.proofs.LastSlot.{parent_path-push, last_slot-push, parent-and-slot}
 use Rattle.rewriting.specs.Aim.{Over}
-use Rattle.rewriting.specs.Aimed.{siblings_from}
+use Rattle.rewriting.specs.inner.Aimed.{siblings_from}
 use Rattle.rewriting.specs.Rewriting.{NumberedAim}
 use Rattle.edit_change.specs.ChangeAim.{position_aim, aim, aim_path}
 use Rattle.edit_change.specs.Position.{anchor}
 use Rattle.edit_change.specs.Fits.{Fits}
 use Rattle.edit_change.specs.Change.{targets}
 use Rattle.edit_change.specs.Nesting.{region, surroundings, is_keeping, is_around, owner, has_owner}
-use Rattle.edit_change.specs.Fate.{fate, owner_in}
+use Rattle.edit_change.specs.inner.Fate.{fate, owner_in}
 use Rattle.edit_change.specs.declared.fate.Fate.{Fate}
-use Rattle.edit_change.specs.AimFrom.{position_aim_from, aim_from, depth}
-use Rattle.edit_plan.specs.OwnerTables.{moved, dependents_in}
+use Rattle.edit_change.specs.inner.AimFrom.{position_aim_from, aim_from, depth}
+use Rattle.edit_plan.specs.inner.OwnerTables.{moved, dependents_in}
 use Rattle.edit_plan.specs.NewTree.{moved_path, moved_aim, targets_of, dependents}
 use Rattle.edit_change.specs.declared.position.Position.{Position}
 use Rattle.edit_change.specs.PositionForm.{FirstChild, After}

@@ -16,13 +16,13 @@ use mathlib.Core.Path.{fun_ext}
 use Rattle.cst_core.specs.Path.{Path, counted_from}
 use Rattle.cst_core.specs.Element.{subtree}
 use Rattle.rewriting.specs.declared.given.Given.{Given}
-use Rattle.rewriting.specs.Given.{given_trees}
-use Rattle.rewriting.specs.Pass.{kind_only, given_by}
+use Rattle.rewriting.specs.inner.Given.{given_trees}
+use Rattle.rewriting.specs.inner.Pass.{kind_only, given_by}
 use Rattle.rewriting.specs.Rewriting.{NumberedAim, numbers, rewritten}
 use Rattle.edit_change.specs.Change.{payload}
 use Rattle.edit_map.specs.Mapping.{Mapping}
-use Rattle.edit_change.specs.AimFrom.{depth}
-use Rattle.edit_plan.specs.OwnerTables.{depth_of, places_in, moved, dependents_in, owns_at, AreDependents, AreOwners, IsGiven, AreGiven, AreGivenFrom, IsFilled}
+use Rattle.edit_change.specs.inner.AimFrom.{depth}
+use Rattle.edit_plan.specs.inner.OwnerTables.{depth_of, places_in, moved, dependents_in, owns_at, AreDependents, AreOwners, IsGiven, AreGiven, AreGivenFrom, IsFilled}
 use Rattle.edit_plan.specs.Places.{ArePlaces}
 use Rattle.edit_plan.specs.NewTree.{plain, payload_of, dependents, given}
 use Rattle.edit_change.specs.declared.change.Change.{Change}

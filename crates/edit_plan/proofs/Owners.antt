@@ -19,8 +19,8 @@ use Rattle.cst_core.specs.SyntaxElement.{element_of}
 use Rattle.cst_core.specs.declared.element.SyntaxElement.{SyntaxElement}
 use Rattle.cst_core.specs.declared.element.SyntaxElement.TheVariants.{Node, Token}
 use Rattle.edit_change.specs.Position.{anchor}
-use Rattle.edit_change.specs.AimFrom.{depth}
-use Rattle.edit_plan.specs.OwnerTables.{depth_of}
+use Rattle.edit_change.specs.inner.AimFrom.{depth}
+use Rattle.edit_plan.specs.inner.OwnerTables.{depth_of}
 use Rattle.edit_change.specs.Nesting.{region, region_of_one, surroundings, is_dropped, region_at, owner, has_owner}
 use Rattle.edit_change.specs.declared.change.Change.{Change}
 use Rattle.edit_change.specs.declared.change.Change.TheVariants.{Insert, InsertAll, Replace, ReplaceWithMany, ReplaceAll}

@@ -13,7 +13,7 @@ use mathlib.Core.Logic.{inl, inr}
 use Rattle.cst_core.specs.Path.{Path}
 use Rattle.edit_map.specs.Mapping.{Mapping}
 use Rattle.edit_change.specs.Nesting.{is_keeping, owner}
-use Rattle.edit_plan.specs.OwnerTables.{path_in, path_at, places_in, IsPlaceOf, FoundSoFar}
+use Rattle.edit_plan.specs.inner.OwnerTables.{path_in, path_at, places_in, IsPlaceOf, FoundSoFar}
 use Rattle.edit_plan.specs.Places.{HasPlace, IsUnplaced, IsFirstUnplaced, FindsPlace}
 use Rattle.edit_change.specs.declared.change.Change.{Change}
 use Rattle.edit_plan.proofs.Moved.{owner-keeps}

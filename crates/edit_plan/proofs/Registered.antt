@@ -9,14 +9,14 @@ use Rattle.std.specs.Global.{Global}
 use Rattle.std.specs.Option.{option_map_or}
 use Rattle.std.proofs.lemmas.List.{append-nil, append_assoc}
 use Rattle.rewriting.specs.declared.mark.Sought.{Sought}
-use Rattle.rewriting.specs.Marked.{Marking, sought_in}
+use Rattle.rewriting.specs.inner.Marked.{Marking, sought_in}
 use Rattle.std.specs.Map.{lookup, KeepsOthers}
 use Rattle.std.proofs.Common.{ap, ap₂, sym, ◌∙◌, arith}
 use Rattle.std.proofs.lemmas.Bool.{cases_Bool, eqb-true, true≢false, eq-eqb}
 use mathlib.Core.Logic.{inl, inr}
 use Rattle.cst_core.specs.Path.{Path, same_path, counted_from}
 use Rattle.cst_core.specs.Element.{Address, same_address}
-use Rattle.edit_plan.specs.Sought.{spot, path_below, sought_one, sought_from}
+use Rattle.edit_plan.specs.inner.Sought.{spot, path_below, sought_one, sought_from}
 use Rattle.edit_plan.specs.declared.sought.Spot.{Spot}
 use Rattle.edit_change.proofs.Paths.{same_path-true, same_path_from}
 

@@ -19,7 +19,7 @@ use Rattle.cst_core.specs.Tree.{SyntaxTree, Forest, Node, Token, at, is_token, f
 use Rattle.cst_core.specs.Element.{Element, IsNode, subtree, address}
 use Rattle.cst_core.specs.declared.element.SyntaxElement.TheVariants as form
 use Rattle.rewriting.specs.Aim.{Aim, FirstIn, Behind, Over, starts_at, replaces}
-use Rattle.rewriting.specs.Pass.{kind_only, given_by}
+use Rattle.rewriting.specs.inner.Pass.{kind_only, given_by}
 use Rattle.rewriting.specs.Rewriting.{NumberedAim, numbers, replacements_at, is_replaced, rewritten, rewritten_from, rewritten_whole}
 use Rattle.rewriting.specs.declared.given.Given.{Given}
 use Rattle.edit_change.specs.ChangeAim.{position_aim, aim}
@@ -27,8 +27,8 @@ use Rattle.edit_change.specs.PositionForm.{FirstChild, After}
 use Rattle.edit_change.specs.declared.position.Position.{Position}
 use Rattle.edit_change.specs.Change.{payload, targets, shared_targets}
 use Rattle.edit_change.specs.Nesting.{pairs_with, first_clash, is_keeping, region, region_at, surroundings, is_around, is_dropped, owner, is_independent}
-use Rattle.edit_plan.specs.OwnerTables.{AreGiven}
-use Rattle.edit_plan.specs.PlanRun.{IsOneNode, BringsNode}
+use Rattle.edit_plan.specs.inner.OwnerTables.{AreGiven}
+use Rattle.edit_plan.specs.inner.PlanRun.{IsOneNode, BringsNode}
 use Rattle.edit_plan.specs.NewTree.{Origin, OriginTree, plain, origin, aims_of, payload_of, dependents, given, independents}
 use Rattle.edit_change.specs.declared.change.Change.{Change}
 use Rattle.edit_change.specs.declared.change.Change.TheVariants.{Insert, InsertAll, Replace, ReplaceWithMany, ReplaceAll}

@@ -5,7 +5,7 @@ use Rattle.cst_core.specs.Element.{Element, address}
 use Rattle.edit_map.proofs.Rows.{R}
 use Rattle.edit_plan.specs.NewTree.{plain, new_tree}
 use Rattle.edit_plan.specs.Results.{annotated_as, found}
-use Rattle.edit_plan.specs.Sought.{sought_from}
+use Rattle.edit_plan.specs.inner.Sought.{sought_from}
 use Rattle.edit_change.specs.Display.{escape, change_text}
 use Rattle.edit_change.specs.declared.change.Change.{Change}
 use Rattle.edit_plan.proofs.RowChanges.{no_places, after, insert, delete, replace, replace_with_many, replace_all, X}

@@ -11,7 +11,7 @@ use Rattle.edit_map.specs.Mapping.{mapped_elements}
 use Rattle.edit_change.specs.Change.{elements}
 use Rattle.edit_plan.specs.Places.{elements_held}
 use Rattle.edit_plan.specs.Plan.{Plan, registered}
-use Rattle.edit_plan.specs.PlanRun.{TellsOf}
+use Rattle.edit_plan.specs.inner.PlanRun.{TellsOf}
 
 module _ {X : Type 0} (R : X → X → Type 0) where
   pub pairs-behind : (x : X) (xs : List X) → AllPairs R (x ∷ xs) → AllPairs R xs

@@ -13,7 +13,7 @@ use mathlib.Core.Path.{fun_ext}
 use Rattle.cst_core.specs.Path.{Path, first_item}
 use Rattle.cst_core.specs.Tree.{Tree, SyntaxTree, relabelled}
 use Rattle.cst_core.specs.Element.{Element, address, subtree}
-use Rattle.rewriting.specs.Pass.{kind_only}
+use Rattle.rewriting.specs.inner.Pass.{kind_only}
 use Rattle.rewriting.specs.Rewriting.{numbers, rewritten, rewritten_whole}
 use Rattle.rewriting.specs.Topmost.{topmost, not_given}
 use Rattle.edit_change.specs.Nesting.{is_independent}

@@ -11,15 +11,10 @@ pub mod Annotation
 pub mod AnnotationTable
 pub mod NewTree
 pub mod Results
-pub mod FirstNode
 pub mod Places
 pub mod Schedule
 pub mod TouchedNodes
 pub mod EditRefusal
 pub mod Plan
-pub mod OwnerTables
-pub mod PlacesRefusal
-pub mod PlanRun
 pub mod RewritingLaws
-pub mod Sought
-pub mod Marks
+pub mod inner

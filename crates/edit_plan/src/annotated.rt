@@ -7,7 +7,7 @@ ghost use Rattle.edit_map.specs.Mapping.{followed, mapped_elements};
 ghost use Rattle.rewriting.specs.Topmost.{paths_of};
 ghost use Rattle.edit_plan.specs.AnnotationTable.{elements_at};
 ghost use Rattle.edit_plan.specs.Results.{paths_with};
-ghost use Rattle.edit_plan.specs.Marks.{annotated_path, numbered_paths, path_lists};
+ghost use Rattle.edit_plan.specs.inner.Marks.{annotated_path, numbered_paths, path_lists};
 
 use crate::annotation::SyntaxAnnotation;
 use crate::annotation_table::AnnotationTable;

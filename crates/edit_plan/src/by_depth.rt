@@ -1,5 +1,5 @@
 ghost use Rattle.std.specs.Prelude.{ℕ, ◌≡◌, ◌≢◌, ◌<◌, ◌++◌, [], ◌∷◌, length, IfOk, OnOk};
-ghost use Rattle.edit_plan.specs.OwnerTables.{depth_of, owners_at, AreOwners};
+ghost use Rattle.edit_plan.specs.inner.OwnerTables.{depth_of, owners_at, AreOwners};
 
 use crate::dependent::Dependent;
 use edit_change::Change;

@@ -1,13 +1,13 @@
 ghost use Rattle.std.specs.Prelude.{ℕ, ◌≡◌, ◌≢◌, ◌<◌, ◌++◌, [], ◌∷◌, map, length, slice_get, option_and_then, All, IfOk, IfSome, OnOk};
 ghost use Rattle.cst_core.specs.Element.{Element};
-ghost use Rattle.rewriting.specs.Aimed.{aims_of};
+ghost use Rattle.rewriting.specs.inner.Aimed.{aims_of};
 ghost use Rattle.edit_change.specs.ChangeAim.{aim, aim_path};
 ghost use Rattle.edit_change.specs.Fits.{Fits};
-ghost use Rattle.edit_change.specs.Fate.{fate};
+ghost use Rattle.edit_change.specs.inner.Fate.{fate};
 ghost use Rattle.edit_change.specs.Nesting.{owner};
 ghost use Rattle.edit_plan.specs.NewTree.{moved_path, moved_aim};
-ghost use Rattle.edit_change.specs.AimFrom.{depth};
-ghost use Rattle.edit_plan.specs.OwnerTables.{places_in, moved, dependents_in, AreDependents};
+ghost use Rattle.edit_change.specs.inner.AimFrom.{depth};
+ghost use Rattle.edit_plan.specs.inner.OwnerTables.{places_in, moved, dependents_in, AreDependents};
 
 use edit_change::{Change, Fate};
 use rewriting::Aimed;

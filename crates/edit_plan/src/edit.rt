@@ -29,7 +29,7 @@ impl Model for SyntaxEdit {
 
     ghost view = { λ a. record { old_root = a.old_root; new_root = a.new_root; changed = a.changed.items; annotated = entries_of a.annotated.lists.entries } };
 
-    ghost use Rattle.edit_plan.specs.PlanRun.{IsNewRoot};
+    ghost use Rattle.edit_plan.specs.inner.PlanRun.{IsNewRoot};
 
     ghost invariant = { λ a. IsNewRoot a.new_root };
 }

@@ -4,7 +4,7 @@ ghost use Rattle.std.specs.Prelude.{ℕ, ◌≡◌, ◌+◌, ◌<◌, [], None, 
 ghost use Rattle.cst_core.specs.Tree.{text_length};
 ghost use Rattle.cst_core.specs.Green.{branch_tree, length_limit};
 ghost use Rattle.cst_core.specs.GreenElement.{element_tree};
-ghost use Rattle.edit_plan.specs.FirstNode.{starts_as, first_from};
+ghost use Rattle.edit_plan.specs.inner.FirstNode.{starts_as, first_from};
 
 use cst_core::{GreenElement, GreenNode, SyntaxKind};
 use std::alloc::{AllocError, Global};

@@ -4,12 +4,12 @@ ghost use Rattle.std.specs.Prelude.{ℕ, List, [], ◌≡◌, ◌<◌, suc, map,
 ghost use Rattle.cst_core.specs.Path.{Path, counted_from};
 ghost use Rattle.cst_core.specs.Element.{subtree};
 ghost use Rattle.cst_core.specs.GreenElement.{element_trees};
-ghost use Rattle.rewriting.specs.Aimed.{aims_of};
-ghost use Rattle.rewriting.specs.Pass.{kind_only, given_by};
+ghost use Rattle.rewriting.specs.inner.Aimed.{aims_of};
+ghost use Rattle.rewriting.specs.inner.Pass.{kind_only, given_by};
 ghost use Rattle.rewriting.specs.Rewriting.{NumberedAim, rewritten};
 ghost use Rattle.edit_change.specs.Change.{payload};
 ghost use Rattle.edit_plan.specs.NewTree.{payload_of};
-ghost use Rattle.edit_plan.specs.OwnerTables.{moved, owns_at, IsFilled, AreDependents, AreGiven, AreGivenFrom};
+ghost use Rattle.edit_plan.specs.inner.OwnerTables.{moved, owns_at, IsFilled, AreDependents, AreGiven, AreGivenFrom};
 
 use crate::by_depth::owners_by_depth;
 use crate::dependent::{Dependent, moved_aims};

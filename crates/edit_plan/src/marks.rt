@@ -4,12 +4,12 @@ ghost use Rattle.std.specs.Prelude.{ℕ, List, [], ◌∷◌, ◌++◌, ◌≡�
 ghost use Rattle.cst_core.specs.Path.{Path, counted_from};
 ghost use Rattle.cst_core.specs.Element.{Address};
 ghost use Rattle.cst_core.specs.SyntaxElement.{element_of};
-ghost use Rattle.rewriting.specs.Aimed.{aims_of};
-ghost use Rattle.rewriting.specs.Marked.{MarkTree, AreMarked, below, marked, marked_from, marks_of};
+ghost use Rattle.rewriting.specs.inner.Aimed.{aims_of};
+ghost use Rattle.rewriting.specs.inner.Marked.{MarkTree, AreMarked, below, marked, marked_from, marks_of};
 ghost use Rattle.edit_change.specs.Change.{payload};
 ghost use Rattle.edit_plan.specs.NewTree.{payload_of};
-ghost use Rattle.edit_plan.specs.OwnerTables.{moved, owns_at, AreDependents};
-ghost use Rattle.edit_plan.specs.Marks.{IsTableOf, element_sought, payload_sought, exchanged, marks_given, AreMarksFrom};
+ghost use Rattle.edit_plan.specs.inner.OwnerTables.{moved, owns_at, AreDependents};
+ghost use Rattle.edit_plan.specs.inner.Marks.{IsTableOf, element_sought, payload_sought, exchanged, marks_given, AreMarksFrom};
 
 use crate::by_depth::owners_by_depth;
 use crate::dependent::{Dependent, moved_aims};

@@ -4,11 +4,11 @@ ghost use Rattle.std.specs.Prelude.{ℕ, true, ◌≡◌, ◌<◌, ◌↔◌, ma
 ghost use Rattle.cst_core.specs.Path.{Path};
 ghost use Rattle.cst_core.specs.declared.element.SyntaxElement.TheVariants.{Node};
 ghost use Rattle.edit_map.specs.Mapping.{Mapping};
-ghost use Rattle.edit_change.specs.Fate.{fate};
+ghost use Rattle.edit_change.specs.inner.Fate.{fate};
 ghost use Rattle.edit_change.specs.Nesting.{is_keeping};
 ghost use Rattle.edit_plan.specs.Places.{HasPlace, ArePlaces};
-ghost use Rattle.edit_plan.specs.OwnerTables.{path_in, path_at, places_in, IsPlaceOf, IsPlaced};
-ghost use Rattle.edit_plan.specs.PlacesRefusal.{PlacesRefuse};
+ghost use Rattle.edit_plan.specs.inner.OwnerTables.{path_in, path_at, places_in, IsPlaceOf, IsPlaced};
+ghost use Rattle.edit_plan.specs.inner.PlacesRefusal.{PlacesRefuse};
 ghost use Rattle.edit_change.specs.declared.change.Change.{Change};
 ghost use Rattle.edit_change.specs.declared.change.Change.TheVariants.{Replace};
 

@@ -29,7 +29,7 @@ pub struct EditPlan {
 
 impl Model for EditPlan {
     ghost use Rattle.edit_plan.specs.Plan.{Plan, plan_code};
-    ghost use Rattle.edit_plan.specs.PlanRun.{IsPlanned};
+    ghost use Rattle.edit_plan.specs.inner.PlanRun.{IsPlanned};
 
     ghost Value = { Plan };
 

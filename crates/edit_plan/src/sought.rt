@@ -3,8 +3,8 @@
 ghost use Rattle.std.specs.Prelude.{◌≡◌, ◌++◌, ℕ, cond, [], ◌∷◌, map, IfOk, OnOk};
 ghost use Rattle.cst_core.specs.Element.{Address, address, same_address};
 ghost use Rattle.cst_core.specs.SyntaxElement.{element_of};
-ghost use Rattle.rewriting.specs.Marked.{sought_as, sought_in};
-ghost use Rattle.edit_plan.specs.Sought.{addresses, spot, sought_one, sought_from, sought_at};
+ghost use Rattle.rewriting.specs.inner.Marked.{sought_as, sought_in};
+ghost use Rattle.edit_plan.specs.inner.Sought.{addresses, spot, sought_one, sought_from, sought_at};
 
 use cst_core::SyntaxElement;
 use rewriting::Sought;

@@ -7,7 +7,7 @@ use Rattle.green_tree.specs.Path.{Path, first_item, last_item}
 use Rattle.green_tree.specs.Tree.{SyntaxTree, at, trees, forest}
 use Rattle.green_tree.specs.Order.{token_paths, tokens_before}
 use Rattle.green_tree.specs.Green.{Leaf, leaf_tree, Branch, branch_tree}
-use Rattle.green_tree.specs.FoundToken.{FindsToken}
+use Rattle.green_tree.specs.inner.FoundToken.{FindsToken}
 use Rattle.green_tree.specs.GreenElement.{element_trees, element_tree}
 use Rattle.green_tree.specs.declared.green.GreenElement.{GreenElement}
 use Rattle.green_tree.specs.declared.green.GreenElement.TheVariants as element

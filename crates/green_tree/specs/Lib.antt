@@ -4,6 +4,5 @@ pub mod Order
 pub mod Kind
 pub mod Green
 pub mod GreenElement
-pub mod GreenSize
 pub mod GreenElementRef
-pub mod FoundToken
+pub mod inner

@@ -74,7 +74,7 @@ impl Model for GreenNode {
     ghost size = { branch_size };
 
     ghost use Rattle.std.proofs.Common.{arith};
-    ghost use Rattle.green_tree.specs.GreenSize.{most_le};
+    ghost use Rattle.green_tree.specs.inner.GreenSize.{most_le};
 
     ghost size_decreases = { λ a h. omega (arith, most_le a.data.value.children.items) };
 }

@@ -2,7 +2,7 @@ ghost use Rattle.std.specs.Prelude.{◌≡◌, ◌≤◌, [], ◌∷◌, length,
 ghost use Rattle.green_tree.specs.Tree.{at};
 ghost use Rattle.green_tree.specs.Order.{first_token, last_token_before};
 ghost use Rattle.green_tree.specs.Green.{branch_tree};
-ghost use Rattle.green_tree.specs.FoundToken.{FindsFirst, FindsLastBefore, IsTokenOf, path_found};
+ghost use Rattle.green_tree.specs.inner.FoundToken.{FindsFirst, FindsLastBefore, IsTokenOf, path_found};
 
 use crate::green::{GreenElement, GreenNode, GreenToken};
 use std::alloc::{AllocError, Global};

@@ -17,7 +17,7 @@ use Rattle.cst_core.specs.Green.{size, forest_size}
 use Rattle.cst_core.specs.Kinds.{WHITESPACE}
 use Rattle.indentation.specs.Level.{newline, is_newline, has_newline}
 use Rattle.indentation.specs.Indentation.{forest_with_texts}
-use Rattle.indentation.specs.Shift.{shifted_text, shifted, ShiftRefuses}
+use Rattle.indentation.specs.inner.Shift.{shifted_text, shifted, ShiftRefuses}
 use Rattle.indentation.specs.declared.indent_error.IndentError.{IndentError}
 use Rattle.indentation.specs.declared.indent_error.IndentError.TheVariants.{LevelTooLarge, TooLong, NoTreeNumber, NotYounger, Memory}
 use Rattle.indentation.specs.declared.shift.Shift.{Shift}

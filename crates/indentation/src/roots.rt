@@ -2,7 +2,7 @@
 ghost use Rattle.std.specs.Prelude.{◌≡◌, ◌+◌, ◌<◌, IfOk, IfErr, OnOk, OnErr};
 ghost use Rattle.cst_core.specs.Element.{subtree};
 ghost use Rattle.indentation.specs.Indentation.{indented, dedented};
-ghost use Rattle.indentation.specs.Shift.{shifted};
+ghost use Rattle.indentation.specs.inner.Shift.{shifted};
 ghost use Rattle.indentation.specs.IndentCalls.{fresh_root, CanBeRoot, RootRefuses};
 
 use crate::indent_error::IndentError;

@@ -7,7 +7,7 @@ ghost use Rattle.cst_core.specs.Green.{branch_tree, leaf_tree};
 ghost use Rattle.cst_core.specs.Kinds.{WHITESPACE};
 ghost use Rattle.indentation.specs.Level.{newline, has_newline};
 ghost use Rattle.indentation.specs.Indentation.{indented_text, dedented_line, dedented_text};
-ghost use Rattle.indentation.specs.Shift.{shifted_text, shifted, ShiftRefuses};
+ghost use Rattle.indentation.specs.inner.Shift.{shifted_text, shifted, ShiftRefuses};
 
 use crate::indent_error::IndentError;
 use crate::level::{IndentLevel, last_line};

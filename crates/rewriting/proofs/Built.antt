@@ -14,7 +14,7 @@ use Rattle.rewriting.specs.Rewriting.{NumberedAim}
 use Rattle.rewriting.specs.declared.aimed.Aimed.{Aimed}
 use Rattle.rewriting.specs.declared.aimed.AimForm.{AimForm}
 use Rattle.rewriting.specs.declared.aimed.AimForm.TheVariants.{FirstIn, Behind, Over}
-use Rattle.rewriting.specs.Aimed.{Placed, placed, aim_in, of_placed, aims_of, some_path, has_parent, seen_from, and_those, placed_below}
+use Rattle.rewriting.specs.inner.Aimed.{Placed, placed, aim_in, of_placed, aims_of, some_path, has_parent, seen_from, and_those, placed_below}
 use Rattle.rewriting.specs.Effort.{inside, touched, touched_from, parents_of}
 
 -- ---- the parents of aims that are seen from a child

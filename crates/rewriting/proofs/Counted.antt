@@ -7,7 +7,7 @@ use Rattle.green_tree.specs.Path.{Path}
 use Rattle.green_tree.specs.Tree.{SyntaxTree, Forest, Token, Node, end, more, forest, node}
 use Rattle.rewriting.specs.Rewriting.{NumberedAim, is_replaced}
 use Rattle.rewriting.specs.declared.aimed.Aimed.{Aimed}
-use Rattle.rewriting.specs.Aimed.{placed, of_placed, aims_of, some_path, has_parent, placed_below}
+use Rattle.rewriting.specs.inner.Aimed.{placed, of_placed, aims_of, some_path, has_parent, placed_below}
 use Rattle.rewriting.specs.Effort.{inside, parents_of, built, built_from, nodes_built, counted}
 use Rattle.rewriting.proofs.Built.{parents-below, some-parents}
 use Rattle.rewriting.proofs.SeenBelow.{Shifted, below_shifted, aims-placed}

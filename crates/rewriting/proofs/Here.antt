@@ -8,8 +8,8 @@ use Rattle.rewriting.specs.Aim.{starts_at, replaces}
 use Rattle.rewriting.specs.Aim as aim
 use Rattle.rewriting.specs.declared.aimed.AimForm.{AimForm}
 use Rattle.rewriting.specs.declared.aimed.AimForm.TheVariants.{Over}
-use Rattle.rewriting.specs.Aimed.{aim_in, has_parent}
-use Rattle.rewriting.specs.Groups.{reaches}
+use Rattle.rewriting.specs.inner.Aimed.{aim_in, has_parent}
+use Rattle.rewriting.specs.inner.Groups.{reaches}
 
 -- ---- a range of slots
 own : (b x : Bool) → b ≡ false → ((b && true) || x) ≡ x

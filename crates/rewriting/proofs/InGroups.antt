@@ -13,8 +13,8 @@ use Rattle.rewriting.specs.Rewriting.{gap, gap_order, numbers, inserts_at, repla
 use Rattle.rewriting.specs.declared.aimed.AimForm.{AimForm}
 use Rattle.rewriting.specs.declared.aimed.AimForm.TheVariants.{FirstIn, Behind, Over}
 use Rattle.rewriting.specs.declared.aimed.Aimed.{Aimed}
-use Rattle.rewriting.specs.Aimed.{aim_in, Placed, placed, numbered, aims_of, seen_from, and_those, placed_below}
-use Rattle.rewriting.specs.Groups.{reaches, concerns}
+use Rattle.rewriting.specs.inner.Aimed.{aim_in, Placed, placed, numbered, aims_of, seen_from, and_those, placed_below}
+use Rattle.rewriting.specs.inner.Groups.{reaches, concerns}
 use Rattle.rewriting.proofs.Here.{range_deeper, start_deeper, first_false, second_false}
 
 and-true : (b : Bool) → b ≡ false → (b && true) ≡ false

@@ -7,7 +7,7 @@ use Rattle.green_tree.specs.Path.{Path}
 use Rattle.green_tree.specs.Tree.{Forest, Token, Node, end, more, Tree, trees, forest, node, paths, paths_from, relabelled, forest_relabelled}
 use Rattle.green_tree.proofs.Parts.{slice_get-drop, drop-rest}
 use Rattle.rewriting.proofs.Children.{trees-forest}
-use Rattle.rewriting.specs.Marked.{MarkTree, Marking, marks_on, marked, marked_from, below, moved}
+use Rattle.rewriting.specs.inner.Marked.{MarkTree, Marking, marks_on, marked, marked_from, below, moved}
 
 -- ---- one child
 own_marks : (i : ℕ) (p : Path) (ns : List ℕ) → map (λ m. (m, i ∷ p)) ns ≡ map (below (i ∷ [])) (map (λ m. (m, p)) ns)

@@ -4,7 +4,7 @@ use Rattle.std.proofs.Common.{ap, sym, ◌∙◌, arith}
 use Rattle.std.proofs.lemmas.List.{append_assoc, length-append}
 use Rattle.green_tree.specs.Path.{Path}
 use Rattle.rewriting.specs.declared.mark.GivenMarks.{GivenMarks}
-use Rattle.rewriting.specs.Marked.{MarkTree, Marking, AreMarked, count_in, marks_in, moved}
+use Rattle.rewriting.specs.inner.Marked.{MarkTree, Marking, AreMarked, count_in, marks_in, moved}
 use Rattle.rewriting.proofs.ChildByChild.{IsShown}
 use Rattle.rewriting.proofs.Marks.{shown, shown-append, shown-moved}
 

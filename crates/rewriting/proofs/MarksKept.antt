@@ -5,7 +5,7 @@ use Rattle.std.proofs.lemmas.List.{append_assoc, append-nil, map-append}
 use Rattle.green_tree.specs.Path.{Path, same_path}
 use Rattle.green_tree.specs.Tree.{SyntaxTree, Token, forest, node}
 use Rattle.rewriting.specs.Rewriting.{NumberedAim, rewritten, rewritten_from}
-use Rattle.rewriting.specs.Marked.{MarkTree, Marking, marked, below, marks_at, wanted, seen_below, sought_below}
+use Rattle.rewriting.specs.inner.Marked.{MarkTree, Marking, marked, below, marks_at, wanted, seen_below, sought_below}
 use Rattle.rewriting.proofs.Marks.{shown, marks-parent, marks-token}
 
 -- ---- as they are seen from a child

@@ -3,9 +3,9 @@ use Rattle.std.specs.Prelude.{◌≡◌, ℕ, Bool, true, cond, nat_eq, List, []
 use Rattle.green_tree.specs.Tree.{Tree, SyntaxTree, Token, node}
 use Rattle.rewriting.specs.Aim.{FirstIn, Over}
 use Rattle.rewriting.specs.Rewriting.{NumberedAim, rewritten}
-use Rattle.rewriting.specs.Aimed.{siblings_from}
+use Rattle.rewriting.specs.inner.Aimed.{siblings_from}
 use Rattle.rewriting.specs.Topmost.{topmost, not_given}
-use Rattle.rewriting.specs.Marked.{MarkTree, Marking, marked, wanted}
+use Rattle.rewriting.specs.inner.Marked.{MarkTree, Marking, marked, wanted}
 
 three_siblings : siblings_from (1 ∷ []) 3 ≡ (1 ∷ []) ∷ (2 ∷ []) ∷ (3 ∷ []) ∷ []
 three_siblings = refl

@@ -10,7 +10,7 @@ use Rattle.rewriting.specs.Rewriting.{NumberedAim, numbers, inserts_at, replacem
 use Rattle.rewriting.specs.declared.aimed.AimForm.{AimForm}
 use Rattle.rewriting.specs.declared.aimed.AimForm.TheVariants.{FirstIn, Behind, Over}
 use Rattle.rewriting.specs.declared.aimed.Aimed.{Aimed}
-use Rattle.rewriting.specs.Aimed.{aim_in, Placed, placed, of_placed, aims_of, seen_from, and_those, placed_below}
+use Rattle.rewriting.specs.inner.Aimed.{aim_in, Placed, placed, of_placed, aims_of, seen_from, and_those, placed_below}
 
 -- ---- two lists of aims, of which one says below a slot what the other says
 pub record Shifted (cs ds : List NumberedAim) (i : ℕ) : Type 0 where

@@ -9,8 +9,8 @@ use Rattle.rewriting.specs.Rewriting.{NumberedAim, numbers, inserts_at, replacem
 use Rattle.rewriting.specs.declared.aimed.AimForm.{AimForm}
 use Rattle.rewriting.specs.declared.aimed.AimForm.TheVariants.{FirstIn, Behind, Over}
 use Rattle.rewriting.specs.declared.aimed.Aimed.{Aimed}
-use Rattle.rewriting.specs.Aimed.{aim_in, numbered, aims_of, has_parent}
-use Rattle.rewriting.specs.Pass.{kind_only}
+use Rattle.rewriting.specs.inner.Aimed.{aim_in, numbered, aims_of, has_parent}
+use Rattle.rewriting.specs.inner.Pass.{kind_only}
 use Rattle.rewriting.proofs.Here.{over_some, first_false, second_false}
 use Rattle.rewriting.proofs.SeenBelow.{no_end}
 

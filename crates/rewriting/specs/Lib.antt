@@ -1,10 +1,5 @@
 pub mod Aim
 pub mod Rewriting
 pub mod Effort
-pub mod Aimed
-pub mod Groups
-pub mod Few
-pub mod Given
-pub mod Pass
 pub mod Topmost
-pub mod Marked
+pub mod inner

@@ -2,8 +2,8 @@ ghost use Rattle.std.specs.Prelude.{ℕ, ◌<◌, ◌≤◌, ◌+◌, ◌≡◌,
 ghost use Rattle.std.specs.List.{list_any};
 ghost use Rattle.rewriting.specs.Rewriting.{is_replaced};
 ghost use Rattle.rewriting.specs.declared.aimed.Aimed.{Aimed};
-ghost use Rattle.rewriting.specs.Aimed.{aims_of, has_parent, placed, placed_below};
-ghost use Rattle.rewriting.specs.Groups.{concerns};
+ghost use Rattle.rewriting.specs.inner.Aimed.{aims_of, has_parent, placed, placed_below};
+ghost use Rattle.rewriting.specs.inner.Groups.{concerns};
 
 use crate::aimed::Aimed;
 use crate::group::Group;

@@ -1,7 +1,7 @@
 ghost use Rattle.std.specs.Prelude.{ℕ, ◌<◌, ◌≤◌, ◌+◌, ◌≡◌, Bool, true, false, [], ◌∷◌, suc, not};
 ghost use Rattle.rewriting.specs.Aim.{FirstIn, Behind, Over, aims_at_gap, starts_at, replaces};
-ghost use Rattle.rewriting.specs.Aimed.{aim_in, siblings_from, placed, numbered, option_placed, seen_from, has_parent};
-ghost use Rattle.rewriting.specs.Groups.{concerns};
+ghost use Rattle.rewriting.specs.inner.Aimed.{aim_in, siblings_from, placed, numbered, option_placed, seen_from, has_parent};
+ghost use Rattle.rewriting.specs.inner.Groups.{concerns};
 
 /// Where something aims, from the element at a path.
 #[derive(Clone, Copy)]

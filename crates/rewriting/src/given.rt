@@ -1,6 +1,6 @@
 ghost use Rattle.std.specs.Prelude.{◌≡◌, ◌++◌, length, IfOk, OnOk};
 ghost use Rattle.green_tree.specs.GreenElement.{element_trees};
-ghost use Rattle.rewriting.specs.Given.{given_trees};
+ghost use Rattle.rewriting.specs.inner.Given.{given_trees};
 
 use green_tree::{GreenElement, GreenElementRef};
 use std::alloc::{AllocError, Global};

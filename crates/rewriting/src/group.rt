@@ -15,7 +15,7 @@ pub(crate) struct Group<'a> {
 impl<'a> Model for Group<'a> {
     ghost use Rattle.std.specs.Prelude.{List};
     ghost use Rattle.rewriting.specs.declared.aimed.Aimed.{Aimed};
-    ghost use Rattle.rewriting.specs.Few.{aims_in};
+    ghost use Rattle.rewriting.specs.inner.Few.{aims_in};
 
     ghost Value = { List Aimed };
 

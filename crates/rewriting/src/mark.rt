@@ -1,6 +1,6 @@
 ghost use Rattle.std.specs.Global.{Global};
 ghost use Rattle.std.specs.Prelude.{ℕ, ◌<◌, ◌+◌, ◌≡◌, ◌≢◌, ◌++◌, Vec, [], ◌∷◌, map, length, get_or, IfOk, OnOk};
-ghost use Rattle.rewriting.specs.Marked.{marks_of, sought_in, marks_at, seen_below, sought_below, shifted, moved, count_in, marks_in};
+ghost use Rattle.rewriting.specs.inner.Marked.{marks_of, sought_in, marks_at, seen_below, sought_below, shifted, moved, count_in, marks_in};
 ghost use Rattle.rewriting.specs.declared.mark.Sought.{Sought};
 
 use crate::topmost::added;

@@ -2,8 +2,8 @@ ghost use Rattle.std.specs.Prelude.{ℕ, ◌+◌, ◌≡◌, ◌++◌, false, Li
 ghost use Rattle.std.specs.List.{list_any};
 ghost use Rattle.green_tree.specs.GreenElement.{element_tree};
 ghost use Rattle.rewriting.specs.Rewriting.{inserts_at, replacements_at, gap_order, rewritten, rewritten_whole};
-ghost use Rattle.rewriting.specs.Aimed.{aims_of, has_parent};
-ghost use Rattle.rewriting.specs.Marked.{MarkTree, AreMarked, marked, marked_from, below, marks_of, sought_in, wanted};
+ghost use Rattle.rewriting.specs.inner.Aimed.{aims_of, has_parent};
+ghost use Rattle.rewriting.specs.inner.Marked.{MarkTree, AreMarked, marked, marked_from, below, marks_of, sought_in, wanted};
 
 use crate::aim_list::{alter_some, below, grouped, is_replaced, top_is_replaced};
 use crate::aimed::Aimed;

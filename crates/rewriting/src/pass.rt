@@ -3,8 +3,8 @@ ghost use Rattle.green_tree.specs.Tree.{node};
 ghost use Rattle.green_tree.specs.GreenElement.{element_tree, element_trees};
 ghost use Rattle.rewriting.specs.Rewriting.{gap, replacements_at, rewritten, rewritten_whole};
 ghost use Rattle.rewriting.specs.Effort.{counted, nodes_built, nodes_built_whole, touched, parents_of};
-ghost use Rattle.rewriting.specs.Aimed.{aims_of};
-ghost use Rattle.rewriting.specs.Pass.{kind_only, given_by};
+ghost use Rattle.rewriting.specs.inner.Aimed.{aims_of};
+ghost use Rattle.rewriting.specs.inner.Pass.{kind_only, given_by};
 
 use crate::aim_list::{alter_some, below, grouped, is_replaced, top_is_replaced};
 use crate::aimed::Aimed;

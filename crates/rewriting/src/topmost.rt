@@ -3,7 +3,7 @@ ghost use Rattle.green_tree.specs.Path.{counted_from};
 ghost use Rattle.green_tree.specs.Tree.{Tree};
 ghost use Rattle.green_tree.specs.GreenElement.{element_tree};
 ghost use Rattle.rewriting.specs.Rewriting.{inserts_at, replacements_at, rewritten, rewritten_whole};
-ghost use Rattle.rewriting.specs.Aimed.{aims_of};
+ghost use Rattle.rewriting.specs.inner.Aimed.{aims_of};
 ghost use Rattle.rewriting.specs.Topmost.{topmost, count_of, AreCounted, not_given, paths_of};
 
 use crate::aim_list::{alter_some, below, grouped, is_replaced, top_is_replaced};

@@ -1,2 +1,2 @@
-pub mod Name
 pub mod Ends
+pub mod inner

@@ -1,5 +1,5 @@
 ghost use Rattle.std.specs.Prelude.{◌≡◌, ◌↔◌, IsSome, IfSome};
-ghost use Rattle.syned_run.specs.Name.{IsName};
+ghost use Rattle.syned_run.specs.inner.Name.{IsName};
 
 /// How many characters a name has at most.
 const NAME_LIMIT: usize = 32;

@@ -29,7 +29,7 @@ use Rattle.edit_change.specs.declared.change.Change.TheVariants.{Insert, InsertA
 use Rattle.edit_plan.specs.Fits.{Fits}
 use Rattle.syntax_editor.specs.declared.replace_index.Replaced.{Replaced}
 use Rattle.syntax_editor.specs.Recording.{replacement_of, is_replace_of, with_replacement, replace, delete, is_deleted}
-use Rattle.syntax_editor.specs.Indexing.{is_replace, replacement_at, replacements_at, is_replace_at, replaced_at, as_deleted, replace_at, delete_at}
+use Rattle.syntax_editor.specs.inner.Indexing.{is_replace, replacement_at, replacements_at, is_replace_at, replaced_at, as_deleted, replace_at, delete_at}
 use Rattle.syntax_editor.proofs.Addresses.{same_path-true, same_path_from}
 use Rattle.syntax_editor.proofs.Absorbed.{test_of}
 use Rattle.syntax_editor.proofs.Fitting.{native_number, native_target}

@@ -16,7 +16,7 @@ use Rattle.cst_core.specs.declared.element.SyntaxElement.{SyntaxElement}
 use Rattle.edit_change.specs.declared.change.Change.{Change}
 use Rattle.edit_change.specs.declared.change.Change.TheVariants.{Insert, InsertAll, Replace, ReplaceWithMany, ReplaceAll}
 use Rattle.syntax_editor.specs.declared.replace_index.Replaced.{Replaced}
-use Rattle.syntax_editor.specs.Indexing.{is_replace, replacement_at, replacements_at, is_replace_at, replaced_at, as_deleted}
+use Rattle.syntax_editor.specs.inner.Indexing.{is_replace, replacement_at, replacements_at, is_replace_at, replaced_at, as_deleted}
 use Rattle.syntax_editor.proofs.Addresses.{same_path-true}
 use Rattle.syntax_editor.proofs.Indexed.{stated, unsaid, here, there, nothing-said, something-said, added-agrees}
 use Rattle.syntax_editor.proofs.Positions.{position-here, position-behind}

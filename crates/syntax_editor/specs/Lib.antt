@@ -13,10 +13,9 @@ pub mod RecordCall
 pub mod RecordRefusal
 pub mod AttrsAndDocs
 pub mod Spacing
-pub mod SpaceRule
 pub mod SpacingCalls
 pub mod Editor
 pub mod Merging
 pub mod Lending
-pub mod Indexing
 pub mod EditorLaws
+pub mod inner

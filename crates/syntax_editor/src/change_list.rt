@@ -6,7 +6,7 @@ ghost use Rattle.cst_core.specs.declared.element.SyntaxElement.{SyntaxElement};
 ghost use Rattle.edit_change.specs.declared.change.Change.{Change};
 ghost use Rattle.edit_change.specs.declared.change.Change.TheVariants.{Replace};
 ghost use Rattle.syntax_editor.specs.Recording.{with_replacement, merged};
-ghost use Rattle.syntax_editor.specs.Indexing.{is_replace, is_replace_at, replacements_at, replace_at, delete_at, delete_each_at, room, Agrees};
+ghost use Rattle.syntax_editor.specs.inner.Indexing.{is_replace, is_replace_at, replacements_at, replace_at, delete_at, delete_each_at, room, Agrees};
 
 use crate::replace_index::{ReplaceIndex, Replaced};
 use cst_core::SyntaxElement;
@@ -27,7 +27,7 @@ impl Model for ChangeList {
     ghost use Rattle.std.specs.Coded.{coded_list};
     ghost use Rattle.edit_change.specs.declared.change.Change.{Change};
     ghost use Rattle.edit_plan.specs.ChangeCodes.{change_code};
-    ghost use Rattle.syntax_editor.specs.Indexing.{Agrees};
+    ghost use Rattle.syntax_editor.specs.inner.Indexing.{Agrees};
 
     ghost Value = { List Change };
 

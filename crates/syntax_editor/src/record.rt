@@ -3,7 +3,7 @@ ghost use Rattle.std.specs.Prelude.{◌≡◌, false, ◌&&◌, ◌||◌, not, [
 ghost use Rattle.cst_core.specs.Element.{Element};
 ghost use Rattle.edit_plan.specs.Fits.{Fits, is_native, is_root, is_one_node};
 ghost use Rattle.syntax_editor.specs.Recording.{is_deleted};
-ghost use Rattle.syntax_editor.specs.Indexing.{is_replace};
+ghost use Rattle.syntax_editor.specs.inner.Indexing.{is_replace};
 ghost use Rattle.syntax_editor.specs.RecordCall.{Inserting, InsertingAll, Deleting, Replacing, ReplacingWithMany, DeletingAll, ReplacingAll, refusal};
 ghost use Rattle.syntax_editor.specs.Editor.{after_call, RecordRefuses};
 

@@ -1,6 +1,6 @@
 ghost use Rattle.std.specs.Prelude.{◌≡◌, ◌<◌, ◌≤◌, ◌+◌, cond, Some, None, OnOk, OnErr};
 ghost use Rattle.cst_core.specs.Path.{Path, same_path};
-ghost use Rattle.syntax_editor.specs.Indexing.{found, as_deleted, room};
+ghost use Rattle.syntax_editor.specs.inner.Indexing.{found, as_deleted, room};
 
 use std::alloc::{AllocError, Global};
 use std::collections::HashMap;

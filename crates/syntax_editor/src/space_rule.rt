@@ -1,7 +1,7 @@
 //! The table of the whitespace between two elements.
 ghost use Rattle.std.specs.Prelude.{ℕ, ◌≡◌};
 ghost use Rattle.syntax_editor.specs.Spacing.{between, opens_list, is_statement};
-ghost use Rattle.syntax_editor.specs.SpaceRule.{space_by};
+ghost use Rattle.syntax_editor.specs.inner.SpaceRule.{space_by};
 
 use cst_core::SyntaxKind;
 

@@ -1,7 +1,7 @@
 use Rattle.std.proofs.Common.{[], sym, ◌∙◌, ap}
 use Rattle.std.specs.Option.{option_map_or}
 use Rattle.cst_core.specs.Path.{up_to}
-use Rattle.edit_change.specs.Fate.{fate_within}
+use Rattle.edit_change.specs.inner.Fate.{fate_within}
 use Rattle.edit_change.proofs.Regions.{fate-is}
 use Rattle.edit_change.proofs.fate.fate_of.Goals as goal
 

@@ -1,5 +1,5 @@
 use Rattle.std.proofs.Common.{◌≡◌, map, take}
-use Rattle.edit_change.specs.Fate.{fate}
+use Rattle.edit_change.specs.inner.Fate.{fate}
 use Rattle.edit_change.proofs.fate.fates.Given as goal
 
 abbrev pub invariant-loop-change : goal.invariant-loop-change

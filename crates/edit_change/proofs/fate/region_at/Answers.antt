@@ -4,7 +4,7 @@ use Rattle.std.proofs.lemmas.List.Quantifiers.{position-Some}
 use Rattle.cst_core.specs.Path.{Path, has_path}
 use Rattle.edit_change.specs.Change.{targets}
 use Rattle.edit_change.specs.Nesting.{region, region_at}
-use Rattle.edit_change.specs.TargetIndex.{target_at, IsApart}
+use Rattle.edit_change.specs.inner.TargetIndex.{target_at, IsApart}
 use Rattle.edit_change.specs.declared.change.Change.{Change}
 use Rattle.edit_change.proofs.Clashes.{at-index}
 use Rattle.edit_change.proofs.Regions.{region-here, region-none}

@@ -1,5 +1,5 @@
 use Rattle.std.proofs.Common.{◌≡◌, ℕ, [], length}
-use Rattle.edit_plan.specs.OwnerTables.{owners_at}
+use Rattle.edit_plan.specs.inner.OwnerTables.{owners_at}
 use Rattle.edit_plan.proofs.by_depth.empty_lists.Given as goal
 
 abbrev pub invariant-loop : goal.invariant-loop

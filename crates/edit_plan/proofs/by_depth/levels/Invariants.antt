@@ -1,5 +1,5 @@
 use Rattle.std.proofs.Common.{ℕ, ◌<◌}
-use Rattle.edit_plan.specs.OwnerTables.{depth_of}
+use Rattle.edit_plan.specs.inner.OwnerTables.{depth_of}
 use Rattle.edit_plan.proofs.by_depth.levels.Given as goal
 
 abbrev pub invariant-loop-change : goal.invariant-loop-change

@@ -1,5 +1,5 @@
 use Rattle.std.proofs.Common.{◌≡◌, ◌<◌, ◌+◌, ◌∙◌, ℕ, map, length, sym, ap, subst}
-use Rattle.edit_plan.specs.OwnerTables.{depth_of, moved, dependents_in, owners_at}
+use Rattle.edit_plan.specs.inner.OwnerTables.{depth_of, moved, dependents_in, owners_at}
 use Rattle.edit_plan.proofs.Levels.{owners-so-far, passed-over, entered, empty-none, some-mapped}
 use Rattle.edit_plan.proofs.Nested.{depth-at, owned-at}
 use Rattle.edit_plan.proofs.by_depth.owners_by_depth.Goals as goal

@@ -1,7 +1,7 @@
 use Rattle.std.proofs.Common.{subst, sym}
-use Rattle.rewriting.specs.Marked.{AreMarked}
-use Rattle.edit_plan.specs.Sought.{addresses}
-use Rattle.edit_plan.specs.Marks.{marks_given}
+use Rattle.rewriting.specs.inner.Marked.{AreMarked}
+use Rattle.edit_plan.specs.inner.Sought.{addresses}
+use Rattle.edit_plan.specs.inner.Marks.{marks_given}
 use Rattle.edit_plan.proofs.copies.copies.Goals as goal
 
 pub returns-clause-copies : goal.returns-clause-copies

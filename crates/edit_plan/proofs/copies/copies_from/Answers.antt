@@ -1,7 +1,7 @@
 use Rattle.std.proofs.Common.{ap, ◌∙◌, map}
-use Rattle.rewriting.specs.Marked.{marks_of, marked_from}
-use Rattle.edit_plan.specs.Marks.{with_marks}
-use Rattle.edit_plan.specs.Sought.{addresses}
+use Rattle.rewriting.specs.inner.Marked.{marks_of, marked_from}
+use Rattle.edit_plan.specs.inner.Marks.{with_marks}
+use Rattle.edit_plan.specs.inner.Sought.{addresses}
 use Rattle.edit_plan.proofs.CopiesFound.{all-copies}
 use Rattle.edit_plan.proofs.copies.copies_from.Goals as goal
 

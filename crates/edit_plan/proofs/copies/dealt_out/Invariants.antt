@@ -1,8 +1,8 @@
 use Rattle.std.proofs.Common.{◌≡◌, ℕ, ◌<◌, ◌++◌, length, get_or, drop, Vec}
 use Rattle.std.specs.Global.{Global}
-use Rattle.rewriting.specs.Marked.{marks_of}
+use Rattle.rewriting.specs.inner.Marked.{marks_of}
 use Rattle.rewriting.specs.Topmost.{paths_of}
-use Rattle.edit_plan.specs.Marks.{paths_of_mark}
+use Rattle.edit_plan.specs.inner.Marks.{paths_of_mark}
 use Rattle.edit_plan.proofs.copies.dealt_out.Given as goal
 
 abbrev pub invariant-loop-mark : goal.invariant-loop-mark

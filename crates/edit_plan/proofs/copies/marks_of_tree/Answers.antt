@@ -1,11 +1,11 @@
 use Rattle.std.proofs.Common.{ap, ap₂, ◌∙◌}
 use Rattle.cst_core.specs.GreenElement.{element_tree}
-use Rattle.rewriting.specs.Aimed.{aims_of}
+use Rattle.rewriting.specs.inner.Aimed.{aims_of}
 use Rattle.cst_core.specs.Element.{address, subtree}
-use Rattle.rewriting.specs.Marked.{marked_from, wanted, sought_in}
+use Rattle.rewriting.specs.inner.Marked.{marked_from, wanted, sought_in}
 use Rattle.rewriting.specs.Rewriting.{rewritten_whole}
-use Rattle.edit_plan.specs.Marks.{marks_given}
-use Rattle.edit_plan.specs.Sought.{sought_at}
+use Rattle.edit_plan.specs.inner.Marks.{marks_given}
+use Rattle.edit_plan.specs.inner.Sought.{sought_at}
 use Rattle.edit_plan.proofs.CopiesFound.{tree-marked}
 use Rattle.edit_plan.proofs.copies.marks_of_tree.Goals as goal
 

@@ -1,6 +1,6 @@
 use Rattle.std.proofs.Common.{◌≡◌, ◌+◌, ◌∙◌, ℕ, length, Some, ap, sym, subst}
 use Rattle.edit_change.specs.ChangeAim.{aim, aim_path}
-use Rattle.edit_plan.specs.OwnerTables.{places_in, moved, dependents_in}
+use Rattle.edit_plan.specs.inner.OwnerTables.{places_in, moved, dependents_in}
 use Rattle.edit_plan.specs.NewTree.{moved_aim}
 use Rattle.edit_plan.proofs.Moved.{dependents-to, dependents-whole, none-at, one-entered, change-at, owner-is, owned-is-inside}
 use Rattle.edit_plan.proofs.dependent.dependents.Goals as goal

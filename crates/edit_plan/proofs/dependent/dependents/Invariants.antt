@@ -1,5 +1,5 @@
 use Rattle.std.proofs.Common.{◌≡◌, ℕ, length}
-use Rattle.edit_plan.specs.OwnerTables.{places_in, dependents_in}
+use Rattle.edit_plan.specs.inner.OwnerTables.{places_in, dependents_in}
 use Rattle.edit_plan.proofs.Moved.{dependents-to}
 use Rattle.edit_plan.proofs.dependent.dependents.Given as goal
 

@@ -1,5 +1,5 @@
 use Rattle.std.proofs.Common.{◌≡◌, ℕ, [], length}
-use Rattle.edit_plan.specs.OwnerTables.{dependents_in}
+use Rattle.edit_plan.specs.inner.OwnerTables.{dependents_in}
 use Rattle.edit_plan.proofs.dependent.empty_lists.Given as goal
 
 abbrev pub invariant-loop : goal.invariant-loop

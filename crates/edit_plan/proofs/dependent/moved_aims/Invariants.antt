@@ -1,6 +1,6 @@
 use Rattle.std.proofs.Common.{◌≡◌, map, take}
-use Rattle.rewriting.specs.Aimed.{aims_of}
-use Rattle.edit_plan.specs.OwnerTables.{moved}
+use Rattle.rewriting.specs.inner.Aimed.{aims_of}
+use Rattle.edit_plan.specs.inner.OwnerTables.{moved}
 use Rattle.edit_plan.proofs.dependent.moved_aims.Given as goal
 
 abbrev pub invariant-loop-dependent : goal.invariant-loop-dependent

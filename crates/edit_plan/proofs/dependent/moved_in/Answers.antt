@@ -1,7 +1,7 @@
 use Rattle.std.proofs.Common.{◌∙◌, ap, ap₂}
 use Rattle.edit_change.specs.ChangeAim.{aim_path}
 use Rattle.edit_plan.specs.NewTree.{moved_path}
-use Rattle.edit_change.specs.AimFrom.{aim_from}
+use Rattle.edit_change.specs.inner.AimFrom.{aim_from}
 use Rattle.edit_plan.proofs.Moved.{moved-own}
 use Rattle.edit_plan.proofs.dependent.moved_in.Goals as goal
 

@@ -3,7 +3,7 @@ use Rattle.cst_core.specs.Tree.{forest}
 use Rattle.cst_core.specs.Green.{branch_tree}
 use Rattle.cst_core.specs.GreenElement.{element_tree}
 use Rattle.green_tree.proofs.Slots.{size_at}
-use Rattle.edit_plan.specs.FirstNode.{first_from}
+use Rattle.edit_plan.specs.inner.FirstNode.{first_from}
 use Rattle.edit_plan.proofs.FirstNode.{first-here, first-below, start-first, found-in, found-behind, room, next-begins, found-nowhere, reverse-last}
 use Rattle.edit_plan.proofs.first_node.+way_back.Goals.{in-Some+in_ok-way+in_default-2, in_default}
 use Rattle.edit_plan.proofs.first_node.+way_back.Goals as goal

@@ -2,7 +2,7 @@ use Rattle.std.proofs.Common.{◌≡◌, ◌+◌, [], ◌∷◌}
 use Rattle.std.specs.Prelude.{find}
 use Rattle.cst_core.specs.Order.{start}
 use Rattle.cst_core.specs.Green.{branch_tree}
-use Rattle.edit_plan.specs.FirstNode.{starts_as, first_from}
+use Rattle.edit_plan.specs.inner.FirstNode.{starts_as, first_from}
 use Rattle.edit_plan.proofs.FirstNode.{rest}
 use Rattle.edit_plan.proofs.first_node.+way_back.Given as goal
 

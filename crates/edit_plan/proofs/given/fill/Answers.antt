@@ -1,8 +1,8 @@
 use Rattle.std.proofs.Common.{◌<◌, [], map, sym, ◌∙◌, ap, ap₂, subst}
 use Rattle.cst_core.specs.Element.{subtree}
-use Rattle.rewriting.specs.Aimed.{aims_of}
+use Rattle.rewriting.specs.inner.Aimed.{aims_of}
 use Rattle.rewriting.specs.declared.given.Given.TheVariants.{Shared}
-use Rattle.rewriting.specs.Pass.{kind_only, given_by}
+use Rattle.rewriting.specs.inner.Pass.{kind_only, given_by}
 use Rattle.rewriting.specs.Rewriting.{rewritten}
 use Rattle.edit_change.specs.Change.{payload}
 use Rattle.edit_plan.proofs.Nested.{filled}

@@ -1,6 +1,6 @@
 use Rattle.std.proofs.Common.{◌≡◌, ℕ, suc, length, filter}
 use Rattle.cst_core.specs.Path.{Path, counted_from}
-use Rattle.edit_plan.specs.OwnerTables.{owns_at, AreDependents, AreGivenFrom}
+use Rattle.edit_plan.specs.inner.OwnerTables.{owns_at, AreDependents, AreGivenFrom}
 use Rattle.edit_plan.proofs.Nested.{IsLevelled}
 use Rattle.edit_plan.proofs.given.fill_level.Given as goal
 

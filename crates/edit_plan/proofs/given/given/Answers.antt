@@ -1,7 +1,7 @@
 use Rattle.std.proofs.Common.{◌≡◌, ◌-◌, ◌<◌, ◌∙◌, suc, length, filter, All, arith, sym, subst}
 use Rattle.std.proofs.lemmas.List.Elements.{All-get_or}
 use Rattle.cst_core.specs.Path.{counted_from}
-use Rattle.edit_plan.specs.OwnerTables.{owns_at, owners_at, AreGivenFrom}
+use Rattle.edit_plan.specs.inner.OwnerTables.{owns_at, owners_at, AreGivenFrom}
 use Rattle.edit_plan.proofs.Levels.{owners-are-there, list-at}
 use Rattle.edit_plan.proofs.Nested.{from-payloads, to-the-top}
 use Rattle.edit_plan.proofs.given.given.Goals as goal

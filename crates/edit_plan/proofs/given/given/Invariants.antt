@@ -1,6 +1,6 @@
 use Rattle.std.proofs.Common.{◌≡◌, ℕ, length}
 use Rattle.cst_core.specs.Path.{Path}
-use Rattle.edit_plan.specs.OwnerTables.{AreDependents, AreGivenFrom}
+use Rattle.edit_plan.specs.inner.OwnerTables.{AreDependents, AreGivenFrom}
 use Rattle.edit_plan.proofs.given.given.Given as goal
 
 abbrev pub invariant-loop-level : goal.invariant-loop-level

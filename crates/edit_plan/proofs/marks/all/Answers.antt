@@ -1,9 +1,9 @@
 use Rattle.std.proofs.Common.{◌≡◌, ◌+◌, ℕ, List, ◌∷◌, [], ◌++◌, map, take, length, ap, sym, ◌∙◌, arith}
 use Rattle.std.proofs.lemmas.List.{map-append, length-map, length-take-le}
 use Rattle.cst_core.specs.SyntaxElement.{element_of}
-use Rattle.rewriting.specs.Aimed.{aims_of}
-use Rattle.rewriting.specs.Marked.{MarkTree, marked, marked_from, below}
-use Rattle.edit_plan.specs.Marks.{element_sought}
+use Rattle.rewriting.specs.inner.Aimed.{aims_of}
+use Rattle.rewriting.specs.inner.Marked.{MarkTree, marked, marked_from, below}
+use Rattle.edit_plan.specs.inner.Marks.{element_sought}
 use Rattle.edit_change.proofs.Positions.{push-of-take}
 use Rattle.edit_plan.proofs.MarksFilled.{marks-more}
 use Rattle.edit_plan.proofs.marks.all.Goals as goal

@@ -1,8 +1,8 @@
 use Rattle.std.proofs.Common.{◌≡◌, ℕ, List, map, take}
 use Rattle.cst_core.specs.SyntaxElement.{element_of}
-use Rattle.rewriting.specs.Aimed.{aims_of}
-use Rattle.rewriting.specs.Marked.{MarkTree, AreMarked, marked_from, marks_of}
-use Rattle.edit_plan.specs.Marks.{payload_sought}
+use Rattle.rewriting.specs.inner.Aimed.{aims_of}
+use Rattle.rewriting.specs.inner.Marked.{MarkTree, AreMarked, marked_from, marks_of}
+use Rattle.edit_plan.specs.inner.Marks.{payload_sought}
 use Rattle.edit_plan.proofs.marks.all.Given as goal
 
 abbrev pub invariant-loop-slot : goal.invariant-loop-slot

@@ -1,9 +1,9 @@
 use Rattle.std.proofs.Common.{◌<◌, map, sym, ◌∙◌, ap, subst}
-use Rattle.rewriting.specs.Aimed.{aims_of}
-use Rattle.rewriting.specs.Marked.{AreMarked, marked_from}
+use Rattle.rewriting.specs.inner.Aimed.{aims_of}
+use Rattle.rewriting.specs.inner.Marked.{AreMarked, marked_from}
 use Rattle.edit_change.specs.Change.{payload}
-use Rattle.edit_plan.specs.OwnerTables.{moved}
-use Rattle.edit_plan.specs.Marks.{payload_sought}
+use Rattle.edit_plan.specs.inner.OwnerTables.{moved}
+use Rattle.edit_plan.specs.inner.Marks.{payload_sought}
 use Rattle.edit_plan.proofs.MarksFilled.{entry}
 use Rattle.edit_plan.proofs.marks.fill.Goals as goal
 

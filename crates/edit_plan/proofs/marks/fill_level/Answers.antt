@@ -1,6 +1,6 @@
 use Rattle.std.proofs.Common.{◌≡◌, ◌<◌, ◌∙◌, map, get_or, slice_get, Some, sym, ap, subst}
 use Rattle.std.proofs.lemmas.Option.{slice_get-get_or}
-use Rattle.edit_plan.specs.OwnerTables.{moved, dependents_in}
+use Rattle.edit_plan.specs.inner.OwnerTables.{moved, dependents_in}
 use Rattle.edit_plan.proofs.Levels.{owner-at}
 use Rattle.edit_plan.proofs.Nested.{owned-at}
 use Rattle.edit_plan.proofs.MarksFilled.{level-begins, level-ends, level-filled}

@@ -1,8 +1,8 @@
 use Rattle.std.proofs.Common.{◌≡◌, ℕ, List, suc, length, filter}
 use Rattle.cst_core.specs.Path.{Path, counted_from}
 use Rattle.cst_core.specs.Element.{Address}
-use Rattle.edit_plan.specs.OwnerTables.{owns_at, AreDependents}
-use Rattle.edit_plan.specs.Marks.{IsTableOf, AreMarksFrom}
+use Rattle.edit_plan.specs.inner.OwnerTables.{owns_at, AreDependents}
+use Rattle.edit_plan.specs.inner.Marks.{IsTableOf, AreMarksFrom}
 use Rattle.edit_plan.proofs.MarksFilled.{AreLevelled}
 use Rattle.edit_plan.proofs.marks.fill_level.Given as goal
 

@@ -1,8 +1,8 @@
 use Rattle.std.proofs.Common.{◌≡◌, ◌-◌, ◌<◌, ◌∙◌, suc, length, filter, All, arith, sym, subst}
 use Rattle.std.proofs.lemmas.List.Elements.{All-get_or}
 use Rattle.cst_core.specs.Path.{counted_from}
-use Rattle.edit_plan.specs.OwnerTables.{owns_at, owners_at}
-use Rattle.edit_plan.specs.Marks.{AreMarksFrom}
+use Rattle.edit_plan.specs.inner.OwnerTables.{owns_at, owners_at}
+use Rattle.edit_plan.specs.inner.Marks.{AreMarksFrom}
 use Rattle.edit_plan.proofs.Levels.{owners-are-there, list-at}
 use Rattle.edit_plan.proofs.MarksFilled.{from-payloads, to-the-top}
 use Rattle.edit_plan.proofs.marks.given_marks.Goals as goal

@@ -1,8 +1,8 @@
 use Rattle.std.proofs.Common.{◌≡◌, ℕ, List, length}
 use Rattle.cst_core.specs.Path.{Path}
 use Rattle.cst_core.specs.Element.{Address}
-use Rattle.edit_plan.specs.OwnerTables.{AreDependents}
-use Rattle.edit_plan.specs.Marks.{IsTableOf, AreMarksFrom}
+use Rattle.edit_plan.specs.inner.OwnerTables.{AreDependents}
+use Rattle.edit_plan.specs.inner.Marks.{IsTableOf, AreMarksFrom}
 use Rattle.edit_plan.proofs.marks.given_marks.Given as goal
 
 abbrev pub invariant-loop-level : goal.invariant-loop-level

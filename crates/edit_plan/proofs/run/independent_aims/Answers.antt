@@ -1,6 +1,6 @@
 use Rattle.std.proofs.Common.{◌∙◌, [], ◌∷◌, ◌++◌, sym, ap, ap₂}
 use Rattle.std.proofs.lemmas.List.{map-append}
-use Rattle.rewriting.specs.Aimed.{aims_of, numbered}
+use Rattle.rewriting.specs.inner.Aimed.{aims_of, numbered}
 use Rattle.edit_plan.proofs.Carried.{one-more, passed-at, independents-whole, independent-at}
 use Rattle.edit_plan.proofs.Moved.{change-at}
 use Rattle.edit_plan.proofs.run.independent_aims.Goals as goal

@@ -1,5 +1,5 @@
 use Rattle.std.proofs.Common.{◌≡◌}
-use Rattle.rewriting.specs.Aimed.{aims_of}
+use Rattle.rewriting.specs.inner.Aimed.{aims_of}
 use Rattle.edit_plan.proofs.Carried.{independents-to}
 use Rattle.edit_plan.proofs.run.independent_aims.Given as goal
 

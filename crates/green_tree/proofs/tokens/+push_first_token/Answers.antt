@@ -3,7 +3,7 @@ use Rattle.std.proofs.lemmas.Grind.{common_steps}
 use Rattle.green_tree.specs.Path.{first_item}
 use Rattle.green_tree.specs.Order.{token_paths}
 use Rattle.green_tree.specs.Green.{branch_tree}
-use Rattle.green_tree.specs.FoundToken.{FindsToken}
+use Rattle.green_tree.specs.inner.FoundToken.{FindsToken}
 use Rattle.green_tree.specs.declared.green.GreenElement.TheVariants.{Node, Token}
 use Rattle.green_tree.proofs.Slots.{size_at}
 use Rattle.green_tree.proofs.FoundTokens.{child_at, found_none, found_token, same_slots, first_found, first_passed, tokens_before-none, tokens_before-all}

@@ -4,7 +4,7 @@ use Rattle.std.proofs.lemmas.List.{length-map}
 use Rattle.green_tree.specs.Path.{last_item}
 use Rattle.green_tree.specs.Order.{tokens_before}
 use Rattle.green_tree.specs.Green.{branch_tree}
-use Rattle.green_tree.specs.FoundToken.{FindsToken}
+use Rattle.green_tree.specs.inner.FoundToken.{FindsToken}
 use Rattle.green_tree.specs.declared.green.GreenElement.TheVariants.{Node, Token}
 use Rattle.green_tree.proofs.Slots.{size_at}
 use Rattle.green_tree.proofs.FoundTokens.{child_at, found_none, found_token, same_slots, last_found, last_passed, tokens_before-none, tokens_before-all}

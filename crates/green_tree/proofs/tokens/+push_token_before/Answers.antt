@@ -5,7 +5,7 @@ use Rattle.green_tree.specs.Path.{last_item}
 use Rattle.green_tree.specs.Order.{tokens_before}
 use Rattle.green_tree.specs.Green.{branch_tree}
 use Rattle.green_tree.specs.GreenElement.{element_tree}
-use Rattle.green_tree.specs.FoundToken.{FindsToken}
+use Rattle.green_tree.specs.inner.FoundToken.{FindsToken}
 use Rattle.green_tree.specs.declared.green.GreenElement.TheVariants.{Node}
 use Rattle.green_tree.proofs.TokenPaths.{tokens_before-top}
 use Rattle.green_tree.proofs.Slots.{way_in, path_splits, path_ends}

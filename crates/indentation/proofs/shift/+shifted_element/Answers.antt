@@ -5,7 +5,7 @@ use Rattle.std.proofs.lemmas.List.{length-map, take-map}
 use Rattle.cst_core.specs.Tree.{SyntaxTree, node, text_length}
 use Rattle.cst_core.specs.Green.{size}
 use Rattle.cst_core.specs.GreenElement.{element_tree, element_trees}
-use Rattle.indentation.specs.Shift.{shifted, ShiftRefuses}
+use Rattle.indentation.specs.inner.Shift.{shifted, ShiftRefuses}
 use Rattle.indentation.specs.declared.shift.Shift.{Shift}
 use Rattle.indentation.proofs.Shifted.{Built, built_kept, built_changed, built_whole, node_is, child_le, refused_above, tree_at, size_at}
 use Rattle.indentation.proofs.shift.+shifted_element.Goals as goal

@@ -1,5 +1,5 @@
 use Rattle.std.proofs.Common.{◌≡◌, ◌++◌, map, drop}
-use Rattle.rewriting.specs.Aimed.{placed, placed_below}
+use Rattle.rewriting.specs.inner.Aimed.{placed, placed_below}
 use Rattle.rewriting.proofs.aim_list.below.Given as goal
 
 abbrev pub invariant-loop-aim : goal.invariant-loop-aim

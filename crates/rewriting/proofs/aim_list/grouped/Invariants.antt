@@ -1,7 +1,7 @@
 use Rattle.std.proofs.Common.{List, ◌≡◌, ℕ, ◌<◌, [], length, get_or, take}
 use Rattle.std.specs.List.{filter}
 use Rattle.rewriting.specs.declared.aimed.Aimed.{Aimed}
-use Rattle.rewriting.specs.Groups.{concerns}
+use Rattle.rewriting.specs.inner.Groups.{concerns}
 use Rattle.rewriting.proofs.aim_list.grouped.Given as goal
 
 abbrev pub invariant-loop : goal.invariant-loop

@@ -1,6 +1,6 @@
 use Rattle.std.proofs.Common.{◌≡◌, [], ◌∷◌, drop}
 use Rattle.rewriting.specs.Rewriting.{is_replaced}
-use Rattle.rewriting.specs.Aimed.{aims_of}
+use Rattle.rewriting.specs.inner.Aimed.{aims_of}
 use Rattle.rewriting.proofs.aim_list.is_replaced.Given as goal
 
 abbrev pub invariant-loop-aim : goal.invariant-loop-aim

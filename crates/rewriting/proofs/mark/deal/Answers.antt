@@ -4,7 +4,7 @@ use Rattle.std.proofs.lemmas.Bool.{cases_eq, eq-eqb, ne_eqb}
 use Rattle.std.proofs.lemmas.List.{append-nil, map-append, take_all}
 use Rattle.green_tree.specs.Path.{Path}
 use Rattle.rewriting.specs.declared.mark.Sought.{Sought}
-use Rattle.rewriting.specs.Marked.{sought_as, sought_in, seen_below}
+use Rattle.rewriting.specs.inner.Marked.{sought_as, sought_in, seen_below}
 use Rattle.rewriting.proofs.mark.deal.Goals as goal
 
 put : (old new : ℕ → List Sought) (s : Sought) (k n : ℕ) (p : Path) → 1 ≤ length p → new (get_or p 0 0) ≡ old (get_or p 0 0) ++ s ∷ [] → (k ≢ get_or p 0 0 → new k ≡ old k) → sought_as s ≡ (n, drop 1 p) → sought_in (new k) ≡ sought_in (old k) ++ seen_below k n p

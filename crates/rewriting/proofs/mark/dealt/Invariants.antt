@@ -1,7 +1,7 @@
 use Rattle.std.proofs.Common.{◌≡◌, ℕ, ◌<◌, ◌++◌, length, get_or, drop, Vec}
 use Rattle.std.specs.Global.{Global}
 use Rattle.rewriting.specs.declared.mark.Sought.{Sought}
-use Rattle.rewriting.specs.Marked.{sought_in, sought_below}
+use Rattle.rewriting.specs.inner.Marked.{sought_in, sought_below}
 use Rattle.rewriting.proofs.mark.dealt.Given as goal
 
 abbrev pub invariant-loop-mark : goal.invariant-loop-mark

@@ -1,5 +1,5 @@
 use Rattle.std.proofs.Common.{◌≡◌, ◌++◌, [], map, drop}
-use Rattle.rewriting.specs.Marked.{marks_of, sought_in, marks_at}
+use Rattle.rewriting.specs.inner.Marked.{marks_of, sought_in, marks_at}
 use Rattle.rewriting.proofs.mark.push_here.Given as goal
 
 abbrev pub invariant-loop-mark : goal.invariant-loop-mark

@@ -1,7 +1,7 @@
 use Rattle.std.proofs.Common.{◌≡◌, ◌+◌, ◌++◌, length, map, refl, ap, sym, ◌∙◌, arith}
 use Rattle.std.proofs.lemmas.List.{append-nil}
 use Rattle.std.proofs.lemmas.Option.{slice_get_read, slice_get_past}
-use Rattle.rewriting.specs.Marked.{marks_of, moved}
+use Rattle.rewriting.specs.inner.Marked.{marks_of, moved}
 use Rattle.rewriting.proofs.Built.{on_ok}
 use Rattle.rewriting.proofs.mark.push_marks_given.Goals as goal
 

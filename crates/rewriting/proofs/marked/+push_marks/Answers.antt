@@ -9,8 +9,8 @@ use Rattle.std.specs.List.{list_any}
 use Rattle.std.specs.Prelude.{Vec}
 use Rattle.std.specs.Global.{Global}
 use Rattle.rewriting.specs.declared.mark.Sought.{Sought}
-use Rattle.rewriting.specs.Aimed.{aims_of, has_parent, placed, placed_below}
-use Rattle.rewriting.specs.Marked.{MarkTree, Marking, marked, below, marks_of, sought_in, marks_at, wanted, sought_below}
+use Rattle.rewriting.specs.inner.Aimed.{aims_of, has_parent, placed, placed_below}
+use Rattle.rewriting.specs.inner.Marked.{MarkTree, Marking, marked, below, marks_of, sought_in, marks_at, wanted, sought_below}
 use Rattle.rewriting.proofs.SeenBelow.{seen-below}
 use Rattle.rewriting.proofs.Untouched.{untouched}
 use Rattle.rewriting.proofs.InGroups.{group_is, group-inserted, group-replaced, group-replacements, group-below}

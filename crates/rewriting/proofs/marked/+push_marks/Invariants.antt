@@ -3,8 +3,8 @@ use Rattle.green_tree.specs.Tree.{forest}
 use Rattle.green_tree.specs.Green.{size}
 use Rattle.green_tree.specs.GreenElement.{element_tree, element_trees}
 use Rattle.rewriting.specs.Rewriting.{rewritten_from}
-use Rattle.rewriting.specs.Aimed.{aims_of}
-use Rattle.rewriting.specs.Marked.{MarkTree, AreMarked, marks_of, sought_in, marks_at, wanted}
+use Rattle.rewriting.specs.inner.Aimed.{aims_of}
+use Rattle.rewriting.specs.inner.Marked.{MarkTree, AreMarked, marks_of, sought_in, marks_at, wanted}
 use Rattle.rewriting.proofs.Children.{left}
 use Rattle.rewriting.proofs.Marks.{shown}
 use Rattle.rewriting.proofs.marked.+push_marks.Given as goal

@@ -2,8 +2,8 @@ use Rattle.std.proofs.Common.{[], ◌∷◌, ◌++◌, List, map, flat_map, ap, 
 use Rattle.std.proofs.lemmas.List.{map-id, append-nil}
 use Rattle.green_tree.specs.GreenElement.{element_tree}
 use Rattle.rewriting.specs.Rewriting.{rewritten}
-use Rattle.rewriting.specs.Aimed.{aims_of}
-use Rattle.rewriting.specs.Marked.{MarkTree, Marking, marked, marked_from, below, marks_of, sought_in, wanted}
+use Rattle.rewriting.specs.inner.Aimed.{aims_of}
+use Rattle.rewriting.specs.inner.Marked.{MarkTree, Marking, marked, marked_from, below, marks_of, sought_in, wanted}
 use Rattle.rewriting.proofs.Children.{slot-replaced, slot-kept}
 use Rattle.rewriting.proofs.marked.marks_of_whole.Goals as goal
 use Rattle.rewriting.proofs.marked.marks_of_whole.Goals.{then-top_is_replaced+in_ok-changes+in_ok-push_all_given, else-top_is_replaced+in_ok-push_marks}

@@ -1,6 +1,6 @@
 use Rattle.std.proofs.Common.{◌+◌, ◌++◌, length, get_or, drop, flat_map, sym, ◌∙◌}
 use Rattle.std.proofs.lemmas.List.{at_drop_more}
-use Rattle.rewriting.specs.Marked.{marks_of}
+use Rattle.rewriting.specs.inner.Marked.{marks_of}
 use Rattle.rewriting.proofs.Marks.{shown}
 use Rattle.rewriting.proofs.MarksGiven.{next-one, marks-one}
 use Rattle.rewriting.proofs.marked.push_all_given.Goals as goal

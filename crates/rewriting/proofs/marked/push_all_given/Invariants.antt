@@ -1,5 +1,5 @@
 use Rattle.std.proofs.Common.{◌≡◌, ℕ, ◌+◌, ◌++◌, List, map, drop, length, flat_map}
-use Rattle.rewriting.specs.Marked.{MarkTree, AreMarked, marked_from, below, marks_of}
+use Rattle.rewriting.specs.inner.Marked.{MarkTree, AreMarked, marked_from, below, marks_of}
 use Rattle.rewriting.proofs.marked.push_all_given.Given as goal
 
 abbrev pub invariant-loop-change : goal.invariant-loop-change

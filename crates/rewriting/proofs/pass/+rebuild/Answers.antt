@@ -4,8 +4,8 @@ use Rattle.green_tree.specs.Tree.{SyntaxTree, Token, forest}
 use Rattle.green_tree.specs.Green.{size}
 use Rattle.green_tree.specs.GreenElement.{element_tree, element_trees}
 use Rattle.rewriting.specs.Rewriting.{gap, slot, is_replaced, replacements_at, rewritten}
-use Rattle.rewriting.specs.Aimed.{aims_of, placed, placed_below}
-use Rattle.rewriting.specs.Pass.{kind_only, given_by}
+use Rattle.rewriting.specs.inner.Aimed.{aims_of, placed, placed_below}
+use Rattle.rewriting.specs.inner.Pass.{kind_only, given_by}
 use Rattle.rewriting.specs.Effort.{inside, touched, parents_of, built, nodes_built, counted}
 use Rattle.rewriting.proofs.Built.{to_come, to_come-step, parents-below, own_node, on_ok}
 use Rattle.rewriting.proofs.Counted.{still, still-step, still-none, in_slot, counted-below, counted-own, counted-none, slot_counted-replaced, slot_counted-kept, count-step, count-one}

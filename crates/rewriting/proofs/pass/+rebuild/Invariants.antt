@@ -3,8 +3,8 @@ use Rattle.green_tree.specs.Tree.{forest}
 use Rattle.green_tree.specs.Green.{size}
 use Rattle.green_tree.specs.GreenElement.{element_tree, element_trees}
 use Rattle.rewriting.specs.Rewriting.{rewritten_from}
-use Rattle.rewriting.specs.Aimed.{aims_of}
-use Rattle.rewriting.specs.Pass.{kind_only, given_by}
+use Rattle.rewriting.specs.inner.Aimed.{aims_of}
+use Rattle.rewriting.specs.inner.Pass.{kind_only, given_by}
 use Rattle.rewriting.specs.Effort.{counted, parents_of}
 use Rattle.rewriting.proofs.Built.{to_come}
 use Rattle.rewriting.proofs.Counted.{still}

@@ -1,8 +1,8 @@
 use Rattle.std.proofs.Common.{◌≡◌, ◌++◌, [], drop, flat_map}
 use Rattle.green_tree.specs.GreenElement.{element_trees}
 use Rattle.rewriting.specs.Rewriting.{replacements_at}
-use Rattle.rewriting.specs.Aimed.{aims_of}
-use Rattle.rewriting.specs.Pass.{given_by}
+use Rattle.rewriting.specs.inner.Aimed.{aims_of}
+use Rattle.rewriting.specs.inner.Pass.{given_by}
 use Rattle.rewriting.proofs.pass.push_for_top.Given as goal
 
 abbrev pub invariant-loop-aim : goal.invariant-loop-aim

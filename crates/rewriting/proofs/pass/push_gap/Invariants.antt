@@ -1,8 +1,8 @@
 use Rattle.std.proofs.Common.{◌≡◌, ◌≤◌, ◌++◌, [], take, length}
 use Rattle.green_tree.specs.GreenElement.{element_trees}
 use Rattle.rewriting.specs.Rewriting.{gap}
-use Rattle.rewriting.specs.Aimed.{aims_of}
-use Rattle.rewriting.specs.Pass.{kind_only, given_by}
+use Rattle.rewriting.specs.inner.Aimed.{aims_of}
+use Rattle.rewriting.specs.inner.Pass.{kind_only, given_by}
 use Rattle.rewriting.proofs.pass.push_gap.Given as goal
 
 abbrev pub decreases-loop-left : goal.decreases-loop-left

@@ -1,7 +1,7 @@
 use Rattle.std.proofs.Common.{◌≡◌, cond, arith, ap, sym, ◌∙◌}
 use Rattle.green_tree.specs.GreenElement.{element_tree}
 use Rattle.rewriting.specs.Effort.{counted, nodes_built}
-use Rattle.rewriting.specs.Aimed.{aims_of}
+use Rattle.rewriting.specs.inner.Aimed.{aims_of}
 use Rattle.rewriting.proofs.pass.rebuild_whole.Goals as goal
 use Rattle.rewriting.proofs.pass.rebuild_whole.Goals.{then-top_is_replaced+in_ok-push_for_top, else-top_is_replaced+in_ok-rebuild+in_ok-push}
 

@@ -6,7 +6,7 @@ use Rattle.green_tree.specs.Path.{Path}
 use Rattle.green_tree.specs.Green.{size}
 use Rattle.green_tree.specs.GreenElement.{element_tree, element_trees}
 use Rattle.rewriting.specs.Rewriting.{slot, is_replaced, replacements_at, rewritten}
-use Rattle.rewriting.specs.Aimed.{aims_of, has_parent, placed, placed_below}
+use Rattle.rewriting.specs.inner.Aimed.{aims_of, has_parent, placed, placed_below}
 use Rattle.rewriting.specs.Topmost.{topmost, count_of, not_given, paths_of}
 use Rattle.rewriting.proofs.SeenBelow.{aims-below}
 use Rattle.rewriting.proofs.Untouched.{untouched}

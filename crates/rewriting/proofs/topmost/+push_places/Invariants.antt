@@ -3,7 +3,7 @@ use Rattle.green_tree.specs.Tree.{Tree, forest}
 use Rattle.green_tree.specs.Green.{size}
 use Rattle.green_tree.specs.GreenElement.{element_tree, element_trees}
 use Rattle.rewriting.specs.Rewriting.{rewritten_from}
-use Rattle.rewriting.specs.Aimed.{aims_of}
+use Rattle.rewriting.specs.inner.Aimed.{aims_of}
 use Rattle.rewriting.specs.Topmost.{AreCounted, not_given, paths_of}
 use Rattle.rewriting.proofs.Children.{left}
 use Rattle.rewriting.proofs.Tops.{tops}

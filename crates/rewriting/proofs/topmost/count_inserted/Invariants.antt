@@ -1,7 +1,7 @@
 use Rattle.std.proofs.Common.{◌≡◌, ◌+◌, [], drop}
 use Rattle.std.specs.List.{sum_by}
 use Rattle.rewriting.specs.Rewriting.{inserts_at}
-use Rattle.rewriting.specs.Aimed.{aims_of}
+use Rattle.rewriting.specs.inner.Aimed.{aims_of}
 use Rattle.rewriting.specs.Topmost.{count_of}
 use Rattle.rewriting.proofs.topmost.count_inserted.Given as goal
 

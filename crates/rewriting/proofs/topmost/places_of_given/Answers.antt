@@ -3,7 +3,7 @@ use Rattle.std.proofs.lemmas.List.{map-id}
 use Rattle.green_tree.specs.Path.{Path}
 use Rattle.green_tree.specs.GreenElement.{element_tree}
 use Rattle.rewriting.specs.Rewriting.{rewritten}
-use Rattle.rewriting.specs.Aimed.{aims_of}
+use Rattle.rewriting.specs.inner.Aimed.{aims_of}
 use Rattle.rewriting.specs.Topmost.{topmost, not_given, paths_of}
 use Rattle.rewriting.proofs.topmost.places_of_given.Goals as goal
 

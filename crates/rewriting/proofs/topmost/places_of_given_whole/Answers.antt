@@ -2,7 +2,7 @@ use Rattle.std.proofs.Common.{◌≡◌, [], Bool, flat_map, replicate, arith, a
 use Rattle.green_tree.specs.Tree.{Tree}
 use Rattle.green_tree.specs.GreenElement.{element_tree}
 use Rattle.rewriting.specs.Rewriting.{replacements_at, rewritten}
-use Rattle.rewriting.specs.Aimed.{aims_of}
+use Rattle.rewriting.specs.inner.Aimed.{aims_of}
 use Rattle.rewriting.specs.Topmost.{topmost, not_given}
 use Rattle.rewriting.proofs.Children.{slot-replaced}
 use Rattle.rewriting.proofs.GivenPlaces.{given-whole}

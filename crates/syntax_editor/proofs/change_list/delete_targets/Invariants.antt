@@ -1,6 +1,6 @@
 use Rattle.std.proofs.Common.{◌≡◌, ◌≤◌, ◌+◌, length}
 use Rattle.std.specs.Vec.{vec_len, vec_capacity}
-use Rattle.syntax_editor.specs.Indexing.{delete_each_at, room, Agrees}
+use Rattle.syntax_editor.specs.inner.Indexing.{delete_each_at, room, Agrees}
 use Rattle.syntax_editor.proofs.change_list.delete_targets.Given as goal
 
 abbrev pub invariant-loop-target : goal.invariant-loop-target

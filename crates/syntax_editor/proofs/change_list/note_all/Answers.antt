@@ -1,6 +1,6 @@
 use Rattle.std.proofs.Common.{◌≡◌, ◌++◌, ◌+◌, ◌∷◌, [], length, take, ap, sym, subst, ◌∙◌, arith, append_assoc, length-append}
 use Rattle.std.proofs.lemmas.List.{take_more, length-take}
-use Rattle.syntax_editor.specs.Indexing.{Agrees}
+use Rattle.syntax_editor.specs.inner.Indexing.{Agrees}
 use Rattle.syntax_editor.proofs.change_list.note_all.Goals as goal
 
 pub loop-change-preserved : goal.loop-change-preserved

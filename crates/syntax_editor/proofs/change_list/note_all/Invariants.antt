@@ -1,6 +1,6 @@
 use Rattle.std.proofs.Common.{◌≡◌, ◌+◌, ◌++◌, List, length, take}
 use Rattle.edit_change.specs.declared.change.Change.{Change}
-use Rattle.syntax_editor.specs.Indexing.{Agrees}
+use Rattle.syntax_editor.specs.inner.Indexing.{Agrees}
 use Rattle.syntax_editor.proofs.change_list.note_all.Given as goal
 
 abbrev pub invariant-loop-change : goal.invariant-loop-change

@@ -1,5 +1,5 @@
 use Rattle.std.proofs.Common.{Result, Ok, Err, OnOk, ◌∙◌}
-use Rattle.syntax_editor.specs.Indexing.{found}
+use Rattle.syntax_editor.specs.inner.Indexing.{found}
 use Rattle.syntax_editor.proofs.Noted.{noted-first, noted-behind, noted-kept}
 use Rattle.syntax_editor.proofs.change_list.note_replace.Goals as goal
 

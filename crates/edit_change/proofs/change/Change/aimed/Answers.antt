@@ -1,5 +1,5 @@
 use Rattle.std.proofs.Common.{◌∙◌, ap}
-use Rattle.edit_change.specs.AimFrom.{aim_from}
+use Rattle.edit_change.specs.inner.AimFrom.{aim_from}
 use Rattle.edit_change.proofs.Aiming.{own-aim}
 use Rattle.edit_change.proofs.change.Change.aimed.Goals as goal
 

@@ -5,7 +5,7 @@ use Rattle.std.proofs.lemmas.Iterator.Consumers.{YieldsList-end}
 use mathlib.Core.List.{map-id}
 use Rattle.cst_core.specs.Path.{has_path, same_path}
 use Rattle.rewriting.specs.Topmost.{paths_of}
-use Rattle.edit_change.specs.TargetIndex.{number_at}
+use Rattle.edit_change.specs.inner.TargetIndex.{number_at}
 use Rattle.edit_change.proofs.Indexed.{put, put-more}
 use Rattle.edit_change.proofs.target_index.TargetIndex.insert_all.Goals as goal
 

@@ -2,7 +2,7 @@ use Rattle.std.proofs.Common.{◌≡◌, cond}
 use Rattle.std.specs.Prelude.{Some}
 use Rattle.cst_core.specs.Path.{Path, has_path}
 use Rattle.rewriting.specs.Topmost.{paths_of}
-use Rattle.edit_change.specs.TargetIndex.{number_at}
+use Rattle.edit_change.specs.inner.TargetIndex.{number_at}
 use Rattle.edit_change.proofs.target_index.TargetIndex.insert_all.Given as goal
 
 abbrev pub invariant-loop-path : goal.invariant-loop-path

@@ -1,7 +1,7 @@
 use Rattle.std.proofs.Common.{◌≡◌, ◌+◌, [], ◌∷◌, ◌++◌, take, sym, ◌∙◌, ap, ap₂}
 use Rattle.std.proofs.lemmas.List.{map-append, take_all}
 use Rattle.rewriting.specs.Topmost.{paths_of}
-use Rattle.edit_change.specs.TargetIndex.{lesser, least, number_at}
+use Rattle.edit_change.specs.inner.TargetIndex.{lesser, least, number_at}
 use Rattle.edit_change.proofs.Indexed.{least-push}
 use Rattle.edit_change.proofs.Positions.{push-of-take}
 use Rattle.edit_change.proofs.target_index.TargetIndex.least_at.Goals as goal

@@ -1,6 +1,6 @@
 use Rattle.std.proofs.Common.{◌≡◌, None, sym, ◌∙◌, ap}
 use Rattle.rewriting.specs.Topmost.{paths_of}
-use Rattle.edit_change.specs.TargetIndex.{number_at, least}
+use Rattle.edit_change.specs.inner.TargetIndex.{number_at, least}
 use Rattle.edit_change.proofs.Indexed.{clash-found, none-found, indexed-more}
 use Rattle.edit_change.proofs.target_index.TargetIndex.of.Goals as goal
 

@@ -4,9 +4,9 @@ use Rattle.cst_core.specs.Element.{NumbersTell, address}
 use Rattle.cst_core.specs.SyntaxElement.{element_of}
 use Rattle.edit_map.specs.Mapping.{followed, mapped_elements}
 use Rattle.edit_plan.specs.Plan.{Plan}
-use Rattle.edit_plan.specs.Marks.{annotated_path, numbered_paths, path_lists}
-use Rattle.edit_plan.specs.OwnerTables.{AreDependents}
-use Rattle.edit_plan.specs.PlanRun.{AreAnnotated}
+use Rattle.edit_plan.specs.inner.Marks.{annotated_path, numbered_paths, path_lists}
+use Rattle.edit_plan.specs.inner.OwnerTables.{AreDependents}
+use Rattle.edit_plan.specs.inner.PlanRun.{AreAnnotated}
 use Rattle.edit_plan.specs.Results.{copies_of}
 use Rattle.edit_plan.specs.NewTree.{new_tree}
 use Rattle.edit_plan.proofs.ByAnnotation.{are-annotated}

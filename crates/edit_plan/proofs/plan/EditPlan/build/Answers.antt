@@ -1,7 +1,7 @@
 use Rattle.std.proofs.Common.{map, length, sym, ◌∙◌, ap, subst, rules}
-use Rattle.edit_change.specs.Fate.{fate}
+use Rattle.edit_change.specs.inner.Fate.{fate}
 use Rattle.edit_change.specs.Nesting.{first_clash}
-use Rattle.edit_plan.specs.OwnerTables.{places_in}
+use Rattle.edit_plan.specs.inner.OwnerTables.{places_in}
 use Rattle.edit_plan.specs.Places.{ArePlaces}
 use Rattle.edit_plan.proofs.plan.EditPlan.build.Goals as goal
 

@@ -1,14 +1,14 @@
 use Rattle.std.proofs.Common.{◌≡◌, map, flat_map, length, sym, ◌∙◌, ap, ap₂, subst}
 use Rattle.cst_core.specs.Element.{subtree}
 use Rattle.cst_core.specs.Green.{branch_tree}
-use Rattle.rewriting.specs.Aimed.{aims_of}
-use Rattle.rewriting.specs.Given.{given_trees}
-use Rattle.rewriting.specs.Pass.{kind_only, given_by}
+use Rattle.rewriting.specs.inner.Aimed.{aims_of}
+use Rattle.rewriting.specs.inner.Given.{given_trees}
+use Rattle.rewriting.specs.inner.Pass.{kind_only, given_by}
 use Rattle.rewriting.specs.Rewriting.{rewritten_whole}
 use Rattle.rewriting.specs.Topmost.{topmost, AreCounted, not_given, paths_of}
-use Rattle.edit_plan.specs.Marks.{annotated_path}
-use Rattle.edit_plan.specs.OwnerTables.{AreDependents}
-use Rattle.edit_plan.specs.PlanRun.{AreAnnotated}
+use Rattle.edit_plan.specs.inner.Marks.{annotated_path}
+use Rattle.edit_plan.specs.inner.OwnerTables.{AreDependents}
+use Rattle.edit_plan.specs.inner.PlanRun.{AreAnnotated}
 use Rattle.edit_plan.proofs.Carrying.{is_rewritten}
 use Rattle.edit_plan.proofs.plan.EditPlan.carried_out.Goals as goal
 

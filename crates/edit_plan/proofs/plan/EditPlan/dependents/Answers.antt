@@ -2,7 +2,7 @@ use Rattle.std.proofs.Common.{ℕ, sym, subst}
 use Rattle.std.specs.Prelude.{All, IfOk}
 use Rattle.cst_core.specs.Path.{Path}
 use Rattle.edit_change.specs.Fits.{Fits}
-use Rattle.edit_plan.specs.OwnerTables.{places_in, AreDependents}
+use Rattle.edit_plan.specs.inner.OwnerTables.{places_in, AreDependents}
 use Rattle.edit_plan.specs.Places.{ArePlaces}
 use Rattle.edit_plan.specs.Plan.{Plan}
 use Rattle.edit_change.proofs.Lists.{if-ok-weaker}

@@ -3,7 +3,7 @@ use Rattle.std.proofs.Common.{◌≡◌, [], Some, None, sym, ◌∙◌, ap, sub
 use Rattle.cst_core.specs.Path.{has_path}
 use Rattle.edit_change.specs.Change.{targets}
 use Rattle.edit_change.specs.Fits.{Fits}
-use Rattle.edit_plan.specs.PlanRun.{KeepsTop}
+use Rattle.edit_plan.specs.inner.PlanRun.{KeepsTop}
 use Rattle.edit_plan.proofs.Rooted.{stays-a-node, takes-its-place, found-fits}
 use Rattle.edit_plan.proofs.plan.EditPlan.keep_top.Goals as goal
 

@@ -4,8 +4,8 @@ use Rattle.cst_core.specs.Tree.{text_length}
 use Rattle.cst_core.specs.SyntaxElement.{syntax_at}
 use Rattle.rewriting.specs.Topmost.{paths_of}
 use Rattle.edit_plan.specs.Plan.{RunRefuses}
-use Rattle.edit_plan.specs.PlanRun.{IsRewritten}
-use Rattle.edit_plan.specs.Marks.{annotated_path}
+use Rattle.edit_plan.specs.inner.PlanRun.{IsRewritten}
+use Rattle.edit_plan.specs.inner.Marks.{annotated_path}
 use Rattle.edit_plan.specs.EditRefusal.{of_tree}
 use Rattle.edit_plan.specs.Results.{paths_with}
 use Rattle.edit_plan.proofs.ByAnnotation.{found-in}

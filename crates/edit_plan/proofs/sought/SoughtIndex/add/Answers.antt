@@ -1,6 +1,6 @@
 use Rattle.std.proofs.Common.{ap, ◌∙◌, ◌∷◌, []}
 use Rattle.std.proofs.lemmas.List.{map-append}
-use Rattle.rewriting.specs.Marked.{sought_as, sought_in}
+use Rattle.rewriting.specs.inner.Marked.{sought_as, sought_in}
 use Rattle.edit_plan.proofs.Registered.{with-one}
 use Rattle.edit_plan.proofs.sought.SoughtIndex.add.Goals as goal
 

@@ -3,7 +3,7 @@ use Rattle.std.specs.Prelude.{Result, Ok, Err, IfOk}
 use Rattle.std.specs.Global.{Global}
 use Rattle.std.specs.Option.{option_map_or}
 use Rattle.rewriting.specs.declared.mark.Sought.{Sought}
-use Rattle.rewriting.specs.Marked.{Marking, sought_in}
+use Rattle.rewriting.specs.inner.Marked.{Marking, sought_in}
 use Rattle.edit_plan.proofs.Registered.{list_at}
 use Rattle.edit_plan.proofs.sought.SoughtIndex.at.Goals as goal
 

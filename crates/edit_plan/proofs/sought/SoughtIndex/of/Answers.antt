@@ -2,7 +2,7 @@ use Rattle.std.proofs.Common.{◌≡◌, ◌+◌, ℕ, ◌++◌, [], ◌∷◌, 
 use Rattle.std.proofs.lemmas.List.{length-map, map-append, length-take-le}
 use Rattle.cst_core.specs.Element.{address}
 use Rattle.cst_core.specs.SyntaxElement.{element_of}
-use Rattle.edit_plan.specs.Sought.{addresses, sought_from, sought_one}
+use Rattle.edit_plan.specs.inner.Sought.{addresses, sought_from, sought_one}
 use Rattle.edit_change.proofs.Positions.{push-of-take}
 use Rattle.edit_plan.proofs.Registered.{sought-more}
 use Rattle.edit_plan.proofs.sought.SoughtIndex.of.Goals as goal

@@ -1,6 +1,6 @@
 use Rattle.std.proofs.Common.{◌≡◌, take}
 use Rattle.cst_core.specs.Element.{Address}
-use Rattle.edit_plan.specs.Sought.{addresses, sought_from, sought_at}
+use Rattle.edit_plan.specs.inner.Sought.{addresses, sought_from, sought_at}
 use Rattle.edit_plan.proofs.sought.SoughtIndex.of.Given as goal
 
 abbrev pub invariant-loop-number : goal.invariant-loop-number

@@ -2,7 +2,7 @@ use Rattle.std.proofs.Common.{◌≡◌, suc, ℕ, ◌++◌, length, take, drop,
 use Rattle.cst_core.specs.Path.{counted_from}
 use Rattle.cst_core.specs.Element.{Address, address}
 use Rattle.cst_core.specs.SyntaxElement.{element_of}
-use Rattle.edit_plan.specs.Sought.{sought_at}
+use Rattle.edit_plan.specs.inner.Sought.{sought_at}
 use Rattle.edit_plan.proofs.Registered.{one_at, one-deeper, all-ancestors}
 use Rattle.edit_plan.proofs.sought.SoughtIndex.register.Goals as goal
 

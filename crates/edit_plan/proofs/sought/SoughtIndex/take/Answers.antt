@@ -1,6 +1,6 @@
 use Rattle.std.proofs.Common.{[], ap, sym, ◌∙◌}
 use Rattle.std.specs.Option.{option_map_or}
-use Rattle.rewriting.specs.Marked.{sought_in}
+use Rattle.rewriting.specs.inner.Marked.{sought_in}
 use Rattle.edit_plan.proofs.Registered.{without}
 use Rattle.edit_plan.proofs.sought.SoughtIndex.take.Goals as goal
 

@@ -1,7 +1,7 @@
 use Rattle.std.proofs.Common.{◌≡◌, ◌++◌, ◌∷◌, [], Bool, true, false, not, Option, None, Some, is_some, is_none, position, length, arith, refl, sym, ◌∙◌, ap}
 use Rattle.cst_core.specs.SyntaxElement.{element_of}
 use Rattle.edit_change.specs.declared.change.Change.TheVariants.{Replace}
-use Rattle.syntax_editor.specs.Indexing.{replaced_at, is_replace_at, found}
+use Rattle.syntax_editor.specs.inner.Indexing.{replaced_at, is_replace_at, found}
 use Rattle.syntax_editor.proofs.Indexed.{added-agrees}
 use Rattle.syntax_editor.proofs.change_list.ChangeList.add_replace.Goals as goal
 

@@ -1,6 +1,6 @@
 use Rattle.std.proofs.Common.{◌≡◌, None, is_none, sym, ◌∙◌, ap}
 use Rattle.std.specs.List.{list_any}
-use Rattle.syntax_editor.specs.Indexing.{replaced_at, replacements_at}
+use Rattle.syntax_editor.specs.inner.Indexing.{replaced_at, replacements_at}
 use Rattle.syntax_editor.proofs.Indexed.{nothing-deleted}
 use Rattle.syntax_editor.proofs.change_list.ChangeList.has_deletion.Goals as goal
 

@@ -1,5 +1,5 @@
 use Rattle.std.proofs.Common.{sym, ◌∙◌, ap}
-use Rattle.syntax_editor.specs.Indexing.{replaced_at}
+use Rattle.syntax_editor.specs.inner.Indexing.{replaced_at}
 use Rattle.syntax_editor.proofs.Indexed.{said-pushed}
 use Rattle.syntax_editor.proofs.change_list.ChangeList.push.Goals as goal
 

@@ -2,7 +2,7 @@ use Rattle.std.proofs.Common.{◌≡◌, None, Some, OnOk, position, option_map,
 use Rattle.cst_core.specs.SyntaxElement.{element_of}
 use Rattle.edit_change.specs.declared.change.Change.TheVariants.{Replace}
 use Rattle.syntax_editor.specs.Recording.{with_replacement}
-use Rattle.syntax_editor.specs.Indexing.{replaced_at, is_replace_at, found, replace_at}
+use Rattle.syntax_editor.specs.inner.Indexing.{replaced_at, is_replace_at, found, replace_at}
 use Rattle.syntax_editor.proofs.TakenUp.{taken-set, taken-none}
 use Rattle.syntax_editor.proofs.Indexed.{nothing-said, something-said, said-replaced}
 use Rattle.syntax_editor.proofs.change_list.ChangeList.replace.Goals as goal

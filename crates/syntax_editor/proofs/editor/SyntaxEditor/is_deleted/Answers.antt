@@ -4,7 +4,7 @@ use Rattle.std.specs.Prelude.{is_none}
 use Rattle.std.specs.List.{list_any}
 use Rattle.cst_core.specs.SyntaxElement.{element_of}
 use Rattle.syntax_editor.specs.Recording.{is_deleted}
-use Rattle.syntax_editor.specs.Indexing.{replacements_at}
+use Rattle.syntax_editor.specs.inner.Indexing.{replacements_at}
 use Rattle.syntax_editor.proofs.Indexed.{deleted-by-path, deleted-elsewhere}
 use Rattle.syntax_editor.proofs.editor.SyntaxEditor.is_deleted.Goals as goal
 

@@ -1,7 +1,7 @@
 use Rattle.std.proofs.Common.{◌≡◌, true, Some, sym, ◌∙◌, ap, rules}
 use Rattle.std.specs.Option.{option_copied_mut}
 use Rattle.syntax_editor.specs.declared.replace_index.Replaced.{Replaced}
-use Rattle.syntax_editor.specs.Indexing.{found}
+use Rattle.syntax_editor.specs.inner.Indexing.{found}
 use Rattle.syntax_editor.proofs.Indexed.{path-updated, marked}
 use Rattle.syntax_editor.proofs.replace_index.ReplaceIndex.mark_deleted.Goals as goal
 

@@ -18,10 +18,10 @@ use Rattle.std.specs.Option.{option_map_or}
 use Rattle.cst_core.specs.Path.{Path, counted_from}
 use Rattle.cst_core.specs.Element.{subtree}
 use Rattle.rewriting.specs.declared.given.Given.{Given}
-use Rattle.rewriting.specs.Pass.{kind_only, given_by}
+use Rattle.rewriting.specs.inner.Pass.{kind_only, given_by}
 use Rattle.rewriting.specs.Rewriting.{NumberedAim, rewritten}
 use Rattle.edit_map.specs.Mapping.{Mapping}
-use Rattle.edit_change.specs.AimFrom.{aim_from, depth}
+use Rattle.edit_change.specs.inner.AimFrom.{aim_from, depth}
 use Rattle.edit_plan.specs.Places.{IsPlaceIn, HasPlace}
 use Rattle.edit_change.specs.Nesting.{owner}
 use Rattle.edit_plan.specs.NewTree.{plain, payload_of, dependents, given}

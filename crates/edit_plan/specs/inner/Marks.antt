@@ -14,12 +14,12 @@ use Rattle.cst_core.specs.Path.{Path}
 use Rattle.cst_core.specs.Tree.{relabelled}
 use Rattle.cst_core.specs.Element.{Address, Element, address, subtree}
 use Rattle.rewriting.specs.Rewriting.{NumberedAim, rewritten}
-use Rattle.rewriting.specs.Marked.{MarkTree, Marking, AreMarked, wanted}
+use Rattle.rewriting.specs.inner.Marked.{MarkTree, Marking, AreMarked, wanted}
 use Rattle.rewriting.specs.Topmost.{paths_of}
 use Rattle.rewriting.specs.declared.mark.GivenMarks.{GivenMarks}
-use Rattle.edit_plan.specs.OwnerTables.{depth_of}
+use Rattle.edit_plan.specs.inner.OwnerTables.{depth_of}
 use Rattle.edit_plan.specs.NewTree.{OriginTree, dependents, given}
-use Rattle.edit_plan.specs.Sought.{sought_from, sought_at, registered_at}
+use Rattle.edit_plan.specs.inner.Sought.{sought_from, sought_at, registered_at}
 use Rattle.edit_change.specs.declared.change.Change.{Change}
 use Rattle.edit_plan.specs.declared.sought.SoughtIndex.{SoughtIndex}
 

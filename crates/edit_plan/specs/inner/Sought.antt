@@ -13,7 +13,7 @@ use Rattle.cst_core.specs.Path.{Path}
 use Rattle.cst_core.specs.Element.{Address, address, same_address}
 use Rattle.cst_core.specs.SyntaxElement.{element_of}
 use Rattle.cst_core.specs.declared.element.SyntaxElement.{SyntaxElement}
-use Rattle.rewriting.specs.Marked.{Marking, sought_in, marks_at}
+use Rattle.rewriting.specs.inner.Marked.{Marking, sought_in, marks_at}
 use Rattle.edit_plan.specs.declared.sought.Spot.{Spot}
 use Rattle.edit_plan.specs.declared.sought.SoughtIndex.{SoughtIndex}
 

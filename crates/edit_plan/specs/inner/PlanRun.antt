@@ -16,14 +16,14 @@ use Rattle.cst_core.specs.SyntaxElement.{element_of}
 use Rattle.cst_core.specs.declared.element.SyntaxElement.{SyntaxElement}
 use Rattle.edit_map.specs.Mapping.{followed, mapped_elements}
 use Rattle.edit_plan.specs.Plan.{Plan, IsPlan, WouldMake, registered}
-use Rattle.edit_change.specs.Fate.{fate}
-use Rattle.edit_plan.specs.Marks.{numbered_paths}
-use Rattle.edit_plan.specs.OwnerTables.{places_in, AreDependents, AreGiven}
+use Rattle.edit_change.specs.inner.Fate.{fate}
+use Rattle.edit_plan.specs.inner.Marks.{numbered_paths}
+use Rattle.edit_plan.specs.inner.OwnerTables.{places_in, AreDependents, AreGiven}
 use Rattle.edit_change.specs.Change.{payload}
 use Rattle.edit_plan.specs.Results.{changed, copies_of}
 use Rattle.edit_plan.specs.NewTree.{OriginTree, plain, is_free, independents, new_tree}
 use Rattle.rewriting.specs.declared.given.Given.{Given}
-use Rattle.rewriting.specs.Pass.{kind_only, given_by}
+use Rattle.rewriting.specs.inner.Pass.{kind_only, given_by}
 use Rattle.rewriting.specs.Rewriting.{rewritten_whole}
 use Rattle.edit_change.specs.declared.change.Change.{Change}
 use Rattle.edit_plan.specs.declared.dependent.Dependent.{Dependent}

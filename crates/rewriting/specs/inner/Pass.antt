@@ -6,7 +6,7 @@ use Rattle.std.specs.Option.{option_map_or}
 use Rattle.green_tree.specs.Path.{Path}
 use Rattle.green_tree.specs.Tree.{SyntaxTree}
 use Rattle.rewriting.specs.declared.given.Given.{Given}
-use Rattle.rewriting.specs.Given.{given_trees}
+use Rattle.rewriting.specs.inner.Given.{given_trees}
 
 abbrev pub kind_only : Path → ℕ → ℕ
 kind_only p k = k

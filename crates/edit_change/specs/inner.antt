@@ -1,0 +1,6 @@
+-- What private calls cite, and the crates above for theirs: no contract that a user calls by names any of it.
+pub mod PositionInCode
+pub mod AimFrom
+pub mod Targets
+pub mod TargetIndex
+pub mod Fate

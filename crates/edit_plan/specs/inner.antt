@@ -1,0 +1,7 @@
+-- What private calls cite, and the crates above for theirs: no contract that a user calls by names any of it.
+pub mod FirstNode
+pub mod OwnerTables
+pub mod PlacesRefusal
+pub mod PlanRun
+pub mod Sought
+pub mod Marks
