@@ -5,6 +5,7 @@
 --     removed_slots             the slots of these
 --     removed_children          the children there
 --     remove_attrs_and_docs     the list of changes after their deletion, in order
+--     without_attrs_and_docs    an editor after it
 --     is_foreign                the node, or one of these children, is not of the root's tree
 --     RemovalRefuses            why they are not deleted
 use Rattle.std.specs.Prelude.{◌≡◌, ℕ, ◌-◌, ◌==◌, ◌&&◌, ◌||◌, not, Bool, true, false, List, [], ◌∷◌, length, map, filter, slice_get}
@@ -19,6 +20,7 @@ use Rattle.cst_core.specs.declared.element.SyntaxElement.TheVariants.{Node}
 use Rattle.cst_core.specs.Kinds.{ATTR, COMMENT, DOC_COMMENT, WHITESPACE}
 use Rattle.edit_plan.specs.Fits.{is_native}
 use Rattle.edit_change.specs.declared.change.Change.{Change}
+use Rattle.syntax_editor.specs.Editor.{Editor}
 use Rattle.syntax_editor.specs.Recording.{delete}
 use Rattle.syntax_editor.specs.declared.error.RecordError.{RecordError}
 use Rattle.syntax_editor.specs.declared.error.RecordError.TheVariants as record_error
@@ -40,6 +42,9 @@ removed_children n = map (λ i. syntax_of (below n (i ∷ []))) (removed_slots (
 
 abbrev pub remove_attrs_and_docs : Element → List Change → List Change
 remove_attrs_and_docs n cs = fold (λ ds e. delete e ds) cs (removed_children n)
+
+abbrev pub without_attrs_and_docs : Element → Editor → Editor
+without_attrs_and_docs n e = record e { changes = remove_attrs_and_docs n e.changes }
 
 abbrev pub is_foreign : Element → Element → Bool
 is_foreign root n = list_any (λ e. not (is_native root e)) (Node n ∷ removed_children n)

@@ -2,14 +2,18 @@
 --     Editor, IsEditor              the root that is edited, the changes recorded so far, the registrations (elements with annotations) and the factory's mappings; what is true of every editor
 --     factory_code, editor_code     the code of a factory's mappings; that of an editor
 --     has_parent                    an element is not the root of its tree
---     edited_root                   the root that a new editor edits, and whether it is one of a tree of its own that is made for it
---     after_call, RecordRefuses     what a call that records leaves behind; why it is refused
+--     edited_root, new_editor       the root that a new editor edits, one of a tree of its own where it has a parent; that editor
+--     LacksRootNumber               such a tree is to be made, and its source of numbers is spent
+--     after_call, Records           what a call that records leaves behind; it was carried out
+--     Takes, RecordRefuses          nothing speaks against a call; why it is refused
 --     registered, annotated         an editor with more registrations, behind those before; each of so many elements with an annotation
+--     registered_with               an editor in which these elements are registered with an annotation, too
 --     plan_of, FinishRefuses        the plan of an editor; why its changes are not carried out
-use Rattle.std.specs.Prelude.{◌≡◌, ℕ, Bool, true, false, cond, List, [], ◌++◌, map, Option, Some, unwrap_or, All, refl}
+use Rattle.std.specs.Prelude.{◌≡◌, ℕ, Bool, true, false, cond, List, [], ◌++◌, map, Option, None, Some, unwrap_or, All, IsTrue, refl}
 use Rattle.std.specs.Coded.{Coded, code_by, coded_ℕ, coded_list, coded_option, coded×}
 use Rattle.cst_core.specs.Element.{Element, subtree, element_code}
 use Rattle.cst_core.specs.Path.{same_path}
+use Rattle.cst_core.specs.TreeIds.{IsSpent}
 use Rattle.edit_map.specs.Builder.{mapping_code}
 use Rattle.edit_map.specs.Mapping.{Mapping}
 use Rattle.edit_change.specs.declared.change.Change.{Change}
@@ -49,9 +53,21 @@ has_parent e = cond (same_path e.path []) false true
 abbrev pub edited_root : ℕ → Element → Element
 edited_root number e = cond (has_parent e) (record { number = number; root = subtree e; path = [] }) e
 
+abbrev pub new_editor : ℕ → Element → Editor
+new_editor number e = record { root = edited_root number e; changes = []; registrations = []; factory = Some [] }
+
+abbrev pub LacksRootNumber : ℕ → Element → Type 0
+LacksRootNumber number e = IsTrue (has_parent e) × IsSpent number
+
 -- ---- recording
 abbrev pub after_call : RecordCall → Editor → Editor
 after_call call e = record e { changes = recorded call e.changes }
+
+abbrev pub Records : RecordCall → Editor → Editor → Type 0
+Records call before after = after ≡ after_call call before
+
+abbrev pub Takes : Editor → RecordCall → Type 0
+Takes e call = refusal e.root call ≡ None
 
 -- A call is refused for its first reason, or for want of memory: what it is given may ask for some before any reason is looked for.
 abbrev pub RecordRefuses : RecordCall → Editor → RecordError → Type 0
@@ -69,6 +85,9 @@ registered more e = record e { registrations = e.registrations ++ more }
 
 abbrev pub annotated : ℕ → List SyntaxElement → List (SyntaxElement × ℕ)
 annotated annotation es = map (λ e. (e, annotation)) es
+
+abbrev pub registered_with : ℕ → List SyntaxElement → Editor → Editor
+registered_with annotation es e = registered (annotated annotation es) e
 
 -- ---- finishing
 -- where the factory keeps no mappings, nothing is mapped

@@ -5,6 +5,7 @@
 --     between                      the whitespace between two neighbors: the first line of the table that fits
 --     space_before, space_after    the whitespace at a position before the first new element, and behind the last
 --     space_behind                 that after an element, where the parent and the first new element are these
+--     space_following              that after an element, before a first new one
 --     next_of                      the element that stands behind a position
 --     is_deep                      a new line at a level past the greatest one
 --     space_text                   whitespace as a text
@@ -84,9 +85,12 @@ opens_list parent anchor first = is anchor L_CURLY && ((is parent ITEM_LIST && i
 abbrev pub space_behind : Neighbor → Neighbor → Neighbor → Space
 space_behind parent anchor first = cond (opens_list parent anchor first) (NewLine (suc parent.level)) (between anchor first)
 
+abbrev pub space_following : Element → Element → Space
+space_following anchor first = space_behind (neighbor (element_at anchor (parent_path anchor.path))) (neighbor anchor) (neighbor first)
+
 abbrev pub space_before : Position → Element → Space
 space_before (FirstChild n) first = NoSpace
-space_before (After e) first = space_behind (neighbor (element_at (element_of e) (parent_path (element_of e).path))) (neighbor (element_of e)) (neighbor first)
+space_before (After e) first = space_following (element_of e) first
 
 -- ---- behind the last new element
 abbrev pub next_of : Position → Option SyntaxElement

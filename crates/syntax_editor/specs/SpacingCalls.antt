@@ -5,6 +5,7 @@
 --     with_spaces                 new elements between two whitespaces
 --     numbers_of, NumbersRefuse   how many numbers whitespace needs; so many are not there
 --     IsRound, RoundRefuses       the whitespace on both sides; why it is not found
+--     spaced_insert               the insert that such a call records, where the next tree number is this one
 --     SpacingRefuses              why an insert with whitespace is refused
 use Rattle.std.specs.Prelude.{◌≡◌, ◌<◌, ◌+◌, ◌||◌, ℕ, true, false, List, ◌++◌, length, Some, Result, Ok, Err}
 use Rattle.cst_core.specs.Element.{Element}
@@ -15,9 +16,10 @@ use Rattle.syntax_editor.specs.declared.spacing.Space.TheVariants as code_space
 use Rattle.syntax_editor.specs.declared.error.RecordError.{RecordError}
 use Rattle.syntax_editor.specs.declared.error.RecordError.TheVariants.{Foreign, BadRange, DeletesRoot, RootReplacement, LevelTooLarge, NoTreeNumber, Memory}
 use Rattle.indentation.specs.Level.{is_too_deep}
-use Rattle.syntax_editor.specs.Spacing.{Space, NoSpace, OneSpace, NewLine, is_deep, space_elements, space_in_front, space_at_end, spacing_refusal}
+use Rattle.syntax_editor.specs.Spacing.{Space, NoSpace, OneSpace, NewLine, is_deep, space_elements, space_in_front, space_at_end, spaced, spacing_refusal}
 use Rattle.edit_plan.specs.Fits.{is_native_position}
 use Rattle.syntax_editor.specs.Editor.{Editor}
+use Rattle.syntax_editor.specs.RecordCall.{RecordCall, InsertingAll}
 use Rattle.indentation.specs.declared.level.IndentLevel.{IndentLevel}
 
 abbrev pub space_of : code.Space → Space
@@ -77,6 +79,9 @@ RoundRefuses root at es RootReplacement = ⊥
 RoundRefuses root at es LevelTooLarge = (is_native_position root at ≡ true) × ((is_deep (space_in_front at es) || is_deep (space_at_end at es)) ≡ true)
 RoundRefuses root at es NoTreeNumber = ⊥
 RoundRefuses root at es Memory = Unit {0}
+
+abbrev pub spaced_insert : ℕ → Position → List SyntaxElement → RecordCall
+spaced_insert number at es = InsertingAll at (spaced number at es)
 
 abbrev pub SpacingRefuses : Editor → ℕ → Position → List SyntaxElement → RecordError → Type 0
 SpacingRefuses e number at es Foreign = spacing_refusal e.root number at es ≡ Some Foreign

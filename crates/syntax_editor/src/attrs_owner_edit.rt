@@ -5,7 +5,7 @@ ghost use Rattle.cst_core.specs.Tree.{children, label};
 ghost use Rattle.cst_core.specs.Green.{branch_tree};
 ghost use Rattle.cst_core.specs.Kinds.{ATTR, COMMENT, DOC_COMMENT};
 ghost use Rattle.edit_plan.specs.Fits.{is_native};
-ghost use Rattle.syntax_editor.specs.AttrsAndDocs.{is_attr_or_doc, is_whitespace, is_removed, removed_children, remove_attrs_and_docs, is_foreign, RemovalRefuses};
+ghost use Rattle.syntax_editor.specs.AttrsAndDocs.{is_attr_or_doc, is_whitespace, is_removed, removed_children, without_attrs_and_docs, is_foreign, RemovalRefuses};
 
 use crate::editor::SyntaxEditor;
 use crate::error::RecordError;
@@ -25,7 +25,7 @@ pub trait AttrsOwnerEdit: HasAttrs {
         alloc: Global,
         editor: &mut SyntaxEditor,
     ) -> Result<(), RecordError>
-        ensures recorded { OnOk result (editor.new ≡ record editor.old { changes = remove_attrs_and_docs (Self.syntax_node self.now) editor.old.changes }) }
+        ensures recorded { OnOk result (editor.new ≡ without_attrs_and_docs (Self.syntax_node self.now) editor.old) }
         ensures accepted { OnOk result (is_foreign editor.old.root (Self.syntax_node self.now) ≡ false) }
         ensures refused { IfErr result (RemovalRefuses editor.old.root (Self.syntax_node self.now)) }
         ensures unchanged { OnErr result (editor.new ≡ editor.old) }
@@ -39,7 +39,7 @@ impl<N: HasAttrs> AttrsOwnerEdit for N {}
 impl SyntaxEditor {
     // Deletes the attributes and comments of a node.
     fn delete_attrs_and_docs(&mut self, alloc: Global, node: &SyntaxNode) -> Result<(), RecordError>
-        ensures recorded { OnOk result (self.new ≡ record self.old { changes = remove_attrs_and_docs node.now self.old.changes }) }
+        ensures recorded { OnOk result (self.new ≡ without_attrs_and_docs node.now self.old) }
         ensures accepted { OnOk result (is_foreign self.old.root node.now ≡ false) }
         ensures refused { IfErr result (RemovalRefuses self.old.root node.now) }
         ensures unchanged { OnErr result (self.new ≡ self.old) }

@@ -1,11 +1,10 @@
-ghost use Rattle.std.specs.Prelude.{◌≡◌, ◌↔◌, ◌+◌, ◌<◌, cond, [], Some, IsTrue, IfOk, IfErr, OnOk, OnErr};
-ghost use Rattle.cst_core.specs.TreeIds.{IsSpent};
+ghost use Rattle.std.specs.Prelude.{◌≡◌, ◌↔◌, ◌+◌, ◌<◌, cond, [], IfOk, IfErr, OnOk, OnErr, Some};
 ghost use Rattle.cst_core.specs.Green.{length_limit};
 ghost use Rattle.cst_core.specs.Tree.{text_length};
 ghost use Rattle.edit_plan.specs.Plan.{Makes, IsPlan, BuildRefuses};
 ghost use Rattle.std.specs.Borrow.{sem};
 ghost use Rattle.syntax_editor.specs.Lending.{LendsFactory};
-ghost use Rattle.syntax_editor.specs.Editor.{has_parent, edited_root, plan_of, FinishRefuses};
+ghost use Rattle.syntax_editor.specs.Editor.{has_parent, edited_root, new_editor, plan_of, FinishRefuses, LacksRootNumber};
 
 use crate::change_list::ChangeList;
 use crate::factory::SyntaxFactory;
@@ -49,11 +48,11 @@ impl SyntaxEditor {
         ids: &mut TreeIds,
         root: SyntaxNode,
     ) -> Result<(SyntaxEditor, SyntaxNode), TreeError>
-        ensures editor { IfOk result (λ r. r.0 ≡ record { root = edited_root ids.old root; changes = []; registrations = []; factory = Some [] }) }
+        ensures editor { IfOk result (λ r. r.0 ≡ new_editor ids.old root) }
         ensures root { IfOk result (λ r. r.1 ≡ edited_root ids.old root) }
         ensures drawn { OnOk result (ids.new ≡ cond (has_parent root) (ids.old + 1) ids.old) }
         ensures fits { ¬ (result ≡ Err TreeError.TooLong) }
-        ensures no_number { (result ≡ Err TreeError.NoTreeNumber) ↔ (IsTrue (has_parent root) × IsSpent ids.old) }
+        ensures no_number { (result ≡ Err TreeError.NoTreeNumber) ↔ LacksRootNumber ids.old root }
         ensures err { OnErr result (ids.new ≡ ids.old) }
     {
         if root.slots().is_empty() {

@@ -2,8 +2,7 @@
 ghost use Rattle.std.specs.Prelude.{◌≡◌, ◌↔◌, [], ◌++◌, IsTrue, IfOk, IfErr, OnOk, OnErr, All, unwrap_or};
 ghost use Rattle.edit_map.specs.Builder.{IsMadeOf};
 ghost use Rattle.edit_plan.specs.Fits.{Fits};
-ghost use Rattle.syntax_editor.specs.Recording.{merged};
-ghost use Rattle.syntax_editor.specs.Merging.{AreMergeable, IsMerged, MergeRefuses};
+ghost use Rattle.syntax_editor.specs.Merging.{AreMergeable, IsMerged, MergeRefuses, taken_over};
 
 use crate::editor::SyntaxEditor;
 use crate::error::MergeError;
@@ -54,7 +53,7 @@ impl SyntaxEditor {
     // are unchanged. All growth comes before any change.
     fn take_over(&mut self, alloc: Global, other: &mut SyntaxEditor) -> Result<(), AllocError>
         requires { All (Fits self.old.root) other.old.changes }
-        ensures ok { OnOk result (self.new ≡ record self.old { changes = merged self.old.changes other.old.changes; registrations = merged self.old.registrations other.old.registrations }) }
+        ensures ok { OnOk result (self.new ≡ taken_over self.old other.old) }
         ensures err { OnErr result (self.new ≡ self.old) }
         ensures kept { OnErr result (other.new ≡ other.old) }
     {

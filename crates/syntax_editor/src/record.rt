@@ -1,11 +1,11 @@
 //! The calls that record a change.
-ghost use Rattle.std.specs.Prelude.{◌≡◌, false, ◌&&◌, ◌||◌, not, [], ◌∷◌, ◌++◌, IfOk, IfErr, OnOk, OnErr, None};
+ghost use Rattle.std.specs.Prelude.{◌≡◌, false, ◌&&◌, ◌||◌, not, [], ◌∷◌, ◌++◌, IfOk, IfErr, OnOk, OnErr};
 ghost use Rattle.cst_core.specs.Element.{Element};
 ghost use Rattle.edit_plan.specs.Fits.{Fits, is_native, is_root, is_one_node};
 ghost use Rattle.syntax_editor.specs.Recording.{is_deleted};
 ghost use Rattle.syntax_editor.specs.inner.Indexing.{is_replace};
-ghost use Rattle.syntax_editor.specs.RecordCall.{Inserting, InsertingAll, Deleting, Replacing, ReplacingWithMany, DeletingAll, ReplacingAll, refusal};
-ghost use Rattle.syntax_editor.specs.Editor.{after_call, RecordRefuses};
+ghost use Rattle.syntax_editor.specs.RecordCall.{Inserting, InsertingAll, Deleting, Replacing, ReplacingWithMany, DeletingAll, ReplacingAll};
+ghost use Rattle.syntax_editor.specs.Editor.{Records, Takes, RecordRefuses};
 
 use crate::editor::SyntaxEditor;
 use crate::error::RecordError;
@@ -24,8 +24,8 @@ impl SyntaxEditor {
         at: Position,
         element: E,
     ) -> Result<(), RecordError>
-        ensures recorded { OnOk result (self.new ≡ after_call (Inserting at (E.element element)) self.old) }
-        ensures accepted { OnOk result (refusal self.old.root (Inserting at (E.element element)) ≡ None) }
+        ensures recorded { OnOk result (Records (Inserting at (E.element element)) self.old self.new) }
+        ensures accepted { OnOk result (Takes self.old (Inserting at (E.element element))) }
         ensures refused { IfErr result (RecordRefuses (Inserting at (E.element element)) self.old) }
         ensures unchanged { OnErr result (self.new ≡ self.old) }
     {
@@ -45,10 +45,10 @@ impl SyntaxEditor {
         at: Position,
         elements: Vec<SyntaxElement>,
     ) -> Result<(), RecordError>
-        ensures recorded { OnOk result (self.new ≡ after_call (InsertingAll at elements.items) self.old) }
-        ensures accepted { OnOk result (refusal self.old.root (InsertingAll at elements.items) ≡ None) }
+        ensures recorded { OnOk result (Records (InsertingAll at elements.items) self.old self.new) }
+        ensures accepted { OnOk result (Takes self.old (InsertingAll at elements.items)) }
         ensures refused { IfErr result (RecordRefuses (InsertingAll at elements.items) self.old) }
-        ensures memory_last { result ≡ Err RecordError.Memory → refusal self.old.root (InsertingAll at elements.items) ≡ None }
+        ensures memory_last { result ≡ Err RecordError.Memory → Takes self.old (InsertingAll at elements.items) }
         ensures unchanged { OnErr result (self.new ≡ self.old) }
     {
         if !at.is_native(&self.root) {
@@ -61,8 +61,8 @@ impl SyntaxEditor {
     ///
     /// `Foreign` comes first, then `DeletesRoot`. `Memory` may come before them. The editor is unchanged after each.
     pub fn delete<E: Element>(&mut self, alloc: Global, element: E) -> Result<(), RecordError>
-        ensures recorded { OnOk result (self.new ≡ after_call (Deleting (E.element element)) self.old) }
-        ensures accepted { OnOk result (refusal self.old.root (Deleting (E.element element)) ≡ None) }
+        ensures recorded { OnOk result (Records (Deleting (E.element element)) self.old self.new) }
+        ensures accepted { OnOk result (Takes self.old (Deleting (E.element element))) }
         ensures refused { IfErr result (RecordRefuses (Deleting (E.element element)) self.old) }
         ensures unchanged { OnErr result (self.new ≡ self.old) }
     {
@@ -79,10 +79,10 @@ impl SyntaxEditor {
         first: SyntaxElement,
         last: SyntaxElement,
     ) -> Result<(), RecordError>
-        ensures recorded { OnOk result (self.new ≡ after_call (DeletingAll first last) self.old) }
-        ensures accepted { OnOk result (refusal self.old.root (DeletingAll first last) ≡ None) }
+        ensures recorded { OnOk result (Records (DeletingAll first last) self.old self.new) }
+        ensures accepted { OnOk result (Takes self.old (DeletingAll first last)) }
         ensures refused { IfErr result (RecordRefuses (DeletingAll first last) self.old) }
-        ensures memory_last { result ≡ Err RecordError.Memory → refusal self.old.root (DeletingAll first last) ≡ None }
+        ensures memory_last { result ≡ Err RecordError.Memory → Takes self.old (DeletingAll first last) }
         ensures unchanged { OnErr result (self.new ≡ self.old) }
     {
         if is_foreign_range(&self.root, &first, &last) {
@@ -112,8 +112,8 @@ impl SyntaxEditor {
         element: E,
         new: F,
     ) -> Result<(), RecordError>
-        ensures recorded { OnOk result (self.new ≡ after_call (Replacing (E.element element) (F.element new)) self.old) }
-        ensures accepted { OnOk result (refusal self.old.root (Replacing (E.element element) (F.element new)) ≡ None) }
+        ensures recorded { OnOk result (Records (Replacing (E.element element) (F.element new)) self.old self.new) }
+        ensures accepted { OnOk result (Takes self.old (Replacing (E.element element) (F.element new))) }
         ensures refused { IfErr result (RecordRefuses (Replacing (E.element element) (F.element new)) self.old) }
         ensures unchanged { OnErr result (self.new ≡ self.old) }
     {
@@ -132,8 +132,8 @@ impl SyntaxEditor {
         element: E,
         new: Vec<SyntaxElement>,
     ) -> Result<(), RecordError>
-        ensures recorded { OnOk result (self.new ≡ after_call (ReplacingWithMany (E.element element) new.items) self.old) }
-        ensures accepted { OnOk result (refusal self.old.root (ReplacingWithMany (E.element element) new.items) ≡ None) }
+        ensures recorded { OnOk result (Records (ReplacingWithMany (E.element element) new.items) self.old self.new) }
+        ensures accepted { OnOk result (Takes self.old (ReplacingWithMany (E.element element) new.items)) }
         ensures refused { IfErr result (RecordRefuses (ReplacingWithMany (E.element element) new.items) self.old) }
         ensures unchanged { OnErr result (self.new ≡ self.old) }
     {
@@ -158,10 +158,10 @@ impl SyntaxEditor {
         last: SyntaxElement,
         new: Vec<SyntaxElement>,
     ) -> Result<(), RecordError>
-        ensures recorded { OnOk result (self.new ≡ after_call (ReplacingAll first last new.items) self.old) }
-        ensures accepted { OnOk result (refusal self.old.root (ReplacingAll first last new.items) ≡ None) }
+        ensures recorded { OnOk result (Records (ReplacingAll first last new.items) self.old self.new) }
+        ensures accepted { OnOk result (Takes self.old (ReplacingAll first last new.items)) }
         ensures refused { IfErr result (RecordRefuses (ReplacingAll first last new.items) self.old) }
-        ensures memory_last { result ≡ Err RecordError.Memory → refusal self.old.root (ReplacingAll first last new.items) ≡ None }
+        ensures memory_last { result ≡ Err RecordError.Memory → Takes self.old (ReplacingAll first last new.items) }
         ensures unchanged { OnErr result (self.new ≡ self.old) }
     {
         if is_foreign_range(&self.root, &first, &last) {
@@ -207,8 +207,8 @@ impl SyntaxEditor {
     }
 
     fn delete_element(&mut self, alloc: Global, element: SyntaxElement) -> Result<(), RecordError>
-        ensures recorded { OnOk result (self.new ≡ after_call (Deleting element) self.old) }
-        ensures accepted { OnOk result (refusal self.old.root (Deleting element) ≡ None) }
+        ensures recorded { OnOk result (Records (Deleting element) self.old self.new) }
+        ensures accepted { OnOk result (Takes self.old (Deleting element)) }
         ensures refused { IfErr result (RecordRefuses (Deleting element) self.old) }
         ensures unchanged { OnErr result (self.new ≡ self.old) }
     {
@@ -227,8 +227,8 @@ impl SyntaxEditor {
         element: SyntaxElement,
         new: SyntaxElement,
     ) -> Result<(), RecordError>
-        ensures recorded { OnOk result (self.new ≡ after_call (Replacing element new) self.old) }
-        ensures accepted { OnOk result (refusal self.old.root (Replacing element new) ≡ None) }
+        ensures recorded { OnOk result (Records (Replacing element new) self.old self.new) }
+        ensures accepted { OnOk result (Takes self.old (Replacing element new)) }
         ensures refused { IfErr result (RecordRefuses (Replacing element new) self.old) }
         ensures unchanged { OnErr result (self.new ≡ self.old) }
     {

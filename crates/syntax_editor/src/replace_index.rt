@@ -1,6 +1,6 @@
-ghost use Rattle.std.specs.Prelude.{◌≡◌, ◌<◌, ◌≤◌, ◌+◌, cond, Some, None, OnOk, OnErr};
-ghost use Rattle.cst_core.specs.Path.{Path, same_path};
-ghost use Rattle.syntax_editor.specs.inner.Indexing.{found, as_deleted, room};
+ghost use Rattle.std.specs.Prelude.{◌≡◌, ◌<◌, ◌≤◌, ◌+◌, Some, None, OnOk, OnErr};
+ghost use Rattle.cst_core.specs.Path.{Path};
+ghost use Rattle.syntax_editor.specs.inner.Indexing.{found, room, SaysAt, SaysDeleted};
 
 use std::alloc::{AllocError, Global};
 use std::collections::HashMap;
@@ -38,7 +38,7 @@ impl ReplaceIndex {
 
     /// Says this of the element at a path from now on. Without memory for that nothing changes.
     pub(crate) fn insert(&mut self, path: Vec<usize>, replaced: Replaced) -> Result<(), AllocError>
-        ensures ok { OnOk result ((p : Path) → found self.new p ≡ cond (same_path path.items p) (Some replaced) (found self.old p)) }
+        ensures ok { OnOk result (SaysAt path.items (Some replaced) self.old self.new) }
         ensures err { OnErr result ((p : Path) → found self.new p ≡ found self.old p) }
     {
         self.places.insert(path, replaced)?;
@@ -56,7 +56,7 @@ impl ReplaceIndex {
     /// Says this of the element at a path from now on, where there is room for it.
     pub(crate) fn insert_reserved(&mut self, path: Vec<usize>, replaced: Replaced)
         requires { 0 < room self.old }
-        ensures found { (p : Path) → found self.new p ≡ cond (same_path path.items p) (Some replaced) (found self.old p) }
+        ensures found { SaysAt path.items (Some replaced) self.old self.new }
         ensures room { room self.old ≤ room self.new + 1 }
     {
         let inserted: Result<_, _> = self.places.insert(path, replaced);
@@ -65,7 +65,7 @@ impl ReplaceIndex {
 
     /// Says that the element at a path is deleted, if it says something of it.
     pub(crate) fn mark_deleted(&mut self, path: &[usize])
-        ensures { (p : Path) → found self.new p ≡ cond (same_path path.now p) (as_deleted (found self.old p)) (found self.old p) }
+        ensures { SaysDeleted path.now self.old self.new }
     {
         if let Some(replaced) = self.places.get_mut(path) {
             replaced.is_deleted = true;

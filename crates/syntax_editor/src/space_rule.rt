@@ -1,7 +1,7 @@
 //! The table of the whitespace between two elements.
 ghost use Rattle.std.specs.Prelude.{ℕ, ◌≡◌};
 ghost use Rattle.syntax_editor.specs.Spacing.{between, opens_list, is_statement};
-ghost use Rattle.syntax_editor.specs.inner.SpaceRule.{space_by};
+ghost use Rattle.syntax_editor.specs.inner.SpaceRule.{neighbor_of, space_by};
 
 use cst_core::SyntaxKind;
 
@@ -22,7 +22,7 @@ pub(crate) enum SpaceRule {
 
 /// The first line of the table that fits.
 pub(crate) fn space_rule(left: SyntaxKind, right: SyntaxKind) -> SpaceRule
-    ensures { (l r : ℕ) → space_by result l r ≡ between (record { kind = left.0; level = l }) (record { kind = right.0; level = r }) }
+    ensures { (l r : ℕ) → space_by result l r ≡ between (neighbor_of left l) (neighbor_of right r) }
 {
     match (left, right) {
         (SyntaxKind::WHITESPACE, _) | (_, SyntaxKind::WHITESPACE) => SpaceRule::Nothing,
@@ -41,7 +41,7 @@ pub(crate) fn space_rule(left: SyntaxKind, right: SyntaxKind) -> SpaceRule
 /// Whether what is behind an opening brace is on a line of its own: an import or a statement that comes first in the braces
 /// of its list.
 pub(crate) fn opens_list(parent: SyntaxKind, anchor: SyntaxKind, first: SyntaxKind) -> bool
-    ensures { (p a f : ℕ) → result ≡ opens_list (record { kind = parent.0; level = p }) (record { kind = anchor.0; level = a }) (record { kind = first.0; level = f }) }
+    ensures { (p a f : ℕ) → result ≡ opens_list (neighbor_of parent p) (neighbor_of anchor a) (neighbor_of first f) }
 {
     anchor == SyntaxKind::L_CURLY
         && (parent == SyntaxKind::ITEM_LIST && first == SyntaxKind::USE
@@ -49,7 +49,7 @@ pub(crate) fn opens_list(parent: SyntaxKind, anchor: SyntaxKind, first: SyntaxKi
 }
 
 fn is_statement(kind: SyntaxKind) -> bool
-    ensures { (level : ℕ) → result ≡ is_statement (record { kind = kind.0; level = level }) }
+    ensures { (level : ℕ) → result ≡ is_statement (neighbor_of kind level) }
 {
     matches!(
         kind,

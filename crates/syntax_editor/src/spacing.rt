@@ -1,15 +1,13 @@
 //! Inserting elements with the whitespace that goes round them.
 ghost use Rattle.std.specs.Prelude.{ℕ, suc, ◌≡◌, ◌+◌, ◌∷◌, [], ◌++◌, ◌<◌, ◌≤◌, length, max, Some, None, IsSome, IfOk, IfErr, OnOk, OnErr, string_bytes};
-ghost use Rattle.cst_core.specs.Path.{parent_path};
-ghost use Rattle.cst_core.specs.Element.{subtree, element_at};
+ghost use Rattle.cst_core.specs.Element.{subtree};
 ghost use Rattle.cst_core.specs.SyntaxElement.{element_of};
 ghost use Rattle.indentation.specs.Level.{level};
-ghost use Rattle.syntax_editor.specs.Spacing.{NewLine, neighbor, between, space_behind, space_before, space_after, next_of, space_in_front, space_at_end, space_text, space_elements, spaced, numbers_needed, spacing_refusal};
-ghost use Rattle.syntax_editor.specs.SpacingCalls.{space_of, FindsLevel, FindsSpace, with_spaces, numbers_of, NumbersRefuse, IsRound, RoundRefuses, SpacingRefuses};
+ghost use Rattle.syntax_editor.specs.Spacing.{NewLine, neighbor, between, space_following, space_before, space_after, next_of, space_in_front, space_at_end, space_text, space_elements, spaced, numbers_needed, spacing_refusal};
+ghost use Rattle.syntax_editor.specs.SpacingCalls.{space_of, FindsLevel, FindsSpace, with_spaces, numbers_of, NumbersRefuse, IsRound, RoundRefuses, SpacingRefuses, spaced_insert};
 ghost use Rattle.indentation.specs.LevelCalls.{ReadsLevel};
 ghost use Rattle.syntax_editor.specs.RecordRefusal.{of_level};
-ghost use Rattle.syntax_editor.specs.RecordCall.{InsertingAll};
-ghost use Rattle.syntax_editor.specs.Editor.{after_call};
+ghost use Rattle.syntax_editor.specs.Editor.{Records};
 
 use crate::editor::SyntaxEditor;
 use crate::error::RecordError;
@@ -108,7 +106,7 @@ fn space_behind(
     anchor: &SyntaxElement,
     first: &SyntaxElement,
 ) -> Result<Space, RecordError>
-    ensures { FindsSpace (space_behind (neighbor (element_at (element_of anchor.now) (parent_path (element_of anchor.now).path))) (neighbor (element_of anchor.now)) (neighbor (element_of first.now))) result }
+    ensures { FindsSpace (space_following (element_of anchor.now) (element_of first.now)) result }
 {
     let Some(parent) = anchor.parent(alloc)? else {
         return between(alloc, anchor, first);
@@ -273,7 +271,7 @@ impl SyntaxEditor {
         at: Position,
         elements: Vec<SyntaxElement>,
     ) -> Result<(), RecordError>
-        ensures recorded { OnOk result (self.new ≡ after_call (InsertingAll at (spaced ids.old at elements.items)) self.old) }
+        ensures recorded { OnOk result (Records (spaced_insert ids.old at elements.items) self.old self.new) }
         ensures accepted { OnOk result (spacing_refusal self.old.root ids.old at elements.items ≡ None) }
         ensures drawn { OnOk result (ids.new ≡ ids.old + numbers_needed at elements.items) }
         ensures refused { IfErr result (SpacingRefuses self.old ids.old at elements.items) }
@@ -299,7 +297,7 @@ impl SyntaxEditor {
         at: Position,
         element: E,
     ) -> Result<(), RecordError>
-        ensures recorded { OnOk result (self.new ≡ after_call (InsertingAll at (spaced ids.old at (E.element element ∷ []))) self.old) }
+        ensures recorded { OnOk result (Records (spaced_insert ids.old at (E.element element ∷ [])) self.old self.new) }
         ensures accepted { OnOk result (spacing_refusal self.old.root ids.old at (E.element element ∷ []) ≡ None) }
         ensures drawn { OnOk result (ids.new ≡ ids.old + numbers_needed at (E.element element ∷ [])) }
         ensures refused { IfErr result (SpacingRefuses self.old ids.old at (E.element element ∷ [])) }

@@ -1,7 +1,6 @@
 //! An editor of a typed node.
-ghost use Rattle.std.specs.Prelude.{◌≡◌, ◌↔◌, ◌+◌, cond, [], Some, IsTrue, IfOk, OnOk, OnErr};
-ghost use Rattle.cst_core.specs.TreeIds.{IsSpent};
-ghost use Rattle.syntax_editor.specs.Editor.{has_parent, edited_root};
+ghost use Rattle.std.specs.Prelude.{◌≡◌, ◌↔◌, ◌+◌, cond, IfOk, OnOk, OnErr};
+ghost use Rattle.syntax_editor.specs.Editor.{has_parent, edited_root, new_editor, LacksRootNumber};
 
 use crate::ast_node_edit::view_of;
 use crate::editor::SyntaxEditor;
@@ -17,11 +16,11 @@ impl SyntaxEditor {
         ids: &mut TreeIds,
         node: &N,
     ) -> Result<(SyntaxEditor, N), TreeError>
-        ensures editor { IfOk result (λ r. r.0 ≡ record { root = edited_root ids.old (N.syntax_node node.now); changes = []; registrations = []; factory = Some [] }) }
+        ensures editor { IfOk result (λ r. r.0 ≡ new_editor ids.old (N.syntax_node node.now)) }
         ensures root { IfOk result (λ r. N.syntax_node r.1 ≡ edited_root ids.old (N.syntax_node node.now)) }
         ensures drawn { OnOk result (ids.new ≡ cond (has_parent (N.syntax_node node.now)) (ids.old + 1) ids.old) }
         ensures fits { ¬ (result ≡ Err TreeError.TooLong) }
-        ensures no_number { (result ≡ Err TreeError.NoTreeNumber) ↔ (IsTrue (has_parent (N.syntax_node node.now)) × IsSpent ids.old) }
+        ensures no_number { (result ≡ Err TreeError.NoTreeNumber) ↔ LacksRootNumber ids.old (N.syntax_node node.now) }
         ensures err { OnErr result (ids.new ≡ ids.old) }
     {
         let syntax = node.syntax();

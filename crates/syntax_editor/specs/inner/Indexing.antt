@@ -6,6 +6,7 @@
 --     replaced_at                          where the first one of a list stands, and whether one of them is a deletion
 --     as_deleted                           the same of an element that is deleted now
 --     found                                what an index says of a path
+--     SaysAt, SaysDeleted                  an index says this of a path now, and what it said of any other; that it is deleted, if it said something of it
 --     room                                 how many more elements it takes without growing
 --     Agrees                               the index says that of each path
 --     replace_at, delete_at                the list after the element is replaced or deleted, its first Replace told by its path
@@ -53,6 +54,12 @@ as_deleted (Some r) = Some (record { first = r.first; is_deleted = true })
 -- ---- the index
 abbrev pub found : ReplaceIndex → Path → Option Replaced
 found x p = get_by (λ k. same_path p k.items) x.places
+
+abbrev pub SaysAt : Path → Option Replaced → ReplaceIndex → ReplaceIndex → Type 0
+SaysAt path replaced before after = (p : Path) → found after p ≡ cond (same_path path p) replaced (found before p)
+
+abbrev pub SaysDeleted : Path → ReplaceIndex → ReplaceIndex → Type 0
+SaysDeleted path before after = (p : Path) → found after p ≡ cond (same_path path p) (as_deleted (found before p)) (found before p)
 
 abbrev pub room : ReplaceIndex → ℕ
 room x = spare x.places
