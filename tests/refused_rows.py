@@ -3,8 +3,8 @@
 
     refused_rows.py LIBRARY    LIBRARY is built of refuse_growth.c; the programs stand in crates/NAME/out
 
-A row is a table of its own, which begins with the line `growths are refused`. Each of its runs must answer as expected or end
-for want of memory. A call that was refused says its name (`Memory: NAME`). In the end each public call that takes an allocator
+A row is a table of its own, with the trees that it names; for `answers` it begins with the line `growths are refused`. Each of
+its runs must answer as expected or end for want of memory. A call that was refused says its name (`Memory: NAME`). In the end each public call that takes an allocator
 must have done so, but for those of EXCEPT."""
 import os
 import re
@@ -16,6 +16,10 @@ import tempfile
 CRATES = ["green_tree", "cst_core", "edit_map", "edit_change", "edit_plan", "indentation", "syntax_editor"]
 SURFACE = ["cst_core", "edit_map", "edit_plan", "syntax_editor"]
 
+# What stands before each row.
+HEAD = {"rows": [], "answers": ["growths are refused"]}
+
+# Calls that no row can show to be refused.
 EXCEPT = {
     "SyntaxMapping::new": "keeps the allocator, and asks for nothing",
     "SyntaxMappingBuilder::new": "keeps the allocator, and asks for nothing",
@@ -92,10 +96,10 @@ def rows_of(crate):
             yield line, [trees[name] for name in sorted(words & trees.keys())]
 
 
-def run_each(program, library, line, trees, table):
+def run_each(program, library, lines, table):
     table.seek(0)
     table.truncate()
-    table.write("\n".join(["growths are refused", *trees, line, ""]))
+    table.write("\n".join([*lines, ""]))
     table.flush()
     table.seek(0)
     environment = {"LD_PRELOAD": library, "REFUSE_EACH": "1"}
@@ -110,7 +114,7 @@ def main():
         rows = growths = 0
         with tempfile.TemporaryFile("w+", encoding="utf-8") as table:
             for line, trees in rows_of(crate):
-                status, out = run_each(f"crates/{crate}/out/{crate}", library, line, trees, table)
+                status, out = run_each(f"crates/{crate}/out/{crate}", library, [*HEAD[crate], *trees, line], table)
                 count = re.search(r"^growths: (\d+)\n\Z", out, re.M)
                 rows += 1
                 refused.update(re.findall(r"^Memory: (\S+)$", out, re.M))
