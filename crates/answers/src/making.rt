@@ -1,6 +1,8 @@
 //! Trees, numbers, annotations and positions.
 
-use crate::answers::{counted, counted_or_none, made, memory, number, ok, push_quoted, refused, some};
+use crate::answers::{
+    counted, counted_or_none, made, memory, number, ok, push_quoted, refused, some,
+};
 use crate::session::Session;
 use crate::trees::read_tree;
 use crate::words::{Words, find_named};
@@ -124,7 +126,10 @@ fn green_node(alloc: Global, words: &mut Words) -> Result<String> {
 
 fn capped(alloc: Global, words: &mut Words) -> Result<String> {
     let children = greens(alloc, words)?;
-    shared(alloc, GreenNode::capped(alloc, SyntaxKind::SOURCE_FILE, children))
+    shared(
+        alloc,
+        GreenNode::capped(alloc, SyntaxKind::SOURCE_FILE, children),
+    )
 }
 
 // The length of a shared tree.

@@ -48,7 +48,13 @@ impl Report {
     }
 
     /// Counts a row that ended for want of memory, or for another reason, which goes wrong.
-    pub fn note_end<R: Print>(&mut self, rt: &R, line: &str, reason: &str, wanted: &str) -> Result<()> {
+    pub fn note_end<R: Print>(
+        &mut self,
+        rt: &R,
+        line: &str,
+        reason: &str,
+        wanted: &str,
+    ) -> Result<()> {
         if reason == MEMORY || reason == "memory allocation failed" {
             self.refused = self.refused.saturating_add(1);
             self.rows = self.rows.saturating_add(1);

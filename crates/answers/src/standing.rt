@@ -143,7 +143,10 @@ fn change_standing(change: &Change) -> u64 {
 }
 
 fn gap_standing(at: &Position) -> u64 {
-    both(first_of_standing(at.first_of()), one_standing(at.after_of()))
+    both(
+        first_of_standing(at.first_of()),
+        one_standing(at.after_of()),
+    )
 }
 
 fn first_of_standing(node: Option<&SyntaxNode>) -> u64 {

@@ -63,28 +63,72 @@ fn of_element(
 ) -> Result<String, NoAnswer> {
     let tree = element.tree();
     match question {
-        AroundQuestion::Parent => node_place(alloc, tree, told("SyntaxElement::parent", element.parent(alloc))?),
+        AroundQuestion::Parent => node_place(
+            alloc,
+            tree,
+            told("SyntaxElement::parent", element.parent(alloc))?,
+        ),
         AroundQuestion::PrevSiblingOrToken => {
-            place(alloc, tree, told("SyntaxElement::prev_sibling_or_token", element.prev_sibling_or_token(alloc))?)
+            place(
+                alloc,
+                tree,
+                told(
+                    "SyntaxElement::prev_sibling_or_token",
+                    element.prev_sibling_or_token(alloc),
+                )?,
+            )
         }
         AroundQuestion::NextSiblingOrToken => {
-            place(alloc, tree, told("SyntaxElement::next_sibling_or_token", element.next_sibling_or_token(alloc))?)
+            place(
+                alloc,
+                tree,
+                told(
+                    "SyntaxElement::next_sibling_or_token",
+                    element.next_sibling_or_token(alloc),
+                )?,
+            )
         }
-        AroundQuestion::TreeTop => node_place(alloc, tree, Some(told("SyntaxElement::tree_top", element.tree_top(alloc))?)),
+        AroundQuestion::TreeTop => node_place(
+            alloc,
+            tree,
+            Some(told("SyntaxElement::tree_top", element.tree_top(alloc))?),
+        ),
     }
 }
 
 fn of_node(alloc: Global, question: AroundQuestion, node: &SyntaxNode) -> Result<String, NoAnswer> {
     let tree = node.tree();
     match question {
-        AroundQuestion::Parent => node_place(alloc, tree, told("SyntaxNode::parent", node.parent(alloc))?),
+        AroundQuestion::Parent => node_place(
+            alloc,
+            tree,
+            told("SyntaxNode::parent", node.parent(alloc))?,
+        ),
         AroundQuestion::PrevSiblingOrToken => {
-            place(alloc, tree, told("SyntaxNode::prev_sibling_or_token", node.prev_sibling_or_token(alloc))?)
+            place(
+                alloc,
+                tree,
+                told(
+                    "SyntaxNode::prev_sibling_or_token",
+                    node.prev_sibling_or_token(alloc),
+                )?,
+            )
         }
         AroundQuestion::NextSiblingOrToken => {
-            place(alloc, tree, told("SyntaxNode::next_sibling_or_token", node.next_sibling_or_token(alloc))?)
+            place(
+                alloc,
+                tree,
+                told(
+                    "SyntaxNode::next_sibling_or_token",
+                    node.next_sibling_or_token(alloc),
+                )?,
+            )
         }
-        AroundQuestion::TreeTop => node_place(alloc, tree, Some(told("SyntaxNode::tree_top", node.tree_top(alloc))?)),
+        AroundQuestion::TreeTop => node_place(
+            alloc,
+            tree,
+            Some(told("SyntaxNode::tree_top", node.tree_top(alloc))?),
+        ),
     }
 }
 
@@ -95,13 +139,35 @@ fn of_token(
 ) -> Result<String, NoAnswer> {
     let tree = token.tree();
     match question {
-        AroundQuestion::Parent => node_place(alloc, tree, told("SyntaxToken::parent", token.parent(alloc))?),
+        AroundQuestion::Parent => node_place(
+            alloc,
+            tree,
+            told("SyntaxToken::parent", token.parent(alloc))?,
+        ),
         AroundQuestion::PrevSiblingOrToken => {
-            place(alloc, tree, told("SyntaxToken::prev_sibling_or_token", token.prev_sibling_or_token(alloc))?)
+            place(
+                alloc,
+                tree,
+                told(
+                    "SyntaxToken::prev_sibling_or_token",
+                    token.prev_sibling_or_token(alloc),
+                )?,
+            )
         }
         AroundQuestion::NextSiblingOrToken => {
-            place(alloc, tree, told("SyntaxToken::next_sibling_or_token", token.next_sibling_or_token(alloc))?)
+            place(
+                alloc,
+                tree,
+                told(
+                    "SyntaxToken::next_sibling_or_token",
+                    token.next_sibling_or_token(alloc),
+                )?,
+            )
         }
-        AroundQuestion::TreeTop => node_place(alloc, tree, Some(told("SyntaxToken::tree_top", token.tree_top(alloc))?)),
+        AroundQuestion::TreeTop => node_place(
+            alloc,
+            tree,
+            Some(told("SyntaxToken::tree_top", token.tree_top(alloc))?),
+        ),
     }
 }

@@ -126,7 +126,10 @@ fn of_element(
         FactQuestion::TextLen => number(alloc, element.text_len()),
         FactQuestion::Text => quoted(alloc, &told("SyntaxElement::text", element.text(alloc))?),
         FactQuestion::AsGreen => green_facts(alloc, element.as_green()),
-        FactQuestion::Green => green_facts(alloc, told("SyntaxElement::green", element.green(alloc))?.as_ref()),
+        FactQuestion::Green => green_facts(
+            alloc,
+            told("SyntaxElement::green", element.green(alloc))?.as_ref(),
+        ),
     }
 }
 
@@ -141,7 +144,10 @@ fn of_node(alloc: Global, question: FactQuestion, node: &SyntaxNode) -> Result<S
         FactQuestion::TextLen => number(alloc, node.text_len()),
         FactQuestion::Text => quoted(alloc, &told("SyntaxNode::text", node.text(alloc))?),
         FactQuestion::AsGreen => green_facts(alloc, GreenElementRef::Node(node.as_green())),
-        FactQuestion::Green => green_facts(alloc, GreenElementRef::Node(&told("SyntaxNode::green", node.green(alloc))?)),
+        FactQuestion::Green => green_facts(
+            alloc,
+            GreenElementRef::Node(&told("SyntaxNode::green", node.green(alloc))?),
+        ),
     }
 }
 
@@ -160,6 +166,9 @@ fn of_token(
         FactQuestion::TextLen => number(alloc, token.text_len()),
         FactQuestion::Text => quoted(alloc, token.text()),
         FactQuestion::AsGreen => green_facts(alloc, GreenElementRef::Token(token.as_green())),
-        FactQuestion::Green => green_facts(alloc, GreenElementRef::Token(&told("SyntaxToken::green", token.green(alloc))?)),
+        FactQuestion::Green => green_facts(
+            alloc,
+            GreenElementRef::Token(&told("SyntaxToken::green", token.green(alloc))?),
+        ),
     }
 }

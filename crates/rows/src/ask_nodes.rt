@@ -62,12 +62,45 @@ fn of_element(
 fn of_node(alloc: Global, question: NodeQuestion, node: &SyntaxNode) -> Result<String, NoAnswer> {
     let tree = node.tree();
     match question {
-        NodeQuestion::ChildrenWithTokens => places(alloc, tree, &told("SyntaxNode::children_with_tokens", node.children_with_tokens(alloc))?),
-        NodeQuestion::Children => node_places(alloc, tree, &told("SyntaxNode::children", node.children(alloc))?),
-        NodeQuestion::FirstChildOrToken => place(alloc, tree, told("SyntaxNode::first_child_or_token", node.first_child_or_token(alloc))?),
-        NodeQuestion::LastChildOrToken => place(alloc, tree, told("SyntaxNode::last_child_or_token", node.last_child_or_token(alloc))?),
-        NodeQuestion::FirstToken => token_place(alloc, tree, told("SyntaxNode::first_token", node.first_token(alloc))?),
-        NodeQuestion::Descendants => node_places(alloc, tree, &told("SyntaxNode::descendants", node.descendants(alloc))?),
+        NodeQuestion::ChildrenWithTokens => places(
+            alloc,
+            tree,
+            &told(
+                "SyntaxNode::children_with_tokens",
+                node.children_with_tokens(alloc),
+            )?,
+        ),
+        NodeQuestion::Children => node_places(
+            alloc,
+            tree,
+            &told("SyntaxNode::children", node.children(alloc))?,
+        ),
+        NodeQuestion::FirstChildOrToken => place(
+            alloc,
+            tree,
+            told(
+                "SyntaxNode::first_child_or_token",
+                node.first_child_or_token(alloc),
+            )?,
+        ),
+        NodeQuestion::LastChildOrToken => place(
+            alloc,
+            tree,
+            told(
+                "SyntaxNode::last_child_or_token",
+                node.last_child_or_token(alloc),
+            )?,
+        ),
+        NodeQuestion::FirstToken => token_place(
+            alloc,
+            tree,
+            told("SyntaxNode::first_token", node.first_token(alloc))?,
+        ),
+        NodeQuestion::Descendants => node_places(
+            alloc,
+            tree,
+            &told("SyntaxNode::descendants", node.descendants(alloc))?,
+        ),
         NodeQuestion::CloneSubtree => clone_subtree(alloc, node),
     }
 }
@@ -92,6 +125,10 @@ fn facts(alloc: Global, root: &SyntaxNode) -> Result<String, NoAnswer> {
     let kind = kind_name(root.kind());
     let slot = root.index();
     let start = root.text_start();
-    let extent = extent(alloc, root.text_len(), &told("SyntaxNode::text", root.text(alloc))?)?;
+    let extent = extent(
+        alloc,
+        root.text_len(),
+        &told("SyntaxNode::text", root.text(alloc))?,
+    )?;
     Ok(format!(in alloc; "{kind} in slot {slot}, from {start}, {extent}")?)
 }

@@ -78,5 +78,10 @@ fn copied(alloc: Global, trees: &Trees, ids: &mut TreeIds) -> Result<String, NoA
     let node = trees.node(alloc, "L")?;
     let before = ids.peek();
     let called = node.clone_subtree(alloc, ids);
-    number_or_error(alloc, "SyntaxNode::clone_subtree", called, ids.peek() == before)
+    number_or_error(
+        alloc,
+        "SyntaxNode::clone_subtree",
+        called,
+        ids.peek() == before,
+    )
 }

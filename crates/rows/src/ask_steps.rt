@@ -45,7 +45,10 @@ pub fn answer(
 fn element_at(alloc: Global, trees: &Trees, arguments: &str) -> Result<String, NoAnswer> {
     let (node, path) = words(arguments).ok_or(NoAnswer::Arguments)?;
     let node = trees.node(alloc, node)?;
-    let found = told("SyntaxNode::element_at", node.element_at(alloc, &slots(alloc, path)?))?;
+    let found = told(
+        "SyntaxNode::element_at",
+        node.element_at(alloc, &slots(alloc, path)?),
+    )?;
     place(alloc, node.tree(), found)
 }
 
@@ -53,10 +56,17 @@ fn element_at(alloc: Global, trees: &Trees, arguments: &str) -> Result<String, N
 fn element_of_tree(alloc: Global, trees: &Trees, arguments: &str) -> Result<String, NoAnswer> {
     let (node, path) = words(arguments).ok_or(NoAnswer::Arguments)?;
     let node = trees.node(alloc, node)?;
-    let found = told("SyntaxNode::element_of_tree", node.element_of_tree(alloc, slots(alloc, path)?))?;
+    let found = told(
+        "SyntaxNode::element_of_tree",
+        node.element_of_tree(alloc, slots(alloc, path)?),
+    )?;
     place(alloc, node.tree(), found)
 }
 
 fn prev_token(alloc: Global, token: &SyntaxToken) -> Result<String, NoAnswer> {
-    token_place(alloc, token.tree(), told("SyntaxToken::prev_token", token.prev_token(alloc))?)
+    token_place(
+        alloc,
+        token.tree(),
+        told("SyntaxToken::prev_token", token.prev_token(alloc))?,
+    )
 }

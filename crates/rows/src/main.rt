@@ -38,6 +38,9 @@ fn take_line<R: Print>(
     report: &mut Report,
     line: &str,
 ) -> io::Result<()> {
+    if report.is_cut() {
+        return Ok(());
+    }
     match Line::read(line) {
         Line::Blank => Ok(()),
         Line::Tree { name, expression } => {

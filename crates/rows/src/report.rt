@@ -46,6 +46,11 @@ impl Report {
         }
     }
 
+    /// Whether a line ended for want of memory, so that those after it may lack a tree.
+    pub fn is_cut(&self) -> bool {
+        self.refused != 0
+    }
+
     // A line ended for want of memory.
     fn note_refused(&mut self) -> io::Result<()> {
         self.refused = self.refused.saturating_add(1);
