@@ -66,7 +66,6 @@ static void refuse_each(void) {
             stop("no process", growth, 0);
         if (run == 0) {
             alarm(SECONDS);
-            seen = 0;
             wanted = growth;
             return;
         }
@@ -86,6 +85,7 @@ static void refuse_each(void) {
 __attribute__((constructor)) static void begin(void) {
     const char *number = getenv("REFUSE_GROWTH");
     wanted = number ? atol(number) : 0;
+    seen = 0;
     if (getenv("REFUSE_EACH"))
         refuse_each();
 }
