@@ -1,7 +1,9 @@
 #!/usr/bin/env bash
-# Runs the programs `refusals` and `syned` with their first, second and each further growth refused, until a run asks for
-# no more. Each run must end by itself and call nothing wrong. The kit's own way to refuse an allocation takes one number a
-# run and compiles the program anew for each, so a small library stands before the C library here.
+# Runs each row of the tables of `rows` and `answers`, and the program `syned` on its script, with the first, second and each
+# further growth refused, until a run asks for no more. A row must answer as expected or end for want of memory, and what a
+# refused call must leave as it was is asked for then (tests/refused_rows.py); `syned` must print all of its answer or nothing.
+# The kit's own way to refuse an allocation takes one number a run and compiles the program anew for each, so a small library
+# stands before the C library here.
 set -euo pipefail
 cd "$(dirname "$0")/.."
 
@@ -11,9 +13,10 @@ trap 'rm -rf "$room"' EXIT
 
 # The gate leaves a program where `rt run` would make it; it is made where it is not there, or older than a source.
 make_program() {
-    local program=crates/$1/out/$1
+    local program=crates/$1/out/$1 input=/dev/null
+    [ ! -f "crates/$1/stdin" ] || input=crates/$1/stdin
     if [ ! -x "$program" ] || [ -n "$(find crates -name out -prune -o -type f -newer "$program" -print -quit)" ]; then
-        (cd "crates/$1" && rt run) </dev/null >"$room/log" 2>&1 || [ -x "$program" ] || { cat "$room/log"; exit 1; }
+        (cd "crates/$1" && rt run) <"$input" >"$room/log" 2>&1 || [ -x "$program" ] || { cat "$room/log"; exit 1; }
     fi
 }
 
@@ -43,10 +46,6 @@ refuse_each() {
     exit 1
 }
 
-calls_are_right() {
-    [ "$status" -eq 0 ] && ! grep -q '^wrong' "$room/out"
-}
-
 # Where room to spare was refused, a list may still get the room that it needs; then the answer is the whole one.
 fails_in_silence() {
     if [ "$status" -eq 0 ]; then
@@ -56,5 +55,7 @@ fails_in_silence() {
     fi
 }
 
-refuse_each refusals calls_are_right
+make_program rows
+make_program answers
+python3 tests/refused_rows.py "$room/refuse.so"
 refuse_each syned fails_in_silence

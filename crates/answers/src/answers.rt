@@ -9,6 +9,9 @@ use tree_text::push_escaped;
 // Texts up to this length are shown.
 const SHOWN: u64 = 60;
 
+/// The answer of a call that is refused for want of memory.
+pub const MEMORY: &str = "Memory";
+
 pub fn ok(alloc: Global) -> Result<String> {
     Ok(String::from_str(alloc, "ok")?)
 }
@@ -24,6 +27,19 @@ pub fn some(alloc: Global, is_some: bool) -> Result<String> {
 
 pub fn refused<E: Display + Drop>(alloc: Global, refusal: E) -> Result<String> {
     Ok(refusal.to_string(alloc)?)
+}
+
+/// The answer of a call that is refused for want of memory, and for nothing else.
+pub fn memory(alloc: Global) -> Result<String> {
+    Ok(String::from_str(alloc, MEMORY)?)
+}
+
+/// The answer of such a call that gives nothing.
+pub fn grown(alloc: Global, called: Result<(), AllocError>) -> Result<String> {
+    match called {
+        Ok(()) => ok(alloc),
+        Err(_) => memory(alloc),
+    }
 }
 
 /// Whether something holds.

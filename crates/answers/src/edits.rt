@@ -1,6 +1,6 @@
 //! What edits give: their roots, changed and annotated elements, and nodes that are found again.
 
-use crate::answers::{given, none, paths_of, push_path, refused, text_of};
+use crate::answers::{given, memory, none, paths_of, push_path, refused, text_of};
 use crate::making::annotation;
 use crate::session::Session;
 use crate::words::{Words, find_named};
@@ -75,9 +75,10 @@ fn annotated(alloc: Global, session: &Session, words: &mut Words) -> Result<Stri
 
 fn find_element(alloc: Global, session: &mut Session, words: &mut Words) -> Result<String> {
     let old = session.trees.node(alloc, words.word()?)?;
-    match last(session)?.find_element(alloc, &old)? {
-        Some(node) => with_path(alloc, &node),
-        None => none(alloc),
+    match last(session)?.find_element(alloc, &old) {
+        Ok(Some(node)) => with_path(alloc, &node),
+        Ok(None) => none(alloc),
+        Err(_) => memory(alloc),
     }
 }
 

@@ -1,13 +1,15 @@
 //! Trees, numbers, annotations and positions.
 
-use crate::answers::{counted, counted_or_none, given, made, number, ok, refused, some};
+use crate::answers::{
+    counted, counted_or_none, made, memory, number, ok, push_quoted, refused, some,
+};
 use crate::session::Session;
 use crate::trees::read_tree;
 use crate::words::{Words, find_named};
 use anyhow::{Context, Result};
-use cst_core::{GreenElement, GreenNode, SyntaxKind, SyntaxNode, TreeIds};
+use cst_core::{GreenElement, GreenNode, SyntaxElement, SyntaxKind, SyntaxNode, TreeIds};
 use std::alloc::{AllocError, Global};
-use syntax_editor::{Annotations, Position, SyntaxAnnotation};
+use syntax_editor::{Annotations, Element, Position, SyntaxAnnotation};
 
 #[derive(Clone, Copy)]
 pub enum MakingStep {
@@ -23,9 +25,12 @@ pub enum MakingStep {
     Annotations,
     Before,
     After,
+    First,
+    Last,
+    SyntaxElement,
 }
 
-const NAMES: [(&str, MakingStep); 12] = [
+const NAMES: [(&str, MakingStep); 15] = [
     ("tree", MakingStep::Tree),
     ("numbers", MakingStep::Numbers),
     ("new_root", MakingStep::NewRoot),
@@ -38,6 +43,9 @@ const NAMES: [(&str, MakingStep); 12] = [
     ("annotations", MakingStep::Annotations),
     ("before", MakingStep::Before),
     ("after", MakingStep::After),
+    ("first", MakingStep::First),
+    ("last", MakingStep::Last),
+    ("syntax_element", MakingStep::SyntaxElement),
 ];
 
 impl MakingStep {
@@ -65,6 +73,9 @@ pub fn answer(
         MakingStep::Annotations => annotations(alloc, words),
         MakingStep::Before => before(alloc, session, words),
         MakingStep::After => after(alloc, session, words),
+        MakingStep::First => first(alloc, session, words),
+        MakingStep::Last => last(alloc, session, words),
+        MakingStep::SyntaxElement => syntax_element(alloc, session, words),
     }
 }
 
@@ -115,15 +126,25 @@ fn green_node(alloc: Global, words: &mut Words) -> Result<String> {
 
 fn capped(alloc: Global, words: &mut Words) -> Result<String> {
     let children = greens(alloc, words)?;
-    let node = GreenNode::capped(alloc, SyntaxKind::SOURCE_FILE, children)?;
-    counted(alloc, node.length())
+    shared(
+        alloc,
+        GreenNode::capped(alloc, SyntaxKind::SOURCE_FILE, children),
+    )
+}
+
+// The length of a shared tree.
+fn shared(alloc: Global, called: Result<GreenNode, AllocError>) -> Result<String> {
+    match called {
+        Ok(node) => counted(alloc, node.length()),
+        Err(_) => memory(alloc),
+    }
 }
 
 // The other trees stand before the children of the first one.
 fn splice_children(alloc: Global, words: &mut Words) -> Result<String> {
     let node = read_tree(alloc, words.word()?)?;
-    let spliced = node.splice_children(alloc, 0, 0, greens(alloc, words)?)?;
-    counted(alloc, spliced.length())
+    let new = greens(alloc, words)?;
+    shared(alloc, node.splice_children(alloc, 0, 0, new))
 }
 
 // The number that comes next.
@@ -168,10 +189,53 @@ fn is_wanted(
 
 fn before(alloc: Global, session: &mut Session, words: &mut Words) -> Result<String> {
     let element = session.trees.element(alloc, words.word()?)?;
-    some(alloc, Position::before(alloc, element)?.is_some())
+    gap(alloc, Position::before(alloc, element))
 }
 
 fn after(alloc: Global, session: &mut Session, words: &mut Words) -> Result<String> {
     let element = session.trees.element(alloc, words.word()?)?;
-    some(alloc, Position::after(alloc, element)?.is_some())
+    gap(alloc, Position::after(alloc, element))
+}
+
+fn gap(alloc: Global, called: Result<Option<Position>, AllocError>) -> Result<String> {
+    match called {
+        Ok(position) => some(alloc, position.is_some()),
+        Err(_) => memory(alloc),
+    }
+}
+
+fn first(alloc: Global, session: &mut Session, words: &mut Words) -> Result<String> {
+    let node = session.trees.node(alloc, words.word()?)?;
+    gap_in(alloc, Position::first_child_of(alloc, &node))
+}
+
+fn last(alloc: Global, session: &mut Session, words: &mut Words) -> Result<String> {
+    let node = session.trees.node(alloc, words.word()?)?;
+    gap_in(alloc, Position::last_child_of(alloc, &node))
+}
+
+fn gap_in(alloc: Global, called: Result<Position, AllocError>) -> Result<String> {
+    match called {
+        Ok(_) => ok(alloc),
+        Err(_) => memory(alloc),
+    }
+}
+
+// The element by a reference to it.
+fn syntax_element(alloc: Global, session: &mut Session, words: &mut Words) -> Result<String> {
+    let element = session.trees.element(alloc, words.word()?)?;
+    match made_of(alloc, &element) {
+        Ok(made) => text_answer(alloc, &made),
+        Err(_) => memory(alloc),
+    }
+}
+
+fn made_of<E: Element>(alloc: Global, value: E) -> Result<SyntaxElement, AllocError> {
+    value.syntax_element(alloc)
+}
+
+fn text_answer(alloc: Global, element: &SyntaxElement) -> Result<String> {
+    let mut answer = String::from_str(alloc, "ok ")?;
+    push_quoted(&mut answer, &element.text(alloc)?)?;
+    Ok(answer)
 }

@@ -1,6 +1,6 @@
 //! Mappings that no editor has.
 
-use crate::answers::{none, ok, push_path, push_quoted};
+use crate::answers::{grown, memory, none, ok, push_path, push_quoted};
 use crate::session::Session;
 use crate::words::{Words, find_named};
 use anyhow::{Context, Result};
@@ -67,14 +67,20 @@ fn mapping(alloc: Global, session: &mut Session) -> Result<String> {
 // The last mapping goes into the one before it.
 fn merge_mappings(alloc: Global, session: &mut Session) -> Result<String> {
     let other = session.mappings.pop().context("no mapping was made")?;
-    last(session)?.merge(alloc, other)?;
-    ok(alloc)
+    grown(alloc, last(session)?.merge(alloc, other))
 }
 
 // A clone stands before the last mapping.
 fn clone_mapping(alloc: Global, session: &mut Session) -> Result<String> {
-    let clone = last(session)?.try_clone(alloc)?;
-    keep(session, clone)?;
+    match last(session)?.try_clone(alloc) {
+        Ok(clone) => keep_before(alloc, session, clone),
+        Err(_) => memory(alloc),
+    }
+}
+
+// One more mapping, before the last one.
+fn keep_before(alloc: Global, session: &mut Session, mapping: SyntaxMapping) -> Result<String> {
+    keep(session, mapping)?;
     let end = session.mappings.len();
     if end >= 2 {
         session.mappings.swap(end - 2, end - 1);
@@ -91,9 +97,10 @@ fn drop_mapping(alloc: Global, session: &mut Session) -> Result<String> {
 fn place(alloc: Global, session: &mut Session, words: &mut Words) -> Result<String> {
     let target = session.trees.node(alloc, words.word()?)?;
     let payload = session.trees.node(alloc, words.word()?)?;
-    match last(session)?.place(alloc, &target, &payload)? {
-        Some(path) => path_answer(alloc, &path),
-        None => none(alloc),
+    match last(session)?.place(alloc, &target, &payload) {
+        Ok(Some(path)) => path_answer(alloc, &path),
+        Ok(None) => none(alloc),
+        Err(_) => memory(alloc),
     }
 }
 
@@ -105,8 +112,10 @@ fn path_answer(alloc: Global, path: &[usize]) -> Result<String> {
 
 fn follow(alloc: Global, session: &mut Session, words: &mut Words) -> Result<String> {
     let element = session.trees.element(alloc, words.word()?)?;
-    let end = last(session)?.follow(alloc, &element)?;
-    element_answer(alloc, &end)
+    match last(session)?.follow(alloc, &element) {
+        Ok(end) => element_answer(alloc, &end),
+        Err(_) => memory(alloc),
+    }
 }
 
 // The form of an element, its text, the number of its tree and its path.

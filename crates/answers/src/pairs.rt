@@ -1,6 +1,6 @@
 //! Builders of mappings, and where their pairs go.
 
-use crate::answers::{done, ok};
+use crate::answers::{done, grown, ok};
 use crate::mappings;
 use crate::session::{Session, last};
 use crate::words::{Words, find_named};
@@ -107,19 +107,16 @@ fn map_all(alloc: Global, session: &mut Session) -> Result<String> {
     let builder = last_builder(session)?;
     let editor = last(&mut session.editors)?;
     let mapping = editor.make_mut().mappings().context("no mappings")?;
-    builder.finish(alloc, mapping)?;
-    ok(alloc)
+    grown(alloc, builder.finish(alloc, mapping))
 }
 
 // The pairs of the last builder go into the last mapping: by the builder's call, and by the mapping's.
 fn finish_builder(alloc: Global, session: &mut Session) -> Result<String> {
     let builder = last_builder(session)?;
-    builder.finish(alloc, mappings::last(session)?)?;
-    ok(alloc)
+    grown(alloc, builder.finish(alloc, mappings::last(session)?))
 }
 
 fn add_mapping(alloc: Global, session: &mut Session) -> Result<String> {
     let builder = last_builder(session)?;
-    mappings::last(session)?.add_mapping(alloc, builder)?;
-    ok(alloc)
+    grown(alloc, mappings::last(session)?.add_mapping(alloc, builder))
 }

@@ -1,6 +1,6 @@
 //! What the last editor has recorded.
 
-use crate::answers::{none, number, push_item, push_quoted, some_or_none, truth};
+use crate::answers::{memory, none, number, push_item, push_quoted, some_or_none, truth};
 use crate::session::{Session, last};
 use crate::words::{Words, find_named};
 use anyhow::{Context, Result};
@@ -55,7 +55,10 @@ fn changes(alloc: Global, session: &mut Session) -> Result<String> {
 fn deleted(alloc: Global, session: &mut Session, words: &mut Words) -> Result<String> {
     let element = session.trees.element(alloc, words.word()?)?;
     let editor = last(&mut session.editors)?;
-    truth(alloc, editor.deleted(alloc, &element)?)
+    match editor.deleted(alloc, &element) {
+        Ok(is_deleted) => truth(alloc, is_deleted),
+        Err(_) => memory(alloc),
+    }
 }
 
 // The paths of what is deleted, one element each, in the order of the changes.

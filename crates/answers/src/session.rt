@@ -1,3 +1,4 @@
+use crate::standing::{Standing, editors_standing, mappings_standing, plans_standing};
 use crate::trees::Trees;
 use crate::words::Words;
 use anyhow::{Context, Result};
@@ -23,14 +24,9 @@ pub struct Session {
     pub edits: Vec<SyntaxEdit>,
     /// What the steps answer that are asked about.
     pub answers: String,
-}
-
-/// What a refusal leaves as it was: the number that comes next, and how many changes the editors hold.
-#[derive(Clone, Copy, PartialEq, Eq)]
-pub struct Counts {
-    pub next: Option<u64>,
-    pub editors: usize,
-    pub changes: usize,
+    /// The name of the step whose call was refused for want of memory, and whether that left something else than before.
+    pub refused: String,
+    pub is_changed: bool,
 }
 
 impl Session {
@@ -46,19 +42,28 @@ impl Session {
             plans: Vec::new(alloc),
             edits: Vec::new(alloc),
             answers: String::new(alloc),
+            refused: String::new(alloc),
+            is_changed: false,
         }
     }
 
-    pub fn counts(&self) -> Counts {
-        let mut changes: usize = 0;
-        for editor in self.editors.iter() {
-            changes = changes.saturating_add(editor.changes().len());
-        }
-        Counts {
+    /// What a refusal leaves as it is.
+    pub fn standing(&self) -> Standing {
+        Standing {
             next: self.ids.peek(),
-            editors: self.editors.len(),
-            changes,
+            builders: self.builders.len(),
+            mappings: mappings_standing(&self.mappings),
+            editors: editors_standing(&self.editors),
+            to_build: (self.changes.len(), self.registrations.len()),
+            plans: plans_standing(&self.plans),
         }
+    }
+
+    /// Notes that the call of a step was refused for want of memory.
+    pub fn note_refusal(&mut self, step: &str, before: &Standing) -> Result<(), AllocError> {
+        let after = self.standing();
+        self.is_changed = !before.is_kept(&after);
+        self.refused.push_str(step)
     }
 
     /// One more answer, behind those before.

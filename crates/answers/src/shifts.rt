@@ -1,6 +1,6 @@
 //! Trees that are indented and dedented.
 
-use crate::answers::{given, made, refused};
+use crate::answers::{given, made, memory, refused};
 use crate::mappings;
 use crate::session::Session;
 use crate::words::{Words, find_named};
@@ -113,7 +113,8 @@ fn indent_with_mapping(alloc: Global, session: &mut Session, words: &mut Words) 
     indent_by(alloc, session, &block, level, words.word()?)
 }
 
-// By a factory, whose mapping is the last one from then on, whatever the call answers. The new block goes by the name `it`.
+// By a factory, whose mapping is the last one from then on, whatever the call answers but want of memory. The new block goes by
+// the name `it`.
 fn indent_by(
     alloc: Global,
     session: &mut Session,
@@ -123,12 +124,23 @@ fn indent_by(
 ) -> Result<String> {
     let mut factory = factory(alloc, word)?;
     let called = block.indent_with_mapping(alloc, &mut session.ids, level, &mut factory);
+    if let Err(IndentError::Memory) = &called {
+        return unmapped(alloc, &mut factory);
+    }
     if let Some(mapping) = factory.mappings() {
         mappings::keep(session, mapping.try_clone(alloc)?)?;
     }
     match called {
         Ok(block) => kept(alloc, session, block.syntax()),
         Err(refusal) => refused(alloc, refusal),
+    }
+}
+
+// Want of memory leaves the mapping of a new factory empty.
+fn unmapped(alloc: Global, factory: &mut SyntaxFactory) -> Result<String> {
+    match factory.mappings() {
+        Some(mapping) if mapping.len() != 0 => None.context("want of memory left a pair"),
+        _ => memory(alloc),
     }
 }
 

@@ -1,5 +1,6 @@
 //! The steps of a row.
 
+use crate::answers::MEMORY;
 use crate::editors::{self, EditorStep};
 use crate::edits::{self, EditStep};
 use crate::levels::{self, LevelStep};
@@ -10,8 +11,9 @@ use crate::pairs::{self, PairStep};
 use crate::plans::{self, PlanStep};
 use crate::recorded::{self, RecordedStep};
 use crate::recording::{self, RecordingStep};
-use crate::session::{Counts, Session};
+use crate::session::Session;
 use crate::shifts::{self, ShiftStep};
+use crate::standing::Standing;
 use crate::words::Words;
 use anyhow::{Context, Result};
 use std::alloc::Global;
@@ -41,14 +43,14 @@ fn take(alloc: Global, asked: &mut Asked, session: &mut Session, step: &str) -> 
         return ask(alloc, asked, session, step);
     }
     if let Some(step) = step.strip_prefix("try ") {
-        answer_to(alloc, session, step)?;
+        repeated_answer(alloc, session, step)?;
         return Ok(());
     }
     set_up(alloc, session, step)
 }
 
 fn set_up(alloc: Global, session: &mut Session, step: &str) -> Result<()> {
-    if answer_to(alloc, session, step)?.starts_with("ok") {
+    if repeated_answer(alloc, session, step)?.starts_with("ok") {
         return Ok(());
     }
     None.context("a step that is not asked about is refused")
@@ -61,25 +63,40 @@ fn ask(alloc: Global, asked: &mut Asked, session: &mut Session, step: &str) -> R
     asked.add(alloc, call, &answer)
 }
 
-// A step that is not done leaves the counts as they were; if it does not, the answer says so.
+// A step that is not done leaves all as it was; if it does not, the answer says so.
 fn checked_answer(alloc: Global, session: &mut Session, step: &str) -> Result<String> {
-    let before = session.counts();
-    let mut answer = answer_to(alloc, session, step)?;
+    let before = session.standing();
+    let mut answer = repeated_answer(alloc, session, step)?;
     if !answer.starts_with("ok") {
-        push_changed(&mut answer, &before, &session.counts())?;
+        push_changed(&mut answer, &before, &session.standing())?;
     }
     Ok(answer)
 }
 
-// An editor that is gone took its changes along.
-fn push_changed(answer: &mut String, before: &Counts, after: &Counts) -> Result<()> {
+fn push_changed(answer: &mut String, before: &Standing, after: &Standing) -> Result<()> {
     if before.next != after.next {
         write!(answer, " and a number is drawn")?;
     }
-    if before.editors == after.editors && before.changes != after.changes {
-        write!(answer, " and the changes are others")?;
+    if !before.is_kept_but_numbers(after) {
+        write!(answer, " and something else is changed")?;
     }
     Ok(())
+}
+
+// A step whose call is refused for want of memory is taken once more, if all is there that it works on. So what is asked
+// after it shows that the refusal left all as it was.
+fn repeated_answer(alloc: Global, session: &mut Session, step: &str) -> Result<String> {
+    let before = session.standing();
+    let answer = answer_to(alloc, session, step)?;
+    if answer.as_str() != MEMORY {
+        return Ok(answer);
+    }
+    let (call, _) = step.split_once(' ').unwrap_or((step, ""));
+    session.note_refusal(call, &before)?;
+    if before.lost(&session.standing()) {
+        return None.context(MEMORY);
+    }
+    answer_to(alloc, session, step)
 }
 
 fn answer_to(alloc: Global, session: &mut Session, step: &str) -> Result<String> {

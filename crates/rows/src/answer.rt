@@ -28,12 +28,36 @@ pub enum NoAnswer {
     Form,
     #[error("an element of another tree")]
     OtherTree,
+    #[error("{0} is refused for want of memory")]
+    Refused(&'static str),
+    #[error("the call changed what it works on")]
+    Changed,
     #[error("{0}")]
     Row(#[from] RowError),
     #[error("{0}")]
     Tree(#[from] TreeError),
     #[error("Memory")]
     Memory(#[from(alloc)] AllocError),
+}
+
+impl NoAnswer {
+    /// Whether it is want of memory in what a question is answered by, and in no call that is asked about.
+    pub fn is_memory(&self) -> bool {
+        match self {
+            NoAnswer::Memory(_) => true,
+            NoAnswer::Tree(error) => *error == TreeError::Memory,
+            NoAnswer::Row(error) => is_row_memory(error),
+            _ => false,
+        }
+    }
+}
+
+fn is_row_memory(error: &RowError) -> bool {
+    match error {
+        RowError::Memory(_) => true,
+        RowError::Tree(error) => *error == TreeError::Memory,
+        _ => false,
+    }
 }
 
 /// The answer to a question.

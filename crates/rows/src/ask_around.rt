@@ -1,6 +1,7 @@
 //! The elements around one: asked of it, and of the node or token that it is.
 
 use crate::answer::NoAnswer;
+use crate::memory::{Standing, told};
 use crate::question::find_named;
 use crate::shown::{agreed, node_place, place};
 use crate::trees::Trees;
@@ -36,8 +37,19 @@ pub fn answer(
     place: &str,
 ) -> Result<String, NoAnswer> {
     let element = trees.element(alloc, place)?;
-    let own = of_element(alloc, question, &element)?;
-    let by_form = match &element {
+    let before = Standing::of(&element);
+    let answer = of_all(alloc, question, &element);
+    before.kept(&element, answer)
+}
+
+// Of the element, and of the node or token that it is.
+fn of_all(
+    alloc: Global,
+    question: AroundQuestion,
+    element: &SyntaxElement,
+) -> Result<String, NoAnswer> {
+    let own = of_element(alloc, question, element)?;
+    let by_form = match element {
         SyntaxElement::Node(node) => of_node(alloc, question, node)?,
         SyntaxElement::Token(token) => of_token(alloc, question, token)?,
     };
@@ -51,28 +63,72 @@ fn of_element(
 ) -> Result<String, NoAnswer> {
     let tree = element.tree();
     match question {
-        AroundQuestion::Parent => node_place(alloc, tree, element.parent(alloc)?),
+        AroundQuestion::Parent => node_place(
+            alloc,
+            tree,
+            told("SyntaxElement::parent", element.parent(alloc))?,
+        ),
         AroundQuestion::PrevSiblingOrToken => {
-            place(alloc, tree, element.prev_sibling_or_token(alloc)?)
+            place(
+                alloc,
+                tree,
+                told(
+                    "SyntaxElement::prev_sibling_or_token",
+                    element.prev_sibling_or_token(alloc),
+                )?,
+            )
         }
         AroundQuestion::NextSiblingOrToken => {
-            place(alloc, tree, element.next_sibling_or_token(alloc)?)
+            place(
+                alloc,
+                tree,
+                told(
+                    "SyntaxElement::next_sibling_or_token",
+                    element.next_sibling_or_token(alloc),
+                )?,
+            )
         }
-        AroundQuestion::TreeTop => node_place(alloc, tree, Some(element.tree_top(alloc)?)),
+        AroundQuestion::TreeTop => node_place(
+            alloc,
+            tree,
+            Some(told("SyntaxElement::tree_top", element.tree_top(alloc))?),
+        ),
     }
 }
 
 fn of_node(alloc: Global, question: AroundQuestion, node: &SyntaxNode) -> Result<String, NoAnswer> {
     let tree = node.tree();
     match question {
-        AroundQuestion::Parent => node_place(alloc, tree, node.parent(alloc)?),
+        AroundQuestion::Parent => node_place(
+            alloc,
+            tree,
+            told("SyntaxNode::parent", node.parent(alloc))?,
+        ),
         AroundQuestion::PrevSiblingOrToken => {
-            place(alloc, tree, node.prev_sibling_or_token(alloc)?)
+            place(
+                alloc,
+                tree,
+                told(
+                    "SyntaxNode::prev_sibling_or_token",
+                    node.prev_sibling_or_token(alloc),
+                )?,
+            )
         }
         AroundQuestion::NextSiblingOrToken => {
-            place(alloc, tree, node.next_sibling_or_token(alloc)?)
+            place(
+                alloc,
+                tree,
+                told(
+                    "SyntaxNode::next_sibling_or_token",
+                    node.next_sibling_or_token(alloc),
+                )?,
+            )
         }
-        AroundQuestion::TreeTop => node_place(alloc, tree, Some(node.tree_top(alloc)?)),
+        AroundQuestion::TreeTop => node_place(
+            alloc,
+            tree,
+            Some(told("SyntaxNode::tree_top", node.tree_top(alloc))?),
+        ),
     }
 }
 
@@ -83,13 +139,35 @@ fn of_token(
 ) -> Result<String, NoAnswer> {
     let tree = token.tree();
     match question {
-        AroundQuestion::Parent => node_place(alloc, tree, token.parent(alloc)?),
+        AroundQuestion::Parent => node_place(
+            alloc,
+            tree,
+            told("SyntaxToken::parent", token.parent(alloc))?,
+        ),
         AroundQuestion::PrevSiblingOrToken => {
-            place(alloc, tree, token.prev_sibling_or_token(alloc)?)
+            place(
+                alloc,
+                tree,
+                told(
+                    "SyntaxToken::prev_sibling_or_token",
+                    token.prev_sibling_or_token(alloc),
+                )?,
+            )
         }
         AroundQuestion::NextSiblingOrToken => {
-            place(alloc, tree, token.next_sibling_or_token(alloc)?)
+            place(
+                alloc,
+                tree,
+                told(
+                    "SyntaxToken::next_sibling_or_token",
+                    token.next_sibling_or_token(alloc),
+                )?,
+            )
         }
-        AroundQuestion::TreeTop => node_place(alloc, tree, Some(token.tree_top(alloc)?)),
+        AroundQuestion::TreeTop => node_place(
+            alloc,
+            tree,
+            Some(told("SyntaxToken::tree_top", token.tree_top(alloc))?),
+        ),
     }
 }

@@ -1,6 +1,7 @@
 //! Facts of an element: asked of it, of a copy, and of a copy of the node or token that it is.
 
 use crate::answer::NoAnswer;
+use crate::memory::{Standing, told};
 use crate::question::find_named;
 use crate::shown::{agreed, green_facts, kind_name, number, path, quoted, word};
 use crate::trees::Trees;
@@ -48,7 +49,9 @@ pub fn answer(
     place: &str,
 ) -> Result<String, NoAnswer> {
     let element = trees.element(alloc, place)?;
-    of_all(alloc, question, &element)
+    let before = Standing::of(&element);
+    let answer = of_all(alloc, question, &element);
+    before.kept(&element, answer)
 }
 
 fn of_all(
@@ -75,7 +78,7 @@ fn of_copy(
     question: FactQuestion,
     element: &SyntaxElement,
 ) -> Result<String, NoAnswer> {
-    let copy = element.try_clone(alloc)?;
+    let copy = told("SyntaxElement::try_clone", element.try_clone(alloc))?;
     of_element(alloc, question, &copy)
 }
 
@@ -95,7 +98,7 @@ fn of_node_copy(
     question: FactQuestion,
     node: &SyntaxNode,
 ) -> Result<String, NoAnswer> {
-    let copy = node.try_clone(alloc)?;
+    let copy = told("SyntaxNode::try_clone", node.try_clone(alloc))?;
     of_node(alloc, question, &copy)
 }
 
@@ -104,7 +107,7 @@ fn of_token_copy(
     question: FactQuestion,
     token: &SyntaxToken,
 ) -> Result<String, NoAnswer> {
-    let copy = token.try_clone(alloc)?;
+    let copy = told("SyntaxToken::try_clone", token.try_clone(alloc))?;
     of_token(alloc, question, &copy)
 }
 
@@ -117,13 +120,16 @@ fn of_element(
         FactQuestion::Kind => word(alloc, kind_name(element.kind())),
         FactQuestion::Tree => number(alloc, element.tree()),
         FactQuestion::Slots => path(alloc, element.slots()),
-        FactQuestion::Path => path(alloc, &element.path(alloc)?),
+        FactQuestion::Path => path(alloc, &told("SyntaxElement::path", element.path(alloc))?),
         FactQuestion::Index => number(alloc, element.index() as u64),
         FactQuestion::TextStart => number(alloc, element.text_start()),
         FactQuestion::TextLen => number(alloc, element.text_len()),
-        FactQuestion::Text => quoted(alloc, &element.text(alloc)?),
+        FactQuestion::Text => quoted(alloc, &told("SyntaxElement::text", element.text(alloc))?),
         FactQuestion::AsGreen => green_facts(alloc, element.as_green()),
-        FactQuestion::Green => green_facts(alloc, element.green(alloc)?.as_ref()),
+        FactQuestion::Green => green_facts(
+            alloc,
+            told("SyntaxElement::green", element.green(alloc))?.as_ref(),
+        ),
     }
 }
 
@@ -132,13 +138,16 @@ fn of_node(alloc: Global, question: FactQuestion, node: &SyntaxNode) -> Result<S
         FactQuestion::Kind => word(alloc, kind_name(node.kind())),
         FactQuestion::Tree => number(alloc, node.tree()),
         FactQuestion::Slots => path(alloc, node.slots()),
-        FactQuestion::Path => path(alloc, &node.path(alloc)?),
+        FactQuestion::Path => path(alloc, &told("SyntaxNode::path", node.path(alloc))?),
         FactQuestion::Index => number(alloc, node.index() as u64),
         FactQuestion::TextStart => number(alloc, node.text_start()),
         FactQuestion::TextLen => number(alloc, node.text_len()),
-        FactQuestion::Text => quoted(alloc, &node.text(alloc)?),
+        FactQuestion::Text => quoted(alloc, &told("SyntaxNode::text", node.text(alloc))?),
         FactQuestion::AsGreen => green_facts(alloc, GreenElementRef::Node(node.as_green())),
-        FactQuestion::Green => green_facts(alloc, GreenElementRef::Node(&node.green(alloc)?)),
+        FactQuestion::Green => green_facts(
+            alloc,
+            GreenElementRef::Node(&told("SyntaxNode::green", node.green(alloc))?),
+        ),
     }
 }
 
@@ -151,12 +160,15 @@ fn of_token(
         FactQuestion::Kind => word(alloc, kind_name(token.kind())),
         FactQuestion::Tree => number(alloc, token.tree()),
         FactQuestion::Slots => path(alloc, token.slots()),
-        FactQuestion::Path => path(alloc, &token.path(alloc)?),
+        FactQuestion::Path => path(alloc, &told("SyntaxToken::path", token.path(alloc))?),
         FactQuestion::Index => number(alloc, token.index() as u64),
         FactQuestion::TextStart => number(alloc, token.text_start()),
         FactQuestion::TextLen => number(alloc, token.text_len()),
         FactQuestion::Text => quoted(alloc, token.text()),
         FactQuestion::AsGreen => green_facts(alloc, GreenElementRef::Token(token.as_green())),
-        FactQuestion::Green => green_facts(alloc, GreenElementRef::Token(&token.green(alloc)?)),
+        FactQuestion::Green => green_facts(
+            alloc,
+            GreenElementRef::Token(&told("SyntaxToken::green", token.green(alloc))?),
+        ),
     }
 }

@@ -1,6 +1,7 @@
 //! Shared trees, and the expressions that they are read from.
 
 use crate::answer::NoAnswer;
+use crate::memory::{told, told_tree};
 use crate::question::{find_named, words};
 use crate::shown::{agreed, green_facts, quoted, text_of, unquoted, word};
 use crate::trees::{Trees, slot, slots};
@@ -78,9 +79,13 @@ fn token(alloc: Global, arguments: &str) -> Result<String, NoAnswer> {
     let (kind, text) = words(arguments).ok_or(NoAnswer::Arguments)?;
     let kind = kind.parse::<u16>().ok().ok_or(NoAnswer::Arguments)?;
     let text = unquoted(alloc, text)?;
-    let token = GreenToken::new(alloc, SyntaxKind(kind), &text)?;
+    let token = told_tree(
+        "GreenToken::new",
+        GreenToken::new(alloc, SyntaxKind(kind), &text),
+    )?;
     let own = token_facts(alloc, &token)?;
-    agreed(alloc, own, token_facts(alloc, &token.share(alloc)?)?)
+    let shared = told("GreenToken::share", token.share(alloc))?;
+    agreed(alloc, own, token_facts(alloc, &shared)?)
 }
 
 fn token_facts(alloc: Global, token: &GreenToken) -> Result<String, NoAnswer> {
@@ -101,14 +106,21 @@ fn letters(alloc: Global, text: &str) -> Result<Vec<GreenElement>, NoAnswer> {
 }
 
 fn name_node(alloc: Global, letters: Vec<GreenElement>) -> Result<GreenNode, NoAnswer> {
-    Ok(GreenNode::new(alloc, SyntaxKind::NAME, letters)?)
+    told_tree(
+        "GreenNode::new",
+        GreenNode::new(alloc, SyntaxKind::NAME, letters),
+    )
 }
 
 // A node of a token of each letter, made by `new` and by `capped`.
 fn node(alloc: Global, text: &str) -> Result<String, NoAnswer> {
     let checked = GreenElement::Node(name_node(alloc, letters(alloc, text)?)?);
     let own = green_facts(alloc, checked.as_ref())?;
-    let capped = GreenNode::capped(alloc, SyntaxKind::NAME, letters(alloc, text)?)?;
+    let letters = letters(alloc, text)?;
+    let capped = told(
+        "GreenNode::capped",
+        GreenNode::capped(alloc, SyntaxKind::NAME, letters),
+    )?;
     agreed(
         alloc,
         own,
@@ -134,7 +146,10 @@ fn spliced(
     if start > end || end > node.children().len() {
         return Err(NoAnswer::Arguments);
     }
-    let spliced = node.splice_children(alloc, start, end, new)?;
+    let spliced = told(
+        "GreenNode::splice_children",
+        node.splice_children(alloc, start, end, new),
+    )?;
     if is_abc(alloc, &node)? {
         green_facts(alloc, GreenElementRef::Node(&spliced))
     } else {
@@ -163,13 +178,17 @@ fn facts_at(alloc: Global, tree: &GreenNode, slots: &[usize]) -> Result<String, 
 }
 
 fn shared_facts_at(alloc: Global, tree: &GreenNode, slots: &[usize]) -> Result<String, NoAnswer> {
-    let tree = tree.share(alloc)?;
+    let tree = told("GreenNode::share", tree.share(alloc))?;
     match tree.get(slots) {
-        Some(element) => shared_facts(alloc, &element.share(alloc)?),
+        Some(element) => {
+            let shared = told("GreenElementRef::share", element.share(alloc))?;
+            shared_facts(alloc, &shared)
+        }
         None => word(alloc, "none"),
     }
 }
 
 fn shared_facts(alloc: Global, element: &GreenElement) -> Result<String, NoAnswer> {
-    green_facts(alloc, element.share(alloc)?.as_ref())
+    let shared = told("GreenElement::share", element.share(alloc))?;
+    green_facts(alloc, shared.as_ref())
 }

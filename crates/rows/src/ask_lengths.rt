@@ -4,7 +4,7 @@ use crate::answer::NoAnswer;
 use crate::question::{find_named, words};
 use crate::shown::{number_or_error, number_or_none};
 use crate::trees::{Trees, halves, slot, whole_number};
-use cst_core::{GreenNode, LENGTH_LIMIT, SyntaxKind, SyntaxNode, TreeIds};
+use cst_core::{GreenNode, LENGTH_LIMIT, SyntaxKind, SyntaxNode, TreeError, TreeIds};
 use row_trees::p;
 use std::alloc::Global;
 
@@ -62,6 +62,7 @@ fn doubled(alloc: Global, k: usize) -> Result<String, NoAnswer> {
 fn node_of_halves(alloc: Global, count: usize) -> Result<String, NoAnswer> {
     match GreenNode::new(alloc, SyntaxKind::LITERAL, halves(alloc, count)?) {
         Ok(node) => Ok(node.length().to_string(alloc)?),
+        Err(TreeError::Memory) => Err(NoAnswer::Refused("GreenNode::new")),
         Err(error) => Ok(error.to_string(alloc)?),
     }
 }
@@ -75,7 +76,9 @@ fn new_root(alloc: Global, trees: &Trees, arguments: &str) -> Result<String, NoA
 
 fn root_from(alloc: Global, tree: GreenNode, first: u64) -> Result<String, NoAnswer> {
     let mut ids = TreeIds::new(first);
-    let own = number_or_error(alloc, SyntaxNode::new_root(alloc, &mut ids, tree))?;
+    let before = ids.peek();
+    let called = SyntaxNode::new_root(alloc, &mut ids, tree);
+    let own = number_or_error(alloc, "SyntaxNode::new_root", called, ids.peek() == before)?;
     let next = number_or_none(alloc, ids.next())?;
     Ok(format!(in alloc; "{own}, then {next}")?)
 }

@@ -1,10 +1,11 @@
 //! What is in a node and below it, and its copy.
 
 use crate::answer::NoAnswer;
+use crate::memory::{Standing, drawn, told};
 use crate::question::find_named;
 use crate::shown::{extent, kind_name, node_places, path, place, places, token_place};
 use crate::trees::Trees;
-use cst_core::{SyntaxNode, TreeIds};
+use cst_core::{SyntaxElement, SyntaxNode, TreeIds};
 use std::alloc::Global;
 
 #[derive(Clone, Copy)]
@@ -41,18 +42,65 @@ pub fn answer(
     question: NodeQuestion,
     place: &str,
 ) -> Result<String, NoAnswer> {
-    of_node(alloc, question, &trees.node(alloc, place)?)
+    let element = trees.element(alloc, place)?;
+    let before = Standing::of(&element);
+    let answer = of_element(alloc, question, &element);
+    before.kept(&element, answer)
+}
+
+fn of_element(
+    alloc: Global,
+    question: NodeQuestion,
+    element: &SyntaxElement,
+) -> Result<String, NoAnswer> {
+    match element {
+        SyntaxElement::Node(node) => of_node(alloc, question, node),
+        SyntaxElement::Token(_) => Err(NoAnswer::Form),
+    }
 }
 
 fn of_node(alloc: Global, question: NodeQuestion, node: &SyntaxNode) -> Result<String, NoAnswer> {
     let tree = node.tree();
     match question {
-        NodeQuestion::ChildrenWithTokens => places(alloc, tree, &node.children_with_tokens(alloc)?),
-        NodeQuestion::Children => node_places(alloc, tree, &node.children(alloc)?),
-        NodeQuestion::FirstChildOrToken => place(alloc, tree, node.first_child_or_token(alloc)?),
-        NodeQuestion::LastChildOrToken => place(alloc, tree, node.last_child_or_token(alloc)?),
-        NodeQuestion::FirstToken => token_place(alloc, tree, node.first_token(alloc)?),
-        NodeQuestion::Descendants => node_places(alloc, tree, &node.descendants(alloc)?),
+        NodeQuestion::ChildrenWithTokens => places(
+            alloc,
+            tree,
+            &told(
+                "SyntaxNode::children_with_tokens",
+                node.children_with_tokens(alloc),
+            )?,
+        ),
+        NodeQuestion::Children => node_places(
+            alloc,
+            tree,
+            &told("SyntaxNode::children", node.children(alloc))?,
+        ),
+        NodeQuestion::FirstChildOrToken => place(
+            alloc,
+            tree,
+            told(
+                "SyntaxNode::first_child_or_token",
+                node.first_child_or_token(alloc),
+            )?,
+        ),
+        NodeQuestion::LastChildOrToken => place(
+            alloc,
+            tree,
+            told(
+                "SyntaxNode::last_child_or_token",
+                node.last_child_or_token(alloc),
+            )?,
+        ),
+        NodeQuestion::FirstToken => token_place(
+            alloc,
+            tree,
+            told("SyntaxNode::first_token", node.first_token(alloc))?,
+        ),
+        NodeQuestion::Descendants => node_places(
+            alloc,
+            tree,
+            &told("SyntaxNode::descendants", node.descendants(alloc))?,
+        ),
         NodeQuestion::CloneSubtree => clone_subtree(alloc, node),
     }
 }
@@ -60,7 +108,8 @@ fn of_node(alloc: Global, question: NodeQuestion, node: &SyntaxNode) -> Result<S
 // The copy's number is drawn from a source that begins at 40.
 fn clone_subtree(alloc: Global, node: &SyntaxNode) -> Result<String, NoAnswer> {
     let mut ids = TreeIds::new(40);
-    let copy = node.clone_subtree(alloc, &mut ids)?;
+    let called = node.clone_subtree(alloc, &mut ids);
+    let copy = drawn("SyntaxNode::clone_subtree", called, ids.peek() == Some(40))?;
     root_facts(alloc, &copy)
 }
 
@@ -76,6 +125,10 @@ fn facts(alloc: Global, root: &SyntaxNode) -> Result<String, NoAnswer> {
     let kind = kind_name(root.kind());
     let slot = root.index();
     let start = root.text_start();
-    let extent = extent(alloc, root.text_len(), &root.text(alloc)?)?;
+    let extent = extent(
+        alloc,
+        root.text_len(),
+        &told("SyntaxNode::text", root.text(alloc))?,
+    )?;
     Ok(format!(in alloc; "{kind} in slot {slot}, from {start}, {extent}")?)
 }

@@ -69,10 +69,19 @@ fn roots(alloc: Global, trees: &Trees, ids: &mut TreeIds) -> Result<String, NoAn
 
 fn new_root(alloc: Global, trees: &Trees, ids: &mut TreeIds) -> Result<String, NoAnswer> {
     let tree = trees.tree(alloc, "X")?;
-    number_or_error(alloc, SyntaxNode::new_root(alloc, ids, tree))
+    let before = ids.peek();
+    let called = SyntaxNode::new_root(alloc, ids, tree);
+    number_or_error(alloc, "SyntaxNode::new_root", called, ids.peek() == before)
 }
 
 fn copied(alloc: Global, trees: &Trees, ids: &mut TreeIds) -> Result<String, NoAnswer> {
     let node = trees.node(alloc, "L")?;
-    number_or_error(alloc, node.clone_subtree(alloc, ids))
+    let before = ids.peek();
+    let called = node.clone_subtree(alloc, ids);
+    number_or_error(
+        alloc,
+        "SyntaxNode::clone_subtree",
+        called,
+        ids.peek() == before,
+    )
 }

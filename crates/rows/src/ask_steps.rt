@@ -1,6 +1,7 @@
 //! Where a path leads on from a node, and the token before a token.
 
 use crate::answer::NoAnswer;
+use crate::memory::told;
 use crate::question::{find_named, words};
 use crate::shown::{place, token_place};
 use crate::trees::{Trees, slots};
@@ -44,7 +45,10 @@ pub fn answer(
 fn element_at(alloc: Global, trees: &Trees, arguments: &str) -> Result<String, NoAnswer> {
     let (node, path) = words(arguments).ok_or(NoAnswer::Arguments)?;
     let node = trees.node(alloc, node)?;
-    let found = node.element_at(alloc, &slots(alloc, path)?)?;
+    let found = told(
+        "SyntaxNode::element_at",
+        node.element_at(alloc, &slots(alloc, path)?),
+    )?;
     place(alloc, node.tree(), found)
 }
 
@@ -52,10 +56,17 @@ fn element_at(alloc: Global, trees: &Trees, arguments: &str) -> Result<String, N
 fn element_of_tree(alloc: Global, trees: &Trees, arguments: &str) -> Result<String, NoAnswer> {
     let (node, path) = words(arguments).ok_or(NoAnswer::Arguments)?;
     let node = trees.node(alloc, node)?;
-    let found = node.element_of_tree(alloc, slots(alloc, path)?)?;
+    let found = told(
+        "SyntaxNode::element_of_tree",
+        node.element_of_tree(alloc, slots(alloc, path)?),
+    )?;
     place(alloc, node.tree(), found)
 }
 
 fn prev_token(alloc: Global, token: &SyntaxToken) -> Result<String, NoAnswer> {
-    token_place(alloc, token.tree(), token.prev_token(alloc)?)
+    token_place(
+        alloc,
+        token.tree(),
+        told("SyntaxToken::prev_token", token.prev_token(alloc))?,
+    )
 }

@@ -1,12 +1,13 @@
 //! Equality, hash and form of element values, and the shape of nodes.
 
 use crate::answer::NoAnswer;
+use crate::memory::{hash_of, told};
 use crate::question::{find_named, words};
 use crate::shown::word;
 use crate::trees::Trees;
 use cst_core::{SyntaxElement, SyntaxNode, same_shape};
 use std::alloc::Global;
-use std::hash::{DefaultHasher, Hash, Hasher};
+use std::hash::Hash;
 
 #[derive(Clone, Copy)]
 pub enum ValueQuestion {
@@ -39,12 +40,6 @@ pub fn answer(
         ValueQuestion::Form => form(alloc, trees, arguments),
         ValueQuestion::SameShape => shape(alloc, trees, arguments),
     }
-}
-
-fn hash_of<T: Hash>(value: &T) -> u64 {
-    let mut hasher = DefaultHasher::new();
-    value.hash(&mut hasher);
-    hasher.finish()
 }
 
 // By `==` both ways, and by the hash, which differs where these values do.
@@ -100,14 +95,14 @@ fn form(alloc: Global, trees: &Trees, place: &str) -> Result<String, NoAnswer> {
 
 // The form is taken off and put on again.
 fn is_node(alloc: Global, element: &SyntaxElement) -> Result<bool, NoAnswer> {
-    match element.try_clone(alloc)?.into_node() {
+    match told("SyntaxElement::try_clone", element.try_clone(alloc))?.into_node() {
         Some(node) => Ok(SyntaxElement::from(node) == *element),
         None => Ok(false),
     }
 }
 
 fn is_token(alloc: Global, element: &SyntaxElement) -> Result<bool, NoAnswer> {
-    match element.try_clone(alloc)?.into_token() {
+    match told("SyntaxElement::try_clone", element.try_clone(alloc))?.into_token() {
         Some(token) => Ok(SyntaxElement::from(token) == *element),
         None => Ok(false),
     }

@@ -16,17 +16,19 @@ mod ask_numbers;
 mod ask_steps;
 mod ask_values;
 mod ask_views;
+mod memory;
 mod question;
 mod report;
 mod shown;
 mod trees;
 
-use crate::answer::answer;
+use crate::answer::{NoAnswer, answer};
 use crate::question::Line;
-use crate::report::Report;
+use crate::report::{REFUSED, Report};
 use crate::trees::Trees;
 use std::alloc::Global;
 use std::io;
+use std::io::ErrorKind;
 use std::process::ExitCode;
 
 fn take_line<R: Print>(
@@ -36,6 +38,9 @@ fn take_line<R: Print>(
     report: &mut Report,
     line: &str,
 ) -> io::Result<()> {
+    if report.is_cut() {
+        return Ok(());
+    }
     match Line::read(line) {
         Line::Blank => Ok(()),
         Line::Tree { name, expression } => {
@@ -48,9 +53,22 @@ fn take_line<R: Print>(
             wanted,
         } => {
             let own = answer(alloc, trees, name, arguments);
+            if let Err(NoAnswer::Refused(call)) = &own {
+                println!(rt; "Memory: {call}")?;
+                let again = answer(alloc, trees, name, arguments);
+                return report.note_answer(rt, line, again, wanted);
+            }
             report.note_answer(rt, line, own, wanted)
         }
         Line::Malformed => report.note_malformed(rt, line),
+    }
+}
+
+// Whether a line of the table was not read for want of memory.
+fn is_memory(line: &io::Result<String>) -> bool {
+    match line {
+        Ok(_) => false,
+        Err(error) => error.kind() == ErrorKind::OutOfMemory,
     }
 }
 
@@ -59,6 +77,9 @@ fn main(rt: HostRuntime) -> io::Result<ExitCode> {
     let mut trees = Trees::new(alloc);
     let mut report = Report::new();
     for line in rt.lines(alloc) {
+        if is_memory(&line) {
+            return Ok(ExitCode::from(REFUSED));
+        }
         take_line(&rt, alloc, &mut trees, &mut report, line?.as_str())?;
     }
     report.close(&rt)

@@ -3,12 +3,16 @@ use std::fmt::Display;
 use std::io;
 use std::process::ExitCode;
 
+/// The exit status where each line went right, but for some that ended for want of memory.
+pub const REFUSED: u8 = 3;
+
 /// How many questions were asked, and how many lines went wrong.
 #[derive(Drop)]
 pub struct Report {
     asked: u32,
     as_expected: u32,
     wrong: u32,
+    refused: u32,
 }
 
 impl Report {
@@ -17,6 +21,7 @@ impl Report {
             asked: 0,
             as_expected: 0,
             wrong: 0,
+            refused: 0,
         }
     }
 
@@ -34,9 +39,22 @@ impl Report {
                 self.as_expected = self.as_expected.saturating_add(1);
                 Ok(())
             }
+            Ok(own) if own.as_str() == "Memory" => self.note_refused(),
             Ok(own) => self.note_wrong(rt, line, own.as_str()),
+            Err(error) if error.is_memory() => self.note_refused(),
             Err(error) => self.note_wrong(rt, line, error),
         }
+    }
+
+    /// Whether a line ended for want of memory, so that those after it may lack a tree.
+    pub fn is_cut(&self) -> bool {
+        self.refused != 0
+    }
+
+    // A line ended for want of memory.
+    fn note_refused(&mut self) -> io::Result<()> {
+        self.refused = self.refused.saturating_add(1);
+        Ok(())
     }
 
     /// Prints the line of a tree that cannot be made.
@@ -48,6 +66,7 @@ impl Report {
     ) -> io::Result<()> {
         match defined {
             Ok(()) => Ok(()),
+            Err(error) if error.is_memory() => self.note_refused(),
             Err(error) => self.note_wrong(rt, line, error),
         }
     }
@@ -73,10 +92,12 @@ impl Report {
         let as_expected = self.as_expected;
         let asked = self.asked;
         println!(rt; "{as_expected} of {asked} answers as expected")?;
-        if self.wrong == 0 {
-            Ok(ExitCode::SUCCESS)
-        } else {
+        if self.wrong != 0 {
             Ok(ExitCode::FAILURE)
+        } else if self.refused != 0 {
+            Ok(ExitCode::from(REFUSED))
+        } else {
+            Ok(ExitCode::SUCCESS)
         }
     }
 }

@@ -1,6 +1,7 @@
 //! What calls gave, as the table writes it.
 
 use crate::answer::NoAnswer;
+use crate::memory::refused;
 use cst_core::{
     GreenElement, GreenElementRef, GreenNode, GreenToken, SyntaxElement, SyntaxKind, SyntaxNode,
     SyntaxToken, TreeError,
@@ -211,13 +212,16 @@ pub fn extent(alloc: Global, length: u64, text: &str) -> Result<String, NoAnswer
     Ok(format!(in alloc; "{length} bytes {text:?}")?)
 }
 
-/// The number of a tree that was made, or why there is none.
+/// The number of a tree that was made, or why there is none. Want of memory must have kept the source of numbers.
 pub fn number_or_error(
     alloc: Global,
+    call: &'static str,
     made: Result<SyntaxNode, TreeError>,
+    is_kept: bool,
 ) -> Result<String, NoAnswer> {
     match made {
         Ok(node) => Ok(node.tree().to_string(alloc)?),
+        Err(TreeError::Memory) => Err(refused(call, is_kept)),
         Err(error) => Ok(error.to_string(alloc)?),
     }
 }

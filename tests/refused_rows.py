@@ -1,0 +1,157 @@
+#!/usr/bin/env python3
+"""Runs each row of the tables of `answers` and of `rows` with its first, second and each further growth refused.
+
+    refused_rows.py LIBRARY    LIBRARY is built of refuse_growth.c; the programs stand in crates/NAME/out
+
+A row is a table of its own, with the trees that it names; for `answers` it begins with the line `growths are refused`. Each of
+its runs must answer as expected or end for want of memory. A call that was refused says its name (`Memory: NAME`). In the end each public call that takes an allocator
+must have done so, but for those of EXCEPT."""
+import os
+import re
+import subprocess
+import sys
+import tempfile
+
+# Crates whose public calls take memory, with the names by which they give others again.
+CRATES = ["green_tree", "cst_core", "edit_map", "edit_change", "edit_plan", "indentation", "syntax_editor"]
+SURFACE = ["cst_core", "edit_map", "edit_plan", "syntax_editor"]
+
+# What stands before each row.
+HEAD = {"rows": [], "answers": ["growths are refused"]}
+
+# Calls that no row can show to be refused. The sharing of a tree is a count, and the path of a root is empty.
+EXCEPT = {
+    "GreenToken::share": "asks for nothing",
+    "GreenElementRef::share": "asks for nothing",
+    "GreenElement::share": "asks for nothing",
+    "GreenNode::share": "asks for nothing",
+    "SyntaxElement::green": "shares a tree",
+    "SyntaxNode::green": "shares a tree",
+    "SyntaxToken::green": "shares a tree",
+    "SyntaxElement::tree_top": "shares a tree, for a root",
+    "SyntaxNode::tree_top": "shares a tree, for a root",
+    "SyntaxToken::tree_top": "shares a tree, for a root",
+    "SyntaxNode::new_root": "shares a tree, for a root",
+    "SyntaxNode::clone_subtree": "shares a tree, for a root",
+    "SyntaxEditor::new": "shares a tree, for roots",
+    "SyntaxEditor::with_ast_node": "shares a tree, for roots",
+    "SyntaxMapping::new": "keeps the allocator, and asks for nothing",
+    "SyntaxMappingBuilder::new": "keeps the allocator, and asks for nothing",
+    "SyntaxFactory::with_mappings": "keeps the allocator, and asks for nothing",
+    "SyntaxFactory::without_mappings": "asks for nothing",
+    "Change::brought": "gives a type that no user of edit_plan can name; EditPlan::run calls it, and has rows",
+}
+
+
+def source(crate):
+    for folder, _, files in os.walk(f"crates/{crate}/src"):
+        for name in sorted(files):
+            if name.endswith(".rt"):
+                with open(f"{folder}/{name}", encoding="utf-8") as text:
+                    yield text.read()
+
+
+def given(crate):
+    """The names that a crate gives, its own and those of others."""
+    names = set()
+    with open(f"crates/{crate}/src/lib.rt", encoding="utf-8") as text:
+        for body in re.findall(r"^pub use [\w:]+::(\{[^}]*\}|\w+);", text.read(), re.M):
+            names.update(re.findall(r"\w+", body))
+    return names
+
+
+ITEM = re.compile(
+    r"^(?:impl(?:<[^>]*>)? (?P<type>[^\n{]*)\{"
+    r"|pub trait (?P<trait>\w+)"
+    r"|(?P<method>    )?(?P<public>pub )?fn (?P<call>\w+)(?:<[^(]*>)?\((?P<parameters>[^)]*)\))",
+    re.M,
+)
+
+
+def calls_of(crate):
+    """The public calls of a crate that take an allocator: the type, the trait or the call that has to be given, and the name."""
+    for text in source(crate):
+        owner, is_public = None, False
+        for item in ITEM.finditer(text):
+            if item["type"] is not None:
+                # What an impl of a trait has is a call of the trait.
+                owner, is_public = re.match(r"\w*", item["type"])[0], " for " not in item["type"]
+            elif item["trait"]:
+                owner, is_public = item["trait"], True
+            elif re.search(r"\b_?alloc: Global\b", item["parameters"]):
+                if item["method"] and is_public and (item["public"] or is_trait(text, item)):
+                    yield owner, f"{owner}::{item['call']}"
+                elif item["public"] and not item["method"]:
+                    yield item["call"], item["call"]
+
+
+def is_trait(text, item):
+    before = re.findall(r"^(impl|pub trait)\b", text[: item.start()], re.M)
+    return before[-1:] == ["pub trait"]
+
+
+def owed_calls():
+    names = set().union(*map(given, SURFACE))
+    return {name for crate in CRATES for owner, name in calls_of(crate) if owner in names}
+
+
+def rows_of(crate):
+    """Each row of a table, with the trees that it names."""
+    trees = {}
+    with open(f"crates/{crate}/stdin", encoding="utf-8") as table:
+        for line in table.read().splitlines():
+            tree = re.match(r"tree (\S+) ", line)
+            if not line or line.startswith("#"):
+                continue
+            if tree:
+                trees[tree.group(1)] = line
+                continue
+            words = set(re.split(r"[\s/:]+", line))
+            yield line, [trees[name] for name in sorted(words & trees.keys())]
+
+
+def run_each(program, library, lines, table):
+    table.seek(0)
+    table.truncate()
+    table.write("\n".join([*lines, ""]))
+    table.flush()
+    table.seek(0)
+    environment = {"LD_PRELOAD": library, "REFUSE_EACH": "1"}
+    done = subprocess.run([program], stdin=table, capture_output=True, env=environment, timeout=600, check=False)
+    return done.returncode, done.stdout.decode(errors="replace")
+
+
+def main():
+    library = os.path.abspath(sys.argv[1])
+    refused, wrong = set(), 0
+    for crate in ["rows", "answers"]:
+        rows = growths = 0
+        with tempfile.TemporaryFile("w+", encoding="utf-8") as table:
+            for line, trees in rows_of(crate):
+                status, out = run_each(f"crates/{crate}/out/{crate}", library, [*HEAD[crate], *trees, line], table)
+                count = re.search(r"^growths: (\d+)\n\Z", out, re.M)
+                rows += 1
+                refused.update(re.findall(r"^Memory: (\S+)$", out, re.M))
+                if status == 0 and count:
+                    growths += int(count.group(1))
+                else:
+                    wrong += 1
+                    said = [it for it in out.splitlines() if not it.startswith("Memory: ")]
+                    print(f"{crate}: {line}", *said, sep="\n    ")
+        print(f"{crate}: {rows} rows, {growths} refused growths, each answered")
+    owed = owed_calls()
+    for name in sorted(EXCEPT.keys() - owed):
+        wrong += 1
+        print(f"no such call: {name}")
+    for name in sorted(EXCEPT.keys() & refused):
+        wrong += 1
+        print(f"refused, and needs a row: {name}")
+    for name in sorted(owed - refused - EXCEPT.keys()):
+        wrong += 1
+        print(f"never refused: {name}")
+    print(f"{len(owed & refused)} of {len(owed)} calls that take an allocator were refused, {len(EXCEPT)} need no row")
+    sys.exit(wrong != 0)
+
+
+if __name__ == "__main__":
+    main()
