@@ -34,7 +34,7 @@ EXCEPT = {
     "SyntaxNode::new_root": "shares a tree, for a root",
     "SyntaxNode::clone_subtree": "shares a tree, for a root",
     "SyntaxEditor::new": "shares a tree, for roots",
-    "SyntaxEditor::with_ast_node": "shares a tree, for roots",
+    "SyntaxNode::element_of_tree": "takes the path over, and shares a tree",
     "SyntaxMapping::new": "keeps the allocator, and asks for nothing",
     "SyntaxMappingBuilder::new": "keeps the allocator, and asks for nothing",
     "SyntaxFactory::with_mappings": "keeps the allocator, and asks for nothing",

@@ -194,7 +194,7 @@ fn before(alloc: Global, session: &mut Session, words: &mut Words) -> Result<Str
 
 fn after(alloc: Global, session: &mut Session, words: &mut Words) -> Result<String> {
     let element = session.trees.element(alloc, words.word()?)?;
-    gap(alloc, Position::after(alloc, element))
+    gap(alloc, Position::after(alloc, &element))
 }
 
 fn gap(alloc: Global, called: Result<Option<Position>, AllocError>) -> Result<String> {
