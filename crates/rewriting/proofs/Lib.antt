@@ -12,3 +12,4 @@ pub mod Marks
 pub mod MarksGiven
 pub mod MarksKept
 pub mod Rows
+pub mod Walks

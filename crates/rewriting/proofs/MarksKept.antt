@@ -1,11 +1,13 @@
 -- The marks of what is kept.
-use Rattle.std.specs.Prelude.{◌≡◌, ℕ, true, false, cond, nat_eq, ◌&&◌, List, [], ◌∷◌, ◌++◌, map, filter, refl}
+use Rattle.std.specs.Prelude.{◌≡◌, ◌<◌, ℕ, true, false, cond, nat_eq, ◌&&◌, List, [], ◌∷◌, ◌++◌, map, filter, get_or, Vec, refl}
+use Rattle.std.specs.Global.{Global}
 use Rattle.std.proofs.Common.{ap, ap₂, sym, ◌∙◌}
 use Rattle.std.proofs.lemmas.List.{append_assoc, append-nil, map-append}
 use Rattle.green_tree.specs.Path.{Path, same_path}
 use Rattle.green_tree.specs.Tree.{SyntaxTree, Token, forest, node}
 use Rattle.rewriting.specs.Rewriting.{NumberedAim, rewritten, rewritten_from}
-use Rattle.rewriting.specs.inner.Marked.{MarkTree, Marking, marked, below, marks_at, wanted, seen_below, sought_below}
+use Rattle.rewriting.specs.declared.mark.Sought.{Sought}
+use Rattle.rewriting.specs.inner.Marked.{MarkTree, Marking, marked, below, sought_in, marks_at, wanted, seen_below, sought_below}
 use Rattle.rewriting.proofs.Marks.{shown, marks-parent, marks-token}
 
 -- ---- as they are seen from a child
@@ -48,3 +50,7 @@ module _ (path : Path) (sought : List Marking) (trees : ℕ → List MarkTree) (
       let grouped : before ++ here ++ shown path 0 us ≡ before ++ (here ++ shown path 0 us) = append_assoc before here (shown path 0 us) in
       let whole : here ++ shown path 0 us ≡ all_marks (node k ts) = ap (λ ms. ms ++ shown path 0 us) (below_here path ns) ∙ sym (map-append (below path) (map (λ m. (m, [])) ns) _) ∙ ap (map (below path)) (sym (marks-parent ns us)) in
       h ∙ grouped ∙ ap (λ ms. before ++ ms) whole ∙ ap (λ u. before ++ all_marks u) (sym is)
+
+-- ---- what was dealt out to a child
+pub list_is : (lists : List (Vec Sought Global)) (n i : ℕ) (v : Vec Sought Global) (xs : List Sought) (ms : List Marking) → ((k : ℕ) (d : Vec Sought Global) → k < n → sought_in (get_or lists k d).items ≡ sought_below k ms) → i < n → v ≡ get_or lists i v → xs ≡ v.items → sought_in xs ≡ sought_below i ms
+list_is lists n i v xs ms all l is e = ap sought_in e ∙ ap (λ u. sought_in u.items) is ∙ all i v l

@@ -81,3 +81,17 @@ mutual
 
 pub nothing_made : (given : ℕ → List SyntaxTree) (xs : List Aimed) (t : SyntaxTree) → list_any has_parent (aims_of xs) ≡ false → rewritten kind_only given (aims_of xs) [] t ≡ t
 nothing_made given xs t none = untouched (λ k. k) given xs none [] t ∙ same_labels t
+
+-- ---- labels by path, too
+module _ {L : Type 0} (label_at : Path → ℕ → L) (given : ℕ → List (Tree L)) (xs : List Aimed) (none : list_any has_parent (aims_of xs) ≡ false) where
+  mutual
+    pub unaimed : (p : Path) (t : SyntaxTree) → rewritten label_at given (aims_of xs) p t ≡ rewritten label_at (λ c. []) [] p t
+    unaimed p (Token k s) = refl
+    unaimed p (Node k f) = ap (λ ts. Node (label_at p k) (forest ts)) (unaimed_from p 0 f)
+
+    unaimed_from : (p : Path) (i : ℕ) (f : Forest ℕ) → rewritten_from label_at given (aims_of xs) p i f ≡ rewritten_from label_at (λ c. []) [] p i f
+    unaimed_from p i end = ap (λ ns. flat_map given (gap_order ns)) (no_inserts xs p i none)
+    unaimed_from p i (more t f) =
+        let u = rewritten label_at given (aims_of xs) (p ++ i ∷ []) t in
+        let rest = rewritten_from label_at given (aims_of xs) p (suc i) f in
+        ap₂ (λ ns b. flat_map given (gap_order ns) ++ cond b (flat_map given (replacements_at (aims_of xs) (p ++ i ∷ []))) (u ∷ []) ++ rest) (no_inserts xs p i none) (no_slot xs p i none) ∙ ap₂ (λ v vs. v ∷ vs) (unaimed (p ++ i ∷ []) t) (unaimed_from p (suc i) f)

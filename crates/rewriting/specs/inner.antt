@@ -5,3 +5,4 @@ pub mod Few
 pub mod Given
 pub mod Pass
 pub mod Marked
+pub mod Walk

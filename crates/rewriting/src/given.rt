@@ -1,5 +1,6 @@
-ghost use Rattle.std.specs.Prelude.{◌≡◌, ◌++◌, length, IfOk, OnOk};
-ghost use Rattle.green_tree.specs.GreenElement.{element_trees};
+ghost use Rattle.std.specs.Prelude.{◌<◌, ◌≡◌, ◌++◌, length, get_or, IfOk, OnOk};
+ghost use Rattle.green_tree.specs.Tree.{SyntaxTree};
+ghost use Rattle.green_tree.specs.GreenElement.{element_tree, element_trees};
 ghost use Rattle.rewriting.specs.inner.Given.{given_trees};
 
 use green_tree::{GreenElement, GreenElementRef};
@@ -33,6 +34,17 @@ impl<'a> Given<'a> {
         match self {
             Given::Borrowed(_) => 1,
             Given::Shared(elements) => elements.len(),
+        }
+    }
+
+    /// One of the elements, shared.
+    pub(crate) fn share_at(&self, alloc: Global, index: usize) -> Result<GreenElement, AllocError>
+        requires { index < length (given_trees self.now) }
+        ensures { IfOk result (λ e. (d : SyntaxTree) → element_tree e ≡ get_or (given_trees self.now) index d) }
+    {
+        match self {
+            Given::Borrowed(element) => element.share(alloc),
+            Given::Shared(elements) => elements[index].share(alloc),
         }
     }
 

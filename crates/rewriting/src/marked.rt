@@ -13,7 +13,7 @@ use green_tree::GreenElement;
 use std::alloc::{AllocError, Global};
 
 // The inserts of a gap of the top, in the order in which they stand there: the one recorded last stands first.
-fn inserted(alloc: Global, aims: &[Aimed], gap: usize) -> Result<Vec<usize>, AllocError>
+pub fn inserted(alloc: Global, aims: &[Aimed], gap: usize) -> Result<Vec<usize>, AllocError>
     ensures { IfOk result (λ v. v.items ≡ gap_order (inserts_at (aims_of aims.now) [] gap)) }
 {
     let mut changes = Vec::new(alloc);
@@ -27,7 +27,7 @@ fn inserted(alloc: Global, aims: &[Aimed], gap: usize) -> Result<Vec<usize>, All
 }
 
 // What replaces from a child of the top on.
-fn replacing(alloc: Global, aims: &[Aimed], slot: usize) -> Result<Vec<usize>, AllocError>
+pub fn replacing(alloc: Global, aims: &[Aimed], slot: usize) -> Result<Vec<usize>, AllocError>
     ensures { IfOk result (λ v. v.items ≡ replacements_at (aims_of aims.now) (slot ∷ [])) }
 {
     let mut changes = Vec::new(alloc);
@@ -40,7 +40,7 @@ fn replacing(alloc: Global, aims: &[Aimed], slot: usize) -> Result<Vec<usize>, A
 }
 
 // What replaces the top.
-fn replacing_top(alloc: Global, aims: &[Aimed]) -> Result<Vec<usize>, AllocError>
+pub fn replacing_top(alloc: Global, aims: &[Aimed]) -> Result<Vec<usize>, AllocError>
     ensures { IfOk result (λ v. v.items ≡ replacements_at (aims_of aims.now) []) }
 {
     let mut changes = Vec::new(alloc);

@@ -82,7 +82,7 @@ fn push_gap(
 }
 
 // The one place where a node is made, and counted. At the greatest number the count stays.
-fn build_node(
+pub fn build_node(
     alloc: Global,
     kind: SyntaxKind,
     children: Vec<GreenElement>,

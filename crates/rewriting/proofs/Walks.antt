@@ -1,0 +1,67 @@
+-- The trees and the marks of what changes give, one element after another.
+use Rattle.std.specs.Prelude.{◌≡◌, ℕ, ◌<◌, ◌+◌, true, false, cond, List, [], ◌∷◌, ◌++◌, map, length, drop, get_or, flat_map, Option, Some, None, refl}
+use Rattle.std.specs.Option.{option_map_or}
+use Rattle.std.proofs.Common.{ap, ap₂, sym, ◌∙◌}
+use Rattle.std.proofs.lemmas.List.{append_assoc, length-append, length-map, map-append, at_drop_more}
+use Rattle.green_tree.specs.Path.{Path}
+use Rattle.green_tree.specs.Tree.{SyntaxTree}
+use Rattle.green_tree.specs.GreenElement.{element_tree, element_trees}
+use Rattle.green_tree.specs.declared.green.GreenElement.{GreenElement}
+use Rattle.rewriting.specs.Rewriting.{NumberedAim, slot, is_replaced, replacements_at}
+use Rattle.rewriting.specs.inner.Given.{given_trees}
+use Rattle.rewriting.specs.inner.Pass.{kind_only}
+use Rattle.rewriting.specs.inner.Marked.{MarkTree, Marking, marked, below}
+use Rattle.rewriting.specs.inner.Walk.{IsMarkedIn, AreMarkedIn, given_in}
+use Rattle.rewriting.specs.declared.marked_given.MarkedGiven.{MarkedGiven}
+use Rattle.rewriting.proofs.Marks.{shown, shown-append, shown-one}
+
+-- ---- trees
+pub pushed : {X : Type 0} (before after given rest all : List X) → after ≡ before ++ given → before ++ (given ++ rest) ≡ all → after ++ rest ≡ all
+pushed before after given rest all a h = ap (λ xs. xs ++ rest) a ∙ append_assoc before given rest ∙ h
+
+-- so many elements more
+pub width : (old new : List GreenElement) (given : List SyntaxTree) (ts : List MarkTree) → element_trees new ≡ element_trees old ++ given → length ts ≡ length given → length new ≡ length old + length ts
+width old new given ts e l =
+    sym (length-map new element_tree) ∙ ap length e ∙ length-append (element_trees old) given ∙ ap₂ (λ a b. a + b) (length-map old element_tree) (sym l)
+
+as_many_in : (o : Option MarkedGiven) (ts : List MarkTree) → IsMarkedIn o ts → length ts ≡ length (option_map_or (λ g. given_trees g.elements) o [])
+as_many_in None ts h = ap length h
+as_many_in (Some g) ts h = h.count
+
+module _ (table : List MarkedGiven) (trees : ℕ → List MarkTree) (are : AreMarkedIn table trees) where
+  pub as_many : (c : ℕ) → length (trees c) ≡ length (given_in table c)
+  as_many c = as_many_in _ (trees c) (are c)
+
+  pub all_as_many : (cs : List ℕ) → length (flat_map trees cs) ≡ length (flat_map (given_in table) cs)
+  all_as_many [] = refl
+  all_as_many (c ∷ cs) =
+      length-append (trees c) (flat_map trees cs) ∙ ap₂ (λ a b. a + b) (as_many c) (all_as_many cs) ∙ sym (length-append (given_in table c) (flat_map (given_in table) cs))
+
+  -- what stands in a slot
+  pub slot_as_many : (label_at : Path → ℕ → List ℕ) (cs : List NumberedAim) (p : Path) (t : MarkTree) (u : SyntaxTree) → length (slot label_at trees cs p t) ≡ length (slot kind_only (given_in table) cs p u)
+  slot_as_many label_at cs p t u =
+      elim (is_replaced cs p) as (λ b. length (cond b (flat_map trees (replacements_at cs p)) (t ∷ [])) ≡ length (cond b (flat_map (given_in table) (replacements_at cs p)) (u ∷ []))) [
+        | true ↦ all_as_many (replacements_at cs p)
+        | false ↦ refl
+      ]
+
+-- ---- marks
+module _ (path : Path) where
+  -- those of a top, and then the others
+  pub both : (before middle after own others : List Marking) → middle ≡ before ++ map (below path) own → after ≡ middle ++ map (below path) others → after ≡ before ++ map (below path) (own ++ others)
+  both before middle after own others m a =
+      a ∙ ap (λ xs. xs ++ map (below path) others) m ∙ append_assoc before (map (below path) own) (map (below path) others) ∙ ap (λ xs. before ++ xs) (sym (map-append (below path) own others))
+
+  -- one tree of several
+  pub element_more : (before after all : List Marking) (n next i : ℕ) (ts : List MarkTree) (d : MarkTree) (ms : List Marking) → i < length ts → marked (get_or ts i d) ≡ ms → after ≡ before ++ map (below (path ++ n ∷ [])) ms → next ≡ n + 1 → before ++ shown path n (drop i ts) ≡ all → after ++ shown path next (drop (i + 1) ts) ≡ all
+  element_more before after all n next i ts d ms l m a x h =
+      let t = get_or ts i d in
+      let rest = drop (i + 1) ts in
+      let own : map (below (path ++ n ∷ [])) ms ≡ shown path n (t ∷ []) = ap (map (below (path ++ n ∷ []))) (sym m) ∙ sym (shown-one path n t) in
+      ap₂ (λ xs k. xs ++ shown path k rest) (a ∙ ap (λ xs. before ++ xs) own) x ∙ append_assoc before (shown path n (t ∷ [])) (shown path (n + 1) rest) ∙ ap (λ xs. before ++ xs) (sym (shown-append path n (t ∷ []) rest)) ∙ sym (at_drop_more (λ us. before ++ shown path n us) ts i d l) ∙ h
+
+  -- what one change of several gives
+  pub change_more : (trees : ℕ → List MarkTree) (before after all : List Marking) (n next c : ℕ) (cs : List ℕ) → after ≡ before ++ shown path n (trees c) → next ≡ n + length (trees c) → before ++ shown path n (flat_map trees (c ∷ cs)) ≡ all → after ++ shown path next (flat_map trees cs) ≡ all
+  change_more trees before after all n next c cs a x h =
+      let rest = flat_map trees cs in
+      ap₂ (λ xs k. xs ++ shown path k rest) a x ∙ append_assoc before (shown path n (trees c)) (shown path (n + length (trees c)) rest) ∙ ap (λ xs. before ++ xs) (sym (shown-append path n (trees c) rest)) ∙ h

@@ -1,0 +1,76 @@
+ghost use Rattle.std.specs.Prelude.{ℕ, ◌<◌, ◌≡◌, ◌++◌, [], ◌∷◌, map, length, get_or, OnOk};
+ghost use Rattle.green_tree.specs.GreenElement.{element_tree};
+ghost use Rattle.rewriting.specs.inner.Marked.{below, marks_of};
+ghost use Rattle.rewriting.specs.inner.Walk.{own_marks, marks_there};
+
+use crate::given::Given;
+use crate::mark::Mark;
+use std::alloc::{AllocError, Global};
+
+/// What a change gives, and the marks of it.
+#[derive(Drop)]
+pub struct MarkedGiven<'a> {
+    /// The elements that it gives.
+    pub elements: Given<'a>,
+    /// A mark that each of these elements has itself.
+    pub own: Option<usize>,
+    /// For each of them, in their order, further marks in document order, with paths that are counted from it. Where the list ends before,
+    /// there are none.
+    pub marks: Vec<Vec<Mark>>,
+}
+
+// The mark of the top of an element, which stands at this path, if it has one.
+fn push_own(
+    alloc: Global,
+    found: &mut Vec<Mark>,
+    path: &[usize],
+    own: Option<usize>,
+) -> Result<(), AllocError>
+    ensures { OnOk result (marks_of found.new.items ≡ marks_of found.old.items ++ map (below path.now) (own_marks own)) }
+{
+    let Some(number) = own else {
+        return Ok(());
+    };
+    let path = Vec::from_slice(alloc, path)?;
+    found.push(Mark { number, path })?;
+    Ok(())
+}
+
+// These marks of an element, which stands at this path.
+fn push_below(
+    alloc: Global,
+    found: &mut Vec<Mark>,
+    path: &[usize],
+    marks: &[Mark],
+) -> Result<(), AllocError>
+    ensures { OnOk result (marks_of found.new.items ≡ marks_of found.old.items ++ map (below path.now) (marks_of marks.now)) }
+{
+    for mark in marks {
+        let mut longer = Vec::from_slice(alloc, path)?;
+        longer.extend_from_slice(&mark.path)?;
+        found.push(Mark {
+            number: mark.number,
+            path: longer,
+        })?;
+    }
+    Ok(())
+}
+
+impl<'a> MarkedGiven<'a> {
+    // The marks of the element at this index, which stands at this path.
+    pub(crate) fn push_marks_of(
+        &self,
+        alloc: Global,
+        found: &mut Vec<Mark>,
+        path: &[usize],
+        index: usize,
+    ) -> Result<(), AllocError>
+        ensures { OnOk result (marks_of found.new.items ≡ marks_of found.old.items ++ map (below path.now) (marks_there self.now index)) }
+    {
+        push_own(alloc, found, path, self.own)?;
+        if let Some(marks) = self.marks.get(index) {
+            push_below(alloc, found, path, marks)?;
+        }
+        Ok(())
+    }
+}

@@ -1,0 +1,199 @@
+ghost use Rattle.std.specs.Prelude.{ℕ, ◌+◌, ◌≤◌, ◌≡◌, ◌++◌, List, [], map, flat_map, length, IfOk, OnOk};
+ghost use Rattle.green_tree.specs.GreenElement.{element_tree, element_trees};
+ghost use Rattle.rewriting.specs.Rewriting.{rewritten, rewritten_whole};
+ghost use Rattle.rewriting.specs.Effort.{counted, nodes_built, nodes_built_whole, touched, parents_of};
+ghost use Rattle.rewriting.specs.inner.Aimed.{aims_of};
+ghost use Rattle.rewriting.specs.inner.Given.{given_trees};
+ghost use Rattle.rewriting.specs.inner.Marked.{MarkTree, marked, marked_from, below, marks_of, sought_in, wanted};
+ghost use Rattle.rewriting.specs.inner.Pass.{kind_only};
+ghost use Rattle.rewriting.specs.inner.Walk.{IsMarked, AreMarkedIn, given_in};
+
+use crate::aim_list::{alter_some, below, grouped, is_replaced, top_is_replaced};
+use crate::aimed::Aimed;
+use crate::mark::{Mark, Sought, dealt, push_here};
+use crate::marked::{inserted, replacing, replacing_top};
+use crate::marked_given::MarkedGiven;
+use crate::pass::build_node;
+use green_tree::GreenElement;
+use std::alloc::{AllocError, Global};
+
+// What a change gives goes behind the children that the node at this path has so far, with its marks.
+fn push_given(
+    alloc: Global,
+    out: &mut Vec<GreenElement>,
+    found: &mut Vec<Mark>,
+    path: &mut Vec<usize>,
+    given: &MarkedGiven,
+) -> Result<(), AllocError>
+    ensures path { OnOk result (path.new.items ≡ path.old.items) }
+    ensures trees { OnOk result (element_trees out.new.items ≡ element_trees out.old.items ++ given_trees given.now.elements) }
+    ensures marks { OnOk result ((ts : List MarkTree) → IsMarked given.now ts → marks_of found.new.items ≡ marks_of found.old.items ++ map (below path.old.items) (marked_from (length out.old.items) ts)) }
+{
+    for index in 0..given.elements.len() {
+        path.push(out.len())?;
+        given.push_marks_of(alloc, found, path, index)?;
+        path.pop();
+        out.push(given.elements.share_at(alloc, index)?)?;
+    }
+    Ok(())
+}
+
+// The same of a change by its number.
+fn push_change(
+    alloc: Global,
+    out: &mut Vec<GreenElement>,
+    found: &mut Vec<Mark>,
+    path: &mut Vec<usize>,
+    given: &[MarkedGiven],
+    change: usize,
+) -> Result<(), AllocError>
+    ensures path { OnOk result (path.new.items ≡ path.old.items) }
+    ensures trees { OnOk result (element_trees out.new.items ≡ element_trees out.old.items ++ given_in given.now change) }
+    ensures marks { OnOk result ((trees : ℕ → List MarkTree) → AreMarkedIn given.now trees → marks_of found.new.items ≡ marks_of found.old.items ++ map (below path.old.items) (marked_from (length out.old.items) (trees change))) }
+{
+    let Some(given) = given.get(change) else {
+        return Ok(());
+    };
+    push_given(alloc, out, found, path, given)?;
+    Ok(())
+}
+
+// The same of several, one after another.
+fn push_changes(
+    alloc: Global,
+    out: &mut Vec<GreenElement>,
+    found: &mut Vec<Mark>,
+    path: &mut Vec<usize>,
+    given: &[MarkedGiven],
+    changes: &[usize],
+) -> Result<(), AllocError>
+    ensures path { OnOk result (path.new.items ≡ path.old.items) }
+    ensures trees { OnOk result (element_trees out.new.items ≡ element_trees out.old.items ++ flat_map (given_in given.now) changes.now) }
+    ensures marks { OnOk result ((trees : ℕ → List MarkTree) → AreMarkedIn given.now trees → marks_of found.new.items ≡ marks_of found.old.items ++ map (below path.old.items) (marked_from (length out.old.items) (flat_map trees changes.now))) }
+{
+    for change in changes {
+        push_change(alloc, out, found, path, given, *change)?;
+    }
+    Ok(())
+}
+
+// The marks sought in an element that nothing aims into, which has this path in the new tree.
+fn push_kept(
+    alloc: Global,
+    found: &mut Vec<Mark>,
+    path: &mut Vec<usize>,
+    element: &GreenElement,
+    sought: &[Sought],
+) -> Result<(), AllocError>
+    ensures path { OnOk result (path.new.items ≡ path.old.items) }
+    ensures marks { OnOk result (marks_of found.new.items ≡ marks_of found.old.items ++ map (below path.old.items) (marked (rewritten (wanted (sought_in sought.now)) (λ c. []) [] [] (element_tree element.now)))) }
+{
+    if sought.is_empty() {
+        return Ok(());
+    }
+    push_here(alloc, found, path, sought)?;
+    let GreenElement::Node(node) = element else {
+        return Ok(());
+    };
+    let children = node.children();
+    let lists = dealt(alloc, sought, children.len())?;
+    for slot in 0..children.len() {
+        path.push(slot)?;
+        push_kept(alloc, found, path, &children[slot], lists[slot].as_slice())?;
+        path.pop();
+    }
+    Ok(())
+}
+
+/// The element made anew by changes whose aims are counted from it: `given` has what each change gives, by its number. The marks of the new
+/// element go to the end of `found` in document order, with paths that begin with `path`: `sought` has those of the old element. `path` is as
+/// it was; after a refusal it may be longer, and some of the marks are in `found`.
+///
+/// Only the nodes above an aim are built, and what no aim is in or below is shared; `builds` counts the nodes, exactly, up to its greatest
+/// number. An aim over the top itself is passed over: see `remake_whole`. Takes time linear in the aims times their depth, the children of
+/// the nodes that are built or above a sought mark, the children that are replaced, and the lengths of the marks' paths.
+pub fn remake(
+    alloc: Global,
+    found: &mut Vec<Mark>,
+    path: &mut Vec<usize>,
+    element: &GreenElement,
+    aims: &[Aimed],
+    sought: &[Sought],
+    given: &[MarkedGiven],
+    builds: &mut u64,
+) -> Result<GreenElement, AllocError>
+    ensures path { OnOk result (path.new.items ≡ path.old.items) }
+    ensures builds { OnOk result (builds.new ≤ builds.old + touched (element_tree element.now) (parents_of (aims_of aims.now))) }
+    ensures count { OnOk result (builds.new ≡ counted builds.old (nodes_built (aims_of aims.now) (element_tree element.now))) }
+    ensures tree { IfOk result (λ e. element_tree e ≡ rewritten kind_only (given_in given.now) (aims_of aims.now) [] (element_tree element.now)) }
+    ensures marks { OnOk result ((trees : ℕ → List MarkTree) → AreMarkedIn given.now trees → marks_of found.new.items ≡ marks_of found.old.items ++ map (below path.old.items) (marked (rewritten (wanted (sought_in sought.now)) trees (aims_of aims.now) [] (element_tree element.now)))) }
+{
+    let _count = *builds;
+    if !alter_some(aims) {
+        push_kept(alloc, found, path, element, sought)?;
+        return element.share(alloc);
+    }
+    push_here(alloc, found, path, sought)?;
+    let GreenElement::Node(node) = element else {
+        return element.share(alloc);
+    };
+    let children = node.children();
+    let groups = grouped(alloc, aims, children.len())?;
+    let lists = dealt(alloc, sought, children.len())?;
+    let mut out = Vec::with_capacity(alloc, children.len())?;
+    let first = inserted(alloc, aims, 0)?;
+    push_changes(alloc, &mut out, found, path, given, &first)?;
+    for slot in 0..children.len() {
+        let group = groups[slot].as_slice();
+        if is_replaced(group, slot) {
+            let changes = replacing(alloc, group, slot)?;
+            push_changes(alloc, &mut out, found, path, given, &changes)?;
+        } else {
+            let inner = below(alloc, group, slot)?;
+            let inner_sought = lists[slot].as_slice();
+            path.push(out.len())?;
+            let child = &children[slot];
+            out.push(remake(alloc, found, path, child, &inner, inner_sought, given, builds)?)?;
+            path.pop();
+        }
+        let behind = inserted(alloc, group, slot + 1)?;
+        push_changes(alloc, &mut out, found, path, given, &behind)?;
+    }
+    build_node(alloc, node.kind(), out, builds)
+}
+
+/// Elements that stand in the place of one, and the marks of them: the first slot of each path is the element's index.
+#[derive(Drop)]
+pub struct Remade {
+    pub elements: Vec<GreenElement>,
+    pub marks: Vec<Mark>,
+}
+
+/// What stands in the place of the element: what `remake` makes of it, or, where an aim is over the top itself, what
+/// that change gives.
+pub fn remake_whole(
+    alloc: Global,
+    element: &GreenElement,
+    aims: &[Aimed],
+    sought: &[Sought],
+    given: &[MarkedGiven],
+    builds: &mut u64,
+) -> Result<Remade, AllocError>
+    ensures builds { OnOk result (builds.new ≤ builds.old + touched (element_tree element.now) (parents_of (aims_of aims.now))) }
+    ensures count { OnOk result (builds.new ≡ counted builds.old (nodes_built_whole (aims_of aims.now) (element_tree element.now))) }
+    ensures trees { IfOk result (λ r. element_trees r.elements.items ≡ rewritten_whole kind_only (given_in given.now) (aims_of aims.now) (element_tree element.now)) }
+    ensures marks { IfOk result (λ r. (trees : ℕ → List MarkTree) → AreMarkedIn given.now trees → marks_of r.marks.items ≡ marked_from 0 (rewritten_whole (wanted (sought_in sought.now)) trees (aims_of aims.now) (element_tree element.now))) }
+{
+    let _count = *builds;
+    let mut elements = Vec::new(alloc);
+    let mut marks = Vec::new(alloc);
+    let mut path = Vec::new(alloc);
+    if top_is_replaced(aims) {
+        let changes = replacing_top(alloc, aims)?;
+        push_changes(alloc, &mut elements, &mut marks, &mut path, given, &changes)?;
+    } else {
+        path.push(0)?;
+        elements.push(remake(alloc, &mut marks, &mut path, element, aims, sought, given, builds)?)?;
+    }
+    Ok(Remade { elements, marks })
+}
