@@ -17,7 +17,7 @@ mod walk;
 pub use aimed::{AimForm, Aimed};
 pub use given::Given;
 pub use mark::{GivenMarks, Mark, Sought};
-pub use marked_given::MarkedGiven;
+pub use marked_given::{GivenTable, MarkedGiven};
 pub use marked::{marks_of_whole, push_marks};
 pub use pass::{rebuild, rebuild_whole};
 pub use walk::{Remade, remake, remake_whole};

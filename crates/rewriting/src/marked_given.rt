@@ -12,23 +12,30 @@ use std::alloc::{AllocError, Global};
 pub struct MarkedGiven<'a> {
     /// The elements that it gives.
     pub elements: Given<'a>,
-    /// A mark that each of these elements has itself.
-    pub own: Option<usize>,
-    /// For each of them, in their order, further marks in document order, with paths that are counted from it. Where the list ends before,
+    /// For each of them, in their order, its marks in document order, with paths that are counted from it. Where the list ends before,
     /// there are none.
     pub marks: Vec<Vec<Mark>>,
 }
 
+/// What changes give, by their numbers.
+#[derive(Drop)]
+pub struct GivenTable<'a> {
+    /// An entry for each change.
+    pub entries: Vec<MarkedGiven<'a>>,
+    /// A mark that each given element has at its top, before its others.
+    pub top: Option<usize>,
+}
+
 // The mark of the top of an element, which stands at this path, if it has one.
-fn push_own(
+fn push_top(
     alloc: Global,
     found: &mut Vec<Mark>,
     path: &[usize],
-    own: Option<usize>,
+    top: Option<usize>,
 ) -> Result<(), AllocError>
-    ensures { OnOk result (marks_of found.new.items ≡ marks_of found.old.items ++ map (below path.now) (own_marks own)) }
+    ensures { OnOk result (marks_of found.new.items ≡ marks_of found.old.items ++ map (below path.now) (own_marks top)) }
 {
-    let Some(number) = own else {
+    let Some(number) = top else {
         return Ok(());
     };
     let path = Vec::from_slice(alloc, path)?;
@@ -57,17 +64,18 @@ fn push_below(
 }
 
 impl<'a> MarkedGiven<'a> {
-    // The marks of the element at this index, which stands at this path.
+    // The marks of the element at this index, which stands at this path, with that of its top.
     pub(crate) fn push_marks_of(
         &self,
         alloc: Global,
         found: &mut Vec<Mark>,
         path: &[usize],
+        top: Option<usize>,
         index: usize,
     ) -> Result<(), AllocError>
-        ensures { OnOk result (marks_of found.new.items ≡ marks_of found.old.items ++ map (below path.now) (marks_there self.now index)) }
+        ensures { OnOk result (marks_of found.new.items ≡ marks_of found.old.items ++ map (below path.now) (marks_there top self.now index)) }
     {
-        push_own(alloc, found, path, self.own)?;
+        push_top(alloc, found, path, top)?;
         if let Some(marks) = self.marks.get(index) {
             push_below(alloc, found, path, marks)?;
         }

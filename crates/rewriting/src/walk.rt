@@ -12,7 +12,7 @@ use crate::aim_list::{alter_some, below, grouped, is_replaced, top_is_replaced};
 use crate::aimed::Aimed;
 use crate::mark::{Mark, Sought, dealt, push_here};
 use crate::marked::{inserted, replacing, replacing_top};
-use crate::marked_given::MarkedGiven;
+use crate::marked_given::{GivenTable, MarkedGiven};
 use crate::pass::build_node;
 use green_tree::GreenElement;
 use std::alloc::{AllocError, Global};
@@ -24,14 +24,15 @@ fn push_given(
     found: &mut Vec<Mark>,
     path: &mut Vec<usize>,
     given: &MarkedGiven,
+    top: Option<usize>,
 ) -> Result<(), AllocError>
     ensures path { OnOk result (path.new.items ≡ path.old.items) }
     ensures trees { OnOk result (element_trees out.new.items ≡ element_trees out.old.items ++ given_trees given.now.elements) }
-    ensures marks { OnOk result ((ts : List MarkTree) → IsMarked given.now ts → marks_of found.new.items ≡ marks_of found.old.items ++ map (below path.old.items) (marked_from (length out.old.items) ts)) }
+    ensures marks { OnOk result ((ts : List MarkTree) → IsMarked top given.now ts → marks_of found.new.items ≡ marks_of found.old.items ++ map (below path.old.items) (marked_from (length out.old.items) ts)) }
 {
     for index in 0..given.elements.len() {
         path.push(out.len())?;
-        given.push_marks_of(alloc, found, path, index)?;
+        given.push_marks_of(alloc, found, path, top, index)?;
         path.pop();
         out.push(given.elements.share_at(alloc, index)?)?;
     }
@@ -44,17 +45,17 @@ fn push_change(
     out: &mut Vec<GreenElement>,
     found: &mut Vec<Mark>,
     path: &mut Vec<usize>,
-    given: &[MarkedGiven],
+    given: &GivenTable,
     change: usize,
 ) -> Result<(), AllocError>
     ensures path { OnOk result (path.new.items ≡ path.old.items) }
     ensures trees { OnOk result (element_trees out.new.items ≡ element_trees out.old.items ++ given_in given.now change) }
     ensures marks { OnOk result ((trees : ℕ → List MarkTree) → AreMarkedIn given.now trees → marks_of found.new.items ≡ marks_of found.old.items ++ map (below path.old.items) (marked_from (length out.old.items) (trees change))) }
 {
-    let Some(given) = given.get(change) else {
+    let Some(entry) = given.entries.get(change) else {
         return Ok(());
     };
-    push_given(alloc, out, found, path, given)?;
+    push_given(alloc, out, found, path, entry, given.top)?;
     Ok(())
 }
 
@@ -64,7 +65,7 @@ fn push_changes(
     out: &mut Vec<GreenElement>,
     found: &mut Vec<Mark>,
     path: &mut Vec<usize>,
-    given: &[MarkedGiven],
+    given: &GivenTable,
     changes: &[usize],
 ) -> Result<(), AllocError>
     ensures path { OnOk result (path.new.items ≡ path.old.items) }
@@ -119,7 +120,7 @@ pub fn remake(
     element: &GreenElement,
     aims: &[Aimed],
     sought: &[Sought],
-    given: &[MarkedGiven],
+    given: &GivenTable,
     builds: &mut u64,
 ) -> Result<GreenElement, AllocError>
     ensures path { OnOk result (path.new.items ≡ path.old.items) }
@@ -176,7 +177,7 @@ pub fn remake_whole(
     element: &GreenElement,
     aims: &[Aimed],
     sought: &[Sought],
-    given: &[MarkedGiven],
+    given: &GivenTable,
     builds: &mut u64,
 ) -> Result<Remade, AllocError>
     ensures builds { OnOk result (builds.new ≤ builds.old + touched (element_tree element.now) (parents_of (aims_of aims.now))) }

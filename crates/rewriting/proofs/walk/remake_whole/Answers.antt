@@ -34,7 +34,7 @@ returns-clause-trees c =
           let changes = w.deref.ensures.value ∙ w.in_ok-changes.ensures in
           ap (λ v. element_trees v.items) w.elements-is ∙ w.in_ok-push_changes.ensures.trees ∙ ap₂ (λ es ns. element_trees es ++ flat_map given ns) c.new-elements.ensures.items changes ∙ slot-replaced kind_only given cs [] kept (sym c.top_is_replaced.ensures ∙ w.if-top_is_replaced.true)
       | else-top_is_replaced+in_ok-push+in_ok-remake+in_ok-push-2 w ↦
-          ap (λ v. element_trees v.items) w.elements-is ∙ ap element_trees (w.in_ok-push-2.ensures.items ∙ ap (λ es. es ++ _ ∷ []) c.new-elements.ensures.items) ∙ ap (λ u. u ∷ []) w.in_ok-remake.ensures.tree ∙ slot-kept kind_only given cs [] kept (sym c.top_is_replaced.ensures ∙ w.if-top_is_replaced.false)
+          ap (λ v. element_trees v.items) w.elements-is ∙ ap element_trees (w.in_ok-push-2.ensures.items ∙ ap (λ es. es ++ w.in_ok-remake.field-0 ∷ []) c.new-elements.ensures.items) ∙ ap (λ u. u ∷ []) w.in_ok-remake.ensures.tree ∙ slot-kept kind_only given cs [] kept (sym c.top_is_replaced.ensures ∙ w.if-top_is_replaced.false)
     ]
 
 pub returns-clause-marks : goal.returns-clause-marks
