@@ -7,9 +7,7 @@ pub mod Counted
 pub mod Untouched
 pub mod ChildByChild
 pub mod Tops
-pub mod GivenPlaces
 pub mod Marks
 pub mod MarksGiven
 pub mod MarksKept
 pub mod Rows
-pub mod Walks

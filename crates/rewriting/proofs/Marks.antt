@@ -7,7 +7,8 @@ use Rattle.green_tree.specs.Path.{Path}
 use Rattle.green_tree.specs.Tree.{Forest, Token, Node, end, more, Tree, trees, forest, node, paths, paths_from, relabelled, forest_relabelled}
 use Rattle.green_tree.proofs.Parts.{slice_get-drop, drop-rest}
 use Rattle.rewriting.proofs.Children.{trees-forest}
-use Rattle.rewriting.specs.inner.Marked.{MarkTree, Marking, marks_on, marked, marked_from, below, moved}
+use Rattle.rewriting.proofs.ChildByChild.{IsShown}
+use Rattle.rewriting.specs.inner.Marked.{MarkTree, Marking, marks_on, marked, marked_from, below}
 
 -- ---- one child
 own_marks : (i : ℕ) (p : Path) (ns : List ℕ) → map (λ m. (m, i ∷ p)) ns ≡ map (below (i ∷ [])) (map (λ m. (m, p)) ns)
@@ -80,19 +81,5 @@ module _ (path : Path) where
   pub shown-one : (i : ℕ) (t : MarkTree) → shown i (t ∷ []) ≡ map (below (path ++ i ∷ [])) (marked t)
   shown-one i t = ap (map (below path)) (append-nil (map (below (i ∷ [])) (marked t))) ∙ sym (deeper i (marked t))
 
-  -- the marks in the first slots, further on
-  raised : (n i : ℕ) (ms : List Marking) → map (moved path n) (map (below (i ∷ [])) ms) ≡ map (below path) (map (below ((n + i) ∷ [])) ms)
-  raised n i [] = refl
-  raised n i (m ∷ ms) = ap (λ ns. (m.0, path ++ ((n + i) ∷ m.1)) ∷ ns) (raised n i ms)
-
-  raised_from : (n i : ℕ) (ts : List MarkTree) → map (moved path n) (marked_from i ts) ≡ shown (n + i) ts
-  raised_from n i [] = refl
-  raised_from n i (t ∷ ts) =
-      let own = map (below (i ∷ [])) (marked t) in
-      let same : n + suc i ≡ suc (n + i) = omega arith in
-      map-append (moved path n) own (marked_from (suc i) ts) ∙ ap₂ (λ ms ns. ms ++ ns) (raised n i (marked t)) (raised_from n (suc i) ts ∙ ap (λ j. shown j ts) same) ∙ sym (map-append (below path) (map (below ((n + i) ∷ [])) (marked t)) (marked_from (suc (n + i)) ts))
-
-  pub shown-moved : (n : ℕ) (ts : List MarkTree) → map (moved path n) (marked_from 0 ts) ≡ shown n ts
-  shown-moved n ts =
-      let same : n + 0 ≡ n = omega arith in
-      raised_from n 0 ts ∙ ap (λ j. shown j ts) same
+pub are_shown : (path : Path) → IsShown (shown path)
+are_shown path = record { none = λ i. refl; append = shown-append path }

@@ -1,10 +1,10 @@
 -- The examples of docs/DEFINITIONS.md, computed.
-use Rattle.std.specs.Prelude.{◌≡◌, ℕ, Bool, true, cond, nat_eq, List, [], ◌∷◌, refl}
+use Rattle.std.specs.Prelude.{◌≡◌, ℕ, Bool, true, false, cond, nat_eq, List, [], ◌∷◌, refl}
 use Rattle.green_tree.specs.Tree.{Tree, SyntaxTree, Token, node}
 use Rattle.rewriting.specs.Aim.{FirstIn, Over}
 use Rattle.rewriting.specs.Rewriting.{NumberedAim, rewritten}
 use Rattle.rewriting.specs.inner.Aimed.{siblings_from}
-use Rattle.rewriting.specs.Topmost.{topmost, not_given}
+use Rattle.rewriting.specs.Topmost.{topmost}
 use Rattle.rewriting.specs.inner.Marked.{MarkTree, Marking, marked, wanted}
 
 three_siblings : siblings_from (1 ∷ []) 3 ≡ (1 ∷ []) ∷ (2 ∷ []) ∷ (3 ∷ []) ∷ []
@@ -24,7 +24,7 @@ aims = (0, FirstIn (1 ∷ [])) ∷ (1, Over ((4 ∷ []) ∷ [])) ∷ []
 abbrev given : ℕ → List (Tree Bool)
 given c = cond (nat_eq c 0) (Token true [] ∷ []) (node true (Token true [] ∷ []) ∷ Token true [] ∷ [])
 
-three_places : topmost (λ b. b) (rewritten not_given given aims [] l) ≡ (1 ∷ 0 ∷ []) ∷ (4 ∷ []) ∷ (5 ∷ []) ∷ []
+three_places : topmost (λ b. b) (rewritten (λ p k. false) given aims [] l) ≡ (1 ∷ 0 ∷ []) ∷ (4 ∷ []) ∷ (5 ∷ []) ∷ []
 three_places = refl
 
 -- the mark 0 at L/1, 1 at L/4, 2 at L/5; what stands in the place of L/4 has the mark 1 at its first child

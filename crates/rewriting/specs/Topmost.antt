@@ -1,13 +1,9 @@
--- The topmost elements of a tree that pass a test of their label, and what is told of the elements that changes give.
+-- The topmost elements of a tree that pass a test of their label.
 --     holds_at, parent_holds        the element at a path passes; its parent does, and the top has none
 --     topmost                       the paths, in document order, of the elements that pass and whose parent does not
---     count_of                      how many elements a change gives, from a table by its number: none where the table has none
---     AreCounted                    changes give trees whose labels say what is given: so many each, and of each tree the top and nothing else is topmost
---     not_given                     what is kept is labelled as not given
 --     paths_of                      paths in code
-use Rattle.std.specs.Prelude.{◌≡◌, ℕ, ◌&&◌, Bool, false, not, List, [], ◌∷◌, map, filter, length, slice_get, Vec}
+use Rattle.std.specs.Prelude.{ℕ, ◌&&◌, Bool, false, not, List, [], ◌∷◌, map, filter, Vec}
 use Rattle.std.specs.Global.{Global}
-use Rattle.std.specs.List.{All}
 use Rattle.std.specs.Option.{option_map_or}
 use Rattle.green_tree.specs.Path.{Path, parent_path}
 use Rattle.green_tree.specs.Tree.{Tree, label, at, paths}
@@ -21,16 +17,6 @@ parent_holds test t (i ∷ p) = holds_at test t (parent_path (i ∷ p))
 
 abbrev pub topmost : {L : Type 0} → (L → Bool) → Tree L → List Path
 topmost test t = filter (λ p. holds_at test t p && not (parent_holds test t p)) (paths t)
-
-abbrev pub count_of : List ℕ → ℕ → ℕ
-count_of counts c = option_map_or (λ n. n) (slice_get counts c) 0
-
-pub record AreCounted (counts : List ℕ) (given : ℕ → List (Tree Bool)) : Type 0 where
-  pub count : (c : ℕ) → length (given c) ≡ count_of counts c
-  pub alone : (c : ℕ) → All (λ g. topmost (λ b. b) g ≡ [] ∷ []) (given c)
-
-abbrev pub not_given : Path → ℕ → Bool
-not_given p k = false
 
 abbrev pub paths_of : List (Vec ℕ Global) → List Path
 paths_of vs = map (λ v. v.items) vs

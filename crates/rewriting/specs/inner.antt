@@ -5,4 +5,3 @@ pub mod Few
 pub mod Given
 pub mod Pass
 pub mod Marked
-pub mod Walk

@@ -1,6 +1,6 @@
-ghost use Rattle.std.specs.Prelude.{◌<◌, ◌≡◌, ◌++◌, length, get_or, IfOk, OnOk};
+ghost use Rattle.std.specs.Prelude.{◌<◌, ◌≡◌, length, get_or, IfOk};
 ghost use Rattle.green_tree.specs.Tree.{SyntaxTree};
-ghost use Rattle.green_tree.specs.GreenElement.{element_tree, element_trees};
+ghost use Rattle.green_tree.specs.GreenElement.{element_tree};
 ghost use Rattle.rewriting.specs.inner.Given.{given_trees};
 
 use green_tree::{GreenElement, GreenElementRef};
@@ -11,19 +11,6 @@ use std::alloc::{AllocError, Global};
 pub enum Given<'a> {
     Borrowed(GreenElementRef<'a>),
     Shared(Vec<GreenElement>),
-}
-
-fn share_all(
-    alloc: Global,
-    out: &mut Vec<GreenElement>,
-    from: &[GreenElement],
-) -> Result<(), AllocError>
-    ensures { OnOk result (out.new.items ≡ out.old.items ++ from.now) }
-{
-    for element in from {
-        out.push(element.share(alloc)?)?;
-    }
-    Ok(())
 }
 
 impl<'a> Given<'a> {
@@ -46,16 +33,5 @@ impl<'a> Given<'a> {
             Given::Borrowed(element) => element.share(alloc),
             Given::Shared(elements) => elements[index].share(alloc),
         }
-    }
-
-    /// Puts the elements behind others.
-    pub fn push_to(&self, alloc: Global, out: &mut Vec<GreenElement>) -> Result<(), AllocError>
-        ensures { OnOk result (element_trees out.new.items ≡ element_trees out.old.items ++ given_trees self.now) }
-    {
-        match self {
-            Given::Borrowed(element) => out.push(element.share(alloc)?)?,
-            Given::Shared(elements) => share_all(alloc, out, elements)?,
-        }
-        Ok(())
     }
 }

@@ -1,9 +1,8 @@
 ghost use Rattle.std.specs.Global.{Global};
 ghost use Rattle.std.specs.Prelude.{ℕ, ◌<◌, ◌+◌, ◌≡◌, ◌≢◌, ◌++◌, Vec, [], ◌∷◌, map, length, get_or, IfOk, OnOk};
-ghost use Rattle.rewriting.specs.inner.Marked.{marks_of, sought_in, marks_at, seen_below, sought_below, shifted, moved, count_in, marks_in};
+ghost use Rattle.rewriting.specs.inner.Marked.{marks_of, sought_in, marks_at, seen_below, sought_below};
 ghost use Rattle.rewriting.specs.declared.mark.Sought.{Sought};
 
-use crate::topmost::added;
 use std::alloc::{AllocError, Global};
 
 /// A mark by its number, and the path of an element that has it.
@@ -18,13 +17,6 @@ pub struct Mark {
 pub struct Sought<'a> {
     pub number: usize,
     pub path: &'a [usize],
-}
-
-/// How many elements a change gives, and their marks in document order: the first slot of each path is the element's index.
-#[derive(Drop)]
-pub struct GivenMarks {
-    pub count: usize,
-    pub marks: Vec<Mark>,
 }
 
 // The marks sought at the top, which has this path in the new tree.
@@ -46,62 +38,6 @@ pub fn push_here(
         }
     }
     Ok(())
-}
-
-// A path that begins with a slot, that many slots further on, below another path.
-fn moved_path(
-    alloc: Global,
-    above: &[usize],
-    first: usize,
-    path: &[usize],
-) -> Result<Vec<usize>, AllocError>
-    ensures { IfOk result (λ v. v.items ≡ above.now ++ shifted first path.now) }
-{
-    let mut moved = Vec::from_slice(alloc, above)?;
-    if let [slot, rest @ ..] = path {
-        moved.push(added(first, *slot)?)?;
-        moved.extend_from_slice(rest)?;
-    }
-    Ok(moved)
-}
-
-// The marks of elements that stand side by side from a slot on, below the node at this path.
-fn push_moved(
-    alloc: Global,
-    found: &mut Vec<Mark>,
-    path: &[usize],
-    first: usize,
-    marks: &[Mark],
-) -> Result<(), AllocError>
-    ensures { OnOk result (marks_of found.new.items ≡ marks_of found.old.items ++ map (moved path.now first) (marks_of marks.now)) }
-{
-    for mark in marks {
-        let path = moved_path(alloc, path, first, &mark.path)?;
-        found.push(Mark {
-            number: mark.number,
-            path,
-        })?;
-    }
-    Ok(())
-}
-
-// The marks of what one change gives, from a slot on, and the slot behind.
-pub fn push_marks_given(
-    alloc: Global,
-    found: &mut Vec<Mark>,
-    path: &[usize],
-    first: usize,
-    given: &[GivenMarks],
-    change: usize,
-) -> Result<usize, AllocError>
-    ensures next { IfOk result (λ n. n ≡ first + count_in given.now change) }
-    ensures marks { OnOk result (marks_of found.new.items ≡ marks_of found.old.items ++ map (moved path.now first) (marks_in given.now change)) }
-{
-    let Some(of_change) = given.get(change) else {
-        return Ok(first);
-    };
-    push_moved(alloc, found, path, first, &of_change.marks)?;
-    added(first, of_change.count)
 }
 
 // So many empty lists.

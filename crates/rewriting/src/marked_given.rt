@@ -1,7 +1,6 @@
-ghost use Rattle.std.specs.Prelude.{ℕ, ◌<◌, ◌≡◌, ◌++◌, [], ◌∷◌, map, length, get_or, OnOk};
-ghost use Rattle.green_tree.specs.GreenElement.{element_tree};
+ghost use Rattle.std.specs.Prelude.{◌≡◌, ◌++◌, map, OnOk};
 ghost use Rattle.rewriting.specs.inner.Marked.{below, marks_of};
-ghost use Rattle.rewriting.specs.inner.Walk.{own_marks, marks_there};
+ghost use Rattle.rewriting.specs.inner.Pass.{own_marks, marks_there};
 
 use crate::given::Given;
 use crate::mark::Mark;

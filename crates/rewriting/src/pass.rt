@@ -1,88 +1,113 @@
-ghost use Rattle.std.specs.Prelude.{◌+◌, ◌≤◌, ◌≡◌, ◌++◌, [], ◌∷◌, flat_map, IfOk, OnOk};
+ghost use Rattle.std.specs.Prelude.{ℕ, ◌+◌, ◌≤◌, ◌≡◌, ◌++◌, List, [], map, flat_map, length, IfOk, OnOk};
 ghost use Rattle.green_tree.specs.Tree.{node};
 ghost use Rattle.green_tree.specs.GreenElement.{element_tree, element_trees};
-ghost use Rattle.rewriting.specs.Rewriting.{gap, replacements_at, rewritten, rewritten_whole};
+ghost use Rattle.rewriting.specs.Rewriting.{rewritten, rewritten_whole};
 ghost use Rattle.rewriting.specs.Effort.{counted, nodes_built, nodes_built_whole, touched, parents_of};
 ghost use Rattle.rewriting.specs.inner.Aimed.{aims_of};
-ghost use Rattle.rewriting.specs.inner.Pass.{kind_only, given_by};
+ghost use Rattle.rewriting.specs.inner.Given.{given_trees};
+ghost use Rattle.rewriting.specs.inner.Marked.{MarkTree, marked, marked_from, below, marks_of, sought_in, wanted};
+ghost use Rattle.rewriting.specs.inner.Pass.{kind_only, IsMarked, AreMarkedIn, given_in};
 
-use crate::aim_list::{alter_some, below, grouped, is_replaced, top_is_replaced};
+use crate::aim_list::{
+    alter_some, below, grouped, inserted, is_replaced, replacing, replacing_top, top_is_replaced,
+};
 use crate::aimed::Aimed;
-use crate::given::Given;
+use crate::mark::{Mark, Sought, dealt, push_here};
+use crate::marked_given::{GivenTable, MarkedGiven};
 use green_tree::{GreenElement, GreenNode, SyntaxKind};
 use std::alloc::{AllocError, Global};
 
+// What a change gives goes behind the children that the node at this path has so far, with its marks.
 fn push_given(
     alloc: Global,
     out: &mut Vec<GreenElement>,
-    given: &[Given],
+    found: &mut Vec<Mark>,
+    path: &mut Vec<usize>,
+    given: &MarkedGiven,
+    top: Option<usize>,
+) -> Result<(), AllocError>
+    ensures path { OnOk result (path.new.items ≡ path.old.items) }
+    ensures trees { OnOk result (element_trees out.new.items ≡ element_trees out.old.items ++ given_trees given.now.elements) }
+    ensures marks { OnOk result ((ts : List MarkTree) → IsMarked top given.now ts → marks_of found.new.items ≡ marks_of found.old.items ++ map (below path.old.items) (marked_from (length out.old.items) ts)) }
+{
+    for index in 0..given.elements.len() {
+        path.push(out.len())?;
+        given.push_marks_of(alloc, found, path, top, index)?;
+        path.pop();
+        out.push(given.elements.share_at(alloc, index)?)?;
+    }
+    Ok(())
+}
+
+// The same of a change by its number.
+fn push_change(
+    alloc: Global,
+    out: &mut Vec<GreenElement>,
+    found: &mut Vec<Mark>,
+    path: &mut Vec<usize>,
+    given: &GivenTable,
     change: usize,
 ) -> Result<(), AllocError>
-    ensures { OnOk result (element_trees out.new.items ≡ element_trees out.old.items ++ given_by given.now change) }
+    ensures path { OnOk result (path.new.items ≡ path.old.items) }
+    ensures trees { OnOk result (element_trees out.new.items ≡ element_trees out.old.items ++ given_in given.now change) }
+    ensures marks { OnOk result ((trees : ℕ → List MarkTree) → AreMarkedIn given.now trees → marks_of found.new.items ≡ marks_of found.old.items ++ map (below path.old.items) (marked_from (length out.old.items) (trees change))) }
 {
-    let Some(given) = given.get(change) else {
+    let Some(entry) = given.entries.get(change) else {
         return Ok(());
     };
-    given.push_to(alloc, out)?;
+    push_given(alloc, out, found, path, entry, given.top)?;
     Ok(())
 }
 
-fn push_replacements(
+// The same of several, one after another.
+fn push_changes(
     alloc: Global,
     out: &mut Vec<GreenElement>,
-    aims: &[Aimed],
-    given: &[Given],
-    slot: usize,
+    found: &mut Vec<Mark>,
+    path: &mut Vec<usize>,
+    given: &GivenTable,
+    changes: &[usize],
 ) -> Result<(), AllocError>
-    ensures { OnOk result (element_trees out.new.items ≡ element_trees out.old.items ++ flat_map (given_by given.now) (replacements_at (aims_of aims.now) (slot ∷ []))) }
+    ensures path { OnOk result (path.new.items ≡ path.old.items) }
+    ensures trees { OnOk result (element_trees out.new.items ≡ element_trees out.old.items ++ flat_map (given_in given.now) changes.now) }
+    ensures marks { OnOk result ((trees : ℕ → List MarkTree) → AreMarkedIn given.now trees → marks_of found.new.items ≡ marks_of found.old.items ++ map (below path.old.items) (marked_from (length out.old.items) (flat_map trees changes.now))) }
 {
-    for aim in aims {
-        if aim.starts_at(slot) {
-            push_given(alloc, out, given, aim.change())?;
-        }
+    for change in changes {
+        push_change(alloc, out, found, path, given, *change)?;
     }
     Ok(())
 }
 
-fn push_for_top(
+// The marks sought in an element that nothing aims into, which has this path in the new tree.
+fn push_kept(
     alloc: Global,
-    out: &mut Vec<GreenElement>,
-    aims: &[Aimed],
-    given: &[Given],
+    found: &mut Vec<Mark>,
+    path: &mut Vec<usize>,
+    element: &GreenElement,
+    sought: &[Sought],
 ) -> Result<(), AllocError>
-    ensures { OnOk result (element_trees out.new.items ≡ element_trees out.old.items ++ flat_map (given_by given.now) (replacements_at (aims_of aims.now) [])) }
+    ensures path { OnOk result (path.new.items ≡ path.old.items) }
+    ensures marks { OnOk result (marks_of found.new.items ≡ marks_of found.old.items ++ map (below path.old.items) (marked (rewritten (wanted (sought_in sought.now)) (λ c. []) [] [] (element_tree element.now)))) }
 {
-    for aim in aims {
-        if aim.replaces_top() {
-            push_given(alloc, out, given, aim.change())?;
-        }
+    if sought.is_empty() {
+        return Ok(());
     }
-    Ok(())
-}
-
-// The insert recorded last stands first.
-fn push_gap(
-    alloc: Global,
-    out: &mut Vec<GreenElement>,
-    aims: &[Aimed],
-    given: &[Given],
-    index: usize,
-) -> Result<(), AllocError>
-    ensures { OnOk result (element_trees out.new.items ≡ element_trees out.old.items ++ gap kind_only (given_by given.now) (aims_of aims.now) [] index) }
-{
-    let mut left = aims.len();
-    while left > 0 {
-        left -= 1;
-        let aim = &aims[left];
-        if aim.inserts_at(index) {
-            push_given(alloc, out, given, aim.change())?;
-        }
+    push_here(alloc, found, path, sought)?;
+    let GreenElement::Node(node) = element else {
+        return Ok(());
+    };
+    let children = node.children();
+    let lists = dealt(alloc, sought, children.len())?;
+    for slot in 0..children.len() {
+        path.push(slot)?;
+        push_kept(alloc, found, path, &children[slot], lists[slot].as_slice())?;
+        path.pop();
     }
     Ok(())
 }
 
 // The one place where a node is made, and counted. At the greatest number the count stays.
-pub fn build_node(
+fn build_node(
     alloc: Global,
     kind: SyntaxKind,
     children: Vec<GreenElement>,
@@ -95,44 +120,68 @@ pub fn build_node(
     Ok(GreenElement::Node(GreenNode::capped(alloc, kind, children)?))
 }
 
-/// The element made anew by changes whose aims are counted from it: `given` has what each change gives, by its number.
-/// Only the nodes above an aim are built, and what no aim is in or below is shared; `builds` counts the nodes, exactly, up
-/// to its greatest number. An aim over
-/// the top itself is passed over: see `rebuild_whole`. Takes time linear in the aims times their depth, the children of
-/// the nodes that are built, and the children that are replaced.
+/// The element made anew by changes whose aims are counted from it: `given` has what each change gives, by its number. The marks of the new
+/// element go to the end of `found` in document order, with paths that begin with `path`: `sought` has those of the old element. `path` is as
+/// it was; after a refusal it may be longer, and some of the marks are in `found`.
+///
+/// Only the nodes above an aim are built, and what no aim is in or below is shared; `builds` counts the nodes, exactly, up to its greatest
+/// number. An aim over the top itself is passed over: see `rebuild_whole`. Takes time linear in the aims times their depth, the children of
+/// the nodes that are built or above a sought mark, the children that are replaced, and the lengths of the marks' paths.
 pub fn rebuild(
     alloc: Global,
+    found: &mut Vec<Mark>,
+    path: &mut Vec<usize>,
     element: &GreenElement,
     aims: &[Aimed],
-    given: &[Given],
+    sought: &[Sought],
+    given: &GivenTable,
     builds: &mut u64,
 ) -> Result<GreenElement, AllocError>
+    ensures path { OnOk result (path.new.items ≡ path.old.items) }
     ensures builds { OnOk result (builds.new ≤ builds.old + touched (element_tree element.now) (parents_of (aims_of aims.now))) }
     ensures count { OnOk result (builds.new ≡ counted builds.old (nodes_built (aims_of aims.now) (element_tree element.now))) }
-    ensures tree { IfOk result (λ e. element_tree e ≡ rewritten kind_only (given_by given.now) (aims_of aims.now) [] (element_tree element.now)) }
+    ensures tree { IfOk result (λ e. element_tree e ≡ rewritten kind_only (given_in given.now) (aims_of aims.now) [] (element_tree element.now)) }
+    ensures marks { OnOk result ((trees : ℕ → List MarkTree) → AreMarkedIn given.now trees → marks_of found.new.items ≡ marks_of found.old.items ++ map (below path.old.items) (marked (rewritten (wanted (sought_in sought.now)) trees (aims_of aims.now) [] (element_tree element.now)))) }
 {
     let _count = *builds;
     if !alter_some(aims) {
+        push_kept(alloc, found, path, element, sought)?;
         return element.share(alloc);
     }
+    push_here(alloc, found, path, sought)?;
     let GreenElement::Node(node) = element else {
         return element.share(alloc);
     };
     let children = node.children();
     let groups = grouped(alloc, aims, children.len())?;
+    let lists = dealt(alloc, sought, children.len())?;
     let mut out = Vec::with_capacity(alloc, children.len())?;
-    push_gap(alloc, &mut out, aims, given, 0)?;
+    let first = inserted(alloc, aims, 0)?;
+    push_changes(alloc, &mut out, found, path, given, &first)?;
     for slot in 0..children.len() {
         let group = groups[slot].as_slice();
         if is_replaced(group, slot) {
-            push_replacements(alloc, &mut out, group, given, slot)?;
+            let changes = replacing(alloc, group, slot)?;
+            push_changes(alloc, &mut out, found, path, given, &changes)?;
         } else {
             let inner = below(alloc, group, slot)?;
-            out.push(rebuild(alloc, &children[slot], &inner, given, builds)?)?;
+            let inner_sought = lists[slot].as_slice();
+            path.push(out.len())?;
+            let child = &children[slot];
+            out.push(rebuild(alloc, found, path, child, &inner, inner_sought, given, builds)?)?;
+            path.pop();
         }
-        push_gap(alloc, &mut out, group, given, slot + 1)?;
+        let behind = inserted(alloc, group, slot + 1)?;
+        push_changes(alloc, &mut out, found, path, given, &behind)?;
     }
     build_node(alloc, node.kind(), out, builds)
+}
+
+/// Elements that stand in the place of one, and the marks of them: the first slot of each path is the element's index.
+#[derive(Drop)]
+pub struct Rebuilt {
+    pub elements: Vec<GreenElement>,
+    pub marks: Vec<Mark>,
 }
 
 /// What stands in the place of the element: what `rebuild` makes of it, or, where an aim is over the top itself, what
@@ -141,19 +190,25 @@ pub fn rebuild_whole(
     alloc: Global,
     element: &GreenElement,
     aims: &[Aimed],
-    given: &[Given],
+    sought: &[Sought],
+    given: &GivenTable,
     builds: &mut u64,
-) -> Result<Vec<GreenElement>, AllocError>
+) -> Result<Rebuilt, AllocError>
     ensures builds { OnOk result (builds.new ≤ builds.old + touched (element_tree element.now) (parents_of (aims_of aims.now))) }
     ensures count { OnOk result (builds.new ≡ counted builds.old (nodes_built_whole (aims_of aims.now) (element_tree element.now))) }
-    ensures trees { IfOk result (λ v. element_trees v.items ≡ rewritten_whole kind_only (given_by given.now) (aims_of aims.now) (element_tree element.now)) }
+    ensures trees { IfOk result (λ r. element_trees r.elements.items ≡ rewritten_whole kind_only (given_in given.now) (aims_of aims.now) (element_tree element.now)) }
+    ensures marks { IfOk result (λ r. (trees : ℕ → List MarkTree) → AreMarkedIn given.now trees → marks_of r.marks.items ≡ marked_from 0 (rewritten_whole (wanted (sought_in sought.now)) trees (aims_of aims.now) (element_tree element.now))) }
 {
     let _count = *builds;
-    let mut out = Vec::new(alloc);
+    let mut elements = Vec::new(alloc);
+    let mut marks = Vec::new(alloc);
+    let mut path = Vec::new(alloc);
     if top_is_replaced(aims) {
-        push_for_top(alloc, &mut out, aims, given)?;
+        let changes = replacing_top(alloc, aims)?;
+        push_changes(alloc, &mut elements, &mut marks, &mut path, given, &changes)?;
     } else {
-        out.push(rebuild(alloc, element, aims, given, builds)?)?;
+        path.push(0)?;
+        elements.push(rebuild(alloc, &mut marks, &mut path, element, aims, sought, given, builds)?)?;
     }
-    Ok(out)
+    Ok(Rebuilt { elements, marks })
 }

@@ -8,16 +8,12 @@
 --     sought_as, sought_in          a sought mark in code and the path where it is sought; a list of these
 --     marks_at, wanted              the marks sought at a path; each kept element is labelled by these
 --     seen_below, sought_below      a sought mark in a child slot or below, with that slot dropped; of these marks those that there are
---     count_in, marks_in            how many elements a change gives, and their marks, from a table by its number: none where the table has none
---     AreMarked                     changes give trees of which a table says this
---     shifted, moved                a path with its first slot so many further on; a mark of given elements, where the first of these is in this slot of the node at a path
-use Rattle.std.specs.Prelude.{◌≡◌, ℕ, suc, ◌+◌, cond, nat_eq, List, [], ◌∷◌, ◌++◌, map, filter, flat_map, length, slice_get}
+use Rattle.std.specs.Prelude.{ℕ, suc, cond, nat_eq, List, [], ◌∷◌, ◌++◌, map, filter, flat_map}
 use Rattle.std.specs.Option.{option_map_or}
 use Rattle.green_tree.specs.Path.{Path, same_path}
 use Rattle.green_tree.specs.Tree.{Tree, label, at, paths}
 use Rattle.rewriting.specs.declared.mark.Mark.{Mark}
 use Rattle.rewriting.specs.declared.mark.Sought.{Sought}
-use Rattle.rewriting.specs.declared.mark.GivenMarks.{GivenMarks}
 
 abbrev pub MarkTree : Type 0
 MarkTree = Tree (List ℕ)
@@ -64,21 +60,3 @@ seen_below i n (j ∷ p) = cond (nat_eq i j) ((n, p) ∷ []) []
 
 abbrev pub sought_below : ℕ → List Marking → List Marking
 sought_below i ms = flat_map (λ m. seen_below i m.0 m.1) ms
-
--- ---- what is given
-abbrev pub count_in : List GivenMarks → ℕ → ℕ
-count_in table c = option_map_or (λ g. g.count) (slice_get table c) 0
-
-abbrev pub marks_in : List GivenMarks → ℕ → List Marking
-marks_in table c = option_map_or (λ g. marks_of g.marks.items) (slice_get table c) []
-
-pub record AreMarked (table : List GivenMarks) (given : ℕ → List MarkTree) : Type 0 where
-  pub count : (c : ℕ) → length (given c) ≡ count_in table c
-  pub marks : (c : ℕ) → marked_from 0 (given c) ≡ marks_in table c
-
-abbrev pub shifted : ℕ → Path → Path
-shifted n [] = []
-shifted n (i ∷ p) = (n + i) ∷ p
-
-abbrev pub moved : Path → ℕ → Marking → Marking
-moved q n m = (m.0, q ++ shifted n m.1)

@@ -3,8 +3,8 @@ use Rattle.std.specs.Option.{option_map_or}
 use Rattle.std.proofs.lemmas.List.{append-nil}
 use Rattle.std.proofs.lemmas.Option.{slice_get_read, slice_get_past}
 use Rattle.rewriting.specs.inner.Marked.{marks_of, below}
-use Rattle.rewriting.specs.inner.Walk.{own_marks}
-use Rattle.rewriting.proofs.Walks.{both}
+use Rattle.rewriting.specs.inner.Pass.{own_marks}
+use Rattle.rewriting.proofs.MarksGiven.{both}
 use Rattle.rewriting.proofs.marked_given.MarkedGiven.push_marks_of.Goals as goal
 
 pub returns-in_ok-push_below : goal.returns-in_ok-push_below
