@@ -19,6 +19,7 @@ use crate::targets::parent;
 use cst_core::{GreenElementRef, SyntaxElement, SyntaxNode};
 use rewriting::{Aimed, Given};
 use std::alloc::{AllocError, Global};
+use std::slice;
 
 impl Position {
     // Whether it is the gap behind the element at a path.
@@ -139,6 +140,20 @@ impl Change {
         // It is a node.
         let _ = node.kind();
         node
+    }
+
+    /// The elements that the change brings, in their order.
+    pub fn payload(&self) -> &[SyntaxElement]
+        ensures { map element_of result.now ≡ payload self.now }
+    {
+        match self {
+            Change::Insert(_, element) => slice::from_ref(element),
+            Change::InsertAll(_, elements) => elements.as_slice(),
+            Change::Replace(_, None) => &[],
+            Change::Replace(_, Some(element)) => slice::from_ref(element),
+            Change::ReplaceWithMany(_, elements) => elements.as_slice(),
+            Change::ReplaceAll(_, _, elements) => elements.as_slice(),
+        }
     }
 
     /// The elements that the change brings, as shared trees: one is borrowed, of several each is shared.

@@ -1,7 +1,7 @@
 -- Annotated paths, and the elements that they lead to, by annotation.
 --     one-more                      a table with one more element has it for its annotation
 --     followed-more                 one more registered element is followed
---     are-annotated                 the annotated paths of a plan, from where its registered elements lead to
+--     is_rewritten                  the annotated paths of a plan, from where its registered elements lead to
 --     found-in                      what an edit has for an annotation is what the table has
 use Rattle.std.specs.Prelude.{◌≡◌, All, ℕ, ◌+◌, ◌<◌, true, false, cond, nat_eq, List, [], ◌∷◌, ◌++◌, map, filter, take, length, Vec, Some, get_or, refl}
 use Rattle.std.specs.Global.{Global}
@@ -9,6 +9,7 @@ use Rattle.std.proofs.Common.{ap, ap₂, sym, subst, ◌∙◌}
 use Rattle.std.proofs.lemmas.List.{take_more, map-append}
 use Rattle.std.proofs.lemmas.List.Elements.{filter-append, All-get_or}
 use Rattle.cst_core.specs.Path.{Path}
+use Rattle.cst_core.specs.Tree.{SyntaxTree}
 use Rattle.cst_core.specs.Element.{Element, NumbersTell, address}
 use Rattle.cst_core.specs.SyntaxElement.{element_of, syntax_at}
 use Rattle.edit_map.specs.Mapping.{Mapping, followed, mapped_elements}
@@ -18,11 +19,8 @@ use Rattle.std.specs.Option.{option_map_or}
 use Rattle.edit_plan.specs.AnnotationTable.{entries_of, found_for}
 use Rattle.edit_plan.specs.Plan.{Plan}
 use Rattle.edit_plan.specs.inner.Marks.{annotated_path, numbered_paths}
-use Rattle.edit_plan.specs.inner.OwnerTables.{AreDependents}
-use Rattle.edit_plan.specs.inner.PlanRun.{AreAnnotated}
+use Rattle.edit_plan.specs.inner.PlanRun.{IsMade, IsRewritten}
 use Rattle.edit_plan.specs.Results.{copies_of, paths_with}
-use Rattle.edit_plan.specs.NewTree.{OriginTree, new_tree}
-use Rattle.edit_plan.specs.declared.dependent.Dependent.{Dependent}
 use mathlib.Core.List.{map-map}
 
 -- ---- the paths of one annotation
@@ -49,11 +47,15 @@ followed-more m rs i r x xs ys lt is more leads before all =
     ap (map element_of) more ∙ map-append element_of xs (x ∷ []) ∙ ap₂ (λ us e. us ++ e ∷ []) (before all) (leads tells ∙ ap (leads_to m) is) ∙ sym (ap (map (leads_to m)) (take_more rs i r lt) ∙ map-append (leads_to m) (take i rs) (get_or rs i r ∷ []))
 
 -- ---- the annotated paths of a plan
-pub are-annotated : (p : Plan) (owned : List (Vec Dependent Global)) (fs : List SyntaxElement) (ls : List (List Path)) (ns : List (ℕ × Path)) → (All (Tells p.mapping) p.registrations → map element_of fs ≡ map (leads_to p.mapping) p.registrations) → ((places : ℕ → Path) (made : OriginTree) → AreDependents p.changes places owned → new_tree p.changes places p.root ≡ made ∷ [] → ls ≡ map (λ e. copies_of made (address (element_of e))) fs) → ns ≡ numbered_paths (map (λ r. r.1) p.registrations) ls → AreAnnotated p owned ns
-are-annotated p owned fs ls ns followed_are copies_are is = record {
+pub is_rewritten : (p : Plan) (fs : List SyntaxElement) (tree : SyntaxTree) (copies : List (List Path)) (paths : List Path) (ns : List (ℕ × Path)) → IsMade p fs tree copies paths → (All (Tells p.mapping) p.registrations → map element_of fs ≡ map (leads_to p.mapping) p.registrations) → ns ≡ numbered_paths (map (λ r. r.1) p.registrations) copies → IsRewritten p tree paths ns
+is_rewritten p fs tree copies paths ns is_made followed_are is = record {
+  made = is_made.made;
+  would = is_made.would;
+  tree_is = is_made.tree_is;
+  changed_is = is_made.changed_is;
   reached = map (λ e. address (element_of e)) fs;
+  annotated_is = is ∙ ap (numbered_paths (map (λ r. r.1) p.registrations)) (is_made.copies_are ∙ sym (map-map (copies_of is_made.made) (λ e. address (element_of e)) fs));
   reached_are = λ tells. sym (map-map address element_of fs) ∙ ap (map address) (followed_are tells) ∙ map-map address (leads_to p.mapping) p.registrations ∙ sym (map-map (λ r. address (followed p.mapping r.0)) (λ r. (element_of r.0, r.1)) p.registrations);
-  paths_are = λ places made are new. is ∙ ap (numbered_paths (map (λ r. r.1) p.registrations)) (copies_are places made are new ∙ sym (map-map (copies_of made) (λ e. address (element_of e)) fs));
 }
 
 -- ---- tables as edits have them

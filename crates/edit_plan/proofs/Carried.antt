@@ -1,5 +1,4 @@
 -- A plan's changes, as its pass is told of them.
---     more-trees, table-is             what the changes bring, one change after another
 --     independents-to                  the changes without an owner, of the first so many
 --     one-more, one-passed             one change more
 --     independent-at, passed-at        whether the change at a number has no owner, from its fate; one that has is passed over
@@ -18,10 +17,7 @@ use Rattle.cst_core.specs.declared.element.SyntaxElement.TheVariants.{Token}
 use Rattle.cst_core.specs.Element.{subtree}
 use Rattle.cst_core.specs.SyntaxElement.{element_of}
 use Rattle.cst_core.specs.declared.element.SyntaxElement.{SyntaxElement}
-use Rattle.rewriting.specs.inner.Pass.{given_by}
 use Rattle.rewriting.specs.Rewriting.{NumberedAim}
-use Rattle.rewriting.specs.declared.given.Given.{Given}
-use Rattle.rewriting.specs.inner.Given.{given_trees}
 use Rattle.edit_change.specs.ChangeAim.{aim}
 use Rattle.edit_change.specs.Change.{payload}
 use Rattle.edit_change.specs.inner.Fate.{by_owner, fate, is_independent_in}
@@ -31,41 +27,6 @@ use Rattle.edit_change.specs.declared.change.Change.{Change}
 use Rattle.edit_change.specs.declared.change.Change.TheVariants.{ReplaceWithMany}
 use Rattle.edit_change.specs.declared.fate.Fate.{Fate}
 use Rattle.edit_change.specs.declared.fate.Fate.TheVariants.{Dropped}
-
--- ---- what changes bring
-abbrev pub brought_trees : Change → List SyntaxTree
-brought_trees c = map subtree (payload c)
-
-pub more-trees : (es : List SyntaxElement) (i : ℕ) (e : SyntaxElement) → i < length es → e ≡ get_or es i e → map subtree (map element_of (take i es)) ++ subtree (element_of e) ∷ [] ≡ map subtree (map element_of (take (i + 1) es))
-more-trees es i e l is =
-    let f : SyntaxElement → SyntaxTree = λ x. subtree (element_of x) in
-    let more : take (i + 1) es ≡ take i es ++ e ∷ [] = let n : i + 1 ≡ suc i = omega arith in ap (λ k. take k es) n ∙ take-suc es i e l ∙ ap (λ x. take i es ++ x ∷ []) (sym is) in
-    sym (ap (λ xs. map subtree (map element_of xs)) more ∙ ap (map subtree) (map-append element_of (take i es) (e ∷ [])) ∙ map-append subtree (map element_of (take i es)) (element_of e ∷ []))
-
-abbrev pub tables : List Given → List (List SyntaxTree)
-tables vs = map given_trees vs
-
-pub more-tables : (vs : List Given) (v : Given) (cs : List Change) (i : ℕ) (c : Change) → i < length cs → c ≡ get_or cs i c → tables vs ≡ map brought_trees (take i cs) → given_trees v ≡ brought_trees c → tables (vs ++ v ∷ []) ≡ map brought_trees (take (i + 1) cs)
-more-tables vs v cs i c l is before here =
-    let more : take (i + 1) cs ≡ take i cs ++ c ∷ [] = let n : i + 1 ≡ suc i = omega arith in ap (λ k. take k cs) n ∙ take-suc cs i c l ∙ ap (λ x. take i cs ++ x ∷ []) (sym is) in
-    map-append given_trees vs (v ∷ []) ∙ ap₂ (λ xs x. xs ++ x ∷ []) before here ∙ sym (ap (map brought_trees) more ∙ map-append brought_trees (take i cs) (c ∷ []))
-
-lookup : {X : Type 0} → (X → List SyntaxTree) → List X → ℕ → List SyntaxTree
-lookup f xs c = option_map_or (λ ts. ts) (slice_get (map f xs) c) []
-
-looked-up : {X : Type 0} (f : X → List SyntaxTree) (xs : List X) (c : ℕ) → lookup f xs c ≡ option_map_or f (slice_get xs c) []
-unfolding lookup
-looked-up f xs c =
-    ap (λ o. option_map_or (λ ts. ts) o []) (slice_get-map f xs c) ∙ (elim (slice_get xs c) as (λ o. option_map_or (λ ts. ts) (option_map f o) [] ≡ option_map_or f o []) [ None ↦ refl | Some x ↦ refl ])
-
-payload-of : (cs : List Change) (c : ℕ) → option_map_or brought_trees (slice_get cs c) [] ≡ map subtree (payload_of cs c)
-payload-of cs c =
-    elim (slice_get cs c) as (λ o. option_map_or brought_trees o [] ≡ map subtree (option_map_or payload o [])) [ None ↦ refl | Some x ↦ refl ]
-
-pub table-is : (vs : List Given) (cs : List Change) → tables vs ≡ map brought_trees cs → (c : ℕ) → given_by vs c ≡ map subtree (payload_of cs c)
-unfolding lookup
-table-is vs cs is c =
-    sym (looked-up given_trees vs c) ∙ ap (λ ts. option_map_or (λ t. t) (slice_get ts c) []) is ∙ looked-up brought_trees cs c ∙ payload-of cs c
 
 -- ---- the changes without an owner, of the first so many
 abbrev pub independents-to : List Change → ℕ → List NumberedAim

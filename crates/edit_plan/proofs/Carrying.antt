@@ -1,6 +1,4 @@
 -- From what the pass answers to what carrying a plan out promises.
---     Passed                        what the pass was told and what it answered, for a plan
---     is_rewritten                  its answer is the plan's rewriting
 --     makes                         the edit that is put together is what the plan makes
 --     refuses                       the refusals of the new root, as those of the plan
 use Rattle.std.specs.Prelude.{◌≡◌, ℕ, ◌<◌, ◌≤◌, Bool, List, [], ◌∷◌, ◌++◌, map, flat_map, length, slice_get, Vec, Some, None, option_map, Result, Ok, Err, IfErr, refl}
@@ -16,81 +14,21 @@ use Rattle.cst_core.specs.TreeIds.{IsSpent}
 use Rattle.cst_core.specs.Element.{NumbersTell, address, subtree}
 use Rattle.cst_core.specs.Green.{Branch, branch_tree, length_limit}
 use Rattle.cst_core.specs.SyntaxElement.{element_of, syntax_at}
-use Rattle.rewriting.specs.declared.given.Given.{Given}
-use Rattle.rewriting.specs.inner.Given.{given_trees}
 use Rattle.cst_core.specs.TreeError.{TreeError}
 use Rattle.cst_core.specs.TreeError.TheVariants as tree
-use Rattle.rewriting.specs.inner.Pass.{kind_only, given_by}
-use Rattle.rewriting.specs.Rewriting.{NumberedAim, rewritten_whole}
-use Rattle.rewriting.specs.Topmost.{topmost, count_of, AreCounted, not_given}
 use Rattle.edit_map.specs.Mapping.{followed}
 use Rattle.edit_plan.specs.AnnotationTable.{found_for}
 use Rattle.edit_plan.specs.Plan.{Plan, Edit, Makes, WouldMake, RunRefuses, registered}
 use Rattle.edit_plan.specs.inner.Marks.{numbered_paths}
-use Rattle.edit_plan.specs.inner.PlanRun.{AreAnnotated, IsRewritten}
+use Rattle.edit_plan.specs.inner.PlanRun.{IsRewritten}
 use Rattle.edit_plan.specs.EditRefusal.{of_tree}
-use Rattle.edit_plan.specs.inner.OwnerTables.{AreDependents, AreGiven}
 use Rattle.edit_plan.specs.Places.{ArePlaces, elements_held}
 use Rattle.edit_plan.specs.Results.{changed, annotated, copies_of, paths_with}
-use Rattle.edit_plan.specs.declared.dependent.Dependent.{Dependent}
 use Rattle.edit_plan.proofs.Told.{all-told}
 use mathlib.Core.List.{map-map}
 use Rattle.edit_plan.specs.NewTree.{OriginTree, plain, independents, given, is_free, new_tree}
 use Rattle.edit_plan.specs.declared.edit_error.EditError.TheVariants.{TooLong, NoTreeNumber}
 use Rattle.edit_plan.proofs.Filled.{text-relabelled}
-use Rattle.edit_plan.proofs.Brought.{marked, alone}
-use Rattle.edit_plan.proofs.Whole.{plain-whole, changed-whole, one-made, count-marked}
-
-count-given : (vs : List Given) (c : ℕ) → length (given_by vs c) ≡ count_of (map (λ g. length (given_trees g)) vs) c
-count-given vs c =
-    (elim (slice_get vs c) as (λ o. length (option_map_or given_trees o []) ≡ option_map_or (λ n. n) (option_map (λ g. length (given_trees g)) o) 0) [
-      | None ↦ refl
-      | Some v ↦ refl
-    ]) ∙ ap (λ o. option_map_or (λ n. n) o 0) (sym (slice_get-map (λ g. length (given_trees g)) vs c))
-
-pub record Passed (p : Plan) (green : Branch) (paths : List Path) (annotations : List (ℕ × Path)) : Type 0 where
-  pub places : ℕ → Path
-  pub placed : ArePlaces p.mapping p.changes places
-  pub table : List Given
-  pub table_is : AreGiven p.changes places table
-  pub aims : List NumberedAim
-  pub aims_are : aims ≡ independents p.changes
-  pub tree_is : rewritten_whole kind_only (given_by table) aims (subtree p.root) ≡ branch_tree green ∷ []
-  pub owned : List (Vec Dependent Global)
-  pub owned_are : AreDependents p.changes places owned
-  pub annotated : AreAnnotated p owned annotations
-  pub counts : List ℕ
-  pub counts_are : counts ≡ map (λ g. length (given_trees g)) table
-  pub paths_are : (given : ℕ → List (Tree Bool)) → AreCounted counts given → paths ≡ flat_map (topmost (λ b. b)) (rewritten_whole not_given given aims (subtree p.root))
-
-module _ (p : Plan) (green : Branch) (paths : List Path) (annotations : List (ℕ × Path)) (passed : Passed p green paths annotations) where
-  made : (m : OriginTree) × (new_tree p.changes passed.places p.root ≡ m ∷ []) × (branch_tree green ≡ plain m)
-  made =
-      one-made (new_tree p.changes passed.places p.root) (branch_tree green) (plain-whole p.changes passed.places p.root (given_by passed.table) passed.table_is ∙ ap (λ ds. rewritten_whole kind_only (given_by passed.table) ds (subtree p.root)) (sym passed.aims_are) ∙ passed.tree_is)
-
-  counted : AreCounted passed.counts (marked p.changes passed.places)
-  counted = record {
-    count = λ c. count-marked p.changes passed.places c ∙ sym (length-map (given p.changes passed.places c) plain) ∙ ap length (sym (passed.table_is c)) ∙ count-given passed.table c ∙ ap (λ ns. count_of ns c) (sym passed.counts_are);
-    alone = λ c. alone p.changes passed.places c;
-  }
-
-  changed-is : paths ≡ changed (is_free p.changes) made.0
-  changed-is =
-      passed.paths_are (marked p.changes passed.places) counted ∙ ap (λ ds. flat_map (topmost (λ b. b)) (rewritten_whole not_given (marked p.changes passed.places) ds (subtree p.root))) passed.aims_are ∙ sym (changed-whole p.changes passed.places p.root) ∙ ap (flat_map (changed (is_free p.changes))) made.1 ∙ append-nil (changed (is_free p.changes) made.0)
-
-  would : WouldMake p made.0
-  would = record { places = passed.places; are_places = passed.placed; is_new = made.1 }
-
-  pub is_rewritten : IsRewritten p (branch_tree green) paths annotations
-  is_rewritten = record {
-    made = made.0;
-    would = would;
-    tree_is = made.2;
-    changed_is = changed-is;
-    reached = passed.annotated.reached;
-    annotated_is = passed.annotated.paths_are passed.places made.0 passed.owned_are made.1;
-    reached_are = passed.annotated.reached_are;
-  }
 
 -- ---- what is put together of it
 numbered-each : {R : Type 0} (f : R → List Path) (number : R → ℕ) (rs : List R) → numbered_paths (map number rs) (map f rs) ≡ flat_map (λ r. map (λ p. (number r, p)) (f r)) rs

@@ -68,11 +68,11 @@ own-number : (n k : ℕ) (b : Bool) → n ≡ k → filter (nat_eq k) (cond b (n
 own-number n k true e = ap (λ c. cond c (n ∷ []) []) (eq-eqb k n (sym e)) ∙ ap (λ m. m ∷ []) e
 own-number n k false e = refl
 
-other-number : (n k : ℕ) (b : Bool) → k ≢ n → filter (nat_eq k) (cond b (n ∷ []) []) ≡ []
+pub other-number : (n k : ℕ) (b : Bool) → k ≢ n → filter (nat_eq k) (cond b (n ∷ []) []) ≡ []
 other-number n k true differs = ap (λ c. cond c (n ∷ []) []) (ne_eqb k n differs)
 other-number n k false differs = refl
 
-in-turn : (n k : ℕ) (r : Address) (rs : List Address) (x : Address) → filter (nat_eq k) (marks_at (sought_from n (r ∷ rs) x) []) ≡ filter (nat_eq k) (cond (same_address r x) (n ∷ []) []) ++ filter (nat_eq k) (marks_at (sought_from (suc n) rs x) [])
+pub in-turn : (n k : ℕ) (r : Address) (rs : List Address) (x : Address) → filter (nat_eq k) (marks_at (sought_from n (r ∷ rs) x) []) ≡ filter (nat_eq k) (cond (same_address r x) (n ∷ []) []) ++ filter (nat_eq k) (marks_at (sought_from (suc n) rs x) [])
 in-turn n k r rs x =
     ap (filter (nat_eq k)) (at-append (sought_one x n r) (sought_from (suc n) rs x) [] ∙ ap (λ ns. ns ++ marks_at (sought_from (suc n) rs x) []) (one-at n r x)) ∙ filter-append (nat_eq k) (cond (same_address r x) (n ∷ []) []) (marks_at (sought_from (suc n) rs x) [])
 
@@ -88,7 +88,7 @@ numbered n (suc i) k (r ∷ rs) x a there e =
     in-turn n k r rs x ∙ ap₂ (λ ms ns. ms ++ ns) (other-number n k (same_address r x) (λ same. absurd (omega (arith, e, same)))) (numbered (suc n) i k rs x a there (omega (arith, e)))
 
 -- ---- the paths of a mark
-all-of : (k : ℕ) (p : Path) (ns : List ℕ) → map (λ (m : Marking). m.1) (filter (λ (m : Marking). nat_eq k m.0) (map (λ n. (n, p)) ns)) ≡ map (λ n. p) (filter (nat_eq k) ns)
+pub all-of : (k : ℕ) (p : Path) (ns : List ℕ) → map (λ (m : Marking). m.1) (filter (λ (m : Marking). nat_eq k m.0) (map (λ n. (n, p)) ns)) ≡ map (λ n. p) (filter (nat_eq k) ns)
 all-of k p [] = refl
 all-of k p (n ∷ ns) =
     elim (nat_eq k n) as (λ b. map (λ (m : Marking). m.1) (cond b ((n, p) ∷ filter (λ (m : Marking). nat_eq k m.0) (map (λ j. (j, p)) ns)) (filter (λ (m : Marking). nat_eq k m.0) (map (λ j. (j, p)) ns))) ≡ map (λ (j : ℕ). p) (cond b (n ∷ filter (nat_eq k) ns) (filter (nat_eq k) ns))) [

@@ -36,3 +36,5 @@ mod ByAnnotation
 mod Told
 mod Rooted
 mod ToldTarget
+pub mod MarksTold
+pub mod MadeOf

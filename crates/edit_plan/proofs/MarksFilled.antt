@@ -1,27 +1,35 @@
 -- The marks of what changes give, entered into a table from the deepest changes up.
---     marks-more                    the marks of one tree more
 --     seen-from                     what is sought below an address, seen from there
+--     listed, unsought              an entry with the marks of each; one where nothing is sought
 --     entry                         an entry exchanged
 --     AreLevelled                   so far as one level is entered, with all that is deeper
 --     level-begins, level-ends, level-filled      before its first owner, behind its last one, and one owner more
---     table-told                    a table that was made of the payloads alone
 --     from-payloads, to-the-top     before the deepest level, and behind the last one
-use Rattle.std.specs.Prelude.{◌≡◌, ℕ, suc, ◌+◌, ◌<◌, ◌≤◌, true, false, ◌&&◌, cond, nat_eq, List, [], ◌∷◌, ◌++◌, map, filter, length, slice_get, get_or, Option, Some, None, option_map, Vec, refl}
+--     IsBrought, AreBrought         an entry has the payload of a change; so have those of the first so many
+--     one-brought, all-brought      one change more; all of them
+use Rattle.std.specs.Prelude.{◌≡◌, ℕ, zero, suc, ◌+◌, ◌<◌, ◌≤◌, true, false, ◌&&◌, cond, nat_eq, List, [], ◌∷◌, ◌++◌, map, filter, length, slice_get, get_or, Option, Some, None, option_map, Vec, refl}
 use Rattle.std.specs.Global.{Global}
 use Rattle.std.specs.Option.{option_map_or}
-use Rattle.std.proofs.Common.{ap, ap₂, sym, ◌∙◌, arith}
+use Rattle.std.proofs.Common.{ap, ap₂, sym, subst, ◌∙◌, arith}
+use Rattle.std.proofs.Math.ListN.{get_or-append}
 use Rattle.std.proofs.Math.ListN.{set}
-use Rattle.std.proofs.lemmas.Bool.{cases_eq, eq-eqb, ne_eqb}
-use Rattle.std.proofs.lemmas.List.{append-nil, append_assoc, map-append, length-map}
+use Rattle.std.proofs.lemmas.Bool.{cases_eq, cases_lt, eq-eqb, ne_eqb}
+use Rattle.std.proofs.lemmas.List.{map-append, length-map, length-append, get_or_push}
 use Rattle.std.proofs.lemmas.List.Elements.{filter-append}
-use Rattle.std.proofs.lemmas.Option.{slice_get-get_or, slice_get-map, none-some, same_Some}
+use Rattle.std.proofs.lemmas.Option.{slice_get-get_or, slice_get-map, slice_get_past, none-some, same_Some}
 use mathlib.Core.Logic.{inl, inr}
 use mathlib.Core.Path.{fun_ext}
 use Rattle.cst_core.specs.Path.{Path, same_path, counted_from}
 use Rattle.cst_core.specs.Element.{Address, Element, address, subtree}
 use Rattle.rewriting.specs.Rewriting.{NumberedAim, rewritten}
-use Rattle.rewriting.specs.inner.Marked.{MarkTree, Marking, marked, marked_from, below, marks_of, marks_at, wanted, count_in, marks_in, AreMarked}
-use Rattle.rewriting.specs.declared.mark.GivenMarks.{GivenMarks}
+use Rattle.rewriting.specs.inner.Marked.{MarkTree, Marking, marked, marks_of, marks_at, wanted}
+use Rattle.rewriting.specs.inner.Given.{given_trees}
+use Rattle.rewriting.specs.inner.Pass.{IsMarked, IsMarkedIn, AreMarkedIn}
+use Rattle.rewriting.specs.declared.mark.Mark.{Mark}
+use Rattle.rewriting.specs.declared.marked_given.GivenTable.{GivenTable}
+use Rattle.rewriting.specs.declared.marked_given.MarkedGiven.{MarkedGiven}
+use Rattle.rewriting.proofs.Marks.{marks-none}
+use Rattle.rewriting.proofs.Untouched.{untouched}
 use Rattle.edit_change.specs.Change.{payload}
 use Rattle.edit_change.specs.Nesting.{owner}
 use Rattle.edit_plan.specs.inner.OwnerTables.{depth_of, owns_at, AreDependents, AreOwners}
@@ -35,21 +43,6 @@ use Rattle.edit_plan.proofs.Brought.{given-labelled}
 use Rattle.edit_plan.proofs.ByLevel.{LevelledBy, begins, ends, entered, from-alone}
 use Rattle.edit_change.proofs.Lists.{slice_get-set_same, slice_get-set_other}
 use Rattle.edit_plan.proofs.Settled.{all_owned, rewritten-agree}
-
--- ---- trees side by side
-marks-behind : (i : ℕ) (ts : List MarkTree) (t : MarkTree) → marked_from i (ts ++ t ∷ []) ≡ marked_from i ts ++ map (below ((i + length ts) ∷ [])) (marked t)
-marks-behind i [] t =
-    let same : i ≡ i + 0 = omega arith in
-    append-nil (map (below (i ∷ [])) (marked t)) ∙ ap (λ k. map (below (k ∷ [])) (marked t)) same
-marks-behind i (u ∷ ts) t =
-    let own = map (below (i ∷ [])) (marked u) in
-    let same : suc i + length ts ≡ i + suc (length ts) = omega arith in
-    ap (λ ms. own ++ ms) (marks-behind (suc i) ts t) ∙ sym (append_assoc own (marked_from (suc i) ts) (map (below ((suc i + length ts) ∷ [])) (marked t))) ∙ ap (λ k. own ++ marked_from (suc i) ts ++ map (below (k ∷ [])) (marked t)) same
-
-pub marks-more : (i : ℕ) (ts : List MarkTree) (t : MarkTree) → length ts ≡ i → marked_from 0 (ts ++ t ∷ []) ≡ marked_from 0 ts ++ map (below (i ∷ [])) (marked t)
-marks-more i ts t e =
-    let same : 0 + length ts ≡ i = omega (arith, e) in
-    marks-behind 0 ts t ∙ ap (λ k. marked_from 0 ts ++ map (below (k ∷ [])) (marked t)) same
 
 -- ---- what is sought, seen from an address
 pub at-append : (ms ns : List Marking) (p : Path) → marks_at (ms ++ ns) p ≡ marks_at ms p ++ marks_at ns p
@@ -99,22 +92,40 @@ seen-from n (r ∷ rs) a p =
     at-append (sought_one a n r) (sought_from (suc n) rs a) p ∙ ap₂ (λ ms ns. ms ++ ns) (seen-one n a r p) (seen-from (suc n) rs a p) ∙ sym (at-append (sought_one b n r) (sought_from (suc n) rs b) [])
 
 -- ---- one entry
-pub entry : (cs : List Change) (c : ℕ) (change : Change) (index : SoughtIndex) (owned : List NumberedAim) (table : List GivenMarks) (g : GivenMarks) → c < length cs → c < length table → change ≡ get_or cs c change → g.count ≡ length (payload change) → (trees : ℕ → List MarkTree) → AreMarked table trees → marks_of g.marks.items ≡ marked_from 0 (payload_sought index trees owned (payload change)) → AreMarked (set table c g) (exchanged trees c (payload_sought index trees owned (payload_of cs c)))
-entry cs c change index owned table g there long is counted trees are marks =
+value : (o : Option (Vec Mark Global)) (x : List Marking) → option_map (λ v. marks_of v.items) o ≡ Some x → x ≡ option_map_or (λ v. marks_of v.items) o []
+value None x e = absurd (none-some x e)
+value (Some v) x e = sym (same_Some (marks_of v.items) x e)
+
+-- where a list has the marks of each
+pub listed : (g : MarkedGiven) (ts : List MarkTree) → length ts ≡ length (given_trees g.elements) → map (λ v. marks_of v.items) g.marks.items ≡ map marked ts → IsMarked None g ts
+listed g ts l h = record {
+  count = l;
+  each = λ i d within. value (slice_get g.marks.items i) (marked (get_or ts i d)) (sym (slice_get-map (λ v. marks_of v.items) g.marks.items i) ∙ ap (λ xs. slice_get xs i) h ∙ slice_get-map marked ts i ∙ ap (option_map marked) (slice_get-get_or ts i d within));
+}
+
+-- where nothing is sought
+unsought-at : (index : SoughtIndex) → ((a : Address) → sought_at index a ≡ []) → (es : List Element) (i : ℕ) (d : MarkTree) → i < length (payload_sought index (λ n. []) [] es) → marked (get_or (payload_sought index (λ n. []) [] es) i d) ≡ []
+unsought-at index none [] i d l = absurd (omega (arith, l))
+unsought-at index none (e ∷ es) zero d l = ap (λ ms. marked (rewritten (wanted ms) (λ c. []) [] [] (subtree e))) (none (address e)) ∙ ap marked (untouched (λ k. []) (λ c. []) [] refl [] (subtree e)) ∙ marks-none (subtree e)
+unsought-at index none (e ∷ es) (suc i) d l = unsought-at index none es i d (omega (arith, l))
+
+pub unsought : (index : SoughtIndex) → ((a : Address) → sought_at index a ≡ []) → (g : MarkedGiven) (es : List Element) → g.marks.items ≡ [] → given_trees g.elements ≡ map subtree es → IsMarked None g (payload_sought index (λ n. []) [] es)
+unsought index none g es empty are = record {
+  count = length-map es (element_sought index (λ n. []) []) ∙ sym (ap length are ∙ length-map es subtree);
+  each = λ i d l. unsought-at index none es i d l ∙ sym (ap (λ vs. option_map_or (λ v. marks_of v.items) (slice_get vs i) []) empty);
+}
+
+pub entry : (cs : List Change) (c : ℕ) (change : Change) (index : SoughtIndex) (owned : List NumberedAim) (table : GivenTable) (g : MarkedGiven) → c < length cs → c < length table.entries.items → change ≡ get_or cs c change → table.top ≡ None → (trees : ℕ → List MarkTree) → AreMarkedIn table trees → IsMarked None g (payload_sought index trees owned (payload change)) → (n : ℕ) → IsMarkedIn table.top (slice_get (set table.entries.items c g) n) (exchanged trees c (payload_sought index trees owned (payload_of cs c)) n)
+entry cs c change index owned table g there long is none trees are marks n =
+    let es = table.entries.items in
+    let top = table.top in
     let own : payload_of cs c ≡ payload change = ap (λ o. option_map_or payload o []) (slice_get-get_or cs c change there ∙ ap (λ x. Some x) (sym is)) in
     let ts : List MarkTree = payload_sought index trees owned (payload_of cs c) in
-    let count_here : length ts ≡ g.count = length-map (payload_of cs c) (element_sought index trees owned) ∙ ap length own ∙ sym counted in
-    let marks_here : marked_from 0 ts ≡ marks_of g.marks.items = ap (λ es. marked_from 0 (payload_sought index trees owned es)) own ∙ sym marks in
-    record {
-      count = λ n. elim (cases_eq n c) [
-        | inl same ↦ ap (λ b. length (cond b ts (trees n))) (eq-eqb n c same) ∙ count_here ∙ sym (ap (count_in (set table c g)) same ∙ ap (λ o. option_map_or (λ w. w.count) o 0) (slice_get-set_same table c g long))
-        | inr differs ↦ ap (λ b. length (cond b ts (trees n))) (ne_eqb n c differs) ∙ are.count n ∙ sym (ap (λ o. option_map_or (λ w. w.count) o 0) (slice_get-set_other table c n g differs))
-      ];
-      marks = λ n. elim (cases_eq n c) [
-        | inl same ↦ ap (λ b. marked_from 0 (cond b ts (trees n))) (eq-eqb n c same) ∙ marks_here ∙ sym (ap (marks_in (set table c g)) same ∙ ap (λ o. option_map_or (λ w. marks_of w.marks.items) o []) (slice_get-set_same table c g long))
-        | inr differs ↦ ap (λ b. marked_from 0 (cond b ts (trees n))) (ne_eqb n c differs) ∙ are.marks n ∙ sym (ap (λ o. option_map_or (λ w. marks_of w.marks.items) o []) (slice_get-set_other table c n g differs))
-      ];
-    }
+    let here : IsMarkedIn top (Some g) ts = subst (λ top. IsMarkedIn top (Some g) ts) (sym none) (subst (λ xs. IsMarked None g (payload_sought index trees owned xs)) (sym own) marks) in
+    elim (cases_eq n c) [
+      | inl same ↦ subst (λ b. IsMarkedIn top (slice_get (set es c g) n) (cond b ts (trees n))) (sym (eq-eqb n c same)) (subst (λ o. IsMarkedIn top o ts) (sym (ap (slice_get (set es c g)) same ∙ slice_get-set_same es c g long)) here)
+      | inr differs ↦ subst (λ b. IsMarkedIn top (slice_get (set es c g) n) (cond b ts (trees n))) (sym (ne_eqb n c differs)) (subst (λ o. IsMarkedIn top o (trees n)) (sym (slice_get-set_other es c n g differs)) (are n))
+    ]
 
 -- ---- what changes give
 module _ (rs : List Address) (cs : List Change) (places : ℕ → Path) where
@@ -131,18 +142,18 @@ module _ (rs : List Address) (cs : List Change) (places : ℕ → Path) where
   agreed c index trees holds =
       ap (λ f. map f (payload_of cs c)) (fun_ext (λ e. rewritten-agree (wanted (sought_at index (address e))) trees (marks_given rs cs places) (dependents cs places c) (all_owned cs places (has_given trees) c holds) (subtree e)))
 
-  pub record AreLevelled (level : ℕ) (owners : List ℕ) (i : ℕ) (table : List GivenMarks) : Type 0 where
+  pub record AreLevelled (level : ℕ) (owners : List ℕ) (i : ℕ) (table : GivenTable) : Type 0 where
     pub trees : ℕ → List MarkTree
-    pub are : AreMarked table trees
+    pub are : AreMarkedIn table trees
     pub by : LevelledBy cs places (has_given trees) level owners i
 
-  pub level-begins : (level : ℕ) (owners : List ℕ) (table : List GivenMarks) → AreMarksFrom rs cs places (suc level) table → AreLevelled level owners 0 table
+  pub level-begins : (level : ℕ) (owners : List ℕ) (table : GivenTable) → AreMarksFrom rs cs places (suc level) table → AreLevelled level owners 0 table
   level-begins level owners table a = record { trees = a.trees; are = a.are; by = begins cs places (has_given a.trees) level owners a.deep a.own_nothing }
 
-  pub level-ends : (level i : ℕ) (owned : List (Vec Dependent Global)) (owners : List ℕ) (table : List GivenMarks) → AreDependents cs places owned → owners ≡ filter (owns_at cs owned level) (counted_from 0 (length cs)) → length owners ≤ i → AreLevelled level owners i table → AreMarksFrom rs cs places level table
+  pub level-ends : (level i : ℕ) (owned : List (Vec Dependent Global)) (owners : List ℕ) (table : GivenTable) → AreDependents cs places owned → owners ≡ filter (owns_at cs owned level) (counted_from 0 (length cs)) → length owners ≤ i → AreLevelled level owners i table → AreMarksFrom rs cs places level table
   level-ends level i owned owners table are all long a = record { trees = a.trees; are = a.are; deep = ends cs places (has_given a.trees) level i owned owners are all long a.by; own_nothing = a.by.own_nothing }
 
-  pub level-filled : (level i o : ℕ) (owners : List ℕ) (index : SoughtIndex) (table after : List GivenMarks) (owned : List NumberedAim) → IsTableOf rs index → AreLevelled level owners i table → slice_get owners i ≡ Some o → depth_of cs o ≡ level → owned ≡ dependents cs places o → ((trees : ℕ → List MarkTree) → AreMarked table trees → AreMarked after (exchanged trees o (payload_sought index trees owned (payload_of cs o)))) → AreLevelled level owners (i + 1) after
+  pub level-filled : (level i o : ℕ) (owners : List ℕ) (index : SoughtIndex) (table after : GivenTable) (owned : List NumberedAim) → IsTableOf rs index → AreLevelled level owners i table → slice_get owners i ≡ Some o → depth_of cs o ≡ level → owned ≡ dependents cs places o → ((trees : ℕ → List MarkTree) → AreMarkedIn table trees → AreMarkedIn after (exchanged trees o (payload_sought index trees owned (payload_of cs o)))) → AreLevelled level owners (i + 1) after
   level-filled level i o owners index table after owned sought a stands at_level own fills =
       let ts : List MarkTree = payload_sought index a.trees owned (payload_of cs o) in
       let now = exchanged a.trees o ts in
@@ -157,7 +168,7 @@ module _ (rs : List Address) (cs : List Change) (places : ℕ → Path) where
   alone c index sought none =
       ap (λ f. map f (payload_of cs c)) (fun_ext (λ e. rewritten-agree (wanted (sought_at index (address e))) (λ n. []) (marks_given rs cs places) [] tt (subtree e))) ∙ ap (λ ds. payload_sought index (marks_given rs cs places) ds (payload_of cs c)) (sym none) ∙ payload-given c index sought
 
-  pub from-payloads : (owned : List (Vec Dependent Global)) (owners : List (Vec ℕ Global)) (index : SoughtIndex) (table : List GivenMarks) → IsTableOf rs index → AreMarked table (λ c. payload_sought index (λ n. []) [] (payload_of cs c)) → AreDependents cs places owned → AreOwners cs owned owners → AreMarksFrom rs cs places (length owners) table
+  pub from-payloads : (owned : List (Vec Dependent Global)) (owners : List (Vec ℕ Global)) (index : SoughtIndex) (table : GivenTable) → IsTableOf rs index → AreMarkedIn table (λ c. payload_sought index (λ n. []) [] (payload_of cs c)) → AreDependents cs places owned → AreOwners cs owned owners → AreMarksFrom rs cs places (length owners) table
   from-payloads owned owners index table sought marked_are are levels = record {
     trees = λ c. payload_sought index (λ n. []) [] (payload_of cs c);
     are = marked_are;
@@ -165,35 +176,44 @@ module _ (rs : List Address) (cs : List Change) (places : ℕ → Path) where
     own_nothing = λ c none. alone c index sought none;
   }
 
-  pub to-the-top : (level : ℕ) (table : List GivenMarks) → level ≤ 0 → AreMarksFrom rs cs places level table → AreMarked table (marks_given rs cs places)
-  to-the-top level table none a = record {
-    count = λ c. ap length (sym (a.deep c (omega (arith, none)))) ∙ a.are.count c;
-    marks = λ c. ap (marked_from 0) (sym (a.deep c (omega (arith, none)))) ∙ a.are.marks c;
-  }
+  pub to-the-top : (level : ℕ) (table : GivenTable) → level ≤ 0 → AreMarksFrom rs cs places level table → AreMarkedIn table (marks_given rs cs places)
+  to-the-top level table none a c = subst (λ ts. IsMarkedIn table.top (slice_get table.entries.items c) ts) (a.deep c (omega (arith, none))) (a.are c)
 
 -- ---- the payloads alone
-abbrev pub told : GivenMarks → ℕ × List Marking
-told g = (g.count, marks_of g.marks.items)
-
-abbrev pub brought : SoughtIndex → Change → ℕ × List Marking
-brought index c = (length (payload c), marked_from 0 (payload_sought index (λ n. []) [] (payload c)))
-
 module _ (index : SoughtIndex) where
-  abbrev its_trees : Option Change → List MarkTree
-  its_trees o = payload_sought index (λ n. []) [] (option_map_or payload o [])
+  -- an entry has the payload of a change
+  pub record IsBrought (o : Option MarkedGiven) (es : List Element) : Type 0 where
+    pub trees : option_map_or (λ g. given_trees g.elements) o [] ≡ map subtree es
+    pub marks : IsMarkedIn None o (payload_sought index (λ n. []) [] es)
 
-  told-alike : (o : Option GivenMarks) (q : Option Change) → option_map told o ≡ option_map (brought index) q → (length (its_trees q) ≡ option_map_or (λ g. g.count) o 0) × (marked_from 0 (its_trees q) ≡ option_map_or (λ g. marks_of g.marks.items) o [])
-  told-alike None None h = (refl, refl)
-  told-alike None (Some c) h = absurd (none-some (brought index c) h)
-  told-alike (Some g) None h = absurd (none-some (told g) (sym h))
-  told-alike (Some g) (Some c) h =
-      let same = same_Some (told g) (brought index c) h in
-      (length-map (payload c) (element_sought index (λ n. []) []) ∙ sym (ap (λ p. p.0) same), sym (ap (λ p. p.1) same))
+  abbrev pub AreBrought : List MarkedGiven → List Change → ℕ → Type 0
+  AreBrought entries cs n = (c : ℕ) → c < n → IsBrought (slice_get entries c) (payload_of cs c)
 
-  pub table-told : (cs : List Change) (table : List GivenMarks) → map told table ≡ map (brought index) cs → AreMarked table (λ c. payload_sought index (λ n. []) [] (payload_of cs c))
-  table-told cs table h =
-      let both : (c : ℕ) → option_map told (slice_get table c) ≡ option_map (brought index) (slice_get cs c) = λ c. sym (slice_get-map told table c) ∙ ap (λ ts. slice_get ts c) h ∙ slice_get-map (brought index) cs c in
-      record { count = λ c. (told-alike (slice_get table c) (slice_get cs c) (both c)).0; marks = λ c. (told-alike (slice_get table c) (slice_get cs c) (both c)).1 }
+  pub one-brought : (entries : List MarkedGiven) (g : MarkedGiven) (cs : List Change) (n : ℕ) (change : Change) → length entries ≡ n → n < length cs → change ≡ get_or cs n change → given_trees g.elements ≡ map subtree (payload change) → IsMarked None g (payload_sought index (λ n. []) [] (payload change)) → AreBrought entries cs n → AreBrought (entries ++ g ∷ []) cs (n + 1)
+  one-brought entries g cs n change long there is trees marks before c l =
+      let own : payload_of cs n ≡ payload change = ap (λ o. option_map_or payload o []) (slice_get-get_or cs n change there ∙ ap (λ x. Some x) (sym is)) in
+      let more : length (entries ++ g ∷ []) ≡ n + 1 = length-append entries (g ∷ []) ∙ ap (λ k. k + 1) long in
+      let within : c < length (entries ++ g ∷ []) = subst (λ k. c < k) (sym more) l in
+      elim (cases_lt c n) [
+        | inl less ↦
+            let inside : c < length entries = subst (λ k. c < k) (sym long) less in
+            let same : slice_get (entries ++ g ∷ []) c ≡ slice_get entries c = slice_get-get_or (entries ++ g ∷ []) c g within ∙ ap (λ x. Some x) (get_or-append entries (g ∷ []) g c inside) ∙ sym (slice_get-get_or entries c g inside) in
+            subst (λ o. IsBrought o (payload_of cs c)) (sym same) (before c less)
+        | inr past ↦
+            let last : c ≡ n = omega (arith, l, past) in
+            let at : slice_get (entries ++ g ∷ []) c ≡ Some g = slice_get-get_or (entries ++ g ∷ []) c g within ∙ ap (λ x. Some x) (get_or_push entries g g c (long ∙ sym last)) in
+            subst (λ k. IsBrought (slice_get (entries ++ g ∷ []) c) (payload_of cs k)) (sym last) (subst (λ o. IsBrought o (payload_of cs n)) (sym at) (subst (λ es. IsBrought (Some g) es) (sym own) (record { trees = trees; marks = marks })))
+      ]
 
-pub none-marked : AreMarked [] (λ n. [])
-none-marked = record { count = λ c. refl; marks = λ c. refl }
+  pub all-brought : (entries : List MarkedGiven) (cs : List Change) (n : ℕ) → length entries ≡ n → length cs ≤ n → n ≤ length cs → AreBrought entries cs n → (c : ℕ) → IsBrought (slice_get entries c) (payload_of cs c)
+  all-brought entries cs n long past within are c =
+      elim (cases_lt c n) [
+        | inl less ↦ are c less
+        | inr more ↦
+            let none : slice_get entries c ≡ None = slice_get_past entries c (omega (arith, long, more)) in
+            let no_change : payload_of cs c ≡ [] = ap (λ o. option_map_or payload o []) (slice_get_past cs c (omega (arith, more, within))) in
+            subst (λ o. IsBrought o (payload_of cs c)) (sym none) (subst (λ es. IsBrought None es) (sym no_change) (record { trees = refl; marks = refl }))
+      ]
+
+pub none-marked : (table : GivenTable) → table.entries.items ≡ [] → AreMarkedIn table (λ n. [])
+none-marked table empty c = subst (λ es. IsMarkedIn table.top (slice_get es c) []) (sym empty) refl

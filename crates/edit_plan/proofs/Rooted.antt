@@ -19,9 +19,9 @@ use Rattle.cst_core.specs.Tree.{SyntaxTree, Forest, Node, Token, at, is_token, f
 use Rattle.cst_core.specs.Element.{Element, IsNode, subtree, address}
 use Rattle.cst_core.specs.declared.element.SyntaxElement.TheVariants as form
 use Rattle.rewriting.specs.Aim.{Aim, FirstIn, Behind, Over, starts_at, replaces}
-use Rattle.rewriting.specs.inner.Pass.{kind_only, given_by}
+use Rattle.rewriting.specs.inner.Pass.{kind_only, given_in}
 use Rattle.rewriting.specs.Rewriting.{NumberedAim, numbers, replacements_at, is_replaced, rewritten, rewritten_from, rewritten_whole}
-use Rattle.rewriting.specs.declared.given.Given.{Given}
+use Rattle.rewriting.specs.declared.marked_given.GivenTable.{GivenTable}
 use Rattle.edit_change.specs.ChangeAim.{position_aim, aim}
 use Rattle.edit_change.specs.PositionForm.{FirstChild, After}
 use Rattle.edit_change.specs.declared.position.Position.{Position}
@@ -222,11 +222,11 @@ no-replacement : (at : Position) → replaces [] (position_aim at) ≡ false
 no-replacement (FirstChild n) = refl
 no-replacement (After e) = refl
 
-module _ (cs : List Change) (places : ℕ → Path) (table : List Given) (are : AreGiven cs places table) (root : Element) where
-  top-kept : IsNode root → list_any (λ c. has_path (targets c) []) cs ≡ false → IsOneNode (rewritten_whole kind_only (given_by table) (independents cs) (subtree root))
+module _ (cs : List Change) (places : ℕ → Path) (table : GivenTable) (are : AreGiven cs places table) (root : Element) where
+  top-kept : IsNode root → list_any (λ c. has_path (targets c) []) cs ≡ false → IsOneNode (rewritten_whole kind_only (given_in table) (independents cs) (subtree root))
   top-kept node none =
       let t = tree-of-node root node in
-      subst IsOneNode (sym (ap (λ b. cond b (flat_map (given_by table) (replacements_at (independents cs) [])) (rewritten kind_only (given_by table) (independents cs) [] (subtree root) ∷ [])) (none-replaced cs 0 none))) (kept-node (given_by table) (independents cs) (subtree root) t.0 t.1 t.2)
+      subst IsOneNode (sym (ap (λ b. cond b (flat_map (given_in table) (replacements_at (independents cs) [])) (rewritten kind_only (given_in table) (independents cs) [] (subtree root) ∷ [])) (none-replaced cs 0 none))) (kept-node (given_in table) (independents cs) (subtree root) t.0 t.1 t.2)
     where
       not-there : (c : Change) → has_path (targets c) [] ≡ false → replaces [] (aim c) ≡ false
       not-there (Insert at e) h = no-replacement at
@@ -245,18 +245,18 @@ module _ (cs : List Change) (places : ℕ → Path) (table : List Given) (are : 
             | false ↦ rest
           ]
 
-  top-brought : (i : ℕ) (c : Change) → first_clash cs ≡ None → slice_get cs i ≡ Some c → has_path (targets c) [] ≡ true → BringsNode c → IsOneNode (rewritten_whole kind_only (given_by table) (independents cs) (subtree root))
+  top-brought : (i : ℕ) (c : Change) → first_clash cs ≡ None → slice_get cs i ≡ Some c → has_path (targets c) [] ≡ true → BringsNode c → IsOneNode (rewritten_whole kind_only (given_in table) (independents cs) (subtree root))
   top-brought i c apart at_i h brings =
       let alone = root-alone cs i c apart at_i h in
       let t = tree-of-node brings.0 brings.2 in
       let own = origin (address brings.0) (Some i) in
       let payload_is : payload_of cs i ≡ brings.0 ∷ [] = ap (λ o. option_map_or payload o []) at_i ∙ brings.1 in
-      let given_is_one : given_by table i ≡ plain (rewritten own (given cs places) (dependents cs places i) [] (subtree brings.0)) ∷ [] = are i ∙ ap (map plain) (given_is cs places i ∙ ap (map (λ e. rewritten (origin (address e) (Some i)) (given cs places) (dependents cs places i) [] (subtree e))) payload_is) in
-      let whole : rewritten_whole kind_only (given_by table) (independents cs) (subtree root) ≡ given_by table i = ap (λ b. cond b (flat_map (given_by table) (replacements_at (independents cs) [])) (rewritten kind_only (given_by table) (independents cs) [] (subtree root) ∷ [])) (some-starts (independents cs) [] i alone) ∙ ap (flat_map (given_by table)) alone ∙ append-nil (given_by table i) in
+      let given_is_one : given_in table i ≡ plain (rewritten own (given cs places) (dependents cs places i) [] (subtree brings.0)) ∷ [] = are i ∙ ap (map plain) (given_is cs places i ∙ ap (map (λ e. rewritten (origin (address e) (Some i)) (given cs places) (dependents cs places i) [] (subtree e))) payload_is) in
+      let whole : rewritten_whole kind_only (given_in table) (independents cs) (subtree root) ≡ given_in table i = ap (λ b. cond b (flat_map (given_in table) (replacements_at (independents cs) [])) (rewritten kind_only (given_in table) (independents cs) [] (subtree root) ∷ [])) (some-starts (independents cs) [] i alone) ∙ ap (flat_map (given_in table)) alone ∙ append-nil (given_in table i) in
       subst IsOneNode (sym (whole ∙ given_is_one)) (brought-node own (given cs places) (dependents cs places i) (subtree brings.0) t.0 t.1 t.2)
 
 -- where a search for a change that replaces the root ends
-pub stays-a-node : (cs : List Change) (root : Element) → IsNode root → find (λ c. has_path (targets c) []) cs ≡ None → (places : ℕ → Path) (table : List Given) → AreGiven cs places table → IsOneNode (rewritten_whole kind_only (given_by table) (independents cs) (subtree root))
+pub stays-a-node : (cs : List Change) (root : Element) → IsNode root → find (λ c. has_path (targets c) []) cs ≡ None → (places : ℕ → Path) (table : GivenTable) → AreGiven cs places table → IsOneNode (rewritten_whole kind_only (given_in table) (independents cs) (subtree root))
 stays-a-node cs root node none places table are =
     top-kept cs places table are root node (any-none cs (none-passes (λ c. has_path (targets c) []) cs none))
   where
@@ -264,7 +264,7 @@ stays-a-node cs root node none places table are =
     any-none [] h = refl
     any-none (d ∷ ds) h = or_from (has_path (targets d) []) _ h.0 (any-none ds h.1)
 
-pub takes-its-place : (cs : List Change) (root : Element) (c : Change) → first_clash cs ≡ None → find (λ c. has_path (targets c) []) cs ≡ Some c → BringsNode c → (places : ℕ → Path) (table : List Given) → AreGiven cs places table → IsOneNode (rewritten_whole kind_only (given_by table) (independents cs) (subtree root))
+pub takes-its-place : (cs : List Change) (root : Element) (c : Change) → first_clash cs ≡ None → find (λ c. has_path (targets c) []) cs ≡ Some c → BringsNode c → (places : ℕ → Path) (table : GivenTable) → AreGiven cs places table → IsOneNode (rewritten_whole kind_only (given_in table) (independents cs) (subtree root))
 takes-its-place cs root c apart found brings places table are =
     let there = found-at (λ c. has_path (targets c) []) cs c found in
     top-brought cs places table are root there.0 c apart there.1 there.2 brings

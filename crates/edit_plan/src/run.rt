@@ -1,36 +1,38 @@
-ghost use Rattle.std.specs.Prelude.{◌≡◌, ◌+◌, ◌<◌, ℕ, [], ◌∷◌, map, find, length, option_map, All, Some, IfOk, IfErr, OnOk, OnErr};
+ghost use Rattle.std.specs.Prelude.{◌≡◌, ◌+◌, ◌<◌, ℕ, List, [], ◌∷◌, map, find, length, option_map, All, Some, IfOk, IfErr, OnOk, OnErr};
 ghost use Rattle.cst_core.specs.Green.{branch_tree, length_limit};
 ghost use Rattle.cst_core.specs.Tree.{text_length};
-ghost use Rattle.cst_core.specs.Element.{Element, IsElement, element_at, subtree};
+ghost use Rattle.cst_core.specs.Element.{Element, IsElement, address, element_at, subtree};
 ghost use Rattle.cst_core.specs.GreenElement.{element_trees};
 ghost use Rattle.cst_core.specs.SyntaxElement.{syntax_at};
 ghost use Rattle.rewriting.specs.inner.Aimed.{aims_of};
-ghost use Rattle.rewriting.specs.inner.Given.{given_trees};
-ghost use Rattle.rewriting.specs.inner.Pass.{kind_only, given_by};
+ghost use Rattle.rewriting.specs.inner.Pass.{kind_only, AreMarkedIn, given_in};
+ghost use Rattle.rewriting.specs.inner.Marked.{MarkTree, marked_from, marks_of, wanted};
 ghost use Rattle.rewriting.specs.Rewriting.{rewritten_whole};
 ghost use Rattle.rewriting.specs.Topmost.{paths_of};
 ghost use Rattle.edit_plan.specs.Plan.{Makes, RunRefuses};
-ghost use Rattle.edit_plan.specs.inner.Marks.{annotated_path};
-ghost use Rattle.edit_plan.specs.inner.PlanRun.{AreAnnotated, IsOneNode, IsRewritten, KeepsTop};
+ghost use Rattle.edit_plan.specs.inner.Marks.{annotated_path, path_lists};
+ghost use Rattle.edit_plan.specs.inner.Sought.{sought_at};
+ghost use Rattle.edit_plan.specs.inner.PlanRun.{IsMade, IsOneNode, IsRewritten, KeepsTop};
 ghost use Rattle.cst_core.specs.Path.{Path, has_path};
 ghost use Rattle.edit_change.specs.Change.{targets};
 ghost use Rattle.edit_change.specs.inner.Fate.{fate};
 ghost use Rattle.edit_change.specs.Fits.{Fits};
-ghost use Rattle.edit_plan.specs.inner.OwnerTables.{AreDependents, AreGiven};
+ghost use Rattle.edit_plan.specs.inner.OwnerTables.{AreDependents};
 ghost use Rattle.edit_plan.specs.Places.{ArePlaces};
 ghost use Rattle.edit_plan.specs.NewTree.{independents};
 
 use crate::annotated::{annotated, elements_by_annotation, followed};
 use crate::annotation::SyntaxAnnotation;
-use crate::copies::copies;
 use crate::dependent::{Dependent, dependents};
 use crate::edit::SyntaxEdit;
 use crate::edit_error::EditError;
 use crate::given::given;
+use crate::mark_paths::{dealt_out, paths_with};
 use crate::plan::EditPlan;
+use crate::sought::SoughtIndex;
 use cst_core::{GreenElement, GreenNode, SyntaxElement, SyntaxNode, TreeIds};
 use edit_change::{Change, Fate};
-use rewriting::{Aimed, Given, places_of_given_whole, rebuild_whole};
+use rewriting::{Aimed, GivenTable, Rebuilt, rebuild_whole};
 use std::alloc::{AllocError, Global};
 
 // A tree that is not a root's yet, the paths of the elements that changes brought, and those of annotated ones.
@@ -39,6 +41,14 @@ struct Rewritten {
     green: GreenNode,
     changed: Vec<Vec<usize>>,
     annotated: Vec<(SyntaxAnnotation, Vec<usize>)>,
+}
+
+// A tree that is not a root's yet, for each of some elements the paths of its copies, and the paths of the elements that changes brought.
+#[derive(Drop)]
+struct Made {
+    green: GreenNode,
+    copies: Vec<Vec<Vec<usize>>>,
+    changed: Vec<Vec<usize>>,
 }
 
 // The changes without an owner, by where they aim.
@@ -76,57 +86,23 @@ impl EditPlan {
         dependents(alloc, &self.changes, &self.fates, &self.places)
     }
 
-    // What each change gives, by its number.
-    fn given(
-        &self,
-        alloc: Global,
-        dependents: &[Vec<Dependent>],
-    ) -> Result<Vec<Given<'_>>, AllocError>
-        requires { length dependents.now ≡ length self.now.changes }
-        ensures { IfOk result (λ v. (places : ℕ → Path) → AreDependents self.now.changes places dependents.now → AreGiven self.now.changes places v.items) }
-    {
-        given(alloc, &self.changes, dependents)
-    }
-
-    // The annotations with the paths of the copies of what they are registered with.
-    fn annotated(
+    // What stands in the place of the root, with the marks of it: those of a table, and those of what changes give.
+    fn rebuilt(
         &self,
         alloc: Global,
         aims: &[Aimed],
-        dependents: &[Vec<Dependent>],
-    ) -> Result<Vec<(SyntaxAnnotation, Vec<usize>)>, AllocError>
-        requires owned { length dependents.now ≡ length self.now.changes }
-        requires aims { aims_of aims.now ≡ independents self.now.changes }
-        ensures { IfOk result (λ v. AreAnnotated self.now dependents.now (map annotated_path v.items)) }
+        index: &SoughtIndex,
+        given: &GivenTable,
+    ) -> Result<Rebuilt, AllocError>
+        ensures trees { IfOk result (λ r. element_trees r.elements.items ≡ rewritten_whole kind_only (given_in given.now) (aims_of aims.now) (subtree self.now.root)) }
+        ensures marks { IfOk result (λ r. (trees : ℕ → List MarkTree) → AreMarkedIn given.now trees → marks_of r.marks.items ≡ marked_from 0 (rewritten_whole (wanted (sought_at index.now (address self.now.root))) trees (aims_of aims.now) (subtree self.now.root))) }
     {
-        let followed = followed(alloc, &self.mapping, &self.registrations)?;
-        let copies = copies(
-            alloc,
-            &self.root,
-            &self.changes,
-            dependents,
-            aims,
-            &followed,
-        )?;
-        annotated(alloc, &self.registrations, &copies)
-    }
-
-    // The new root's shared tree.
-    fn rewritten(
-        &self,
-        alloc: Global,
-        aims: &[Aimed],
-        given: &[Given],
-    ) -> Result<GreenNode, AllocError>
-        requires aims { aims_of aims.now ≡ independents self.now.changes }
-        requires given { (places : ℕ → Path) × AreGiven self.now.changes places given.now }
-        ensures { IfOk result (λ n. rewritten_whole kind_only (given_by given.now) (aims_of aims.now) (subtree self.now.root) ≡ branch_tree n ∷ []) }
-    {
-        let old = GreenElement::Node(self.root.green(alloc)?);
+        let root = SyntaxElement::Node(self.root.try_clone(alloc)?);
+        let old = root.green(alloc)?;
+        let sought = index.at(alloc, &root)?;
         let mut builds = 0;
-        let new = rebuild_whole(alloc, &old, aims, given, &mut builds)?;
-        self.keep_top();
-        Ok(only_node(new))
+        let rebuilt = rebuild_whole(alloc, &old, aims, &sought, given, &mut builds)?;
+        Ok(rebuilt)
     }
 
     // One node stands in the place of the root: the root itself, or the node that replaces it.
@@ -161,13 +137,6 @@ fn only_node(mut elements: Vec<GreenElement>) -> GreenNode
     }
 }
 
-// How many elements each change gives.
-fn counts(alloc: Global, given: &[Given]) -> Result<Vec<usize>, AllocError>
-    ensures { IfOk result (λ v. v.items ≡ map (λ g. length (given_trees g)) given.now) }
-{
-    given.iter().map(|given| given.len()).collect(alloc)
-}
-
 // The elements that these paths lead to, counted from a root.
 fn elements_at(
     alloc: Global,
@@ -195,18 +164,39 @@ fn next_number(ids: &TreeIds) -> u64
 }
 
 impl EditPlan {
+    // The new tree, the paths of the copies of each of these elements, and those of changed elements. The number of each element is its
+    // mark, and the next one is that of what changes without an owner give.
+    fn made(&self, alloc: Global, registered: &[SyntaxElement]) -> Result<Made, AllocError>
+        ensures long { IfOk result (λ m. length m.copies.items ≡ length registered.now) }
+        ensures made { IfOk result (λ m. IsMade self.now registered.now (branch_tree m.green) (path_lists m.copies.items) (paths_of m.changed.items)) }
+    {
+        let aims = self.aims(alloc)?;
+        let dependents = self.dependents(alloc)?;
+        let index = SoughtIndex::of(alloc, registered)?;
+        let mut given = given(alloc, &self.changes, &dependents, &index)?;
+        given.top = Some(registered.len());
+        let Rebuilt { elements, marks } = self.rebuilt(alloc, &aims, &index, &given)?;
+        self.keep_top();
+        let copies = dealt_out(alloc, &marks, registered.len())?;
+        let changed = paths_with(alloc, &marks, registered.len())?;
+        Ok(Made {
+            green: only_node(elements),
+            copies,
+            changed,
+        })
+    }
+
     // The new tree, and the paths of its changed and annotated elements.
     fn carried_out(&self, alloc: Global) -> Result<Rewritten, AllocError>
         ensures { IfOk result (λ r. IsRewritten self.now (branch_tree r.green) (paths_of r.changed.items) (map annotated_path r.annotated.items)) }
     {
-        let aims = self.aims(alloc)?;
-        let dependents = self.dependents(alloc)?;
-        let given = self.given(alloc, &dependents)?;
-        let green = self.rewritten(alloc, &aims, &given)?;
-        let counts = counts(alloc, &given)?;
-        let old = GreenElement::Node(self.root.green(alloc)?);
-        let changed = places_of_given_whole(alloc, &old, &aims, &counts)?;
-        let annotated = self.annotated(alloc, &aims, &dependents)?;
+        let registered = followed(alloc, &self.mapping, &self.registrations)?;
+        let Made {
+            green,
+            copies,
+            changed,
+        } = self.made(alloc, &registered)?;
+        let annotated = annotated(alloc, &self.registrations, &copies)?;
         Ok(Rewritten {
             green,
             changed,

@@ -1,6 +1,6 @@
 //! Registered elements, looked up by what is above them.
 
-ghost use Rattle.std.specs.Prelude.{◌≡◌, ◌++◌, ℕ, cond, [], ◌∷◌, map, IfOk, OnOk};
+ghost use Rattle.std.specs.Prelude.{◌≡◌, ◌++◌, ℕ, true, cond, [], ◌∷◌, map, IfOk, OnOk};
 ghost use Rattle.cst_core.specs.Element.{Address, address, same_address};
 ghost use Rattle.cst_core.specs.SyntaxElement.{element_of};
 ghost use Rattle.rewriting.specs.inner.Marked.{sought_as, sought_in};
@@ -71,6 +71,13 @@ impl<'a> SoughtIndex<'a> {
         SoughtIndex {
             lists: HashMap::new(alloc),
         }
+    }
+
+    /// Whether nothing is registered.
+    pub(crate) fn is_empty(&self) -> bool
+        ensures { result ≡ true → (a : Address) → sought_at self.now a ≡ [] }
+    {
+        self.lists.is_empty()
     }
 
     // The list at a spot, which is taken out.

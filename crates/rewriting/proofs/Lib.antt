@@ -11,3 +11,4 @@ pub mod Marks
 pub mod MarksGiven
 pub mod MarksKept
 pub mod Rows
+pub mod Alike

@@ -67,7 +67,7 @@ module _ (path : Path) where
       ap₂ (λ xs k. xs ++ shown path k rest) a x ∙ append_assoc before (shown path n (trees c)) (shown path (n + length (trees c)) rest) ∙ ap (λ xs. before ++ xs) (sym (shown-append path n (trees c) rest)) ∙ h
 
 -- ---- one mark more at each top
-marked-topped : (n : ℕ) (t : MarkTree) → marked (topped n t) ≡ (n, []) ∷ marked t
+pub marked-topped : (n : ℕ) (t : MarkTree) → marked (topped n t) ≡ (n, []) ∷ marked t
 marked-topped n (Token l s) = marks-token (n ∷ l) s ∙ ap (λ ms. (n, []) ∷ ms) (sym (marks-token l s))
 marked-topped n (Node l f) = marks-node (n ∷ l) f ∙ ap (λ ms. (n, []) ∷ ms) (sym (marks-node l f))
 

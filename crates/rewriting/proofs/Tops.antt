@@ -45,6 +45,9 @@ module _ {L : Type 0} (test : L → Bool) where
   top-node l f none =
       ap (λ b. cond (b && true) ([] ∷ filter (passes (Node l f)) (paths_from 0 f)) (filter (passes (Node l f)) (paths_from 0 f))) none ∙ passes-children l f 0 f none refl
 
+  pub top-token : (l : L) (s : List ℕ) → test l ≡ false → topmost test (Token l s) ≡ []
+  top-token l s none = ap (λ b. cond (b && true) ([] ∷ []) []) none
+
   pub top-children : (l : L) (ts : List (Tree L)) → test l ≡ false → topmost test (node l ts) ≡ tops 0 ts
   top-children l ts none = top-node l (forest ts) none ∙ ap (tops 0) (trees-forest ts)
 

@@ -14,9 +14,10 @@ use Rattle.cst_core.specs.Path.{Path}
 use Rattle.cst_core.specs.Tree.{relabelled}
 use Rattle.cst_core.specs.Element.{Address, Element, address, subtree}
 use Rattle.rewriting.specs.Rewriting.{NumberedAim, rewritten}
-use Rattle.rewriting.specs.inner.Marked.{MarkTree, Marking, AreMarked, wanted}
+use Rattle.rewriting.specs.inner.Marked.{MarkTree, Marking, wanted}
+use Rattle.rewriting.specs.inner.Pass.{AreMarkedIn}
 use Rattle.rewriting.specs.Topmost.{paths_of}
-use Rattle.rewriting.specs.declared.mark.GivenMarks.{GivenMarks}
+use Rattle.rewriting.specs.declared.marked_given.GivenTable.{GivenTable}
 use Rattle.edit_plan.specs.inner.OwnerTables.{depth_of}
 use Rattle.edit_plan.specs.NewTree.{OriginTree, dependents, given}
 use Rattle.edit_plan.specs.inner.Sought.{sought_from, sought_at, registered_at}
@@ -41,9 +42,9 @@ payload_sought index trees cs es = map (element_sought index trees cs) es
 abbrev pub exchanged : (ℕ → List MarkTree) → ℕ → List MarkTree → ℕ → List MarkTree
 exchanged trees c ts n = cond (nat_eq n c) ts (trees n)
 
-pub record AreMarksFrom (rs : List Address) (changes : List Change) (places : ℕ → Path) (level : ℕ) (table : List GivenMarks) : Type 0 where
+pub record AreMarksFrom (rs : List Address) (changes : List Change) (places : ℕ → Path) (level : ℕ) (table : GivenTable) : Type 0 where
   pub trees : ℕ → List MarkTree
-  pub are : AreMarked table trees
+  pub are : AreMarkedIn table trees
   pub deep : (c : ℕ) → level ≤ depth_of changes c → trees c ≡ marks_given rs changes places c
   pub own_nothing : (c : ℕ) → dependents changes places c ≡ [] → trees c ≡ marks_given rs changes places c
 

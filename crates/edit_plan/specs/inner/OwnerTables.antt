@@ -17,8 +17,8 @@ use Rattle.std.specs.Global.{Global}
 use Rattle.std.specs.Option.{option_map_or}
 use Rattle.cst_core.specs.Path.{Path, counted_from}
 use Rattle.cst_core.specs.Element.{subtree}
-use Rattle.rewriting.specs.declared.given.Given.{Given}
-use Rattle.rewriting.specs.inner.Pass.{kind_only, given_by}
+use Rattle.rewriting.specs.declared.marked_given.GivenTable.{GivenTable}
+use Rattle.rewriting.specs.inner.Pass.{kind_only, given_in}
 use Rattle.rewriting.specs.Rewriting.{NumberedAim, rewritten}
 use Rattle.edit_map.specs.Mapping.{Mapping}
 use Rattle.edit_change.specs.inner.AimFrom.{aim_from, depth}
@@ -73,17 +73,17 @@ module _ (changes : List Change) (places : ℕ → Path) where
   abbrev pub AreDependents : List (Vec Dependent Global) → Type 0
   AreDependents table = (c : ℕ) → dependents_in table c ≡ dependents changes places c
 
-  abbrev pub IsGiven : List Given → ℕ → Type 0
-  IsGiven table c = given_by table c ≡ map plain (given changes places c)
+  abbrev pub IsGiven : GivenTable → ℕ → Type 0
+  IsGiven table c = given_in table c ≡ map plain (given changes places c)
 
-  abbrev pub AreGiven : List Given → Type 0
+  abbrev pub AreGiven : GivenTable → Type 0
   AreGiven table = (c : ℕ) → IsGiven table c
 
-  pub record AreGivenFrom (level : ℕ) (table : List Given) : Type 0 where
+  pub record AreGivenFrom (level : ℕ) (table : GivenTable) : Type 0 where
     pub deep : (c : ℕ) → level ≤ depth_of changes c → IsGiven table c
     pub own_nothing : (c : ℕ) → dependents changes places c ≡ [] → IsGiven table c
 
 -- the entry of a change is its payload, rewritten by what the table had before; no other entry differs
-pub record IsFilled (changes : List Change) (c : ℕ) (owned : List NumberedAim) (before after : List Given) : Type 0 where
-  pub here : given_by after c ≡ map (rewritten kind_only (given_by before) owned []) (map subtree (payload_of changes c))
-  pub elsewhere : (n : ℕ) → n ≢ c → given_by after n ≡ given_by before n
+pub record IsFilled (changes : List Change) (c : ℕ) (owned : List NumberedAim) (before after : GivenTable) : Type 0 where
+  pub here : given_in after c ≡ map (rewritten kind_only (given_in before) owned []) (map subtree (payload_of changes c))
+  pub elsewhere : (n : ℕ) → n ≢ c → given_in after n ≡ given_in before n

@@ -5,7 +5,7 @@
 --     IsRewritten                   the tree that a plan makes, without its origins, and the changed and the annotated paths in it
 --     IsOneNode, BringsNode         trees that are one node; a change that brings one node
 --     KeepsTop                      one node stands in the place of the root
---     AreAnnotated                  where annotated elements stand in the tree that a plan makes, where a table has what each change owns
+--     IsMade                        the same, where some elements are registered: the paths of the copies of each
 use Rattle.std.specs.Prelude.{◌≡◌, ◌<◌, ℕ, List, [], ◌∷◌, map, length, Option, All, Vec}
 use Rattle.std.specs.Global.{Global}
 use Rattle.cst_core.specs.Path.{Path}
@@ -18,15 +18,14 @@ use Rattle.edit_map.specs.Mapping.{followed, mapped_elements}
 use Rattle.edit_plan.specs.Plan.{Plan, IsPlan, WouldMake, registered}
 use Rattle.edit_change.specs.inner.Fate.{fate}
 use Rattle.edit_plan.specs.inner.Marks.{numbered_paths}
-use Rattle.edit_plan.specs.inner.OwnerTables.{places_in, AreDependents, AreGiven}
+use Rattle.edit_plan.specs.inner.OwnerTables.{places_in, AreGiven}
 use Rattle.edit_change.specs.Change.{payload}
 use Rattle.edit_plan.specs.Results.{changed, copies_of}
-use Rattle.edit_plan.specs.NewTree.{OriginTree, plain, is_free, independents, new_tree}
-use Rattle.rewriting.specs.declared.given.Given.{Given}
-use Rattle.rewriting.specs.inner.Pass.{kind_only, given_by}
+use Rattle.edit_plan.specs.NewTree.{OriginTree, plain, is_free, independents}
+use Rattle.rewriting.specs.declared.marked_given.GivenTable.{GivenTable}
+use Rattle.rewriting.specs.inner.Pass.{kind_only, given_in}
 use Rattle.rewriting.specs.Rewriting.{rewritten_whole}
 use Rattle.edit_change.specs.declared.change.Change.{Change}
-use Rattle.edit_plan.specs.declared.dependent.Dependent.{Dependent}
 use Rattle.edit_plan.specs.Places.{ArePlaces}
 use Rattle.edit_change.specs.declared.fate.Fate.{Fate}
 
@@ -53,10 +52,12 @@ pub record IsRewritten (p : Plan) (tree : SyntaxTree) (changed_paths : List Path
   pub annotated_is : annotated_paths ≡ numbered_paths (map (λ r. r.1) p.registrations) (map (copies_of made) reached)
   pub reached_are : All (TellsOf p) p.registrations → reached ≡ map (λ r. address (followed p.mapping r.0)) (registered p.registrations)
 
-pub record AreAnnotated (p : Plan) (owned : List (Vec Dependent Global)) (annotated_paths : List (ℕ × Path)) : Type 0 where
-  pub reached : List Address
-  pub reached_are : All (TellsOf p) p.registrations → reached ≡ map (λ r. address (followed p.mapping r.0)) (registered p.registrations)
-  pub paths_are : (places : ℕ → Path) (made : OriginTree) → AreDependents p.changes places owned → new_tree p.changes places p.root ≡ made ∷ [] → annotated_paths ≡ numbered_paths (map (λ r. r.1) p.registrations) (map (copies_of made) reached)
+pub record IsMade (p : Plan) (es : List SyntaxElement) (tree : SyntaxTree) (copies : List (List Path)) (changed_paths : List Path) : Type 0 where
+  pub made : OriginTree
+  pub would : WouldMake p made
+  pub tree_is : tree ≡ plain made
+  pub copies_are : copies ≡ map (λ e. copies_of made (address (element_of e))) es
+  pub changed_is : changed_paths ≡ changed (is_free p.changes) made
 
 -- ---- the root of the new tree
 abbrev pub IsOneNode : List SyntaxTree → Type 0
@@ -67,4 +68,4 @@ BringsNode c = (e : Element) × (payload c ≡ e ∷ []) × IsNode e
 
 abbrev pub KeepsTop : Plan → Type 0
 KeepsTop p =
-    (places : ℕ → Path) (table : List Given) → AreGiven p.changes places table → IsOneNode (rewritten_whole kind_only (given_by table) (independents p.changes) (subtree p.root))
+    (places : ℕ → Path) (table : GivenTable) → AreGiven p.changes places table → IsOneNode (rewritten_whole kind_only (given_in table) (independents p.changes) (subtree p.root))

@@ -1,11 +1,16 @@
-use Rattle.std.proofs.Common.{◌≡◌, ℕ, suc, length, filter}
+use Rattle.std.proofs.Common.{◌≡◌, ℕ, suc, List, length, filter, None}
 use Rattle.cst_core.specs.Path.{Path, counted_from}
+use Rattle.cst_core.specs.Element.{Address}
 use Rattle.edit_plan.specs.inner.OwnerTables.{owns_at, AreDependents, AreGivenFrom}
+use Rattle.edit_plan.specs.inner.Marks.{IsTableOf, AreMarksFrom}
 use Rattle.edit_plan.proofs.Nested.{IsLevelled}
+use Rattle.edit_plan.proofs.MarksFilled.{AreLevelled}
 use Rattle.edit_plan.proofs.given.fill_level.Given as goal
 
 abbrev pub invariant-loop-owner : goal.invariant-loop-owner
 invariant-loop-owner l = record {
-  long : length l.given.items ≡ length l.changes;
-  filled : (places : ℕ → Path) (level : ℕ) → AreDependents l.changes places l.dependents → l.owners ≡ filter (owns_at l.changes l.dependents level) (counted_from 0 (length l.changes)) → AreGivenFrom l.changes places (suc level) l.initial.given.items → IsLevelled l.changes places level l.owners l.owner-index l.given.items;
+  long : length l.given.entries.items ≡ length l.changes;
+  top : l.given.top ≡ None;
+  filled : (places : ℕ → Path) (level : ℕ) → AreDependents l.changes places l.dependents → l.owners ≡ filter (owns_at l.changes l.dependents level) (counted_from 0 (length l.changes)) → AreGivenFrom l.changes places (suc level) l.initial.given → IsLevelled l.changes places level l.owners l.owner-index l.given;
+  marks : (places : ℕ → Path) (rs : List Address) (level : ℕ) → AreDependents l.changes places l.dependents → IsTableOf rs l.index → l.owners ≡ filter (owns_at l.changes l.dependents level) (counted_from 0 (length l.changes)) → AreMarksFrom rs l.changes places (suc level) l.initial.given → AreLevelled rs l.changes places level l.owners l.owner-index l.given;
 }

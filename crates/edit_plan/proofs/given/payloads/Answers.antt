@@ -1,8 +1,24 @@
-use Rattle.std.proofs.Common.{◌≡◌, ◌∙◌, ap, map, take}
-use Rattle.edit_plan.proofs.Carried.{tables, brought_trees, table-is, take-whole}
+use Rattle.std.proofs.Common.{◌≡◌, ◌≤◌, ◌+◌, ◌∷◌, [], ◌++◌, length, arith, ap, sym, subst, ◌∙◌}
+use Rattle.std.proofs.lemmas.List.{length-append}
+use Rattle.edit_plan.proofs.MarksFilled.{AreBrought, one-brought, all-brought}
 use Rattle.edit_plan.proofs.given.payloads.Goals as goal
 
+pub loop-change-preserved : goal.loop-change-preserved
+loop-change-preserved c =
+    let xs = c.loop-change.entries.items in
+    let g = c.in_ok-brought.field-0 in
+    let more = c.in_ok-push.ensures.items in
+    record {
+      long = ap length more ∙ length-append xs (g ∷ []) ∙ ap (λ n. n + 1) c.loop-change.invariant.long;
+      brought = subst (λ ys. AreBrought c.args.index.now ys c.args.changes.now (c.loop-change.change-index + 1)) (sym more) (one-brought c.args.index.now xs g c.args.changes.now c.loop-change.change-index c.change-item.result c.loop-change.invariant.long c.loop-change-test.true c.change-item.is c.in_ok-brought.ensures.trees c.in_ok-brought.ensures.marks c.loop-change.invariant.brought);
+    }
+
 pub returns-clause-payloads : goal.returns-clause-payloads
-returns-clause-payloads c =
-    let filled : tables c.loop-change.payloads.items ≡ map brought_trees (take c.loop-change.change-index c.args.changes.now) = c.loop-change.invariant in
-    table-is c.loop-change.payloads.items c.args.changes.now (filled ∙ ap (map brought_trees) (take-whole c.loop-change.change-index c.args.changes.now c.loop-change-test.false))
+returns-clause-payloads c n =
+    let within : c.loop-change.change-index ≤ length c.args.changes.now = omega (arith, c.loop-change.auto.change-index-end) in
+    (all-brought c.args.index.now c.loop-change.entries.items c.args.changes.now c.loop-change.change-index c.loop-change.invariant.long c.loop-change-test.false within c.loop-change.invariant.brought n).trees
+
+pub returns-clause-marks : goal.returns-clause-marks
+returns-clause-marks c n =
+    let within : c.loop-change.change-index ≤ length c.args.changes.now = omega (arith, c.loop-change.auto.change-index-end) in
+    (all-brought c.args.index.now c.loop-change.entries.items c.args.changes.now c.loop-change.change-index c.loop-change.invariant.long c.loop-change-test.false within c.loop-change.invariant.brought n).marks

@@ -1,6 +1,9 @@
-use Rattle.std.proofs.Common.{◌≡◌, map, take}
-use Rattle.edit_plan.proofs.Carried.{tables, brought_trees}
+use Rattle.std.proofs.Common.{◌≡◌, length}
+use Rattle.edit_plan.proofs.MarksFilled.{AreBrought}
 use Rattle.edit_plan.proofs.given.payloads.Given as goal
 
 abbrev pub invariant-loop-change : goal.invariant-loop-change
-invariant-loop-change l = tables l.payloads.items ≡ map brought_trees (take l.change-index l.changes)
+invariant-loop-change l = record {
+  long : length l.entries.items ≡ l.change-index;
+  brought : AreBrought l.index l.entries.items l.changes l.change-index;
+}

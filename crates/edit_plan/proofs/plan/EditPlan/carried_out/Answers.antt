@@ -1,37 +1,24 @@
-use Rattle.std.proofs.Common.{◌≡◌, map, flat_map, length, sym, ◌∙◌, ap, ap₂, subst}
-use Rattle.cst_core.specs.Element.{subtree}
+use Rattle.std.proofs.Common.{◌≡◌, ◌∷◌, List, map, ap, ap₂, sym, subst, ◌∙◌}
+use Rattle.std.specs.Prelude.{All}
 use Rattle.cst_core.specs.Green.{branch_tree}
-use Rattle.rewriting.specs.inner.Aimed.{aims_of}
-use Rattle.rewriting.specs.inner.Given.{given_trees}
-use Rattle.rewriting.specs.inner.Pass.{kind_only, given_by}
-use Rattle.rewriting.specs.Rewriting.{rewritten_whole}
-use Rattle.rewriting.specs.Topmost.{topmost, AreCounted, not_given, paths_of}
-use Rattle.edit_plan.specs.inner.Marks.{annotated_path}
-use Rattle.edit_plan.specs.inner.OwnerTables.{AreDependents}
-use Rattle.edit_plan.specs.inner.PlanRun.{AreAnnotated}
-use Rattle.edit_plan.proofs.Carrying.{is_rewritten}
+use Rattle.cst_core.specs.Element.{NumbersTell}
+use Rattle.cst_core.specs.SyntaxElement.{element_of}
+use Rattle.edit_map.specs.Mapping.{followed, mapped_elements}
+use Rattle.rewriting.specs.Topmost.{paths_of}
+use Rattle.edit_plan.specs.Plan.{Plan}
+use Rattle.edit_plan.specs.inner.Marks.{annotated_path, numbered_paths, path_lists}
+use Rattle.edit_plan.specs.inner.PlanRun.{IsMade}
+use Rattle.edit_plan.proofs.ByAnnotation.{is_rewritten}
 use Rattle.edit_plan.proofs.plan.EditPlan.carried_out.Goals as goal
 
 pub returns : goal.returns
 returns c =
     let p = c.args.self.now in
-    let owned = c.in_ok-dependents.ensures.dependents in
-    let annotations = map annotated_path c.in_ok-annotated.annotated.items in
-    let same_aims = c.deref-2.ensures.value in
-    let same_given = c.deref-3.ensures.value in
-    let old : branch_tree c.in_ok-green-2.field-0 ≡ subtree p.root = c.in_ok-green-2.ensures ∙ ap (λ x. subtree x.root) c.self.view_is in
-    is_rewritten p c.in_ok-green.green (paths_of c.in_ok-changed.changed.items) annotations (record {
-      places = owned.0;
-      placed = owned.1;
-      table = c.in_ok-given.given.items;
-      table_is = c.in_ok-given.ensures owned.0 (subst (λ ds. AreDependents p.changes owned.0 ds) (sym c.deref.ensures.value) owned.2);
-      aims = aims_of c.in_ok-aims.aims.items;
-      aims_are = c.in_ok-aims.ensures;
-      tree_is = ap₂ (λ g ds. rewritten_whole kind_only (given_by g) (aims_of ds) (subtree p.root)) (sym same_given) (sym same_aims) ∙ c.in_ok-green.ensures;
-      owned = c.in_ok-dependents.dependents.items;
-      owned_are = owned.2;
-      annotated = subst (λ ds. AreAnnotated p ds annotations) c.deref-8.ensures.value c.in_ok-annotated.ensures;
-      counts = c.in_ok-counts.counts.items;
-      counts_are = c.in_ok-counts.ensures ∙ ap (map (λ g. length (given_trees g))) c.deref-4.ensures.value;
-      paths_are = λ given are. c.in_ok-changed.ensures given (subst (λ ns. AreCounted ns given) (sym c.deref-6.ensures.value) are) ∙ ap₂ (λ ds t. flat_map (topmost (λ b. b)) (rewritten_whole not_given given (aims_of ds) t)) c.deref-5.ensures.value old;
-    })
+    let m = c.self.inside.mapping in
+    let fs = c.in_ok-registered.registered.items in
+    let new = c.in_ok-green.field-0 in
+    let tree = branch_tree new.green in
+    let copies = path_lists new.copies.items in
+    let paths = paths_of new.changed.items in
+    let reached = subst (λ rs. All (λ r. NumbersTell (element_of r.0 ∷ mapped_elements m)) rs → map element_of fs ≡ map (λ r. followed m (element_of r.0)) rs) c.deref.ensures.value c.in_ok-registered.ensures.followed in
+    is_rewritten p fs tree copies paths (map annotated_path c.in_ok-annotated.annotated.items) (subst (λ es. IsMade p es tree copies paths) c.deref-2.ensures.value c.in_ok-green.ensures.made) (subst (λ (q : Plan). All (λ r. NumbersTell (element_of r.0 ∷ mapped_elements q.mapping)) q.registrations → map element_of fs ≡ map (λ r. followed q.mapping (element_of r.0)) q.registrations) c.self.view_is reached) (c.in_ok-annotated.ensures ∙ ap₂ (λ rs ls. numbered_paths (map (λ r. r.1) rs) (path_lists ls)) (c.deref-3.ensures.value ∙ ap (λ x. x.registrations) c.self.view_is) c.deref-4.ensures.value)

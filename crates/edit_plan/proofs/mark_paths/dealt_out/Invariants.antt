@@ -3,7 +3,7 @@ use Rattle.std.specs.Global.{Global}
 use Rattle.rewriting.specs.inner.Marked.{marks_of}
 use Rattle.rewriting.specs.Topmost.{paths_of}
 use Rattle.edit_plan.specs.inner.Marks.{paths_of_mark}
-use Rattle.edit_plan.proofs.copies.dealt_out.Given as goal
+use Rattle.edit_plan.proofs.mark_paths.dealt_out.Given as goal
 
 abbrev pub invariant-loop-mark : goal.invariant-loop-mark
 invariant-loop-mark l = record {

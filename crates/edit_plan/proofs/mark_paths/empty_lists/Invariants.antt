@@ -1,6 +1,6 @@
 use Rattle.std.proofs.Common.{◌≡◌, ℕ, ◌<◌, [], length, get_or, Vec}
 use Rattle.std.specs.Global.{Global}
-use Rattle.edit_plan.proofs.copies.empty_lists.Given as goal
+use Rattle.edit_plan.proofs.mark_paths.empty_lists.Given as goal
 
 abbrev pub invariant-loop : goal.invariant-loop
 invariant-loop l = record {

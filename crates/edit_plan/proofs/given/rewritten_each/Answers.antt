@@ -1,0 +1,47 @@
+use Rattle.std.proofs.Common.{◌≡◌, ◌+◌, ℕ, List, ◌∷◌, [], ◌++◌, map, take, length, ap, ap₂, sym, ◌∙◌}
+use Rattle.std.proofs.lemmas.List.{map-append, length-map}
+use Rattle.cst_core.specs.Element.{subtree}
+use Rattle.cst_core.specs.GreenElement.{element_tree, element_trees}
+use Rattle.cst_core.specs.SyntaxElement.{element_of}
+use Rattle.rewriting.specs.Rewriting.{rewritten}
+use Rattle.rewriting.specs.inner.Aimed.{aims_of}
+use Rattle.rewriting.specs.inner.Given.{given_trees}
+use Rattle.rewriting.specs.inner.Marked.{MarkTree, marked, marks_of}
+use Rattle.rewriting.specs.inner.Pass.{kind_only, given_in}
+use Rattle.edit_plan.specs.inner.Marks.{element_sought, payload_sought}
+use Rattle.edit_change.proofs.Positions.{push-of-take}
+use Rattle.edit_plan.proofs.Carried.{take-whole}
+use Rattle.edit_plan.proofs.MarksFilled.{listed}
+use Rattle.edit_plan.proofs.given.rewritten_each.Goals as goal
+
+pub loop-element-preserved : goal.loop-element-preserved
+loop-element-preserved c =
+    let es = c.args.elements.now in
+    let i : ℕ = c.loop-element.element-index in
+    let e = c.element-item.result in
+    let index = c.args.index.now in
+    let cs = aims_of c.args.aims.now in
+    let f = rewritten kind_only (given_in c.args.given.now) cs [] in
+    let more = push-of-take i es e c.loop-element-test.true c.element-item.is in
+    let elements : map element_of (take (i + 1) es) ≡ map element_of (take i es) ++ element_of e ∷ [] = ap (map element_of) more ∙ map-append element_of (take i es) (e ∷ []) in
+    record {
+      trees = ap element_trees c.in_ok-push.ensures.items ∙ map-append element_tree c.loop-element.greens.items (c.in_ok-green.green ∷ []) ∙ ap₂ (λ ts t. ts ++ t ∷ []) c.loop-element.invariant.trees c.in_ok-green.ensures.tree ∙ sym (ap (λ xs. map f (map subtree xs)) elements ∙ ap (map f) (map-append subtree (map element_of (take i es)) (element_of e ∷ [])) ∙ map-append f (map subtree (map element_of (take i es))) (subtree (element_of e) ∷ []));
+      marks = λ trees are.
+          let g = element_sought index trees cs in
+          let own = c.in_ok-green.ensures.marks trees are ∙ ap (λ ms. marks_of ms ++ marked (g (element_of e))) c.new-own.ensures.items in
+          ap (map (λ v. marks_of v.items)) c.in_ok-push-2.ensures.items ∙ map-append (λ v. marks_of v.items) c.loop-element.marks.items (_ ∷ []) ∙ ap₂ (λ xs x. xs ++ x ∷ []) (c.loop-element.invariant.marks trees are) own ∙ sym (ap (λ xs. map marked (map g xs)) elements ∙ ap (map marked) (map-append g (map element_of (take i es)) (element_of e ∷ [])) ∙ map-append marked (map g (map element_of (take i es))) (g (element_of e) ∷ []));
+    }
+
+pub returns-clause-trees : goal.returns-clause-trees
+returns-clause-trees c =
+    let whole = take-whole c.loop-element.element-index c.args.elements.now c.loop-element-test.false in
+    c.loop-element.invariant.trees ∙ ap (λ es. map (rewritten kind_only (given_in c.args.given.now) (aims_of c.args.aims.now) []) (map subtree (map element_of es))) whole
+
+pub returns-clause-marks : goal.returns-clause-marks
+returns-clause-marks c = λ trees are.
+    let whole = take-whole c.loop-element.element-index c.args.elements.now c.loop-element-test.false in
+    let es = map element_of c.args.elements.now in
+    let f = rewritten kind_only (given_in c.args.given.now) (aims_of c.args.aims.now) [] in
+    let g = element_sought c.args.index.now trees (aims_of c.args.aims.now) in
+    let made : element_trees c.loop-element.greens.items ≡ map f (map subtree es) = c.loop-element.invariant.trees ∙ ap (λ xs. map f (map subtree (map element_of xs))) whole in
+    listed _ (payload_sought c.args.index.now trees (aims_of c.args.aims.now) es) (length-map es g ∙ sym (ap length made ∙ length-map (map subtree es) f ∙ length-map es subtree)) (c.loop-element.invariant.marks trees are ∙ ap (λ xs. map marked (map g (map element_of xs))) whole)

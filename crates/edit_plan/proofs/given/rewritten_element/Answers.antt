@@ -1,0 +1,23 @@
+use Rattle.std.proofs.Common.{[], ◌++◌, List, map, ap, ap₂, sym, ◌∙◌}
+use Rattle.std.proofs.lemmas.List.{map-id}
+use Rattle.cst_core.specs.Element.{address, subtree}
+use Rattle.cst_core.specs.SyntaxElement.{element_of}
+use Rattle.cst_core.specs.GreenElement.{element_tree}
+use Rattle.rewriting.specs.Rewriting.{rewritten}
+use Rattle.rewriting.specs.inner.Aimed.{aims_of}
+use Rattle.rewriting.specs.inner.Marked.{Marking, marked, below, marks_of, sought_in, wanted}
+use Rattle.rewriting.specs.inner.Pass.{kind_only, given_in}
+use Rattle.edit_plan.specs.inner.Marks.{element_sought}
+use Rattle.edit_plan.proofs.given.rewritten_element.Goals as goal
+
+pub returns-clause-tree : goal.returns-clause-tree
+returns-clause-tree c = c.in_ok-new.ensures.tree ∙ ap (rewritten kind_only (given_in c.args.given.now) (aims_of c.args.aims.now) []) c.in_ok-old.ensures
+
+pub returns-clause-marks : goal.returns-clause-marks
+returns-clause-marks c = λ trees are.
+    let index = c.args.index.now in
+    let e = element_of c.args.element.now in
+    let cs = aims_of c.args.aims.now in
+    let own : List Marking = marked (element_sought index trees cs e) in
+    let same = ap₂ (λ ms t. marked (rewritten (wanted ms) trees cs [] t)) (ap sought_in c.deref.ensures.value ∙ c.in_ok-sought.ensures) c.in_ok-old.ensures in
+    c.in_ok-new.ensures.marks trees are ∙ ap₂ (λ p ms. marks_of c.args.found.now.items ++ map (below p) ms) c.new-path.ensures.items same ∙ ap (λ ms. marks_of c.args.found.now.items ++ ms) (map-id own)
