@@ -4,25 +4,19 @@
 --     independent-at, passed-at        whether the change at a number has no owner, from its fate; one that has is passed over
 use Rattle.std.specs.Prelude.{◌≡◌, ℕ, zero, suc, ◌+◌, ◌<◌, ◌≤◌, Bool, true, false, cond, not, ◌&&◌, List, [], ◌∷◌, ◌++◌, map, filter, filter_map, length, take, slice_get, Option, Some, None, option_map, is_none, refl}
 use Rattle.std.specs.List.{enumerate_from}
-use Rattle.std.specs.Option.{option_map_or}
-use Rattle.std.proofs.Common.{ap, ap₂, sym, subst, ◌∙◌, arith, get_or}
+use Rattle.std.proofs.Common.{ap, sym, subst, ◌∙◌, arith, get_or}
 use Rattle.std.proofs.lemmas.List.{map-append, append-nil, length-map, length-take}
 use Rattle.std.proofs.lemmas.List.Elements.{filter-append}
 use Rattle.std.proofs.lemmas.Option.{same_Some, none-some, slice_get-get_or, slice_get_within, slice_get-map, get_or_from_slice_get}
 use Rattle.std.proofs.Math.Seq.{take-suc}
 use Rattle.cst_core.specs.Path.{last_item}
-use Rattle.cst_core.specs.Tree.{SyntaxTree}
 use Rattle.cst_core.specs.Tree as tree
 use Rattle.cst_core.specs.declared.element.SyntaxElement.TheVariants.{Token}
-use Rattle.cst_core.specs.Element.{subtree}
-use Rattle.cst_core.specs.SyntaxElement.{element_of}
-use Rattle.cst_core.specs.declared.element.SyntaxElement.{SyntaxElement}
 use Rattle.rewriting.specs.Rewriting.{NumberedAim}
 use Rattle.edit_change.specs.ChangeAim.{aim}
-use Rattle.edit_change.specs.Change.{payload}
 use Rattle.edit_change.specs.inner.Fate.{by_owner, fate, is_independent_in}
 use Rattle.edit_change.specs.Nesting.{surroundings, region_at, is_dropped, is_independent}
-use Rattle.edit_plan.specs.NewTree.{aims_of, payload_of, independents}
+use Rattle.edit_plan.specs.NewTree.{aims_of, independents}
 use Rattle.edit_change.specs.declared.change.Change.{Change}
 use Rattle.edit_change.specs.declared.change.Change.TheVariants.{ReplaceWithMany}
 use Rattle.edit_change.specs.declared.fate.Fate.{Fate}

@@ -1,32 +1,27 @@
 -- From what the pass answers to what carrying a plan out promises.
 --     makes                         the edit that is put together is what the plan makes
 --     refuses                       the refusals of the new root, as those of the plan
-use Rattle.std.specs.Prelude.{◌≡◌, ℕ, ◌<◌, ◌≤◌, Bool, List, [], ◌∷◌, ◌++◌, map, flat_map, length, slice_get, Vec, Some, None, option_map, Result, Ok, Err, IfErr, refl}
+use Rattle.std.specs.Prelude.{◌≡◌, ℕ, ◌<◌, ◌≤◌, List, [], ◌∷◌, ◌++◌, map, flat_map, length, Some, Result, Ok, Err, IfErr, refl}
 use Rattle.std.specs.Result.{IsErrAnd}
-use Rattle.std.specs.Global.{Global}
-use Rattle.std.specs.Option.{option_map_or}
 use Rattle.std.proofs.Common.{ap, ap₂, sym, subst, ◌∙◌, arith}
-use Rattle.std.proofs.lemmas.List.{append-nil, length-map}
-use Rattle.std.proofs.lemmas.Option.{slice_get-map}
 use Rattle.cst_core.specs.Path.{Path}
-use Rattle.cst_core.specs.Tree.{Tree, text_length}
+use Rattle.cst_core.specs.Tree.{text_length}
 use Rattle.cst_core.specs.TreeIds.{IsSpent}
-use Rattle.cst_core.specs.Element.{NumbersTell, address, subtree}
+use Rattle.cst_core.specs.Element.{NumbersTell, address}
 use Rattle.cst_core.specs.Green.{Branch, branch_tree, length_limit}
 use Rattle.cst_core.specs.SyntaxElement.{element_of, syntax_at}
 use Rattle.cst_core.specs.TreeError.{TreeError}
 use Rattle.cst_core.specs.TreeError.TheVariants as tree
 use Rattle.edit_map.specs.Mapping.{followed}
 use Rattle.edit_plan.specs.AnnotationTable.{found_for}
-use Rattle.edit_plan.specs.Plan.{Plan, Edit, Makes, WouldMake, RunRefuses, registered}
+use Rattle.edit_plan.specs.Plan.{Plan, Edit, Makes, RunRefuses, registered}
 use Rattle.edit_plan.specs.inner.Marks.{numbered_paths}
 use Rattle.edit_plan.specs.inner.PlanRun.{IsRewritten}
 use Rattle.edit_plan.specs.EditRefusal.{of_tree}
-use Rattle.edit_plan.specs.Places.{ArePlaces, elements_held}
-use Rattle.edit_plan.specs.Results.{changed, annotated, copies_of, paths_with}
+use Rattle.edit_plan.specs.Places.{elements_held}
+use Rattle.edit_plan.specs.Results.{annotated, copies_of, paths_with}
 use Rattle.edit_plan.proofs.Told.{all-told}
 use mathlib.Core.List.{map-map}
-use Rattle.edit_plan.specs.NewTree.{OriginTree, plain, independents, given, is_free, new_tree}
 use Rattle.edit_plan.specs.declared.edit_error.EditError.TheVariants.{TooLong, NoTreeNumber}
 use Rattle.edit_plan.proofs.Filled.{text-relabelled}
 

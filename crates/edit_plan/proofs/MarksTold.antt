@@ -3,16 +3,16 @@
 --     past-number                   no registered element has a number past the last one
 --     copies-told                   the paths of any other mark are as without it
 --     changed-told                  the paths of this mark are those of changed elements
-use Rattle.std.specs.Prelude.{◌≡◌, ◌≢◌, ℕ, zero, suc, ◌+◌, ◌≤◌, ◌<◌, true, false, cond, nat_eq, List, [], ◌∷◌, ◌++◌, map, filter, flat_map, drop, length, Some, None, All, refl}
+use Rattle.std.specs.Prelude.{◌≡◌, ◌≢◌, ℕ, suc, ◌+◌, ◌≤◌, ◌<◌, cond, nat_eq, List, [], ◌∷◌, ◌++◌, map, filter, flat_map, drop, length, None, refl}
 use Rattle.std.specs.List.{AllByRecursion}
 use Rattle.std.proofs.Common.{ap, ap₂, sym, ◌∙◌, arith}
 use Rattle.std.proofs.lemmas.Bool.{eq-eqb, ne_eqb}
-use Rattle.std.proofs.lemmas.List.{map-append, length-map, append-nil}
+use Rattle.std.proofs.lemmas.List.{map-append, append-nil}
 use Rattle.std.proofs.lemmas.List.Elements.{recursion_from_All}
 use mathlib.Core.List.{map-map}
 use mathlib.Core.Path.{fun_ext}
 use Rattle.cst_core.specs.Path.{Path}
-use Rattle.cst_core.specs.Tree.{Tree, Forest, Token, Node, end, more, SyntaxTree, trees, relabelled, forest_relabelled}
+use Rattle.cst_core.specs.Tree.{Tree, Forest, Token, Node, end, more, trees, relabelled, forest_relabelled}
 use Rattle.cst_core.specs.Element.{Address, Element, address, subtree}
 use Rattle.rewriting.specs.Rewriting.{rewritten_whole}
 use Rattle.rewriting.specs.Topmost.{topmost}
@@ -24,7 +24,7 @@ use Rattle.rewriting.proofs.MarksGiven.{marked-topped}
 use Rattle.edit_change.specs.declared.change.Change.{Change}
 use Rattle.edit_plan.specs.NewTree.{OriginTree, Origin, origin, given, independents, is_free, new_tree}
 use Rattle.edit_plan.specs.Results.{changed}
-use Rattle.edit_plan.specs.inner.Sought.{sought_one, sought_from, sought_at, registered_at}
+use Rattle.edit_plan.specs.inner.Sought.{sought_from, sought_at, registered_at}
 use Rattle.edit_plan.specs.inner.Marks.{with_marks, marks_given, IsTableOf, paths_of_mark}
 use Rattle.edit_plan.specs.declared.sought.SoughtIndex.{SoughtIndex}
 use Rattle.edit_plan.proofs.Brought.{shown, alone}

@@ -4,11 +4,11 @@
 --     IsLevelled                    so far as one level is entered, with all that is deeper
 --     level-begins, level-ends      before its first owner, and behind its last one
 --     level-filled                  one owner more
-use Rattle.std.specs.Prelude.{◌≡◌, ℕ, suc, ◌+◌, ◌<◌, ◌≤◌, filter, List, [], map, length, slice_get, Vec, Option, Some, get_or}
+use Rattle.std.specs.Prelude.{◌≡◌, ℕ, suc, ◌+◌, ◌<◌, ◌≤◌, filter, List, [], map, length, slice_get, Vec, Some, get_or}
 use Rattle.std.specs.Global.{Global}
 use Rattle.std.specs.List.{AllByRecursion}
 use Rattle.std.specs.Option.{option_map_or}
-use Rattle.std.proofs.Common.{ap, sym, subst, ◌∙◌, arith}
+use Rattle.std.proofs.Common.{ap, sym, ◌∙◌, arith}
 use Rattle.std.proofs.Math.ListN.{set}
 use Rattle.std.proofs.lemmas.Option.{slice_get-get_or}
 use mathlib.Core.List.{map-map}
@@ -21,10 +21,8 @@ use Rattle.rewriting.specs.inner.Given.{given_trees}
 use Rattle.rewriting.specs.inner.Pass.{kind_only, given_in}
 use Rattle.rewriting.specs.Rewriting.{NumberedAim, numbers, rewritten}
 use Rattle.edit_change.specs.Change.{payload}
-use Rattle.edit_map.specs.Mapping.{Mapping}
 use Rattle.edit_change.specs.inner.AimFrom.{depth}
-use Rattle.edit_plan.specs.inner.OwnerTables.{depth_of, places_in, moved, dependents_in, owns_at, AreDependents, AreOwners, IsGiven, AreGiven, AreGivenFrom, IsFilled}
-use Rattle.edit_plan.specs.Places.{ArePlaces}
+use Rattle.edit_plan.specs.inner.OwnerTables.{depth_of, moved, dependents_in, owns_at, AreDependents, AreOwners, IsGiven, AreGiven, AreGivenFrom, IsFilled}
 use Rattle.edit_plan.specs.NewTree.{plain, payload_of, dependents, given}
 use Rattle.edit_change.specs.declared.change.Change.{Change}
 use Rattle.edit_plan.specs.declared.dependent.Dependent.{Dependent}

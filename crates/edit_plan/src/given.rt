@@ -39,7 +39,16 @@ fn rewritten_element(
     let sought = index.at(alloc, element)?;
     let mut path = Vec::new(alloc);
     let mut builds = 0;
-    let new = rebuild(alloc, found, &mut path, &old, aims, &sought, given, &mut builds)?;
+    let new = rebuild(
+        alloc,
+        found,
+        &mut path,
+        &old,
+        aims,
+        &sought,
+        given,
+        &mut builds,
+    )?;
     Ok(new)
 }
 
@@ -174,7 +183,14 @@ pub(crate) fn given<'a>(
     let owners = owners_by_depth(alloc, changes, dependents)?;
     let mut given = payloads(alloc, changes, index)?;
     for level in (0..owners.len()).rev() {
-        fill_level(alloc, changes, dependents, &owners[level], index, &mut given)?;
+        fill_level(
+            alloc,
+            changes,
+            dependents,
+            &owners[level],
+            index,
+            &mut given,
+        )?;
     }
     Ok(given)
 }

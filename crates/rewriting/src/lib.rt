@@ -10,6 +10,7 @@ mod lone;
 mod mark;
 mod marked_given;
 mod pass;
+
 pub use aimed::{AimForm, Aimed};
 pub use given::Given;
 pub use mark::{Mark, Sought};

@@ -168,7 +168,16 @@ pub fn rebuild(
             let inner_sought = lists[slot].as_slice();
             path.push(out.len())?;
             let child = &children[slot];
-            out.push(rebuild(alloc, found, path, child, &inner, inner_sought, given, builds)?)?;
+            out.push(rebuild(
+                alloc,
+                found,
+                path,
+                child,
+                &inner,
+                inner_sought,
+                given,
+                builds,
+            )?)?;
             path.pop();
         }
         let behind = inserted(alloc, group, slot + 1)?;
@@ -208,7 +217,9 @@ pub fn rebuild_whole(
         push_changes(alloc, &mut elements, &mut marks, &mut path, given, &changes)?;
     } else {
         path.push(0)?;
-        elements.push(rebuild(alloc, &mut marks, &mut path, element, aims, sought, given, builds)?)?;
+        elements.push(rebuild(
+            alloc, &mut marks, &mut path, element, aims, sought, given, builds,
+        )?)?;
     }
     Ok(Rebuilt { elements, marks })
 }

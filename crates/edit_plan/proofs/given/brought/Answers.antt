@@ -1,5 +1,5 @@
-use Rattle.std.proofs.Common.{◌≡◌, ℕ, [], List, map, ap, sym, subst, refl, ◌∙◌}
-use Rattle.std.specs.Prelude.{None, IfOk}
+use Rattle.std.proofs.Common.{◌≡◌, ℕ, [], List, map, ap, subst, refl, ◌∙◌}
+use Rattle.std.specs.Prelude.{None}
 use mathlib.Core.Path.{fun_ext}
 use Rattle.std.proofs.lemmas.List.{map-id}
 use Rattle.cst_core.specs.Element.{subtree}

@@ -1,6 +1,5 @@
-use Rattle.std.proofs.Common.{◌≡◌, ◌<◌, ℕ, [], map, sym, refl, ◌∙◌, ap, ap₂, subst}
+use Rattle.std.proofs.Common.{◌<◌, [], map, sym, refl, ◌∙◌, ap, ap₂, subst}
 use Rattle.cst_core.specs.Element.{subtree}
-use Rattle.cst_core.specs.SyntaxElement.{element_of}
 use Rattle.rewriting.specs.inner.Aimed.{aims_of}
 use Rattle.rewriting.specs.inner.Pass.{kind_only, IsMarked, given_in}
 use Rattle.rewriting.specs.Rewriting.{rewritten}

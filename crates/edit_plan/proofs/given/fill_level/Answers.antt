@@ -1,4 +1,4 @@
-use Rattle.std.proofs.Common.{◌≡◌, ◌<◌, ◌∙◌, refl, map, get_or, slice_get, Some, sym, ap, subst}
+use Rattle.std.proofs.Common.{◌≡◌, ◌<◌, ◌∙◌, map, get_or, slice_get, Some, sym, ap, subst}
 use Rattle.std.proofs.lemmas.Option.{slice_get-get_or}
 use Rattle.edit_plan.specs.inner.OwnerTables.{moved, dependents_in}
 use Rattle.edit_plan.proofs.Levels.{owner-at}

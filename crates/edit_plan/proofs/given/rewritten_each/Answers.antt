@@ -1,12 +1,11 @@
-use Rattle.std.proofs.Common.{◌≡◌, ◌+◌, ℕ, List, ◌∷◌, [], ◌++◌, map, take, length, ap, ap₂, sym, ◌∙◌}
+use Rattle.std.proofs.Common.{◌≡◌, ◌+◌, ℕ, ◌∷◌, [], ◌++◌, map, take, length, ap, ap₂, sym, ◌∙◌}
 use Rattle.std.proofs.lemmas.List.{map-append, length-map}
 use Rattle.cst_core.specs.Element.{subtree}
 use Rattle.cst_core.specs.GreenElement.{element_tree, element_trees}
 use Rattle.cst_core.specs.SyntaxElement.{element_of}
 use Rattle.rewriting.specs.Rewriting.{rewritten}
 use Rattle.rewriting.specs.inner.Aimed.{aims_of}
-use Rattle.rewriting.specs.inner.Given.{given_trees}
-use Rattle.rewriting.specs.inner.Marked.{MarkTree, marked, marks_of}
+use Rattle.rewriting.specs.inner.Marked.{marked, marks_of}
 use Rattle.rewriting.specs.inner.Pass.{kind_only, given_in}
 use Rattle.edit_plan.specs.inner.Marks.{element_sought, payload_sought}
 use Rattle.edit_change.proofs.Positions.{push-of-take}

@@ -1,4 +1,4 @@
-use Rattle.std.proofs.Common.{◌≡◌, ℕ, List, [], map, take, length}
+use Rattle.std.proofs.Common.{◌≡◌, ℕ, List, [], map, take}
 use Rattle.cst_core.specs.Element.{subtree}
 use Rattle.cst_core.specs.GreenElement.{element_trees}
 use Rattle.cst_core.specs.SyntaxElement.{element_of}

@@ -1,8 +1,6 @@
-use Rattle.std.proofs.Common.{[], ◌++◌, List, map, ap, ap₂, sym, ◌∙◌}
+use Rattle.std.proofs.Common.{[], ◌++◌, List, map, ap, ap₂, ◌∙◌}
 use Rattle.std.proofs.lemmas.List.{map-id}
-use Rattle.cst_core.specs.Element.{address, subtree}
 use Rattle.cst_core.specs.SyntaxElement.{element_of}
-use Rattle.cst_core.specs.GreenElement.{element_tree}
 use Rattle.rewriting.specs.Rewriting.{rewritten}
 use Rattle.rewriting.specs.inner.Aimed.{aims_of}
 use Rattle.rewriting.specs.inner.Marked.{Marking, marked, below, marks_of, sought_in, wanted}

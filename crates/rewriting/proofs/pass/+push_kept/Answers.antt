@@ -1,8 +1,6 @@
 use Rattle.std.proofs.Common.{◌≡◌, ℕ, ◌<◌, ◌≤◌, ◌+◌, List, [], ◌∷◌, ◌++◌, length, get_or, map, arith, rules, ap, ap₂, sym, refl, ◌∙◌}
 use Rattle.std.proofs.lemmas.Grind.{common_steps}
 use Rattle.std.proofs.lemmas.List.{length-map, append-nil}
-use Rattle.std.specs.Prelude.{Vec}
-use Rattle.std.specs.Global.{Global}
 use Rattle.green_tree.specs.Path.{Path}
 use Rattle.green_tree.specs.Tree.{SyntaxTree, Token, node}
 use Rattle.green_tree.specs.Green.{size}
@@ -10,7 +8,7 @@ use Rattle.green_tree.specs.GreenElement.{element_tree, element_trees}
 use Rattle.rewriting.specs.Rewriting.{rewritten}
 use Rattle.rewriting.specs.declared.mark.Sought.{Sought}
 use Rattle.rewriting.specs.inner.Marked.{MarkTree, Marking, marked, below, marks_of, sought_in, marks_at, wanted, sought_below}
-use Rattle.rewriting.proofs.Children.{tree_at, size_at, slot-kept}
+use Rattle.rewriting.proofs.Children.{tree_at, size_at}
 use Rattle.rewriting.proofs.ChildByChild.{first, step, all_shown}
 use Rattle.rewriting.proofs.Marks.{shown, shown-one, marks-none}
 use Rattle.rewriting.proofs.Marks.{are_shown}
@@ -18,7 +16,6 @@ use Rattle.rewriting.proofs.MarksKept.{marks-below, token_marks, node_marks, lis
 use Rattle.rewriting.proofs.SeenBelow.{seen-below}
 use Rattle.rewriting.proofs.Untouched.{untouched}
 use Rattle.rewriting.proofs.pass.+push_kept.Goals as goal
-
 
 unsought : (path : Path) (found : List Marking) (sought : List Sought) (t : SyntaxTree) → length sought ≡ 0 → found ≡ found ++ map (below path) (marked (rewritten (wanted (sought_in sought)) (λ c. []) [] [] t))
 unsought path found [] t h = sym (append-nil found) ∙ ap (λ ms. found ++ map (below path) ms) (sym (ap marked (untouched (λ k. []) (λ c. []) [] refl [] t) ∙ marks-none t))

@@ -1,11 +1,11 @@
 use Rattle.std.proofs.Common.{◌≡◌, ℕ, ◌<◌, ◌≤◌, ◌+◌, List, [], ◌∷◌, ◌++◌, length, get_or, map, flat_map, rules, refl, arith, ap, ap₂, sym, ◌∙◌}
 use Rattle.std.proofs.lemmas.Grind.{common_steps}
-use Rattle.std.proofs.lemmas.List.{map-append, length-map, length-append}
+use Rattle.std.proofs.lemmas.List.{map-append, length-map}
 use Rattle.green_tree.specs.Path.{Path}
 use Rattle.green_tree.specs.Tree.{SyntaxTree, Token, forest}
 use Rattle.green_tree.specs.Green.{size}
 use Rattle.green_tree.specs.GreenElement.{element_tree, element_trees}
-use Rattle.rewriting.specs.Rewriting.{gap, slot, is_replaced, replacements_at, gap_order, rewritten}
+use Rattle.rewriting.specs.Rewriting.{slot, is_replaced, replacements_at, gap_order, rewritten}
 use Rattle.rewriting.specs.inner.Aimed.{aims_of, placed, placed_below}
 use Rattle.rewriting.specs.inner.Marked.{MarkTree, Marking, marked, below, marks_of, sought_in, marks_at, wanted, sought_below}
 use Rattle.rewriting.specs.inner.Pass.{kind_only, given_in}

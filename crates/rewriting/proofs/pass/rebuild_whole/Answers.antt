@@ -1,5 +1,5 @@
 use Rattle.std.proofs.Common.{◌≡◌, ◌∷◌, [], ◌++◌, ℕ, List, cond, map, flat_map, length, arith, ap, ap₂, sym, ◌∙◌}
-use Rattle.std.proofs.lemmas.List.{append-nil, map-append, map-id}
+use Rattle.std.proofs.lemmas.List.{append-nil, map-id}
 use Rattle.green_tree.specs.Tree.{SyntaxTree}
 use Rattle.green_tree.specs.GreenElement.{element_tree, element_trees}
 use Rattle.rewriting.specs.Effort.{counted, nodes_built}

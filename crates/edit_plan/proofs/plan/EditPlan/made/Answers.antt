@@ -1,18 +1,12 @@
-use Rattle.std.proofs.Common.{◌≡◌, ℕ, List, [], ◌∷◌, map, length, Some, refl, sym, ap, ap₂, subst, ◌∙◌}
-use Rattle.std.specs.Prelude.{None}
-use Rattle.cst_core.specs.Path.{Path}
-use Rattle.cst_core.specs.Element.{subtree}
+use Rattle.std.proofs.Common.{length, Some, refl, sym, ap, subst, ◌∙◌}
 use Rattle.cst_core.specs.Green.{branch_tree}
 use Rattle.cst_core.specs.GreenElement.{element_trees}
 use Rattle.rewriting.specs.inner.Aimed.{aims_of}
-use Rattle.rewriting.specs.inner.Marked.{MarkTree, marks_of, marked_from, wanted}
-use Rattle.rewriting.specs.inner.Pass.{kind_only, AreMarkedIn, given_in}
+use Rattle.rewriting.specs.inner.Marked.{marks_of}
+use Rattle.rewriting.specs.inner.Pass.{AreMarkedIn}
 use Rattle.rewriting.specs.Topmost.{paths_of}
-use Rattle.rewriting.specs.declared.marked_given.GivenTable.{GivenTable}
-use Rattle.edit_plan.specs.NewTree.{plain, new_tree}
 use Rattle.edit_plan.specs.inner.OwnerTables.{AreDependents, AreGiven}
 use Rattle.edit_plan.specs.inner.Marks.{marks_given, paths_of_mark}
-use Rattle.edit_plan.specs.inner.PlanRun.{IsOneNode}
 use Rattle.edit_plan.specs.inner.Sought.{addresses}
 use Rattle.edit_plan.proofs.MadeOf.{is_made, is_one}
 use Rattle.edit_plan.proofs.plan.EditPlan.made.Goals as goal

@@ -1,4 +1,4 @@
-use Rattle.std.proofs.Common.{◌≡◌, ap, ap₂, ◌∙◌}
+use Rattle.std.proofs.Common.{ap, ap₂, ◌∙◌}
 use Rattle.cst_core.specs.Element.{address, subtree}
 use Rattle.rewriting.specs.inner.Aimed.{aims_of}
 use Rattle.rewriting.specs.inner.Marked.{marked_from, wanted, sought_in}
