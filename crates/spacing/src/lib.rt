@@ -3,10 +3,10 @@
 
 mod space;
 mod space_error;
+mod space_round;
 mod space_rule;
-mod spaced;
-mod whitespace;
+mod whitespace_token;
 
 pub use space_error::SpaceError;
-pub use spaced::spaced;
-pub use whitespace::whitespace;
+pub use space_round::spaced;
+pub use whitespace_token::whitespace;

@@ -5,7 +5,7 @@ ghost use Rattle.spacing.specs.inner.SpaceInCode.{space_of, with_spaces, numbers
 
 use crate::space::{Space, space_at_end, space_in_front};
 use crate::space_error::SpaceError;
-use crate::whitespace::whitespace;
+use crate::whitespace_token::whitespace;
 use cst_core::{SyntaxElement, TreeIds};
 use edit_change::Position;
 use std::alloc::{AllocError, Global};
