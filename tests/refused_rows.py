@@ -13,7 +13,7 @@ import sys
 import tempfile
 
 # Crates whose public calls take memory, with the names by which they give others again.
-CRATES = ["green_tree", "cst_core", "edit_map", "edit_change", "edit_plan", "indentation", "syntax_editor"]
+CRATES = ["green_tree", "cst_core", "edit_map", "edit_change", "edit_plan", "indentation", "change_list", "spacing", "syntax_editor"]
 SURFACE = ["cst_core", "edit_map", "edit_plan", "syntax_editor"]
 
 # What stands before each row.

@@ -1,6 +1,5 @@
 -- What a plan makes of a tree, from what its pass is told.
 --     plain-whole                   without origins, the new tree is what the pass makes
---     count-marked                  a change gives as many elements as it brings
 --     changed-whole                 the changed paths are those of what is given
 --     one-made                      where the pass makes one tree, there is one new tree
 use Rattle.std.specs.Prelude.{◌≡◌, ℕ, suc, Bool, true, List, [], ◌∷◌, ◌++◌, map, filter, flat_map, length, slice_get, Some, None, refl, false}
@@ -34,13 +33,6 @@ module _ (cs : List Change) (places : ℕ → Path) where
   pub plain-whole : (root : Element) (table : ℕ → List SyntaxTree) → ((c : ℕ) → table c ≡ map plain (given cs places c)) → map plain (new_tree cs places root) ≡ rewritten_whole kind_only table (independents cs) (subtree root)
   plain-whole root table is =
       map-rewritten_whole (λ o. o.kind) (origin (address root) None) (given cs places) (independents cs) (subtree root) ∙ ap (λ g. rewritten_whole kind_only g (independents cs) (subtree root)) (fun_ext (λ c. sym (is c)))
-
-  pub count-given : (c : ℕ) → length (given cs places c) ≡ length (payload_of cs c)
-  count-given c =
-      ap length (given_is cs places c) ∙ length-map (payload_of cs c) (λ e. rewritten (origin (address e) (Some c)) (given cs places) (dependents cs places c) [] (subtree e))
-
-  pub count-marked : (c : ℕ) → length (marked cs places c) ≡ length (given cs places c)
-  count-marked c = length-map (given cs places c) (relabelled (shown cs c))
 
   -- ---- the changed paths
   topmost-map : {L M : Type 0} (h : L → M) (test : M → Bool) (ts : List (Tree L)) → flat_map (topmost test) (map (relabelled h) ts) ≡ flat_map (topmost (λ l. test (h l))) ts

@@ -1,12 +1,12 @@
 //! Levels of indentation, of four spaces each.
-ghost use Rattle.std.specs.Prelude.{◌≡◌, ◌+◌, ◌≤◌, ◌==◌, true, Some, None, cond, replicate, length, option_map};
-ghost use Rattle.std.specs.List.{after_last};
+ghost use Rattle.std.specs.Prelude.{◌≡◌, ◌+◌, ◌≤◌, ◌==◌, true, Some, None, replicate, length, option_map};
 ghost use Rattle.std.specs.Str.{chars};
 ghost use Rattle.std.specs.Fmt.{styled_text};
 ghost use Rattle.cst_core.specs.SyntaxElement.{element_of};
 ghost use Rattle.cst_core.specs.Tree.{text};
-ghost use Rattle.indentation.specs.Level.{space, level_text, has_newline, is_newline, breaks_line, level_behind, token_level, level};
+ghost use Rattle.indentation.specs.Level.{space, level_text, has_newline, breaks_line, level_behind, token_level, level};
 ghost use Rattle.indentation.specs.LevelCalls.{ReadsLevel};
+ghost use Rattle.indentation.specs.inner.LastLine.{last_line};
 
 use crate::indent_error::IndentError;
 use cst_core::{SyntaxElement, SyntaxKind, SyntaxNode, SyntaxToken};
@@ -156,7 +156,7 @@ fn breaks_line(token: &SyntaxToken) -> bool
 
 // What stands behind the last newline of a text, if it holds one.
 pub(crate) fn last_line(text: &str) -> Option<&str>
-    ensures { option_map (λ line. line.now) result ≡ cond (has_newline text.now) (Some (after_last is_newline text.now)) None }
+    ensures { option_map (λ line. line.now) result ≡ last_line text.now }
 {
     match text.rsplit_once('\n') {
         Some((_, line)) => Some(line),

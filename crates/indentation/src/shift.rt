@@ -1,13 +1,12 @@
 //! Shared trees indented and dedented. What does not change is shared.
-ghost use Rattle.std.specs.Prelude.{◌≡◌, ◌==◌, ◌&&◌, ◌++◌, ◌∷◌, [], ◌≤◌, true, length, drop, option_map, unwrap_or, IfOk, IfErr, OnOk, string_bytes};
-ghost use Rattle.cst_core.specs.Tree as tree;
+ghost use Rattle.std.specs.Prelude.{◌≡◌, ◌==◌, ◌&&◌, ◌++◌, ◌∷◌, ◌≤◌, true, length, option_map, IfOk, IfErr, OnOk, string_bytes};
 ghost use Rattle.cst_core.specs.Tree.{text_length};
 ghost use Rattle.cst_core.specs.GreenElement.{element_tree, element_trees};
 ghost use Rattle.cst_core.specs.Green.{branch_tree, leaf_tree};
 ghost use Rattle.cst_core.specs.Kinds.{WHITESPACE};
 ghost use Rattle.indentation.specs.Level.{newline, has_newline};
 ghost use Rattle.indentation.specs.Indentation.{indented_text, dedented_line, dedented_text};
-ghost use Rattle.indentation.specs.inner.Shift.{shifted_text, shifted, ShiftRefuses};
+ghost use Rattle.indentation.specs.inner.Shift.{shifted_text, shifted, IsShifted, with_changed, with_rest, ShiftRefuses};
 
 use crate::indent_error::IndentError;
 use crate::level::{IndentLevel, last_line};
@@ -92,7 +91,7 @@ fn shifted_token(
     shift: Shift,
     token: &GreenToken,
 ) -> Result<Option<GreenElement>, IndentError>
-    ensures ok { IfOk result (λ r. unwrap_or (option_map element_tree r) (leaf_tree token.now) ≡ shifted shift (leaf_tree token.now)) }
+    ensures ok { IfOk result (λ r. IsShifted shift (leaf_tree token.now) (option_map element_tree r)) }
     ensures refused { IfErr result (ShiftRefuses (text_length (shifted shift (leaf_tree token.now)))) }
 {
     if !breaks_line(token) {
@@ -111,7 +110,7 @@ fn shifted_element(
     shift: Shift,
     element: &GreenElement,
 ) -> Result<Option<GreenElement>, IndentError>
-    ensures ok { IfOk result (λ r. unwrap_or (option_map element_tree r) (element_tree element.now) ≡ shifted shift (element_tree element.now)) }
+    ensures ok { IfOk result (λ r. IsShifted shift (element_tree element.now) (option_map element_tree r)) }
     ensures refused { IfErr result (ShiftRefuses (text_length (shifted shift (element_tree element.now)))) }
 {
     let node = match element {
@@ -139,7 +138,7 @@ fn push_changed(
     new: GreenElement,
 ) -> Result<(), AllocError>
     requires { length built.old.items ≤ length before.now }
-    ensures { OnOk result (element_trees built.new.items ≡ element_trees built.old.items ++ drop (length built.old.items) (element_trees before.now) ++ element_tree new ∷ []) }
+    ensures { OnOk result (element_trees built.new.items ≡ with_changed element_tree built.old.items before.now new) }
 {
     let kept = built.len();
     share_all(alloc, built, &before[kept..])?;
@@ -153,7 +152,7 @@ fn with_rest(
     mut built: Vec<GreenElement>,
 ) -> Result<GreenElement, AllocError>
     requires { length built.items ≤ length node.now.children }
-    ensures { IfOk result (λ e. element_tree e ≡ tree.node node.now.kind (element_trees built.items ++ drop (length built.items) node.now.children)) }
+    ensures { IfOk result (λ e. element_tree e ≡ with_rest element_tree node.now built.items) }
 {
     let children = node.children();
     let kept = built.len();

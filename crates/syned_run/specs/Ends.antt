@@ -2,6 +2,7 @@
 --     IsFrontOf                   these are the first bytes of a reader, where those are known: so many, or all where they are fewer
 --     TakesAtMost                 of a reader's bytes, where these are known, a front of at most so many as the limit was taken
 --     ReadsOn                     n bytes of a reader, at most so many as the limit, went to the end of what was there; none only at the reader's end
+--     ReadsFrom                   the same of a reader, where this tells its bytes
 use Rattle.std.specs.Prelude.{◌≡◌, ℕ, ◌≤◌, List, ◌++◌, length, take, Option, IfSome}
 use Rattle.std.specs.Io.KnownBytes.{Consumes, IsAtEnd}
 
@@ -18,3 +19,6 @@ pub record ReadsOn (left left' : Option (List ℕ)) (old new : List ℕ) (limit 
   pub count : length bytes ≡ n
   pub limited : n ≤ limit
   pub ended : n ≡ 0 → IsAtEnd left'
+
+abbrev pub ReadsFrom : {R : Type 0} → (R → Option (List ℕ)) → R → R → List ℕ → List ℕ → ℕ → ℕ → Type 0
+ReadsFrom remaining before after old new limit n = ReadsOn (remaining before) (remaining after) old new limit n

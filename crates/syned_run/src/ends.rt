@@ -1,7 +1,7 @@
 //! The ends of a run: what is read and what is written.
 ghost use Rattle.std.specs.Prelude.{ℕ, ◌≡◌, ◌+◌, ◌<◌, IfOk, OnOk, IfSome, take};
 ghost use Rattle.std.specs.Io.KnownBytes.{Appends, Consumes};
-ghost use Rattle.syned_run.specs.Ends.{IsFrontOf, ReadsOn, TakesAtMost};
+ghost use Rattle.syned_run.specs.Ends.{IsFrontOf, ReadsFrom, TakesAtMost};
 
 use std::alloc::{AllocError, Global};
 use std::io;
@@ -50,7 +50,7 @@ pub(crate) fn read_script<R: Read>(alloc: Global, reader: &mut R) -> Result<Vec<
 fn read_more<R: Read>(reader: &mut R, out: &mut Vec<u8>, limit: usize) -> Result<usize, EndFailed>
     requires { 0 < limit }
     ensures taken { TakesAtMost (R.remaining reader.old) (R.remaining reader.new) limit }
-    ensures ok { IfOk result (ReadsOn (R.remaining reader.old) (R.remaining reader.new) out.old.items out.new.items limit) }
+    ensures ok { IfOk result (ReadsFrom R.remaining reader.old reader.new out.old.items out.new.items limit) }
 {
     let mut block = [0u8; BLOCK];
     let wanted = limit.min(BLOCK);

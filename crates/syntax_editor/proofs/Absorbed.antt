@@ -12,17 +12,13 @@ use Rattle.cst_core.specs.SyntaxElement.{element_of}
 use Rattle.cst_core.specs.declared.element.SyntaxElement.{SyntaxElement}
 use Rattle.edit_change.specs.declared.change.Change.{Change}
 use Rattle.edit_change.specs.declared.change.Change.TheVariants.{Insert, InsertAll, Replace, ReplaceWithMany, ReplaceAll}
-use Rattle.syntax_editor.specs.Recording.{replacement_of, replacements_of, with_replacement, is_replace_of, taken_up, delete}
+use Rattle.change_list.specs.Recording.{replacement_of, replacements_of, with_replacement, is_replace_of, taken_up, delete}
 use Rattle.syntax_editor.specs.RecordCall.{RecordCall, Inserting, InsertingAll, Deleting, Replacing, ReplacingWithMany, DeletingAll, ReplacingAll, recorded, all_recorded}
 use Rattle.syntax_editor.specs.EditorLaws.{asked_for, all_asked_for}
-use Rattle.syntax_editor.proofs.Addresses.{same_element-left, same_element-right}
-use Rattle.syntax_editor.proofs.TakenUp.{answered, filter_map-taken, filter_map-passed}
+use Rattle.change_list.proofs.Addresses.{same_element-left, same_element-right}
+use Rattle.change_list.proofs.TakenUp.{answered, filter_map-taken, filter_map-passed, test_of}
 
 -- ---- one change for the element t, seen from the element e
-pub test_of : (b : Bool) (new : Option SyntaxElement) → is_some (cond b (Some new) None) ≡ true → b ≡ true
-test_of true new h = refl
-test_of false new h = h
-
 module _ (t e : SyntaxElement) where
   abbrev are_one : Bool
   are_one = same_element (element_of t) (element_of e)

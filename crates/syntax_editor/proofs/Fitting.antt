@@ -10,14 +10,13 @@ use Rattle.cst_core.specs.declared.element.SyntaxElement.{SyntaxElement}
 use Rattle.cst_core.specs.declared.element.SyntaxElement.TheVariants.{Node, Token}
 use Rattle.edit_change.specs.declared.change.Change.{Change}
 use Rattle.edit_change.specs.declared.change.Change.TheVariants.{Insert, InsertAll, Replace, ReplaceWithMany, ReplaceAll}
-use Rattle.syntax_editor.specs.Table.{first_fit}
-use Rattle.syntax_editor.specs.Recording.{with_replacement, is_replace_of, delete, replace}
+use Rattle.spacing.specs.Table.{first_fit}
+use Rattle.change_list.specs.Recording.{with_replacement, is_replace_of, delete, replace}
 use Rattle.edit_plan.specs.Fits.{is_native, is_native_position, is_root, is_one_node, is_range, Fits}
 use Rattle.syntax_editor.specs.RecordCall.{RecordCall, Inserting, InsertingAll, Deleting, Replacing, ReplacingWithMany, DeletingAll, ReplacingAll, recorded, refusal}
 use Rattle.syntax_editor.specs.declared.error.RecordError.TheVariants.{Foreign, BadRange, DeletesRoot, RootReplacement}
-use Rattle.syntax_editor.proofs.Addresses.{same_element-true}
-use Rattle.syntax_editor.proofs.Absorbed.{test_of}
-use Rattle.syntax_editor.proofs.TakenUp.{all-taken}
+use Rattle.change_list.proofs.Addresses.{same_element-true}
+use Rattle.change_list.proofs.TakenUp.{all-taken, test_of}
 
 -- where no line of a table fits, no test holds
 one_line : {X : Type 0} (a : Bool) (x : X) → first_fit ((a, x) ∷ []) ≡ None → a ≡ false

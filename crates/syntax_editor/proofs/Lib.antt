@@ -1,14 +1,9 @@
 mod RowEdits
 mod RowsOfRecording
 mod RowsOfSpacing
-mod Addresses
-mod TakenUp
-mod Positions
-mod Indexed
+mod ByPath
 mod Absorbed
 mod Fitting
 mod Called
-mod Openings
-mod Noted
 mod Merged
 mod Removed

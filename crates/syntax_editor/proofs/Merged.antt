@@ -4,7 +4,7 @@ use Rattle.std.proofs.Common.{ap}
 use Rattle.edit_map.specs.Mapping.{Mapping}
 use Rattle.edit_map.specs.Builder.{IsMadeOf}
 use Rattle.syntax_editor.specs.Editor.{Editor}
-use Rattle.syntax_editor.specs.Recording.{merged}
+use Rattle.change_list.specs.Recording.{merged}
 use Rattle.syntax_editor.specs.Merging.{IsMerged}
 
 -- it took over what the other one recorded, and got a factory of the mappings of both

@@ -22,13 +22,13 @@ use Rattle.cst_core.specs.declared.element.SyntaxElement.{SyntaxElement}
 use Rattle.cst_core.proofs.Children.{counted_more}
 use Rattle.edit_change.specs.declared.change.Change.{Change}
 use Rattle.edit_plan.specs.Fits.{Fits, is_native, is_root}
-use Rattle.syntax_editor.specs.Recording.{delete}
+use Rattle.change_list.specs.Recording.{delete}
 use Rattle.syntax_editor.specs.RecordCall.{Deleting, refusal}
 use Rattle.syntax_editor.specs.declared.error.RecordError.TheVariants.{Foreign, DeletesRoot}
-use Rattle.syntax_editor.specs.inner.Indexing.{delete_each_at}
+use Rattle.change_list.specs.ByPath.{delete_each_at}
 use Rattle.syntax_editor.specs.AttrsAndDocs.{is_removed, removed_slots, removed_children}
 use Rattle.syntax_editor.proofs.Fitting.{recorded_fits, native_number, no-line}
-use Rattle.syntax_editor.proofs.Indexed.{delete-by-path}
+use Rattle.syntax_editor.proofs.ByPath.{delete-by-path}
 
 -- ---- the children in slots
 module _ (e : Element) where

@@ -10,7 +10,7 @@ use Rattle.edit_change.specs.declared.change.Change.{Change}
 use Rattle.edit_change.specs.declared.change.Change.TheVariants.{Insert, InsertAll, Replace, ReplaceWithMany, ReplaceAll}
 use Rattle.edit_plan.specs.Nesting.{first_clash}
 use Rattle.edit_map.proofs.RowTrees.{token, branch, tree_L}
-use Rattle.syntax_editor.specs.Recording.{is_deleted, delete, replace, merged}
+use Rattle.change_list.specs.Recording.{is_deleted, delete, replace, merged}
 use Rattle.edit_plan.specs.Fits.{fits}
 use Rattle.syntax_editor.specs.RecordCall.{RecordCall, Inserting, Deleting, Replacing, ReplacingWithMany, DeletingAll, ReplacingAll, all_recorded, refusal}
 use Rattle.syntax_editor.specs.AttrsAndDocs.{removed_slots, remove_attrs_and_docs}

@@ -21,7 +21,7 @@ use Rattle.cst_core.specs.Kinds.{ATTR, COMMENT, DOC_COMMENT, WHITESPACE}
 use Rattle.edit_plan.specs.Fits.{is_native}
 use Rattle.edit_change.specs.declared.change.Change.{Change}
 use Rattle.syntax_editor.specs.Editor.{Editor}
-use Rattle.syntax_editor.specs.Recording.{delete}
+use Rattle.change_list.specs.Recording.{delete}
 use Rattle.syntax_editor.specs.declared.error.RecordError.{RecordError}
 use Rattle.syntax_editor.specs.declared.error.RecordError.TheVariants as record_error
 

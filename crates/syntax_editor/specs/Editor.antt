@@ -1,5 +1,6 @@
 -- Editors as contracts see them.
 --     Editor, IsEditor              the root that is edited, the changes recorded so far, the registrations (elements with annotations) and the factory's mappings; what is true of every editor
+--     editor_of                     an editor of these parts
 --     factory_code, editor_code     the code of a factory's mappings; that of an editor
 --     has_parent                    an element is not the root of its tree
 --     edited_root, new_editor       the root that a new editor edits, one of a tree of its own where it has a parent; that editor
@@ -7,7 +8,7 @@
 --     after_call, Records           what a call that records leaves behind; it was carried out
 --     Takes, RecordRefuses          nothing speaks against a call; why it is refused
 --     registered, annotated         an editor with more registrations, behind those before; each of so many elements with an annotation
---     registered_with               an editor in which these elements are registered with an annotation, too
+--     registered_with, Registers    an editor in which these elements are registered with an annotation, too; a call makes one of it
 --     plan_of, FinishRefuses        the plan of an editor; why its changes are not carried out
 use Rattle.std.specs.Prelude.{◌≡◌, ℕ, Bool, true, false, cond, List, [], ◌++◌, map, Option, None, Some, unwrap_or, All, IsTrue, refl}
 use Rattle.std.specs.Coded.{Coded, code_by, coded_ℕ, coded_list, coded_option, coded×}
@@ -33,6 +34,9 @@ pub record Editor : Type 0 where
   pub changes : List Change
   pub registrations : List (SyntaxElement × ℕ)
   pub factory : Option Mapping
+
+abbrev pub editor_of : Element → List Change → List (SyntaxElement × ℕ) → Option Mapping → Editor
+editor_of root changes registrations factory = record { root = root; changes = changes; registrations = registrations; factory = factory }
 
 -- the mappings of a factory, if it keeps some
 abbrev pub factory_code : Coded (Option Mapping)
@@ -88,6 +92,9 @@ annotated annotation es = map (λ e. (e, annotation)) es
 
 abbrev pub registered_with : ℕ → List SyntaxElement → Editor → Editor
 registered_with annotation es e = registered (annotated annotation es) e
+
+abbrev pub Registers : ℕ → List SyntaxElement → Editor → Editor → Type 0
+Registers annotation es before after = after ≡ registered_with annotation es before
 
 -- ---- finishing
 -- where the factory keeps no mappings, nothing is mapped

@@ -7,7 +7,7 @@ use Rattle.cst_core.specs.Element.{Address, Element}
 use Rattle.edit_map.specs.Mapping.{copy}
 use Rattle.syntax_editor.specs.Editor.{Editor}
 use Rattle.cst_core.specs.declared.element.SyntaxElement.{SyntaxElement}
-use Rattle.syntax_editor.specs.Recording.{are_one}
+use Rattle.change_list.specs.Recording.{are_one}
 use Rattle.syntax_editor.specs.RecordCall.{RecordCall, Inserting, InsertingAll, Deleting, Replacing, ReplacingWithMany, DeletingAll, ReplacingAll}
 
 -- ---- calls

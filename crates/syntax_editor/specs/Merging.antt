@@ -8,7 +8,7 @@ use Rattle.cst_core.specs.Element.{same_element}
 use Rattle.edit_map.specs.Mapping.{Mapping}
 use Rattle.edit_map.specs.Builder.{IsMadeOf}
 use Rattle.edit_plan.specs.Fits.{Fits}
-use Rattle.syntax_editor.specs.Recording.{merged}
+use Rattle.change_list.specs.Recording.{merged}
 use Rattle.syntax_editor.specs.Editor.{Editor}
 use Rattle.syntax_editor.specs.declared.error.MergeError.{MergeError}
 use Rattle.syntax_editor.specs.declared.error.MergeError.TheVariants.{OtherRoot, Memory}

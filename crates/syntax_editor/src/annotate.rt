@@ -1,7 +1,7 @@
 //! The calls that register elements with annotations.
 ghost use Rattle.std.specs.Prelude.{◌≡◌, [], ◌∷◌, map, IfErr, OnOk, OnErr};
 ghost use Rattle.syntax_editor.specs.declared.error.RecordError.{RecordError};
-ghost use Rattle.syntax_editor.specs.Editor.{registered_with};
+ghost use Rattle.syntax_editor.specs.Editor.{Registers};
 
 use crate::editor::SyntaxEditor;
 use crate::error::RecordError;
@@ -19,7 +19,7 @@ impl SyntaxEditor {
         element: E,
         annotation: SyntaxAnnotation,
     ) -> Result<(), RecordError>
-        ensures registered { OnOk result (self.new ≡ registered_with annotation (E.element element ∷ []) self.old) }
+        ensures registered { OnOk result (Registers annotation (E.element element ∷ []) self.old self.new) }
         ensures refused { IfErr result (λ e. e ≡ RecordError.Memory) }
         ensures unchanged { OnErr result (self.new ≡ self.old) }
     {
@@ -39,7 +39,7 @@ impl SyntaxEditor {
         elements: Vec<E>,
         annotation: SyntaxAnnotation,
     ) -> Result<(), RecordError>
-        ensures registered { OnOk result (self.new ≡ registered_with annotation (map E.element elements.items) self.old) }
+        ensures registered { OnOk result (Registers annotation (map E.element elements.items) self.old self.new) }
         ensures refused { IfErr result (λ e. e ≡ RecordError.Memory) }
         ensures unchanged { OnErr result (self.new ≡ self.old) }
     {

@@ -5,8 +5,9 @@ ghost use Rattle.cst_core.specs.Element.{subtree};
 ghost use Rattle.indentation.specs.Level.{level, is_too_deep};
 ghost use Rattle.indentation.specs.LevelCalls.{ReadsLevel};
 ghost use Rattle.indentation.specs.Indentation.{indented, dedented, reset, mapped_children};
-ghost use Rattle.indentation.specs.IndentCalls.{fresh_root, CanBeRoot, RootRefuses, ResetRefuses, MappingRefuses, next_after};
+ghost use Rattle.indentation.specs.IndentCalls.{fresh_root, CanBeRoot, RootRefuses, ResetRefuses, next_after};
 ghost use Rattle.indentation.specs.MappedAlong.{is_too_old, MapsAlong};
+ghost use Rattle.syntax_editor.specs.TypedIndents.{indented_root, dedented_root, MapsChildren, IndentRefuses};
 
 use crate::factory::SyntaxFactory;
 use cst_core::{AstNode, SyntaxNode, TreeIds};
@@ -34,7 +35,7 @@ pub trait AstNodeEdit: AstNode {
         ids: &mut TreeIds,
         level: IndentLevel,
     ) -> Result<Self, IndentError>
-        ensures ok { IfOk result (λ n. Self.syntax_node n ≡ fresh_root ids.old (indented level.0 (subtree (Self.syntax_node self.now)))) }
+        ensures ok { IfOk result (λ n. Self.syntax_node n ≡ indented_root ids.old level.0 (Self.syntax_node self.now)) }
         ensures drawn { OnOk result (ids.new ≡ ids.old + 1) }
         ensures accepted { OnOk result (CanBeRoot (indented level.0 (subtree (Self.syntax_node self.now))) ids.old) }
         ensures refused { IfErr result (RootRefuses (indented level.0 (subtree (Self.syntax_node self.now))) ids.old) }
@@ -52,7 +53,7 @@ pub trait AstNodeEdit: AstNode {
         ids: &mut TreeIds,
         level: IndentLevel,
     ) -> Result<Self, IndentError>
-        ensures ok { IfOk result (λ n. Self.syntax_node n ≡ fresh_root ids.old (dedented level.0 (subtree (Self.syntax_node self.now)))) }
+        ensures ok { IfOk result (λ n. Self.syntax_node n ≡ dedented_root ids.old level.0 (Self.syntax_node self.now)) }
         ensures drawn { OnOk result (ids.new ≡ ids.old + 1) }
         ensures accepted { OnOk result (CanBeRoot (dedented level.0 (subtree (Self.syntax_node self.now))) ids.old) }
         ensures refused { IfErr result (RootRefuses (dedented level.0 (subtree (Self.syntax_node self.now))) ids.old) }
@@ -89,12 +90,12 @@ pub trait AstNodeEdit: AstNode {
         level: IndentLevel,
         factory: &mut SyntaxFactory,
     ) -> Result<Self, IndentError>
-        ensures ok { IfOk result (λ n. Self.syntax_node n ≡ fresh_root ids.old (indented level.0 (subtree (Self.syntax_node self.now)))) }
-        ensures mapped { IfOk result (λ n. MapsAlong (mapped_children (Self.syntax_node self.now) (Self.syntax_node n)) factory.old factory.new) }
+        ensures ok { IfOk result (λ n. Self.syntax_node n ≡ indented_root ids.old level.0 (Self.syntax_node self.now)) }
+        ensures mapped { IfOk result (MapsChildren Self.syntax_node factory.old factory.new self.now) }
         ensures accepted { OnOk result (is_too_old factory.old (Self.syntax_node self.now) ids.old ≡ false) }
         ensures fits { OnOk result (CanBeRoot (indented level.0 (subtree (Self.syntax_node self.now))) ids.old) }
         ensures drawn { OnOk result (ids.new ≡ ids.old + 1) }
-        ensures refused { IfErr result (MappingRefuses (is_too_old factory.old (Self.syntax_node self.now) ids.old) (indented level.0 (subtree (Self.syntax_node self.now))) ids.old) }
+        ensures refused { IfErr result (IndentRefuses factory.old ids.old level.0 (Self.syntax_node self.now)) }
         ensures spent { IfErr result (λ e. ids.new ≡ next_after e ids.old) }
         ensures unchanged { OnErr result (factory.new ≡ factory.old) }
     {
@@ -112,12 +113,12 @@ fn indent_along(
     level: IndentLevel,
     factory: &mut SyntaxFactory,
 ) -> Result<SyntaxNode, IndentError>
-    ensures ok { IfOk result (λ n. n ≡ fresh_root ids.old (indented level.0 (subtree node.now))) }
+    ensures ok { IfOk result (λ n. n ≡ indented_root ids.old level.0 node.now) }
     ensures mapped { IfOk result (λ n. MapsAlong (mapped_children node.now n) factory.old factory.new) }
     ensures accepted { OnOk result (is_too_old factory.old node.now ids.old ≡ false) }
     ensures fits { OnOk result (CanBeRoot (indented level.0 (subtree node.now)) ids.old) }
     ensures drawn { OnOk result (ids.new ≡ ids.old + 1) }
-    ensures refused { IfErr result (MappingRefuses (is_too_old factory.old node.now ids.old) (indented level.0 (subtree node.now)) ids.old) }
+    ensures refused { IfErr result (IndentRefuses factory.old ids.old level.0 node.now) }
     ensures spent { IfErr result (λ e. ids.new ≡ next_after e ids.old) }
     ensures unchanged { OnErr result (factory.new ≡ factory.old) }
 {

@@ -6,8 +6,8 @@ ghost use Rattle.std.specs.Borrow.{sem};
 ghost use Rattle.syntax_editor.specs.Lending.{LendsFactory};
 ghost use Rattle.syntax_editor.specs.Editor.{has_parent, edited_root, new_editor, plan_of, FinishRefuses, LacksRootNumber};
 
-use crate::change_list::ChangeList;
 use crate::factory::SyntaxFactory;
+use change_list::ChangeList;
 use cst_core::{SyntaxElement, SyntaxNode, TreeError, TreeIds};
 use edit_plan::{Change, EditError, EditPlan, SyntaxAnnotation, SyntaxEdit};
 use std::alloc::Global;
@@ -27,15 +27,15 @@ pub struct SyntaxEditor {
 }
 
 impl Model for SyntaxEditor {
-    ghost use Rattle.syntax_editor.specs.Editor.{Editor, IsEditor, editor_code};
+    ghost use Rattle.syntax_editor.specs.Editor.{Editor, IsEditor, editor_of, editor_code};
 
     ghost Value = { Editor };
 
     ghost coded = { editor_code };
 
-    ghost view = { λ a. record { root = a.root; changes = a.changes; registrations = a.registrations.items; factory = a.factory } };
+    ghost view = { λ a. editor_of a.root a.changes a.registrations.items a.factory };
 
-    ghost invariant = { λ a. IsEditor (record { root = a.root; changes = a.changes; registrations = a.registrations.items; factory = a.factory }) };
+    ghost invariant = { λ a. IsEditor (editor_of a.root a.changes a.registrations.items a.factory) };
 }
 
 impl SyntaxEditor {

@@ -1,8 +1,7 @@
-ghost use Rattle.std.specs.Prelude.{◌≡◌, Some, IsSome};
-ghost use Rattle.syntax_editor.specs.RecordRefusal.{of_level, of_whitespace};
+ghost use Rattle.std.specs.Prelude.{◌≡◌};
+ghost use Rattle.syntax_editor.specs.RecordRefusal.{of_space};
 
-use cst_core::TreeError;
-use indentation::IndentError;
+use spacing::SpaceError;
 use std::alloc::AllocError;
 use thiserror::Error;
 
@@ -44,29 +43,14 @@ impl From<AllocError> for RecordError {
 }
 
 impl RecordError {
-    /// Why nothing is recorded where a level was not read.
-    pub(crate) fn of_level(error: IndentError) -> RecordError
-        requires { IsSome (of_level error) }
-        ensures { of_level error ≡ Some result }
+    /// Why nothing is recorded where new elements got no whitespace round them.
+    pub(crate) fn of_space(error: SpaceError) -> RecordError
+        ensures { result ≡ of_space error }
     {
         match error {
-            IndentError::LevelTooLarge => RecordError::LevelTooLarge,
-            IndentError::TooLong => unreachable!(),
-            IndentError::NoTreeNumber => unreachable!(),
-            IndentError::NotYounger => unreachable!(),
-            IndentError::Memory => RecordError::Memory,
-        }
-    }
-
-    /// Why nothing is recorded where a whitespace token, which is never too long, was not made.
-    pub(crate) fn of_whitespace(error: TreeError) -> RecordError
-        requires { IsSome (of_whitespace error) }
-        ensures { of_whitespace error ≡ Some result }
-    {
-        match error {
-            TreeError::TooLong => unreachable!(),
-            TreeError::NoTreeNumber => RecordError::NoTreeNumber,
-            TreeError::Memory => RecordError::Memory,
+            SpaceError::LevelTooLarge => RecordError::LevelTooLarge,
+            SpaceError::NoTreeNumber => RecordError::NoTreeNumber,
+            SpaceError::Memory => RecordError::Memory,
         }
     }
 }

@@ -7,7 +7,7 @@ ghost use Rattle.cst_core.specs.Path.{last_item};
 ghost use Rattle.cst_core.specs.Element.{Address, Element};
 ghost use Rattle.cst_core.specs.declared.element.SyntaxElement.{SyntaxElement};
 ghost use Rattle.edit_change.specs.declared.change.Change.{Change};
-ghost use Rattle.syntax_editor.specs.Recording.{replacements_of};
+ghost use Rattle.change_list.specs.Recording.{replacements_of};
 ghost use Rattle.edit_plan.specs.Fits.{Fits};
 ghost use Rattle.syntax_editor.specs.RecordCall.{RecordCall, recorded, all_recorded, refusal};
 ghost use Rattle.syntax_editor.specs.Editor.{Editor};

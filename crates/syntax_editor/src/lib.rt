@@ -4,16 +4,13 @@
 mod annotate;
 mod ast_node_edit;
 mod attrs_owner_edit;
-mod change_list;
 mod editor;
 mod error;
 mod factory;
 pub mod laws;
 mod merge;
 mod record;
-mod replace_index;
-mod space_rule;
-mod spacing;
+mod spaced_insert;
 mod typed_editor;
 
 pub use ast_node_edit::AstNodeEdit;

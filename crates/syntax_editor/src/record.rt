@@ -2,8 +2,8 @@
 ghost use Rattle.std.specs.Prelude.{◌≡◌, false, ◌&&◌, ◌||◌, not, [], ◌∷◌, ◌++◌, IfOk, IfErr, OnOk, OnErr};
 ghost use Rattle.cst_core.specs.Element.{Element};
 ghost use Rattle.edit_plan.specs.Fits.{Fits, is_native, is_root, is_one_node};
-ghost use Rattle.syntax_editor.specs.Recording.{is_deleted};
-ghost use Rattle.syntax_editor.specs.inner.Indexing.{is_replace};
+ghost use Rattle.change_list.specs.Recording.{is_deleted};
+ghost use Rattle.change_list.specs.ByPath.{is_replace};
 ghost use Rattle.syntax_editor.specs.RecordCall.{Inserting, InsertingAll, Deleting, Replacing, ReplacingWithMany, DeletingAll, ReplacingAll};
 ghost use Rattle.syntax_editor.specs.Editor.{Records, Takes, RecordRefuses};
 

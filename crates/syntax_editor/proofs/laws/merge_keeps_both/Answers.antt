@@ -2,7 +2,7 @@ use Rattle.std.specs.Prelude.{[], unwrap_or}
 use Rattle.std.proofs.Common.{ap, ◌∙◌}
 use Rattle.std.proofs.lemmas.List.Elements.{filter_map-append}
 use Rattle.edit_map.specs.Mapping.{copy}
-use Rattle.syntax_editor.specs.Recording.{replacement_of, replacements_of}
+use Rattle.change_list.specs.Recording.{replacement_of, replacements_of}
 use Rattle.syntax_editor.proofs.laws.merge_keeps_both.Goals as goal
 
 pub returns-clause-none_taken_up : goal.returns-clause-none_taken_up

@@ -3,11 +3,11 @@ use Rattle.std.proofs.lemmas.Bool.{cond-true}
 use Rattle.edit_plan.specs.Fits.{Fits, is_native, is_range, is_root}
 use Rattle.edit_change.specs.declared.change.Change.TheVariants.{ReplaceAll}
 use Rattle.syntax_editor.specs.declared.error.RecordError.TheVariants.{Foreign, BadRange, DeletesRoot}
-use Rattle.syntax_editor.specs.Recording.{are_one, delete, delete_all}
+use Rattle.change_list.specs.Recording.{are_one, delete, delete_all}
 use Rattle.syntax_editor.specs.RecordCall.{DeletingAll, refusal}
 use Rattle.syntax_editor.proofs.Fitting.{recorded_fits, native_number, both_native, no-line-of-three}
 use Rattle.syntax_editor.proofs.Called.{called}
-use Rattle.syntax_editor.proofs.Indexed.{delete-by-path}
+use Rattle.syntax_editor.proofs.ByPath.{delete-by-path}
 use Rattle.syntax_editor.proofs.editor.SyntaxEditor.delete_all.Goals as goal
 
 pub invariant_of-self-then-eq : goal.invariant_of-self-then-eq

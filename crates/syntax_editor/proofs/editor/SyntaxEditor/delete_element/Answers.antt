@@ -1,11 +1,11 @@
 use Rattle.std.proofs.Common.{◌≡◌, false, not, None, All, sym, ◌∙◌, ap, subst}
 use Rattle.edit_plan.specs.Fits.{Fits, is_native, is_root}
 use Rattle.syntax_editor.specs.declared.error.RecordError.TheVariants.{Foreign, DeletesRoot}
-use Rattle.syntax_editor.specs.Recording.{delete}
+use Rattle.change_list.specs.Recording.{delete}
 use Rattle.syntax_editor.specs.RecordCall.{Deleting, refusal}
 use Rattle.syntax_editor.proofs.Fitting.{recorded_fits, native_number, no-line}
 use Rattle.syntax_editor.proofs.Called.{called}
-use Rattle.syntax_editor.proofs.Indexed.{delete-by-path}
+use Rattle.syntax_editor.proofs.ByPath.{delete-by-path}
 use Rattle.syntax_editor.proofs.editor.SyntaxEditor.delete_element.Goals as goal
 
 pub invariant_of-self-2 : goal.invariant_of-self-2

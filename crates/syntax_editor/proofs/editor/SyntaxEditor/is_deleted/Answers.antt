@@ -3,9 +3,9 @@ use Rattle.std.proofs.lemmas.Bool.{ne_eqb}
 use Rattle.std.specs.Prelude.{is_none}
 use Rattle.std.specs.List.{list_any}
 use Rattle.cst_core.specs.SyntaxElement.{element_of}
-use Rattle.syntax_editor.specs.Recording.{is_deleted}
-use Rattle.syntax_editor.specs.inner.Indexing.{replacements_at}
-use Rattle.syntax_editor.proofs.Indexed.{deleted-by-path, deleted-elsewhere}
+use Rattle.change_list.specs.Recording.{is_deleted}
+use Rattle.change_list.specs.ByPath.{replacements_at}
+use Rattle.syntax_editor.proofs.ByPath.{deleted-by-path, deleted-elsewhere}
 use Rattle.syntax_editor.proofs.editor.SyntaxEditor.is_deleted.Goals as goal
 
 pub returns-then-tree : goal.returns-then-tree

@@ -2,11 +2,11 @@ use Rattle.std.proofs.Common.{◌≡◌, false, not, ◌&&◌, [], ◌∷◌, No
 use Rattle.std.proofs.lemmas.Bool.{and_left, and_right}
 use Rattle.edit_plan.specs.Fits.{Fits, is_native, is_root, is_one_node}
 use Rattle.syntax_editor.specs.declared.error.RecordError.TheVariants.{Foreign, RootReplacement}
-use Rattle.syntax_editor.specs.Recording.{replace}
+use Rattle.change_list.specs.Recording.{replace}
 use Rattle.syntax_editor.specs.RecordCall.{Replacing, refusal}
 use Rattle.syntax_editor.proofs.Fitting.{recorded_fits, native_number, no-line}
 use Rattle.syntax_editor.proofs.Called.{called}
-use Rattle.syntax_editor.proofs.Indexed.{replace-by-path}
+use Rattle.syntax_editor.proofs.ByPath.{replace-by-path}
 use Rattle.syntax_editor.proofs.editor.SyntaxEditor.replace_element.Goals as goal
 use Rattle.syntax_editor.proofs.editor.SyntaxEditor.replace_element.Goals.{else-is_root-via-then-is_root+else-not-is_node, else-is_root-via-else-is_root}
 

@@ -1,0 +1,5 @@
+pub mod Addresses
+pub mod TakenUp
+pub mod Positions
+mod Indexed
+mod Noted

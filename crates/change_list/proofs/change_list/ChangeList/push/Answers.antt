@@ -1,0 +1,8 @@
+use Rattle.std.proofs.Common.{sym, ◌∙◌, ap}
+use Rattle.change_list.specs.inner.Indexing.{replaced_at}
+use Rattle.change_list.proofs.Indexed.{said-pushed}
+use Rattle.change_list.proofs.change_list.ChangeList.push.Goals as goal
+
+pub invariant_of-self-2 : goal.invariant_of-self-2
+invariant_of-self-2 c =
+    λ p. c.self.invariant p ∙ sym (said-pushed c.self.inside.changes.items c.args.change c.requires p) ∙ ap (replaced_at p) (sym c.in_ok-push.ensures.items)

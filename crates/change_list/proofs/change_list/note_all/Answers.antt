@@ -1,0 +1,18 @@
+use Rattle.std.proofs.Common.{◌≡◌, ◌++◌, ◌+◌, ◌∷◌, [], length, take, ap, sym, subst, ◌∙◌, arith, append_assoc, length-append}
+use Rattle.std.proofs.lemmas.List.{take_more, length-take}
+use Rattle.change_list.specs.inner.Indexing.{Agrees}
+use Rattle.change_list.proofs.change_list.note_all.Goals as goal
+
+pub loop-change-preserved : goal.loop-change-preserved
+loop-change-preserved c =
+    let xs = c.args.changes.now in
+    let i = c.loop-change.change-index in
+    let more : take (i + 1) xs ≡ take i xs ++ c.change-item.result ∷ [] = take_more xs i c.change-item.result c.loop-change-test.true ∙ ap (λ x. take i xs ++ x ∷ []) (sym c.change-item.is) in
+    record {
+      place = omega (arith, c.loop-change.invariant.place);
+      agrees = λ cs long start.
+          let before = c.loop-change.invariant.agrees cs long start in
+          let so_many : length (cs ++ take i xs) ≡ c.loop-change.place = length-append cs (take i xs) ∙ omega (arith, long, length-take i xs, c.loop-change.invariant.place, c.loop-change-test.true) in
+          let noted = c.in_ok-note.ensures (cs ++ take i xs) so_many before in
+          subst (Agrees c.note.new.index) (append_assoc cs (take i xs) (c.change-item.result ∷ []) ∙ ap (λ ys. cs ++ ys) (sym more)) noted;
+    }

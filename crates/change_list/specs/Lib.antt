@@ -1,0 +1,3 @@
+pub mod Recording
+pub mod ByPath
+pub mod inner

@@ -1,0 +1,7 @@
+//! The changes that were recorded of one tree, in order, with an index of those that replace one element.
+#![tactic(auto)]
+
+mod change_list;
+mod replace_index;
+
+pub use change_list::ChangeList;

@@ -1,0 +1,2 @@
+mod RowsOfSpaces
+mod Openings

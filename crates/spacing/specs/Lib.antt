@@ -1,0 +1,4 @@
+pub mod Table
+pub mod Spacing
+pub mod SpacedRefusal
+pub mod inner

@@ -1,0 +1,59 @@
+-- What the calls that find the whitespace round new elements, and make its tokens, answer.
+--     space_of                    whitespace as code has it
+--     DeepOrMemory, FindsLevel    a level is too deep or memory was refused; a level that is found, or why it is not
+--     FindsSpace                  whitespace that is found, or why it is not
+--     IsRound, RoundRefuses       the whitespace on both sides, where no level is too deep; why it is not found
+--     with_spaces                 new elements between two whitespaces
+--     numbers_of, NumbersRefuse   how many numbers whitespace needs; so many are not there
+use Rattle.std.specs.Prelude.{◌≡◌, ◌<◌, ◌+◌, ℕ, true, false, List, ◌++◌, length, Result, Ok, Err}
+use Rattle.cst_core.specs.declared.element.SyntaxElement.{SyntaxElement}
+use Rattle.edit_change.specs.declared.position.Position.{Position}
+use Rattle.indentation.specs.Level.{is_too_deep}
+use Rattle.indentation.specs.declared.level.IndentLevel.{IndentLevel}
+use Rattle.spacing.specs.declared.space.Space as code
+use Rattle.spacing.specs.declared.space.Space.TheVariants as code_space
+use Rattle.spacing.specs.declared.space_error.SpaceError.{SpaceError}
+use Rattle.spacing.specs.declared.space_error.SpaceError.TheVariants.{LevelTooLarge, NoTreeNumber, Memory}
+use Rattle.spacing.specs.Spacing.{Space, NoSpace, OneSpace, NewLine, is_deep, space_elements, space_in_front, space_at_end, is_deep_round}
+
+abbrev pub space_of : code.Space → Space
+space_of code_space.Nothing = NoSpace
+space_of code_space.OneSpace = OneSpace
+space_of (code_space.NewLine level) = NewLine level.0
+
+-- only want of memory and a level that is too deep keep it from being found
+abbrev pub DeepOrMemory : Type 0 → SpaceError → Type 0
+DeepOrMemory deep LevelTooLarge = deep
+DeepOrMemory deep NoTreeNumber = ⊥
+DeepOrMemory deep Memory = Unit {0}
+
+abbrev pub FindsLevel : ℕ → Result IndentLevel SpaceError → Type 0
+FindsLevel level (Ok l) = (is_too_deep level ≡ false) × (l.0 ≡ level)
+FindsLevel level (Err e) = DeepOrMemory (is_too_deep level ≡ true) e
+
+abbrev pub FindsSpace : Space → Result code.Space SpaceError → Type 0
+FindsSpace space (Ok s) = (is_deep space ≡ false) × (space_of s ≡ space)
+FindsSpace space (Err e) = DeepOrMemory (is_deep space ≡ true) e
+
+pub record IsRound (at : Position) (es : List SyntaxElement) (spaces : code.Space × code.Space) : Type 0 where
+  pub shallow : is_deep_round at es ≡ false
+  pub front : space_of spaces.0 ≡ space_in_front at es
+  pub end : space_of spaces.1 ≡ space_at_end at es
+
+abbrev pub RoundRefuses : Position → List SyntaxElement → SpaceError → Type 0
+RoundRefuses at es e = DeepOrMemory (is_deep_round at es ≡ true) e
+
+-- new elements between these two, whose tokens have the tree numbers from this one on; and how many numbers these are
+abbrev pub with_spaces : ℕ → Space → List SyntaxElement → Space → List SyntaxElement
+with_spaces number front es end =
+    let first = space_elements number front in
+    first ++ es ++ space_elements (number + length first) end
+
+abbrev pub numbers_of : Space → ℕ
+numbers_of space = length (space_elements 0 space)
+
+-- so many numbers are not there
+abbrev pub NumbersRefuse : ℕ → ℕ → SpaceError → Type 0
+NumbersRefuse number needed LevelTooLarge = ⊥
+NumbersRefuse number needed NoTreeNumber = 18446744073709551615 < number + needed
+NumbersRefuse number needed Memory = Unit {0}

@@ -1,5 +1,0 @@
-use Rattle.syntax_editor.proofs.Indexed.{path-updated}
-use Rattle.syntax_editor.proofs.replace_index.ReplaceIndex.insert.Goals as goal
-
-pub returns-clause-ok : goal.returns-clause-ok
-returns-clause-ok c = path-updated c.args.self.now.places c.insert.new.self _ (λ k. k.items) c.args.path.items c.in_ok-insert.ensures.updates
