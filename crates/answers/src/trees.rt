@@ -2,7 +2,7 @@ use crate::long::{at_level, blank, filled, many};
 use crate::words::Words;
 use anyhow::{Context, Result};
 use cst_core::{GreenNode, SyntaxElement, SyntaxNode, SyntaxToken, TreeIds};
-use row_trees::{green, p_file, row};
+use test_trees::{green, p_file, row};
 use std::alloc::{AllocError, Global};
 
 /// The tree that a text says: `P`, the name of a row tree, an expression, `long BYTES TREE`, `deep LEVEL TREE`,

@@ -11,7 +11,7 @@ use crate::ask_values::{self, ValueQuestion};
 use crate::ask_views;
 use crate::trees::Trees;
 use cst_core::TreeError;
-use row_trees::RowError;
+use test_trees::RowError;
 use std::alloc::{AllocError, Global};
 use thiserror::Error;
 

@@ -3,7 +3,7 @@
 use crate::answer::NoAnswer;
 use crate::question::find_named;
 use cst_core::TreeError;
-use row_trees::RowError;
+use test_trees::RowError;
 use std::alloc::{AllocError, Global};
 
 #[derive(Clone, Copy)]

@@ -6,7 +6,7 @@ use crate::question::{find_named, words};
 use crate::shown::{agreed, green_facts, quoted, text_of, unquoted, word};
 use crate::trees::{Trees, slot, slots};
 use cst_core::{GreenElement, GreenElementRef, GreenNode, GreenToken, SyntaxKind};
-use row_trees::{RowError, green, row};
+use test_trees::{RowError, green, row};
 use std::alloc::Global;
 
 #[derive(Clone, Copy)]

@@ -5,7 +5,7 @@ use crate::question::{find_named, words};
 use crate::shown::{number_or_error, number_or_none};
 use crate::trees::{Trees, halves, slot, whole_number};
 use cst_core::{GreenNode, LENGTH_LIMIT, SyntaxKind, SyntaxNode, TreeError, TreeIds};
-use row_trees::p;
+use test_trees::p;
 use std::alloc::Global;
 
 #[derive(Clone, Copy)]

@@ -5,7 +5,7 @@ use cst_core::{
     GreenElement, GreenNode, GreenToken, SyntaxElement, SyntaxKind, SyntaxNode, SyntaxToken,
     TreeIds,
 };
-use row_trees::{green, p, p_file, row};
+use test_trees::{green, p, p_file, row};
 use std::alloc::Global;
 
 #[derive(Drop)]

@@ -3,7 +3,7 @@
 #![tactic(auto)]
 
 use anyhow::Result;
-use model::{Answers, answers_to};
+use test_model::{Answers, answers_to};
 use std::alloc::Global;
 use std::io::read_to_string;
 use std::process::ExitCode;

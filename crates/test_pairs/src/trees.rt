@@ -1,6 +1,6 @@
 use anyhow::{Context, Result};
 use cst_core::{SyntaxElement, SyntaxNode, TreeIds};
-use row_trees::{green, row};
+use test_trees::{green, row};
 use std::alloc::Global;
 use syntax_editor::{SyntaxMapping, SyntaxMappingBuilder};
 

@@ -3,7 +3,7 @@ use crate::single::Single;
 use crate::trees::Trees;
 use anyhow::{Context, Result};
 use cst_core::{SyntaxNode, TreeIds};
-use model::{Answers, answers_to};
+use test_model::{Answers, answers_to};
 use std::alloc::Global;
 use syntax_editor::{SyntaxEditor, SyntaxMapping};
 

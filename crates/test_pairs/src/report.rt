@@ -1,5 +1,5 @@
 use anyhow::Result;
-use model::{Answer, Answers};
+use test_model::{Answer, Answers};
 
 /// How many pairs were tried, how many of them are refused and why, and on how many the answers differ.
 #[derive(Drop)]

@@ -1,6 +1,6 @@
 use Rattle.std.proofs.Common.{arith}
 use Rattle.green_tree.proofs.Slots.{size_at}
-use Rattle.model.proofs.rewriter.Rewriter.+push_node.Goals as goal
+use Rattle.test_model.proofs.rewriter.Rewriter.+push_node.Goals as goal
 
 pub push_node-requires : goal.push_node-requires
 push_node-requires t c =
