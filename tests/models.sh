@@ -6,7 +6,7 @@ cd "$(dirname "$0")/.."
 # The gate leaves the program where `rt run` would make it; it is made where it is not there, or older than a source.
 program=crates/test_models/out/test_models
 if [ ! -x "$program" ] || [ -n "$(find crates -name out -prune -o -type f -newer "$program" -print -quit)" ]; then
-    (cd crates/models && rt run) <crates/test_models/stdin >/dev/null 2>&1 || [ -x "$program" ]
+    (cd crates/test_models && rt run) <crates/test_models/stdin >/dev/null 2>&1 || [ -x "$program" ]
 fi
 
 out=$(mktemp)

@@ -29,3 +29,19 @@ fn twice(alloc: Global, tree: GreenElement) -> Result<GreenElement, RowError> {
     children.push(tree)?;
     Ok(GreenElement::Node(GreenNode::new(alloc, SyntaxKind::LITERAL, children)?))
 }
+
+/// P_31 this many times.
+pub fn halves(alloc: Global, count: usize) -> Result<Vec<GreenElement>, RowError> {
+    let half = p(alloc, 31)?;
+    let mut all = Vec::new(alloc);
+    for _ in 0..count {
+        all.push(half.share(alloc)?)?;
+    }
+    Ok(all)
+}
+
+/// A LITERAL that holds P_31 this many times, whatever its length.
+pub fn capped_halves(alloc: Global, count: usize) -> Result<GreenNode, RowError> {
+    let children = halves(alloc, count)?;
+    Ok(GreenNode::capped(alloc, SyntaxKind::LITERAL, children)?)
+}

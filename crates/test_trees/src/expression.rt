@@ -28,6 +28,17 @@ pub enum RowError {
     Memory(#[from(alloc)] AllocError),
 }
 
+impl RowError {
+    /// Whether memory was refused.
+    pub fn is_memory(&self) -> bool {
+        match self {
+            RowError::Memory(_) => true,
+            RowError::Tree(error) => *error == TreeError::Memory,
+            _ => false,
+        }
+    }
+}
+
 impl From<ExpressionError> for RowError {
     fn from(error: ExpressionError) -> RowError {
         match error {

@@ -1,12 +1,21 @@
-//! Helpers for the tests of other crates: trees that are read from an expression, and the trees that their rows name.
+//! What rows of tests are written in: trees by name and by expression, words, and what is answered.
 //!
 //! What the calls give is looked at by tests alone, so they have no contracts.
 #![tactic(auto)]
 
 mod doubling;
 mod expression;
+mod long;
+mod no_answer;
 mod rows;
+mod shown;
+mod trees;
+mod words;
 
-pub use doubling::{p, p_file};
+pub use doubling::{halves, p};
 pub use expression::RowError;
+pub use no_answer::NoAnswer;
 pub use rows::{green, row};
+pub use shown::{number, push_path, push_quoted, quoted, word};
+pub use trees::{Trees, element_below, read_tree};
+pub use words::{Words, find_named, first_word, name_and_path, number_of, slots_of};

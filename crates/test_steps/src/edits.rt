@@ -1,0 +1,96 @@
+//! What edits give: their roots, changed and annotated elements, and nodes that are found again.
+
+use crate::answers::{given, memory, none, paths_of, refused, text_of};
+use crate::making::annotation;
+use crate::session::Session;
+use cst_core::SyntaxNode;
+use std::alloc::Global;
+use syntax_editor::{EditError, SyntaxEdit};
+use test_trees::{NoAnswer, Words, find_named, push_path};
+
+#[derive(Clone, Copy)]
+pub enum EditStep {
+    OldText,
+    NewText,
+    Changed,
+    Annotated,
+    FindElement,
+}
+
+const NAMES: [(&str, EditStep); 5] = [
+    ("old_text", EditStep::OldText),
+    ("new_text", EditStep::NewText),
+    ("changed", EditStep::Changed),
+    ("annotated", EditStep::Annotated),
+    ("find_element", EditStep::FindElement),
+];
+
+impl EditStep {
+    pub fn from_name(name: &str) -> Option<EditStep> {
+        find_named(&NAMES, name).copied()
+    }
+}
+
+pub fn answer(
+    alloc: Global,
+    session: &mut Session,
+    step: EditStep,
+    words: &mut Words,
+) -> Result<String, NoAnswer> {
+    match step {
+        EditStep::OldText => text_of(alloc, last(session)?.old_root()),
+        EditStep::NewText => text_of(alloc, last(session)?.new_root()),
+        EditStep::Changed => paths_of(alloc, last(session)?.changed_elements()),
+        EditStep::Annotated => annotated(alloc, session, words),
+        EditStep::FindElement => find_element(alloc, session, words),
+    }
+}
+
+fn last(session: &Session) -> Result<&SyntaxEdit, NoAnswer> {
+    session
+        .edits
+        .last()
+        .ok_or(NoAnswer::Missing("no edit was made"))
+}
+
+/// Keeps an edit, and answers its new root.
+pub fn keep_edit(
+    alloc: Global,
+    session: &mut Session,
+    edit: Result<SyntaxEdit, EditError>,
+) -> Result<String, NoAnswer> {
+    match edit {
+        Ok(edit) => {
+            let answer = given(alloc, edit.new_root())?;
+            session.edits.push(edit)?;
+            Ok(answer)
+        }
+        Err(refusal) => refused(alloc, refusal),
+    }
+}
+
+// The elements of the annotation of the next word, or of the first one.
+fn annotated(alloc: Global, session: &Session, words: &mut Words) -> Result<String, NoAnswer> {
+    let annotation = annotation(words.next().unwrap_or("1"))?;
+    paths_of(alloc, last(session)?.find_annotation(annotation))
+}
+
+fn find_element(
+    alloc: Global,
+    session: &mut Session,
+    words: &mut Words,
+) -> Result<String, NoAnswer> {
+    let old = session.trees.node(alloc, words.word()?)?;
+    match last(session)?.find_element(alloc, &old) {
+        Ok(Some(node)) => with_path(alloc, &node),
+        Ok(None) => none(alloc),
+        Err(_) => memory(alloc),
+    }
+}
+
+fn with_path(alloc: Global, node: &SyntaxNode) -> Result<String, NoAnswer> {
+    let mut answer = given(alloc, node)?;
+    answer.push_str(" at ")?;
+    push_path(&mut answer, node.slots())?;
+    Ok(answer)
+}

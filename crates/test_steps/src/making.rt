@@ -1,0 +1,248 @@
+//! Trees, numbers, annotations and positions.
+
+use crate::answers::{counted, counted_or_none, made, memory, ok, refused, some};
+use crate::session::Session;
+use cst_core::{GreenElement, GreenNode, SyntaxElement, SyntaxKind, SyntaxNode, TreeIds};
+use std::alloc::{AllocError, Global};
+use syntax_editor::{Annotations, Element, Position, SyntaxAnnotation};
+use test_trees::{NoAnswer, Words, find_named, number, number_of, push_quoted, read_tree};
+
+#[derive(Clone, Copy)]
+pub enum MakingStep {
+    Tree,
+    Numbers,
+    NewRoot,
+    CloneSubtree,
+    GreenNode,
+    Capped,
+    SpliceChildren,
+    Next,
+    Peek,
+    Annotations,
+    Before,
+    After,
+    First,
+    Last,
+    SyntaxElement,
+}
+
+const NAMES: [(&str, MakingStep); 15] = [
+    ("tree", MakingStep::Tree),
+    ("numbers", MakingStep::Numbers),
+    ("new_root", MakingStep::NewRoot),
+    ("clone_subtree", MakingStep::CloneSubtree),
+    ("green_node", MakingStep::GreenNode),
+    ("capped", MakingStep::Capped),
+    ("splice_children", MakingStep::SpliceChildren),
+    ("next", MakingStep::Next),
+    ("peek", MakingStep::Peek),
+    ("annotations", MakingStep::Annotations),
+    ("before", MakingStep::Before),
+    ("after", MakingStep::After),
+    ("first", MakingStep::First),
+    ("last", MakingStep::Last),
+    ("syntax_element", MakingStep::SyntaxElement),
+];
+
+impl MakingStep {
+    pub fn from_name(name: &str) -> Option<MakingStep> {
+        find_named(&NAMES, name).copied()
+    }
+}
+
+pub fn answer(
+    alloc: Global,
+    session: &mut Session,
+    step: MakingStep,
+    words: &mut Words,
+) -> Result<String, NoAnswer> {
+    match step {
+        MakingStep::Tree => tree(alloc, session, words),
+        MakingStep::Numbers => numbers(alloc, session, words),
+        MakingStep::NewRoot => new_root(alloc, session, words),
+        MakingStep::CloneSubtree => clone_subtree(alloc, session, words),
+        MakingStep::GreenNode => green_node(alloc, words),
+        MakingStep::Capped => capped(alloc, words),
+        MakingStep::SpliceChildren => splice_children(alloc, words),
+        MakingStep::Next => counted_or_none(alloc, session.ids.next()),
+        MakingStep::Peek => peek(alloc, session),
+        MakingStep::Annotations => annotations(alloc, words),
+        MakingStep::Before => before(alloc, session, words),
+        MakingStep::After => after(alloc, session, words),
+        MakingStep::First => first(alloc, session, words),
+        MakingStep::Last => last(alloc, session, words),
+        MakingStep::SyntaxElement => syntax_element(alloc, session, words),
+    }
+}
+
+fn tree(alloc: Global, session: &mut Session, words: &mut Words) -> Result<String, NoAnswer> {
+    let name = words.word()?;
+    let green = read_tree(alloc, words.take_rest())?;
+    let root = SyntaxNode::new_root(alloc, &mut session.ids, green)?;
+    session.trees.add(alloc, name, root)?;
+    ok(alloc)
+}
+
+// A new source of numbers, from this number on, or a spent one.
+fn numbers(alloc: Global, session: &mut Session, words: &mut Words) -> Result<String, NoAnswer> {
+    session.ids = match words.word()? {
+        "spent" => TreeIds::new(u64::MAX),
+        digits => TreeIds::new(number_of(digits)?),
+    };
+    ok(alloc)
+}
+
+fn new_root(alloc: Global, session: &mut Session, words: &mut Words) -> Result<String, NoAnswer> {
+    let green = read_tree(alloc, words.take_rest())?;
+    made(alloc, SyntaxNode::new_root(alloc, &mut session.ids, green))
+}
+
+fn clone_subtree(
+    alloc: Global,
+    session: &mut Session,
+    words: &mut Words,
+) -> Result<String, NoAnswer> {
+    let node = session.trees.node(alloc, words.word()?)?;
+    made(alloc, node.clone_subtree(alloc, &mut session.ids))
+}
+
+// The trees that the words name.
+fn greens(alloc: Global, words: &mut Words) -> Result<Vec<GreenElement>, NoAnswer> {
+    let mut all = Vec::new(alloc);
+    for word in words.take_rest().split(' ').filter(|word| !word.is_empty()) {
+        all.push(GreenElement::Node(read_tree(alloc, word)?))?;
+    }
+    Ok(all)
+}
+
+fn green_node(alloc: Global, words: &mut Words) -> Result<String, NoAnswer> {
+    let children = greens(alloc, words)?;
+    match GreenNode::new(alloc, SyntaxKind::SOURCE_FILE, children) {
+        Ok(node) => counted(alloc, node.length()),
+        Err(refusal) => refused(alloc, refusal),
+    }
+}
+
+fn capped(alloc: Global, words: &mut Words) -> Result<String, NoAnswer> {
+    let children = greens(alloc, words)?;
+    shared(
+        alloc,
+        GreenNode::capped(alloc, SyntaxKind::SOURCE_FILE, children),
+    )
+}
+
+// The length of a shared tree.
+fn shared(alloc: Global, called: Result<GreenNode, AllocError>) -> Result<String, NoAnswer> {
+    match called {
+        Ok(node) => counted(alloc, node.length()),
+        Err(_) => memory(alloc),
+    }
+}
+
+// The other trees stand before the children of the first one.
+fn splice_children(alloc: Global, words: &mut Words) -> Result<String, NoAnswer> {
+    let node = read_tree(alloc, words.word()?)?;
+    let new = greens(alloc, words)?;
+    shared(alloc, node.splice_children(alloc, 0, 0, new))
+}
+
+// The number that comes next.
+fn peek(alloc: Global, session: &Session) -> Result<String, NoAnswer> {
+    match session.ids.peek() {
+        Some(next) => number(alloc, next),
+        None => some(alloc, false),
+    }
+}
+
+/// The annotation with this number.
+pub fn annotation(digits: &str) -> Result<SyntaxAnnotation, NoAnswer> {
+    let number = digits.parse::<u32>().ok().ok_or(NoAnswer::Arguments)?;
+    Annotations::new(number).next().ok_or(NoAnswer::Arguments)
+}
+
+// Whether the calls of a source that begins at the first number give the annotations of the others, each above the one before.
+fn annotations(alloc: Global, words: &mut Words) -> Result<String, NoAnswer> {
+    let first = words
+        .word()?
+        .parse::<u32>()
+        .ok()
+        .ok_or(NoAnswer::Arguments)?;
+    let mut source = Annotations::new(first);
+    let mut before = None;
+    for word in words.take_rest().split(' ') {
+        let given = source.next();
+        if !is_wanted(before, given, word)? {
+            return some(alloc, false);
+        }
+        before = given;
+    }
+    ok(alloc)
+}
+
+fn is_wanted(
+    before: Option<SyntaxAnnotation>,
+    given: Option<SyntaxAnnotation>,
+    wanted: &str,
+) -> Result<bool, NoAnswer> {
+    if wanted == "none" {
+        return Ok(given.is_none());
+    }
+    Ok(given == Some(annotation(wanted)?) && before < given)
+}
+
+fn before(alloc: Global, session: &mut Session, words: &mut Words) -> Result<String, NoAnswer> {
+    let element = session.trees.element(alloc, words.word()?)?;
+    gap(alloc, Position::before(alloc, element))
+}
+
+fn after(alloc: Global, session: &mut Session, words: &mut Words) -> Result<String, NoAnswer> {
+    let element = session.trees.element(alloc, words.word()?)?;
+    gap(alloc, Position::after(alloc, &element))
+}
+
+fn gap(alloc: Global, called: Result<Option<Position>, AllocError>) -> Result<String, NoAnswer> {
+    match called {
+        Ok(position) => some(alloc, position.is_some()),
+        Err(_) => memory(alloc),
+    }
+}
+
+fn first(alloc: Global, session: &mut Session, words: &mut Words) -> Result<String, NoAnswer> {
+    let node = session.trees.node(alloc, words.word()?)?;
+    gap_in(alloc, Position::first_child_of(alloc, &node))
+}
+
+fn last(alloc: Global, session: &mut Session, words: &mut Words) -> Result<String, NoAnswer> {
+    let node = session.trees.node(alloc, words.word()?)?;
+    gap_in(alloc, Position::last_child_of(alloc, &node))
+}
+
+fn gap_in(alloc: Global, called: Result<Position, AllocError>) -> Result<String, NoAnswer> {
+    match called {
+        Ok(_) => ok(alloc),
+        Err(_) => memory(alloc),
+    }
+}
+
+// The element by a reference to it.
+fn syntax_element(
+    alloc: Global,
+    session: &mut Session,
+    words: &mut Words,
+) -> Result<String, NoAnswer> {
+    let element = session.trees.element(alloc, words.word()?)?;
+    match made_of(alloc, &element) {
+        Ok(made) => text_answer(alloc, &made),
+        Err(_) => memory(alloc),
+    }
+}
+
+fn made_of<E: Element>(alloc: Global, value: E) -> Result<SyntaxElement, AllocError> {
+    value.syntax_element(alloc)
+}
+
+fn text_answer(alloc: Global, element: &SyntaxElement) -> Result<String, NoAnswer> {
+    let mut answer = String::from_str(alloc, "ok ")?;
+    push_quoted(&mut answer, &element.text(alloc)?)?;
+    Ok(answer)
+}
