@@ -7,41 +7,23 @@ use cst_core::ast::BlockExpr;
 use cst_core::{AstNode, SyntaxNode};
 use std::alloc::Global;
 use syntax_editor::SyntaxEditor;
-use test_trees::{NoAnswer, Words, find_named};
+use test_trees::{NoAnswer, Words};
 
-#[derive(Clone, Copy)]
-pub enum EditorStep {
-    New,
-    WithAstNode,
-    Merge,
-    Finish,
-}
-
-const NAMES: [(&str, EditorStep); 4] = [
-    ("new", EditorStep::New),
-    ("with_ast_node", EditorStep::WithAstNode),
-    ("merge", EditorStep::Merge),
-    ("finish", EditorStep::Finish),
-];
-
-impl EditorStep {
-    pub fn from_name(name: &str) -> Option<EditorStep> {
-        find_named(&NAMES, name).copied()
-    }
-}
-
+/// What the step of this name answers, if it is one of these.
 pub fn answer(
     alloc: Global,
     session: &mut Session,
-    step: EditorStep,
+    name: &str,
     words: &mut Words,
-) -> Result<String, NoAnswer> {
-    match step {
-        EditorStep::New => new(alloc, session, words),
-        EditorStep::WithAstNode => with_ast_node(alloc, session, words),
-        EditorStep::Merge => merge(alloc, session),
-        EditorStep::Finish => finish(alloc, session),
-    }
+) -> Option<Result<String, NoAnswer>> {
+    let answer = match name {
+        "new" => new(alloc, session, words),
+        "with_ast_node" => with_ast_node(alloc, session, words),
+        "merge" => merge(alloc, session),
+        "finish" => finish(alloc, session),
+        _ => return None,
+    };
+    Some(answer)
 }
 
 // Keeps a new editor, and answers the root that it edits.

@@ -6,44 +6,24 @@ use crate::session::Session;
 use cst_core::SyntaxNode;
 use std::alloc::Global;
 use syntax_editor::{EditError, SyntaxEdit};
-use test_trees::{NoAnswer, Words, find_named, push_path};
+use test_trees::{NoAnswer, Words, push_path};
 
-#[derive(Clone, Copy)]
-pub enum EditStep {
-    OldText,
-    NewText,
-    Changed,
-    Annotated,
-    FindElement,
-}
-
-const NAMES: [(&str, EditStep); 5] = [
-    ("old_text", EditStep::OldText),
-    ("new_text", EditStep::NewText),
-    ("changed", EditStep::Changed),
-    ("annotated", EditStep::Annotated),
-    ("find_element", EditStep::FindElement),
-];
-
-impl EditStep {
-    pub fn from_name(name: &str) -> Option<EditStep> {
-        find_named(&NAMES, name).copied()
-    }
-}
-
+/// What the step of this name answers, if it is one of these.
 pub fn answer(
     alloc: Global,
     session: &mut Session,
-    step: EditStep,
+    name: &str,
     words: &mut Words,
-) -> Result<String, NoAnswer> {
-    match step {
-        EditStep::OldText => text_of(alloc, last(session)?.old_root()),
-        EditStep::NewText => text_of(alloc, last(session)?.new_root()),
-        EditStep::Changed => paths_of(alloc, last(session)?.changed_elements()),
-        EditStep::Annotated => annotated(alloc, session, words),
-        EditStep::FindElement => find_element(alloc, session, words),
-    }
+) -> Option<Result<String, NoAnswer>> {
+    let answer = match name {
+        "old_text" => old_text(alloc, session),
+        "new_text" => new_text(alloc, session),
+        "changed" => changed(alloc, session),
+        "annotated" => annotated(alloc, session, words),
+        "find_element" => find_element(alloc, session, words),
+        _ => return None,
+    };
+    Some(answer)
 }
 
 fn last(session: &Session) -> Result<&SyntaxEdit, NoAnswer> {
@@ -67,6 +47,18 @@ pub fn keep_edit(
         }
         Err(refusal) => refused(alloc, refusal),
     }
+}
+
+fn old_text(alloc: Global, session: &Session) -> Result<String, NoAnswer> {
+    text_of(alloc, last(session)?.old_root())
+}
+
+fn new_text(alloc: Global, session: &Session) -> Result<String, NoAnswer> {
+    text_of(alloc, last(session)?.new_root())
+}
+
+fn changed(alloc: Global, session: &Session) -> Result<String, NoAnswer> {
+    paths_of(alloc, last(session)?.changed_elements())
 }
 
 // The elements of the annotation of the next word, or of the first one.

@@ -6,53 +6,27 @@ use crate::shifts::{block, factory};
 use cst_core::{SyntaxNode, SyntaxToken, TreeIds};
 use std::alloc::{AllocError, Global};
 use syntax_editor::{AstNodeEdit, IndentError, IndentLevel, SyntaxFactory};
-use test_trees::{NoAnswer, Words, find_named, push_quoted, read_tree};
+use test_trees::{NoAnswer, Words, push_quoted, read_tree};
 
-#[derive(Clone, Copy)]
-pub enum LevelStep {
-    Whitespace,
-    FromElement,
-    FromNode,
-    FromToken,
-    IndentLevel,
-    IsZero,
-    Sum,
-    Print,
-}
-
-const NAMES: [(&str, LevelStep); 8] = [
-    ("whitespace", LevelStep::Whitespace),
-    ("from_element", LevelStep::FromElement),
-    ("from_node", LevelStep::FromNode),
-    ("from_token", LevelStep::FromToken),
-    ("indent_level", LevelStep::IndentLevel),
-    ("is_zero", LevelStep::IsZero),
-    ("sum", LevelStep::Sum),
-    ("print", LevelStep::Print),
-];
-
-impl LevelStep {
-    pub fn from_name(name: &str) -> Option<LevelStep> {
-        find_named(&NAMES, name).copied()
-    }
-}
-
+/// What the step of this name answers, if it is one of these.
 pub fn answer(
     alloc: Global,
     session: &mut Session,
-    step: LevelStep,
+    name: &str,
     words: &mut Words,
-) -> Result<String, NoAnswer> {
-    match step {
-        LevelStep::Whitespace => whitespace(alloc, session, words),
-        LevelStep::FromElement => from_element(alloc, session, words),
-        LevelStep::FromNode => from_node(alloc, session, words),
-        LevelStep::FromToken => from_token(alloc, session, words),
-        LevelStep::IndentLevel => indent_level(alloc, session, words),
-        LevelStep::IsZero => truth(alloc, IndentLevel(words.level()?).is_zero()),
-        LevelStep::Sum => sum(alloc, words),
-        LevelStep::Print => print(alloc, words),
-    }
+) -> Option<Result<String, NoAnswer>> {
+    let answer = match name {
+        "whitespace" => whitespace(alloc, session, words),
+        "from_element" => from_element(alloc, session, words),
+        "from_node" => from_node(alloc, session, words),
+        "from_token" => from_token(alloc, session, words),
+        "indent_level" => indent_level(alloc, session, words),
+        "is_zero" => is_zero(alloc, words),
+        "sum" => sum(alloc, words),
+        "print" => print(alloc, words),
+        _ => return None,
+    };
+    Some(answer)
 }
 
 // A token with the text of a tree, of a factory with mappings or without.
@@ -137,6 +111,10 @@ fn indent_level(
 ) -> Result<String, NoAnswer> {
     let block = block(alloc, session, words)?;
     level(alloc, block.indent_level(alloc))
+}
+
+fn is_zero(alloc: Global, words: &mut Words) -> Result<String, NoAnswer> {
+    truth(alloc, IndentLevel(words.level()?).is_zero())
 }
 
 // Whether no indentation, and first one level more, then another one, is the third level.

@@ -21,16 +21,6 @@ mod standing;
 
 use crate::answers::MEMORY;
 use crate::calls::name_of;
-use crate::editors::EditorStep;
-use crate::edits::EditStep;
-use crate::levels::LevelStep;
-use crate::making::MakingStep;
-use crate::mappings::MappingStep;
-use crate::pairs::PairStep;
-use crate::plans::PlanStep;
-use crate::recorded::RecordedStep;
-use crate::recording::RecordingStep;
-use crate::shifts::ShiftStep;
 pub use calls::{OWED, Owed};
 pub use session::Session;
 pub use standing::Standing;
@@ -56,20 +46,20 @@ fn any_answer(
     name: &str,
     words: &mut Words,
 ) -> Result<String, NoAnswer> {
-    if let Some(step) = MakingStep::from_name(name) {
-        return making::answer(alloc, session, step, words);
+    if let Some(answer) = making::answer(alloc, session, name, words) {
+        return answer;
     }
-    if let Some(step) = PairStep::from_name(name) {
-        return pairs::answer(alloc, session, step, words);
+    if let Some(answer) = pairs::answer(alloc, session, name, words) {
+        return answer;
     }
-    if let Some(step) = MappingStep::from_name(name) {
-        return mappings::answer(alloc, session, step, words);
+    if let Some(answer) = mappings::answer(alloc, session, name, words) {
+        return answer;
     }
-    if let Some(step) = EditorStep::from_name(name) {
-        return editors::answer(alloc, session, step, words);
+    if let Some(answer) = editors::answer(alloc, session, name, words) {
+        return answer;
     }
-    if let Some(step) = RecordingStep::from_name(name) {
-        return recording::answer(alloc, session, step, words);
+    if let Some(answer) = recording::answer(alloc, session, name, words) {
+        return answer;
     }
     other_answer(alloc, session, name, words)
 }
@@ -80,20 +70,20 @@ fn other_answer(
     name: &str,
     words: &mut Words,
 ) -> Result<String, NoAnswer> {
-    if let Some(step) = RecordedStep::from_name(name) {
-        return recorded::answer(alloc, session, step, words);
+    if let Some(answer) = recorded::answer(alloc, session, name, words) {
+        return answer;
     }
-    if let Some(step) = PlanStep::from_name(name) {
-        return plans::answer(alloc, session, step, words);
+    if let Some(answer) = plans::answer(alloc, session, name, words) {
+        return answer;
     }
-    if let Some(step) = EditStep::from_name(name) {
-        return edits::answer(alloc, session, step, words);
+    if let Some(answer) = edits::answer(alloc, session, name, words) {
+        return answer;
     }
-    if let Some(step) = LevelStep::from_name(name) {
-        return levels::answer(alloc, session, step, words);
+    if let Some(answer) = levels::answer(alloc, session, name, words) {
+        return answer;
     }
-    if let Some(step) = ShiftStep::from_name(name) {
-        return shifts::answer(alloc, session, step, words);
+    if let Some(answer) = shifts::answer(alloc, session, name, words) {
+        return answer;
     }
     Err(NoAnswer::UnknownName)
 }

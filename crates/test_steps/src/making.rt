@@ -5,74 +5,34 @@ use crate::session::Session;
 use cst_core::{GreenElement, GreenNode, SyntaxElement, SyntaxKind, SyntaxNode, TreeIds};
 use std::alloc::{AllocError, Global};
 use syntax_editor::{Annotations, Element, Position, SyntaxAnnotation};
-use test_trees::{NoAnswer, Words, find_named, number, number_of, push_quoted, read_tree};
+use test_trees::{NoAnswer, Words, number, number_of, push_quoted, read_tree};
 
-#[derive(Clone, Copy)]
-pub enum MakingStep {
-    Tree,
-    Numbers,
-    NewRoot,
-    CloneSubtree,
-    GreenNode,
-    Capped,
-    SpliceChildren,
-    Next,
-    Peek,
-    Annotations,
-    Before,
-    After,
-    First,
-    Last,
-    SyntaxElement,
-}
-
-const NAMES: [(&str, MakingStep); 15] = [
-    ("tree", MakingStep::Tree),
-    ("numbers", MakingStep::Numbers),
-    ("new_root", MakingStep::NewRoot),
-    ("clone_subtree", MakingStep::CloneSubtree),
-    ("green_node", MakingStep::GreenNode),
-    ("capped", MakingStep::Capped),
-    ("splice_children", MakingStep::SpliceChildren),
-    ("next", MakingStep::Next),
-    ("peek", MakingStep::Peek),
-    ("annotations", MakingStep::Annotations),
-    ("before", MakingStep::Before),
-    ("after", MakingStep::After),
-    ("first", MakingStep::First),
-    ("last", MakingStep::Last),
-    ("syntax_element", MakingStep::SyntaxElement),
-];
-
-impl MakingStep {
-    pub fn from_name(name: &str) -> Option<MakingStep> {
-        find_named(&NAMES, name).copied()
-    }
-}
-
+/// What the step of this name answers, if it is one of these.
 pub fn answer(
     alloc: Global,
     session: &mut Session,
-    step: MakingStep,
+    name: &str,
     words: &mut Words,
-) -> Result<String, NoAnswer> {
-    match step {
-        MakingStep::Tree => tree(alloc, session, words),
-        MakingStep::Numbers => numbers(alloc, session, words),
-        MakingStep::NewRoot => new_root(alloc, session, words),
-        MakingStep::CloneSubtree => clone_subtree(alloc, session, words),
-        MakingStep::GreenNode => green_node(alloc, words),
-        MakingStep::Capped => capped(alloc, words),
-        MakingStep::SpliceChildren => splice_children(alloc, words),
-        MakingStep::Next => counted_or_none(alloc, session.ids.next()),
-        MakingStep::Peek => peek(alloc, session),
-        MakingStep::Annotations => annotations(alloc, words),
-        MakingStep::Before => before(alloc, session, words),
-        MakingStep::After => after(alloc, session, words),
-        MakingStep::First => first(alloc, session, words),
-        MakingStep::Last => last(alloc, session, words),
-        MakingStep::SyntaxElement => syntax_element(alloc, session, words),
-    }
+) -> Option<Result<String, NoAnswer>> {
+    let answer = match name {
+        "tree" => tree(alloc, session, words),
+        "numbers" => numbers(alloc, session, words),
+        "new_root" => new_root(alloc, session, words),
+        "clone_subtree" => clone_subtree(alloc, session, words),
+        "green_node" => green_node(alloc, words),
+        "capped" => capped(alloc, words),
+        "splice_children" => splice_children(alloc, words),
+        "next" => counted_or_none(alloc, session.ids.next()),
+        "peek" => peek(alloc, session),
+        "annotations" => annotations(alloc, words),
+        "before" => before(alloc, session, words),
+        "after" => after(alloc, session, words),
+        "first" => first(alloc, session, words),
+        "last" => last(alloc, session, words),
+        "syntax_element" => syntax_element(alloc, session, words),
+        _ => return None,
+    };
+    Some(answer)
 }
 
 fn tree(alloc: Global, session: &mut Session, words: &mut Words) -> Result<String, NoAnswer> {

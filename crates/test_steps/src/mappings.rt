@@ -5,47 +5,25 @@ use crate::session::Session;
 use cst_core::SyntaxElement;
 use std::alloc::Global;
 use syntax_editor::SyntaxMapping;
-use test_trees::{NoAnswer, Words, find_named, push_path, push_quoted};
+use test_trees::{NoAnswer, Words, push_path, push_quoted};
 
-#[derive(Clone, Copy)]
-pub enum MappingStep {
-    Mapping,
-    MergeMappings,
-    CloneMapping,
-    DropMapping,
-    Place,
-    Follow,
-}
-
-const NAMES: [(&str, MappingStep); 6] = [
-    ("mapping", MappingStep::Mapping),
-    ("merge_mappings", MappingStep::MergeMappings),
-    ("clone_mapping", MappingStep::CloneMapping),
-    ("drop_mapping", MappingStep::DropMapping),
-    ("place", MappingStep::Place),
-    ("follow", MappingStep::Follow),
-];
-
-impl MappingStep {
-    pub fn from_name(name: &str) -> Option<MappingStep> {
-        find_named(&NAMES, name).copied()
-    }
-}
-
+/// What the step of this name answers, if it is one of these.
 pub fn answer(
     alloc: Global,
     session: &mut Session,
-    step: MappingStep,
+    name: &str,
     words: &mut Words,
-) -> Result<String, NoAnswer> {
-    match step {
-        MappingStep::Mapping => mapping(alloc, session),
-        MappingStep::MergeMappings => merge_mappings(alloc, session),
-        MappingStep::CloneMapping => clone_mapping(alloc, session),
-        MappingStep::DropMapping => drop_mapping(alloc, session),
-        MappingStep::Place => place(alloc, session, words),
-        MappingStep::Follow => follow(alloc, session, words),
-    }
+) -> Option<Result<String, NoAnswer>> {
+    let answer = match name {
+        "mapping" => mapping(alloc, session),
+        "merge_mappings" => merge_mappings(alloc, session),
+        "clone_mapping" => clone_mapping(alloc, session),
+        "drop_mapping" => drop_mapping(alloc, session),
+        "place" => place(alloc, session, words),
+        "follow" => follow(alloc, session, words),
+        _ => return None,
+    };
+    Some(answer)
 }
 
 /// The last mapping.

@@ -6,50 +6,26 @@ use crate::session::{Session, last};
 use cst_core::SyntaxNode;
 use std::alloc::Global;
 use syntax_editor::SyntaxMappingBuilder;
-use test_trees::{NoAnswer, Words, find_named};
+use test_trees::{NoAnswer, Words};
 
-#[derive(Clone, Copy)]
-pub enum PairStep {
-    Builder,
-    MapNode,
-    MapChildren,
-    Map,
-    MapAll,
-    FinishBuilder,
-    AddMapping,
-}
-
-const NAMES: [(&str, PairStep); 7] = [
-    ("builder", PairStep::Builder),
-    ("map_node", PairStep::MapNode),
-    ("map_children", PairStep::MapChildren),
-    ("map", PairStep::Map),
-    ("map_all", PairStep::MapAll),
-    ("finish_builder", PairStep::FinishBuilder),
-    ("add_mapping", PairStep::AddMapping),
-];
-
-impl PairStep {
-    pub fn from_name(name: &str) -> Option<PairStep> {
-        find_named(&NAMES, name).copied()
-    }
-}
-
+/// What the step of this name answers, if it is one of these.
 pub fn answer(
     alloc: Global,
     session: &mut Session,
-    step: PairStep,
+    name: &str,
     words: &mut Words,
-) -> Result<String, NoAnswer> {
-    match step {
-        PairStep::Builder => builder(alloc, session, words),
-        PairStep::MapNode => map_node(alloc, session, words),
-        PairStep::MapChildren => map_children(alloc, session, words),
-        PairStep::Map => map(alloc, session, words),
-        PairStep::MapAll => map_all(alloc, session),
-        PairStep::FinishBuilder => finish_builder(alloc, session),
-        PairStep::AddMapping => add_mapping(alloc, session),
-    }
+) -> Option<Result<String, NoAnswer>> {
+    let answer = match name {
+        "builder" => builder(alloc, session, words),
+        "map_node" => map_node(alloc, session, words),
+        "map_children" => map_children(alloc, session, words),
+        "map" => map(alloc, session, words),
+        "map_all" => map_all(alloc, session),
+        "finish_builder" => finish_builder(alloc, session),
+        "add_mapping" => add_mapping(alloc, session),
+        _ => return None,
+    };
+    Some(answer)
 }
 
 fn keep_builder(alloc: Global, session: &mut Session, parent: SyntaxNode) -> Result<(), NoAnswer> {

@@ -11,50 +11,26 @@ use cst_core::SyntaxNode;
 use std::alloc::Global;
 use std::mem::replace;
 use syntax_editor::{Change, EditError, EditPlan, ElementList, SyntaxMapping};
-use test_trees::{NoAnswer, Words, find_named, word};
+use test_trees::{NoAnswer, Words, word};
 
-#[derive(Clone, Copy)]
-pub enum PlanStep {
-    Plan,
-    Change,
-    Register,
-    Build,
-    Run,
-    IsDropped,
-    Owner,
-}
-
-const NAMES: [(&str, PlanStep); 7] = [
-    ("plan", PlanStep::Plan),
-    ("change", PlanStep::Change),
-    ("register", PlanStep::Register),
-    ("build", PlanStep::Build),
-    ("run", PlanStep::Run),
-    ("is_dropped", PlanStep::IsDropped),
-    ("owner", PlanStep::Owner),
-];
-
-impl PlanStep {
-    pub fn from_name(name: &str) -> Option<PlanStep> {
-        find_named(&NAMES, name).copied()
-    }
-}
-
+/// What the step of this name answers, if it is one of these.
 pub fn answer(
     alloc: Global,
     session: &mut Session,
-    step: PlanStep,
+    name: &str,
     words: &mut Words,
-) -> Result<String, NoAnswer> {
-    match step {
-        PlanStep::Plan => plan(alloc, session),
-        PlanStep::Change => change(alloc, session, words),
-        PlanStep::Register => register(alloc, session, words),
-        PlanStep::Build => build(alloc, session, words),
-        PlanStep::Run => run(alloc, session),
-        PlanStep::IsDropped => is_dropped(alloc, session, words),
-        PlanStep::Owner => owner(alloc, session, words),
-    }
+) -> Option<Result<String, NoAnswer>> {
+    let answer = match name {
+        "plan" => plan(alloc, session),
+        "change" => change(alloc, session, words),
+        "register" => register(alloc, session, words),
+        "build" => build(alloc, session, words),
+        "run" => run(alloc, session),
+        "is_dropped" => is_dropped(alloc, session, words),
+        "owner" => owner(alloc, session, words),
+        _ => return None,
+    };
+    Some(answer)
 }
 
 fn plan(alloc: Global, session: &mut Session) -> Result<String, NoAnswer> {

@@ -4,45 +4,25 @@ use crate::answers::{memory, none, push_item, some_or_none, truth};
 use crate::session::{Session, last};
 use cst_core::SyntaxElement;
 use std::alloc::{AllocError, Global};
-use syntax_editor::{Change, SyntaxEditor};
-use test_trees::{NoAnswer, Words, find_named, number, push_quoted};
+use syntax_editor::Change;
+use test_trees::{NoAnswer, Words, number, push_quoted};
 
-#[derive(Clone, Copy)]
-pub enum RecordedStep {
-    Changes,
-    Deleted,
-    Deletions,
-    Inserted,
-    Fits,
-}
-
-const NAMES: [(&str, RecordedStep); 5] = [
-    ("changes", RecordedStep::Changes),
-    ("deleted", RecordedStep::Deleted),
-    ("deletions", RecordedStep::Deletions),
-    ("inserted", RecordedStep::Inserted),
-    ("fits", RecordedStep::Fits),
-];
-
-impl RecordedStep {
-    pub fn from_name(name: &str) -> Option<RecordedStep> {
-        find_named(&NAMES, name).copied()
-    }
-}
-
+/// What the step of this name answers, if it is one of these.
 pub fn answer(
     alloc: Global,
     session: &mut Session,
-    step: RecordedStep,
+    name: &str,
     words: &mut Words,
-) -> Result<String, NoAnswer> {
-    match step {
-        RecordedStep::Changes => changes(alloc, session),
-        RecordedStep::Deleted => deleted(alloc, session, words),
-        RecordedStep::Deletions => deletions(alloc, last(&mut session.editors)?),
-        RecordedStep::Inserted => inserted(alloc, last(&mut session.editors)?),
-        RecordedStep::Fits => fits(alloc, session, words),
-    }
+) -> Option<Result<String, NoAnswer>> {
+    let answer = match name {
+        "changes" => changes(alloc, session),
+        "deleted" => deleted(alloc, session, words),
+        "deletions" => deletions(alloc, session),
+        "inserted" => inserted(alloc, session),
+        "fits" => fits(alloc, session, words),
+        _ => return None,
+    };
+    Some(answer)
 }
 
 // How many changes there are.
@@ -52,16 +32,17 @@ fn changes(alloc: Global, session: &mut Session) -> Result<String, NoAnswer> {
 }
 
 fn deleted(alloc: Global, session: &mut Session, words: &mut Words) -> Result<String, NoAnswer> {
-    let element = session.trees.element(alloc, words.word()?)?;
     let editor = last(&mut session.editors)?;
-    match editor.deleted(alloc, &element) {
+    let element = session.trees.element(alloc, words.word()?)?;
+    match editor.deleted(alloc, element) {
         Ok(is_deleted) => truth(alloc, is_deleted),
         Err(_) => memory(alloc),
     }
 }
 
 // The paths of what is deleted, one element each, in the order of the changes.
-fn deletions(alloc: Global, editor: &SyntaxEditor) -> Result<String, NoAnswer> {
+fn deletions(alloc: Global, session: &mut Session) -> Result<String, NoAnswer> {
+    let editor = last(&mut session.editors)?;
     let mut paths = String::new(alloc);
     for change in editor.changes() {
         if let Change::Replace(element, None) = change {
@@ -72,7 +53,8 @@ fn deletions(alloc: Global, editor: &SyntaxEditor) -> Result<String, NoAnswer> {
 }
 
 // What the last change inserts, if that is several elements: the text of each, and the number of its tree.
-fn inserted(alloc: Global, editor: &SyntaxEditor) -> Result<String, NoAnswer> {
+fn inserted(alloc: Global, session: &mut Session) -> Result<String, NoAnswer> {
+    let editor = last(&mut session.editors)?;
     match editor.changes().last() {
         Some(Change::InsertAll(_, elements)) => texts_of(alloc, elements.as_slice()),
         _ => none(alloc),

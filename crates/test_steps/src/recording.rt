@@ -7,84 +7,44 @@ use cst_core::ast::{Fn, LetStmt};
 use cst_core::{AstNode, HasAttrs, SyntaxNode};
 use std::alloc::Global;
 use syntax_editor::AttrsOwnerEdit;
-use test_trees::{NoAnswer, Words, find_named};
+use test_trees::{NoAnswer, Words};
 
-#[derive(Clone, Copy)]
-pub enum RecordingStep {
-    Insert,
-    InsertAll,
-    InsertWithWhitespace,
-    InsertAllWithWhitespace,
-    Delete,
-    DeleteAll,
-    Replace,
-    ReplaceWithMany,
-    ReplaceAll,
-    AddAnnotation,
-    AddAnnotationAll,
-    RemoveAttrsAndDocs,
-}
-
-const NAMES: [(&str, RecordingStep); 12] = [
-    ("insert", RecordingStep::Insert),
-    ("insert_all", RecordingStep::InsertAll),
-    (
-        "insert_with_whitespace",
-        RecordingStep::InsertWithWhitespace,
-    ),
-    (
-        "insert_all_with_whitespace",
-        RecordingStep::InsertAllWithWhitespace,
-    ),
-    ("delete", RecordingStep::Delete),
-    ("delete_all", RecordingStep::DeleteAll),
-    ("replace", RecordingStep::Replace),
-    ("replace_with_many", RecordingStep::ReplaceWithMany),
-    ("replace_all", RecordingStep::ReplaceAll),
-    ("add_annotation", RecordingStep::AddAnnotation),
-    ("add_annotation_all", RecordingStep::AddAnnotationAll),
-    ("remove_attrs_and_docs", RecordingStep::RemoveAttrsAndDocs),
-];
-
-impl RecordingStep {
-    pub fn from_name(name: &str) -> Option<RecordingStep> {
-        find_named(&NAMES, name).copied()
-    }
-}
-
+/// What the step of this name answers, if it is one of these.
 pub fn answer(
     alloc: Global,
     session: &mut Session,
-    step: RecordingStep,
+    name: &str,
     words: &mut Words,
-) -> Result<String, NoAnswer> {
-    match step {
-        RecordingStep::Insert => insert(alloc, session, words),
-        RecordingStep::InsertAll => insert_all(alloc, session, words),
-        RecordingStep::InsertWithWhitespace => insert_with_whitespace(alloc, session, words),
-        RecordingStep::InsertAllWithWhitespace => insert_all_with_whitespace(alloc, session, words),
-        RecordingStep::Delete => delete(alloc, session, words),
-        RecordingStep::DeleteAll => delete_all(alloc, session, words),
-        RecordingStep::Replace => replace(alloc, session, words),
-        RecordingStep::ReplaceWithMany => replace_with_many(alloc, session, words),
-        RecordingStep::ReplaceAll => replace_all(alloc, session, words),
-        RecordingStep::AddAnnotation => add_annotation(alloc, session, words),
-        RecordingStep::AddAnnotationAll => add_annotation_all(alloc, session, words),
-        RecordingStep::RemoveAttrsAndDocs => remove_attrs_and_docs(alloc, session, words),
-    }
+) -> Option<Result<String, NoAnswer>> {
+    let answer = match name {
+        "insert" => insert(alloc, session, words),
+        "insert_all" => insert_all(alloc, session, words),
+        "insert_with_whitespace" => insert_with_whitespace(alloc, session, words),
+        "insert_all_with_whitespace" => insert_all_with_whitespace(alloc, session, words),
+        "delete" => delete(alloc, session, words),
+        "delete_all" => delete_all(alloc, session, words),
+        "replace" => replace(alloc, session, words),
+        "replace_with_many" => replace_with_many(alloc, session, words),
+        "replace_all" => replace_all(alloc, session, words),
+        "add_annotation" => add_annotation(alloc, session, words),
+        "add_annotation_all" => add_annotation_all(alloc, session, words),
+        "remove_attrs_and_docs" => remove_attrs_and_docs(alloc, session, words),
+        _ => return None,
+    };
+    Some(answer)
 }
 
 fn insert(alloc: Global, session: &mut Session, words: &mut Words) -> Result<String, NoAnswer> {
+    let editor = last(&mut session.editors)?;
     let at = position(alloc, &session.trees, words)?;
     let new = session.trees.element(alloc, words.word()?)?;
-    let editor = last(&mut session.editors)?;
     done(alloc, editor.insert(alloc, at, new))
 }
 
 fn insert_all(alloc: Global, session: &mut Session, words: &mut Words) -> Result<String, NoAnswer> {
+    let editor = last(&mut session.editors)?;
     let at = position(alloc, &session.trees, words)?;
     let new = session.trees.elements(alloc, words)?;
-    let editor = last(&mut session.editors)?;
     done(alloc, editor.insert_all(alloc, at, new))
 }
 
@@ -93,9 +53,9 @@ fn insert_with_whitespace(
     session: &mut Session,
     words: &mut Words,
 ) -> Result<String, NoAnswer> {
+    let editor = last(&mut session.editors)?;
     let at = position(alloc, &session.trees, words)?;
     let new = session.trees.element(alloc, words.word()?)?;
-    let editor = last(&mut session.editors)?;
     done(
         alloc,
         editor.insert_with_whitespace(alloc, &mut session.ids, at, new),
@@ -107,9 +67,9 @@ fn insert_all_with_whitespace(
     session: &mut Session,
     words: &mut Words,
 ) -> Result<String, NoAnswer> {
+    let editor = last(&mut session.editors)?;
     let at = position(alloc, &session.trees, words)?;
     let new = session.trees.elements(alloc, words)?;
-    let editor = last(&mut session.editors)?;
     done(
         alloc,
         editor.insert_all_with_whitespace(alloc, &mut session.ids, at, new),
@@ -117,22 +77,22 @@ fn insert_all_with_whitespace(
 }
 
 fn delete(alloc: Global, session: &mut Session, words: &mut Words) -> Result<String, NoAnswer> {
-    let target = session.trees.element(alloc, words.word()?)?;
     let editor = last(&mut session.editors)?;
+    let target = session.trees.element(alloc, words.word()?)?;
     done(alloc, editor.delete(alloc, target))
 }
 
 fn delete_all(alloc: Global, session: &mut Session, words: &mut Words) -> Result<String, NoAnswer> {
+    let editor = last(&mut session.editors)?;
     let first = session.trees.element(alloc, words.word()?)?;
     let end = session.trees.element(alloc, words.word()?)?;
-    let editor = last(&mut session.editors)?;
     done(alloc, editor.delete_all(alloc, first, end))
 }
 
 fn replace(alloc: Global, session: &mut Session, words: &mut Words) -> Result<String, NoAnswer> {
+    let editor = last(&mut session.editors)?;
     let target = session.trees.element(alloc, words.word()?)?;
     let new = session.trees.element(alloc, words.word()?)?;
-    let editor = last(&mut session.editors)?;
     done(alloc, editor.replace(alloc, target, new))
 }
 
@@ -141,9 +101,9 @@ fn replace_with_many(
     session: &mut Session,
     words: &mut Words,
 ) -> Result<String, NoAnswer> {
+    let editor = last(&mut session.editors)?;
     let target = session.trees.element(alloc, words.word()?)?;
     let new = session.trees.elements(alloc, words)?;
-    let editor = last(&mut session.editors)?;
     done(alloc, editor.replace_with_many(alloc, target, new))
 }
 
@@ -152,10 +112,10 @@ fn replace_all(
     session: &mut Session,
     words: &mut Words,
 ) -> Result<String, NoAnswer> {
+    let editor = last(&mut session.editors)?;
     let first = session.trees.element(alloc, words.word()?)?;
     let end = session.trees.element(alloc, words.word()?)?;
     let new = session.trees.elements(alloc, words)?;
-    let editor = last(&mut session.editors)?;
     done(alloc, editor.replace_all(alloc, first, end, new))
 }
 
@@ -165,9 +125,9 @@ fn add_annotation(
     session: &mut Session,
     words: &mut Words,
 ) -> Result<String, NoAnswer> {
+    let editor = last(&mut session.editors)?;
     let element = session.trees.element(alloc, words.word()?)?;
     let annotation = annotation(words.next().unwrap_or("1"))?;
-    let editor = last(&mut session.editors)?;
     done(alloc, editor.add_annotation(alloc, element, annotation))
 }
 
@@ -176,9 +136,9 @@ fn add_annotation_all(
     session: &mut Session,
     words: &mut Words,
 ) -> Result<String, NoAnswer> {
+    let editor = last(&mut session.editors)?;
     let elements = session.trees.elements(alloc, words)?;
     let annotation = annotation("1")?;
-    let editor = last(&mut session.editors)?;
     done(
         alloc,
         editor.add_annotation_all(alloc, elements, annotation),

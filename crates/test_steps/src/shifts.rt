@@ -7,44 +7,24 @@ use cst_core::ast::{BlockExpr, StmtList};
 use cst_core::{AstNode, SyntaxNode};
 use std::alloc::Global;
 use syntax_editor::{AstNodeEdit, IndentError, IndentLevel, SyntaxFactory, indent};
-use test_trees::{NoAnswer, Words, find_named};
+use test_trees::{NoAnswer, Words};
 
-#[derive(Clone, Copy)]
-pub enum ShiftStep {
-    FreeIndent,
-    Indent,
-    Dedent,
-    ResetIndent,
-    IndentWithMapping,
-}
-
-const NAMES: [(&str, ShiftStep); 5] = [
-    ("free_indent", ShiftStep::FreeIndent),
-    ("indent", ShiftStep::Indent),
-    ("dedent", ShiftStep::Dedent),
-    ("reset_indent", ShiftStep::ResetIndent),
-    ("indent_with_mapping", ShiftStep::IndentWithMapping),
-];
-
-impl ShiftStep {
-    pub fn from_name(name: &str) -> Option<ShiftStep> {
-        find_named(&NAMES, name).copied()
-    }
-}
-
+/// What the step of this name answers, if it is one of these.
 pub fn answer(
     alloc: Global,
     session: &mut Session,
-    step: ShiftStep,
+    name: &str,
     words: &mut Words,
-) -> Result<String, NoAnswer> {
-    match step {
-        ShiftStep::FreeIndent => free_indent(alloc, session, words),
-        ShiftStep::Indent => typed_indent(alloc, session, words),
-        ShiftStep::Dedent => dedent(alloc, session, words),
-        ShiftStep::ResetIndent => reset_indent(alloc, session, words),
-        ShiftStep::IndentWithMapping => indent_with_mapping(alloc, session, words),
-    }
+) -> Option<Result<String, NoAnswer>> {
+    let answer = match name {
+        "free_indent" => free_indent(alloc, session, words),
+        "indent" => typed_indent(alloc, session, words),
+        "dedent" => dedent(alloc, session, words),
+        "reset_indent" => reset_indent(alloc, session, words),
+        "indent_with_mapping" => indent_with_mapping(alloc, session, words),
+        _ => return None,
+    };
+    Some(answer)
 }
 
 fn free_indent(
