@@ -63,7 +63,9 @@ fn changed(alloc: Global, session: &Session) -> Result<String, NoAnswer> {
 
 // The elements of the annotation of the next word, or of the first one.
 fn annotated(alloc: Global, session: &Session, words: &mut Words) -> Result<String, NoAnswer> {
-    let annotation = annotation(words.next().unwrap_or("1"))?;
+    let Some(annotation) = annotation(words.next().unwrap_or("1")) else {
+        return Err(NoAnswer::Arguments);
+    };
     paths_of(alloc, last(session)?.find_annotation(annotation))
 }
 

@@ -114,10 +114,10 @@ fn peek(alloc: Global, session: &Session) -> Result<String, NoAnswer> {
     }
 }
 
-/// The annotation with this number.
-pub fn annotation(digits: &str) -> Result<SyntaxAnnotation, NoAnswer> {
-    let number = digits.parse::<u32>().ok().ok_or(NoAnswer::Arguments)?;
-    Annotations::new(number).next().ok_or(NoAnswer::Arguments)
+/// The annotation with this number, if that is one.
+pub fn annotation(digits: &str) -> Option<SyntaxAnnotation> {
+    let number = digits.parse::<u32>().ok()?;
+    Annotations::new(number).next()
 }
 
 // Whether the calls of a source that begins at the first number give the annotations of the others, each above the one before.
@@ -131,7 +131,7 @@ fn annotations(alloc: Global, words: &mut Words) -> Result<String, NoAnswer> {
     let mut before = None;
     for word in words.take_rest().split(' ') {
         let given = source.next();
-        if !is_wanted(before, given, word)? {
+        if !is_wanted(before, given, word) {
             return some(alloc, false);
         }
         before = given;
@@ -143,11 +143,11 @@ fn is_wanted(
     before: Option<SyntaxAnnotation>,
     given: Option<SyntaxAnnotation>,
     wanted: &str,
-) -> Result<bool, NoAnswer> {
+) -> bool {
     if wanted == "none" {
-        return Ok(given.is_none());
+        return given.is_none();
     }
-    Ok(given == Some(annotation(wanted)?) && before < given)
+    given == annotation(wanted) && before < given
 }
 
 fn before(alloc: Global, session: &mut Session, words: &mut Words) -> Result<String, NoAnswer> {

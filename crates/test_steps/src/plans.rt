@@ -112,7 +112,10 @@ fn replace_all(alloc: Global, session: &Session, words: &mut Words) -> Result<Ch
 // One more registered element of the plan that is built.
 fn register(alloc: Global, session: &mut Session, words: &mut Words) -> Result<String, NoAnswer> {
     let element = session.trees.element(alloc, words.word()?)?;
-    let registration = (element, annotation(words.next().unwrap_or("1"))?);
+    let Some(annotation) = annotation(words.next().unwrap_or("1")) else {
+        return Err(NoAnswer::Arguments);
+    };
+    let registration = (element, annotation);
     session.registrations.push(registration)?;
     ok(alloc)
 }

@@ -127,7 +127,9 @@ fn add_annotation(
 ) -> Result<String, NoAnswer> {
     let editor = last(&mut session.editors)?;
     let element = session.trees.element(alloc, words.word()?)?;
-    let annotation = annotation(words.next().unwrap_or("1"))?;
+    let Some(annotation) = annotation(words.next().unwrap_or("1")) else {
+        return Err(NoAnswer::Arguments);
+    };
     done(alloc, editor.add_annotation(alloc, element, annotation))
 }
 
@@ -138,7 +140,9 @@ fn add_annotation_all(
 ) -> Result<String, NoAnswer> {
     let editor = last(&mut session.editors)?;
     let elements = session.trees.elements(alloc, words)?;
-    let annotation = annotation("1")?;
+    let Some(annotation) = annotation("1") else {
+        return Err(NoAnswer::Arguments);
+    };
     done(
         alloc,
         editor.add_annotation_all(alloc, elements, annotation),
