@@ -1,6 +1,6 @@
 #!/usr/bin/env bash
 # All tests: what the docs say of files and definitions, the gate, scripts through the built program and through a plain model, each
-# row of the tables with each of its growths refused in turn, and how many growths an edit asks for.
+# row of the table with each of its growths refused in turn, and how many growths an edit asks for.
 set -euo pipefail
 cd "$(dirname "$0")/.."
 python3 tests/docs.py

@@ -1,6 +1,6 @@
 #!/usr/bin/env bash
 # Counts what edits at one end of a tree ask of memory, and what indenting asks for where nothing changes: as many growths for
-# a tree of some 2,000 nodes as for one of some 60, of the same depth, since what stays is shared. The program `answers` makes the
+# a tree of some 2,000 nodes as for one of some 60, of the same depth, since what stays is shared. The program `test_rows` makes the
 # steps of each row with the last one and without it; the difference is what that one asks for.
 set -euo pipefail
 cd "$(dirname "$0")/.."
@@ -10,9 +10,9 @@ trap 'rm -rf "$room"' EXIT
 "${CC:-cc}" -O1 -shared -fPIC -o "$room/refuse.so" tests/refuse_growth.c -ldl
 
 # The gate leaves the program where `rt run` would make it; it is made where it is not there, or older than a source.
-program=crates/answers/out/answers
+program=crates/test_rows/out/test_rows
 if [ ! -x "$program" ] || [ -n "$(find crates -name out -prune -o -type f -newer "$program" -print -quit)" ]; then
-    (cd crates/answers && rt run) <crates/answers/stdin >"$room/log" 2>&1 || [ -x "$program" ] || { cat "$room/log"; exit 1; }
+    (cd crates/test_rows && rt run) <crates/test_rows/stdin >"$room/log" 2>&1 || [ -x "$program" ] || { cat "$room/log"; exit 1; }
 fi
 
 # How many growths a run of these steps asks for. Each of them must be done.

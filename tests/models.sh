@@ -1,12 +1,12 @@
 #!/usr/bin/env bash
-# Asks the editor and a plain model what comes of the changes of each script of tests/corpus, by the program `models`.
+# Asks the editor and a plain model what comes of the changes of each script of tests/corpus, by the program `test_models`.
 set -euo pipefail
 cd "$(dirname "$0")/.."
 
 # The gate leaves the program where `rt run` would make it; it is made where it is not there, or older than a source.
-program=crates/models/out/models
+program=crates/test_models/out/test_models
 if [ ! -x "$program" ] || [ -n "$(find crates -name out -prune -o -type f -newer "$program" -print -quit)" ]; then
-    (cd crates/models && rt run) <crates/models/stdin >/dev/null 2>&1 || [ -x "$program" ]
+    (cd crates/test_models && rt run) <crates/test_models/stdin >/dev/null 2>&1 || [ -x "$program" ]
 fi
 
 out=$(mktemp)
@@ -24,5 +24,5 @@ for answer in tests/corpus/*/*.stdout; do
     *) wrong=$((wrong + 1)) && echo "wrong: $script: status $status" && head -c 300 "$out" ;;
     esac
 done
-echo "models: both engines answer the same to $compared scripts; wrong: $wrong"
+echo "test_models: both engines answer the same to $compared scripts; wrong: $wrong"
 [ "$wrong" -eq 0 ]

@@ -1,6 +1,6 @@
 #!/usr/bin/env bash
-# Runs each row of the tables of `rows` and `answers`, and the program `syned` on its script, with the first, second and each
-# further growth refused, until a run asks for no more. A row must answer as expected or end for want of memory, and what a
+# Runs each row of the table of `test_rows`, and the program `syned` on its script, with the first, second and each further growth
+# refused, until a run asks for no more. A row must answer as expected or end for want of memory, and what a
 # refused call must leave as it was is asked for then (tests/refused_rows.py); `syned` must print all of its answer or nothing.
 # The kit's own way to refuse an allocation takes one number a run and compiles the program anew for each, so a small library
 # stands before the C library here.
@@ -55,7 +55,6 @@ fails_in_silence() {
     fi
 }
 
-make_program rows
-make_program answers
+make_program test_rows
 python3 tests/refused_rows.py "$room/refuse.so"
 refuse_each syned fails_in_silence

@@ -1,11 +1,11 @@
 #!/usr/bin/env python3
-"""Runs each row of the tables of `answers` and of `rows` with its first, second and each further growth refused.
+"""Runs each row of the table of `test_rows` with its first, second and each further growth refused.
 
-    refused_rows.py LIBRARY    LIBRARY is built of refuse_growth.c; the programs stand in crates/NAME/out
+    refused_rows.py LIBRARY    LIBRARY is built of refuse_growth.c; the program stands in crates/test_rows/out
 
-A row is a table of its own, with the trees that it names; for `answers` it begins with the line `growths are refused`. Each of
-its runs must answer as expected or end for want of memory. A call that was refused says its name (`Memory: NAME`). In the end each public call that takes an allocator
-must have done so, but for those of EXCEPT."""
+A row is a table of its own, which begins with the line `growths are refused` and the trees that the row names. Each of its runs must
+answer as expected or end for want of memory. A call that was refused says its name (`Memory: NAME`). In the end each public call
+that takes an allocator must have done so, but for those of EXCEPT."""
 import os
 import re
 import subprocess
@@ -16,8 +16,8 @@ import tempfile
 CRATES = ["green_tree", "cst_core", "edit_map", "edit_change", "edit_plan", "indentation", "change_list", "spacing", "syntax_editor"]
 SURFACE = ["cst_core", "edit_map", "edit_plan", "syntax_editor"]
 
-# What stands before each row.
-HEAD = {"rows": [], "answers": ["growths are refused"]}
+PROGRAM = "crates/test_rows/out/test_rows"
+TABLE = "crates/test_rows/stdin"
 
 # Calls that no row can show to be refused. The sharing of a tree is a count, and the path of a root is empty.
 EXCEPT = {
@@ -95,10 +95,10 @@ def owed_calls():
     return {name for crate in CRATES for owner, name in calls_of(crate) if owner in names}
 
 
-def rows_of(crate):
-    """Each row of a table, with the trees that it names."""
+def rows():
+    """Each row of the table, with the trees that it names: those of a question stand in lines before it."""
     trees = {}
-    with open(f"crates/{crate}/stdin", encoding="utf-8") as table:
+    with open(TABLE, encoding="utf-8") as table:
         for line in table.read().splitlines():
             tree = re.match(r"tree (\S+) ", line)
             if not line or line.startswith("#"):
@@ -106,39 +106,37 @@ def rows_of(crate):
             if tree:
                 trees[tree.group(1)] = line
                 continue
-            words = set(re.split(r"[\s/:]+", line))
+            words = set(re.split(r"[\s/:]+", line)) if line.startswith("? ") else set()
             yield line, [trees[name] for name in sorted(words & trees.keys())]
 
 
-def run_each(program, library, lines, table):
+def run_each(library, lines, table):
     table.seek(0)
     table.truncate()
-    table.write("\n".join([*lines, ""]))
+    table.write("\n".join(["growths are refused", *lines, ""]))
     table.flush()
     table.seek(0)
     environment = {"LD_PRELOAD": library, "REFUSE_EACH": "1"}
-    done = subprocess.run([program], stdin=table, capture_output=True, env=environment, timeout=600, check=False)
+    done = subprocess.run([PROGRAM], stdin=table, capture_output=True, env=environment, timeout=600, check=False)
     return done.returncode, done.stdout.decode(errors="replace")
 
 
 def main():
     library = os.path.abspath(sys.argv[1])
-    refused, wrong = set(), 0
-    for crate in ["rows", "answers"]:
-        rows = growths = 0
-        with tempfile.TemporaryFile("w+", encoding="utf-8") as table:
-            for line, trees in rows_of(crate):
-                status, out = run_each(f"crates/{crate}/out/{crate}", library, [*HEAD[crate], *trees, line], table)
-                count = re.search(r"^growths: (\d+)\n\Z", out, re.M)
-                rows += 1
-                refused.update(re.findall(r"^Memory: (\S+)$", out, re.M))
-                if status == 0 and count:
-                    growths += int(count.group(1))
-                else:
-                    wrong += 1
-                    said = [it for it in out.splitlines() if not it.startswith("Memory: ")]
-                    print(f"{crate}: {line}", *said, sep="\n    ")
-        print(f"{crate}: {rows} rows, {growths} refused growths, each answered")
+    refused, wrong, ran, growths = set(), 0, 0, 0
+    with tempfile.TemporaryFile("w+", encoding="utf-8") as table:
+        for line, trees in rows():
+            status, out = run_each(library, [*trees, line], table)
+            count = re.search(r"^growths: (\d+)\n\Z", out, re.M)
+            ran += 1
+            refused.update(re.findall(r"^Memory: (\S+)$", out, re.M))
+            if status == 0 and count:
+                growths += int(count.group(1))
+            else:
+                wrong += 1
+                said = [it for it in out.splitlines() if not it.startswith("Memory: ")]
+                print(line, *said, sep="\n    ")
+    print(f"test_rows: {ran} rows, {growths} refused growths, each answered")
     owed = owed_calls()
     for name in sorted(EXCEPT.keys() - owed):
         wrong += 1

@@ -1,0 +1,68 @@
+use anyhow::Result;
+use test_model::{Answer, Answers};
+
+/// How many pairs were tried, how many of them are refused and why, and on how many the answers differ.
+#[derive(Drop)]
+pub struct Report {
+    tried: u32,
+    intersecting: u32,
+    missing: u32,
+    differ: u32,
+}
+
+fn note_one(count: &mut u32) {
+    *count = count.saturating_add(1);
+}
+
+impl Report {
+    pub fn new() -> Report {
+        Report {
+            tried: 0,
+            intersecting: 0,
+            missing: 0,
+            differ: 0,
+        }
+    }
+
+    fn count(&mut self, answer: &Answer) {
+        note_one(&mut self.tried);
+        match answer {
+            Answer::Intersecting { .. } => note_one(&mut self.intersecting),
+            Answer::MissingMapping { .. } => note_one(&mut self.missing),
+            Answer::Made(_) => {}
+        }
+    }
+
+    /// Counts a pair, and prints both answers where they differ.
+    pub fn note<R: Print>(
+        &mut self,
+        rt: &R,
+        first: usize,
+        second: usize,
+        answers: &Answers,
+    ) -> Result<()> {
+        self.count(&answers.editor);
+        if answers.agree() {
+            return Ok(());
+        }
+        note_one(&mut self.differ);
+        println!(rt;
+            "{first} and {second}: {}, but {}",
+            answers.editor, answers.model
+        )?;
+        Ok(())
+    }
+
+    /// Prints the counts of a scenario.
+    pub fn close<R: Print>(&self, rt: &R, name: &str) -> Result<()> {
+        println!(rt;
+            "{}: {} tried, {} refused as Intersecting, {} as MissingMapping, {} differ",
+            name, self.tried, self.intersecting, self.missing, self.differ
+        )?;
+        Ok(())
+    }
+
+    pub fn all_agree(&self) -> bool {
+        self.differ == 0
+    }
+}

@@ -1,0 +1,82 @@
+use crate::scenario::Scenario;
+use crate::single::Single;
+use crate::trees::Trees;
+use anyhow::{Context, Result};
+use cst_core::{SyntaxNode, TreeIds};
+use test_model::{Answers, answers_to};
+use std::alloc::Global;
+use syntax_editor::{SyntaxEditor, SyntaxMapping};
+
+/// Tries pairs, each with a new editor.
+#[derive(Drop)]
+pub struct Trial {
+    alloc: Global,
+    trees: Trees,
+    mapping: SyntaxMapping,
+    pub scenario: Scenario,
+}
+
+// The mapping goes to the end of that of the editor.
+fn take_mapping(alloc: Global, editor: &mut SyntaxEditor, mapping: &SyntaxMapping) -> Result<()> {
+    let mapping = mapping.try_clone(alloc)?;
+    let mappings = editor.make_mut().mappings().context("no mappings")?;
+    Ok(mappings.merge(alloc, mapping)?)
+}
+
+impl Trial {
+    pub fn new(alloc: Global, trees: Trees) -> Result<Trial> {
+        let mapping = trees.mapping(alloc)?;
+        Ok(Trial {
+            alloc,
+            trees,
+            mapping,
+            scenario: Scenario::Pair,
+        })
+    }
+
+    /// The root of the tree that is edited.
+    pub fn root(&self) -> &SyntaxNode {
+        &self.trees.root
+    }
+
+    // An editor of the tree.
+    fn editor(&self, ids: &mut TreeIds) -> Result<SyntaxEditor> {
+        let root = self.trees.root.try_clone(self.alloc)?;
+        let (editor, _) = SyntaxEditor::new(self.alloc, ids, root)?;
+        Ok(editor)
+    }
+
+    fn replace_literal(&self, editor: &mut SyntaxEditor) -> Result<()> {
+        let literal = self.trees.literal(self.alloc)?;
+        Ok(editor.replace(self.alloc, literal, &self.trees.copies.around_literal)?)
+    }
+
+    fn replace_root(&self, editor: &mut SyntaxEditor) -> Result<()> {
+        Ok(editor.replace(self.alloc, &self.trees.root, &self.trees.copies.around_root)?)
+    }
+
+    fn record_between(&self, editor: &mut SyntaxEditor) -> Result<()> {
+        match self.scenario {
+            Scenario::Pair => Ok(()),
+            Scenario::Owner => self.replace_literal(editor),
+            Scenario::NestedOwners => {
+                self.replace_literal(editor)?;
+                self.replace_root(editor)
+            }
+        }
+    }
+
+    fn record(&self, editor: &mut SyntaxEditor, before: &Single, behind: &Single) -> Result<()> {
+        take_mapping(self.alloc, editor, &self.mapping)?;
+        before.record(self.alloc, editor, &self.trees.payloads.first)?;
+        self.record_between(editor)?;
+        behind.record(self.alloc, editor, &self.trees.payloads.second)
+    }
+
+    /// What comes of two changes, recorded in this order.
+    pub fn answers(&self, ids: &mut TreeIds, before: &Single, behind: &Single) -> Result<Answers> {
+        let mut editor = self.editor(ids)?;
+        self.record(&mut editor, before, behind)?;
+        answers_to(self.alloc, ids, &self.trees.root, editor)
+    }
+}

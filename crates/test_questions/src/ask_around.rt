@@ -1,0 +1,171 @@
+//! The elements around one: asked of it, and of the node or token that it is.
+
+use crate::memory::{Standing, told};
+use crate::shown::{agreed, node_place, place};
+use cst_core::{SyntaxElement, SyntaxNode, SyntaxToken};
+use std::alloc::Global;
+use test_trees::{NoAnswer, Trees, find_named};
+
+#[derive(Clone, Copy)]
+pub enum AroundQuestion {
+    Parent,
+    PrevSiblingOrToken,
+    NextSiblingOrToken,
+    TreeTop,
+}
+
+const NAMES: [(&str, AroundQuestion); 4] = [
+    ("parent", AroundQuestion::Parent),
+    ("prev_sibling_or_token", AroundQuestion::PrevSiblingOrToken),
+    ("next_sibling_or_token", AroundQuestion::NextSiblingOrToken),
+    ("tree_top", AroundQuestion::TreeTop),
+];
+
+impl AroundQuestion {
+    pub fn from_name(name: &str) -> Option<AroundQuestion> {
+        find_named(&NAMES, name).copied()
+    }
+}
+
+/// `QUESTION ELEMENT`
+pub fn answer(
+    alloc: Global,
+    trees: &Trees,
+    question: AroundQuestion,
+    place: &str,
+) -> Result<String, NoAnswer> {
+    let element = trees.element(alloc, place)?;
+    let before = Standing::of(&element);
+    let answer = of_all(alloc, question, &element);
+    before.kept(&element, answer)
+}
+
+// Of the element, and of the node or token that it is.
+fn of_all(
+    alloc: Global,
+    question: AroundQuestion,
+    element: &SyntaxElement,
+) -> Result<String, NoAnswer> {
+    let own = of_element(alloc, question, element)?;
+    let by_form = match element {
+        SyntaxElement::Node(node) => of_node(alloc, question, node)?,
+        SyntaxElement::Token(token) => of_token(alloc, question, token)?,
+    };
+    agreed(alloc, own, by_form)
+}
+
+fn of_element(
+    alloc: Global,
+    question: AroundQuestion,
+    element: &SyntaxElement,
+) -> Result<String, NoAnswer> {
+    let tree = element.tree();
+    match question {
+        AroundQuestion::Parent => node_place(
+            alloc,
+            tree,
+            told("SyntaxElement::parent", element.parent(alloc))?,
+        ),
+        AroundQuestion::PrevSiblingOrToken => {
+            place(
+                alloc,
+                tree,
+                told(
+                    "SyntaxElement::prev_sibling_or_token",
+                    element.prev_sibling_or_token(alloc),
+                )?,
+            )
+        }
+        AroundQuestion::NextSiblingOrToken => {
+            place(
+                alloc,
+                tree,
+                told(
+                    "SyntaxElement::next_sibling_or_token",
+                    element.next_sibling_or_token(alloc),
+                )?,
+            )
+        }
+        AroundQuestion::TreeTop => node_place(
+            alloc,
+            tree,
+            Some(told("SyntaxElement::tree_top", element.tree_top(alloc))?),
+        ),
+    }
+}
+
+fn of_node(alloc: Global, question: AroundQuestion, node: &SyntaxNode) -> Result<String, NoAnswer> {
+    let tree = node.tree();
+    match question {
+        AroundQuestion::Parent => node_place(
+            alloc,
+            tree,
+            told("SyntaxNode::parent", node.parent(alloc))?,
+        ),
+        AroundQuestion::PrevSiblingOrToken => {
+            place(
+                alloc,
+                tree,
+                told(
+                    "SyntaxNode::prev_sibling_or_token",
+                    node.prev_sibling_or_token(alloc),
+                )?,
+            )
+        }
+        AroundQuestion::NextSiblingOrToken => {
+            place(
+                alloc,
+                tree,
+                told(
+                    "SyntaxNode::next_sibling_or_token",
+                    node.next_sibling_or_token(alloc),
+                )?,
+            )
+        }
+        AroundQuestion::TreeTop => node_place(
+            alloc,
+            tree,
+            Some(told("SyntaxNode::tree_top", node.tree_top(alloc))?),
+        ),
+    }
+}
+
+fn of_token(
+    alloc: Global,
+    question: AroundQuestion,
+    token: &SyntaxToken,
+) -> Result<String, NoAnswer> {
+    let tree = token.tree();
+    match question {
+        AroundQuestion::Parent => node_place(
+            alloc,
+            tree,
+            told("SyntaxToken::parent", token.parent(alloc))?,
+        ),
+        AroundQuestion::PrevSiblingOrToken => {
+            place(
+                alloc,
+                tree,
+                told(
+                    "SyntaxToken::prev_sibling_or_token",
+                    token.prev_sibling_or_token(alloc),
+                )?,
+            )
+        }
+        AroundQuestion::NextSiblingOrToken => {
+            place(
+                alloc,
+                tree,
+                told(
+                    "SyntaxToken::next_sibling_or_token",
+                    token.next_sibling_or_token(alloc),
+                )?,
+            )
+        }
+        AroundQuestion::TreeTop => node_place(
+            alloc,
+            tree,
+            Some(told("SyntaxToken::tree_top", token.tree_top(alloc))?),
+        ),
+    }
+}

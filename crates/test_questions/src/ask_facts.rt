@@ -1,0 +1,172 @@
+//! Facts of an element: asked of it, of a copy, and of a copy of the node or token that it is.
+
+use crate::memory::{Standing, told};
+use crate::shown::{agreed, green_facts, kind_name, path};
+use cst_core::{GreenElementRef, SyntaxElement, SyntaxNode, SyntaxToken};
+use std::alloc::Global;
+use test_trees::{NoAnswer, Trees, find_named, number, quoted, word};
+
+#[derive(Clone, Copy)]
+pub enum FactQuestion {
+    Kind,
+    Tree,
+    Slots,
+    Path,
+    Index,
+    TextStart,
+    TextLen,
+    Text,
+    AsGreen,
+    Green,
+}
+
+const NAMES: [(&str, FactQuestion); 10] = [
+    ("kind", FactQuestion::Kind),
+    ("tree_number", FactQuestion::Tree),
+    ("slots", FactQuestion::Slots),
+    ("path", FactQuestion::Path),
+    ("index", FactQuestion::Index),
+    ("text_start", FactQuestion::TextStart),
+    ("text_len", FactQuestion::TextLen),
+    ("text", FactQuestion::Text),
+    ("as_green", FactQuestion::AsGreen),
+    ("green", FactQuestion::Green),
+];
+
+impl FactQuestion {
+    pub fn from_name(name: &str) -> Option<FactQuestion> {
+        find_named(&NAMES, name).copied()
+    }
+}
+
+/// `QUESTION ELEMENT`
+pub fn answer(
+    alloc: Global,
+    trees: &Trees,
+    question: FactQuestion,
+    place: &str,
+) -> Result<String, NoAnswer> {
+    let element = trees.element(alloc, place)?;
+    let before = Standing::of(&element);
+    let answer = of_all(alloc, question, &element);
+    before.kept(&element, answer)
+}
+
+fn of_all(
+    alloc: Global,
+    question: FactQuestion,
+    element: &SyntaxElement,
+) -> Result<String, NoAnswer> {
+    let own = of_both(alloc, question, element)?;
+    agreed(alloc, own, by_form(alloc, question, element)?)
+}
+
+// Of the element and of a copy.
+fn of_both(
+    alloc: Global,
+    question: FactQuestion,
+    element: &SyntaxElement,
+) -> Result<String, NoAnswer> {
+    let own = of_element(alloc, question, element)?;
+    agreed(alloc, own, of_copy(alloc, question, element)?)
+}
+
+fn of_copy(
+    alloc: Global,
+    question: FactQuestion,
+    element: &SyntaxElement,
+) -> Result<String, NoAnswer> {
+    let copy = told("SyntaxElement::try_clone", element.try_clone(alloc))?;
+    of_element(alloc, question, &copy)
+}
+
+fn by_form(
+    alloc: Global,
+    question: FactQuestion,
+    element: &SyntaxElement,
+) -> Result<String, NoAnswer> {
+    match element {
+        SyntaxElement::Node(node) => of_node_copy(alloc, question, node),
+        SyntaxElement::Token(token) => of_token_copy(alloc, question, token),
+    }
+}
+
+fn of_node_copy(
+    alloc: Global,
+    question: FactQuestion,
+    node: &SyntaxNode,
+) -> Result<String, NoAnswer> {
+    let copy = told("SyntaxNode::try_clone", node.try_clone(alloc))?;
+    of_node(alloc, question, &copy)
+}
+
+fn of_token_copy(
+    alloc: Global,
+    question: FactQuestion,
+    token: &SyntaxToken,
+) -> Result<String, NoAnswer> {
+    let copy = told("SyntaxToken::try_clone", token.try_clone(alloc))?;
+    of_token(alloc, question, &copy)
+}
+
+fn of_element(
+    alloc: Global,
+    question: FactQuestion,
+    element: &SyntaxElement,
+) -> Result<String, NoAnswer> {
+    match question {
+        FactQuestion::Kind => word(alloc, kind_name(element.kind())),
+        FactQuestion::Tree => number(alloc, element.tree()),
+        FactQuestion::Slots => path(alloc, element.slots()),
+        FactQuestion::Path => path(alloc, &told("SyntaxElement::path", element.path(alloc))?),
+        FactQuestion::Index => number(alloc, element.index() as u64),
+        FactQuestion::TextStart => number(alloc, element.text_start()),
+        FactQuestion::TextLen => number(alloc, element.text_len()),
+        FactQuestion::Text => quoted(alloc, &told("SyntaxElement::text", element.text(alloc))?),
+        FactQuestion::AsGreen => green_facts(alloc, element.as_green()),
+        FactQuestion::Green => green_facts(
+            alloc,
+            told("SyntaxElement::green", element.green(alloc))?.as_ref(),
+        ),
+    }
+}
+
+fn of_node(alloc: Global, question: FactQuestion, node: &SyntaxNode) -> Result<String, NoAnswer> {
+    match question {
+        FactQuestion::Kind => word(alloc, kind_name(node.kind())),
+        FactQuestion::Tree => number(alloc, node.tree()),
+        FactQuestion::Slots => path(alloc, node.slots()),
+        FactQuestion::Path => path(alloc, &told("SyntaxNode::path", node.path(alloc))?),
+        FactQuestion::Index => number(alloc, node.index() as u64),
+        FactQuestion::TextStart => number(alloc, node.text_start()),
+        FactQuestion::TextLen => number(alloc, node.text_len()),
+        FactQuestion::Text => quoted(alloc, &told("SyntaxNode::text", node.text(alloc))?),
+        FactQuestion::AsGreen => green_facts(alloc, GreenElementRef::Node(node.as_green())),
+        FactQuestion::Green => green_facts(
+            alloc,
+            GreenElementRef::Node(&told("SyntaxNode::green", node.green(alloc))?),
+        ),
+    }
+}
+
+fn of_token(
+    alloc: Global,
+    question: FactQuestion,
+    token: &SyntaxToken,
+) -> Result<String, NoAnswer> {
+    match question {
+        FactQuestion::Kind => word(alloc, kind_name(token.kind())),
+        FactQuestion::Tree => number(alloc, token.tree()),
+        FactQuestion::Slots => path(alloc, token.slots()),
+        FactQuestion::Path => path(alloc, &told("SyntaxToken::path", token.path(alloc))?),
+        FactQuestion::Index => number(alloc, token.index() as u64),
+        FactQuestion::TextStart => number(alloc, token.text_start()),
+        FactQuestion::TextLen => number(alloc, token.text_len()),
+        FactQuestion::Text => quoted(alloc, token.text()),
+        FactQuestion::AsGreen => green_facts(alloc, GreenElementRef::Token(token.as_green())),
+        FactQuestion::Green => green_facts(
+            alloc,
+            GreenElementRef::Token(&told("SyntaxToken::green", token.green(alloc))?),
+        ),
+    }
+}

@@ -1,0 +1,192 @@
+//! Shared trees, and the expressions that they are read from.
+
+use crate::ask_kinds::kind_of;
+use crate::memory::{told, told_tree};
+use crate::shown::{agreed, green_facts, row_refusal, text_of, unquoted};
+use cst_core::{GreenElement, GreenElementRef, GreenNode, GreenToken, SyntaxKind};
+use std::alloc::Global;
+use test_trees::{
+    NoAnswer, RowError, Trees, Words, find_named, green, number, quoted, row, slots_of, word,
+};
+
+#[derive(Clone, Copy)]
+pub enum GreenQuestion {
+    Token,
+    Node,
+    Splice,
+    Get,
+    Text,
+    ChildCount,
+    Read,
+    Row,
+}
+
+const NAMES: [(&str, GreenQuestion); 8] = [
+    ("green_token", GreenQuestion::Token),
+    ("green_node", GreenQuestion::Node),
+    ("splice", GreenQuestion::Splice),
+    ("get", GreenQuestion::Get),
+    ("green_text", GreenQuestion::Text),
+    ("child_count", GreenQuestion::ChildCount),
+    ("read", GreenQuestion::Read),
+    ("row", GreenQuestion::Row),
+];
+
+impl GreenQuestion {
+    pub fn from_name(name: &str) -> Option<GreenQuestion> {
+        find_named(&NAMES, name).copied()
+    }
+}
+
+/// `green_token KIND TEXT`, `green_node LETTERS`, `splice START END LETTERS`, `get TREE PATH`, `green_text TREE`,
+/// `child_count TREE`, `read EXPRESSION` or `row NAME`
+pub fn answer(
+    alloc: Global,
+    trees: &Trees,
+    question: GreenQuestion,
+    arguments: &str,
+) -> Result<String, NoAnswer> {
+    match question {
+        GreenQuestion::Token => token(alloc, arguments),
+        GreenQuestion::Node => node(alloc, &unquoted(alloc, arguments)?),
+        GreenQuestion::Splice => splice(alloc, arguments),
+        GreenQuestion::Get => get(alloc, trees, arguments),
+        GreenQuestion::Text => {
+            let tree = trees.tree(alloc, arguments)?;
+            quoted(alloc, &text_of(alloc, &tree)?)
+        }
+        GreenQuestion::ChildCount => {
+            let tree = trees.tree(alloc, arguments)?;
+            number(alloc, tree.children().len() as u64)
+        }
+        GreenQuestion::Read => {
+            let expression = unquoted(alloc, arguments)?;
+            refusal(alloc, green(alloc, &expression))
+        }
+        GreenQuestion::Row => refusal(alloc, row(alloc, arguments)),
+    }
+}
+
+fn refusal(alloc: Global, tree: Result<GreenNode, RowError>) -> Result<String, NoAnswer> {
+    match tree {
+        Ok(tree) => green_facts(alloc, GreenElementRef::Node(&tree)),
+        Err(error) => row_refusal(alloc, error),
+    }
+}
+
+// A token of a kind by its number, and that token shared.
+fn token(alloc: Global, arguments: &str) -> Result<String, NoAnswer> {
+    let mut words = Words::of(arguments);
+    let kind = kind_of(words.word()?)?;
+    let text = unquoted(alloc, words.take_rest())?;
+    let token = told_tree("GreenToken::new", GreenToken::new(alloc, kind, &text))?;
+    let own = token_facts(alloc, &token)?;
+    let shared = told("GreenToken::share", token.share(alloc))?;
+    agreed(alloc, own, token_facts(alloc, &shared)?)
+}
+
+fn token_facts(alloc: Global, token: &GreenToken) -> Result<String, NoAnswer> {
+    let number = token.kind().0;
+    let facts = green_facts(alloc, GreenElementRef::Token(token))?;
+    Ok(format!(in alloc; "{number} {facts}")?)
+}
+
+// A token of each letter.
+fn letters(alloc: Global, text: &str) -> Result<Vec<GreenElement>, NoAnswer> {
+    let mut all = Vec::new(alloc);
+    for letter in text.chars() {
+        let own = letter.to_string(alloc)?;
+        let token = GreenToken::new(alloc, SyntaxKind::IDENT, &own)?;
+        all.push(GreenElement::Token(token))?;
+    }
+    Ok(all)
+}
+
+fn name_node(alloc: Global, letters: Vec<GreenElement>) -> Result<GreenNode, NoAnswer> {
+    told_tree(
+        "GreenNode::new",
+        GreenNode::new(alloc, SyntaxKind::NAME, letters),
+    )
+}
+
+// A node of a token of each letter, made by `new` and by `capped`.
+fn node(alloc: Global, text: &str) -> Result<String, NoAnswer> {
+    let checked = GreenElement::Node(name_node(alloc, letters(alloc, text)?)?);
+    let own = green_facts(alloc, checked.as_ref())?;
+    let letters = letters(alloc, text)?;
+    let capped = told(
+        "GreenNode::capped",
+        GreenNode::capped(alloc, SyntaxKind::NAME, letters),
+    )?;
+    agreed(
+        alloc,
+        own,
+        green_facts(alloc, GreenElementRef::Node(&capped))?,
+    )
+}
+
+fn splice(alloc: Global, arguments: &str) -> Result<String, NoAnswer> {
+    let mut words = Words::of(arguments);
+    let start = words.count()?;
+    let end = words.count()?;
+    let new = unquoted(alloc, words.take_rest())?;
+    spliced(alloc, start, end, letters(alloc, &new)?)
+}
+
+// Of a node of the tokens `abc`, which is then as it was.
+fn spliced(
+    alloc: Global,
+    start: usize,
+    end: usize,
+    new: Vec<GreenElement>,
+) -> Result<String, NoAnswer> {
+    let node = name_node(alloc, letters(alloc, "abc")?)?;
+    if start > end || end > node.children().len() {
+        return Err(NoAnswer::Arguments);
+    }
+    let spliced = told(
+        "GreenNode::splice_children",
+        node.splice_children(alloc, start, end, new),
+    )?;
+    if is_abc(alloc, &node)? {
+        green_facts(alloc, GreenElementRef::Node(&spliced))
+    } else {
+        word(alloc, "the old node changed")
+    }
+}
+
+fn is_abc(alloc: Global, node: &GreenNode) -> Result<bool, NoAnswer> {
+    Ok(text_of(alloc, node)?.as_str() == "abc")
+}
+
+// In the tree, and with tree and element shared.
+fn get(alloc: Global, trees: &Trees, arguments: &str) -> Result<String, NoAnswer> {
+    let mut words = Words::of(arguments);
+    let tree = trees.tree(alloc, words.word()?)?;
+    let slots = slots_of(alloc, words.word()?)?;
+    let own = facts_at(alloc, &tree, &slots)?;
+    agreed(alloc, own, shared_facts_at(alloc, &tree, &slots)?)
+}
+
+fn facts_at(alloc: Global, tree: &GreenNode, slots: &[usize]) -> Result<String, NoAnswer> {
+    match tree.get(slots) {
+        Some(element) => green_facts(alloc, element),
+        None => word(alloc, "none"),
+    }
+}
+
+fn shared_facts_at(alloc: Global, tree: &GreenNode, slots: &[usize]) -> Result<String, NoAnswer> {
+    let tree = told("GreenNode::share", tree.share(alloc))?;
+    match tree.get(slots) {
+        Some(element) => {
+            let shared = told("GreenElementRef::share", element.share(alloc))?;
+            shared_facts(alloc, &shared)
+        }
+        None => word(alloc, "none"),
+    }
+}
+
+fn shared_facts(alloc: Global, element: &GreenElement) -> Result<String, NoAnswer> {
+    let shared = told("GreenElement::share", element.share(alloc))?;
+    green_facts(alloc, shared.as_ref())
+}

@@ -1,0 +1,69 @@
+//! Where a path leads on from a node, and the token before a token.
+
+use crate::memory::told;
+use crate::shown::{place, token_place};
+use cst_core::SyntaxToken;
+use std::alloc::Global;
+use test_trees::{NoAnswer, Trees, Words, find_named, slots_of};
+
+#[derive(Clone, Copy)]
+pub enum StepQuestion {
+    ElementAt,
+    ElementOfTree,
+    PrevToken,
+}
+
+const NAMES: [(&str, StepQuestion); 3] = [
+    ("element_at", StepQuestion::ElementAt),
+    ("element_of_tree", StepQuestion::ElementOfTree),
+    ("prev_token", StepQuestion::PrevToken),
+];
+
+impl StepQuestion {
+    pub fn from_name(name: &str) -> Option<StepQuestion> {
+        find_named(&NAMES, name).copied()
+    }
+}
+
+/// `element_at NODE PATH`, `element_of_tree NODE PATH` or `prev_token TOKEN`
+pub fn answer(
+    alloc: Global,
+    trees: &Trees,
+    question: StepQuestion,
+    arguments: &str,
+) -> Result<String, NoAnswer> {
+    match question {
+        StepQuestion::ElementAt => element_at(alloc, trees, arguments),
+        StepQuestion::ElementOfTree => element_of_tree(alloc, trees, arguments),
+        StepQuestion::PrevToken => prev_token(alloc, &trees.token(alloc, arguments)?),
+    }
+}
+
+// The path is counted from the node.
+fn element_at(alloc: Global, trees: &Trees, arguments: &str) -> Result<String, NoAnswer> {
+    let mut words = Words::of(arguments);
+    let node = trees.node(alloc, words.word()?)?;
+    let slots = slots_of(alloc, words.word()?)?;
+    let found = told("SyntaxNode::element_at", node.element_at(alloc, &slots))?;
+    place(alloc, node.tree(), found)
+}
+
+// The path is counted from the root of the node's tree.
+fn element_of_tree(alloc: Global, trees: &Trees, arguments: &str) -> Result<String, NoAnswer> {
+    let mut words = Words::of(arguments);
+    let node = trees.node(alloc, words.word()?)?;
+    let slots = slots_of(alloc, words.word()?)?;
+    let found = told(
+        "SyntaxNode::element_of_tree",
+        node.element_of_tree(alloc, slots),
+    )?;
+    place(alloc, node.tree(), found)
+}
+
+fn prev_token(alloc: Global, token: &SyntaxToken) -> Result<String, NoAnswer> {
+    token_place(
+        alloc,
+        token.tree(),
+        told("SyntaxToken::prev_token", token.prev_token(alloc))?,
+    )
+}

@@ -1,0 +1,82 @@
+//! Calls that are refused for want of memory, and what they must leave as it was.
+
+use cst_core::{SyntaxElement, SyntaxNode, TreeError};
+use std::alloc::AllocError;
+use std::hash::{DefaultHasher, Hash, Hasher};
+use test_trees::NoAnswer;
+
+/// What a call gave, which is asked about by its name in the sources.
+pub fn told<T>(call: &'static str, called: Result<T, AllocError>) -> Result<T, NoAnswer> {
+    match called {
+        Ok(given) => Ok(given),
+        Err(_) => Err(NoAnswer::Refused(call)),
+    }
+}
+
+/// The same of a call that is refused for other reasons too.
+pub fn told_tree<T>(call: &'static str, called: Result<T, TreeError>) -> Result<T, NoAnswer> {
+    match called {
+        Ok(given) => Ok(given),
+        Err(TreeError::Memory) => Err(NoAnswer::Refused(call)),
+        Err(error) => Err(NoAnswer::Tree(error)),
+    }
+}
+
+/// The same of a call that draws a number where it is done, and else must keep the source.
+pub fn drawn(
+    call: &'static str,
+    called: Result<SyntaxNode, TreeError>,
+    is_kept: bool,
+) -> Result<SyntaxNode, NoAnswer> {
+    match called {
+        Ok(given) => Ok(given),
+        Err(TreeError::Memory) => Err(refused(call, is_kept)),
+        Err(error) => Err(NoAnswer::Tree(error)),
+    }
+}
+
+/// A call that was refused for want of memory, and whether that kept what it works on.
+pub fn refused(call: &'static str, is_kept: bool) -> NoAnswer {
+    if is_kept {
+        NoAnswer::Refused(call)
+    } else {
+        NoAnswer::Changed
+    }
+}
+
+pub fn hash_of<T: Hash>(value: &T) -> u64 {
+    let mut hasher = DefaultHasher::new();
+    value.hash(&mut hasher);
+    hasher.finish()
+}
+
+/// What an element is, as far as is told without memory.
+#[derive(Clone, Copy, PartialEq, Eq)]
+pub struct Standing {
+    hash: u64,
+    start: u64,
+    length: u64,
+}
+
+impl Standing {
+    pub fn of(element: &SyntaxElement) -> Standing {
+        Standing {
+            hash: hash_of(element),
+            start: element.text_start(),
+            length: element.text_len(),
+        }
+    }
+
+    /// The answer, where the element still is what it was.
+    pub fn kept(
+        self,
+        element: &SyntaxElement,
+        answer: Result<String, NoAnswer>,
+    ) -> Result<String, NoAnswer> {
+        if self == Standing::of(element) {
+            answer
+        } else {
+            Err(NoAnswer::Changed)
+        }
+    }
+}

@@ -1,0 +1,85 @@
+//! Editors: new ones, merged ones, and one whose changes are finished.
+
+use crate::answers::{given, ok, refused};
+use crate::edits::keep_edit;
+use crate::session::{Session, last};
+use cst_core::ast::BlockExpr;
+use cst_core::{AstNode, SyntaxNode};
+use std::alloc::Global;
+use syntax_editor::SyntaxEditor;
+use test_trees::{NoAnswer, Words};
+
+/// What the step of this name answers, if it is one of these.
+pub fn answer(
+    alloc: Global,
+    session: &mut Session,
+    name: &str,
+    words: &mut Words,
+) -> Option<Result<String, NoAnswer>> {
+    let answer = match name {
+        "new" => new(alloc, session, words),
+        "with_ast_node" => with_ast_node(alloc, session, words),
+        "merge" => merge(alloc, session),
+        "finish" => finish(alloc, session),
+        _ => return None,
+    };
+    Some(answer)
+}
+
+// Keeps a new editor, and answers the root that it edits.
+fn keep(
+    alloc: Global,
+    session: &mut Session,
+    editor: SyntaxEditor,
+    root: &SyntaxNode,
+) -> Result<String, NoAnswer> {
+    session.editors.push(editor)?;
+    given(alloc, root)
+}
+
+fn new(alloc: Global, session: &mut Session, words: &mut Words) -> Result<String, NoAnswer> {
+    let node = session.trees.node(alloc, words.word()?)?;
+    match SyntaxEditor::new(alloc, &mut session.ids, node) {
+        Ok((editor, root)) => keep(alloc, session, editor, &root),
+        Err(refusal) => refused(alloc, refusal),
+    }
+}
+
+fn with_ast_node(
+    alloc: Global,
+    session: &mut Session,
+    words: &mut Words,
+) -> Result<String, NoAnswer> {
+    let node = session.trees.node(alloc, words.word()?)?;
+    let block = BlockExpr::cast(node).ok_or(NoAnswer::Missing("no block"))?;
+    match SyntaxEditor::with_ast_node(alloc, &mut session.ids, &block) {
+        Ok((editor, root)) => keep(alloc, session, editor, root.syntax()),
+        Err(refusal) => refused(alloc, refusal),
+    }
+}
+
+/// The last editor, which is taken.
+pub fn take_last(session: &mut Session) -> Result<SyntaxEditor, NoAnswer> {
+    session
+        .editors
+        .pop()
+        .ok_or(NoAnswer::Missing("no editor was made"))
+}
+
+// The last editor goes into the one before it.
+fn merge(alloc: Global, session: &mut Session) -> Result<String, NoAnswer> {
+    let other = take_last(session)?;
+    match last(&mut session.editors)?.merge(alloc, other) {
+        Ok(()) => ok(alloc),
+        Err((refusal, other)) => {
+            session.editors.push(other)?;
+            refused(alloc, refusal)
+        }
+    }
+}
+
+fn finish(alloc: Global, session: &mut Session) -> Result<String, NoAnswer> {
+    let editor = take_last(session)?;
+    let edit = editor.finish(alloc, &mut session.ids);
+    keep_edit(alloc, session, edit)
+}

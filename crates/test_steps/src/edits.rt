@@ -1,0 +1,90 @@
+//! What edits give: their roots, changed and annotated elements, and nodes that are found again.
+
+use crate::answers::{given, memory, none, paths_of, refused, text_of};
+use crate::making::annotation;
+use crate::session::Session;
+use cst_core::SyntaxNode;
+use std::alloc::Global;
+use syntax_editor::{EditError, SyntaxEdit};
+use test_trees::{NoAnswer, Words, push_path};
+
+/// What the step of this name answers, if it is one of these.
+pub fn answer(
+    alloc: Global,
+    session: &mut Session,
+    name: &str,
+    words: &mut Words,
+) -> Option<Result<String, NoAnswer>> {
+    let answer = match name {
+        "old_text" => old_text(alloc, session),
+        "new_text" => new_text(alloc, session),
+        "changed" => changed(alloc, session),
+        "annotated" => annotated(alloc, session, words),
+        "find_element" => find_element(alloc, session, words),
+        _ => return None,
+    };
+    Some(answer)
+}
+
+fn last(session: &Session) -> Result<&SyntaxEdit, NoAnswer> {
+    session
+        .edits
+        .last()
+        .ok_or(NoAnswer::Missing("no edit was made"))
+}
+
+/// Keeps an edit, and answers its new root.
+pub fn keep_edit(
+    alloc: Global,
+    session: &mut Session,
+    edit: Result<SyntaxEdit, EditError>,
+) -> Result<String, NoAnswer> {
+    match edit {
+        Ok(edit) => {
+            let answer = given(alloc, edit.new_root())?;
+            session.edits.push(edit)?;
+            Ok(answer)
+        }
+        Err(refusal) => refused(alloc, refusal),
+    }
+}
+
+fn old_text(alloc: Global, session: &Session) -> Result<String, NoAnswer> {
+    text_of(alloc, last(session)?.old_root())
+}
+
+fn new_text(alloc: Global, session: &Session) -> Result<String, NoAnswer> {
+    text_of(alloc, last(session)?.new_root())
+}
+
+fn changed(alloc: Global, session: &Session) -> Result<String, NoAnswer> {
+    paths_of(alloc, last(session)?.changed_elements())
+}
+
+// The elements of the annotation of the next word, or of the first one.
+fn annotated(alloc: Global, session: &Session, words: &mut Words) -> Result<String, NoAnswer> {
+    let Some(annotation) = annotation(words.next().unwrap_or("1")) else {
+        return Err(NoAnswer::Arguments);
+    };
+    paths_of(alloc, last(session)?.find_annotation(annotation))
+}
+
+fn find_element(
+    alloc: Global,
+    session: &mut Session,
+    words: &mut Words,
+) -> Result<String, NoAnswer> {
+    let old = session.trees.node(alloc, words.word()?)?;
+    match last(session)?.find_element(alloc, &old) {
+        Ok(Some(node)) => with_path(alloc, &node),
+        Ok(None) => none(alloc),
+        Err(_) => memory(alloc),
+    }
+}
+
+fn with_path(alloc: Global, node: &SyntaxNode) -> Result<String, NoAnswer> {
+    let mut answer = given(alloc, node)?;
+    answer.push_str(" at ")?;
+    push_path(&mut answer, node.slots())?;
+    Ok(answer)
+}

@@ -1,0 +1,122 @@
+//! Builders of mappings, and where their pairs go.
+
+use crate::answers::{done, grown, ok};
+use crate::mappings;
+use crate::session::{Session, last};
+use cst_core::SyntaxNode;
+use std::alloc::Global;
+use syntax_editor::SyntaxMappingBuilder;
+use test_trees::{NoAnswer, Words};
+
+/// What the step of this name answers, if it is one of these.
+pub fn answer(
+    alloc: Global,
+    session: &mut Session,
+    name: &str,
+    words: &mut Words,
+) -> Option<Result<String, NoAnswer>> {
+    let answer = match name {
+        "builder" => builder(alloc, session, words),
+        "map_node" => map_node(alloc, session, words),
+        "map_children" => map_children(alloc, session, words),
+        "map" => map(alloc, session, words),
+        "map_all" => map_all(alloc, session),
+        "finish_builder" => finish_builder(alloc, session),
+        "add_mapping" => add_mapping(alloc, session),
+        _ => return None,
+    };
+    Some(answer)
+}
+
+fn keep_builder(alloc: Global, session: &mut Session, parent: SyntaxNode) -> Result<(), NoAnswer> {
+    let builder = SyntaxMappingBuilder::new(alloc, parent);
+    Ok(session.builders.push(builder)?)
+}
+
+fn builder(alloc: Global, session: &mut Session, words: &mut Words) -> Result<String, NoAnswer> {
+    let parent = session.trees.node(alloc, words.word()?)?;
+    keep_builder(alloc, session, parent)?;
+    ok(alloc)
+}
+
+fn map_node(alloc: Global, session: &mut Session, words: &mut Words) -> Result<String, NoAnswer> {
+    let input = words.word()?;
+    let output = words.word()?;
+    pair(alloc, session, input, output)
+}
+
+// The last builder is told of a pair.
+fn pair(
+    alloc: Global,
+    session: &mut Session,
+    input: &str,
+    output: &str,
+) -> Result<String, NoAnswer> {
+    let input = session.trees.node(alloc, input)?;
+    let output = session.trees.node(alloc, output)?;
+    let builder = session
+        .builders
+        .last_mut()
+        .ok_or(NoAnswer::Missing("no builder was made"))?;
+    done(alloc, builder.map_node(alloc, input, output))
+}
+
+fn map_children(
+    alloc: Global,
+    session: &mut Session,
+    words: &mut Words,
+) -> Result<String, NoAnswer> {
+    let (inputs, outputs) = words
+        .take_rest()
+        .split_once(" to ")
+        .ok_or(NoAnswer::Missing("no copies are said"))?;
+    let inputs = session.trees.nodes(alloc, inputs)?;
+    let outputs = session.trees.nodes(alloc, outputs)?;
+    let builder = session
+        .builders
+        .last_mut()
+        .ok_or(NoAnswer::Missing("no builder was made"))?;
+    done(alloc, builder.map_children(alloc, &inputs, &outputs))
+}
+
+// A builder of the copy's parent, with one pair.
+fn map(alloc: Global, session: &mut Session, words: &mut Words) -> Result<String, NoAnswer> {
+    let input = words.word()?;
+    let output = words.word()?;
+    let copy = session.trees.node(alloc, output)?;
+    keep_builder(
+        alloc,
+        session,
+        copy.parent(alloc)?.ok_or(NoAnswer::Missing("no parent"))?,
+    )?;
+    pair(alloc, session, input, output)
+}
+
+fn last_builder(session: &mut Session) -> Result<SyntaxMappingBuilder, NoAnswer> {
+    session
+        .builders
+        .pop()
+        .ok_or(NoAnswer::Missing("no builder was made"))
+}
+
+// The pairs of the last builder go into the mapping of the last editor.
+fn map_all(alloc: Global, session: &mut Session) -> Result<String, NoAnswer> {
+    let builder = last_builder(session)?;
+    let editor = last(&mut session.editors)?;
+    let mapping = editor
+        .make_mut()
+        .mappings()
+        .ok_or(NoAnswer::Missing("no mappings"))?;
+    grown(alloc, builder.finish(alloc, mapping))
+}
+
+// The pairs of the last builder go into the last mapping: by the builder's call, and by the mapping's.
+fn finish_builder(alloc: Global, session: &mut Session) -> Result<String, NoAnswer> {
+    let builder = last_builder(session)?;
+    grown(alloc, builder.finish(alloc, mappings::last(session)?))
+}
+
+fn add_mapping(alloc: Global, session: &mut Session) -> Result<String, NoAnswer> {
+    let builder = last_builder(session)?;
+    grown(alloc, mappings::last(session)?.add_mapping(alloc, builder))
+}

@@ -1,0 +1,184 @@
+//! Plans: of an editor, or built of changes and registered elements.
+ghost use Rattle.std.specs.Prelude.{◌≡◌, ◌↔◌, ◌<◌, [], length, IsTrue, IfOk, All};
+ghost use Rattle.edit_plan.specs.Fits.{Fits};
+
+use crate::answers::{counted, counted_or_none, ok, refused, truth};
+use crate::editors::take_last;
+use crate::edits::keep_edit;
+use crate::making::annotation;
+use crate::session::{Session, position};
+use cst_core::SyntaxNode;
+use std::alloc::Global;
+use std::mem::replace;
+use syntax_editor::{Change, EditError, EditPlan, ElementList, SyntaxMapping};
+use test_trees::{NoAnswer, Words, word};
+
+/// What the step of this name answers, if it is one of these.
+pub fn answer(
+    alloc: Global,
+    session: &mut Session,
+    name: &str,
+    words: &mut Words,
+) -> Option<Result<String, NoAnswer>> {
+    let answer = match name {
+        "plan" => plan(alloc, session),
+        "change" => change(alloc, session, words),
+        "register" => register(alloc, session, words),
+        "build" => build(alloc, session, words),
+        "run" => run(alloc, session),
+        "is_dropped" => is_dropped(alloc, session, words),
+        "owner" => owner(alloc, session, words),
+        _ => return None,
+    };
+    Some(answer)
+}
+
+fn plan(alloc: Global, session: &mut Session) -> Result<String, NoAnswer> {
+    let editor = take_last(session)?;
+    keep_plan(alloc, session, editor.plan(alloc))
+}
+
+// Keeps a plan, and answers how many changes it has.
+fn keep_plan(
+    alloc: Global,
+    session: &mut Session,
+    plan: Result<EditPlan, EditError>,
+) -> Result<String, NoAnswer> {
+    match plan {
+        Ok(plan) => {
+            let count = plan.len();
+            session.plans.push(plan)?;
+            counted(alloc, count as u64)
+        }
+        Err(refusal) => refused(alloc, refusal),
+    }
+}
+
+// One more change of the plan that is built.
+fn change(alloc: Global, session: &mut Session, words: &mut Words) -> Result<String, NoAnswer> {
+    let change = match words.word()? {
+        "insert" => insert(alloc, session, words)?,
+        "insert_all" => insert_all(alloc, session, words)?,
+        "delete" => delete(alloc, session, words)?,
+        "replace" => replacement(alloc, session, words)?,
+        "replace_with_many" => replace_with_many(alloc, session, words)?,
+        "replace_all" => replace_all(alloc, session, words)?,
+        _ => return Err(NoAnswer::Arguments),
+    };
+    session.changes.push(change)?;
+    ok(alloc)
+}
+
+fn insert(alloc: Global, session: &Session, words: &mut Words) -> Result<Change, NoAnswer> {
+    let at = position(alloc, &session.trees, words)?;
+    let new = session.trees.element(alloc, words.word()?)?;
+    Ok(Change::Insert(at, new))
+}
+
+fn insert_all(alloc: Global, session: &Session, words: &mut Words) -> Result<Change, NoAnswer> {
+    let at = position(alloc, &session.trees, words)?;
+    let new = session.trees.elements(alloc, words)?;
+    Ok(Change::InsertAll(at, ElementList::from(new)))
+}
+
+fn delete(alloc: Global, session: &Session, words: &mut Words) -> Result<Change, NoAnswer> {
+    let target = session.trees.element(alloc, words.word()?)?;
+    Ok(Change::Replace(target, None))
+}
+
+fn replacement(alloc: Global, session: &Session, words: &mut Words) -> Result<Change, NoAnswer> {
+    let target = session.trees.element(alloc, words.word()?)?;
+    let new = session.trees.element(alloc, words.word()?)?;
+    Ok(Change::Replace(target, Some(new)))
+}
+
+fn replace_with_many(
+    alloc: Global,
+    session: &Session,
+    words: &mut Words,
+) -> Result<Change, NoAnswer> {
+    let target = session.trees.element(alloc, words.word()?)?;
+    let new = session.trees.elements(alloc, words)?;
+    Ok(Change::ReplaceWithMany(target, ElementList::from(new)))
+}
+
+fn replace_all(alloc: Global, session: &Session, words: &mut Words) -> Result<Change, NoAnswer> {
+    let first = session.trees.element(alloc, words.word()?)?;
+    let end = session.trees.element(alloc, words.word()?)?;
+    let new = session.trees.elements(alloc, words)?;
+    Ok(Change::ReplaceAll(first, end, ElementList::from(new)))
+}
+
+// One more registered element of the plan that is built.
+fn register(alloc: Global, session: &mut Session, words: &mut Words) -> Result<String, NoAnswer> {
+    let element = session.trees.element(alloc, words.word()?)?;
+    let Some(annotation) = annotation(words.next().unwrap_or("1")) else {
+        return Err(NoAnswer::Arguments);
+    };
+    let registration = (element, annotation);
+    session.registrations.push(registration)?;
+    ok(alloc)
+}
+
+// Whether each change fits the tree with this root.
+fn all_fit(root: &SyntaxNode, changes: &[Change]) -> bool
+    requires { root.now.path ≡ [] }
+    ensures { IsTrue result ↔ All (Fits root.now) changes.now }
+{
+    changes.iter().all(|change| change.fits(root))
+}
+
+// A plan of the changes and registered elements so far, by the last mapping, or by none.
+fn build(alloc: Global, session: &mut Session, words: &mut Words) -> Result<String, NoAnswer> {
+    let root = session.trees.node(alloc, words.word()?)?;
+    if !root.slots().is_empty() {
+        return Err(NoAnswer::Missing("no root stands there"));
+    }
+    let changes = replace(&mut session.changes, Vec::new(alloc));
+    if !all_fit(&root, &changes) {
+        return word(alloc, "not fitting");
+    }
+    let registrations = replace(&mut session.registrations, Vec::new(alloc));
+    let mapping = session.mappings.pop().unwrap_or(SyntaxMapping::new(alloc));
+    let plan = EditPlan::build(alloc, root, changes, registrations, mapping);
+    keep_plan(alloc, session, plan)
+}
+
+fn last(session: &Session) -> Result<&EditPlan, NoAnswer> {
+    session
+        .plans
+        .last()
+        .ok_or(NoAnswer::Missing("no plan was made"))
+}
+
+fn run(alloc: Global, session: &mut Session) -> Result<String, NoAnswer> {
+    let plan = session
+        .plans
+        .last()
+        .ok_or(NoAnswer::Missing("no plan was made"))?;
+    let edit = plan.run(alloc, &mut session.ids);
+    keep_edit(alloc, session, edit)
+}
+
+// A change of the last plan.
+fn change_number(plan: &EditPlan, words: &mut Words) -> Result<usize, NoAnswer>
+    ensures { IfOk result (λ change. change < length plan.now.changes) }
+{
+    let change = words.count()?;
+    if change >= plan.len() {
+        return Err(NoAnswer::Missing("no change has this number"));
+    }
+    Ok(change)
+}
+
+fn is_dropped(alloc: Global, session: &mut Session, words: &mut Words) -> Result<String, NoAnswer> {
+    let plan = last(session)?;
+    let change = change_number(plan, words)?;
+    truth(alloc, plan.is_dropped(change))
+}
+
+fn owner(alloc: Global, session: &mut Session, words: &mut Words) -> Result<String, NoAnswer> {
+    let plan = last(session)?;
+    let change = change_number(plan, words)?;
+    counted_or_none(alloc, plan.owner(change).map(|owner| owner as u64))
+}

@@ -1,0 +1,94 @@
+//! What the last editor has recorded.
+
+use crate::answers::{memory, none, push_item, some_or_none, truth};
+use crate::session::{Session, last};
+use cst_core::SyntaxElement;
+use std::alloc::{AllocError, Global};
+use syntax_editor::Change;
+use test_trees::{NoAnswer, Words, number, push_quoted};
+
+/// What the step of this name answers, if it is one of these.
+pub fn answer(
+    alloc: Global,
+    session: &mut Session,
+    name: &str,
+    words: &mut Words,
+) -> Option<Result<String, NoAnswer>> {
+    let answer = match name {
+        "changes" => changes(alloc, session),
+        "deleted" => deleted(alloc, session, words),
+        "deletions" => deletions(alloc, session),
+        "inserted" => inserted(alloc, session),
+        "fits" => fits(alloc, session, words),
+        _ => return None,
+    };
+    Some(answer)
+}
+
+// How many changes there are.
+fn changes(alloc: Global, session: &mut Session) -> Result<String, NoAnswer> {
+    let editor = last(&mut session.editors)?;
+    number(alloc, editor.changes().len() as u64)
+}
+
+fn deleted(alloc: Global, session: &mut Session, words: &mut Words) -> Result<String, NoAnswer> {
+    let editor = last(&mut session.editors)?;
+    let element = session.trees.element(alloc, words.word()?)?;
+    match editor.deleted(alloc, element) {
+        Ok(is_deleted) => truth(alloc, is_deleted),
+        Err(_) => memory(alloc),
+    }
+}
+
+// The paths of what is deleted, one element each, in the order of the changes.
+fn deletions(alloc: Global, session: &mut Session) -> Result<String, NoAnswer> {
+    let editor = last(&mut session.editors)?;
+    let mut paths = String::new(alloc);
+    for change in editor.changes() {
+        if let Change::Replace(element, None) = change {
+            push_item(&mut paths, element.slots())?;
+        }
+    }
+    some_or_none(alloc, paths)
+}
+
+// What the last change inserts, if that is several elements: the text of each, and the number of its tree.
+fn inserted(alloc: Global, session: &mut Session) -> Result<String, NoAnswer> {
+    let editor = last(&mut session.editors)?;
+    match editor.changes().last() {
+        Some(Change::InsertAll(_, elements)) => texts_of(alloc, elements.as_slice()),
+        _ => none(alloc),
+    }
+}
+
+fn texts_of(alloc: Global, elements: &[SyntaxElement]) -> Result<String, NoAnswer> {
+    let mut texts = String::new(alloc);
+    for element in elements {
+        push_element(alloc, &mut texts, element)?;
+    }
+    some_or_none(alloc, texts)
+}
+
+fn push_element(
+    alloc: Global,
+    out: &mut String,
+    element: &SyntaxElement,
+) -> Result<(), AllocError> {
+    if !out.is_empty() {
+        out.push_str(", ")?;
+    }
+    push_quoted(out, &element.text(alloc)?)?;
+    write!(out, " of {}", element.tree())
+}
+
+// Whether the first change is one of the tree that the node is of.
+fn fits(alloc: Global, session: &mut Session, words: &mut Words) -> Result<String, NoAnswer> {
+    let node = session.trees.node(alloc, words.word()?)?;
+    let root = node.tree_top(alloc)?;
+    let editor = last(&mut session.editors)?;
+    let change = editor
+        .changes()
+        .first()
+        .ok_or(NoAnswer::Missing("no change"))?;
+    truth(alloc, change.fits(&root))
+}

@@ -1,0 +1,120 @@
+//! Tree expressions in which `[NAME]` stands for the expression of the tree of that name.
+
+use cst_core::{GreenNode, TreeError};
+use std::alloc::{AllocError, Global};
+use thiserror::Error;
+use tree_text::{ExpressionError, read_tree};
+
+/// Why there is no tree.
+#[derive(Debug, PartialEq, Eq, Drop, Error)]
+pub enum RowError {
+    /// The text is no tree expression.
+    #[error("Malformed")]
+    Malformed,
+    /// No kind has this name.
+    #[error("UnknownKind")]
+    UnknownKind,
+    /// Too many parentheses are open at once.
+    #[error("TooDeep")]
+    TooDeep,
+    /// No tree has this name.
+    #[error("UnknownRow")]
+    UnknownRow,
+    /// The tree cannot be made.
+    #[error("{0}")]
+    Tree(#[from] TreeError),
+    /// Memory was refused.
+    #[error("Memory")]
+    Memory(#[from(alloc)] AllocError),
+}
+
+impl RowError {
+    /// Whether memory was refused.
+    pub fn is_memory(&self) -> bool {
+        match self {
+            RowError::Memory(_) => true,
+            RowError::Tree(error) => *error == TreeError::Memory,
+            _ => false,
+        }
+    }
+}
+
+impl From<ExpressionError> for RowError {
+    fn from(error: ExpressionError) -> RowError {
+        match error {
+            ExpressionError::Malformed => RowError::Malformed,
+            ExpressionError::UnknownKind => RowError::UnknownKind,
+            ExpressionError::TooDeep => RowError::TooDeep,
+            ExpressionError::Tree(error) => RowError::Tree(error),
+            ExpressionError::Memory => RowError::Memory(AllocError),
+        }
+    }
+}
+
+// A tree that has a name.
+#[derive(Drop)]
+pub(crate) struct Row {
+    pub(crate) name: &'static str,
+    pub(crate) expression: String,
+}
+
+/// The tree of this name.
+pub(crate) fn find_row(alloc: Global, rows: &[Row], name: &str) -> Result<GreenNode, RowError> {
+    let row = row_of(rows, name)?;
+    Ok(read_tree(alloc, &row.expression)?)
+}
+
+fn row_of<'a>(rows: &'a [Row], name: &str) -> Result<&'a Row, RowError> {
+    rows.iter()
+        .find(|row| row.name == name)
+        .ok_or(RowError::UnknownRow)
+}
+
+// What the next character belongs to.
+#[derive(Clone, Copy)]
+enum Place {
+    Outside,
+    Text,
+    // Behind a backslash of a text.
+    Escape,
+    RowName,
+}
+
+/// The expression with those of these rows in the places of their names.
+pub(crate) fn expand(alloc: Global, rows: &[Row], expression: &str) -> Result<String, RowError> {
+    let mut expanded = String::new(alloc);
+    let mut name = String::new(alloc);
+    let mut place = Place::Outside;
+    for c in expression.chars() {
+        place = match (place, c) {
+            // A name alone is no node.
+            (Place::Outside, '[') if expanded.is_empty() => return Err(RowError::Malformed),
+            (Place::Outside, '[') => Place::RowName,
+            (Place::RowName, ']') => {
+                expanded.push_str(&row_of(rows, &name)?.expression)?;
+                name.clear();
+                Place::Outside
+            }
+            (Place::RowName, c) => {
+                name.push(c)?;
+                Place::RowName
+            }
+            (place, c) => {
+                expanded.push(c)?;
+                behind(place, c)
+            }
+        };
+    }
+    Ok(expanded)
+}
+
+// Where the character behind this one is, outside of names.
+fn behind(place: Place, c: char) -> Place {
+    match (place, c) {
+        (Place::Outside, '"') => Place::Text,
+        (Place::Text, '"') => Place::Outside,
+        (Place::Text, '\\') => Place::Escape,
+        (Place::Escape, _) => Place::Text,
+        (place, _) => place,
+    }
+}

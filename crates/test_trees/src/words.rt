@@ -1,0 +1,101 @@
+//! The words that rows of tests are written in.
+
+use crate::no_answer::NoAnswer;
+use std::alloc::Global;
+
+/// What is left of a text. Any number of spaces may stand between its words.
+#[derive(Drop)]
+pub struct Words<'a> {
+    rest: &'a str,
+}
+
+impl<'a> Words<'a> {
+    pub fn of(text: &'a str) -> Words<'a> {
+        Words {
+            rest: text.trim_matches(' '),
+        }
+    }
+
+    /// The next word, if there is one.
+    pub fn next(&mut self) -> Option<&'a str> {
+        if self.rest.is_empty() {
+            return None;
+        }
+        let (word, rest) = first_word(self.rest);
+        self.rest = rest.trim_start_matches(' ');
+        Some(word)
+    }
+
+    /// The next word, which must be there.
+    pub fn word(&mut self) -> Result<&'a str, NoAnswer> {
+        self.next().ok_or(NoAnswer::Arguments)
+    }
+
+    /// The next word as a number.
+    pub fn number(&mut self) -> Result<u64, NoAnswer> {
+        number_of(self.word()?)
+    }
+
+    /// The next word as a number of elements, or as a slot.
+    pub fn count(&mut self) -> Result<usize, NoAnswer> {
+        count_of(self.word()?)
+    }
+
+    /// The next word as a level.
+    pub fn level(&mut self) -> Result<u8, NoAnswer> {
+        self.word()?.parse::<u8>().ok().ok_or(NoAnswer::Arguments)
+    }
+
+    /// All that is left, as it stands.
+    pub fn take_rest(&mut self) -> &'a str {
+        let rest = self.rest;
+        self.rest = "";
+        rest
+    }
+
+    /// That nothing is left.
+    pub fn end(&self) -> Result<(), NoAnswer> {
+        if self.rest.is_empty() {
+            Ok(())
+        } else {
+            Err(NoAnswer::Arguments)
+        }
+    }
+}
+
+/// The first word, and what stands behind the space after it.
+pub fn first_word(text: &str) -> (&str, &str) {
+    text.split_once(' ').unwrap_or((text, ""))
+}
+
+/// A number in decimal digits.
+pub fn number_of(digits: &str) -> Result<u64, NoAnswer> {
+    digits.parse::<u64>().ok().ok_or(NoAnswer::Arguments)
+}
+
+fn count_of(digits: &str) -> Result<usize, NoAnswer> {
+    digits.parse::<usize>().ok().ok_or(NoAnswer::Arguments)
+}
+
+/// The slots of a path, as `1/0`; those of a root are `.`.
+pub fn slots_of(alloc: Global, path: &str) -> Result<Vec<usize>, NoAnswer> {
+    let mut slots = Vec::new(alloc);
+    if path == "." {
+        return Ok(slots);
+    }
+    for digits in path.split('/') {
+        slots.push(count_of(digits)?)?;
+    }
+    Ok(slots)
+}
+
+/// The name of a tree and the path in it, as of `L/1/0`; that of `L` is `.`.
+pub fn name_and_path(reference: &str) -> (&str, &str) {
+    reference.split_once('/').unwrap_or((reference, "."))
+}
+
+/// What has this name in a table.
+pub fn find_named<'a, T>(table: &'a [(&str, T)], name: &str) -> Option<&'a T> {
+    let (_, named) = table.iter().find(|(own, _)| *own == name)?;
+    Some(named)
+}
