@@ -3,11 +3,11 @@
 #![tactic(auto)]
 
 use anyhow::Result;
-use test_model::{Answers, answers_to};
 use std::alloc::Global;
 use std::io::read_to_string;
 use std::process::ExitCode;
 use syned_run::{Recorded, record_script};
+use test_model::{Answers, answers_to};
 
 // What both answer, where the script comes to its end.
 fn compared(alloc: Global, script: &str) -> Result<Option<Answers>> {

@@ -1,8 +1,8 @@
 use anyhow::{Context, Result};
 use cst_core::{SyntaxElement, SyntaxNode, TreeIds};
-use test_trees::{green, row};
 use std::alloc::Global;
 use syntax_editor::{SyntaxMapping, SyntaxMappingBuilder};
+use test_trees::{green, row};
 
 // The expressions of the trees.
 #[derive(Clone, Copy)]

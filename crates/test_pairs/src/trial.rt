@@ -3,9 +3,9 @@ use crate::single::Single;
 use crate::trees::Trees;
 use anyhow::{Context, Result};
 use cst_core::{SyntaxNode, TreeIds};
-use test_model::{Answers, answers_to};
 use std::alloc::Global;
 use syntax_editor::{SyntaxEditor, SyntaxMapping};
+use test_model::{Answers, answers_to};
 
 /// Tries pairs, each with a new editor.
 #[derive(Drop)]
