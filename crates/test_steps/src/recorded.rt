@@ -34,7 +34,7 @@ fn changes(alloc: Global, session: &mut Session) -> Result<String, NoAnswer> {
 fn deleted(alloc: Global, session: &mut Session, words: &mut Words) -> Result<String, NoAnswer> {
     let editor = last(&mut session.editors)?;
     let element = session.trees.element(alloc, words.word()?)?;
-    match editor.deleted(alloc, element) {
+    match editor.deleted(alloc, &element) {
         Ok(is_deleted) => truth(alloc, is_deleted),
         Err(_) => memory(alloc),
     }
