@@ -1,7 +1,7 @@
 ghost use Rattle.std.specs.Prelude.{◌≡◌, cond, Some, None, OnOk, IfOk, IfErr};
 ghost use Rattle.cst_core.specs.Path.{Path, has_path};
 ghost use Rattle.rewriting.specs.Topmost.{paths_of};
-ghost use Rattle.edit_change.specs.inner.TargetIndex.{number_at, lesser, least, IsIndex};
+ghost use Rattle.edit_change.specs.inner.TargetIndex.{number_at, IsEntered, lesser, least, IsIndex};
 ghost use Rattle.edit_change.specs.Nesting.{first_clash};
 ghost use Rattle.edit_change.specs.Clash.{ClashRefuses};
 
@@ -75,7 +75,7 @@ impl TargetIndex {
 
     /// Puts a number at each of these paths.
     fn insert_all(&mut self, paths: Vec<Vec<usize>>, number: usize) -> Result<(), AllocError>
-        ensures { OnOk result ((p : Path) → number_at self.new p ≡ cond (has_path (paths_of paths.items) p) (Some number) (number_at self.old p)) }
+        ensures { OnOk result (IsEntered self.old self.new (paths_of paths.items) number) }
     {
         for path in paths {
             self.numbers.insert(path, number)?;

@@ -1,16 +1,19 @@
 -- Plans and the edits that they make, as contracts see them, and what is refused.
 --     Plan, IsPlan                  the root, the changes, the registrations (elements with annotations) and the mapping; what is true of every plan
+--     new_plan                      the plan of these, where code has the lists
 --     plan_code, edit_code          the codes of plans and of edits, as models' values
 --     BuildRefuses                  why a plan is not built
 --     Edit                          the old root, the new root, the changed elements, and for annotations the elements that are found
+--     found_again                   the element of the new tree that stands for an old one
 --     registered                    registrations, by the values of their elements
 --     WouldMake                     the tree that a plan makes, with its origins
 --     Makes                         the edit is what the plan makes of the old tree, under a tree number
 --     RunRefuses                    why a plan is not carried out, where this is the next tree number
-use Rattle.std.specs.Prelude.{◌≡◌, ℕ, List, [], ◌∷◌, map, Some, None, All, refl}
+use Rattle.std.specs.Prelude.{◌≡◌, ℕ, List, [], ◌∷◌, map, Option, Some, None, option_map, All, Vec, refl}
+use Rattle.std.specs.Global.{Global}
 use Rattle.std.specs.Coded.{Coded, code_by, coded_ℕ, coded_list, coded×}
 use Rattle.cst_core.specs.Path.{Path}
-use Rattle.cst_core.specs.Element.{Element, IsNode, NumbersTell, element_code}
+use Rattle.cst_core.specs.Element.{Element, IsNode, NumbersTell, element_at, element_code}
 use Rattle.cst_core.specs.SyntaxElement.{element_of, syntax_at}
 use Rattle.cst_core.specs.TreeIds.{IsSpent}
 use Rattle.cst_core.specs.declared.element.SyntaxElement.{SyntaxElement}
@@ -21,7 +24,7 @@ use Rattle.edit_map.specs.Mapping.{Mapping}
 use Rattle.edit_map.specs.Builder.{IsMapping}
 use Rattle.edit_change.specs.Nesting.{first_clash}
 use Rattle.edit_plan.specs.NewTree.{OriginTree, plain, is_free, new_tree}
-use Rattle.edit_plan.specs.Results.{changed, annotated, paths_with}
+use Rattle.edit_plan.specs.Results.{changed, annotated, paths_with, found}
 use Rattle.edit_plan.specs.AnnotationTable.{found_for}
 use Rattle.edit_plan.specs.Places.{IsFirstUnplaced, ArePlaces, IsTooLong, elements_held}
 use Rattle.edit_change.specs.declared.change.Change.{Change}
@@ -33,6 +36,9 @@ pub record Plan : Type 0 where
   pub changes : List Change
   pub registrations : List (SyntaxElement × ℕ)
   pub mapping : Mapping
+
+abbrev pub new_plan : Element → Vec Change Global → Vec (SyntaxElement × ℕ) Global → Mapping → Plan
+new_plan root changes rs m = record { root = root; changes = changes.items; registrations = rs.items; mapping = m }
 
 -- the code by which a plan is a model's value
 abbrev pub plan_code : Coded Plan
@@ -62,6 +68,9 @@ pub record Edit : Type 0 where
 
 abbrev pub edit_code : Coded Edit
 edit_code = code_by (Element × (Element × (List SyntaxElement × List (ℕ × List SyntaxElement)))) (coded× element_code (coded× element_code (coded× (coded_list syntax_element_code) (coded_list (coded× coded_ℕ (coded_list syntax_element_code)))))) (λ e. (e.old_root, (e.new_root, (e.changed, e.annotated)))) (λ q. record { old_root = q.0; new_root = q.1.0; changed = q.1.1.0; annotated = q.1.1.1 }) (λ _. refl)
+
+abbrev pub found_again : Edit → Element → Option Element
+found_again e old = option_map (element_at e.new_root) (found old e.new_root.root)
 
 abbrev pub registered : List (SyntaxElement × ℕ) → List (Element × ℕ)
 registered rs = map (λ r. (element_of r.0, r.1)) rs

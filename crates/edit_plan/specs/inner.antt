@@ -5,3 +5,4 @@ pub mod PlacesRefusal
 pub mod PlanRun
 pub mod Sought
 pub mod Marks
+pub mod GivenTables

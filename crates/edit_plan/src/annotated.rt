@@ -1,13 +1,9 @@
 //! The annotations of the new tree, from the copies of registered elements.
 
-ghost use Rattle.std.specs.Prelude.{ℕ, ◌≡◌, ◌++◌, [], ◌∷◌, map, length, Some, All, IfOk, OnOk};
-ghost use Rattle.cst_core.specs.Element.{NumbersTell, IsElement, element_at};
-ghost use Rattle.cst_core.specs.SyntaxElement.{element_of, syntax_at};
-ghost use Rattle.edit_map.specs.Mapping.{followed, mapped_elements};
-ghost use Rattle.rewriting.specs.Topmost.{paths_of};
-ghost use Rattle.edit_plan.specs.AnnotationTable.{elements_at};
-ghost use Rattle.edit_plan.specs.Results.{paths_with};
-ghost use Rattle.edit_plan.specs.inner.Marks.{annotated_path, numbered_paths, path_lists};
+ghost use Rattle.std.specs.Prelude.{◌≡◌, [], map, length, All, IfOk, OnOk};
+ghost use Rattle.cst_core.specs.Element.{IsElement, element_at};
+ghost use Rattle.edit_plan.specs.inner.Marks.{annotated_path, Annotates, AreNumbered, LeadByAnnotation};
+ghost use Rattle.edit_plan.specs.inner.Marks.{TellOf, AreFollowed};
 
 use crate::annotation::SyntaxAnnotation;
 use crate::annotation_table::AnnotationTable;
@@ -22,7 +18,7 @@ fn push_annotated(
     annotation: SyntaxAnnotation,
     paths: &[Vec<usize>],
 ) -> Result<(), AllocError>
-    ensures { OnOk result (map annotated_path found.new.items ≡ map annotated_path found.old.items ++ map (λ p. (annotation, p)) (paths_of paths.now)) }
+    ensures { OnOk result (Annotates found.old found.new annotation paths.now) }
 {
     for path in paths {
         found.push((annotation, Vec::from_slice(alloc, path)?))?;
@@ -37,7 +33,7 @@ fn numbered_paths(
     copies: &[Vec<Vec<usize>>],
 ) -> Result<Vec<(SyntaxAnnotation, Vec<usize>)>, AllocError>
     requires { length copies.now ≡ length annotations.now }
-    ensures { IfOk result (λ v. map annotated_path v.items ≡ numbered_paths annotations.now (path_lists copies.now)) }
+    ensures { IfOk result (AreNumbered annotations.now copies.now) }
 {
     let mut found = Vec::new(alloc);
     for number in 0..annotations.len() {
@@ -67,7 +63,7 @@ pub(crate) fn annotated(
     copies: &[Vec<Vec<usize>>],
 ) -> Result<Vec<(SyntaxAnnotation, Vec<usize>)>, AllocError>
     requires { length copies.now ≡ length registrations.now }
-    ensures { IfOk result (λ v. map annotated_path v.items ≡ numbered_paths (map (λ r. r.1) registrations.now) (path_lists copies.now)) }
+    ensures { IfOk result (AreNumbered (map (λ r. r.1) registrations.now) copies.now) }
 {
     let annotations = annotations(alloc, registrations)?;
     numbered_paths(alloc, &annotations, copies)
@@ -80,7 +76,7 @@ pub(crate) fn followed(
     registrations: &[(SyntaxElement, SyntaxAnnotation)],
 ) -> Result<Vec<SyntaxElement>, AllocError>
     ensures long { IfOk result (λ v. length v.items ≡ length registrations.now) }
-    ensures followed { All (λ r. NumbersTell (element_of r.0 ∷ mapped_elements mapping.now)) registrations.now → IfOk result (λ v. map element_of v.items ≡ map (λ r. followed mapping.now (element_of r.0)) registrations.now) }
+    ensures followed { TellOf mapping.now registrations.now → IfOk result (AreFollowed mapping.now registrations.now) }
 {
     let mut reached = Vec::new(alloc);
     for registration in registrations {
@@ -97,7 +93,7 @@ pub(crate) fn elements_by_annotation(
 ) -> Result<AnnotationTable, AllocError>
     requires is_root { root.now.path ≡ [] }
     requires there { All (λ n. IsElement (element_at root.now n.1)) (map annotated_path annotated.now) }
-    ensures { IfOk result (λ t. (a : ℕ) → map Some (elements_at t a) ≡ map (syntax_at root.now) (paths_with a (map annotated_path annotated.now))) }
+    ensures { IfOk result (LeadByAnnotation root.now annotated.now) }
 {
     let mut table = AnnotationTable::new(alloc);
     for (annotation, path) in annotated {

@@ -1,7 +1,8 @@
 //! The elements of the new tree that are found for each annotation.
 
-ghost use Rattle.std.specs.Prelude.{ℕ, ◌≡◌, ◌++◌, nat_eq, cond, [], ◌∷◌, OnOk};
+ghost use Rattle.std.specs.Prelude.{ℕ, ◌≡◌, nat_eq, cond, [], OnOk};
 ghost use Rattle.edit_plan.specs.AnnotationTable.{elements_at};
+ghost use Rattle.edit_plan.specs.inner.Marks.{HasElementMore};
 
 use crate::annotation::SyntaxAnnotation;
 use cst_core::SyntaxElement;
@@ -41,7 +42,7 @@ impl AnnotationTable {
         annotation: SyntaxAnnotation,
         element: SyntaxElement,
     ) -> Result<(), AllocError>
-        ensures { OnOk result ((a : ℕ) → elements_at self.new a ≡ elements_at self.old a ++ cond (nat_eq annotation a) (element ∷ []) []) }
+        ensures { OnOk result (HasElementMore self.old self.new annotation element) }
     {
         let mut list = self.take(alloc, annotation);
         list.push(element)?;

@@ -1,5 +1,5 @@
-ghost use Rattle.std.specs.Prelude.{ℕ, ◌≡◌, ◌≢◌, ◌<◌, ◌++◌, [], ◌∷◌, length, IfOk, OnOk};
-ghost use Rattle.edit_plan.specs.inner.OwnerTables.{depth_of, owners_at, AreOwners};
+ghost use Rattle.std.specs.Prelude.{ℕ, ◌≡◌, ◌<◌, ◌++◌, [], ◌∷◌, length, IfOk, OnOk};
+ghost use Rattle.edit_plan.specs.inner.OwnerTables.{depth_of, owners_at, AreOwners, OwnersStay};
 
 use crate::dependent::Dependent;
 use edit_change::Change;
@@ -33,7 +33,7 @@ fn enter(owners: &mut Vec<Vec<usize>>, level: usize, owner: usize) -> Result<(),
     requires { level < length owners.now.items }
     ensures long { OnOk result (length owners.new.items ≡ length owners.old.items) }
     ensures here { OnOk result (owners_at owners.new.items level ≡ owners_at owners.old.items level ++ owner ∷ []) }
-    ensures elsewhere { OnOk result ((l : ℕ) → l ≢ level → owners_at owners.new.items l ≡ owners_at owners.old.items l) }
+    ensures elsewhere { OnOk result (OwnersStay owners.old.items owners.new.items level) }
 {
     owners[level].push(owner)?;
     Ok(())

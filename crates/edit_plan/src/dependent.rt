@@ -1,4 +1,4 @@
-ghost use Rattle.std.specs.Prelude.{ℕ, ◌≡◌, ◌≢◌, ◌<◌, ◌++◌, [], ◌∷◌, map, length, slice_get, option_and_then, All, IfOk, IfSome, OnOk};
+ghost use Rattle.std.specs.Prelude.{ℕ, ◌≡◌, ◌<◌, [], map, length, slice_get, option_and_then, All, IfOk, IfSome, OnOk};
 ghost use Rattle.cst_core.specs.Element.{Element};
 ghost use Rattle.rewriting.specs.inner.Aimed.{aims_of};
 ghost use Rattle.edit_change.specs.ChangeAim.{aim, aim_path};
@@ -7,7 +7,7 @@ ghost use Rattle.edit_change.specs.inner.Fate.{fate};
 ghost use Rattle.edit_change.specs.Nesting.{owner};
 ghost use Rattle.edit_plan.specs.NewTree.{moved_path, moved_aim};
 ghost use Rattle.edit_change.specs.inner.AimFrom.{depth};
-ghost use Rattle.edit_plan.specs.inner.OwnerTables.{places_in, moved, dependents_in, AreDependents};
+ghost use Rattle.edit_plan.specs.inner.OwnerTables.{places_in, moved, dependents_in, AreDependents, OwnsOneMore, OthersOwnAsBefore};
 
 use edit_change::{Change, Fate};
 use rewriting::Aimed;
@@ -73,8 +73,8 @@ fn enter<'a>(
 ) -> Result<(), AllocError>
     requires { owner < length table.now.items }
     ensures long { OnOk result (length table.new.items ≡ length table.old.items) }
-    ensures here { OnOk result (dependents_in table.new.items owner ≡ dependents_in table.old.items owner ++ moved dependent.entry ∷ []) }
-    ensures elsewhere { OnOk result ((c : ℕ) → c ≢ owner → dependents_in table.new.items c ≡ dependents_in table.old.items c) }
+    ensures here { OnOk result (OwnsOneMore table.old.items table.new.items owner dependent.entry) }
+    ensures elsewhere { OnOk result (OthersOwnAsBefore table.old.items table.new.items owner) }
 {
     table[owner].push(dependent)?;
     Ok(())

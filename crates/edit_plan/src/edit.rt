@@ -1,6 +1,5 @@
-ghost use Rattle.std.specs.Prelude.{◌≡◌, IfOk, option_map};
-ghost use Rattle.cst_core.specs.Element.{element_at};
-ghost use Rattle.edit_plan.specs.Results.{found};
+ghost use Rattle.std.specs.Prelude.{◌≡◌, IfOk};
+ghost use Rattle.edit_plan.specs.Plan.{found_again};
 ghost use Rattle.edit_plan.specs.AnnotationTable.{found_for};
 
 use crate::annotation::SyntaxAnnotation;
@@ -76,7 +75,7 @@ impl SyntaxEdit {
         alloc: Global,
         old: &SyntaxNode,
     ) -> Result<Option<SyntaxNode>, AllocError>
-        ensures { IfOk result (λ r. r ≡ option_map (element_at self.now.new_root) (found old.now self.now.new_root.root)) }
+        ensures { IfOk result (λ r. r ≡ found_again self.now old.now) }
     {
         let root = self.new_root.as_green();
         let Some(path) = first_node(alloc, root, old.kind(), old.text_start())? else {

@@ -1,10 +1,10 @@
 //! The first node of a kind that starts somewhere.
 
-ghost use Rattle.std.specs.Prelude.{ℕ, ◌≡◌, ◌+◌, ◌<◌, [], None, reverse, option_map, IfOk, IfSome, IfNone};
+ghost use Rattle.std.specs.Prelude.{ℕ, ◌≡◌, ◌+◌, ◌<◌, [], None, option_map, IfOk, IfSome, IfNone};
 ghost use Rattle.cst_core.specs.Tree.{text_length};
 ghost use Rattle.cst_core.specs.Green.{branch_tree, length_limit};
 ghost use Rattle.cst_core.specs.GreenElement.{element_tree};
-ghost use Rattle.edit_plan.specs.inner.FirstNode.{starts_as, first_from};
+ghost use Rattle.edit_plan.specs.inner.FirstNode.{starts_as, first_from, path_back};
 
 use cst_core::{GreenElement, GreenNode, SyntaxKind};
 use std::alloc::{AllocError, Global};
@@ -44,7 +44,7 @@ fn way_back(
     offset: u64,
 ) -> Result<Option<Vec<usize>>, AllocError>
     requires fits { begin + text_length (branch_tree node.now) < length_limit }
-    ensures { IfOk result (λ r. option_map (λ v. reverse v.items) r ≡ first_from kind.0 begin offset (branch_tree node.now)) }
+    ensures { IfOk result (λ r. path_back r ≡ first_from kind.0 begin offset (branch_tree node.now)) }
 {
     if starts_as(node, begin, kind, offset) {
         return Ok(Some(Vec::new(alloc)));

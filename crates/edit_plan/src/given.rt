@@ -1,19 +1,17 @@
 //! What each change gives, with what it owns carried out in its payload, and where registered elements stand in it.
 
-ghost use Rattle.std.specs.Prelude.{ℕ, List, None, [], ◌++◌, ◌≡◌, ◌<◌, suc, map, filter, length, All, IfOk, OnOk};
-ghost use Rattle.cst_core.specs.Path.{Path, counted_from};
-ghost use Rattle.cst_core.specs.Element.{Address, subtree};
+ghost use Rattle.std.specs.Prelude.{ℕ, None, [], ◌≡◌, ◌<◌, map, length, All, IfOk, OnOk};
+ghost use Rattle.cst_core.specs.Element.{subtree};
 ghost use Rattle.cst_core.specs.GreenElement.{element_tree};
-ghost use Rattle.cst_core.specs.SyntaxElement.{element_of};
-ghost use Rattle.rewriting.specs.inner.Aimed.{aims_of};
 ghost use Rattle.rewriting.specs.inner.Given.{given_trees};
-ghost use Rattle.rewriting.specs.inner.Marked.{MarkTree, marked, marks_of};
-ghost use Rattle.rewriting.specs.inner.Pass.{kind_only, IsMarked, AreMarkedIn, given_in};
-ghost use Rattle.rewriting.specs.Rewriting.{NumberedAim, rewritten};
+ghost use Rattle.rewriting.specs.inner.Pass.{IsMarked, given_in};
 ghost use Rattle.edit_change.specs.Change.{payload};
 ghost use Rattle.edit_plan.specs.NewTree.{payload_of};
-ghost use Rattle.edit_plan.specs.inner.Marks.{IsTableOf, element_sought, payload_sought, exchanged, marks_given, AreMarksFrom};
-ghost use Rattle.edit_plan.specs.inner.OwnerTables.{moved, owns_at, IsFilled, AreDependents, AreGiven, AreGivenFrom};
+ghost use Rattle.edit_plan.specs.inner.GivenTables.{element_rewritten, each_rewritten, FindsElement, IsMarkedEach};
+ghost use Rattle.edit_plan.specs.inner.GivenTables.{HasPayloadMarks, FillsMarks, FillsLevel, FillsLevelMarks};
+ghost use Rattle.edit_plan.specs.inner.GivenTables.{TellsGiven, TellsMarks};
+ghost use Rattle.edit_plan.specs.inner.Marks.{payload_sought};
+ghost use Rattle.edit_plan.specs.inner.OwnerTables.{moved, IsFilled};
 
 use crate::by_depth::owners_by_depth;
 use crate::dependent::{Dependent, moved_aims};
@@ -32,8 +30,8 @@ fn rewritten_element(
     index: &SoughtIndex,
     given: &GivenTable,
 ) -> Result<GreenElement, AllocError>
-    ensures tree { IfOk result (λ e. element_tree e ≡ rewritten kind_only (given_in given.now) (aims_of aims.now) [] (subtree (element_of element.now))) }
-    ensures marks { OnOk result ((trees : ℕ → List MarkTree) → AreMarkedIn given.now trees → marks_of found.new.items ≡ marks_of found.old.items ++ marked (element_sought index.now trees (aims_of aims.now) (element_of element.now))) }
+    ensures tree { IfOk result (λ e. element_tree e ≡ element_rewritten given.now aims.now element.now) }
+    ensures marks { OnOk result (FindsElement given.now aims.now index.now element.now found.old found.new) }
 {
     let old = element.green(alloc)?;
     let sought = index.at(alloc, element)?;
@@ -60,8 +58,8 @@ fn rewritten_each<'a>(
     index: &SoughtIndex,
     given: &GivenTable,
 ) -> Result<MarkedGiven<'a>, AllocError>
-    ensures trees { IfOk result (λ g. given_trees g.elements ≡ map (rewritten kind_only (given_in given.now) (aims_of aims.now) []) (map subtree (map element_of elements.now))) }
-    ensures marks { IfOk result (λ g. (trees : ℕ → List MarkTree) → AreMarkedIn given.now trees → IsMarked None g (payload_sought index.now trees (aims_of aims.now) (map element_of elements.now))) }
+    ensures trees { IfOk result (λ g. given_trees g.elements ≡ each_rewritten given.now aims.now elements.now) }
+    ensures marks { IfOk result (IsMarkedEach given.now aims.now index.now elements.now) }
 {
     let mut greens = Vec::with_capacity(alloc, elements.len())?;
     let mut marks = Vec::new(alloc);
@@ -108,7 +106,7 @@ fn payloads<'a>(
     ensures top { IfOk result (λ t. t.top ≡ None) }
     ensures long { IfOk result (λ t. length t.entries.items ≡ length changes.now) }
     ensures payloads { IfOk result (λ t. (c : ℕ) → given_in t c ≡ map subtree (payload_of changes.now c)) }
-    ensures marks { IfOk result (λ t. AreMarkedIn t (λ c. payload_sought index.now (λ n. []) [] (payload_of changes.now c))) }
+    ensures marks { IfOk result (HasPayloadMarks index.now changes.now) }
 {
     let mut entries = Vec::with_capacity(alloc, changes.len())?;
     for change in changes {
@@ -132,7 +130,7 @@ fn fill(
     ensures long { OnOk result (length given.new.entries.items ≡ length changes.now) }
     ensures top { OnOk result (given.new.top ≡ None) }
     ensures filled { OnOk result (IsFilled changes.now owner (map moved dependents.now) given.old given.new) }
-    ensures marks { OnOk result ((trees : ℕ → List MarkTree) → AreMarkedIn given.old trees → AreMarkedIn given.new (exchanged trees owner (payload_sought index.now trees (map moved dependents.now) (payload_of changes.now owner)))) }
+    ensures marks { OnOk result (FillsMarks index.now changes.now given.old given.new owner dependents.now) }
 {
     let aims = moved_aims(alloc, dependents)?;
     let payload = changes[owner].payload();
@@ -156,8 +154,8 @@ fn fill_level(
     requires top { given.now.top ≡ None }
     ensures long { OnOk result (length given.new.entries.items ≡ length changes.now) }
     ensures top { OnOk result (given.new.top ≡ None) }
-    ensures filled { OnOk result ((places : ℕ → Path) (level : ℕ) → AreDependents changes.now places dependents.now → owners.now ≡ filter (owns_at changes.now dependents.now level) (counted_from 0 (length changes.now)) → AreGivenFrom changes.now places (suc level) given.old → AreGivenFrom changes.now places level given.new) }
-    ensures marks { OnOk result ((places : ℕ → Path) (rs : List Address) (level : ℕ) → AreDependents changes.now places dependents.now → IsTableOf rs index.now → owners.now ≡ filter (owns_at changes.now dependents.now level) (counted_from 0 (length changes.now)) → AreMarksFrom rs changes.now places (suc level) given.old → AreMarksFrom rs changes.now places level given.new) }
+    ensures filled { OnOk result (FillsLevel changes.now dependents.now owners.now given.old given.new) }
+    ensures marks { OnOk result (FillsLevelMarks changes.now dependents.now index.now owners.now given.old given.new) }
 {
     for owner in owners {
         fill(alloc, changes, *owner, &dependents[*owner], index, given)?;
@@ -177,8 +175,8 @@ pub(crate) fn given<'a>(
 ) -> Result<GivenTable<'a>, AllocError>
     requires { length dependents.now ≡ length changes.now }
     ensures top { IfOk result (λ t. t.top ≡ None) }
-    ensures given { IfOk result (λ t. (places : ℕ → Path) → AreDependents changes.now places dependents.now → AreGiven changes.now places t) }
-    ensures marks { IfOk result (λ t. (places : ℕ → Path) (rs : List Address) → AreDependents changes.now places dependents.now → IsTableOf rs index.now → AreMarkedIn t (marks_given rs changes.now places)) }
+    ensures given { IfOk result (TellsGiven changes.now dependents.now) }
+    ensures marks { IfOk result (TellsMarks changes.now dependents.now index.now) }
 {
     let owners = owners_by_depth(alloc, changes, dependents)?;
     let mut given = payloads(alloc, changes, index)?;

@@ -26,13 +26,14 @@ use edit_map::laws::place_keeps_the_shape;
 /// Without a change the new tree is the old one, and nothing in it is changed.
 pub fn no_change_makes_no_difference()
     ensures tree { (places : ℕ → Path) (root : Element) → map plain (new_tree [] places root) ≡ subtree root ∷ [] }
-    ensures changed { (places : ℕ → Path) (root : Element) → flat_map (changed (is_free [])) (new_tree [] places root) ≡ [] }
+    ensures changed { (places : ℕ → Path) (root : Element)
+        → flat_map (changed (is_free [])) (new_tree [] places root) ≡ [] }
 {}
 
 /// Where no change aims at or below a path, what stands there stays as it was.
 pub fn untouched_stays()
-    ensures { (from : Address) (change : Option ℕ) (given : ℕ → List OriginTree) (cs : List NumberedAim) (p : Path) (t : SyntaxTree)
-        → IsUntouched cs p → plain (rewritten (origin from change) given cs p t) ≡ t }
+    ensures { (from : Address) (change : Option ℕ) (given : ℕ → List OriginTree) (cs : List NumberedAim)
+        (p : Path) (t : SyntaxTree) → IsUntouched cs p → plain (rewritten (origin from change) given cs p t) ≡ t }
 {}
 
 /// Where equal numbers have equal trees, a change has a place in its owner's payload exactly where something stands for the
@@ -46,7 +47,8 @@ pub fn place_stands_for_the_target()
     ensures at_some_path { (m : Mapping) (target payload : SyntaxElement) (c : Change)
         → ArePairs m → IsElement (element_of target)
         → NumbersTell (element_of payload ∷ element_of target ∷ mapped_elements m)
-        → ((p : Path) × HasPlace m (Replace target (Some payload)) c p) ↔ ((p : Path) × StandsThere m target payload c p) }
+        → ((p : Path) × HasPlace m (Replace target (Some payload)) c p)
+        ↔ ((p : Path) × StandsThere m target payload c p) }
     ensures in_a_plan { (root : Element) (changes : List Change) (registrations : List (Element × ℕ)) (m : Mapping)
         → ArePairs m → NumbersTell (elements_held root changes registrations m)
         → (owner : ℕ) (target payload : SyntaxElement)
@@ -65,10 +67,11 @@ pub fn given_is_settled()
 
 /// At one gap, what is recorded last stands first, and the elements of one change keep their order.
 pub fn inserts_stand_in_order()
-    ensures last_first { (label_at : Path → ℕ → Origin) (given : ℕ → List OriginTree) (cs : List NumberedAim) (c : NumberedAim) (p : Path) (i : ℕ)
-        → IsTrue (aims_at_gap p i c.1) → gap label_at given (cs ++ c ∷ []) p i ≡ given c.0 ++ gap label_at given cs p i }
+    ensures last_first { (label_at : Path → ℕ → Origin) (given : ℕ → List OriginTree) (cs : List NumberedAim)
+        (c : NumberedAim) (p : Path) (i : ℕ) → IsTrue (aims_at_gap p i c.1) → gap label_at given (cs ++ c ∷ []) p i ≡ given c.0 ++ gap label_at given cs p i }
     ensures in_order { (changes : List Change) (places : ℕ → Path) (c : ℕ)
-        → IsSomeAnd (slice_get changes c) (λ change. region change ≡ []) → map plain (given changes places c) ≡ map subtree (payload_of changes c) }
+        → IsSomeAnd (slice_get changes c) (λ change. region change ≡ [])
+        → map plain (given changes places c) ≡ map subtree (payload_of changes c) }
 {}
 
 /// Where no change is owned, the new text is the old one, in which the gaps and the replaced ranges of the changes that
@@ -76,7 +79,8 @@ pub fn inserts_stand_in_order()
 pub fn text_is_filled()
     ensures { (changes : List Change) (places : ℕ → Path) (root : Element)
         → All (λ c. owner changes c ≡ None) changes
-        → flat_map text (new_tree changes places root) ≡ text_filled (brought_text changes) (aims_of (undropped changes)) (subtree root) }
+        → flat_map text (new_tree changes places root)
+        ≡ text_filled (brought_text changes) (aims_of (undropped changes)) (subtree root) }
 {}
 
 /// Swapping two neighbours that aim at different gaps and share no target changes no answer.

@@ -1,10 +1,9 @@
 //! The paths of marks in the new tree, by their numbers.
 
-ghost use Rattle.std.specs.Prelude.{ℕ, [], ◌∷◌, ◌++◌, ◌≡◌, ◌≢◌, ◌<◌, Vec, drop, length, get_or, IfOk, OnOk};
-ghost use Rattle.std.specs.Global.{Global};
-ghost use Rattle.rewriting.specs.inner.Marked.{mark_of, marks_of};
+ghost use Rattle.std.specs.Prelude.{◌≡◌, ◌<◌, drop, length, IfOk, OnOk};
+ghost use Rattle.rewriting.specs.inner.Marked.{marks_of};
 ghost use Rattle.rewriting.specs.Topmost.{paths_of};
-ghost use Rattle.edit_plan.specs.inner.Marks.{paths_of_mark};
+ghost use Rattle.edit_plan.specs.inner.Marks.{paths_of_mark, NoPaths, ArePathsOf, HasPathMore, PathsStay, IsDealtOut};
 
 use rewriting::Mark;
 use std::alloc::{AllocError, Global};
@@ -23,7 +22,7 @@ fn below_top(alloc: Global, path: &[usize]) -> Result<Vec<usize>, AllocError>
 // So many empty lists.
 fn empty_lists(alloc: Global, count: usize) -> Result<Vec<Vec<Vec<usize>>>, AllocError>
     ensures size { IfOk result (λ v. length v.items ≡ count) }
-    ensures empty { IfOk result (λ v. (k : ℕ) (d : Vec (Vec ℕ Global) Global) → k < count → (get_or v.items k d).items ≡ []) }
+    ensures empty { IfOk result (λ v. NoPaths count v.items) }
 {
     let mut lists = Vec::new(alloc);
     for _ in 0..count {
@@ -40,8 +39,8 @@ fn enter(
 ) -> Result<(), AllocError>
     requires { number < length lists.now.items }
     ensures size { length lists.new.items ≡ length lists.old.items }
-    ensures here { OnOk result ((d : Vec (Vec ℕ Global) Global) → (get_or lists.new.items number d).items ≡ (get_or lists.old.items number d).items ++ path ∷ []) }
-    ensures elsewhere { OnOk result ((k : ℕ) (d : Vec (Vec ℕ Global) Global) → k ≢ number → (get_or lists.new.items k d).items ≡ (get_or lists.old.items k d).items) }
+    ensures here { OnOk result (HasPathMore lists.old.items lists.new.items number path) }
+    ensures elsewhere { OnOk result (PathsStay lists.old.items lists.new.items number) }
 {
     lists[number].push(path)?;
     Ok(())
@@ -50,7 +49,7 @@ fn enter(
 // The path of one mark goes to the list of its number, if there is one.
 fn deal(alloc: Global, lists: &mut Vec<Vec<Vec<usize>>>, mark: &Mark) -> Result<(), AllocError>
     ensures size { length lists.new.items ≡ length lists.old.items }
-    ensures lists { OnOk result ((k : ℕ) (d : Vec (Vec ℕ Global) Global) → k < length lists.old.items → paths_of (get_or lists.new.items k d).items ≡ paths_of (get_or lists.old.items k d).items ++ paths_of_mark k (mark_of mark.now ∷ [])) }
+    ensures lists { OnOk result (IsDealtOut lists.old.items lists.new.items mark.now) }
 {
     if mark.number >= lists.len() {
         return Ok(());
@@ -67,7 +66,7 @@ pub(crate) fn dealt_out(
     count: usize,
 ) -> Result<Vec<Vec<Vec<usize>>>, AllocError>
     ensures size { IfOk result (λ v. length v.items ≡ count) }
-    ensures lists { IfOk result (λ v. (k : ℕ) (d : Vec (Vec ℕ Global) Global) → k < count → paths_of (get_or v.items k d).items ≡ paths_of_mark k (marks_of marks.now)) }
+    ensures lists { IfOk result (λ v. ArePathsOf (marks_of marks.now) count v.items) }
 {
     let mut lists = empty_lists(alloc, count)?;
     for mark in marks {

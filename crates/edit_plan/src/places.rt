@@ -1,16 +1,13 @@
 //! Where the targets of owners stand in their payloads, and the first change that finds no place there.
 
-ghost use Rattle.std.specs.Prelude.{ℕ, true, ◌≡◌, ◌<◌, ◌↔◌, map, length, slice_get, None, Some, IsTrue, IfOk, IfErr, IsSomeAnd, OnOk};
-ghost use Rattle.cst_core.specs.Path.{Path};
-ghost use Rattle.cst_core.specs.declared.element.SyntaxElement.TheVariants.{Node};
-ghost use Rattle.edit_map.specs.Mapping.{Mapping};
+ghost use Rattle.std.specs.Prelude.{ℕ, true, ◌≡◌, ◌<◌, map, length, slice_get, None, Some, IfOk, IfErr, OnOk};
 ghost use Rattle.edit_change.specs.inner.Fate.{fate};
 ghost use Rattle.edit_change.specs.Nesting.{is_keeping};
-ghost use Rattle.edit_plan.specs.Places.{HasPlace, ArePlaces};
-ghost use Rattle.edit_plan.specs.inner.OwnerTables.{path_in, path_at, places_in, IsPlaceOf, IsPlaced};
+ghost use Rattle.edit_plan.specs.Places.{ArePlaces};
+ghost use Rattle.edit_plan.specs.inner.OwnerTables.{path_in, path_at, places_in, IsPlaceOf, IsPlaced, replaced_by};
+ghost use Rattle.edit_plan.specs.inner.OwnerTables.{IsFoundPlace, PlacesStay, TellsPlace};
 ghost use Rattle.edit_plan.specs.inner.PlacesRefusal.{PlacesRefuse};
 ghost use Rattle.edit_change.specs.declared.change.Change.{Change};
-ghost use Rattle.edit_change.specs.declared.change.Change.TheVariants.{Replace};
 
 use crate::dependent::owner_of;
 use crate::edit_error::EditError;
@@ -27,7 +24,7 @@ fn place_in(
     target: &SyntaxNode,
     payload: &SyntaxNode,
 ) -> Result<Option<Vec<usize>>, AllocError>
-    ensures { IfOk result (λ o. IsPlaceOf mapping.now (Replace (Node target.now) (Some (Node payload.now))) (path_in o)) }
+    ensures { IfOk result (λ o. IsPlaceOf mapping.now (replaced_by target.now payload.now) (path_in o)) }
 {
     place_is_unique();
     let Some(place) = mapping.place(alloc, target, payload)? else {
@@ -70,8 +67,8 @@ fn settle(
     requires placed { IsPlaced mapping.now changes.now places.now.items }
     ensures long { OnOk result (length places.new.items ≡ length changes.now) }
     ensures placed { OnOk result (IsPlaced mapping.now changes.now places.new.items) }
-    ensures here { OnOk result ((o : Change) → slice_get changes.now owner ≡ Some o → IsPlaceOf mapping.now o (path_at places.new.items owner)) }
-    ensures kept { OnOk result ((c : ℕ) (p : Path) → path_at places.old.items c ≡ Some p → path_at places.new.items c ≡ Some p) }
+    ensures here { OnOk result (IsFoundPlace mapping.now changes.now places.new.items owner) }
+    ensures kept { OnOk result (PlacesStay places.old.items places.new.items) }
 {
     if places[owner].is_none() {
         let place = place_of(alloc, mapping, &changes[owner])?;
@@ -82,7 +79,7 @@ fn settle(
 
 // Whether a change has its place where the target of its owner has this one.
 fn has_place(change: &Change, owner: &Change, place: &Option<Vec<usize>>) -> bool
-    ensures { (m : Mapping) → IsPlaceOf m owner.now (path_in place.now) → IsTrue result ↔ IsSomeAnd (path_in place.now) (HasPlace m owner.now change.now) }
+    ensures { TellsPlace place.now owner.now change.now result }
 {
     match place {
         Some(path) => !path.is_empty() || !change.is_behind(owner.aim_path()),

@@ -2,7 +2,7 @@ ghost use Rattle.std.specs.Prelude.{◌≡◌, ◌<◌, [], length, slice_get, o
 ghost use Rattle.std.specs.Option.{option_map_or};
 ghost use Rattle.edit_change.specs.Fits.{Fits};
 ghost use Rattle.edit_change.specs.Nesting.{is_dropped, owner};
-ghost use Rattle.edit_plan.specs.Plan.{IsPlan, BuildRefuses};
+ghost use Rattle.edit_plan.specs.Plan.{IsPlan, BuildRefuses, new_plan};
 
 use crate::annotation::SyntaxAnnotation;
 use crate::edit_error::EditError;
@@ -56,9 +56,9 @@ impl EditPlan {
     ) -> Result<EditPlan, EditError>
         requires is_root { root.path ≡ [] }
         requires fit { All (Fits root) changes.items }
-        ensures ok { IfOk result (λ p. p ≡ record { root = root; changes = changes.items; registrations = registrations.items; mapping = mapping }) }
+        ensures ok { IfOk result (λ p. p ≡ new_plan root changes registrations mapping) }
         ensures planned { IfOk result IsPlan }
-        ensures refused { IfErr result (BuildRefuses (record { root = root; changes = changes.items; registrations = registrations.items; mapping = mapping })) }
+        ensures refused { IfErr result (BuildRefuses (new_plan root changes registrations mapping)) }
     {
         // What is true of every mapping.
         let _ = mapping.len();

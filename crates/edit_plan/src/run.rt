@@ -1,25 +1,19 @@
 ghost use Rattle.std.specs.Prelude.{◌≡◌, ◌+◌, ◌<◌, ℕ, List, [], ◌∷◌, map, find, length, option_map, All, Some, IfOk, IfErr, OnOk, OnErr};
 ghost use Rattle.cst_core.specs.Green.{branch_tree, length_limit};
 ghost use Rattle.cst_core.specs.Tree.{text_length};
-ghost use Rattle.cst_core.specs.Element.{Element, IsElement, address, element_at, subtree};
+ghost use Rattle.cst_core.specs.Element.{Element, IsElement, element_at};
 ghost use Rattle.cst_core.specs.GreenElement.{element_trees};
 ghost use Rattle.cst_core.specs.SyntaxElement.{syntax_at};
+ghost use Rattle.cst_core.specs.Path.{has_path};
 ghost use Rattle.rewriting.specs.inner.Aimed.{aims_of};
-ghost use Rattle.rewriting.specs.inner.Pass.{kind_only, AreMarkedIn, given_in};
-ghost use Rattle.rewriting.specs.inner.Marked.{MarkTree, marked_from, marks_of, wanted};
-ghost use Rattle.rewriting.specs.Rewriting.{rewritten_whole};
 ghost use Rattle.rewriting.specs.Topmost.{paths_of};
-ghost use Rattle.edit_plan.specs.Plan.{Makes, RunRefuses};
-ghost use Rattle.edit_plan.specs.inner.Marks.{annotated_path, path_lists};
-ghost use Rattle.edit_plan.specs.inner.Sought.{sought_at};
-ghost use Rattle.edit_plan.specs.inner.PlanRun.{IsMade, IsOneNode, IsRewritten, KeepsTop};
-ghost use Rattle.cst_core.specs.Path.{Path, has_path};
 ghost use Rattle.edit_change.specs.Change.{targets};
 ghost use Rattle.edit_change.specs.inner.Fate.{fate};
 ghost use Rattle.edit_change.specs.Fits.{Fits};
-ghost use Rattle.edit_plan.specs.inner.OwnerTables.{AreDependents};
-ghost use Rattle.edit_plan.specs.Places.{ArePlaces};
 ghost use Rattle.edit_plan.specs.NewTree.{independents};
+ghost use Rattle.edit_plan.specs.Plan.{Makes, RunRefuses};
+ghost use Rattle.edit_plan.specs.inner.PlanRun.{AreOwned, FindsInRoot, HasMade, HasRewritten, IsOneNode, KeepsTop};
+ghost use Rattle.edit_plan.specs.inner.PlanRun.{root_rewritten};
 
 use crate::annotated::{annotated, elements_by_annotation, followed};
 use crate::annotation::SyntaxAnnotation;
@@ -81,7 +75,7 @@ impl EditPlan {
     // What each change owns, by its number.
     fn dependents(&self, alloc: Global) -> Result<Vec<Vec<Dependent<'_>>>, AllocError>
         ensures long { IfOk result (λ v. length v.items ≡ length self.now.changes) }
-        ensures dependents { IfOk result (λ v. (places : ℕ → Path) × ArePlaces self.now.mapping self.now.changes places × AreDependents self.now.changes places v.items) }
+        ensures dependents { IfOk result (λ v. AreOwned self.now v.items) }
     {
         dependents(alloc, &self.changes, &self.fates, &self.places)
     }
@@ -94,8 +88,8 @@ impl EditPlan {
         index: &SoughtIndex,
         given: &GivenTable,
     ) -> Result<Rebuilt, AllocError>
-        ensures trees { IfOk result (λ r. element_trees r.elements.items ≡ rewritten_whole kind_only (given_in given.now) (aims_of aims.now) (subtree self.now.root)) }
-        ensures marks { IfOk result (λ r. (trees : ℕ → List MarkTree) → AreMarkedIn given.now trees → marks_of r.marks.items ≡ marked_from 0 (rewritten_whole (wanted (sought_at index.now (address self.now.root))) trees (aims_of aims.now) (subtree self.now.root))) }
+        ensures trees { IfOk result (λ r. element_trees r.elements.items ≡ root_rewritten self.now given.now aims.now) }
+        ensures marks { IfOk result (λ r. FindsInRoot self.now given.now aims.now index.now r.marks) }
     {
         let root = SyntaxElement::Node(self.root.try_clone(alloc)?);
         let old = root.green(alloc)?;
@@ -168,7 +162,7 @@ impl EditPlan {
     // mark, and the next one is that of what changes without an owner give.
     fn made(&self, alloc: Global, registered: &[SyntaxElement]) -> Result<Made, AllocError>
         ensures long { IfOk result (λ m. length m.copies.items ≡ length registered.now) }
-        ensures made { IfOk result (λ m. IsMade self.now registered.now (branch_tree m.green) (path_lists m.copies.items) (paths_of m.changed.items)) }
+        ensures made { IfOk result (HasMade self.now registered.now) }
     {
         let aims = self.aims(alloc)?;
         let dependents = self.dependents(alloc)?;
@@ -188,7 +182,7 @@ impl EditPlan {
 
     // The new tree, and the paths of its changed and annotated elements.
     fn carried_out(&self, alloc: Global) -> Result<Rewritten, AllocError>
-        ensures { IfOk result (λ r. IsRewritten self.now (branch_tree r.green) (paths_of r.changed.items) (map annotated_path r.annotated.items)) }
+        ensures { IfOk result (HasRewritten self.now) }
     {
         let registered = followed(alloc, &self.mapping, &self.registrations)?;
         let Made {

@@ -1,10 +1,10 @@
 //! Registered elements, looked up by what is above them.
 
-ghost use Rattle.std.specs.Prelude.{◌≡◌, ◌++◌, ℕ, true, cond, [], ◌∷◌, map, IfOk, OnOk};
-ghost use Rattle.cst_core.specs.Element.{Address, address, same_address};
+ghost use Rattle.std.specs.Prelude.{◌≡◌, true, [], IfOk, OnOk};
+ghost use Rattle.cst_core.specs.Element.{Address, address};
 ghost use Rattle.cst_core.specs.SyntaxElement.{element_of};
 ghost use Rattle.rewriting.specs.inner.Marked.{sought_as, sought_in};
-ghost use Rattle.edit_plan.specs.inner.Sought.{addresses, spot, sought_one, sought_from, sought_at};
+ghost use Rattle.edit_plan.specs.inner.Sought.{addresses, spot, sought_from, sought_at, IsTaken, HasMarkMore, HasRegisteredMore};
 
 use cst_core::SyntaxElement;
 use rewriting::Sought;
@@ -83,7 +83,7 @@ impl<'a> SoughtIndex<'a> {
     // The list at a spot, which is taken out.
     fn take(&mut self, alloc: Global, key: &Spot) -> Vec<Sought<'a>>
         ensures list { sought_in result.items ≡ sought_at self.old (spot key.now) }
-        ensures elsewhere { (a : Address) → sought_at self.new a ≡ cond (same_address (spot key.now) a) [] (sought_at self.old a) }
+        ensures elsewhere { IsTaken self.old self.new (spot key.now) }
     {
         match self.lists.remove(key) {
             Some(list) => list,
@@ -93,7 +93,7 @@ impl<'a> SoughtIndex<'a> {
 
     // One more mark at a spot.
     fn add(&mut self, alloc: Global, key: Spot, mark: Sought<'a>) -> Result<(), AllocError>
-        ensures { OnOk result ((a : Address) → sought_at self.new a ≡ sought_at self.old a ++ cond (same_address (spot key) a) (sought_as mark.entry ∷ []) []) }
+        ensures { OnOk result (HasMarkMore self.old self.new (spot key) (sought_as mark.entry)) }
     {
         let mut list = self.take(alloc, &key);
         list.push(mark)?;
@@ -126,7 +126,7 @@ impl<'a> SoughtIndex<'a> {
         number: usize,
         element: &'a SyntaxElement,
     ) -> Result<(), AllocError>
-        ensures { OnOk result ((a : Address) → sought_at self.new a ≡ sought_at self.old a ++ sought_one a number (address (element_of element.now))) }
+        ensures { OnOk result (HasRegisteredMore self.old self.new number (address (element_of element.now))) }
     {
         let slots = element.slots();
         for depth in 0..slots.len() + 1 {

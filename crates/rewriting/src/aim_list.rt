@@ -1,9 +1,8 @@
-ghost use Rattle.std.specs.Prelude.{ℕ, ◌<◌, ◌≤◌, ◌+◌, ◌≡◌, ◌++◌, List, [], ◌∷◌, map, filter, length, get_or, IfOk, OnOk};
+ghost use Rattle.std.specs.Prelude.{◌≡◌, [], ◌∷◌, map, length, IfOk, OnOk};
 ghost use Rattle.std.specs.List.{list_any};
 ghost use Rattle.rewriting.specs.Rewriting.{inserts_at, replacements_at, gap_order, is_replaced};
-ghost use Rattle.rewriting.specs.declared.aimed.Aimed.{Aimed};
 ghost use Rattle.rewriting.specs.inner.Aimed.{aims_of, has_parent, placed, placed_below};
-ghost use Rattle.rewriting.specs.inner.Groups.{concerns};
+ghost use Rattle.rewriting.specs.inner.Groups.{GrowsInside, StaysBefore, StaysBehind, AreGrouped};
 
 use crate::aimed::Aimed;
 use crate::group::Group;
@@ -69,9 +68,9 @@ fn push_into<'a>(
     count: usize,
 ) -> Result<(), AllocError>
     ensures size { length groups.new.items ≡ length groups.old.items }
-    ensures inside { OnOk result ((k : ℕ) (d : List Aimed) → k < length groups.old.items → first ≤ k → k < first + count → get_or groups.new.items k d ≡ get_or groups.old.items k d ++ aim.entry ∷ []) }
-    ensures before { OnOk result ((k : ℕ) (d : List Aimed) → k < first → get_or groups.new.items k d ≡ get_or groups.old.items k d) }
-    ensures behind { OnOk result ((k : ℕ) (d : List Aimed) → first + count ≤ k → get_or groups.new.items k d ≡ get_or groups.old.items k d) }
+    ensures inside { OnOk result (GrowsInside groups.old.items groups.new.items first count aim.entry) }
+    ensures before { OnOk result (StaysBefore groups.old.items groups.new.items first count) }
+    ensures behind { OnOk result (StaysBehind groups.old.items groups.new.items first count) }
 {
     let end = first.saturating_add(count).min(groups.len());
     for index in first..end {
@@ -87,7 +86,7 @@ pub fn grouped<'a>(
     count: usize,
 ) -> Result<Vec<Group<'a>>, AllocError>
     ensures size { IfOk result (λ v. length v.items ≡ count) }
-    ensures groups { IfOk result (λ v. (k : ℕ) (d : List Aimed) → k < count → get_or v.items k d ≡ filter (concerns k) aims.now) }
+    ensures groups { IfOk result (λ v. AreGrouped aims.now count v.items) }
 {
     let mut groups = Vec::with_capacity(alloc, count)?;
     for _ in 0..count {

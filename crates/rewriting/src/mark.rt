@@ -1,7 +1,5 @@
-ghost use Rattle.std.specs.Global.{Global};
-ghost use Rattle.std.specs.Prelude.{ℕ, ◌<◌, ◌+◌, ◌≡◌, ◌≢◌, ◌++◌, Vec, [], ◌∷◌, map, length, get_or, IfOk, OnOk};
-ghost use Rattle.rewriting.specs.inner.Marked.{marks_of, sought_in, marks_at, seen_below, sought_below};
-ghost use Rattle.rewriting.specs.declared.mark.Sought.{Sought};
+ghost use Rattle.std.specs.Prelude.{◌<◌, ◌≡◌, [], length, IfOk, OnOk};
+ghost use Rattle.rewriting.specs.inner.Marked.{sought_in, Finds, found_at, HasOneMore, StaysElsewhere, IsDealt, AreDealt};
 
 use std::alloc::{AllocError, Global};
 
@@ -26,7 +24,7 @@ pub fn push_here(
     path: &[usize],
     sought: &[Sought],
 ) -> Result<(), AllocError>
-    ensures { OnOk result (marks_of found.new.items ≡ marks_of found.old.items ++ map (λ n. (n, path.now)) (marks_at (sought_in sought.now) [])) }
+    ensures { OnOk result (Finds found.old found.new (found_at path.now (sought_in sought.now))) }
 {
     for mark in sought {
         if mark.path.is_empty() {
@@ -43,7 +41,7 @@ pub fn push_here(
 // So many empty lists.
 fn empty_lists<'a>(alloc: Global, count: usize) -> Result<Vec<Vec<Sought<'a>>>, AllocError>
     ensures size { IfOk result (λ v. length v.items ≡ count) }
-    ensures empty { IfOk result (λ v. (k : ℕ) (d : Vec Sought Global) → k < count → (get_or v.items k d).items ≡ []) }
+    ensures empty { IfOk result (λ v. AreDealt [] count v.items) }
 {
     let mut lists = Vec::new(alloc);
     for _ in 0..count {
@@ -60,8 +58,8 @@ fn enter<'a>(
 ) -> Result<(), AllocError>
     requires { slot < length lists.now.items }
     ensures size { length lists.new.items ≡ length lists.old.items }
-    ensures here { OnOk result ((d : Vec Sought Global) → (get_or lists.new.items slot d).items ≡ (get_or lists.old.items slot d).items ++ mark.entry ∷ []) }
-    ensures elsewhere { OnOk result ((k : ℕ) (d : Vec Sought Global) → k ≢ slot → (get_or lists.new.items k d).items ≡ (get_or lists.old.items k d).items) }
+    ensures here { OnOk result (HasOneMore lists.old.items lists.new.items slot mark.entry) }
+    ensures elsewhere { OnOk result (StaysElsewhere lists.old.items lists.new.items slot) }
 {
     lists[slot].push(mark)?;
     Ok(())
@@ -70,7 +68,7 @@ fn enter<'a>(
 // One mark goes to the list of the child that its path leads to or below, if there is one.
 fn deal<'a>(lists: &mut Vec<Vec<Sought<'a>>>, mark: Sought<'a>) -> Result<(), AllocError>
     ensures size { length lists.new.items ≡ length lists.old.items }
-    ensures lists { OnOk result ((k : ℕ) (d : Vec Sought Global) → k < length lists.old.items → sought_in (get_or lists.new.items k d).items ≡ sought_in (get_or lists.old.items k d).items ++ seen_below k mark.entry.number mark.entry.path.now) }
+    ensures lists { OnOk result (IsDealt lists.old.items lists.new.items mark.entry.number mark.entry.path.now) }
 {
     let [slot, path @ ..] = mark.path else {
         return Ok(());
@@ -93,7 +91,7 @@ pub fn dealt<'a>(
     count: usize,
 ) -> Result<Vec<Vec<Sought<'a>>>, AllocError>
     ensures size { IfOk result (λ v. length v.items ≡ count) }
-    ensures lists { IfOk result (λ v. (k : ℕ) (d : Vec Sought Global) → k < count → sought_in (get_or v.items k d).items ≡ sought_below k (sought_in sought.now)) }
+    ensures lists { IfOk result (λ v. AreDealt (sought_in sought.now) count v.items) }
 {
     let mut lists = empty_lists(alloc, count)?;
     for mark in sought {

@@ -1,6 +1,6 @@
-ghost use Rattle.std.specs.Prelude.{◌≡◌, ◌++◌, map, OnOk};
-ghost use Rattle.rewriting.specs.inner.Marked.{below, marks_of};
-ghost use Rattle.rewriting.specs.inner.Pass.{own_marks, marks_there};
+ghost use Rattle.std.specs.Prelude.{map, OnOk};
+ghost use Rattle.rewriting.specs.inner.Marked.{below, marks_of, Finds};
+ghost use Rattle.rewriting.specs.inner.Pass.{own_marks, marks_at_path};
 
 use crate::given::Given;
 use crate::mark::Mark;
@@ -32,7 +32,7 @@ fn push_top(
     path: &[usize],
     top: Option<usize>,
 ) -> Result<(), AllocError>
-    ensures { OnOk result (marks_of found.new.items ≡ marks_of found.old.items ++ map (below path.now) (own_marks top)) }
+    ensures { OnOk result (Finds found.old found.new (map (below path.now) (own_marks top))) }
 {
     let Some(number) = top else {
         return Ok(());
@@ -49,7 +49,7 @@ fn push_below(
     path: &[usize],
     marks: &[Mark],
 ) -> Result<(), AllocError>
-    ensures { OnOk result (marks_of found.new.items ≡ marks_of found.old.items ++ map (below path.now) (marks_of marks.now)) }
+    ensures { OnOk result (Finds found.old found.new (map (below path.now) (marks_of marks.now))) }
 {
     for mark in marks {
         let mut longer = Vec::from_slice(alloc, path)?;
@@ -72,7 +72,7 @@ impl<'a> MarkedGiven<'a> {
         top: Option<usize>,
         index: usize,
     ) -> Result<(), AllocError>
-        ensures { OnOk result (marks_of found.new.items ≡ marks_of found.old.items ++ map (below path.now) (marks_there top self.now index)) }
+        ensures { OnOk result (Finds found.old found.new (marks_at_path path.now top self.now index)) }
     {
         push_top(alloc, found, path, top)?;
         if let Some(marks) = self.marks.get(index) {

@@ -1,12 +1,11 @@
-ghost use Rattle.std.specs.Prelude.{ℕ, ◌+◌, ◌≤◌, ◌≡◌, ◌++◌, List, [], map, flat_map, length, IfOk, OnOk};
+ghost use Rattle.std.specs.Prelude.{◌≡◌, flat_map, IfOk, OnOk};
 ghost use Rattle.green_tree.specs.Tree.{node};
 ghost use Rattle.green_tree.specs.GreenElement.{element_tree, element_trees};
-ghost use Rattle.rewriting.specs.Rewriting.{rewritten, rewritten_whole};
-ghost use Rattle.rewriting.specs.Effort.{counted, nodes_built, nodes_built_whole, touched, parents_of};
-ghost use Rattle.rewriting.specs.inner.Aimed.{aims_of};
+ghost use Rattle.rewriting.specs.Effort.{counted};
 ghost use Rattle.rewriting.specs.inner.Given.{given_trees};
-ghost use Rattle.rewriting.specs.inner.Marked.{MarkTree, marked, marked_from, below, marks_of, sought_in, wanted};
-ghost use Rattle.rewriting.specs.inner.Pass.{kind_only, IsMarked, AreMarkedIn, given_in};
+ghost use Rattle.rewriting.specs.inner.Pass.{given_in, Puts, FindsGiven, FindsChange, FindsChanges, FindsKept};
+ghost use Rattle.rewriting.specs.inner.Pass.{TouchesAtMost, CountsBuilt, CountsBuiltWhole, remade, remade_whole};
+ghost use Rattle.rewriting.specs.inner.Pass.{FindsRebuilt, FindsWhole};
 
 use crate::aim_list::{
     alter_some, below, grouped, inserted, is_replaced, replacing, replacing_top, top_is_replaced,
@@ -27,8 +26,8 @@ fn push_given(
     top: Option<usize>,
 ) -> Result<(), AllocError>
     ensures path { OnOk result (path.new.items ≡ path.old.items) }
-    ensures trees { OnOk result (element_trees out.new.items ≡ element_trees out.old.items ++ given_trees given.now.elements) }
-    ensures marks { OnOk result ((ts : List MarkTree) → IsMarked top given.now ts → marks_of found.new.items ≡ marks_of found.old.items ++ map (below path.old.items) (marked_from (length out.old.items) ts)) }
+    ensures trees { OnOk result (Puts out.old out.new (given_trees given.now.elements)) }
+    ensures marks { OnOk result (FindsGiven path.old out.old found.old found.new top given.now) }
 {
     for index in 0..given.elements.len() {
         path.push(out.len())?;
@@ -49,8 +48,8 @@ fn push_change(
     change: usize,
 ) -> Result<(), AllocError>
     ensures path { OnOk result (path.new.items ≡ path.old.items) }
-    ensures trees { OnOk result (element_trees out.new.items ≡ element_trees out.old.items ++ given_in given.now change) }
-    ensures marks { OnOk result ((trees : ℕ → List MarkTree) → AreMarkedIn given.now trees → marks_of found.new.items ≡ marks_of found.old.items ++ map (below path.old.items) (marked_from (length out.old.items) (trees change))) }
+    ensures trees { OnOk result (Puts out.old out.new (given_in given.now change)) }
+    ensures marks { OnOk result (FindsChange path.old out.old found.old found.new given.now change) }
 {
     let Some(entry) = given.entries.get(change) else {
         return Ok(());
@@ -69,8 +68,8 @@ fn push_changes(
     changes: &[usize],
 ) -> Result<(), AllocError>
     ensures path { OnOk result (path.new.items ≡ path.old.items) }
-    ensures trees { OnOk result (element_trees out.new.items ≡ element_trees out.old.items ++ flat_map (given_in given.now) changes.now) }
-    ensures marks { OnOk result ((trees : ℕ → List MarkTree) → AreMarkedIn given.now trees → marks_of found.new.items ≡ marks_of found.old.items ++ map (below path.old.items) (marked_from (length out.old.items) (flat_map trees changes.now))) }
+    ensures trees { OnOk result (Puts out.old out.new (flat_map (given_in given.now) changes.now)) }
+    ensures marks { OnOk result (FindsChanges path.old out.old found.old found.new given.now changes.now) }
 {
     for change in changes {
         push_change(alloc, out, found, path, given, *change)?;
@@ -87,7 +86,7 @@ fn push_kept(
     sought: &[Sought],
 ) -> Result<(), AllocError>
     ensures path { OnOk result (path.new.items ≡ path.old.items) }
-    ensures marks { OnOk result (marks_of found.new.items ≡ marks_of found.old.items ++ map (below path.old.items) (marked (rewritten (wanted (sought_in sought.now)) (λ c. []) [] [] (element_tree element.now)))) }
+    ensures marks { OnOk result (FindsKept sought.now element.now path.old found.old found.new) }
 {
     if sought.is_empty() {
         return Ok(());
@@ -138,10 +137,10 @@ pub fn rebuild(
     builds: &mut u64,
 ) -> Result<GreenElement, AllocError>
     ensures path { OnOk result (path.new.items ≡ path.old.items) }
-    ensures builds { OnOk result (builds.new ≤ builds.old + touched (element_tree element.now) (parents_of (aims_of aims.now))) }
-    ensures count { OnOk result (builds.new ≡ counted builds.old (nodes_built (aims_of aims.now) (element_tree element.now))) }
-    ensures tree { IfOk result (λ e. element_tree e ≡ rewritten kind_only (given_in given.now) (aims_of aims.now) [] (element_tree element.now)) }
-    ensures marks { OnOk result ((trees : ℕ → List MarkTree) → AreMarkedIn given.now trees → marks_of found.new.items ≡ marks_of found.old.items ++ map (below path.old.items) (marked (rewritten (wanted (sought_in sought.now)) trees (aims_of aims.now) [] (element_tree element.now)))) }
+    ensures builds { OnOk result (TouchesAtMost aims.now element.now builds.old builds.new) }
+    ensures count { OnOk result (CountsBuilt aims.now element.now builds.old builds.new) }
+    ensures tree { IfOk result (λ e. element_tree e ≡ remade given.now aims.now element.now) }
+    ensures marks { OnOk result (FindsRebuilt given.now aims.now sought.now element.now path.old found.old found.new) }
 {
     let _count = *builds;
     if !alter_some(aims) {
@@ -203,10 +202,10 @@ pub fn rebuild_whole(
     given: &GivenTable,
     builds: &mut u64,
 ) -> Result<Rebuilt, AllocError>
-    ensures builds { OnOk result (builds.new ≤ builds.old + touched (element_tree element.now) (parents_of (aims_of aims.now))) }
-    ensures count { OnOk result (builds.new ≡ counted builds.old (nodes_built_whole (aims_of aims.now) (element_tree element.now))) }
-    ensures trees { IfOk result (λ r. element_trees r.elements.items ≡ rewritten_whole kind_only (given_in given.now) (aims_of aims.now) (element_tree element.now)) }
-    ensures marks { IfOk result (λ r. (trees : ℕ → List MarkTree) → AreMarkedIn given.now trees → marks_of r.marks.items ≡ marked_from 0 (rewritten_whole (wanted (sought_in sought.now)) trees (aims_of aims.now) (element_tree element.now))) }
+    ensures builds { OnOk result (TouchesAtMost aims.now element.now builds.old builds.new) }
+    ensures count { OnOk result (CountsBuiltWhole aims.now element.now builds.old builds.new) }
+    ensures trees { IfOk result (λ r. element_trees r.elements.items ≡ remade_whole given.now aims.now element.now) }
+    ensures marks { IfOk result (λ r. FindsWhole given.now aims.now sought.now element.now r.marks) }
 {
     let _count = *builds;
     let mut elements = Vec::new(alloc);

@@ -1,10 +1,11 @@
 -- What changes replace, looked up by path.
 --     number_at                     the number that an index has at a path
+--     IsEntered                     these paths have this number now, where they had one or none before
 --     lesser, least                 the lesser of two numbers, of which either may be missing; the least at any of these paths
 --     target_at                     the first change that replaces what is at a path
 --     IsApart                       no two of these changes have a target in common
 --     IsIndex                       of such changes: it has at each path the one that replaces what is there
-use Rattle.std.specs.Prelude.{◌≡◌, ℕ, ⊤, false, min, List, [], ◌∷◌, position, Option, Some, None}
+use Rattle.std.specs.Prelude.{◌≡◌, ℕ, ⊤, false, cond, min, List, [], ◌∷◌, position, Option, Some, None}
 use Rattle.std.specs.HashMap.{get_by}
 use Rattle.std.specs.List.{AllByRecursion}
 use Rattle.cst_core.specs.Path.{Path, same_path, has_path}
@@ -14,6 +15,9 @@ use Rattle.edit_change.specs.declared.target_index.TargetIndex.{TargetIndex}
 
 abbrev pub number_at : TargetIndex → Path → Option ℕ
 number_at index p = get_by (λ k. same_path p k.items) index.numbers
+
+abbrev pub IsEntered : TargetIndex → TargetIndex → List Path → ℕ → Type 0
+IsEntered before after ps n = (p : Path) → number_at after p ≡ cond (has_path ps p) (Some n) (number_at before p)
 
 abbrev pub lesser : Option ℕ → Option ℕ → Option ℕ
 lesser None o = o

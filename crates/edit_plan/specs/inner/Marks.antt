@@ -8,13 +8,29 @@
 --     path_lists                    lists of paths in code
 --     annotated_path, numbered_paths      an annotation's number with a path, in code; each number with each path of its list
 --     AreMarksFrom                  a table has the marks of what changes of this depth or more give, and of those that own nothing
-use Rattle.std.specs.Prelude.{◌≡◌, ℕ, ◌≤◌, cond, nat_eq, List, [], ◌∷◌, ◌++◌, map, filter, drop, Vec}
+--     NoPaths, ArePathsOf           so many lists of paths are empty; they have the paths of these marks, each those of its number
+--     HasPathMore, PathsStay        a list has one path more at its end; the others are as they were
+--     IsDealtOut                    the path of one mark went to the list of its number, if there is one
+--     AnnotatedPaths                paths with their annotations, in code
+--     Annotates, AreNumbered        one annotation with each of these paths goes to the end; each annotation with each path of its list
+--     HasElementMore                an annotation has one element more
+--     LeadByAnnotation              elements by annotation are those that annotated paths lead to
+--     TellOf, AreFollowed           equal numbers have equal trees, as far as each registered element and the mapping go; elements are those that registered ones are followed to
+use Rattle.std.specs.Prelude.{◌≡◌, ◌≢◌, ◌<◌, ℕ, ◌≤◌, cond, nat_eq, List, [], ◌∷◌, ◌++◌, map, filter, drop, length, get_or, All, Some, Vec}
 use Rattle.std.specs.Global.{Global}
 use Rattle.cst_core.specs.Path.{Path}
 use Rattle.cst_core.specs.Tree.{relabelled}
 use Rattle.cst_core.specs.Element.{Address, Element, address, subtree}
 use Rattle.rewriting.specs.Rewriting.{NumberedAim, rewritten}
-use Rattle.rewriting.specs.inner.Marked.{MarkTree, Marking, wanted}
+use Rattle.cst_core.specs.Element.{NumbersTell}
+use Rattle.cst_core.specs.SyntaxElement.{element_of, syntax_at}
+use Rattle.cst_core.specs.declared.element.SyntaxElement.{SyntaxElement}
+use Rattle.edit_map.specs.Mapping.{Mapping, followed, mapped_elements}
+use Rattle.rewriting.specs.inner.Marked.{MarkTree, Marking, mark_of, wanted}
+use Rattle.rewriting.specs.declared.mark.Mark.{Mark}
+use Rattle.edit_plan.specs.AnnotationTable.{elements_at}
+use Rattle.edit_plan.specs.Results.{paths_with}
+use Rattle.edit_plan.specs.declared.annotation_table.AnnotationTable.{AnnotationTable}
 use Rattle.rewriting.specs.inner.Pass.{AreMarkedIn}
 use Rattle.rewriting.specs.Topmost.{paths_of}
 use Rattle.rewriting.specs.declared.marked_given.GivenTable.{GivenTable}
@@ -63,3 +79,49 @@ abbrev pub numbered_paths : List ℕ → List (List Path) → List (ℕ × Path)
 numbered_paths [] ls = []
 numbered_paths (n ∷ ns) [] = []
 numbered_paths (n ∷ ns) (ps ∷ ls) = map (λ p. (n, p)) ps ++ numbered_paths ns ls
+
+-- ---- lists of paths, for one number after another
+abbrev pub NoPaths : ℕ → List (Vec (Vec ℕ Global) Global) → Type 0
+NoPaths count lists = (k : ℕ) (d : Vec (Vec ℕ Global) Global) → k < count → (get_or lists k d).items ≡ []
+
+abbrev pub ArePathsOf : List Marking → ℕ → List (Vec (Vec ℕ Global) Global) → Type 0
+ArePathsOf ms count lists =
+    (k : ℕ) (d : Vec (Vec ℕ Global) Global) → k < count → paths_of (get_or lists k d).items ≡ paths_of_mark k ms
+
+module _ (before after : List (Vec (Vec ℕ Global) Global)) where
+  abbrev pub HasPathMore : ℕ → Vec ℕ Global → Type 0
+  HasPathMore n p = (d : Vec (Vec ℕ Global) Global) → (get_or after n d).items ≡ (get_or before n d).items ++ p ∷ []
+
+  abbrev pub PathsStay : ℕ → Type 0
+  PathsStay n = (k : ℕ) (d : Vec (Vec ℕ Global) Global) → k ≢ n → (get_or after k d).items ≡ (get_or before k d).items
+
+  abbrev pub IsDealtOut : Mark → Type 0
+  IsDealtOut m =
+      (k : ℕ) (d : Vec (Vec ℕ Global) Global) → k < length before →
+      paths_of (get_or after k d).items ≡ paths_of (get_or before k d).items ++ paths_of_mark k (mark_of m ∷ [])
+
+-- ---- annotations
+abbrev pub AnnotatedPaths : Type 0
+AnnotatedPaths = Vec (ℕ × Vec ℕ Global) Global
+
+abbrev pub Annotates : AnnotatedPaths → AnnotatedPaths → ℕ → List (Vec ℕ Global) → Type 0
+Annotates before after a ps =
+    map annotated_path after.items ≡ map annotated_path before.items ++ map (λ p. (a, p)) (paths_of ps)
+
+abbrev pub AreNumbered : List ℕ → List (Vec (Vec ℕ Global) Global) → AnnotatedPaths → Type 0
+AreNumbered ns copies found = map annotated_path found.items ≡ numbered_paths ns (path_lists copies)
+
+abbrev pub HasElementMore : AnnotationTable → AnnotationTable → ℕ → SyntaxElement → Type 0
+HasElementMore before after annotation e =
+    (a : ℕ) → elements_at after a ≡ elements_at before a ++ cond (nat_eq annotation a) (e ∷ []) []
+
+abbrev pub LeadByAnnotation : Element → List (ℕ × Vec ℕ Global) → AnnotationTable → Type 0
+LeadByAnnotation root annotated t =
+    (a : ℕ) → map Some (elements_at t a) ≡ map (syntax_at root) (paths_with a (map annotated_path annotated))
+
+-- ---- registered elements
+abbrev pub TellOf : Mapping → List (SyntaxElement × ℕ) → Type 0
+TellOf m rs = All (λ r. NumbersTell (element_of r.0 ∷ mapped_elements m)) rs
+
+abbrev pub AreFollowed : Mapping → List (SyntaxElement × ℕ) → Vec SyntaxElement Global → Type 0
+AreFollowed m rs es = map element_of es.items ≡ map (λ r. followed m (element_of r.0)) rs

@@ -12,11 +12,18 @@
 --     IsGiven, AreGiven             a table has what a change gives; what each change gives
 --     IsFilled                      what a change gives is entered into a table: its payload, rewritten by what the table has
 --     AreGivenFrom                  it has what changes of this depth or more give, and those that own nothing
-use Rattle.std.specs.Prelude.{◌≡◌, ◌≢◌, ◌↔◌, ◌<◌, ℕ, ◌≤◌, ◌&&◌, ◌==◌, not, Bool, List, [], map, filter, length, slice_get, unwrap_or, Option, Some, option_map, option_and_then, Vec}
+--     OwnersStay                    the changes that a table has for other depths are as they were
+--     OwnsOneMore, OthersOwnAsBefore      a change owns one more; what others own is as it was
+--     replaced_by                   a node exchanged for another one
+--     IsFoundPlace, PlacesStay      a table has the place of an owner's target, or none where there is none; what it had stays
+--     TellsPlace                    an answer tells whether a change has a place, where this is that of its owner's target
+use Rattle.std.specs.Prelude.{◌≡◌, ◌≢◌, ◌↔◌, ◌<◌, ℕ, ◌≤◌, ◌&&◌, ◌==◌, not, Bool, IsTrue, IsSomeAnd, List, [], ◌∷◌, ◌++◌, map, filter, length, slice_get, unwrap_or, Option, Some, option_map, option_and_then, Vec}
 use Rattle.std.specs.Global.{Global}
 use Rattle.std.specs.Option.{option_map_or}
 use Rattle.cst_core.specs.Path.{Path, counted_from}
-use Rattle.cst_core.specs.Element.{subtree}
+use Rattle.cst_core.specs.Element.{Element, subtree}
+use Rattle.cst_core.specs.declared.element.SyntaxElement.TheVariants.{Node}
+use Rattle.edit_change.specs.declared.change.Change.TheVariants.{Replace}
 use Rattle.rewriting.specs.declared.marked_given.GivenTable.{GivenTable}
 use Rattle.rewriting.specs.inner.Pass.{kind_only, given_in}
 use Rattle.rewriting.specs.Rewriting.{NumberedAim, rewritten}
@@ -87,3 +94,26 @@ module _ (changes : List Change) (places : ℕ → Path) where
 pub record IsFilled (changes : List Change) (c : ℕ) (owned : List NumberedAim) (before after : GivenTable) : Type 0 where
   pub here : given_in after c ≡ map (rewritten kind_only (given_in before) owned []) (map subtree (payload_of changes c))
   pub elsewhere : (n : ℕ) → n ≢ c → given_in after n ≡ given_in before n
+
+-- ---- tables before and after
+abbrev pub OwnersStay : List (Vec ℕ Global) → List (Vec ℕ Global) → ℕ → Type 0
+OwnersStay before after level = (l : ℕ) → l ≢ level → owners_at after l ≡ owners_at before l
+
+module _ (before after : List (Vec Dependent Global)) where
+  abbrev pub OwnsOneMore : ℕ → Dependent → Type 0
+  OwnsOneMore c d = dependents_in after c ≡ dependents_in before c ++ moved d ∷ []
+
+  abbrev pub OthersOwnAsBefore : ℕ → Type 0
+  OthersOwnAsBefore owner = (c : ℕ) → c ≢ owner → dependents_in after c ≡ dependents_in before c
+
+abbrev pub replaced_by : Element → Element → Change
+replaced_by target payload = Replace (Node target) (Some (Node payload))
+
+abbrev pub IsFoundPlace : Mapping → List Change → List (Option (Vec ℕ Global)) → ℕ → Type 0
+IsFoundPlace m changes table owner = (o : Change) → slice_get changes owner ≡ Some o → IsPlaceOf m o (path_at table owner)
+
+abbrev pub PlacesStay : List (Option (Vec ℕ Global)) → List (Option (Vec ℕ Global)) → Type 0
+PlacesStay before after = (c : ℕ) (p : Path) → path_at before c ≡ Some p → path_at after c ≡ Some p
+
+abbrev pub TellsPlace : Option (Vec ℕ Global) → Change → Change → Bool → Type 0
+TellsPlace place o c b = (m : Mapping) → IsPlaceOf m o (path_in place) → IsTrue b ↔ IsSomeAnd (path_in place) (HasPlace m o c)

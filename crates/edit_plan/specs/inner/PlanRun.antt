@@ -6,27 +6,40 @@
 --     IsOneNode, BringsNode         trees that are one node; a change that brings one node
 --     KeepsTop                      one node stands in the place of the root
 --     IsMade                        the same, where some elements are registered: the paths of the copies of each
+--     AreOwned                      a table has what each change of a plan owns, for some places
+--     root_rewritten, FindsInRoot   what stands in the place of the root; where its marks are
+--     HasMade, HasRewritten         the same as IsMade and IsRewritten, of values in code
 use Rattle.std.specs.Prelude.{◌≡◌, ◌<◌, ℕ, List, [], ◌∷◌, map, length, Option, All, Vec}
 use Rattle.std.specs.Global.{Global}
 use Rattle.cst_core.specs.Path.{Path}
 use Rattle.cst_core.specs.Tree.{SyntaxTree, Forest, Node, text_length}
-use Rattle.cst_core.specs.Green.{length_limit}
+use Rattle.cst_core.specs.Green.{branch_tree, length_limit}
 use Rattle.cst_core.specs.Element.{Address, Element, IsNode, NumbersTell, address, subtree}
 use Rattle.cst_core.specs.SyntaxElement.{element_of}
 use Rattle.cst_core.specs.declared.element.SyntaxElement.{SyntaxElement}
 use Rattle.edit_map.specs.Mapping.{followed, mapped_elements}
 use Rattle.edit_plan.specs.Plan.{Plan, IsPlan, WouldMake, registered}
 use Rattle.edit_change.specs.inner.Fate.{fate}
-use Rattle.edit_plan.specs.inner.Marks.{numbered_paths}
-use Rattle.edit_plan.specs.inner.OwnerTables.{places_in, AreGiven}
+use Rattle.edit_plan.specs.inner.Marks.{annotated_path, numbered_paths, path_lists}
+use Rattle.edit_plan.specs.inner.Sought.{sought_at}
+use Rattle.edit_plan.specs.inner.OwnerTables.{places_in, AreDependents, AreGiven}
 use Rattle.edit_change.specs.Change.{payload}
 use Rattle.edit_plan.specs.Results.{changed, copies_of}
 use Rattle.edit_plan.specs.NewTree.{OriginTree, plain, is_free, independents}
 use Rattle.rewriting.specs.declared.marked_given.GivenTable.{GivenTable}
-use Rattle.rewriting.specs.inner.Pass.{kind_only, given_in}
+use Rattle.rewriting.specs.inner.Pass.{kind_only, given_in, AreMarkedIn}
+use Rattle.rewriting.specs.inner.Aimed.{aims_of}
+use Rattle.rewriting.specs.inner.Marked.{MarkTree, marks_of, marked_from, wanted}
+use Rattle.rewriting.specs.Topmost.{paths_of}
+use Rattle.rewriting.specs.declared.aimed.Aimed.{Aimed}
+use Rattle.rewriting.specs.declared.mark.Mark.{Mark}
 use Rattle.rewriting.specs.Rewriting.{rewritten_whole}
 use Rattle.edit_change.specs.declared.change.Change.{Change}
 use Rattle.edit_plan.specs.Places.{ArePlaces}
+use Rattle.edit_plan.specs.declared.dependent.Dependent.{Dependent}
+use Rattle.edit_plan.specs.declared.run.Made.{Made}
+use Rattle.edit_plan.specs.declared.run.Rewritten.{Rewritten}
+use Rattle.edit_plan.specs.declared.sought.SoughtIndex.{SoughtIndex}
 use Rattle.edit_change.specs.declared.fate.Fate.{Fate}
 
 pub record IsPlanned (p : Plan) (fates : List Fate) (places : List (Option (Vec ℕ Global))) : Type 0 where
@@ -69,3 +82,21 @@ BringsNode c = (e : Element) × (payload c ≡ e ∷ []) × IsNode e
 abbrev pub KeepsTop : Plan → Type 0
 KeepsTop p =
     (places : ℕ → Path) (table : GivenTable) → AreGiven p.changes places table → IsOneNode (rewritten_whole kind_only (given_in table) (independents p.changes) (subtree p.root))
+
+-- ---- values in code
+abbrev pub AreOwned : Plan → List (Vec Dependent Global) → Type 0
+AreOwned p owned = (places : ℕ → Path) × ArePlaces p.mapping p.changes places × AreDependents p.changes places owned
+
+abbrev pub root_rewritten : Plan → GivenTable → List Aimed → List SyntaxTree
+root_rewritten p table aims = rewritten_whole kind_only (given_in table) (aims_of aims) (subtree p.root)
+
+abbrev pub FindsInRoot : Plan → GivenTable → List Aimed → SoughtIndex → Vec Mark Global → Type 0
+FindsInRoot p table aims index found =
+    (trees : ℕ → List MarkTree) → AreMarkedIn table trees →
+    marks_of found.items ≡ marked_from 0 (rewritten_whole (wanted (sought_at index (address p.root))) trees (aims_of aims) (subtree p.root))
+
+abbrev pub HasMade : Plan → List SyntaxElement → Made → Type 0
+HasMade p es m = IsMade p es (branch_tree m.green) (path_lists m.copies.items) (paths_of m.changed.items)
+
+abbrev pub HasRewritten : Plan → Rewritten → Type 0
+HasRewritten p r = IsRewritten p (branch_tree r.green) (paths_of r.changed.items) (map annotated_path r.annotated.items)

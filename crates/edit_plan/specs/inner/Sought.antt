@@ -6,7 +6,9 @@
 --     addresses                     the addresses of elements in code
 --     sought_at                     what a table has at an address
 --     registered_at                 the numbers of the registered elements that are at an address
-use Rattle.std.specs.Prelude.{ℕ, suc, nat_eq, cond, List, [], ◌∷◌, ◌++◌, map, Option, Some, None}
+--     IsTaken, HasMarkMore          nothing is at an address any more; one mark more is there
+--     HasRegisteredMore             one registered element more, at itself and at all that is above it
+use Rattle.std.specs.Prelude.{◌≡◌, ℕ, suc, nat_eq, cond, List, [], ◌∷◌, ◌++◌, map, Option, Some, None}
 use Rattle.std.specs.HashMap.{get_by}
 use Rattle.std.specs.Option.{option_map_or}
 use Rattle.cst_core.specs.Path.{Path}
@@ -40,3 +42,14 @@ sought_at index a = option_map_or (λ v. sought_in v.items) (get_by (λ k. same_
 
 abbrev pub registered_at : List Address → Address → List ℕ
 registered_at rs a = marks_at (sought_from 0 rs a) []
+
+-- ---- a table before and after
+module _ (before after : SoughtIndex) where
+  abbrev pub IsTaken : Address → Type 0
+  IsTaken at = (a : Address) → sought_at after a ≡ cond (same_address at a) [] (sought_at before a)
+
+  abbrev pub HasMarkMore : Address → Marking → Type 0
+  HasMarkMore at m = (a : Address) → sought_at after a ≡ sought_at before a ++ cond (same_address at a) (m ∷ []) []
+
+  abbrev pub HasRegisteredMore : ℕ → Address → Type 0
+  HasRegisteredMore n r = (a : Address) → sought_at after a ≡ sought_at before a ++ sought_one a n r

@@ -1,6 +1,9 @@
 -- Which aims matter for a child of the top and for the gap behind it.
 --     reaches, concerns             its path leads to this child or below, or it replaces the child
-use Rattle.std.specs.Prelude.{ℕ, Bool, false, nat_eq, ◌||◌, [], ◌∷◌, map}
+--     GrowsInside                   so many groups, from one on, have one aim more at their ends
+--     StaysBefore, StaysBehind      the groups before these, and those behind them, are as they were
+--     AreGrouped                    groups have the aims that matter for each child, so many of them
+use Rattle.std.specs.Prelude.{◌≡◌, ◌<◌, ◌≤◌, ◌+◌, ℕ, Bool, false, nat_eq, ◌||◌, List, [], ◌∷◌, ◌++◌, map, filter, length, get_or}
 use Rattle.green_tree.specs.Path.{Path, has_path, counted_from}
 use Rattle.rewriting.specs.declared.aimed.AimForm.{AimForm}
 use Rattle.rewriting.specs.declared.aimed.AimForm.TheVariants.{FirstIn, Behind, Over}
@@ -15,3 +18,18 @@ reaches i (j ∷ k ∷ q) (Over n) = nat_eq i j
 
 abbrev pub concerns : ℕ → Aimed → Bool
 concerns i a = reaches i a.path.now a.form
+
+-- ---- groups, for one child after another
+module _ (before after : List (List Aimed)) (first count : ℕ) where
+  abbrev pub GrowsInside : Aimed → Type 0
+  GrowsInside a =
+      (k : ℕ) (d : List Aimed) → k < length before → first ≤ k → k < first + count → get_or after k d ≡ get_or before k d ++ a ∷ []
+
+  abbrev pub StaysBefore : Type 0
+  StaysBefore = (k : ℕ) (d : List Aimed) → k < first → get_or after k d ≡ get_or before k d
+
+  abbrev pub StaysBehind : Type 0
+  StaysBehind = (k : ℕ) (d : List Aimed) → first + count ≤ k → get_or after k d ≡ get_or before k d
+
+abbrev pub AreGrouped : List Aimed → ℕ → List (List Aimed) → Type 0
+AreGrouped aims count groups = (k : ℕ) (d : List Aimed) → k < count → get_or groups k d ≡ filter (concerns k) aims

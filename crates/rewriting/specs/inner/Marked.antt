@@ -7,8 +7,12 @@
 --     mark_of, marks_of             a mark in code and where it stands; a list of these
 --     sought_as, sought_in          a sought mark in code and the path where it is sought; a list of these
 --     marks_at, wanted              the marks sought at a path; each kept element is labelled by these
+--     Finds, found_at               marks that are found further; the marks sought at the top of an element, which stands at this path
 --     seen_below, sought_below      a sought mark in a child slot or below, with that slot dropped; of these marks those that there are
-use Rattle.std.specs.Prelude.{ℕ, suc, cond, nat_eq, List, [], ◌∷◌, ◌++◌, map, filter, flat_map}
+--     HasOneMore, StaysElsewhere    a list has one sought mark more at its end; the others are as they were
+--     IsDealt, AreDealt             one mark went to the list of the child that it is in; so many lists have what is sought in each child
+use Rattle.std.specs.Prelude.{◌≡◌, ◌≢◌, ◌<◌, ℕ, suc, cond, nat_eq, List, [], ◌∷◌, ◌++◌, map, filter, flat_map, length, get_or, Vec}
+use Rattle.std.specs.Global.{Global}
 use Rattle.std.specs.Option.{option_map_or}
 use Rattle.green_tree.specs.Path.{Path, same_path}
 use Rattle.green_tree.specs.Tree.{Tree, label, at, paths}
@@ -60,3 +64,25 @@ seen_below i n (j ∷ p) = cond (nat_eq i j) ((n, p) ∷ []) []
 
 abbrev pub sought_below : ℕ → List Marking → List Marking
 sought_below i ms = flat_map (λ m. seen_below i m.0 m.1) ms
+
+-- ---- what a walk has found so far
+abbrev pub Finds : Vec Mark Global → Vec Mark Global → List Marking → Type 0
+Finds before after ms = marks_of after.items ≡ marks_of before.items ++ ms
+
+abbrev pub found_at : Path → List Marking → List Marking
+found_at path ms = map (λ n. (n, path)) (marks_at ms [])
+
+-- ---- lists of sought marks, for one child after another
+module _ (before after : List (Vec Sought Global)) where
+  abbrev pub HasOneMore : ℕ → Sought → Type 0
+  HasOneMore i s = (d : Vec Sought Global) → (get_or after i d).items ≡ (get_or before i d).items ++ s ∷ []
+
+  abbrev pub StaysElsewhere : ℕ → Type 0
+  StaysElsewhere i = (k : ℕ) (d : Vec Sought Global) → k ≢ i → (get_or after k d).items ≡ (get_or before k d).items
+
+  abbrev pub IsDealt : ℕ → Path → Type 0
+  IsDealt n p =
+      (k : ℕ) (d : Vec Sought Global) → k < length before → sought_in (get_or after k d).items ≡ sought_in (get_or before k d).items ++ seen_below k n p
+
+abbrev pub AreDealt : List Marking → ℕ → List (Vec Sought Global) → Type 0
+AreDealt ms count lists = (k : ℕ) (d : Vec Sought Global) → k < count → sought_in (get_or lists k d).items ≡ sought_below k ms

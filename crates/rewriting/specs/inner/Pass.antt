@@ -6,12 +6,27 @@
 --     IsMarkedIn, AreMarkedIn       the same of an entry of a table, where no entry gives nothing; of all changes, by their numbers
 --     given_in                      what a change gives, from a table by its number: nothing where the table has none
 --     topped                        a tree with one mark more at its top
-use Rattle.std.specs.Prelude.{◌≡◌, ◌<◌, ℕ, List, [], ◌∷◌, ◌++◌, length, get_or, slice_get, Option, Some, None}
+--     marks_at_path                 the marks of the given element at an index, which stands at a path
+--     Puts                          trees that are put behind others
+--     FindsGiven, FindsChange, FindsChanges      where the marks of what is put next are found: of an entry, of a change, of several
+--     TouchesAtMost, CountsBuilt, CountsBuiltWhole      how a count of built nodes rises
+--     remade, remade_whole          the tree that a pass makes; what stands in the place of an element
+--     FindsKept, FindsRebuilt, FindsWhole        where the marks of an untouched element are found; of a rebuilt one; of what stands in its place
+use Rattle.std.specs.Prelude.{◌≡◌, ◌<◌, ◌≤◌, ◌+◌, ℕ, List, [], ◌∷◌, ◌++◌, map, flat_map, length, get_or, slice_get, Option, Some, None, Vec}
+use Rattle.std.specs.Global.{Global}
 use Rattle.std.specs.Option.{option_map_or}
 use Rattle.green_tree.specs.Path.{Path}
 use Rattle.green_tree.specs.Tree.{Token, Node, SyntaxTree}
 use Rattle.rewriting.specs.inner.Given.{given_trees}
-use Rattle.rewriting.specs.inner.Marked.{MarkTree, Marking, marked, marks_of}
+use Rattle.green_tree.specs.GreenElement.{element_tree, element_trees}
+use Rattle.green_tree.specs.declared.green.GreenElement.{GreenElement}
+use Rattle.rewriting.specs.Effort.{touched, parents_of, nodes_built, nodes_built_whole, counted}
+use Rattle.rewriting.specs.Rewriting.{rewritten, rewritten_whole}
+use Rattle.rewriting.specs.inner.Aimed.{aims_of}
+use Rattle.rewriting.specs.inner.Marked.{MarkTree, Marking, marked, marked_from, below, marks_of, sought_in, wanted, Finds}
+use Rattle.rewriting.specs.declared.aimed.Aimed.{Aimed}
+use Rattle.rewriting.specs.declared.mark.Mark.{Mark}
+use Rattle.rewriting.specs.declared.mark.Sought.{Sought}
 use Rattle.rewriting.specs.declared.marked_given.MarkedGiven.{MarkedGiven}
 use Rattle.rewriting.specs.declared.marked_given.GivenTable.{GivenTable}
 
@@ -42,3 +57,59 @@ given_in table c = option_map_or (λ g. given_trees g.elements) (slice_get table
 abbrev pub topped : ℕ → MarkTree → MarkTree
 topped n (Token l s) = Token (n ∷ l) s
 topped n (Node l f) = Node (n ∷ l) f
+
+-- ---- what is put into the new tree, and found
+abbrev pub marks_at_path : Path → Option ℕ → MarkedGiven → ℕ → List Marking
+marks_at_path path top g i = map (below path) (marks_there top g i)
+
+abbrev pub Puts : Vec GreenElement Global → Vec GreenElement Global → List SyntaxTree → Type 0
+Puts before after ts = element_trees after.items ≡ element_trees before.items ++ ts
+
+-- below the node at a path, which has these children so far
+module _ (path : Vec ℕ Global) (out : Vec GreenElement Global) (before after : Vec Mark Global) where
+  abbrev stands_from_here : List MarkTree → List Marking
+  stands_from_here ts = map (below path.items) (marked_from (length out.items) ts)
+
+  abbrev pub FindsGiven : Option ℕ → MarkedGiven → Type 0
+  FindsGiven top g = (ts : List MarkTree) → IsMarked top g ts → Finds before after (stands_from_here ts)
+
+  abbrev pub FindsChange : GivenTable → ℕ → Type 0
+  FindsChange table c =
+      (trees : ℕ → List MarkTree) → AreMarkedIn table trees → Finds before after (stands_from_here (trees c))
+
+  abbrev pub FindsChanges : GivenTable → List ℕ → Type 0
+  FindsChanges table cs =
+      (trees : ℕ → List MarkTree) → AreMarkedIn table trees → Finds before after (stands_from_here (flat_map trees cs))
+
+-- ---- what the pass makes of an element
+abbrev pub TouchesAtMost : List Aimed → GreenElement → ℕ → ℕ → Type 0
+TouchesAtMost aims e before after = after ≤ before + touched (element_tree e) (parents_of (aims_of aims))
+
+abbrev pub CountsBuilt : List Aimed → GreenElement → ℕ → ℕ → Type 0
+CountsBuilt aims e before after = after ≡ counted before (nodes_built (aims_of aims) (element_tree e))
+
+abbrev pub CountsBuiltWhole : List Aimed → GreenElement → ℕ → ℕ → Type 0
+CountsBuiltWhole aims e before after = after ≡ counted before (nodes_built_whole (aims_of aims) (element_tree e))
+
+abbrev pub remade : GivenTable → List Aimed → GreenElement → SyntaxTree
+remade table aims e = rewritten kind_only (given_in table) (aims_of aims) [] (element_tree e)
+
+abbrev pub remade_whole : GivenTable → List Aimed → GreenElement → List SyntaxTree
+remade_whole table aims e = rewritten_whole kind_only (given_in table) (aims_of aims) (element_tree e)
+
+-- ---- where its marks are
+abbrev pub FindsKept : List Sought → GreenElement → Vec ℕ Global → Vec Mark Global → Vec Mark Global → Type 0
+FindsKept sought e path before after =
+    let kept = rewritten (wanted (sought_in sought)) (λ c. []) [] [] (element_tree e) in
+    Finds before after (map (below path.items) (marked kept))
+
+module _ (table : GivenTable) (aims : List Aimed) (sought : List Sought) (e : GreenElement) where
+  abbrev pub FindsRebuilt : Vec ℕ Global → Vec Mark Global → Vec Mark Global → Type 0
+  FindsRebuilt path before after =
+      (trees : ℕ → List MarkTree) → AreMarkedIn table trees →
+      Finds before after (map (below path.items) (marked (rewritten (wanted (sought_in sought)) trees (aims_of aims) [] (element_tree e))))
+
+  abbrev pub FindsWhole : Vec Mark Global → Type 0
+  FindsWhole found =
+      (trees : ℕ → List MarkTree) → AreMarkedIn table trees →
+      marks_of found.items ≡ marked_from 0 (rewritten_whole (wanted (sought_in sought)) trees (aims_of aims) (element_tree e))
