@@ -1,13 +1,15 @@
 -- The marks of what is kept.
-use Rattle.std.specs.Prelude.{◌≡◌, ◌<◌, ℕ, true, false, cond, nat_eq, ◌&&◌, List, [], ◌∷◌, ◌++◌, map, filter, get_or, Vec, refl}
+use Rattle.std.specs.Prelude.{◌≡◌, ◌<◌, ℕ, true, false, cond, nat_eq, ◌&&◌, List, [], ◌∷◌, ◌++◌, zero, suc, Some, map, filter, length, get_or, slice_get, Vec, refl}
+use Rattle.std.specs.Option.{option_map_or}
+use Rattle.std.proofs.lemmas.Option.{get_or_from_slice_get}
 use Rattle.std.specs.Global.{Global}
-use Rattle.std.proofs.Common.{ap, ap₂, sym, ◌∙◌}
+use Rattle.std.proofs.Common.{ap, ap₂, sym, subst, arith, ◌∙◌}
 use Rattle.std.proofs.lemmas.List.{append_assoc, append-nil, map-append}
 use Rattle.green_tree.specs.Path.{Path, same_path}
 use Rattle.green_tree.specs.Tree.{SyntaxTree, Token, forest, node}
 use Rattle.rewriting.specs.Rewriting.{NumberedAim, rewritten, rewritten_from}
 use Rattle.rewriting.specs.declared.mark.Sought.{Sought}
-use Rattle.rewriting.specs.inner.Marked.{MarkTree, Marking, marked, below, sought_in, marks_at, wanted, seen_below, sought_below}
+use Rattle.rewriting.specs.inner.Marked.{MarkTree, Marking, marked, below, sought_in, marks_at, wanted, seen_below, sought_below, AreDealt}
 use Rattle.rewriting.proofs.Marks.{shown, marks-parent, marks-token}
 
 -- ---- as they are seen from a child
@@ -52,5 +54,16 @@ module _ (path : Path) (sought : List Marking) (trees : ℕ → List MarkTree) (
       h ∙ grouped ∙ ap (λ ms. before ++ ms) whole ∙ ap (λ u. before ++ all_marks u) (sym is)
 
 -- ---- what was dealt out to a child
-pub list_is : (lists : List (Vec Sought Global)) (n i : ℕ) (v : Vec Sought Global) (xs : List Sought) (ms : List Marking) → ((k : ℕ) (d : Vec Sought Global) → k < n → sought_in (get_or lists k d).items ≡ sought_below k ms) → i < n → v ≡ get_or lists i v → xs ≡ v.items → sought_in xs ≡ sought_below i ms
-list_is lists n i v xs ms all l is e = ap sought_in e ∙ ap (λ u. sought_in u.items) is ∙ all i v l
+list_there : {X : Type 0} (xs : List X) (k : ℕ) → k < length xs → (x : X) × (slice_get xs k ≡ Some x)
+list_there [] k l = absurd (omega (arith, l))
+list_there (x ∷ xs) zero l = (x, refl)
+list_there (x ∷ xs) (suc k) l = list_there xs k (omega (arith, l))
+
+pub in_lists : (lists : List (Vec Sought Global)) (count : ℕ) (ms : List Marking) → length lists ≡ count → ((k : ℕ) (d : Vec Sought Global) → k < count → sought_in (get_or lists k d).items ≡ sought_below k ms) → AreDealt ms count lists
+in_lists lists count ms long all k l =
+    let there = list_there lists k (subst (λ n. k < n) (sym long) l) in
+    ap (λ o. option_map_or (λ v. sought_in v.items) o []) there.1 ∙ ap (λ v. sought_in v.items) (sym (get_or_from_slice_get lists k there.0 there.0 there.1)) ∙ all k there.0 l
+
+pub none_dealt : (xs : List Sought) (count : ℕ) (lists : List (Vec Sought Global)) → length xs ≡ 0 → lists ≡ [] → AreDealt (sought_in xs) count lists
+none_dealt [] count lists none empty k l = ap (λ vs. option_map_or (λ v. sought_in v.items) (slice_get vs k) []) empty
+none_dealt (x ∷ xs) count lists none empty = absurd (omega (arith, none))

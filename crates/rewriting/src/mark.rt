@@ -1,5 +1,6 @@
-ghost use Rattle.std.specs.Prelude.{◌<◌, ◌≡◌, [], length, IfOk, OnOk};
-ghost use Rattle.rewriting.specs.inner.Marked.{sought_in, Finds, found_at, HasOneMore, StaysElsewhere, IsDealt, AreDealt};
+ghost use Rattle.std.specs.Prelude.{◌<◌, ◌≡◌, length, IfOk, OnOk};
+ghost use Rattle.rewriting.specs.inner.Marked.{sought_in, Finds, found_at, HasOneMore, StaysElsewhere, IsDealt, NoneSought};
+ghost use Rattle.rewriting.specs.inner.Marked.{AreDealt, sought_for};
 
 use std::alloc::{AllocError, Global};
 
@@ -41,9 +42,9 @@ pub fn push_here(
 // So many empty lists.
 fn empty_lists<'a>(alloc: Global, count: usize) -> Result<Vec<Vec<Sought<'a>>>, AllocError>
     ensures size { IfOk result (λ v. length v.items ≡ count) }
-    ensures empty { IfOk result (λ v. AreDealt [] count v.items) }
+    ensures empty { IfOk result (λ v. NoneSought count v.items) }
 {
-    let mut lists = Vec::new(alloc);
+    let mut lists = Vec::with_capacity(alloc, count)?;
     for _ in 0..count {
         lists.push(Vec::new(alloc))?;
     }
@@ -84,18 +85,31 @@ fn deal<'a>(lists: &mut Vec<Vec<Sought<'a>>>, mark: Sought<'a>) -> Result<(), Al
     Ok(())
 }
 
-// For each child of the top, so many of them, what is sought at the child or below it, as it is seen from the child.
+// For each child of the top, so many of them, what is sought at the child or below it, as it is seen from the child. Where
+// nothing is sought there are no lists.
 pub fn dealt<'a>(
     alloc: Global,
     sought: &[Sought<'a>],
     count: usize,
 ) -> Result<Vec<Vec<Sought<'a>>>, AllocError>
-    ensures size { IfOk result (λ v. length v.items ≡ count) }
-    ensures lists { IfOk result (λ v. AreDealt (sought_in sought.now) count v.items) }
+    ensures { IfOk result (λ v. AreDealt (sought_in sought.now) count v.items) }
 {
+    if sought.is_empty() {
+        return Ok(Vec::new(alloc));
+    }
     let mut lists = empty_lists(alloc, count)?;
     for mark in sought {
         deal(&mut lists, *mark)?;
     }
     Ok(lists)
+}
+
+// What is sought in a child, from its list, if there is one.
+pub fn sought_for<'a, 'b>(lists: &'b [Vec<Sought<'a>>], slot: usize) -> &'b [Sought<'a>]
+    ensures { sought_in result.now ≡ sought_for lists.now slot }
+{
+    match lists.get(slot) {
+        Some(list) => list.as_slice(),
+        None => &[],
+    }
 }

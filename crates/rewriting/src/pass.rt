@@ -11,7 +11,7 @@ use crate::aim_list::{
     alter_some, below, grouped, inserted, is_replaced, replacing, replacing_top, top_is_replaced,
 };
 use crate::aimed::Aimed;
-use crate::mark::{Mark, Sought, dealt, push_here};
+use crate::mark::{Mark, Sought, dealt, push_here, sought_for};
 use crate::marked_given::{GivenTable, MarkedGiven};
 use green_tree::{GreenElement, GreenNode, SyntaxKind};
 use std::alloc::{AllocError, Global};
@@ -99,7 +99,7 @@ fn push_kept(
     let lists = dealt(alloc, sought, children.len())?;
     for slot in 0..children.len() {
         path.push(slot)?;
-        push_kept(alloc, found, path, &children[slot], lists[slot].as_slice())?;
+        push_kept(alloc, found, path, &children[slot], sought_for(&lists, slot))?;
         path.pop();
     }
     Ok(())
@@ -164,7 +164,7 @@ pub fn rebuild(
             push_changes(alloc, &mut out, found, path, given, &changes)?;
         } else {
             let inner = below(alloc, group, slot)?;
-            let inner_sought = lists[slot].as_slice();
+            let inner_sought = sought_for(&lists, slot);
             path.push(out.len())?;
             let child = &children[slot];
             out.push(rebuild(

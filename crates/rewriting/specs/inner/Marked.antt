@@ -10,8 +10,10 @@
 --     Finds, found_at               marks that are found further; the marks sought at the top of an element, which stands at this path
 --     seen_below, sought_below      a sought mark in a child slot or below, with that slot dropped; of these marks those that there are
 --     HasOneMore, StaysElsewhere    a list has one sought mark more at its end; the others are as they were
---     IsDealt, AreDealt             one mark went to the list of the child that it is in; so many lists have what is sought in each child
-use Rattle.std.specs.Prelude.{◌≡◌, ◌≢◌, ◌<◌, ℕ, suc, cond, nat_eq, List, [], ◌∷◌, ◌++◌, map, filter, flat_map, length, get_or, Vec}
+--     IsDealt                       one mark went to the list of the child that it is in
+--     NoneSought                    so many lists are empty
+--     sought_for, AreDealt          what is sought in a child, from its list, if there is one; lists have what is sought in each child, so many of them
+use Rattle.std.specs.Prelude.{◌≡◌, ◌≢◌, ◌<◌, ℕ, suc, cond, nat_eq, List, [], ◌∷◌, ◌++◌, map, filter, flat_map, length, get_or, slice_get, Vec}
 use Rattle.std.specs.Global.{Global}
 use Rattle.std.specs.Option.{option_map_or}
 use Rattle.green_tree.specs.Path.{Path, same_path}
@@ -84,5 +86,11 @@ module _ (before after : List (Vec Sought Global)) where
   IsDealt n p =
       (k : ℕ) (d : Vec Sought Global) → k < length before → sought_in (get_or after k d).items ≡ sought_in (get_or before k d).items ++ seen_below k n p
 
+abbrev pub NoneSought : ℕ → List (Vec Sought Global) → Type 0
+NoneSought count lists = (k : ℕ) (d : Vec Sought Global) → k < count → (get_or lists k d).items ≡ []
+
+abbrev pub sought_for : List (Vec Sought Global) → ℕ → List Marking
+sought_for lists k = option_map_or (λ v. sought_in v.items) (slice_get lists k) []
+
 abbrev pub AreDealt : List Marking → ℕ → List (Vec Sought Global) → Type 0
-AreDealt ms count lists = (k : ℕ) (d : Vec Sought Global) → k < count → sought_in (get_or lists k d).items ≡ sought_below k ms
+AreDealt ms count lists = (k : ℕ) → k < count → sought_for lists k ≡ sought_below k ms

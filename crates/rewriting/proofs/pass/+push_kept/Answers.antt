@@ -7,12 +7,12 @@ use Rattle.green_tree.specs.Green.{size}
 use Rattle.green_tree.specs.GreenElement.{element_tree, element_trees}
 use Rattle.rewriting.specs.Rewriting.{rewritten}
 use Rattle.rewriting.specs.declared.mark.Sought.{Sought}
-use Rattle.rewriting.specs.inner.Marked.{MarkTree, Marking, marked, below, marks_of, sought_in, marks_at, wanted, sought_below}
+use Rattle.rewriting.specs.inner.Marked.{MarkTree, Marking, marked, below, marks_of, sought_in, marks_at, wanted, sought_below, sought_for}
 use Rattle.rewriting.proofs.Children.{tree_at, size_at}
 use Rattle.rewriting.proofs.ChildByChild.{first, step, all_shown}
 use Rattle.rewriting.proofs.Marks.{shown, shown-one, marks-none}
 use Rattle.rewriting.proofs.Marks.{are_shown}
-use Rattle.rewriting.proofs.MarksKept.{marks-below, token_marks, node_marks, list_is}
+use Rattle.rewriting.proofs.MarksKept.{marks-below, token_marks, node_marks}
 use Rattle.rewriting.proofs.SeenBelow.{seen-below}
 use Rattle.rewriting.proofs.Untouched.{untouched}
 use Rattle.rewriting.proofs.pass.+push_kept.Goals as goal
@@ -60,8 +60,8 @@ loop-slot-preserved t c =
     let before : List Marking = marks_of c.loop-slot.found.items in
     let after : List Marking = marks_of c.push_kept.new.found.items in
     let in_range : i < length ts = rw length-map c.loop-slot-test.true in
-    let inner = c.as_slice.result.now in
-    let below_it = list_is c.in_ok-lists.lists.items (length es) i c.index.result.now inner sought c.in_ok-lists.ensures.lists c.loop-slot-test.true c.index.ensures c.as_slice.ensures.value in
+    let inner = c.sought_for.result.now in
+    let below_it = c.sought_for.ensures ∙ ap (λ ls. sought_for ls i) c.deref-in-loop-slot.ensures.value ∙ c.in_ok-lists.ensures i c.loop-slot-test.true in
     let kept : MarkTree = rewritten (wanted sought) (λ c. []) [] (i ∷ []) (get_or ts i d) in
     let child = tree_at es i c.index-children-slot.result d c.loop-slot-test.true c.index-children-slot.is in
     let it : rewritten (wanted (sought_in inner)) (λ c. []) [] [] (element_tree c.index-children-slot.result) ≡ kept = ap (λ ms. rewritten (wanted ms) (λ c. []) [] [] (element_tree c.index-children-slot.result)) below_it ∙ seen-below (wanted sought) (wanted (sought_below i sought)) (λ c. []) [] [] i (element_tree c.index-children-slot.result) (λ p k. marks-below sought i p) refl ∙ ap (rewritten (wanted sought) (λ c. []) [] (i ∷ [])) child in

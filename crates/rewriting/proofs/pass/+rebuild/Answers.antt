@@ -7,7 +7,7 @@ use Rattle.green_tree.specs.Green.{size}
 use Rattle.green_tree.specs.GreenElement.{element_tree, element_trees}
 use Rattle.rewriting.specs.Rewriting.{slot, is_replaced, replacements_at, gap_order, rewritten}
 use Rattle.rewriting.specs.inner.Aimed.{aims_of, placed, placed_below}
-use Rattle.rewriting.specs.inner.Marked.{MarkTree, Marking, marked, below, marks_of, sought_in, marks_at, wanted, sought_below}
+use Rattle.rewriting.specs.inner.Marked.{MarkTree, Marking, marked, below, marks_of, sought_in, marks_at, wanted, sought_below, sought_for}
 use Rattle.rewriting.specs.inner.Pass.{kind_only, given_in}
 use Rattle.rewriting.specs.Effort.{inside, touched, parents_of, built, nodes_built, counted}
 use Rattle.rewriting.proofs.Built.{to_come, to_come-step, parents-below, own_node, on_ok}
@@ -20,7 +20,7 @@ use Rattle.rewriting.proofs.Children as children
 use Rattle.rewriting.proofs.ChildByChild.{first, step, all_shown}
 use Rattle.rewriting.proofs.Marks.{shown, shown-one}
 use Rattle.rewriting.proofs.Marks.{are_shown}
-use Rattle.rewriting.proofs.MarksKept.{marks-below, token_marks, node_marks, list_is}
+use Rattle.rewriting.proofs.MarksKept.{marks-below, token_marks, node_marks}
 use Rattle.rewriting.proofs.MarksGiven.{width, all_as_many, slot_as_many}
 use Rattle.rewriting.proofs.pass.+rebuild.Goals as goal
 use Rattle.rewriting.proofs.pass.+rebuild.Goals.{then-is_replaced+in_ok-changes+in_ok-push_changes-2, else-is_replaced+in_ok-inner+in_ok-push+in_ok-rebuild+in_ok-push-2}
@@ -150,8 +150,8 @@ loop-slot-preserved t c =
             | else-is_replaced+in_ok-inner+in_ok-push+in_ok-rebuild+in_ok-push-2 w ↦
                 let child = tree_at es i w.index-children-slot.result d c.loop-slot-test.true w.index-children-slot.is ∙ ap (λ us. get_or us i d) c.children-children.ensures in
                 let inner = w.in_ok-inner.ensures ∙ ap (λ g. placed_below i (map placed g)) here ∙ group-below i aims in
-                let inner_sought = w.as_slice-inner_sought.result.now in
-                let below_it = list_is c.in_ok-lists.lists.items (length es) i w.index-else-is_replaced.result.now inner_sought sought c.in_ok-lists.ensures.lists c.loop-slot-test.true w.index-else-is_replaced.ensures w.as_slice-inner_sought.ensures.value in
+                let inner_sought = w.sought_for-inner_sought.result.now in
+                let below_it = w.sought_for-inner_sought.ensures ∙ ap (λ ls. sought_for ls i) w.deref-else-is_replaced.ensures.value ∙ c.in_ok-lists.ensures i c.loop-slot-test.true in
                 let e = element_tree w.index-children-slot.result in
                 let it = ap₂ (λ xs ms. rewritten (wanted ms) trees (aims_of xs) [] e) w.deref-else-is_replaced.ensures.value below_it ∙ seen-below (wanted sought) (wanted (sought_below i sought)) trees aims w.in_ok-inner.inner.items i e (λ p k. marks-below sought i p) inner ∙ ap (rewritten (wanted sought) trees cs (i ∷ [])) child in
                 let slot_is : w.len.result ≡ length out = search rules in
