@@ -66,4 +66,4 @@ in_lists lists count ms long all k l =
 
 pub none_dealt : (xs : List Sought) (count : ℕ) (lists : List (Vec Sought Global)) → length xs ≡ 0 → lists ≡ [] → AreDealt (sought_in xs) count lists
 none_dealt [] count lists none empty k l = ap (λ vs. option_map_or (λ v. sought_in v.items) (slice_get vs k) []) empty
-none_dealt (x ∷ xs) count lists none empty = absurd (omega (arith, none))
+none_dealt (x ∷ xs) count lists none empty k l = absurd (omega (arith, none))

@@ -108,8 +108,8 @@ pub fn dealt<'a>(
 pub fn sought_for<'a, 'b>(lists: &'b [Vec<Sought<'a>>], slot: usize) -> &'b [Sought<'a>]
     ensures { sought_in result.now ≡ sought_for lists.now slot }
 {
-    match lists.get(slot) {
-        Some(list) => list.as_slice(),
-        None => &[],
+    if slot >= lists.len() {
+        return &[];
     }
+    lists[slot].as_slice()
 }
