@@ -105,7 +105,7 @@ loop-slot-preserved t c =
       | else-is_replaced+in_ok-inner+in_ok-push+in_ok-rebuild+in_ok-push-2 w ↦
           let child = tree_at es i w.index-children-slot.result d c.loop-slot-test.true w.index-children-slot.is ∙ ap (λ us. get_or us i d) c.children-children.ensures in
           let inner = w.in_ok-inner.ensures ∙ ap (λ g. placed_below i (map placed g)) here ∙ group-below i aims in
-          let made = w.in_ok-rebuild.ensures.tree ∙ ap (λ xs. rewritten kind_only given (aims_of xs) [] (element_tree w.index-children-slot.result)) w.deref-else-is_replaced.ensures.value ∙ aims-below (λ k. k) given aims w.in_ok-inner.inner.items i (element_tree w.index-children-slot.result) inner ∙ ap (rewritten kind_only given cs (i ∷ [])) child in
+          let made = w.in_ok-rebuild.ensures.tree ∙ ap (λ xs. rewritten kind_only given (aims_of xs) [] (element_tree w.index-children-slot.result)) w.deref-else-is_replaced-2.ensures.value ∙ aims-below (λ k. k) given aims w.in_ok-inner.inner.items i (element_tree w.index-children-slot.result) inner ∙ ap (rewritten kind_only given cs (i ∷ [])) child in
           ap (λ o. element_trees o.items) w.out-is ∙ ap element_trees w.in_ok-push-2.ensures.items ∙ map-append element_tree out (_ ∷ []) ∙ ap (λ u. element_trees out ++ u ∷ []) made ∙ ap (λ us. element_trees out ++ us) (slot-kept kind_only given cs (i ∷ []) kept (sym replaced ∙ w.if-is_replaced.false))
     ] in
     record {
@@ -121,7 +121,7 @@ loop-slot-preserved t c =
             | else-is_replaced+in_ok-inner+in_ok-push+in_ok-rebuild+in_ok-push-2 w ↦
                 let child = tree_at es i w.index-children-slot.result d c.loop-slot-test.true w.index-children-slot.is ∙ ap (λ us. get_or us i d) c.children-children.ensures in
                 let inner = w.in_ok-inner.ensures ∙ ap (λ g. placed_below i (map placed g)) here ∙ group-below i aims in
-                let below_it = ap (λ xs. nodes_built (aims_of xs) (element_tree w.index-children-slot.result)) w.deref-else-is_replaced.ensures.value ∙ counted-below aims w.in_ok-inner.inner.items i (element_tree w.index-children-slot.result) inner ∙ ap (λ u. built cs (i ∷ []) u (inside i (parents_of cs))) child ∙ sym (slot_counted-kept cs i own (sym replaced ∙ w.if-is_replaced.false)) in
+                let below_it = ap (λ xs. nodes_built (aims_of xs) (element_tree w.index-children-slot.result)) w.deref-else-is_replaced-2.ensures.value ∙ counted-below aims w.in_ok-inner.inner.items i (element_tree w.index-children-slot.result) inner ∙ ap (λ u. built cs (i ∷ []) u (inside i (parents_of cs))) child ∙ sym (slot_counted-kept cs i own (sym replaced ∙ w.if-is_replaced.false)) in
                 count-step c.loop-slot.builds (in_slot cs i own) _ (still cs (i + 1) ts) _ (w.builds-is ∙ w.in_ok-rebuild.ensures.count ∙ ap (counted c.loop-slot.builds) below_it) (ap (counted c.loop-slot.builds) (sym more) ∙ c.loop-slot.invariant.count)
           ];
       builds =
@@ -131,7 +131,7 @@ loop-slot-preserved t c =
             | else-is_replaced+in_ok-inner+in_ok-push+in_ok-rebuild+in_ok-push-2 w ↦
                 let child = tree_at es i w.index-children-slot.result d c.loop-slot-test.true w.index-children-slot.is ∙ ap (λ us. get_or us i d) c.children-children.ensures in
                 let inner = w.in_ok-inner.ensures ∙ ap (λ g. placed_below i (map placed g)) here ∙ group-below i aims in
-                let below_it = ap (λ xs. touched (element_tree w.index-children-slot.result) (parents_of (aims_of xs))) w.deref-else-is_replaced.ensures.value ∙ ap (touched (element_tree w.index-children-slot.result)) (parents-below aims w.in_ok-inner.inner.items i inner) ∙ ap (λ u. touched u (inside i (parents_of cs))) child in
+                let below_it = ap (λ xs. touched (element_tree w.index-children-slot.result) (parents_of (aims_of xs))) w.deref-else-is_replaced-2.ensures.value ∙ ap (touched (element_tree w.index-children-slot.result)) (parents-below aims w.in_ok-inner.inner.items i inner) ∙ ap (λ u. touched u (inside i (parents_of cs))) child in
                 omega (arith, w.builds-is, w.in_ok-rebuild.ensures.builds)
           ];
       tree =
@@ -153,7 +153,7 @@ loop-slot-preserved t c =
                 let inner_sought = w.sought_for-inner_sought.result.now in
                 let below_it = w.sought_for-inner_sought.ensures ∙ ap (λ ls. sought_for ls i) w.deref-else-is_replaced.ensures.value ∙ c.in_ok-lists.ensures i c.loop-slot-test.true in
                 let e = element_tree w.index-children-slot.result in
-                let it = ap₂ (λ xs ms. rewritten (wanted ms) trees (aims_of xs) [] e) w.deref-else-is_replaced.ensures.value below_it ∙ seen-below (wanted sought) (wanted (sought_below i sought)) trees aims w.in_ok-inner.inner.items i e (λ p k. marks-below sought i p) inner ∙ ap (rewritten (wanted sought) trees cs (i ∷ [])) child in
+                let it = ap₂ (λ xs ms. rewritten (wanted ms) trees (aims_of xs) [] e) w.deref-else-is_replaced-2.ensures.value below_it ∙ seen-below (wanted sought) (wanted (sought_below i sought)) trees aims w.in_ok-inner.inner.items i e (λ p k. marks-below sought i p) inner ∙ ap (rewritten (wanted sought) trees cs (i ∷ [])) child in
                 let slot_is : w.len.result ≡ length out = search rules in
                 let there : w.push.new.self.items ≡ path ++ length out ∷ [] = w.in_ok-push.ensures.items ∙ ap₂ (λ p n. p ++ n ∷ []) c.loop-slot.invariant.path slot_is in
                 ap (λ v. marks_of v.items) w.found-is ∙ w.in_ok-rebuild.ensures.marks trees are ∙ ap₂ (λ p u. before ++ map (below p) (marked u)) there it ∙ ap (λ ms. before ++ ms) (sym (shown-one path (length out) own)) ∙ ap (λ us. before ++ shown path (length out) us) (slot-kept (wanted sought) trees cs (i ∷ []) own (sym replaced ∙ w.if-is_replaced.false))
