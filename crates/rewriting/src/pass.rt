@@ -99,7 +99,13 @@ fn push_kept(
     let lists = dealt(alloc, sought, children.len())?;
     for slot in 0..children.len() {
         path.push(slot)?;
-        push_kept(alloc, found, path, &children[slot], sought_for(&lists, slot))?;
+        push_kept(
+            alloc,
+            found,
+            path,
+            &children[slot],
+            sought_for(&lists, slot),
+        )?;
         path.pop();
     }
     Ok(())
