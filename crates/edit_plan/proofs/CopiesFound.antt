@@ -1,6 +1,6 @@
 -- The copies of registered elements, from the marks of a tree.
 --     tree-marked                   the new tree, labelled by marks
---     put                           one path more in the list of its number
+--     put, not_put                  one path more in the list of its number; none more in the others
 --     copies-marked                 the paths of a mark are those of the copies of its element
 --     all-copies                    so they are for each registered element
 use Rattle.std.specs.Prelude.{◌≡◌, ◌≢◌, ℕ, zero, suc, ◌+◌, ◌<◌, Bool, true, false, ◌&&◌, cond, nat_eq, List, [], ◌∷◌, ◌++◌, map, filter, flat_map, drop, length, slice_get, get_or, Option, Some, None, option_map, Vec, refl}
@@ -44,6 +44,10 @@ put old new v k n p here elsewhere is =
       | inl same ↦ ap (λ i. paths_of (new i)) same ∙ ap paths_of here ∙ map-append (λ w. w.items) (old n) (v ∷ []) ∙ ap (λ q. paths_of (old n) ++ q ∷ []) is ∙ ap (λ i. paths_of (old i) ++ drop 1 p ∷ []) (sym same) ∙ ap (λ b. paths_of (old k) ++ map (λ (m : Marking). drop 1 m.1) (cond b ((n, p) ∷ []) [])) (sym (eq-eqb k n same))
       | inr differs ↦ ap paths_of (elsewhere differs) ∙ sym (append-nil (paths_of (old k))) ∙ ap (λ b. paths_of (old k) ++ map (λ (m : Marking). drop 1 m.1) (cond b ((n, p) ∷ []) [])) (sym (ne_eqb k n differs))
     ]
+
+-- none more in the list of another number
+pub not_put : (ps : List Path) (k n : ℕ) (p : Path) → k ≢ n → ps ≡ ps ++ paths_of_mark k ((n, p) ∷ [])
+not_put ps k n p differs = sym (append-nil ps) ∙ ap (λ b. ps ++ map (λ (m : Marking). drop 1 m.1) (cond b ((n, p) ∷ []) [])) (sym (ne_eqb k n differs))
 
 -- ---- the numbers of the registered elements at an address
 same-turned : (p q : Path) → same_path p q ≡ same_path q p

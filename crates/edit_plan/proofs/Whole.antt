@@ -6,23 +6,22 @@ use Rattle.std.specs.Prelude.{◌≡◌, ℕ, suc, Bool, true, List, [], ◌∷�
 use Rattle.std.specs.List.{AllByRecursion, enumerate_from}
 use Rattle.std.specs.Option.{option_map_or}
 use Rattle.std.proofs.Common.{ap, ap₂, sym, ◌∙◌, arith}
-use Rattle.std.proofs.lemmas.List.{length-map}
 use Rattle.std.proofs.lemmas.Option.{same_Some}
 use mathlib.Core.Path.{fun_ext}
 use Rattle.cst_core.specs.Path.{Path, first_item}
 use Rattle.cst_core.specs.Tree.{Tree, SyntaxTree, relabelled}
 use Rattle.cst_core.specs.Element.{Element, address, subtree}
 use Rattle.rewriting.specs.inner.Pass.{kind_only}
-use Rattle.rewriting.specs.Rewriting.{numbers, rewritten, rewritten_whole}
+use Rattle.rewriting.specs.Rewriting.{numbers, rewritten_whole}
 use Rattle.rewriting.specs.Topmost.{topmost}
 use Rattle.edit_change.specs.Nesting.{is_independent}
-use Rattle.edit_plan.specs.NewTree.{OriginTree, plain, origin, aims_of, payload_of, dependents, given, independents, is_free, new_tree}
+use Rattle.edit_plan.specs.NewTree.{OriginTree, plain, origin, aims_of, given, independents, is_free, new_tree}
 use Rattle.edit_plan.specs.Results.{changed}
 use Rattle.edit_change.specs.declared.change.Change.{Change}
-use Rattle.edit_plan.proofs.Brought.{mark, shown, marked, marked-free}
+use Rattle.edit_plan.proofs.Brought.{mark, marked, marked-free}
 use Rattle.edit_change.proofs.Lists.{all_filter, all_weaker, all_enumerated}
 use Rattle.edit_plan.proofs.Relabelled.{map-rewritten_whole, topmost-relabelled}
-use Rattle.edit_plan.proofs.Settled.{given_is, whole-agree}
+use Rattle.edit_plan.proofs.Settled.{whole-agree}
 
 -- what is kept is labelled as not given
 abbrev pub not_given : Path → ℕ → Bool

@@ -3,20 +3,19 @@
 ghost use Rattle.std.specs.Prelude.{◌≡◌, ◌<◌, drop, length, IfOk, OnOk};
 ghost use Rattle.rewriting.specs.inner.Marked.{marks_of};
 ghost use Rattle.rewriting.specs.Topmost.{paths_of};
-ghost use Rattle.edit_plan.specs.inner.Marks.{paths_of_mark, NoPaths, ArePathsOf, HasPathMore, PathsStay, IsDealtOut};
+ghost use Rattle.edit_plan.specs.inner.Marks.{paths_of_mark, NoPaths, ArePathsOf, HasPathMore, PathsStay, IsDealtOut, HasPathsMore};
 
 use rewriting::Mark;
 use std::alloc::{AllocError, Global};
 
 // A path without its first slot.
-fn below_top(alloc: Global, path: &[usize]) -> Result<Vec<usize>, AllocError>
-    ensures { IfOk result (λ v. v.items ≡ drop 1 path.now) }
+fn below_top(mut path: Vec<usize>) -> Vec<usize>
+    ensures { result.items ≡ drop 1 path.items }
 {
-    let mut below = Vec::new(alloc);
-    if let Some(rest) = path.get(1..) {
-        below.extend_from_slice(rest)?;
+    if !path.is_empty() {
+        path.remove(0);
     }
-    Ok(below)
+    path
 }
 
 // So many empty lists.
@@ -46,48 +45,50 @@ fn enter(
     Ok(())
 }
 
-// The path of one mark goes to the list of its number, if there is one.
-fn deal(alloc: Global, lists: &mut Vec<Vec<Vec<usize>>>, mark: &Mark) -> Result<(), AllocError>
+// The path of one mark goes to the list of its number; the number after the last list's has one of its own.
+fn deal(
+    lists: &mut Vec<Vec<Vec<usize>>>,
+    others: &mut Vec<Vec<usize>>,
+    mark: Mark,
+) -> Result<(), AllocError>
     ensures size { length lists.new.items ≡ length lists.old.items }
-    ensures lists { OnOk result (IsDealtOut lists.old.items lists.new.items mark.now) }
+    ensures lists { OnOk result (IsDealtOut lists.old.items lists.new.items mark) }
+    ensures others { OnOk result (HasPathsMore (length lists.old.items) others.old others.new mark) }
 {
-    if mark.number >= lists.len() {
+    let Mark { number, path } = mark;
+    if number < lists.len() {
+        enter(lists, number, below_top(path))?;
         return Ok(());
     }
-    let path = below_top(alloc, &mark.path)?;
-    enter(lists, mark.number, path)?;
+    if number == lists.len() {
+        others.push(below_top(path))?;
+    }
     Ok(())
 }
 
-/// The paths of the marks of each number below this one.
-pub(crate) fn dealt_out(
-    alloc: Global,
-    marks: &[Mark],
-    count: usize,
-) -> Result<Vec<Vec<Vec<usize>>>, AllocError>
-    ensures size { IfOk result (λ v. length v.items ≡ count) }
-    ensures lists { IfOk result (λ v. ArePathsOf (marks_of marks.now) count v.items) }
-{
-    let mut lists = empty_lists(alloc, count)?;
-    for mark in marks {
-        deal(alloc, &mut lists, mark)?;
-    }
-    Ok(lists)
+/// Paths of marks in the new tree, by their numbers.
+#[derive(Drop)]
+pub(crate) struct MarkPaths {
+    /// Those of each number below some one.
+    pub(crate) lists: Vec<Vec<Vec<usize>>>,
+    /// Those of that number.
+    pub(crate) others: Vec<Vec<usize>>,
 }
 
-/// The paths of the mark of this number.
-pub(crate) fn paths_with(
+/// The paths of the marks of each number below this one, and those of the number itself.
+pub(crate) fn mark_paths(
     alloc: Global,
-    marks: &[Mark],
-    number: usize,
-) -> Result<Vec<Vec<usize>>, AllocError>
-    ensures { IfOk result (λ v. paths_of v.items ≡ paths_of_mark number (marks_of marks.now)) }
+    marks: Vec<Mark>,
+    count: usize,
+) -> Result<MarkPaths, AllocError>
+    ensures size { IfOk result (λ p. length p.lists.items ≡ count) }
+    ensures lists { IfOk result (λ p. ArePathsOf (marks_of marks.items) count p.lists.items) }
+    ensures others { IfOk result (λ p. paths_of p.others.items ≡ paths_of_mark count (marks_of marks.items)) }
 {
-    let mut paths = Vec::new(alloc);
+    let mut lists = empty_lists(alloc, count)?;
+    let mut others = Vec::new(alloc);
     for mark in marks {
-        if mark.number == number {
-            paths.push(below_top(alloc, &mark.path)?)?;
-        }
+        deal(&mut lists, &mut others, mark)?;
     }
-    Ok(paths)
+    Ok(MarkPaths { lists, others })
 }

@@ -21,7 +21,7 @@ use crate::dependent::{Dependent, dependents};
 use crate::edit::SyntaxEdit;
 use crate::edit_error::EditError;
 use crate::given::given;
-use crate::mark_paths::{dealt_out, paths_with};
+use crate::mark_paths::mark_paths;
 use crate::plan::EditPlan;
 use crate::sought::SoughtIndex;
 use cst_core::{GreenElement, GreenNode, SyntaxElement, SyntaxNode, TreeIds};
@@ -171,12 +171,11 @@ impl EditPlan {
         given.top = Some(registered.len());
         let Rebuilt { elements, marks } = self.rebuilt(alloc, &aims, &index, &given)?;
         self.keep_top();
-        let copies = dealt_out(alloc, &marks, registered.len())?;
-        let changed = paths_with(alloc, &marks, registered.len())?;
+        let paths = mark_paths(alloc, marks, registered.len())?;
         Ok(Made {
             green: only_node(elements),
-            copies,
-            changed,
+            copies: paths.lists,
+            changed: paths.others,
         })
     }
 

@@ -109,6 +109,9 @@ impl<'a> SoughtIndex<'a> {
     ) -> Result<Vec<Sought<'a>>, AllocError>
         ensures { IfOk result (λ v. sought_in v.items ≡ sought_at self.now (address (element_of element.now))) }
     {
+        if self.is_empty() {
+            return Ok(Vec::new(alloc));
+        }
         let key = Spot {
             number: element.tree(),
             path: element.path(alloc)?,

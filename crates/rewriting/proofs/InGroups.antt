@@ -48,7 +48,7 @@ no_start i (j ∷ []) (Over (suc n)) h = and-true (nat_eq i j) (first_false (nat
 no_start i (j ∷ k ∷ q) (Over n) h = start_deeper (j ∷ k ∷ q) n i (omega arith)
 
 -- ---- the aims as a list
-over : (test : Aim → Bool) (b : Bool) (a : Aimed) (xs : List Aimed) (ns : List ℕ) → numbers (filter (λ c. test c.1) (aims_of xs)) ≡ ns → test (aim_in a.path.now a.form) ≡ b → numbers (filter (λ c. test c.1) (aims_of (a ∷ xs))) ≡ cond b (a.change ∷ ns) ns
+pub over : (test : Aim → Bool) (b : Bool) (a : Aimed) (xs : List Aimed) (ns : List ℕ) → numbers (filter (λ c. test c.1) (aims_of xs)) ≡ ns → test (aim_in a.path.now a.form) ≡ b → numbers (filter (λ c. test c.1) (aims_of (a ∷ xs))) ≡ cond b (a.change ∷ ns) ns
 over test true a xs ns h e = ap (λ b. numbers (cond b (numbered a ∷ filter (λ c. test c.1) (aims_of xs)) (filter (λ c. test c.1) (aims_of xs)))) e ∙ ap (λ ms. a.change ∷ ms) h
 over test false a xs ns h e = ap (λ b. numbers (cond b (numbered a ∷ filter (λ c. test c.1) (aims_of xs)) (filter (λ c. test c.1) (aims_of xs)))) e ∙ h
 

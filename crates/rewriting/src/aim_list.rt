@@ -1,6 +1,6 @@
 ghost use Rattle.std.specs.Prelude.{◌≡◌, [], ◌∷◌, map, length, IfOk, OnOk};
 ghost use Rattle.std.specs.List.{list_any};
-ghost use Rattle.rewriting.specs.Rewriting.{inserts_at, replacements_at, gap_order, is_replaced};
+ghost use Rattle.rewriting.specs.Rewriting.{is_replaced};
 ghost use Rattle.rewriting.specs.inner.Aimed.{aims_of, has_parent, placed, placed_below};
 ghost use Rattle.rewriting.specs.inner.Groups.{GrowsInside, StaysBefore, StaysBehind, AreGrouped};
 
@@ -97,44 +97,4 @@ pub fn grouped<'a>(
         push_into(alloc, &mut groups, *aim, first, reach)?;
     }
     Ok(groups)
-}
-
-// The inserts of a gap of the top, in the order in which they stand there: the one recorded last stands first.
-pub fn inserted(alloc: Global, aims: &[Aimed], gap: usize) -> Result<Vec<usize>, AllocError>
-    ensures { IfOk result (λ v. v.items ≡ gap_order (inserts_at (aims_of aims.now) [] gap)) }
-{
-    let mut changes = Vec::new(alloc);
-    for aim in aims {
-        if aim.inserts_at(gap) {
-            changes.push(aim.change())?;
-        }
-    }
-    changes.reverse();
-    Ok(changes)
-}
-
-// What replaces from a child of the top on.
-pub fn replacing(alloc: Global, aims: &[Aimed], slot: usize) -> Result<Vec<usize>, AllocError>
-    ensures { IfOk result (λ v. v.items ≡ replacements_at (aims_of aims.now) (slot ∷ [])) }
-{
-    let mut changes = Vec::new(alloc);
-    for aim in aims {
-        if aim.starts_at(slot) {
-            changes.push(aim.change())?;
-        }
-    }
-    Ok(changes)
-}
-
-// What replaces the top.
-pub fn replacing_top(alloc: Global, aims: &[Aimed]) -> Result<Vec<usize>, AllocError>
-    ensures { IfOk result (λ v. v.items ≡ replacements_at (aims_of aims.now) []) }
-{
-    let mut changes = Vec::new(alloc);
-    for aim in aims {
-        if aim.replaces_top() {
-            changes.push(aim.change())?;
-        }
-    }
-    Ok(changes)
 }

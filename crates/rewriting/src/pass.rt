@@ -4,12 +4,11 @@ ghost use Rattle.green_tree.specs.GreenElement.{element_tree, element_trees};
 ghost use Rattle.rewriting.specs.Effort.{counted};
 ghost use Rattle.rewriting.specs.inner.Given.{given_trees};
 ghost use Rattle.rewriting.specs.inner.Pass.{given_in, Puts, FindsGiven, FindsChange, FindsChanges, FindsKept};
+ghost use Rattle.rewriting.specs.inner.Pass.{gap_changes, slot_changes, top_changes};
 ghost use Rattle.rewriting.specs.inner.Pass.{TouchesAtMost, CountsBuilt, CountsBuiltWhole, remade, remade_whole};
 ghost use Rattle.rewriting.specs.inner.Pass.{FindsRebuilt, FindsWhole};
 
-use crate::aim_list::{
-    alter_some, below, grouped, inserted, is_replaced, replacing, replacing_top, top_is_replaced,
-};
+use crate::aim_list::{alter_some, below, grouped, is_replaced, top_is_replaced};
 use crate::aimed::Aimed;
 use crate::mark::{Mark, Sought, dealt, push_here, sought_for};
 use crate::marked_given::{GivenTable, MarkedGiven};
@@ -58,21 +57,68 @@ fn push_change(
     Ok(())
 }
 
-// The same of several, one after another.
-fn push_changes(
+// What the inserts of a gap of the top give: the one recorded last stands first.
+fn push_gap(
     alloc: Global,
     out: &mut Vec<GreenElement>,
     found: &mut Vec<Mark>,
     path: &mut Vec<usize>,
     given: &GivenTable,
-    changes: &[usize],
+    aims: &[Aimed],
+    gap: usize,
 ) -> Result<(), AllocError>
     ensures path { OnOk result (path.new.items ≡ path.old.items) }
-    ensures trees { OnOk result (Puts out.old out.new (flat_map (given_in given.now) changes.now)) }
-    ensures marks { OnOk result (FindsChanges path.old out.old found.old found.new given.now changes.now) }
+    ensures trees { OnOk result (Puts out.old out.new (flat_map (given_in given.now) (gap_changes aims.now gap))) }
+    ensures marks { OnOk result (FindsChanges path.old out.old found.old found.new given.now (gap_changes aims.now gap)) }
 {
-    for change in changes {
-        push_change(alloc, out, found, path, given, *change)?;
+    for index in (0..aims.len()).rev() {
+        let aim = &aims[index];
+        if aim.inserts_at(gap) {
+            push_change(alloc, out, found, path, given, aim.change())?;
+        }
+    }
+    Ok(())
+}
+
+// What stands in the slot of a replaced child of the top.
+fn push_slot(
+    alloc: Global,
+    out: &mut Vec<GreenElement>,
+    found: &mut Vec<Mark>,
+    path: &mut Vec<usize>,
+    given: &GivenTable,
+    aims: &[Aimed],
+    slot: usize,
+) -> Result<(), AllocError>
+    ensures path { OnOk result (path.new.items ≡ path.old.items) }
+    ensures trees { OnOk result (Puts out.old out.new (flat_map (given_in given.now) (slot_changes aims.now slot))) }
+    ensures marks { OnOk result (FindsChanges path.old out.old found.old found.new given.now (slot_changes aims.now slot)) }
+{
+    for aim in aims {
+        if aim.starts_at(slot) {
+            push_change(alloc, out, found, path, given, aim.change())?;
+        }
+    }
+    Ok(())
+}
+
+// What stands in the place of a replaced top.
+fn push_over_top(
+    alloc: Global,
+    out: &mut Vec<GreenElement>,
+    found: &mut Vec<Mark>,
+    path: &mut Vec<usize>,
+    given: &GivenTable,
+    aims: &[Aimed],
+) -> Result<(), AllocError>
+    ensures path { OnOk result (path.new.items ≡ path.old.items) }
+    ensures trees { OnOk result (Puts out.old out.new (flat_map (given_in given.now) (top_changes aims.now))) }
+    ensures marks { OnOk result (FindsChanges path.old out.old found.old found.new given.now (top_changes aims.now)) }
+{
+    for aim in aims {
+        if aim.replaces_top() {
+            push_change(alloc, out, found, path, given, aim.change())?;
+        }
     }
     Ok(())
 }
@@ -161,13 +207,11 @@ pub fn rebuild(
     let groups = grouped(alloc, aims, children.len())?;
     let lists = dealt(alloc, sought, children.len())?;
     let mut out = Vec::with_capacity(alloc, children.len())?;
-    let first = inserted(alloc, aims, 0)?;
-    push_changes(alloc, &mut out, found, path, given, &first)?;
+    push_gap(alloc, &mut out, found, path, given, aims, 0)?;
     for slot in 0..children.len() {
         let group = groups[slot].as_slice();
         if is_replaced(group, slot) {
-            let changes = replacing(alloc, group, slot)?;
-            push_changes(alloc, &mut out, found, path, given, &changes)?;
+            push_slot(alloc, &mut out, found, path, given, group, slot)?;
         } else {
             let inner = below(alloc, group, slot)?;
             let inner_sought = sought_for(&lists, slot);
@@ -185,8 +229,7 @@ pub fn rebuild(
             )?)?;
             path.pop();
         }
-        let behind = inserted(alloc, group, slot + 1)?;
-        push_changes(alloc, &mut out, found, path, given, &behind)?;
+        push_gap(alloc, &mut out, found, path, given, group, slot + 1)?;
     }
     build_node(alloc, node.kind(), out, builds)
 }
@@ -218,8 +261,7 @@ pub fn rebuild_whole(
     let mut marks = Vec::new(alloc);
     let mut path = Vec::new(alloc);
     if top_is_replaced(aims) {
-        let changes = replacing_top(alloc, aims)?;
-        push_changes(alloc, &mut elements, &mut marks, &mut path, given, &changes)?;
+        push_over_top(alloc, &mut elements, &mut marks, &mut path, given, aims)?;
     } else {
         path.push(0)?;
         elements.push(rebuild(

@@ -7,7 +7,7 @@
 --     AreOwnersAt                   these are the changes of a depth that own something
 --     FillsLevel, FillsLevelMarks   what the owners of one depth give is entered, with its marks, where all that is deeper has been
 --     TellsGiven, TellsMarks        a table has what each change gives, and its marks, where another one has what each change owns
-use Rattle.std.specs.Prelude.{◌≡◌, ℕ, suc, List, [], ◌++◌, map, filter, length, None, Vec}
+use Rattle.std.specs.Prelude.{◌≡◌, ℕ, suc, List, [], map, filter, length, None, Vec}
 use Rattle.std.specs.Global.{Global}
 use Rattle.cst_core.specs.Path.{Path, counted_from}
 use Rattle.cst_core.specs.Tree.{SyntaxTree}

@@ -11,6 +11,7 @@
 --     NoPaths, ArePathsOf           so many lists of paths are empty; they have the paths of these marks, each those of its number
 --     HasPathMore, PathsStay        a list has one path more at its end; the others are as they were
 --     IsDealtOut                    the path of one mark went to the list of its number, if there is one
+--     HasPathsMore                  a list has one path more if the mark is of this number
 --     AnnotatedPaths                paths with their annotations, in code
 --     Annotates, AreNumbered        one annotation with each of these paths goes to the end; each annotation with each path of its list
 --     HasElementMore                an annotation has one element more
@@ -99,6 +100,9 @@ module _ (before after : List (Vec (Vec ℕ Global) Global)) where
   IsDealtOut m =
       (k : ℕ) (d : Vec (Vec ℕ Global) Global) → k < length before →
       paths_of (get_or after k d).items ≡ paths_of (get_or before k d).items ++ paths_of_mark k (mark_of m ∷ [])
+
+abbrev pub HasPathsMore : ℕ → Vec (Vec ℕ Global) Global → Vec (Vec ℕ Global) Global → Mark → Type 0
+HasPathsMore n before after m = paths_of after.items ≡ paths_of before.items ++ paths_of_mark n (mark_of m ∷ [])
 
 -- ---- annotations
 abbrev pub AnnotatedPaths : Type 0

@@ -5,6 +5,8 @@
 --     IsMarked                      these trees are as many as the given elements, and each has the marks of its own
 --     IsMarkedIn, AreMarkedIn       the same of an entry of a table, where no entry gives nothing; of all changes, by their numbers
 --     given_in                      what a change gives, from a table by its number: nothing where the table has none
+--     gap_changes                   the inserts of a gap of the top, in the order in which they stand there
+--     slot_changes, top_changes     what replaces from a child of the top on; what replaces the top
 --     topped                        a tree with one mark more at its top
 --     marks_at_path                 the marks of the given element at an index, which stands at a path
 --     Puts                          trees that are put behind others
@@ -21,7 +23,7 @@ use Rattle.rewriting.specs.inner.Given.{given_trees}
 use Rattle.green_tree.specs.GreenElement.{element_tree, element_trees}
 use Rattle.green_tree.specs.declared.green.GreenElement.{GreenElement}
 use Rattle.rewriting.specs.Effort.{touched, parents_of, nodes_built, nodes_built_whole, counted}
-use Rattle.rewriting.specs.Rewriting.{rewritten, rewritten_whole}
+use Rattle.rewriting.specs.Rewriting.{inserts_at, replacements_at, gap_order, rewritten, rewritten_whole}
 use Rattle.rewriting.specs.inner.Aimed.{aims_of}
 use Rattle.rewriting.specs.inner.Marked.{MarkTree, Marking, marked, marked_from, below, marks_of, sought_in, wanted, Finds}
 use Rattle.rewriting.specs.declared.aimed.Aimed.{Aimed}
@@ -53,6 +55,15 @@ AreMarkedIn table trees = (c : ℕ) → IsMarkedIn table.top (slice_get table.en
 
 abbrev pub given_in : GivenTable → ℕ → List SyntaxTree
 given_in table c = option_map_or (λ g. given_trees g.elements) (slice_get table.entries.items c) []
+
+abbrev pub gap_changes : List Aimed → ℕ → List ℕ
+gap_changes aims gap = gap_order (inserts_at (aims_of aims) [] gap)
+
+abbrev pub slot_changes : List Aimed → ℕ → List ℕ
+slot_changes aims slot = replacements_at (aims_of aims) (slot ∷ [])
+
+abbrev pub top_changes : List Aimed → List ℕ
+top_changes aims = replacements_at (aims_of aims) []
 
 abbrev pub topped : ℕ → MarkTree → MarkTree
 topped n (Token l s) = Token (n ∷ l) s

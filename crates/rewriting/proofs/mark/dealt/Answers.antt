@@ -1,4 +1,4 @@
-use Rattle.std.proofs.Common.{◌≡◌, ◌++◌, List, length, get_or, arith, rules, sym, ◌∙◌}
+use Rattle.std.proofs.Common.{◌++◌, get_or, arith, rules, sym, ◌∙◌}
 use Rattle.std.proofs.lemmas.List.{append-nil, at_drop_all}
 use Rattle.rewriting.specs.inner.Marked.{sought_in, sought_below}
 use Rattle.rewriting.proofs.MarksKept.{in_lists, none_dealt}

@@ -8,7 +8,7 @@ use Rattle.green_tree.specs.GreenElement.{element_tree, element_trees}
 use Rattle.rewriting.specs.Rewriting.{slot, is_replaced, replacements_at, gap_order, rewritten}
 use Rattle.rewriting.specs.inner.Aimed.{aims_of, placed, placed_below}
 use Rattle.rewriting.specs.inner.Marked.{MarkTree, Marking, marked, below, marks_of, sought_in, marks_at, wanted, sought_below, sought_for}
-use Rattle.rewriting.specs.inner.Pass.{kind_only, given_in}
+use Rattle.rewriting.specs.inner.Pass.{kind_only, given_in, gap_changes}
 use Rattle.rewriting.specs.Effort.{inside, touched, parents_of, built, nodes_built, counted}
 use Rattle.rewriting.proofs.Built.{to_come, to_come-step, parents-below, own_node, on_ok}
 use Rattle.rewriting.proofs.Counted.{still, still-step, still-none, in_slot, counted-below, counted-own, counted-none, slot_counted-replaced, slot_counted-kept, count-step, count-one}
@@ -23,7 +23,7 @@ use Rattle.rewriting.proofs.Marks.{are_shown}
 use Rattle.rewriting.proofs.MarksKept.{marks-below, token_marks, node_marks}
 use Rattle.rewriting.proofs.MarksGiven.{width, all_as_many, slot_as_many}
 use Rattle.rewriting.proofs.pass.+rebuild.Goals as goal
-use Rattle.rewriting.proofs.pass.+rebuild.Goals.{then-is_replaced+in_ok-changes+in_ok-push_changes-2, else-is_replaced+in_ok-inner+in_ok-push+in_ok-rebuild+in_ok-push-2}
+use Rattle.rewriting.proofs.pass.+rebuild.Goals.{then-is_replaced+in_ok-push_slot, else-is_replaced+in_ok-inner+in_ok-push+in_ok-rebuild+in_ok-push-2}
 
 pub returns-then-not-alter_some-clause-tree : goal.returns-then-not-alter_some-clause-tree
 returns-then-not-alter_some-clause-tree t c =
@@ -59,17 +59,16 @@ loop-slot-init t c =
     let sought : List Marking = sought_in c.args.sought.now in
     let cs = aims_of c.args.aims.now in
     let ts : List SyntaxTree = c.in-Node.node.children in
-    let ns = c.deref-2.result.now in
+    let ns : List ℕ = gap_changes c.args.aims.now 0 in
     let before : List Marking = marks_of c.args.found.now.items ++ map (λ n. (n, path)) (marks_at sought []) in
     let here : marks_of c.push_here.new.found.items ≡ before = c.in_ok-push_here.ensures ∙ ap (λ p. marks_of c.args.found.now.items ++ map (λ n. (n, p)) (marks_at sought [])) c.deref.ensures.value in
-    let changes = c.deref-2.ensures.value ∙ c.in_ok-first.ensures in
     let empty = c.in_ok-out.ensures.items in
     record {
-      path = c.in_ok-push_changes.ensures.path;
+      path = c.in_ok-push_gap.ensures.path;
       count = refl;
       builds = omega arith;
-      tree = ap (λ xs. xs ++ left kind_only given cs 0 ts) (c.in_ok-push_changes.ensures.trees ∙ ap₂ (λ es ms. element_trees es ++ flat_map given ms) empty changes) ∙ gap-slots kind_only given cs 0 (forest ts);
-      marks = λ trees are. first (shown path) (are_shown path) (wanted sought) trees cs before (marks_of c.push_changes.new.found.items) (length c.push_changes.new.out.items) ts (c.in_ok-push_changes.ensures.marks trees are ∙ ap₂ (λ xs es. xs ++ shown path (length es) (flat_map trees ns)) here empty ∙ ap (λ ms. before ++ shown path 0 (flat_map trees ms)) changes) (width c.in_ok-out.out.items c.push_changes.new.out.items (flat_map given ns) (flat_map trees ns) c.in_ok-push_changes.ensures.trees (all_as_many table trees are ns) ∙ ap₂ (λ es ms. length es + length (flat_map trees ms)) empty changes);
+      tree = ap (λ xs. xs ++ left kind_only given cs 0 ts) (c.in_ok-push_gap.ensures.trees ∙ ap (λ es. element_trees es ++ flat_map given ns) empty) ∙ gap-slots kind_only given cs 0 (forest ts);
+      marks = λ trees are. first (shown path) (are_shown path) (wanted sought) trees cs before (marks_of c.push_gap.new.found.items) (length c.push_gap.new.out.items) ts (c.in_ok-push_gap.ensures.marks trees are ∙ ap₂ (λ xs es. xs ++ shown path (length es) (flat_map trees ns)) here empty) (width c.in_ok-out.out.items c.push_gap.new.out.items (flat_map given ns) (flat_map trees ns) c.in_ok-push_gap.ensures.trees (all_as_many table trees are ns) ∙ ap (λ es. length es + length (flat_map trees ns)) empty);
     }
 
 pub loop-slot-preserved : goal.loop-slot-preserved
@@ -86,22 +85,22 @@ loop-slot-preserved t c =
     let d : SyntaxTree = Token 0 [] in
     let out = c.loop-slot.out.items in
     let mid = c.if-is_replaced.out.items in
-    let new = c.push_changes-in-loop-slot.new.out.items in
+    let new = c.push_gap-in-loop-slot.new.out.items in
     let in_range : i < length ts = rw (← c.children-children.ensures, length-map) c.loop-slot-test.true in
     let here = group_is c.in_ok-groups.groups.items aims (length es) i c.index.result.now c.as_slice-group.result.now c.in_ok-groups.ensures.groups c.loop-slot-test.true c.index.ensures c.as_slice-group.ensures in
     let replaced = c.is_replaced.ensures ∙ ap (λ g. is_replaced (aims_of g) (i ∷ [])) here ∙ group-replaced i aims in
-    let behind = c.deref-in-loop-slot.ensures.value ∙ c.in_ok-behind.ensures ∙ ap gap_order (group-inserted i aims c.as_slice-group.result.now here) in
+    let behind = ap gap_order (group-inserted i aims c.as_slice-group.result.now here) in
     let kept : SyntaxTree = rewritten kind_only given cs (i ∷ []) (get_or ts i d) in
     let same_path : c.if-is_replaced.path.items ≡ path =
     elim c.if-is_replaced.branch [
-      | then-is_replaced+in_ok-changes+in_ok-push_changes-2 w ↦ ap (λ v. v.items) w.path-is ∙ w.in_ok-push_changes-2.ensures.path ∙ c.loop-slot.invariant.path
+      | then-is_replaced+in_ok-push_slot w ↦ ap (λ v. v.items) w.path-is ∙ w.in_ok-push_slot.ensures.path ∙ c.loop-slot.invariant.path
       | else-is_replaced+in_ok-inner+in_ok-push+in_ok-rebuild+in_ok-push-2 w ↦ ap (λ v. v.items) w.path-is ∙ grind (arith, common_steps, w.in_ok-push.ensures.items, w.in_ok-rebuild.ensures.path, w.pop.ensures.rest) ∙ c.loop-slot.invariant.path
     ] in
     let middle : element_trees mid ≡ element_trees out ++ slot kind_only given cs (i ∷ []) kept =
     elim c.if-is_replaced.branch [
-      | then-is_replaced+in_ok-changes+in_ok-push_changes-2 w ↦
-          let changes = w.deref-then-is_replaced.ensures.value ∙ w.in_ok-changes.ensures ∙ ap (λ g. replacements_at (aims_of g) (i ∷ [])) here ∙ group-replacements i aims in
-          ap (λ o. element_trees o.items) w.out-is ∙ w.in_ok-push_changes-2.ensures.trees ∙ ap (λ ns. element_trees out ++ flat_map given ns) changes ∙ ap (λ us. element_trees out ++ us) (slot-replaced kind_only given cs (i ∷ []) kept (sym replaced ∙ w.if-is_replaced.true))
+      | then-is_replaced+in_ok-push_slot w ↦
+          let changes = ap (λ g. replacements_at (aims_of g) (i ∷ [])) here ∙ group-replacements i aims in
+          ap (λ o. element_trees o.items) w.out-is ∙ w.in_ok-push_slot.ensures.trees ∙ ap (λ ns. element_trees out ++ flat_map given ns) changes ∙ ap (λ us. element_trees out ++ us) (slot-replaced kind_only given cs (i ∷ []) kept (sym replaced ∙ w.if-is_replaced.true))
       | else-is_replaced+in_ok-inner+in_ok-push+in_ok-rebuild+in_ok-push-2 w ↦
           let child = tree_at es i w.index-children-slot.result d c.loop-slot-test.true w.index-children-slot.is ∙ ap (λ us. get_or us i d) c.children-children.ensures in
           let inner = w.in_ok-inner.ensures ∙ ap (λ g. placed_below i (map placed g)) here ∙ group-below i aims in
@@ -109,12 +108,12 @@ loop-slot-preserved t c =
           ap (λ o. element_trees o.items) w.out-is ∙ ap element_trees w.in_ok-push-2.ensures.items ∙ map-append element_tree out (_ ∷ []) ∙ ap (λ u. element_trees out ++ u ∷ []) made ∙ ap (λ us. element_trees out ++ us) (slot-kept kind_only given cs (i ∷ []) kept (sym replaced ∙ w.if-is_replaced.false))
     ] in
     record {
-      path = c.in_ok-push_changes-3.ensures.path ∙ same_path;
+      path = c.in_ok-push_gap-2.ensures.path ∙ same_path;
       count =
           let own = get_or ts i d in
           let more = still-step cs i ts d in_range in
           elim c.if-is_replaced.branch [
-            | then-is_replaced+in_ok-changes+in_ok-push_changes-2 w ↦
+            | then-is_replaced+in_ok-push_slot w ↦
                 let nothing_on : 0 + still cs (i + 1) ts ≡ still cs (i + 1) ts = omega arith in
                 let none = slot_counted-replaced cs i own (sym replaced ∙ w.if-is_replaced.true) in
                 ap (λ n. counted n (still cs (i + 1) ts)) w.builds-is ∙ ap (counted c.loop-slot.builds) (sym (more ∙ ap (λ n. n + still cs (i + 1) ts) none ∙ nothing_on)) ∙ c.loop-slot.invariant.count
@@ -127,7 +126,7 @@ loop-slot-preserved t c =
       builds =
           let more = to_come-step (parents_of cs) i ts d in_range in
           elim c.if-is_replaced.branch [
-            | then-is_replaced+in_ok-changes+in_ok-push_changes-2 w ↦ omega (arith, w.builds-is)
+            | then-is_replaced+in_ok-push_slot w ↦ omega (arith, w.builds-is)
             | else-is_replaced+in_ok-inner+in_ok-push+in_ok-rebuild+in_ok-push-2 w ↦
                 let child = tree_at es i w.index-children-slot.result d c.loop-slot-test.true w.index-children-slot.is ∙ ap (λ us. get_or us i d) c.children-children.ensures in
                 let inner = w.in_ok-inner.ensures ∙ ap (λ g. placed_below i (map placed g)) here ∙ group-below i aims in
@@ -135,7 +134,7 @@ loop-slot-preserved t c =
                 omega (arith, w.builds-is, w.in_ok-rebuild.ensures.builds)
           ];
       tree =
-          let after = c.in_ok-push_changes-3.ensures.trees ∙ ap (λ ns. element_trees mid ++ flat_map given ns) behind in
+          let after = c.in_ok-push_gap-2.ensures.trees ∙ ap (λ ns. element_trees mid ++ flat_map given ns) behind in
           children.step kind_only given cs (element_trees out) (element_trees mid) (element_trees new) _ i ts d in_range middle after c.loop-slot.invariant.tree;
       marks = λ trees are.
           let before : List Marking = marks_of c.loop-slot.found.items in
@@ -144,9 +143,9 @@ loop-slot-preserved t c =
           let s : List MarkTree = slot (wanted sought) trees cs (i ∷ []) own in
           let shown_there : between ≡ before ++ shown path (length out) s =
           elim c.if-is_replaced.branch [
-            | then-is_replaced+in_ok-changes+in_ok-push_changes-2 w ↦
-                let changes = w.deref-then-is_replaced.ensures.value ∙ w.in_ok-changes.ensures ∙ ap (λ g. replacements_at (aims_of g) (i ∷ [])) here ∙ group-replacements i aims in
-                ap (λ v. marks_of v.items) w.found-is ∙ w.in_ok-push_changes-2.ensures.marks trees are ∙ ap₂ (λ p ns. before ++ shown p (length out) (flat_map trees ns)) c.loop-slot.invariant.path changes ∙ ap (λ us. before ++ shown path (length out) us) (slot-replaced (wanted sought) trees cs (i ∷ []) own (sym replaced ∙ w.if-is_replaced.true))
+            | then-is_replaced+in_ok-push_slot w ↦
+                let changes = ap (λ g. replacements_at (aims_of g) (i ∷ [])) here ∙ group-replacements i aims in
+                ap (λ v. marks_of v.items) w.found-is ∙ w.in_ok-push_slot.ensures.marks trees are ∙ ap₂ (λ p ns. before ++ shown p (length out) (flat_map trees ns)) c.loop-slot.invariant.path changes ∙ ap (λ us. before ++ shown path (length out) us) (slot-replaced (wanted sought) trees cs (i ∷ []) own (sym replaced ∙ w.if-is_replaced.true))
             | else-is_replaced+in_ok-inner+in_ok-push+in_ok-rebuild+in_ok-push-2 w ↦
                 let child = tree_at es i w.index-children-slot.result d c.loop-slot-test.true w.index-children-slot.is ∙ ap (λ us. get_or us i d) c.children-children.ensures in
                 let inner = w.in_ok-inner.ensures ∙ ap (λ g. placed_below i (map placed g)) here ∙ group-below i aims in
@@ -159,10 +158,10 @@ loop-slot-preserved t c =
                 ap (λ v. marks_of v.items) w.found-is ∙ w.in_ok-rebuild.ensures.marks trees are ∙ ap₂ (λ p u. before ++ map (below p) (marked u)) there it ∙ ap (λ ms. before ++ ms) (sym (shown-one path (length out) own)) ∙ ap (λ us. before ++ shown path (length out) us) (slot-kept (wanted sought) trees cs (i ∷ []) own (sym replaced ∙ w.if-is_replaced.false))
           ] in
           let wider : length mid ≡ length out + length s = width out mid (slot kind_only given cs (i ∷ []) kept) s middle (slot_as_many table trees are (wanted sought) cs (i ∷ []) own kept) in
-          let ns = c.deref-in-loop-slot.result.now in
-          let after = c.in_ok-push_changes-3.ensures.marks trees are ∙ ap₂ (λ p ms. between ++ shown p (length mid) (flat_map trees ms)) same_path behind in
-          let wider_still = width mid new (flat_map given ns) (flat_map trees ns) c.in_ok-push_changes-3.ensures.trees (all_as_many table trees are ns) ∙ ap (λ ms. length mid + length (flat_map trees ms)) behind in
-          step (shown path) (are_shown path) (wanted sought) trees cs before between (marks_of c.push_changes-in-loop-slot.new.found.items) _ (length out) (length mid) (length new) s i ts d in_range refl shown_there wider after wider_still (c.loop-slot.invariant.marks trees are);
+          let ns : List ℕ = gap_changes c.as_slice-group.result.now (i + 1) in
+          let after = c.in_ok-push_gap-2.ensures.marks trees are ∙ ap₂ (λ p ms. between ++ shown p (length mid) (flat_map trees ms)) same_path behind in
+          let wider_still = width mid new (flat_map given ns) (flat_map trees ns) c.in_ok-push_gap-2.ensures.trees (all_as_many table trees are ns) ∙ ap (λ ms. length mid + length (flat_map trees ms)) behind in
+          step (shown path) (are_shown path) (wanted sought) trees cs before between (marks_of c.push_gap-in-loop-slot.new.found.items) _ (length out) (length mid) (length new) s i ts d in_range refl shown_there wider after wider_still (c.loop-slot.invariant.marks trees are);
     }
 
 pub returns-clause-builds : goal.returns-clause-builds

@@ -6,7 +6,7 @@ use Rattle.rewriting.specs.inner.Marked.{marks_of}
 use Rattle.rewriting.specs.inner.Pass.{AreMarkedIn}
 use Rattle.rewriting.specs.Topmost.{paths_of}
 use Rattle.edit_plan.specs.inner.OwnerTables.{AreDependents, AreGiven}
-use Rattle.edit_plan.specs.inner.Marks.{marks_given, paths_of_mark}
+use Rattle.edit_plan.specs.inner.Marks.{marks_given}
 use Rattle.edit_plan.specs.inner.Sought.{addresses}
 use Rattle.edit_plan.proofs.MadeOf.{is_made, is_one}
 use Rattle.edit_plan.proofs.plan.EditPlan.made.Goals as goal
@@ -60,4 +60,4 @@ returns-clause-made c =
       aims_are = ap aims_of c.deref-3.ensures.value ∙ c.in_ok-aims.ensures;
       trees_are = c.in_ok-elements.ensures.trees;
       marks_answered = c.in_ok-elements.ensures.marks;
-    }) (branch_tree c.only_node.result) c.in_ok-copies.copies.items (paths_of c.in_ok-changed.changed.items) c.only_node.ensures c.in_ok-copies.ensures.size (λ k d l. c.in_ok-copies.ensures.lists k d l ∙ ap (λ ms. paths_of_mark k (marks_of ms)) c.deref-4.ensures.value) (c.in_ok-changed.ensures ∙ ap (λ ms. paths_of_mark (length es) (marks_of ms)) c.deref-5.ensures.value)
+    }) (branch_tree c.only_node.result) c.in_ok-paths.paths.lists.items (paths_of c.in_ok-paths.paths.others.items) c.only_node.ensures c.in_ok-paths.ensures.size c.in_ok-paths.ensures.lists c.in_ok-paths.ensures.others
