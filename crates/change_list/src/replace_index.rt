@@ -1,6 +1,6 @@
 ghost use Rattle.std.specs.Prelude.{◌≡◌, ◌<◌, ◌≤◌, ◌+◌, Some, None, OnOk, OnErr};
 ghost use Rattle.cst_core.specs.Path.{Path};
-ghost use Rattle.change_list.specs.inner.Indexing.{found, room, SaysAt, SaysDeleted};
+ghost use Rattle.change_list.specs.inner.Indexing.{entry_at, room, SaysAt, SaysDeleted};
 
 use std::alloc::{AllocError, Global};
 use std::collections::HashMap;
@@ -22,7 +22,7 @@ pub(crate) struct ReplaceIndex {
 
 impl ReplaceIndex {
     pub(crate) fn new(alloc: Global) -> ReplaceIndex
-        ensures { (p : Path) → found result p ≡ None }
+        ensures { (p : Path) → entry_at result p ≡ None }
     {
         ReplaceIndex {
             places: HashMap::new(alloc),
@@ -31,7 +31,7 @@ impl ReplaceIndex {
 
     /// What it says of the element at a path.
     pub(crate) fn get(&self, path: &[usize]) -> Option<Replaced>
-        ensures { result ≡ found self.now path.now }
+        ensures { result ≡ entry_at self.now path.now }
     {
         self.places.get(path).copied()
     }
@@ -39,7 +39,7 @@ impl ReplaceIndex {
     /// Says this of the element at a path from now on. Without memory for that nothing changes.
     pub(crate) fn insert(&mut self, path: Vec<usize>, replaced: Replaced) -> Result<(), AllocError>
         ensures ok { OnOk result (SaysAt path.items (Some replaced) self.old self.new) }
-        ensures err { OnErr result ((p : Path) → found self.new p ≡ found self.old p) }
+        ensures err { OnErr result ((p : Path) → entry_at self.new p ≡ entry_at self.old p) }
     {
         self.places.insert(path, replaced)?;
         Ok(())
@@ -47,7 +47,7 @@ impl ReplaceIndex {
 
     /// Makes room for so many more elements. It says of each path what it said before, also without memory for them.
     pub(crate) fn reserve(&mut self, additional: usize) -> Result<(), AllocError>
-        ensures found { (p : Path) → found self.new p ≡ found self.old p }
+        ensures found { (p : Path) → entry_at self.new p ≡ entry_at self.old p }
         ensures ok { OnOk result (additional ≤ room self.new) }
     {
         self.places.reserve(additional)

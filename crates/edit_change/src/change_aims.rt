@@ -33,7 +33,7 @@ impl Position {
     }
 
     // Where an insert at this position aims, with this path in place of its anchor's.
-    fn aimed_from<'a>(&self, number: usize, path: &'a [usize]) -> Aimed<'a>
+    fn numbered_aim_from<'a>(&self, number: usize, path: &'a [usize]) -> Aimed<'a>
         ensures { numbered result ≡ (number, position_aim_from path.now self.now) }
     {
         if self.first_of().is_some() {
@@ -86,12 +86,12 @@ impl Change {
     }
 
     /// Where the change aims, with this number, and with another path in place of its own.
-    pub fn aimed_from<'a>(&self, number: usize, path: &'a [usize]) -> Aimed<'a>
+    pub fn numbered_aim_from<'a>(&self, number: usize, path: &'a [usize]) -> Aimed<'a>
         ensures { numbered result ≡ (number, aim_from path.now self.now) }
     {
         match self {
-            Change::Insert(position, _) => position.aimed_from(number, path),
-            Change::InsertAll(position, _) => position.aimed_from(number, path),
+            Change::Insert(position, _) => position.numbered_aim_from(number, path),
+            Change::InsertAll(position, _) => position.numbered_aim_from(number, path),
             Change::Replace(_, _) => Aimed::over(number, path, 1),
             Change::ReplaceWithMany(_, _) => Aimed::over(number, path, 1),
             Change::ReplaceAll(first, last, _) => {
@@ -101,11 +101,11 @@ impl Change {
     }
 
     /// Where the change aims, with this number.
-    pub fn aimed(&self, number: usize) -> Aimed<'_>
+    pub fn numbered_aim(&self, number: usize) -> Aimed<'_>
         requires { (root : Element) × Fits root self.now }
         ensures { numbered result ≡ (number, aim self.now) }
     {
-        self.aimed_from(number, self.aim_path())
+        self.numbered_aim_from(number, self.aim_path())
     }
 
     /// Whether it replaces the root of its tree.
@@ -122,7 +122,7 @@ impl Change {
     }
 
     /// The node that is brought in the place of a root.
-    pub fn root_brought(&self) -> &SyntaxNode
+    pub fn node_for_root(&self) -> &SyntaxNode
         requires fits { (root : Element) × Fits root self.now }
         requires root { has_path (targets self.now) [] ≡ true }
         ensures brought { payload self.now ≡ result.now ∷ [] }
@@ -157,16 +157,16 @@ impl Change {
     }
 
     /// The elements that the change brings, as shared trees: one is borrowed, of several each is shared.
-    pub fn brought(&self, alloc: Global) -> Result<Given<'_>, AllocError>
+    pub fn green_payload(&self, alloc: Global) -> Result<Given<'_>, AllocError>
         ensures { IfOk result (λ g. given_trees g ≡ map subtree (payload self.now)) }
     {
         match self {
             Change::Insert(_, element) => Ok(Given::Borrowed(element.as_green())),
-            Change::InsertAll(_, elements) => shared(alloc, elements.as_slice()),
+            Change::InsertAll(_, elements) => green_elements(alloc, elements.as_slice()),
             Change::Replace(_, None) => Ok(Given::Shared(Vec::new(alloc))),
             Change::Replace(_, Some(element)) => Ok(Given::Borrowed(element.as_green())),
-            Change::ReplaceWithMany(_, elements) => shared(alloc, elements.as_slice()),
-            Change::ReplaceAll(_, _, elements) => shared(alloc, elements.as_slice()),
+            Change::ReplaceWithMany(_, elements) => green_elements(alloc, elements.as_slice()),
+            Change::ReplaceAll(_, _, elements) => green_elements(alloc, elements.as_slice()),
         }
     }
 }
@@ -210,7 +210,7 @@ fn slot_after(element: &SyntaxElement) -> usize
     }
 }
 
-fn shared<'a>(alloc: Global, elements: &[SyntaxElement]) -> Result<Given<'a>, AllocError>
+fn green_elements<'a>(alloc: Global, elements: &[SyntaxElement]) -> Result<Given<'a>, AllocError>
     ensures { IfOk result (λ g. given_trees g ≡ map subtree (map element_of elements.now)) }
 {
     let mut greens = Vec::with_capacity(alloc, elements.len())?;

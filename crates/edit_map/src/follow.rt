@@ -59,14 +59,14 @@ impl SyntaxMapping {
         let Some(node) = lowest_node(alloc, element)? else {
             return Ok(None);
         };
-        let Some((copy, depth)) = self.nearest(alloc, node)? else {
+        let Some((copy, depth)) = self.nearest_copy(alloc, node)? else {
             return Ok(None);
         };
         copy.element_at(alloc, &element.slots()[depth..])
     }
 
     // The copy of the nearest mapped one of a node and those above it, and how many slots lead to that one.
-    fn nearest(
+    fn nearest_copy(
         &self,
         alloc: Global,
         node: SyntaxNode,

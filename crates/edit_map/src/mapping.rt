@@ -125,7 +125,7 @@ impl SyntaxMapping {
     }
 
     // The copy of a node, or the node itself where it has none.
-    fn copied<'a>(&'a self, node: &'a SyntaxNode) -> &'a SyntaxNode
+    fn copy_or_self<'a>(&'a self, node: &'a SyntaxNode) -> &'a SyntaxNode
         ensures { address result.now ≡ copied self.now (address node.now) }
     {
         match self.copies.get(node) {
@@ -142,7 +142,7 @@ impl SyntaxMapping {
     ) -> Result<Option<(usize, SyntaxNode)>, AllocError>
         ensures { IfOk result (IsAbove self.now (address node.now)) }
     {
-        let copy = self.copied(node);
+        let copy = self.copy_or_self(node);
         match copy.parent(alloc)? {
             Some(parent) => Ok(Some((copy.index(), parent))),
             None => Ok(None),

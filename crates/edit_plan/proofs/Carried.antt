@@ -16,7 +16,7 @@ use Rattle.rewriting.specs.Rewriting.{NumberedAim}
 use Rattle.edit_change.specs.ChangeAim.{aim}
 use Rattle.edit_change.specs.inner.Fate.{by_owner, fate, is_independent_in}
 use Rattle.edit_change.specs.Nesting.{surroundings, region_at, is_dropped, is_independent}
-use Rattle.edit_plan.specs.NewTree.{aims_of, independents}
+use Rattle.edit_plan.specs.NewTree.{change_aims, independents}
 use Rattle.edit_change.specs.declared.change.Change.{Change}
 use Rattle.edit_change.specs.declared.change.Change.TheVariants.{ReplaceWithMany}
 use Rattle.edit_change.specs.declared.fate.Fate.{Fate}
@@ -24,7 +24,7 @@ use Rattle.edit_change.specs.declared.fate.Fate.TheVariants.{Dropped}
 
 -- ---- the changes without an owner, of the first so many
 abbrev pub independents-to : List Change → ℕ → List NumberedAim
-independents-to cs n = aims_of (filter (λ d. is_independent cs d.1) (enumerate_from 0 (take n cs)))
+independents-to cs n = change_aims (filter (λ d. is_independent cs d.1) (enumerate_from 0 (take n cs)))
 
 pub enumerate-push : {X : Type 0} (k : ℕ) (xs : List X) (x : X) → enumerate_from k (xs ++ x ∷ []) ≡ enumerate_from k xs ++ (k + length xs, x) ∷ []
 enumerate-push k [] x = let e : k ≡ k + 0 = omega arith in ap (λ n. (n, x) ∷ []) e
@@ -40,8 +40,8 @@ module _ (cs : List Change) (i : ℕ) (c : Change) (l : i < length cs) (is : c �
       let pair : ℕ × Change = (i, c) in
       let test : ℕ × Change → Bool = λ d. is_independent cs d.1 in
       let listed : enumerate_from 0 (take (i + 1) cs) ≡ enumerate_from 0 (take i cs) ++ pair ∷ [] = ap (enumerate_from 0) more ∙ enumerate-push 0 (take i cs) c ∙ ap (λ n. enumerate_from 0 (take i cs) ++ (n, c) ∷ []) long in
-      let last : aims_of (filter test (pair ∷ [])) ≡ cond (is_independent cs c) ((i, aim c) ∷ []) [] = elim (is_independent cs c) as (λ b. aims_of (cond b (pair ∷ []) []) ≡ cond b ((i, aim c) ∷ []) []) [ true ↦ refl | false ↦ refl ] in
-      ap (λ xs. aims_of (filter test xs)) listed ∙ ap aims_of (filter-append test (enumerate_from 0 (take i cs)) (pair ∷ [])) ∙ map-append (λ d. (d.0, aim d.1)) (filter test (enumerate_from 0 (take i cs))) (filter test (pair ∷ [])) ∙ ap (λ xs. independents-to cs i ++ xs) last
+      let last : change_aims (filter test (pair ∷ [])) ≡ cond (is_independent cs c) ((i, aim c) ∷ []) [] = elim (is_independent cs c) as (λ b. change_aims (cond b (pair ∷ []) []) ≡ cond b ((i, aim c) ∷ []) []) [ true ↦ refl | false ↦ refl ] in
+      ap (λ xs. change_aims (filter test xs)) listed ∙ ap change_aims (filter-append test (enumerate_from 0 (take i cs)) (pair ∷ [])) ∙ map-append (λ d. (d.0, aim d.1)) (filter test (enumerate_from 0 (take i cs))) (filter test (pair ∷ [])) ∙ ap (λ xs. independents-to cs i ++ xs) last
 
   pub one-more : is_independent cs c ≡ true → independents-to cs (i + 1) ≡ independents-to cs i ++ (i, aim c) ∷ []
   one-more free = one-further ∙ ap (λ b. independents-to cs i ++ cond b ((i, aim c) ∷ []) []) free
@@ -56,7 +56,7 @@ take-whole (suc n) [] l = refl
 take-whole (suc n) (x ∷ xs) l = ap (λ ys. x ∷ ys) (take-whole n xs (omega (arith, l)))
 
 pub independents-whole : (cs : List Change) (n : ℕ) → length cs ≤ n → independents-to cs n ≡ independents cs
-independents-whole cs n l = ap (λ xs. aims_of (filter (λ d. is_independent cs d.1) (enumerate_from 0 xs))) (take-whole n cs l)
+independents-whole cs n l = ap (λ xs. change_aims (filter (λ d. is_independent cs d.1) (enumerate_from 0 xs))) (take-whole n cs l)
 
 -- ---- what a fate says
 pub independent-in-fate : (cs : List Change) (c : Change) → is_independent_in (fate cs c) ≡ is_independent cs c

@@ -14,7 +14,7 @@ use Rattle.cst_core.specs.TreeError.{TreeError}
 use Rattle.cst_core.specs.TreeError.TheVariants as tree
 use Rattle.edit_map.specs.Mapping.{followed}
 use Rattle.edit_plan.specs.AnnotationTable.{found_for}
-use Rattle.edit_plan.specs.Plan.{Plan, Edit, Makes, RunRefuses, registered}
+use Rattle.edit_plan.specs.Plan.{Plan, Edit, Makes, RunRefuses, registered_elements}
 use Rattle.edit_plan.specs.inner.Marks.{numbered_paths}
 use Rattle.edit_plan.specs.inner.PlanRun.{IsRewritten}
 use Rattle.edit_plan.specs.EditRefusal.{of_tree}
@@ -31,9 +31,9 @@ numbered-each f number [] = refl
 numbered-each f number (r ∷ rs) = ap (λ ns. map (λ p. (number r, p)) (f r) ++ ns) (numbered-each f number rs)
 
 module _ (p : Plan) (green : Branch) (paths : List Path) (annotations : List (ℕ × Path)) (r : IsRewritten p (branch_tree green) paths annotations) where
-  annotated-is : NumbersTell (elements_held p.root p.changes (registered p.registrations) p.mapping) → annotations ≡ annotated p.mapping (registered p.registrations) r.made
+  annotated-is : NumbersTell (elements_held p.root p.changes (registered_elements p.registrations) p.mapping) → annotations ≡ annotated p.mapping (registered_elements p.registrations) r.made
   annotated-is tell =
-      let rs = registered p.registrations in
+      let rs = registered_elements p.registrations in
       r.annotated_is ∙ ap₂ (λ ns reached. numbered_paths ns (map (copies_of r.made) reached)) (sym (map-map (λ x. x.1) (λ x. (element_of x.0, x.1)) p.registrations)) (r.reached_are (all-told p tell)) ∙ ap (numbered_paths (map (λ x. x.1) rs)) (map-map (copies_of r.made) (λ x. address (followed p.mapping x.0)) rs) ∙ numbered-each (λ x. copies_of r.made (address (followed p.mapping x.0))) (λ x. x.1) rs
 
   pub makes : (number : ℕ) (e : Edit) → e.old_root ≡ p.root → e.new_root ≡ record { number = number; root = branch_tree green; path = [] } → map Some e.changed ≡ map (syntax_at e.new_root) paths → ((a : ℕ) → map Some (found_for e.annotated a) ≡ map (syntax_at e.new_root) (paths_with a annotations)) → Makes p number e

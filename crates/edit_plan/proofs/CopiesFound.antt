@@ -20,7 +20,7 @@ use Rattle.cst_core.specs.SyntaxElement.{element_of}
 use Rattle.cst_core.specs.declared.element.SyntaxElement.{SyntaxElement}
 use Rattle.rewriting.specs.Rewriting.{rewritten_whole}
 use Rattle.rewriting.specs.Topmost.{holds_at, paths_of}
-use Rattle.rewriting.specs.inner.Marked.{Marking, marks_on, marked, marked_from, below, marks_at, wanted}
+use Rattle.rewriting.specs.inner.Marked.{Marking, marks_on, marked, marked_from, mark_below, marks_at, wanted}
 use Rattle.edit_plan.specs.Results.{copies_of}
 use Rattle.edit_plan.specs.NewTree.{OriginTree, origin, given, independents, new_tree}
 use Rattle.edit_plan.specs.inner.Sought.{path_below, sought_one, sought_from, sought_at, registered_at, addresses}
@@ -116,17 +116,17 @@ module _ (rs : List Address) (k : ℕ) (a : Address) (there : slice_get rs k ≡
       let rest : List Marking = flat_map (λ q. map (λ n. (n, q)) (marks_on (with_marks rs t) q)) ps in
       ap (map (λ (m : Marking). m.1)) (filter-append (λ (m : Marking). nat_eq k m.0) own rest) ∙ map-append (λ m. m.1) (filter (λ (m : Marking). nat_eq k m.0) own) (filter (λ (m : Marking). nat_eq k m.0) rest) ∙ ap₂ (λ xs ys. xs ++ ys) (here p) (along ps) ∙ elim (holds_at (λ o. same_address a o.address) t p) as (λ b. cond b (p ∷ []) [] ++ filter (holds_at (λ o. same_address a o.address) t) ps ≡ cond b (p ∷ filter (holds_at (λ o. same_address a o.address) t) ps) (filter (holds_at (λ o. same_address a o.address) t) ps)) [ true ↦ refl | false ↦ refl ]
 
-  under : (ms : List Marking) → paths_of_mark k (map (below (0 ∷ [])) ms) ≡ map (λ (m : Marking). m.1) (filter (λ (m : Marking). nat_eq k m.0) ms)
+  under : (ms : List Marking) → paths_of_mark k (map (mark_below (0 ∷ [])) ms) ≡ map (λ (m : Marking). m.1) (filter (λ (m : Marking). nat_eq k m.0) ms)
   under [] = refl
   under (m ∷ ms) =
-      elim (nat_eq k m.0) as (λ b. map (λ (n : Marking). drop 1 n.1) (cond b (below (0 ∷ []) m ∷ filter (λ (n : Marking). nat_eq k n.0) (map (below (0 ∷ [])) ms)) (filter (λ (n : Marking). nat_eq k n.0) (map (below (0 ∷ [])) ms))) ≡ map (λ (n : Marking). n.1) (cond b (m ∷ filter (λ (n : Marking). nat_eq k n.0) ms) (filter (λ (n : Marking). nat_eq k n.0) ms))) [
+      elim (nat_eq k m.0) as (λ b. map (λ (n : Marking). drop 1 n.1) (cond b (mark_below (0 ∷ []) m ∷ filter (λ (n : Marking). nat_eq k n.0) (map (mark_below (0 ∷ [])) ms)) (filter (λ (n : Marking). nat_eq k n.0) (map (mark_below (0 ∷ [])) ms))) ≡ map (λ (n : Marking). n.1) (cond b (m ∷ filter (λ (n : Marking). nat_eq k n.0) ms) (filter (λ (n : Marking). nat_eq k n.0) ms))) [
         | true ↦ ap (λ ps. m.1 ∷ ps) (under ms)
         | false ↦ under ms
       ]
 
   pub copies-marked : paths_of_mark k (marked_from 0 (with_marks rs t ∷ [])) ≡ copies_of t a
   copies-marked =
-      ap (paths_of_mark k) (append-nil (map (below (0 ∷ [])) (marked (with_marks rs t)))) ∙ under (marked (with_marks rs t)) ∙ ap (λ ps. map (λ (m : Marking). m.1) (filter (λ (m : Marking). nat_eq k m.0) (flat_map (λ p. map (λ n. (n, p)) (marks_on (with_marks rs t) p)) ps))) (paths-relabelled (λ o. registered_at rs o.address) t) ∙ along (paths t)
+      ap (paths_of_mark k) (append-nil (map (mark_below (0 ∷ [])) (marked (with_marks rs t)))) ∙ under (marked (with_marks rs t)) ∙ ap (λ ps. map (λ (m : Marking). m.1) (filter (λ (m : Marking). nat_eq k m.0) (flat_map (λ p. map (λ n. (n, p)) (marks_on (with_marks rs t) p)) ps))) (paths-relabelled (λ o. registered_at rs o.address) t) ∙ along (paths t)
 
 -- ---- all registered elements
 same-items : {X Y Z : Type 0} (f : X → Z) (g : Y → Z) (xs : List X) (ys : List Y) → length xs ≡ length ys → ((k : ℕ) (d : X) (e : Y) → k < length xs → f (get_or xs k d) ≡ g (get_or ys k e)) → map f xs ≡ map g ys

@@ -11,7 +11,7 @@ use Rattle.cst_core.specs.Order.{node_paths, start}
 use Rattle.cst_core.specs.Element.{Element, subtree, element_at}
 use Rattle.cst_core.specs.SyntaxElement.{node_of, syntax_as, syntax_at}
 use Rattle.edit_plan.specs.inner.FirstNode.{starts_as, first_from}
-use Rattle.edit_plan.specs.Results.{stands_like, found}
+use Rattle.edit_plan.specs.Results.{stands_like, stand_in_path}
 
 find-same : {X : Type 0} (g h : X → Bool) (xs : List X) → ((x : X) → g x ≡ h x) → find g xs ≡ find h xs
 find-same g h [] e = refl
@@ -28,7 +28,7 @@ found-passes g h (y ∷ xs) x is =
       | false ↦ λ _. λ rest. found-passes g h xs x rest
     ]) refl is
 
-pub as-found : (old e : Element) (t : SyntaxTree) (kind begin : ℕ) (r : Option Path) → e.path ≡ [] → t ≡ subtree e → kind ≡ label (subtree old) → begin ≡ start old.root old.path → r ≡ first_from kind 0 begin t → r ≡ found old e.root
+pub as-found : (old e : Element) (t : SyntaxTree) (kind begin : ℕ) (r : Option Path) → e.path ≡ [] → t ≡ subtree e → kind ≡ label (subtree old) → begin ≡ start old.root old.path → r ≡ first_from kind 0 begin t → r ≡ stand_in_path old e.root
 as-found old e t kind begin r top tree same starts is =
     let whole : t ≡ e.root = tree ∙ ap (λ p. subtree (element_at e p)) top in
     let tests : (p : Path) → starts_as kind 0 begin e.root p ≡ stands_like old e.root p = λ p.
@@ -42,7 +42,7 @@ there e p None node = absurd (false≢true node)
 there e p (Some (Token k s)) node = absurd (false≢true node)
 there e p (Some (Node k f)) node = refl
 
-pub node-found : (old e : Element) (p : Path) (r : Option Element) → e.path ≡ [] → Some p ≡ found old e.root → r ≡ option_and_then node_of (syntax_at e (e.path ++ p)) → r ≡ option_map (element_at e) (found old e.root)
+pub node-found : (old e : Element) (p : Path) (r : Option Element) → e.path ≡ [] → Some p ≡ stand_in_path old e.root → r ≡ option_and_then node_of (syntax_at e (e.path ++ p)) → r ≡ option_map (element_at e) (stand_in_path old e.root)
 node-found old e p r top is leads =
     let node = found-passes (stands_like old e.root) (λ q. option_map_or (λ c. not (is_token c)) (at e.root q) false) (paths e.root) p (sym is) in
     leads ∙ ap (λ q. option_and_then node_of (syntax_at e (q ++ p))) top ∙ there e p (at e.root p) node ∙ ap (option_map (element_at e)) is

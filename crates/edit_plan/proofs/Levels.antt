@@ -2,9 +2,10 @@
 --     owners-so-far                 of the first so many changes, those of a depth that own something
 --     entered-here, entered-elsewhere      the lists of a table, once one has one more
 --     empty-none                    a list of no element is empty
+--     empty-at                      what is read from a table of empty lists is empty
 --     passed-over, entered          the same of one change more, which owns nothing; which owns something and is entered
 --     is-owner, has-owner           what stands in such a list; an owner of this depth stands in it
-use Rattle.std.specs.Prelude.{◌≡◌, ◌≢◌, ℕ, zero, suc, ◌+◌, ◌<◌, ◌≤◌, Bool, true, false, ◌&&◌, ◌==◌, not, cond, List, [], ◌∷◌, ◌++◌, map, filter, length, slice_get, Vec, Some, get_or, All, refl}
+use Rattle.std.specs.Prelude.{◌≡◌, ◌≢◌, ℕ, zero, suc, ◌+◌, ◌<◌, ◌≤◌, Bool, true, false, ◌&&◌, ◌==◌, not, cond, List, [], ◌∷◌, ◌++◌, map, filter, length, slice_get, Vec, Option, Some, None, get_or, All, refl}
 use Rattle.std.specs.Global.{Global}
 use Rattle.std.specs.Option.{option_map_or}
 use Rattle.std.proofs.Common.{ap, ap₂, sym, subst, ◌∙◌, arith}
@@ -14,9 +15,10 @@ use Rattle.std.proofs.Math.Bool.{and-false}
 use Rattle.std.proofs.lemmas.Bool.{cases_lt, eq-eqb, eqb-true, eqb-false, true≢false}
 use Rattle.std.proofs.lemmas.Bool.Decides.{eqb_tells}
 use Rattle.std.proofs.lemmas.List.{append-nil, length-map}
-use Rattle.std.proofs.lemmas.Option.{slice_get-get_or, none-some, same_Some}
+use Rattle.std.proofs.lemmas.Option.{slice_get-get_or, get_or_from_slice_get, slice_get_within, none-some, same_Some}
 use mathlib.Core.Logic.{inl, inr}
 use Rattle.cst_core.specs.Path.{counted_from}
+use Rattle.rewriting.specs.Lists.{AreEmpty}
 use Rattle.edit_plan.specs.inner.OwnerTables.{depth_of, dependents_in, owns_at, owners_at, AreOwners}
 use Rattle.edit_change.specs.declared.change.Change.{Change}
 use Rattle.edit_plan.specs.declared.dependent.Dependent.{Dependent}
@@ -33,6 +35,13 @@ entered-elsewhere table l w k other = ap (λ x. option_map_or (λ u. u.items) x 
 pub empty-none : {X : Type 0} (xs : List X) → (length xs == 0) ≡ true → xs ≡ []
 empty-none [] h = refl
 empty-none (x ∷ xs) h = absurd (omega (arith, eqb-true (suc (length xs)) 0 h))
+
+pub empty-at : {T X : Type 0} (f : Vec T Global → List X) → ((v : Vec T Global) → v.items ≡ [] → f v ≡ []) → (lists : List (Vec T Global)) → AreEmpty lists → (k : ℕ) → option_map_or f (slice_get lists k) [] ≡ []
+empty-at {T} {X} f empty lists are k = go (slice_get lists k) refl
+  where
+    go : (o : Option (Vec T Global)) → slice_get lists k ≡ o → option_map_or f o [] ≡ []
+    go None at_k = refl
+    go (Some v) at_k = empty v (ap (λ w. w.items) (sym (get_or_from_slice_get lists k v v at_k)) ∙ are k v (slice_get_within lists k v at_k))
 
 pub some-mapped : {X Y : Type 0} (f : X → Y) (xs : List X) → (length xs == 0) ≡ false → map f xs ≡ [] → ⊥
 some-mapped f xs some none = eqb-false (length xs) 0 some (sym (length-map xs f) ∙ ap length none)

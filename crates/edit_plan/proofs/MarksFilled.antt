@@ -35,7 +35,7 @@ use Rattle.edit_change.specs.Nesting.{owner}
 use Rattle.edit_plan.specs.inner.OwnerTables.{depth_of, owns_at, AreDependents, AreOwners}
 use Rattle.edit_plan.specs.NewTree.{origin, payload_of, dependents}
 use Rattle.edit_plan.specs.inner.Sought.{path_below, sought_one, sought_from, sought_at, registered_at}
-use Rattle.edit_plan.specs.inner.Marks.{marks_given, IsTableOf, element_sought, payload_sought, exchanged, AreMarksFrom}
+use Rattle.edit_plan.specs.inner.Marks.{marks_given, IsTableOf, element_sought, payload_sought, with_answer, AreMarksFrom}
 use Rattle.edit_change.specs.declared.change.Change.{Change}
 use Rattle.edit_plan.specs.declared.dependent.Dependent.{Dependent}
 use Rattle.edit_plan.specs.declared.sought.SoughtIndex.{SoughtIndex}
@@ -115,7 +115,7 @@ unsought index none g es empty are = record {
   each = λ i d l. unsought-at index none es i d l ∙ sym (ap (λ vs. option_map_or (λ v. marks_of v.items) (slice_get vs i) []) empty);
 }
 
-pub entry : (cs : List Change) (c : ℕ) (change : Change) (index : SoughtIndex) (owned : List NumberedAim) (table : GivenTable) (g : MarkedGiven) → c < length cs → c < length table.entries.items → change ≡ get_or cs c change → table.top ≡ None → (trees : ℕ → List MarkTree) → AreMarkedIn table trees → IsMarked None g (payload_sought index trees owned (payload change)) → (n : ℕ) → IsMarkedIn table.top (slice_get (set table.entries.items c g) n) (exchanged trees c (payload_sought index trees owned (payload_of cs c)) n)
+pub entry : (cs : List Change) (c : ℕ) (change : Change) (index : SoughtIndex) (owned : List NumberedAim) (table : GivenTable) (g : MarkedGiven) → c < length cs → c < length table.entries.items → change ≡ get_or cs c change → table.top ≡ None → (trees : ℕ → List MarkTree) → AreMarkedIn table trees → IsMarked None g (payload_sought index trees owned (payload change)) → (n : ℕ) → IsMarkedIn table.top (slice_get (set table.entries.items c g) n) (with_answer trees c (payload_sought index trees owned (payload_of cs c)) n)
 entry cs c change index owned table g there long is none trees are marks n =
     let es = table.entries.items in
     let top = table.top in
@@ -153,10 +153,10 @@ module _ (rs : List Address) (cs : List Change) (places : ℕ → Path) where
   pub level-ends : (level i : ℕ) (owned : List (Vec Dependent Global)) (owners : List ℕ) (table : GivenTable) → AreDependents cs places owned → owners ≡ filter (owns_at cs owned level) (counted_from 0 (length cs)) → length owners ≤ i → AreLevelled level owners i table → AreMarksFrom rs cs places level table
   level-ends level i owned owners table are all long a = record { trees = a.trees; are = a.are; deep = ends cs places (has_given a.trees) level i owned owners are all long a.by; own_nothing = a.by.own_nothing }
 
-  pub level-filled : (level i o : ℕ) (owners : List ℕ) (index : SoughtIndex) (table after : GivenTable) (owned : List NumberedAim) → IsTableOf rs index → AreLevelled level owners i table → slice_get owners i ≡ Some o → depth_of cs o ≡ level → owned ≡ dependents cs places o → ((trees : ℕ → List MarkTree) → AreMarkedIn table trees → AreMarkedIn after (exchanged trees o (payload_sought index trees owned (payload_of cs o)))) → AreLevelled level owners (i + 1) after
+  pub level-filled : (level i o : ℕ) (owners : List ℕ) (index : SoughtIndex) (table after : GivenTable) (owned : List NumberedAim) → IsTableOf rs index → AreLevelled level owners i table → slice_get owners i ≡ Some o → depth_of cs o ≡ level → owned ≡ dependents cs places o → ((trees : ℕ → List MarkTree) → AreMarkedIn table trees → AreMarkedIn after (with_answer trees o (payload_sought index trees owned (payload_of cs o)))) → AreLevelled level owners (i + 1) after
   level-filled level i o owners index table after owned sought a stands at_level own fills =
       let ts : List MarkTree = payload_sought index a.trees owned (payload_of cs o) in
-      let now = exchanged a.trees o ts in
+      let now = with_answer a.trees o ts in
       record {
         trees = now;
         are = fills a.trees a.are;

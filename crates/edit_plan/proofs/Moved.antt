@@ -35,7 +35,7 @@ use Rattle.edit_change.specs.Nesting.{region, surroundings, is_keeping, is_aroun
 use Rattle.edit_change.specs.inner.Fate.{fate, owner_in}
 use Rattle.edit_change.specs.declared.fate.Fate.{Fate}
 use Rattle.edit_change.specs.inner.AimFrom.{position_aim_from, aim_from, depth}
-use Rattle.edit_plan.specs.inner.OwnerTables.{moved, dependents_in}
+use Rattle.edit_plan.specs.inner.OwnerTables.{moved_dependent, dependents_in}
 use Rattle.edit_plan.specs.NewTree.{moved_path, moved_aim, targets_of, dependents}
 use Rattle.edit_change.specs.declared.position.Position.{Position}
 use Rattle.edit_change.specs.PositionForm.{FirstChild, After}
@@ -117,17 +117,17 @@ moved-own root n q (ReplaceAll first last es) fits less =
 
 -- ---- tables of what is owned
 pub one-more-empty : (table : List (Vec Dependent Global)) (v : Vec Dependent Global) → v.items ≡ [] → ((c : ℕ) → dependents_in table c ≡ []) → (c : ℕ) → dependents_in (table ++ v ∷ []) c ≡ []
-one-more-empty [] v none before zero = ap (map moved) none
+one-more-empty [] v none before zero = ap (map moved_dependent) none
 one-more-empty [] v none before (suc c) = refl
 one-more-empty (w ∷ table) v none before zero = before zero
 one-more-empty (w ∷ table) v none before (suc c) = one-more-empty table v none (λ n. before (suc n)) c
 
-pub entered-here : (table : List (Vec Dependent Global)) (o : ℕ) (v w : Vec Dependent Global) (d : Dependent) → o < length table → v ≡ get_or table o v → w.items ≡ v.items ++ d ∷ [] → dependents_in (set table o w) o ≡ dependents_in table o ++ moved d ∷ []
+pub entered-here : (table : List (Vec Dependent Global)) (o : ℕ) (v w : Vec Dependent Global) (d : Dependent) → o < length table → v ≡ get_or table o v → w.items ≡ v.items ++ d ∷ [] → dependents_in (set table o w) o ≡ dependents_in table o ++ moved_dependent d ∷ []
 entered-here table o v w d there is more =
-    ap (λ x. option_map_or (λ u. map moved u.items) x []) (slice_get-set_same table o w there) ∙ ap (map moved) more ∙ map-append moved v.items (d ∷ []) ∙ ap (λ x. option_map_or (λ u. map moved u.items) x [] ++ moved d ∷ []) (sym (slice_get-get_or table o v there ∙ ap (λ u. Some u) (sym is)))
+    ap (λ x. option_map_or (λ u. map moved_dependent u.items) x []) (slice_get-set_same table o w there) ∙ ap (map moved_dependent) more ∙ map-append moved_dependent v.items (d ∷ []) ∙ ap (λ x. option_map_or (λ u. map moved_dependent u.items) x [] ++ moved_dependent d ∷ []) (sym (slice_get-get_or table o v there ∙ ap (λ u. Some u) (sym is)))
 
 pub entered-elsewhere : (table : List (Vec Dependent Global)) (o : ℕ) (w : Vec Dependent Global) (c : ℕ) → c ≢ o → dependents_in (set table o w) c ≡ dependents_in table c
-entered-elsewhere table o w c other = ap (λ x. option_map_or (λ u. map moved u.items) x []) (slice_get-set_other table o c w other)
+entered-elsewhere table o w c other = ap (λ x. option_map_or (λ u. map moved_dependent u.items) x []) (slice_get-set_other table o c w other)
 
 -- ---- what each change owns, of the first so many
 module _ (cs : List Change) (places : ℕ → Path) where
@@ -157,7 +157,7 @@ module _ (cs : List Change) (places : ℕ → Path) where
     pub none-entered : owner cs d ≡ None → (table : List (Vec Dependent Global)) → ((c : ℕ) → dependents_in table c ≡ dependents-to i c) → (c : ℕ) → dependents_in table c ≡ dependents-to (i + 1) c
     none-entered none table before c = before c ∙ sym (not-more c (ap (λ o. option_map_or (nat_eq c) o false) none))
 
-    pub one-entered : (o : ℕ) (r : Change) (x : Dependent) (table after : List (Vec Dependent Global)) → owner cs d ≡ Some o → slice_get cs o ≡ Some r → moved x ≡ (i, moved_aim (aim_path r) (places o) (aim d)) → dependents_in after o ≡ dependents_in table o ++ moved x ∷ [] → ((c : ℕ) → c ≢ o → dependents_in after c ≡ dependents_in table c) → ((c : ℕ) → dependents_in table c ≡ dependents-to i c) → (c : ℕ) → dependents_in after c ≡ dependents-to (i + 1) c
+    pub one-entered : (o : ℕ) (r : Change) (x : Dependent) (table after : List (Vec Dependent Global)) → owner cs d ≡ Some o → slice_get cs o ≡ Some r → moved_dependent x ≡ (i, moved_aim (aim_path r) (places o) (aim d)) → dependents_in after o ≡ dependents_in table o ++ moved_dependent x ∷ [] → ((c : ℕ) → c ≢ o → dependents_in after c ≡ dependents_in table c) → ((c : ℕ) → dependents_in table c ≡ dependents-to i c) → (c : ℕ) → dependents_in after c ≡ dependents-to (i + 1) c
     one-entered o r x table after by at_o moves here elsewhere before c =
         elim (cases_Bool (nat_eq c o)) [
           | inl same ↦ let is_o : c ≡ o = eqb-true c o same in subst (λ n. dependents_in after n ≡ dependents-to (i + 1) n) (sym is_o) at_owner

@@ -22,7 +22,7 @@ use Rattle.rewriting.specs.inner.Pass.{kind_only, given_in}
 use Rattle.rewriting.specs.Rewriting.{NumberedAim, numbers, rewritten}
 use Rattle.edit_change.specs.Change.{payload}
 use Rattle.edit_change.specs.inner.AimFrom.{depth}
-use Rattle.edit_plan.specs.inner.OwnerTables.{depth_of, moved, dependents_in, owns_at, AreDependents, AreOwners, IsGiven, AreGiven, AreGivenFrom, IsFilled}
+use Rattle.edit_plan.specs.inner.OwnerTables.{depth_of, moved_dependent, dependents_in, owns_at, AreDependents, AreOwners, IsGiven, AreGiven, AreGivenFrom, IsFilled}
 use Rattle.edit_plan.specs.NewTree.{plain, payload_of, dependents, given}
 use Rattle.edit_change.specs.declared.change.Change.{Change}
 use Rattle.edit_plan.specs.declared.dependent.Dependent.{Dependent}
@@ -69,8 +69,8 @@ module _ (cs : List Change) (places : ℕ → Path) where
 pub depth-at : (cs : List Change) (i : ℕ) (c : Change) → i < length cs → c ≡ get_or cs i c → depth_of cs i ≡ depth c
 depth-at cs i c l is = ap (λ o. option_map_or depth o 0) (slice_get-get_or cs i c l ∙ ap (λ x. Some x) (sym is))
 
-pub owned-at : (table : List (Vec Dependent Global)) (i : ℕ) (v : Vec Dependent Global) → i < length table → v ≡ get_or table i v → dependents_in table i ≡ map moved v.items
-owned-at table i v l is = ap (λ o. option_map_or (λ w. map moved w.items) o []) (slice_get-get_or table i v l ∙ ap (λ x. Some x) (sym is))
+pub owned-at : (table : List (Vec Dependent Global)) (i : ℕ) (v : Vec Dependent Global) → i < length table → v ≡ get_or table i v → dependents_in table i ≡ map moved_dependent v.items
+owned-at table i v l is = ap (λ o. option_map_or (λ w. map moved_dependent w.items) o []) (slice_get-get_or table i v l ∙ ap (λ x. Some x) (sym is))
 
 -- ---- all levels
 pub from-payloads : (cs : List Change) (places : ℕ → Path) (owned : List (Vec Dependent Global)) (owners : List (Vec ℕ Global)) (table : GivenTable) → ((c : ℕ) → given_in table c ≡ map subtree (payload_of cs c)) → AreDependents cs places owned → AreOwners cs owned owners → AreGivenFrom cs places (length owners) table

@@ -11,9 +11,9 @@ use Rattle.std.proofs.lemmas.Bool.{cases_lt}
 use Rattle.std.proofs.lemmas.Option.{same_Some, none-some, slice_get-get_or}
 use mathlib.Core.Logic.{inl, inr}
 use Rattle.cst_core.specs.Path.{Path}
-use Rattle.edit_map.specs.Mapping.{Mapping}
+use Rattle.edit_map.specs.Mapping.{path_in, Mapping}
 use Rattle.edit_change.specs.Nesting.{is_keeping, owner}
-use Rattle.edit_plan.specs.inner.OwnerTables.{path_in, path_at, places_in, IsPlaceOf, FoundSoFar}
+use Rattle.edit_plan.specs.inner.OwnerTables.{path_at, places_in, IsPlaceOf, FoundSoFar}
 use Rattle.edit_plan.specs.Places.{HasPlace, IsUnplaced, IsFirstUnplaced, FindsPlace}
 use Rattle.edit_change.specs.declared.change.Change.{Change}
 use Rattle.edit_plan.proofs.Moved.{owner-keeps}

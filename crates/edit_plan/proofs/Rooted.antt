@@ -29,7 +29,7 @@ use Rattle.edit_change.specs.Change.{payload, targets, shared_targets}
 use Rattle.edit_change.specs.Nesting.{pairs_with, first_clash, is_keeping, region, region_at, surroundings, is_around, is_dropped, owner, is_independent}
 use Rattle.edit_plan.specs.inner.OwnerTables.{AreGiven}
 use Rattle.edit_plan.specs.inner.PlanRun.{IsOneNode, BringsNode}
-use Rattle.edit_plan.specs.NewTree.{Origin, OriginTree, plain, origin, aims_of, payload_of, dependents, given, independents}
+use Rattle.edit_plan.specs.NewTree.{Origin, OriginTree, plain, origin, change_aims, payload_of, dependents, given, independents}
 use Rattle.edit_change.specs.declared.change.Change.{Change}
 use Rattle.edit_change.specs.declared.change.Change.TheVariants.{Insert, InsertAll, Replace, ReplaceWithMany, ReplaceAll}
 use Rattle.edit_change.proofs.Paths.{meets}
@@ -131,13 +131,13 @@ free-at-root cs c root =
 abbrev starting : List Change → ℕ × Change → Bool
 starting cs d = is_independent cs d.1 && starts_at [] (aim d.1)
 
-numbered-starts : (p : ℕ × Change → Bool) (xs : List (ℕ × Change)) → replacements_at (aims_of (filter p xs)) [] ≡ map (λ d. d.0) (filter (λ d. p d && starts_at [] (aim d.1)) xs)
+numbered-starts : (p : ℕ × Change → Bool) (xs : List (ℕ × Change)) → replacements_at (change_aims (filter p xs)) [] ≡ map (λ d. d.0) (filter (λ d. p d && starts_at [] (aim d.1)) xs)
 numbered-starts p [] = refl
 numbered-starts p (d ∷ xs) =
     let rest = filter (λ d. p d && starts_at [] (aim d.1)) xs in
-    elim (p d) as (λ b. replacements_at (aims_of (cond b (d ∷ filter p xs) (filter p xs))) [] ≡ map (λ d. d.0) (cond (b && starts_at [] (aim d.1)) (d ∷ rest) rest)) [
+    elim (p d) as (λ b. replacements_at (change_aims (cond b (d ∷ filter p xs) (filter p xs))) [] ≡ map (λ d. d.0) (cond (b && starts_at [] (aim d.1)) (d ∷ rest) rest)) [
       | true ↦
-          (elim (starts_at [] (aim d.1)) as (λ s. numbers (cond s ((d.0, aim d.1) ∷ filter (λ c. starts_at [] c.1) (aims_of (filter p xs))) (filter (λ c. starts_at [] c.1) (aims_of (filter p xs)))) ≡ map (λ d. d.0) (cond s (d ∷ rest) rest)) [
+          (elim (starts_at [] (aim d.1)) as (λ s. numbers (cond s ((d.0, aim d.1) ∷ filter (λ c. starts_at [] c.1) (change_aims (filter p xs))) (filter (λ c. starts_at [] c.1) (change_aims (filter p xs)))) ≡ map (λ d. d.0) (cond s (d ∷ rest) rest)) [
             | true ↦ ap (λ ns. d.0 ∷ ns) (numbered-starts p xs)
             | false ↦ numbered-starts p xs
           ])
@@ -235,12 +235,12 @@ module _ (cs : List Change) (places : ℕ → Path) (table : GivenTable) (are : 
       not-there (ReplaceWithMany t es) h = h
       not-there (ReplaceAll first last es) h = h
 
-      none-replaced : (ds : List Change) (k : ℕ) → list_any (λ c. has_path (targets c) []) ds ≡ false → is_replaced (aims_of (filter (λ d. is_independent cs d.1) (enumerate_from k ds))) [] ≡ false
+      none-replaced : (ds : List Change) (k : ℕ) → list_any (λ c. has_path (targets c) []) ds ≡ false → is_replaced (change_aims (filter (λ d. is_independent cs d.1) (enumerate_from k ds))) [] ≡ false
       none-replaced [] k h = refl
       none-replaced (d ∷ ds) k h =
           let both = or_parts (has_path (targets d) []) (list_any (λ c. has_path (targets c) []) ds) h in
           let rest = none-replaced ds (k + 1) both.1 in
-          elim (is_independent cs d) as (λ b. is_replaced (aims_of (cond b ((k, d) ∷ filter (λ d. is_independent cs d.1) (enumerate_from (k + 1) ds)) (filter (λ d. is_independent cs d.1) (enumerate_from (k + 1) ds)))) [] ≡ false) [
+          elim (is_independent cs d) as (λ b. is_replaced (change_aims (cond b ((k, d) ∷ filter (λ d. is_independent cs d.1) (enumerate_from (k + 1) ds)) (filter (λ d. is_independent cs d.1) (enumerate_from (k + 1) ds)))) [] ≡ false) [
             | true ↦ or_from (replaces [] (aim d)) _ (not-there d both.0) rest
             | false ↦ rest
           ]

@@ -4,7 +4,7 @@ use Rattle.cst_core.specs.Path.{Path}
 use Rattle.cst_core.specs.Element.{Element, address}
 use Rattle.edit_map.proofs.Rows.{R}
 use Rattle.edit_plan.specs.NewTree.{plain, new_tree}
-use Rattle.edit_plan.specs.Results.{annotated_as, found}
+use Rattle.edit_plan.specs.Results.{annotated_as, stand_in_path}
 use Rattle.edit_plan.specs.inner.Sought.{sought_from}
 use Rattle.edit_change.specs.Display.{escape, change_text}
 use Rattle.edit_change.specs.declared.change.Change.{Change}
@@ -35,7 +35,7 @@ row_sought : sought_from 0 (map address (R [] ∷ R (1 ∷ []) ∷ R (1 ∷ 0 �
 row_sought = refl
 
 -- ---- a node found again in the tree of row 2
-row_27 : ◌≡◌ {A = List (Option Path)} (flat_map (λ t. found (R []) (plain t) ∷ found (R (4 ∷ [])) (plain t) ∷ []) (new_tree changes_2 no_places (R []))) (Some [] ∷ None ∷ [])
+row_27 : ◌≡◌ {A = List (Option Path)} (flat_map (λ t. stand_in_path (R []) (plain t) ∷ stand_in_path (R (4 ∷ [])) (plain t) ∷ []) (new_tree changes_2 no_places (R []))) (Some [] ∷ None ∷ [])
 row_27 = refl
 
 -- ---- texts

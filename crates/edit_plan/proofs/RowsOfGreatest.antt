@@ -16,7 +16,7 @@ use Rattle.rewriting.specs.Topmost.{holds_at, parent_holds, topmost}
 use Rattle.rewriting.proofs.Tops.{tops, top-children, tops-alone}
 use Rattle.edit_plan.specs.NewTree.{OriginTree, new_tree, is_free}
 use Rattle.edit_plan.specs.Results.{changed}
-use Rattle.edit_plan.specs.Places.{IsTooLong}
+use Rattle.edit_plan.specs.Places.{TextIsTooLong}
 use Rattle.edit_plan.specs.RewritingLaws.{IsUntouched, brought_text, filled_text, filled_text_from}
 use Rattle.edit_change.specs.PositionForm.{After as place_after}
 use Rattle.edit_change.specs.declared.change.Change.{Change}
@@ -146,7 +146,7 @@ text-exchanged : flat_map text (new_tree changes_exchanged no_places (P [])) ≡
 unfolding long falling doubled
 text-exchanged = text-unowned changes_exchanged no_places (P []) (refl, (refl, tt)) ∙ filled-falling (brought_text changes_exchanged) (behind_last ∷ over_last ∷ []) aside-both 31 0 refl
 
-row_more_too_long : (made : OriginTree) → new_tree changes_more no_places (P []) ≡ made ∷ [] → IsTooLong made
+row_more_too_long : (made : OriginTree) → new_tree changes_more no_places (P []) ≡ made ∷ [] → TextIsTooLong made
 row_more_too_long made is =
     let all : length (text made) ≡ length (above 31 ++ codes "ax") = ap length (sym (append-nil (text made)) ∙ ap (flat_map text) (sym is) ∙ text-more) in
     let sum = length-append (above 31) (codes "ax") in

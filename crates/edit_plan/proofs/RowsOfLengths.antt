@@ -11,7 +11,7 @@ use Rattle.cst_core.specs.declared.element.SyntaxElement.TheVariants.{Node as no
 use Rattle.edit_map.proofs.RowTrees.{token, branch}
 use Rattle.edit_map.proofs.Rows.{element_of_tree, R}
 use Rattle.edit_plan.specs.NewTree.{OriginTree, new_tree}
-use Rattle.edit_plan.specs.Places.{IsTooLong}
+use Rattle.edit_plan.specs.Places.{TextIsTooLong}
 use Rattle.edit_change.specs.declared.change.Change.{Change}
 use Rattle.edit_change.specs.declared.change.Change.TheVariants.{Insert, Replace, ReplaceAll}
 use Rattle.edit_plan.proofs.RowChanges.{first_in, no_places}
@@ -72,7 +72,7 @@ with_two s = simp (append-nil, length-append) (omega arith)
 length-two : (t : SyntaxTree) → length (flat_map text (new_tree (changes_two t) no_places (R []))) ≡ 4 + text_length t + text_length t
 length-two t = ap length (text-unowned (changes_two t) no_places (R []) (refl, (refl, tt))) ∙ with_two (text t)
 
-row_two_too_long : (made : OriginTree) → new_tree (changes_two (long 31)) no_places (R []) ≡ made ∷ [] → IsTooLong made
+row_two_too_long : (made : OriginTree) → new_tree (changes_two (long 31)) no_places (R []) ≡ made ∷ [] → TextIsTooLong made
 row_two_too_long made is =
     let all : length (text made) ≡ 4 + text_length (long 31) + text_length (long 31) = ap length (sym (append-nil (text made)) ∙ ap (flat_map text) (sym is)) ∙ length-two (long 31) in
     omega (arith, longest)

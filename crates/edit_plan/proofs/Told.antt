@@ -10,7 +10,7 @@ use Rattle.cst_core.specs.declared.element.SyntaxElement.{SyntaxElement}
 use Rattle.edit_map.specs.Mapping.{mapped_elements}
 use Rattle.edit_change.specs.Change.{elements}
 use Rattle.edit_plan.specs.Places.{elements_held}
-use Rattle.edit_plan.specs.Plan.{Plan, registered}
+use Rattle.edit_plan.specs.Plan.{Plan, registered_elements}
 use Rattle.edit_plan.specs.inner.PlanRun.{TellsOf}
 
 module _ {X : Type 0} (R : X → X → Type 0) where
@@ -34,16 +34,16 @@ module _ {X : Type 0} (R : X → X → Type 0) where
 abbrev same_tree : Element → Element → Type 0
 same_tree e f = e.number ≡ f.number → e.root ≡ f.root
 
-told-each : (rs : List (SyntaxElement × ℕ)) (es : List Element) → NumbersTell (map (λ r. r.0) (registered rs) ++ es) → (k : ℕ) (d : SyntaxElement × ℕ) → k < length rs → NumbersTell (element_of (get_or rs k d).0 ∷ es)
+told-each : (rs : List (SyntaxElement × ℕ)) (es : List Element) → NumbersTell (map (λ r. r.0) (registered_elements rs) ++ es) → (k : ℕ) (d : SyntaxElement × ℕ) → k < length rs → NumbersTell (element_of (get_or rs k d).0 ∷ es)
 told-each [] es tell k d within = absurd (omega (arith, within))
-told-each (r ∷ rs) es tell zero d within = pairs-without same_tree (element_of r.0) (map (λ s. s.0) (registered rs)) es tell
+told-each (r ∷ rs) es tell zero d within = pairs-without same_tree (element_of r.0) (map (λ s. s.0) (registered_elements rs)) es tell
 told-each (r ∷ rs) es tell (suc k) d within =
-    told-each rs es (pairs-behind same_tree (element_of r.0) (map (λ s. s.0) (registered rs) ++ es) tell) k d (omega (arith, within))
+    told-each rs es (pairs-behind same_tree (element_of r.0) (map (λ s. s.0) (registered_elements rs) ++ es) tell) k d (omega (arith, within))
 
-pub all-told : (p : Plan) → NumbersTell (elements_held p.root p.changes (registered p.registrations) p.mapping) → All (TellsOf p) p.registrations
+pub all-told : (p : Plan) → NumbersTell (elements_held p.root p.changes (registered_elements p.registrations) p.mapping) → All (TellsOf p) p.registrations
 all-told p tell k d within =
     let changed = flat_map elements p.changes in
-    let marked : List Element = map (λ r. r.0) (registered p.registrations) in
+    let marked : List Element = map (λ r. r.0) (registered_elements p.registrations) in
     let mapped = mapped_elements p.mapping in
     let behind : AllPairs same_tree (changed ++ (marked ++ mapped)) = subst (AllPairs same_tree) (append_assoc changed marked mapped) (pairs-behind same_tree p.root (changed ++ marked ++ mapped) tell) in
     told-each p.registrations mapped (pairs-rest same_tree changed (marked ++ mapped) behind) k d within

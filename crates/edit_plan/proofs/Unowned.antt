@@ -7,7 +7,7 @@ use Rattle.cst_core.specs.Tree.{text}
 use Rattle.cst_core.specs.Element.{Element, address, subtree}
 use Rattle.cst_core.specs.Path.{Path}
 use Rattle.edit_change.specs.Nesting.{is_dropped, owner, is_independent}
-use Rattle.edit_plan.specs.NewTree.{OriginTree, origin, plain, aims_of, independents, payload_of, given, new_tree}
+use Rattle.edit_plan.specs.NewTree.{OriginTree, origin, plain, change_aims, independents, payload_of, given, new_tree}
 use Rattle.edit_plan.specs.Schedule.{undropped}
 use Rattle.edit_plan.specs.RewritingLaws.{brought_text, text_filled}
 use Rattle.edit_change.specs.declared.change.Change.{Change}
@@ -34,8 +34,8 @@ text-plain : (ts : List OriginTree) → flat_map text ts ≡ flat_map text (map 
 text-plain [] = refl
 text-plain (t ∷ ts) = ap₂ (λ x y. x ++ y) (sym (text-relabelled (λ o. o.kind) t)) (text-plain ts)
 
-pub text-unowned : (changes : List Change) (places : ℕ → Path) (root : Element) → AllByRecursion (λ c. owner changes c ≡ None) changes → flat_map text (new_tree changes places root) ≡ text_filled (brought_text changes) (aims_of (undropped changes)) (subtree root)
+pub text-unowned : (changes : List Change) (places : ℕ → Path) (root : Element) → AllByRecursion (λ c. owner changes c ≡ None) changes → flat_map text (new_tree changes places root) ≡ text_filled (brought_text changes) (change_aims (undropped changes)) (subtree root)
 text-unowned changes places root none =
     let gives : (c : ℕ) → map plain (given changes places c) ≡ map subtree (payload_of changes c) = λ c. plain-given changes places c (owns_nothing changes places c (λ i d is by. none-some c (sym (all_at (λ d. owner changes d ≡ None) changes i d none is) ∙ by))) in
     let brings : (c : ℕ) → flat_map text (given changes places c) ≡ brought_text changes c = λ c. text-plain (given changes places c) ∙ ap (flat_map text) (gives c) ∙ flat_map-text (map subtree (payload_of changes c)) in
-    text-rewritten_whole (origin (address root) None) (given changes places) (brought_text changes) brings (independents changes) (subtree root) ∙ ap (λ ds. text_filled (brought_text changes) (aims_of ds) (subtree root)) (kept_alike changes 0 changes none)
+    text-rewritten_whole (origin (address root) None) (given changes places) (brought_text changes) brings (independents changes) (subtree root) ∙ ap (λ ds. text_filled (brought_text changes) (change_aims ds) (subtree root)) (kept_alike changes 0 changes none)

@@ -15,7 +15,7 @@ use Rattle.rewriting.specs.inner.Pass.{kind_only}
 use Rattle.rewriting.specs.Rewriting.{numbers, rewritten_whole}
 use Rattle.rewriting.specs.Topmost.{topmost}
 use Rattle.edit_change.specs.Nesting.{is_independent}
-use Rattle.edit_plan.specs.NewTree.{OriginTree, plain, origin, aims_of, given, independents, is_free, new_tree}
+use Rattle.edit_plan.specs.NewTree.{OriginTree, plain, origin, change_aims, given, independents, is_free, new_tree}
 use Rattle.edit_plan.specs.Results.{changed}
 use Rattle.edit_change.specs.declared.change.Change.{Change}
 use Rattle.edit_plan.proofs.Brought.{mark, marked, marked-free}
@@ -42,7 +42,7 @@ module _ (cs : List Change) (places : ℕ → Path) where
   free-numbers =
       all-numbers (filter (λ d. is_independent cs d.1) (enumerate_from 0 cs)) (all_filter (λ d. slice_get cs d.0 ≡ Some d.1) (λ d. is_independent cs d.1) (enumerate_from 0 cs) (all_enumerated cs))
     where
-      all-numbers : (ds : List (ℕ × Change)) → AllByRecursion (λ d. (slice_get cs d.0 ≡ Some d.1) × (is_independent cs d.1 ≡ true)) ds → AllByRecursion (λ n. is_free cs n ≡ true) (numbers (aims_of ds))
+      all-numbers : (ds : List (ℕ × Change)) → AllByRecursion (λ d. (slice_get cs d.0 ≡ Some d.1) × (is_independent cs d.1 ≡ true)) ds → AllByRecursion (λ n. is_free cs n ≡ true) (numbers (change_aims ds))
       all-numbers [] a = tt
       all-numbers (d ∷ ds) a = (ap (λ o. option_map_or (is_independent cs) o false) a.0.0 ∙ a.0.1, all-numbers ds a.1)
 

@@ -1,5 +1,5 @@
 -- The tree that a set of changes makes of an old one, all of them at once.
---     aims_of                       the aims of numbered changes
+--     change_aims                       the aims of numbered changes
 --     Origin, OriginTree            a label with the address that an element was copied from, and the change that brought it
 --     plain                         the tree without its origins
 --     origin                        of what is kept below an address
@@ -28,8 +28,8 @@ use Rattle.edit_change.specs.Nesting.{is_independent, has_owner}
 use Rattle.edit_change.specs.declared.change.Change.{Change}
 
 -- ---- aims of changes
-abbrev pub aims_of : List (ℕ × Change) → List NumberedAim
-aims_of ds = map (λ d. (d.0, aim d.1)) ds
+abbrev pub change_aims : List (ℕ × Change) → List NumberedAim
+change_aims ds = map (λ d. (d.0, aim d.1)) ds
 
 -- ---- origins
 pub record Origin : Type 0 where
@@ -71,7 +71,7 @@ module _ (changes : List Change) where
   is_free c = option_map_or (is_independent changes) (slice_get changes c) false
 
   abbrev pub independents : List NumberedAim
-  independents = aims_of (filter (λ d. is_independent changes d.1) (enumerate_from 0 changes))
+  independents = change_aims (filter (λ d. is_independent changes d.1) (enumerate_from 0 changes))
 
   abbrev pub payload_rewritten : (ℕ → List OriginTree) → List NumberedAim → ℕ → List OriginTree
   payload_rewritten given cs c = map (λ e. rewritten (origin (address e) (Some c)) given cs [] (subtree e)) (payload_of c)

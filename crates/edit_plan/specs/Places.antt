@@ -4,7 +4,7 @@
 --     IsUnplaced, IsFirstUnplaced   a change that is not dropped and has no place in its owner's payload; the least such change
 --     FindsPlace, ArePlaces         a change has its place where one is kept for each owner; each change does
 --     elements_held                 all element values that a plan holds, of which NumbersTell is the premise of every promise on the tree
---     IsTooLong                     the new text passes the limit
+--     TextIsTooLong                     the new text passes the limit
 --     IsRewriting                   a tree with changed and annotated paths is the simultaneous rewriting of the old tree
 use Rattle.std.specs.Prelude.{◌≡◌, ◌≢◌, ℕ, ◌<◌, ◌≤◌, List, [], ◌∷◌, ◌++◌, map, flat_map, slice_get, Some, None, IfSome, IsSome, IsSomeAnd, All}
 use Rattle.cst_core.specs.Path.{Path}
@@ -54,8 +54,8 @@ ArePlaces m changes places = All (FindsPlace m changes places) changes
 abbrev pub elements_held : Element → List Change → List (Element × ℕ) → Mapping → List Element
 elements_held root changes registrations m = root ∷ flat_map elements changes ++ map (λ r. r.0) registrations ++ mapped_elements m
 
-abbrev pub IsTooLong : OriginTree → Type 0
-IsTooLong t = length_limit ≤ text_length t
+abbrev pub TextIsTooLong : OriginTree → Type 0
+TextIsTooLong t = length_limit ≤ text_length t
 
 -- a registration is an element and the number of an annotation
 pub record IsRewriting (root : Element) (changes : List Change) (registrations : List (Element × ℕ)) (m : Mapping) (tree : SyntaxTree) (changed_paths : List Path) (annotated_paths : List (ℕ × Path)) : Type 0 where

@@ -4,8 +4,8 @@
 --     plan_code, edit_code          the codes of plans and of edits, as models' values
 --     BuildRefuses                  why a plan is not built
 --     Edit                          the old root, the new root, the changed elements, and for annotations the elements that are found
---     found_again                   the element of the new tree that stands for an old one
---     registered                    registrations, by the values of their elements
+--     stand_in                   the element of the new tree that stands for an old one
+--     registered_elements                    registrations, by the values of their elements
 --     WouldMake                     the tree that a plan makes, with its origins
 --     Makes                         the edit is what the plan makes of the old tree, under a tree number
 --     RunRefuses                    why a plan is not carried out, where this is the next tree number
@@ -24,9 +24,9 @@ use Rattle.edit_map.specs.Mapping.{Mapping}
 use Rattle.edit_map.specs.Builder.{IsMapping}
 use Rattle.edit_change.specs.Nesting.{first_clash}
 use Rattle.edit_plan.specs.NewTree.{OriginTree, plain, is_free, new_tree}
-use Rattle.edit_plan.specs.Results.{changed, annotated, paths_with, found}
+use Rattle.edit_plan.specs.Results.{changed, annotated, paths_with, stand_in_path}
 use Rattle.edit_plan.specs.AnnotationTable.{found_for}
-use Rattle.edit_plan.specs.Places.{IsFirstUnplaced, ArePlaces, IsTooLong, elements_held}
+use Rattle.edit_plan.specs.Places.{IsFirstUnplaced, ArePlaces, TextIsTooLong, elements_held}
 use Rattle.edit_change.specs.declared.change.Change.{Change}
 use Rattle.edit_plan.specs.declared.edit_error.EditError.{EditError}
 use Rattle.edit_plan.specs.declared.edit_error.EditError.TheVariants.{Intersecting, MissingMapping, TooLong, NoTreeNumber, Memory}
@@ -69,11 +69,11 @@ pub record Edit : Type 0 where
 abbrev pub edit_code : Coded Edit
 edit_code = code_by (Element × (Element × (List SyntaxElement × List (ℕ × List SyntaxElement)))) (coded× element_code (coded× element_code (coded× (coded_list syntax_element_code) (coded_list (coded× coded_ℕ (coded_list syntax_element_code)))))) (λ e. (e.old_root, (e.new_root, (e.changed, e.annotated)))) (λ q. record { old_root = q.0; new_root = q.1.0; changed = q.1.1.0; annotated = q.1.1.1 }) (λ _. refl)
 
-abbrev pub found_again : Edit → Element → Option Element
-found_again e old = option_map (element_at e.new_root) (found old e.new_root.root)
+abbrev pub stand_in : Edit → Element → Option Element
+stand_in e old = option_map (element_at e.new_root) (stand_in_path old e.new_root.root)
 
-abbrev pub registered : List (SyntaxElement × ℕ) → List (Element × ℕ)
-registered rs = map (λ r. (element_of r.0, r.1)) rs
+abbrev pub registered_elements : List (SyntaxElement × ℕ) → List (Element × ℕ)
+registered_elements rs = map (λ r. (element_of r.0, r.1)) rs
 
 pub record WouldMake (p : Plan) (made : OriginTree) : Type 0 where
   pub places : ℕ → Path
@@ -91,11 +91,11 @@ pub record Makes (p : Plan) (number : ℕ) (e : Edit) : Type 0 where
   pub changed_are : map Some e.changed ≡ map (syntax_at e.new_root) (changed (is_free p.changes) made)
   pub annotated_paths : List (ℕ × Path)
   pub annotated_are : (a : ℕ) → map Some (found_for e.annotated a) ≡ map (syntax_at e.new_root) (paths_with a annotated_paths)
-  pub annotated_is : NumbersTell (elements_held p.root p.changes (registered p.registrations) p.mapping) → annotated_paths ≡ annotated p.mapping (registered p.registrations) made
+  pub annotated_is : NumbersTell (elements_held p.root p.changes (registered_elements p.registrations) p.mapping) → annotated_paths ≡ annotated p.mapping (registered_elements p.registrations) made
 
 abbrev pub RunRefuses : Plan → ℕ → EditError → Type 0
 RunRefuses p next (Intersecting first second) = ⊥
 RunRefuses p next (MissingMapping change owner) = ⊥
-RunRefuses p next TooLong = (made : OriginTree) × WouldMake p made × IsTooLong made
-RunRefuses p next NoTreeNumber = (made : OriginTree) × WouldMake p made × (IsTooLong made → ⊥) × IsSpent next
+RunRefuses p next TooLong = (made : OriginTree) × WouldMake p made × TextIsTooLong made
+RunRefuses p next NoTreeNumber = (made : OriginTree) × WouldMake p made × (TextIsTooLong made → ⊥) × IsSpent next
 RunRefuses p next Memory = Unit {0}

@@ -4,7 +4,7 @@
 --     copies_of                     the paths, in document order, of the elements copied from an address
 --     paths_with                    the paths that stand with an annotation
 --     annotated, annotated_as       an annotation with each path, by registration and then in document order; the paths of one annotation
---     stands_like, found            what is at a path has the kind of an old element and starts where that one does; the path of the first node, in document order, of the kind of an old one that starts where that one does
+--     stands_like, stand_in_path            what is at a path has the kind of an old element and starts where that one does; the path of the first node, in document order, of the kind of an old one that starts where that one does
 use Rattle.std.specs.Prelude.{ℕ, nat_eq, ◌&&◌, Bool, false, List, map, filter, flat_map, find, Option}
 use Rattle.std.specs.Option.{option_map_or}
 use Rattle.cst_core.specs.Path.{Path}
@@ -40,5 +40,5 @@ annotated_as m registrations t annotation = paths_with annotation (annotated m r
 abbrev pub stands_like : Element → SyntaxTree → Path → Bool
 stands_like old t p = option_map_or (λ e. nat_eq (label e) (label (subtree old))) (at t p) false && nat_eq (start t p) (start old.root old.path)
 
-abbrev pub found : Element → SyntaxTree → Option Path
-found old t = find (stands_like old t) (node_paths t)
+abbrev pub stand_in_path : Element → SyntaxTree → Option Path
+stand_in_path old t = find (stands_like old t) (node_paths t)

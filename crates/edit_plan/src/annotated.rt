@@ -57,7 +57,7 @@ fn annotations(
 
 /// Each registration's annotation with each path of a list for it, by registration. Takes time linear in the paths and their
 /// lengths.
-pub(crate) fn annotated(
+pub(crate) fn annotated_paths(
     alloc: Global,
     registrations: &[(SyntaxElement, SyntaxAnnotation)],
     copies: &[Vec<Vec<usize>>],
@@ -70,7 +70,7 @@ pub(crate) fn annotated(
 }
 
 /// Where each registered element is followed to.
-pub(crate) fn followed(
+pub(crate) fn registered_copies(
     alloc: Global,
     mapping: &SyntaxMapping,
     registrations: &[(SyntaxElement, SyntaxAnnotation)],

@@ -3,6 +3,7 @@ ghost use Rattle.edit_plan.specs.inner.OwnerTables.{depth_of, owners_at, AreOwne
 
 use crate::dependent::Dependent;
 use edit_change::Change;
+use rewriting::empty_lists;
 use std::alloc::{AllocError, Global};
 
 // More than the depth of each change.
@@ -14,18 +15,6 @@ pub(crate) fn levels(changes: &[Change]) -> usize
         levels = levels.max(change.depth() + 1);
     }
     levels
-}
-
-// So many empty lists.
-fn empty_lists(alloc: Global, count: usize) -> Result<Vec<Vec<usize>>, AllocError>
-    ensures long { IfOk result (λ v. length v.items ≡ count) }
-    ensures empty { IfOk result (λ v. (level : ℕ) → owners_at v.items level ≡ []) }
-{
-    let mut lists = Vec::new(alloc);
-    for _ in 0..count {
-        lists.push(Vec::new(alloc))?;
-    }
-    Ok(lists)
 }
 
 // One more owner of a depth.

@@ -7,10 +7,10 @@ ghost use Rattle.edit_change.specs.inner.Fate.{fate};
 ghost use Rattle.edit_change.specs.Nesting.{owner};
 ghost use Rattle.edit_plan.specs.NewTree.{moved_path, moved_aim};
 ghost use Rattle.edit_change.specs.inner.AimFrom.{depth};
-ghost use Rattle.edit_plan.specs.inner.OwnerTables.{places_in, moved, dependents_in, AreDependents, OwnsOneMore, OthersOwnAsBefore};
+ghost use Rattle.edit_plan.specs.inner.OwnerTables.{places_in, moved_dependent, dependents_in, AreDependents, OwnsOneMore, OthersOwnAsBefore};
 
 use edit_change::{Change, Fate};
-use rewriting::Aimed;
+use rewriting::{Aimed, empty_lists};
 use std::alloc::{AllocError, Global};
 
 /// A change that another one owns, with its number, and the path where it aims in the payload of that one.
@@ -42,28 +42,16 @@ pub(crate) fn moved_aims<'a, 'b>(
     alloc: Global,
     dependents: &'a [Dependent<'b>],
 ) -> Result<Vec<Aimed<'a>>, AllocError>
-    ensures { IfOk result (λ v. aims_of v.items ≡ map moved dependents.now) }
+    ensures { IfOk result (λ v. aims_of v.items ≡ map moved_dependent dependents.now) }
 {
     let mut aims = Vec::new(alloc);
     for dependent in dependents {
         let aim = dependent
             .change
-            .aimed_from(dependent.number, &dependent.path);
+            .numbered_aim_from(dependent.number, &dependent.path);
         aims.push(aim)?;
     }
     Ok(aims)
-}
-
-// So many empty lists.
-fn empty_lists<'a>(alloc: Global, count: usize) -> Result<Vec<Vec<Dependent<'a>>>, AllocError>
-    ensures long { IfOk result (λ v. length v.items ≡ count) }
-    ensures empty { IfOk result (λ v. (c : ℕ) → dependents_in v.items c ≡ []) }
-{
-    let mut lists = Vec::new(alloc);
-    for _ in 0..count {
-        lists.push(Vec::new(alloc))?;
-    }
-    Ok(lists)
 }
 
 fn enter<'a>(
@@ -81,7 +69,7 @@ fn enter<'a>(
 }
 
 // A change as it stands in the payload of its owner, where the owner's target has this place.
-fn moved_in<'a>(
+fn dependent_of<'a>(
     alloc: Global,
     change: &'a Change,
     number: usize,
@@ -90,7 +78,7 @@ fn moved_in<'a>(
 ) -> Result<Dependent<'a>, AllocError>
     requires fits { (root : Element) × Fits root change.now }
     requires inside { length (aim_path owner.now) < depth change.now }
-    ensures { IfOk result (λ d. moved d ≡ (number, moved_aim (aim_path owner.now) place.now (aim change.now))) }
+    ensures { IfOk result (λ d. moved_dependent d ≡ (number, moved_aim (aim_path owner.now) place.now (aim change.now))) }
 {
     let path = moved_path(alloc, owner.aim_path(), place, change.aim_path())?;
     Ok(Dependent {
@@ -139,7 +127,7 @@ pub(crate) fn dependents<'a>(
     for number in 0..changes.len() {
         if let Some(owner) = owner_of(changes, fates, number) {
             let change = &changes[number];
-            let dependent = moved_in(
+            let dependent = dependent_of(
                 alloc,
                 change,
                 number,

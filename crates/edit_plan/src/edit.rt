@@ -1,5 +1,5 @@
 ghost use Rattle.std.specs.Prelude.{◌≡◌, IfOk};
-ghost use Rattle.edit_plan.specs.Plan.{found_again};
+ghost use Rattle.edit_plan.specs.Plan.{stand_in};
 ghost use Rattle.edit_plan.specs.AnnotationTable.{found_for};
 
 use crate::annotation::SyntaxAnnotation;
@@ -75,7 +75,7 @@ impl SyntaxEdit {
         alloc: Global,
         old: &SyntaxNode,
     ) -> Result<Option<SyntaxNode>, AllocError>
-        ensures { IfOk result (λ r. r ≡ found_again self.now old.now) }
+        ensures { IfOk result (λ r. r ≡ stand_in self.now old.now) }
     {
         let root = self.new_root.as_green();
         let Some(path) = first_node(alloc, root, old.kind(), old.text_start())? else {

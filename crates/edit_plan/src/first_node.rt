@@ -10,7 +10,7 @@ use cst_core::{GreenElement, GreenNode, SyntaxKind};
 use std::alloc::{AllocError, Global};
 
 // The child, if it is a node and the offset is in it or at one of its ends. It begins at `begin`.
-fn reached(child: &GreenElement, begin: u64, offset: u64) -> Option<&GreenNode>
+fn node_at_offset(child: &GreenElement, begin: u64, offset: u64) -> Option<&GreenNode>
     requires fits { begin + text_length (element_tree child.now) < length_limit }
     ensures some { IfSome result (λ n. element_tree child.now ≡ branch_tree n.now) }
     ensures none { IfNone result ((kind : ℕ) → first_from kind begin offset (element_tree child.now) ≡ None) }
@@ -51,7 +51,7 @@ fn way_back(
     }
     let mut next = begin;
     for (slot, child) in node.children().iter().enumerate() {
-        if let Some(below) = reached(child, next, offset) {
+        if let Some(below) = node_at_offset(child, next, offset) {
             if let Some(mut way) = way_back(alloc, below, next, kind, offset)? {
                 way.push(slot)?;
                 return Ok(Some(way));

@@ -11,7 +11,7 @@ ghost use Rattle.edit_plan.specs.inner.GivenTables.{element_rewritten, each_rewr
 ghost use Rattle.edit_plan.specs.inner.GivenTables.{HasPayloadMarks, FillsMarks, FillsLevel, FillsLevelMarks};
 ghost use Rattle.edit_plan.specs.inner.GivenTables.{TellsGiven, TellsMarks};
 ghost use Rattle.edit_plan.specs.inner.Marks.{payload_sought};
-ghost use Rattle.edit_plan.specs.inner.OwnerTables.{moved, IsFilled};
+ghost use Rattle.edit_plan.specs.inner.OwnerTables.{moved_dependent, IsFilled};
 
 use crate::by_depth::owners_by_depth;
 use crate::dependent::{Dependent, moved_aims};
@@ -76,7 +76,7 @@ fn rewritten_each<'a>(
 }
 
 // What a change brings, with its marks. Where nothing is registered, nothing is looked for.
-fn brought<'a>(
+fn marked_payload<'a>(
     alloc: Global,
     change: &'a Change,
     index: &SoughtIndex,
@@ -86,7 +86,7 @@ fn brought<'a>(
 {
     if index.is_empty() {
         return Ok(MarkedGiven {
-            elements: change.brought(alloc)?,
+            elements: change.green_payload(alloc)?,
             marks: Vec::new(alloc),
         });
     }
@@ -110,7 +110,7 @@ fn payloads<'a>(
 {
     let mut entries = Vec::with_capacity(alloc, changes.len())?;
     for change in changes {
-        entries.push(brought(alloc, change, index)?)?;
+        entries.push(marked_payload(alloc, change, index)?)?;
     }
     Ok(GivenTable { entries, top: None })
 }
@@ -129,7 +129,7 @@ fn fill(
     requires top { given.now.top ≡ None }
     ensures long { OnOk result (length given.new.entries.items ≡ length changes.now) }
     ensures top { OnOk result (given.new.top ≡ None) }
-    ensures filled { OnOk result (IsFilled changes.now owner (map moved dependents.now) given.old given.new) }
+    ensures filled { OnOk result (IsFilled changes.now owner (map moved_dependent dependents.now) given.old given.new) }
     ensures marks { OnOk result (FillsMarks index.now changes.now given.old given.new owner dependents.now) }
 {
     let aims = moved_aims(alloc, dependents)?;
@@ -167,7 +167,7 @@ fn fill_level(
 ///
 /// An owner comes after all that is deeper. Takes time linear in the changes and the depth of the deepest one, and what the passes
 /// through the owners' payloads take.
-pub(crate) fn given<'a>(
+pub(crate) fn given_table<'a>(
     alloc: Global,
     changes: &'a [Change],
     dependents: &[Vec<Dependent>],

@@ -15,7 +15,7 @@ ghost use Rattle.rewriting.specs.Aim.{aims_at_gap, same_gap};
 ghost use Rattle.edit_change.specs.ChangeAim.{aim};
 ghost use Rattle.edit_change.specs.Nesting.{owner, region};
 ghost use Rattle.rewriting.specs.Rewriting.{NumberedAim, gap, rewritten};
-ghost use Rattle.edit_plan.specs.NewTree.{Origin, OriginTree, origin, plain, aims_of, payload_of, is_free, given, Gives, new_tree};
+ghost use Rattle.edit_plan.specs.NewTree.{Origin, OriginTree, origin, plain, change_aims, payload_of, is_free, given, Gives, new_tree};
 ghost use Rattle.edit_plan.specs.Results.{changed};
 ghost use Rattle.edit_plan.specs.Places.{HasPlace, elements_held, IsRewriting};
 ghost use Rattle.edit_plan.specs.Schedule.{undropped};
@@ -80,7 +80,7 @@ pub fn text_is_filled()
     ensures { (changes : List Change) (places : ℕ → Path) (root : Element)
         → All (λ c. owner changes c ≡ None) changes
         → flat_map text (new_tree changes places root)
-        ≡ text_filled (brought_text changes) (aims_of (undropped changes)) (subtree root) }
+        ≡ text_filled (brought_text changes) (change_aims (undropped changes)) (subtree root) }
 {}
 
 /// Swapping two neighbours that aim at different gaps and share no target changes no answer.

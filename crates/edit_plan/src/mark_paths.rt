@@ -3,9 +3,9 @@
 ghost use Rattle.std.specs.Prelude.{◌≡◌, ◌<◌, drop, length, IfOk, OnOk};
 ghost use Rattle.rewriting.specs.inner.Marked.{marks_of};
 ghost use Rattle.rewriting.specs.Topmost.{paths_of};
-ghost use Rattle.edit_plan.specs.inner.Marks.{paths_of_mark, NoPaths, ArePathsOf, HasPathMore, PathsStay, IsDealtOut, HasPathsMore};
+ghost use Rattle.edit_plan.specs.inner.Marks.{paths_of_mark, ArePathsOf, HasPathMore, PathsStay, IsDealtOut, HasPathsMore};
 
-use rewriting::Mark;
+use rewriting::{Mark, empty_lists};
 use std::alloc::{AllocError, Global};
 
 // A path without its first slot.
@@ -16,18 +16,6 @@ fn below_top(mut path: Vec<usize>) -> Vec<usize>
         path.remove(0);
     }
     path
-}
-
-// So many empty lists.
-fn empty_lists(alloc: Global, count: usize) -> Result<Vec<Vec<Vec<usize>>>, AllocError>
-    ensures size { IfOk result (λ v. length v.items ≡ count) }
-    ensures empty { IfOk result (λ v. NoPaths count v.items) }
-{
-    let mut lists = Vec::new(alloc);
-    for _ in 0..count {
-        lists.push(Vec::new(alloc))?;
-    }
-    Ok(lists)
 }
 
 // One more at the end of a list.

@@ -4,7 +4,8 @@ ghost use Rattle.std.specs.Prelude.{ℕ, true, ◌≡◌, ◌<◌, map, length, 
 ghost use Rattle.edit_change.specs.inner.Fate.{fate};
 ghost use Rattle.edit_change.specs.Nesting.{is_keeping};
 ghost use Rattle.edit_plan.specs.Places.{ArePlaces};
-ghost use Rattle.edit_plan.specs.inner.OwnerTables.{path_in, path_at, places_in, IsPlaceOf, IsPlaced, replaced_by};
+ghost use Rattle.edit_map.specs.Mapping.{path_in};
+ghost use Rattle.edit_plan.specs.inner.OwnerTables.{path_at, places_in, IsPlaceOf, IsPlaced, replaced_by};
 ghost use Rattle.edit_plan.specs.inner.OwnerTables.{IsFoundPlace, PlacesStay, TellsPlace};
 ghost use Rattle.edit_plan.specs.inner.PlacesRefusal.{PlacesRefuse};
 ghost use Rattle.edit_change.specs.declared.change.Change.{Change};

@@ -1,3 +1,5 @@
+//! What finishing an edit does, in the order in which it happens.
+
 ghost use Rattle.std.specs.Prelude.{◌≡◌, ◌+◌, ◌<◌, ℕ, List, [], ◌∷◌, map, find, length, option_map, All, Some, IfOk, IfErr, OnOk, OnErr};
 ghost use Rattle.cst_core.specs.Green.{branch_tree, length_limit};
 ghost use Rattle.cst_core.specs.Tree.{text_length};
@@ -15,12 +17,12 @@ ghost use Rattle.edit_plan.specs.Plan.{Makes, RunRefuses};
 ghost use Rattle.edit_plan.specs.inner.PlanRun.{AreOwned, FindsInRoot, HasMade, HasRewritten, IsOneNode, KeepsTop};
 ghost use Rattle.edit_plan.specs.inner.PlanRun.{root_rewritten};
 
-use crate::annotated::{annotated, elements_by_annotation, followed};
+use crate::annotated::{annotated_paths, elements_by_annotation, registered_copies};
 use crate::annotation::SyntaxAnnotation;
 use crate::dependent::{Dependent, dependents};
 use crate::edit::SyntaxEdit;
 use crate::edit_error::EditError;
-use crate::given::given;
+use crate::given::given_table;
 use crate::mark_paths::mark_paths;
 use crate::plan::EditPlan;
 use crate::sought::SoughtIndex;
@@ -45,26 +47,77 @@ struct Made {
     changed: Vec<Vec<usize>>,
 }
 
-// The changes without an owner, by where they aim.
-fn independent_aims<'a>(
-    alloc: Global,
-    changes: &'a [Change],
-    fates: &[Fate],
-) -> Result<Vec<Aimed<'a>>, AllocError>
-    requires fit { (root : Element) × All (Fits root) changes.now }
-    requires fates { fates.now ≡ map (fate changes.now) changes.now }
-    ensures { IfOk result (λ v. aims_of v.items ≡ independents changes.now) }
-{
-    let mut aims = Vec::with_capacity(alloc, changes.len())?;
-    for number in 0..changes.len() {
-        if fates[number].is_independent() {
-            aims.push(changes[number].aimed(number))?;
-        }
-    }
-    Ok(aims)
-}
-
 impl EditPlan {
+    /// Carries the plan out: the new tree under the next number of `ids`, and its changed elements.
+    ///
+    /// `TooLong` comes first, then `NoTreeNumber`; `Memory` may come at any time. None of them draws a number, and the old tree is
+    /// as it was.
+    pub fn run(&self, alloc: Global, ids: &mut TreeIds) -> Result<SyntaxEdit, EditError>
+        ensures ok { IfOk result (Makes self.now ids.old) }
+        ensures short { IfOk result (λ e. text_length e.new_root.root < length_limit) }
+        ensures drawn { OnOk result (ids.new ≡ ids.old + 1) }
+        ensures refused { IfErr result (RunRefuses self.now ids.old) }
+        ensures err { OnErr result (ids.new ≡ ids.old) }
+    {
+        let Rewritten {
+            green,
+            changed,
+            annotated,
+        } = self.rewritten_tree(alloc)?;
+        // The number is drawn last, when nothing can fail any more.
+        let mut own = TreeIds::new(next_number(ids));
+        let new_root = SyntaxNode::new_root(alloc, &mut own, green)?;
+        let changed = elements_at(alloc, &new_root, changed)?;
+        let annotated = elements_by_annotation(alloc, &new_root, &annotated)?;
+        let old_root = self.root.try_clone(alloc)?;
+        ids.next();
+        Ok(SyntaxEdit {
+            old_root,
+            new_root,
+            changed,
+            annotated,
+        })
+    }
+
+    // The new tree, and the paths of its changed and annotated elements.
+    fn rewritten_tree(&self, alloc: Global) -> Result<Rewritten, AllocError>
+        ensures { IfOk result (HasRewritten self.now) }
+    {
+        let registered = registered_copies(alloc, &self.mapping, &self.registrations)?;
+        let Made {
+            green,
+            copies,
+            changed,
+        } = self.marked_tree(alloc, &registered)?;
+        let annotated = annotated_paths(alloc, &self.registrations, &copies)?;
+        Ok(Rewritten {
+            green,
+            changed,
+            annotated,
+        })
+    }
+
+    // The new tree, the paths of the copies of each of these elements, and those of changed elements. The number of each element is its
+    // mark, and the next one is that of what changes without an owner give.
+    fn marked_tree(&self, alloc: Global, registered: &[SyntaxElement]) -> Result<Made, AllocError>
+        ensures long { IfOk result (λ m. length m.copies.items ≡ length registered.now) }
+        ensures made { IfOk result (HasMade self.now registered.now) }
+    {
+        let aims = self.aims(alloc)?;
+        let dependents = self.dependents(alloc)?;
+        let index = SoughtIndex::of(alloc, registered)?;
+        let mut given = given_table(alloc, &self.changes, &dependents, &index)?;
+        given.top = Some(registered.len());
+        let Rebuilt { elements, marks } = self.rebuilt_root(alloc, &aims, &index, &given)?;
+        self.keep_top();
+        let paths = mark_paths(alloc, marks, registered.len())?;
+        Ok(Made {
+            green: only_node(elements),
+            copies: paths.lists,
+            changed: paths.others,
+        })
+    }
+
     // The changes without an owner, by where they aim.
     fn aims(&self, alloc: Global) -> Result<Vec<Aimed<'_>>, AllocError>
         ensures { IfOk result (λ v. aims_of v.items ≡ independents self.now.changes) }
@@ -81,7 +134,7 @@ impl EditPlan {
     }
 
     // What stands in the place of the root, with the marks of it: those of a table, and those of what changes give.
-    fn rebuilt(
+    fn rebuilt_root(
         &self,
         alloc: Global,
         aims: &[Aimed],
@@ -105,11 +158,30 @@ impl EditPlan {
     {
         match replacing_root(&self.changes) {
             Some(change) => {
-                let _ = change.root_brought();
+                let _ = change.node_for_root();
             }
             None => {}
         }
     }
+}
+
+// The changes without an owner, by where they aim.
+fn independent_aims<'a>(
+    alloc: Global,
+    changes: &'a [Change],
+    fates: &[Fate],
+) -> Result<Vec<Aimed<'a>>, AllocError>
+    requires fit { (root : Element) × All (Fits root) changes.now }
+    requires fates { fates.now ≡ map (fate changes.now) changes.now }
+    ensures { IfOk result (λ v. aims_of v.items ≡ independents changes.now) }
+{
+    let mut aims = Vec::with_capacity(alloc, changes.len())?;
+    for number in 0..changes.len() {
+        if fates[number].is_independent() {
+            aims.push(changes[number].numbered_aim(number))?;
+        }
+    }
+    Ok(aims)
 }
 
 // The change that replaces the root, if one does.
@@ -131,6 +203,13 @@ fn only_node(mut elements: Vec<GreenElement>) -> GreenNode
     }
 }
 
+// The number that comes next; 2^64 - 1 once there is none.
+fn next_number(ids: &TreeIds) -> u64
+    ensures { result ≡ ids.now }
+{
+    ids.peek().unwrap_or(u64::MAX)
+}
+
 // The elements that these paths lead to, counted from a root.
 fn elements_at(
     alloc: Global,
@@ -148,83 +227,4 @@ fn elements_at(
         }
     }
     Ok(elements)
-}
-
-// The number that comes next; 2^64 - 1 once there is none.
-fn next_number(ids: &TreeIds) -> u64
-    ensures { result ≡ ids.now }
-{
-    ids.peek().unwrap_or(u64::MAX)
-}
-
-impl EditPlan {
-    // The new tree, the paths of the copies of each of these elements, and those of changed elements. The number of each element is its
-    // mark, and the next one is that of what changes without an owner give.
-    fn made(&self, alloc: Global, registered: &[SyntaxElement]) -> Result<Made, AllocError>
-        ensures long { IfOk result (λ m. length m.copies.items ≡ length registered.now) }
-        ensures made { IfOk result (HasMade self.now registered.now) }
-    {
-        let aims = self.aims(alloc)?;
-        let dependents = self.dependents(alloc)?;
-        let index = SoughtIndex::of(alloc, registered)?;
-        let mut given = given(alloc, &self.changes, &dependents, &index)?;
-        given.top = Some(registered.len());
-        let Rebuilt { elements, marks } = self.rebuilt(alloc, &aims, &index, &given)?;
-        self.keep_top();
-        let paths = mark_paths(alloc, marks, registered.len())?;
-        Ok(Made {
-            green: only_node(elements),
-            copies: paths.lists,
-            changed: paths.others,
-        })
-    }
-
-    // The new tree, and the paths of its changed and annotated elements.
-    fn carried_out(&self, alloc: Global) -> Result<Rewritten, AllocError>
-        ensures { IfOk result (HasRewritten self.now) }
-    {
-        let registered = followed(alloc, &self.mapping, &self.registrations)?;
-        let Made {
-            green,
-            copies,
-            changed,
-        } = self.made(alloc, &registered)?;
-        let annotated = annotated(alloc, &self.registrations, &copies)?;
-        Ok(Rewritten {
-            green,
-            changed,
-            annotated,
-        })
-    }
-
-    /// Carries the plan out: the new tree under the next number of `ids`, and its changed elements.
-    ///
-    /// `TooLong` comes first, then `NoTreeNumber`; `Memory` may come at any time. None of them draws a number, and the old tree is
-    /// as it was.
-    pub fn run(&self, alloc: Global, ids: &mut TreeIds) -> Result<SyntaxEdit, EditError>
-        ensures ok { IfOk result (Makes self.now ids.old) }
-        ensures short { IfOk result (λ e. text_length e.new_root.root < length_limit) }
-        ensures drawn { OnOk result (ids.new ≡ ids.old + 1) }
-        ensures refused { IfErr result (RunRefuses self.now ids.old) }
-        ensures err { OnErr result (ids.new ≡ ids.old) }
-    {
-        let Rewritten {
-            green,
-            changed,
-            annotated,
-        } = self.carried_out(alloc)?;
-        // The number is drawn last, when nothing can fail any more.
-        let mut own = TreeIds::new(next_number(ids));
-        let new_root = SyntaxNode::new_root(alloc, &mut own, green)?;
-        let changed = elements_at(alloc, &new_root, changed)?;
-        let annotated = elements_by_annotation(alloc, &new_root, &annotated)?;
-        let old_root = self.root.try_clone(alloc)?;
-        ids.next();
-        Ok(SyntaxEdit {
-            old_root,
-            new_root,
-            changed,
-            annotated,
-        })
-    }
 }

@@ -196,6 +196,7 @@ fn total_length(children: &[GreenElement]) -> u64
     total
 }
 
+/// Shares elements at the end of a list. After a refusal some of them may be there.
 pub fn share_all(
     alloc: Global,
     out: &mut Vec<GreenElement>,

@@ -11,7 +11,7 @@ mod text;
 mod tokens;
 
 pub use error::TreeError;
-pub use green::{GreenElement, GreenElementRef, GreenNode, GreenToken, LENGTH_LIMIT};
+pub use green::{GreenElement, GreenElementRef, GreenNode, GreenToken, LENGTH_LIMIT, share_all};
 pub use kind::{KIND_NAMES, SyntaxKind};
 pub use shape::have_same_shape;
 pub use start::start_of;

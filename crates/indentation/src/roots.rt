@@ -7,7 +7,7 @@ ghost use Rattle.indentation.specs.IndentCalls.{fresh_root, CanBeRoot, RootRefus
 
 use crate::indent_error::IndentError;
 use crate::level::IndentLevel;
-use crate::shift::{Shift, shifted};
+use crate::shift::{Shift, shifted_node};
 use cst_core::{SyntaxNode, TreeIds};
 use std::alloc::Global;
 
@@ -24,7 +24,7 @@ fn shifted_root(
     ensures refused { IfErr result (RootRefuses (shifted shift (subtree node.now)) ids.old) }
     ensures err { OnErr result (ids.new ≡ ids.old) }
 {
-    let green = shifted(alloc, shift, node.as_green())?;
+    let green = shifted_node(alloc, shift, node.as_green())?;
     match SyntaxNode::new_root(alloc, ids, green) {
         Ok(root) => Ok(root),
         Err(error) => Err(IndentError::from(error)),

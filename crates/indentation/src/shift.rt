@@ -11,6 +11,7 @@ ghost use Rattle.indentation.specs.inner.Shift.{shifted_text, shifted, IsShifted
 use crate::indent_error::IndentError;
 use crate::level::{IndentLevel, last_line};
 use cst_core::{GreenElement, GreenNode, GreenToken, SyntaxKind};
+use green_tree::share_all;
 use std::alloc::{AllocError, Global};
 
 /// What becomes of the lines of whitespace tokens.
@@ -160,25 +161,11 @@ fn with_rest(
     Ok(GreenElement::Node(GreenNode::capped(alloc, node.kind(), built)?))
 }
 
-// Shares elements at the end of a list.
-fn share_all(
-    alloc: Global,
-    out: &mut Vec<GreenElement>,
-    from: &[GreenElement],
-) -> Result<(), AllocError>
-    ensures { OnOk result (out.new.items ≡ out.old.items ++ from.now) }
-{
-    for element in from {
-        out.push(element.share(alloc)?)?;
-    }
-    Ok(())
-}
-
 /// The node with the whitespace in it indented or dedented: the text of each whitespace token that holds a newline changes.
 /// What holds no such token is shared.
 ///
 /// `TooLong` comes only where the new text passes 4,294,967,295 bytes; else only `Memory` comes.
-pub(crate) fn shifted(
+pub(crate) fn shifted_node(
     alloc: Global,
     shift: Shift,
     node: &GreenNode,

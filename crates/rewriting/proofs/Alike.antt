@@ -11,7 +11,7 @@ use Rattle.green_tree.specs.Path.{Path}
 use Rattle.green_tree.specs.Tree.{Tree, Forest, Token, Node, end, more, SyntaxTree, trees, forest}
 use Rattle.rewriting.specs.Rewriting.{NumberedAim, inserts_at, replacements_at, is_replaced, gap_order, gap, slot, rewritten, rewritten_from, rewritten_whole}
 use Rattle.rewriting.specs.Topmost.{topmost}
-use Rattle.rewriting.specs.inner.Marked.{MarkTree, Marking, marked, marked_from, below}
+use Rattle.rewriting.specs.inner.Marked.{MarkTree, Marking, marked, marked_from, mark_below}
 use Rattle.rewriting.proofs.Children.{trees-forest}
 use Rattle.rewriting.proofs.Marks.{marks-node, marks-token}
 use Rattle.rewriting.proofs.Tops.{tops, top-node, top-token}
@@ -61,10 +61,10 @@ with_number n ms = map (λ m. m.1) (filter (λ m. nat_eq n m.0) ms)
 pub number-append : (n : ℕ) (ms ns : List Marking) → with_number n (ms ++ ns) ≡ with_number n ms ++ with_number n ns
 number-append n ms ns = ap (map (λ m. m.1)) (filter-append (λ m. nat_eq n m.0) ms ns) ∙ map-append (λ m. m.1) (filter (λ m. nat_eq n m.0) ms) (filter (λ m. nat_eq n m.0) ns)
 
-pub number-below : (n i : ℕ) (ms : List Marking) → with_number n (map (below (i ∷ [])) ms) ≡ map (λ p. i ∷ p) (with_number n ms)
+pub number-below : (n i : ℕ) (ms : List Marking) → with_number n (map (mark_below (i ∷ [])) ms) ≡ map (λ p. i ∷ p) (with_number n ms)
 number-below n i [] = refl
 number-below n i (m ∷ ms) =
-    elim (nat_eq n m.0) as (λ b. map (λ (x : Marking). x.1) (cond b (below (i ∷ []) m ∷ filter (λ (x : Marking). nat_eq n x.0) (map (below (i ∷ [])) ms)) (filter (λ (x : Marking). nat_eq n x.0) (map (below (i ∷ [])) ms))) ≡ map (λ (p : Path). i ∷ p) (map (λ (x : Marking). x.1) (cond b (m ∷ filter (λ (x : Marking). nat_eq n x.0) ms) (filter (λ (x : Marking). nat_eq n x.0) ms)))) [
+    elim (nat_eq n m.0) as (λ b. map (λ (x : Marking). x.1) (cond b (mark_below (i ∷ []) m ∷ filter (λ (x : Marking). nat_eq n x.0) (map (mark_below (i ∷ [])) ms)) (filter (λ (x : Marking). nat_eq n x.0) (map (mark_below (i ∷ [])) ms))) ≡ map (λ (p : Path). i ∷ p) (map (λ (x : Marking). x.1) (cond b (m ∷ filter (λ (x : Marking). nat_eq n x.0) ms) (filter (λ (x : Marking). nat_eq n x.0) ms)))) [
       | true ↦ ap (λ ps. (i ∷ m.1) ∷ ps) (number-below n i ms)
       | false ↦ number-below n i ms
     ]
@@ -72,7 +72,7 @@ number-below n i (m ∷ ms) =
 pub number-from : (n i : ℕ) (ts : List MarkTree) → with_number n (marked_from i ts) ≡ sides i (map (λ t. with_number n (marked t)) ts)
 number-from n i [] = refl
 number-from n i (t ∷ ts) =
-    number-append n (map (below (i ∷ [])) (marked t)) (marked_from (suc i) ts) ∙ ap₂ (λ ps qs. ps ++ qs) (number-below n i (marked t)) (number-from n (suc i) ts)
+    number-append n (map (mark_below (i ∷ [])) (marked t)) (marked_from (suc i) ts) ∙ ap₂ (λ ps qs. ps ++ qs) (number-below n i (marked t)) (number-from n (suc i) ts)
 
 -- the marks of the element itself
 abbrev pub own_number : ℕ → List ℕ → List Path

@@ -9,7 +9,7 @@ use Rattle.green_tree.specs.GreenElement.{element_tree, element_trees}
 use Rattle.green_tree.specs.declared.green.GreenElement.{GreenElement}
 use Rattle.rewriting.specs.Rewriting.{NumberedAim, slot, is_replaced, replacements_at}
 use Rattle.rewriting.specs.inner.Given.{given_trees}
-use Rattle.rewriting.specs.inner.Marked.{MarkTree, Marking, marked, below}
+use Rattle.rewriting.specs.inner.Marked.{MarkTree, Marking, marked, mark_below}
 use Rattle.rewriting.specs.inner.Pass.{kind_only, IsMarkedIn, AreMarkedIn, given_in, topped}
 use Rattle.rewriting.specs.declared.marked_given.MarkedGiven.{MarkedGiven}
 use Rattle.rewriting.specs.declared.marked_given.GivenTable.{GivenTable}
@@ -48,16 +48,16 @@ module _ (table : GivenTable) (trees : ℕ → List MarkTree) (are : AreMarkedIn
 -- ---- marks
 module _ (path : Path) where
   -- those of a top, and then the others
-  pub both : (before middle after own others : List Marking) → middle ≡ before ++ map (below path) own → after ≡ middle ++ map (below path) others → after ≡ before ++ map (below path) (own ++ others)
+  pub both : (before middle after own others : List Marking) → middle ≡ before ++ map (mark_below path) own → after ≡ middle ++ map (mark_below path) others → after ≡ before ++ map (mark_below path) (own ++ others)
   both before middle after own others m a =
-      a ∙ ap (λ xs. xs ++ map (below path) others) m ∙ append_assoc before (map (below path) own) (map (below path) others) ∙ ap (λ xs. before ++ xs) (sym (map-append (below path) own others))
+      a ∙ ap (λ xs. xs ++ map (mark_below path) others) m ∙ append_assoc before (map (mark_below path) own) (map (mark_below path) others) ∙ ap (λ xs. before ++ xs) (sym (map-append (mark_below path) own others))
 
   -- one tree of several
-  pub element_more : (before after all : List Marking) (n next i : ℕ) (ts : List MarkTree) (d : MarkTree) (ms : List Marking) → i < length ts → marked (get_or ts i d) ≡ ms → after ≡ before ++ map (below (path ++ n ∷ [])) ms → next ≡ n + 1 → before ++ shown path n (drop i ts) ≡ all → after ++ shown path next (drop (i + 1) ts) ≡ all
+  pub element_more : (before after all : List Marking) (n next i : ℕ) (ts : List MarkTree) (d : MarkTree) (ms : List Marking) → i < length ts → marked (get_or ts i d) ≡ ms → after ≡ before ++ map (mark_below (path ++ n ∷ [])) ms → next ≡ n + 1 → before ++ shown path n (drop i ts) ≡ all → after ++ shown path next (drop (i + 1) ts) ≡ all
   element_more before after all n next i ts d ms l m a x h =
       let t = get_or ts i d in
       let rest = drop (i + 1) ts in
-      let own : map (below (path ++ n ∷ [])) ms ≡ shown path n (t ∷ []) = ap (map (below (path ++ n ∷ []))) (sym m) ∙ sym (shown-one path n t) in
+      let own : map (mark_below (path ++ n ∷ [])) ms ≡ shown path n (t ∷ []) = ap (map (mark_below (path ++ n ∷ []))) (sym m) ∙ sym (shown-one path n t) in
       ap₂ (λ xs k. xs ++ shown path k rest) (a ∙ ap (λ xs. before ++ xs) own) x ∙ append_assoc before (shown path n (t ∷ [])) (shown path (n + 1) rest) ∙ ap (λ xs. before ++ xs) (sym (shown-append path n (t ∷ []) rest)) ∙ sym (at_drop_more (λ us. before ++ shown path n us) ts i d l) ∙ h
 
   -- what one change of several gives

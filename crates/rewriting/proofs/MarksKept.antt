@@ -9,7 +9,7 @@ use Rattle.green_tree.specs.Path.{Path, same_path}
 use Rattle.green_tree.specs.Tree.{SyntaxTree, Token, forest, node}
 use Rattle.rewriting.specs.Rewriting.{NumberedAim, rewritten, rewritten_from}
 use Rattle.rewriting.specs.declared.mark.Sought.{Sought}
-use Rattle.rewriting.specs.inner.Marked.{MarkTree, Marking, marked, below, sought_in, marks_at, wanted, seen_below, sought_below, AreDealt}
+use Rattle.rewriting.specs.inner.Marked.{MarkTree, Marking, marked, mark_below, sought_in, marks_at, wanted, seen_below, sought_below, AreDealt}
 use Rattle.rewriting.proofs.Marks.{shown, marks-parent, marks-token}
 
 -- ---- as they are seen from a child
@@ -30,19 +30,19 @@ marks-below [] i p = refl
 marks-below (m ∷ ms) i p = one_below i p m.0 m.1 ms (sought_below i ms) (marks-below ms i p)
 
 -- ---- at the element itself
-below_here : (path : Path) (ns : List ℕ) → map (λ n. (n, path)) ns ≡ map (below path) (map (λ m. (m, [])) ns)
+below_here : (path : Path) (ns : List ℕ) → map (λ n. (n, path)) ns ≡ map (mark_below path) (map (λ m. (m, [])) ns)
 below_here path [] = refl
 below_here path (n ∷ ns) = ap₂ (λ p ms. (n, p) ∷ ms) (sym (append-nil path)) (below_here path ns)
 
 module _ (path : Path) (sought : List Marking) (trees : ℕ → List MarkTree) (cs : List NumberedAim) where
   -- the marks of the tree, as they stand below the path
   abbrev pub all_marks : SyntaxTree → List Marking
-  all_marks e = map (below path) (marked (rewritten (wanted sought) trees cs [] e))
+  all_marks e = map (mark_below path) (marked (rewritten (wanted sought) trees cs [] e))
 
   pub token_marks : (before found : List Marking) (e : SyntaxTree) (k : ℕ) (s : List ℕ) → e ≡ Token k s → found ≡ before ++ map (λ n. (n, path)) (marks_at sought []) → found ≡ before ++ all_marks e
   token_marks before found e k s is h =
       let ns = marks_at sought [] in
-      h ∙ ap (λ ms. before ++ ms) (below_here path ns ∙ ap (map (below path)) (sym (marks-token ns s))) ∙ ap (λ u. before ++ all_marks u) (sym is)
+      h ∙ ap (λ ms. before ++ ms) (below_here path ns ∙ ap (map (mark_below path)) (sym (marks-token ns s))) ∙ ap (λ u. before ++ all_marks u) (sym is)
 
   pub node_marks : (before found : List Marking) (e : SyntaxTree) (k : ℕ) (ts : List SyntaxTree) → e ≡ node k ts → found ≡ before ++ map (λ n. (n, path)) (marks_at sought []) ++ shown path 0 (rewritten_from (wanted sought) trees cs [] 0 (forest ts)) → found ≡ before ++ all_marks e
   node_marks before found e k ts is h =
@@ -50,7 +50,7 @@ module _ (path : Path) (sought : List Marking) (trees : ℕ → List MarkTree) (
       let us = rewritten_from (wanted sought) trees cs [] 0 (forest ts) in
       let here = map (λ n. (n, path)) ns in
       let grouped : before ++ here ++ shown path 0 us ≡ before ++ (here ++ shown path 0 us) = append_assoc before here (shown path 0 us) in
-      let whole : here ++ shown path 0 us ≡ all_marks (node k ts) = ap (λ ms. ms ++ shown path 0 us) (below_here path ns) ∙ sym (map-append (below path) (map (λ m. (m, [])) ns) _) ∙ ap (map (below path)) (sym (marks-parent ns us)) in
+      let whole : here ++ shown path 0 us ≡ all_marks (node k ts) = ap (λ ms. ms ++ shown path 0 us) (below_here path ns) ∙ sym (map-append (mark_below path) (map (λ m. (m, [])) ns) _) ∙ ap (map (mark_below path)) (sym (marks-parent ns us)) in
       h ∙ grouped ∙ ap (λ ms. before ++ ms) whole ∙ ap (λ u. before ++ all_marks u) (sym is)
 
 -- ---- what was dealt out to a child

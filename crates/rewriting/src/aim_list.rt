@@ -43,7 +43,7 @@ pub fn top_is_replaced(aims: &[Aimed]) -> bool
 }
 
 // The aims at a child of the top or below it, as they are seen from the child.
-pub fn below<'a>(
+pub fn aims_below<'a>(
     alloc: Global,
     aims: &[Aimed<'a>],
     slot: usize,
@@ -80,7 +80,7 @@ fn push_into<'a>(
 }
 
 // For each child of the top, so many of them, the aims that matter for it and for the gap behind it, in their order.
-pub fn grouped<'a>(
+pub fn aims_by_child<'a>(
     alloc: Global,
     aims: &[Aimed<'a>],
     count: usize,

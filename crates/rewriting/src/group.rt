@@ -2,7 +2,7 @@ ghost use Rattle.std.specs.Prelude.{◌≡◌, ◌++◌, [], ◌∷◌, IfOk, On
 
 use crate::aimed::Aimed;
 use crate::few::Few;
-use crate::lone::single;
+use crate::lone::lone_aim;
 use std::alloc::{AllocError, Global};
 use std::marker::Model;
 
@@ -49,7 +49,7 @@ impl<'a> Group<'a> {
         ensures { OnOk result (self.new ≡ self.old ++ aim.entry ∷ []) }
     {
         match &mut self.few {
-            Few::Empty => self.few = Few::One(single(aim)),
+            Few::Empty => self.few = Few::One(lone_aim(aim)),
             Few::One(one) => {
                 let first = one.only();
                 self.few = Few::Many(both(alloc, first, aim)?);

@@ -6,6 +6,7 @@ mod aimed;
 mod few;
 mod given;
 mod group;
+mod lists;
 mod lone;
 mod mark;
 mod marked_given;
@@ -13,6 +14,7 @@ mod pass;
 
 pub use aimed::{AimForm, Aimed};
 pub use given::Given;
+pub use lists::empty_lists;
 pub use mark::{Mark, Sought};
 pub use marked_given::{GivenTable, MarkedGiven};
 pub use pass::{Rebuilt, rebuild, rebuild_whole};

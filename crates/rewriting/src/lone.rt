@@ -18,7 +18,7 @@ impl<'a> Model for Lone<'a> {
     ghost invariant = { λ s. length s.aims ≡ 1 };
 }
 
-pub(crate) fn single<'a>(aim: Aimed<'a>) -> Lone<'a>
+pub(crate) fn lone_aim<'a>(aim: Aimed<'a>) -> Lone<'a>
     ensures { result ≡ aim.entry ∷ [] }
 {
     Lone { aims: [aim] }

@@ -1,7 +1,8 @@
 ghost use Rattle.std.specs.Prelude.{◌<◌, ◌≡◌, length, IfOk, OnOk};
-ghost use Rattle.rewriting.specs.inner.Marked.{sought_in, Finds, found_at, HasOneMore, StaysElsewhere, IsDealt, NoneSought};
+ghost use Rattle.rewriting.specs.inner.Marked.{sought_in, Finds, found_at, HasOneMore, StaysElsewhere, IsDealt};
 ghost use Rattle.rewriting.specs.inner.Marked.{AreDealt, sought_for};
 
+use crate::lists::empty_lists;
 use std::alloc::{AllocError, Global};
 
 /// A mark by its number, and the path of an element that has it.
@@ -37,18 +38,6 @@ pub fn push_here(
         }
     }
     Ok(())
-}
-
-// So many empty lists.
-fn empty_lists<'a>(alloc: Global, count: usize) -> Result<Vec<Vec<Sought<'a>>>, AllocError>
-    ensures size { IfOk result (λ v. length v.items ≡ count) }
-    ensures empty { IfOk result (λ v. NoneSought count v.items) }
-{
-    let mut lists = Vec::with_capacity(alloc, count)?;
-    for _ in 0..count {
-        lists.push(Vec::new(alloc))?;
-    }
-    Ok(lists)
 }
 
 // One more at the end of a list.
@@ -87,7 +76,7 @@ fn deal<'a>(lists: &mut Vec<Vec<Sought<'a>>>, mark: Sought<'a>) -> Result<(), Al
 
 // For each child of the top, so many of them, what is sought at the child or below it, as it is seen from the child. Where
 // nothing is sought there are no lists.
-pub fn dealt<'a>(
+pub fn marks_by_child<'a>(
     alloc: Global,
     sought: &[Sought<'a>],
     count: usize,

@@ -1,5 +1,5 @@
 ghost use Rattle.std.specs.Prelude.{map, OnOk};
-ghost use Rattle.rewriting.specs.inner.Marked.{below, marks_of, Finds};
+ghost use Rattle.rewriting.specs.inner.Marked.{mark_below, marks_of, Finds};
 ghost use Rattle.rewriting.specs.inner.Pass.{own_marks, marks_at_path};
 
 use crate::given::Given;
@@ -32,7 +32,7 @@ fn push_top(
     path: &[usize],
     top: Option<usize>,
 ) -> Result<(), AllocError>
-    ensures { OnOk result (Finds found.old found.new (map (below path.now) (own_marks top))) }
+    ensures { OnOk result (Finds found.old found.new (map (mark_below path.now) (own_marks top))) }
 {
     let Some(number) = top else {
         return Ok(());
@@ -49,7 +49,7 @@ fn push_below(
     path: &[usize],
     marks: &[Mark],
 ) -> Result<(), AllocError>
-    ensures { OnOk result (Finds found.old found.new (map (below path.now) (marks_of marks.now))) }
+    ensures { OnOk result (Finds found.old found.new (map (mark_below path.now) (marks_of marks.now))) }
 {
     for mark in marks {
         let mut longer = Vec::from_slice(alloc, path)?;

@@ -8,9 +8,9 @@ ghost use Rattle.rewriting.specs.inner.Pass.{gap_changes, slot_changes, top_chan
 ghost use Rattle.rewriting.specs.inner.Pass.{TouchesAtMost, CountsBuilt, CountsBuiltWhole, remade, remade_whole};
 ghost use Rattle.rewriting.specs.inner.Pass.{FindsRebuilt, FindsWhole};
 
-use crate::aim_list::{alter_some, below, grouped, is_replaced, top_is_replaced};
+use crate::aim_list::{alter_some, aims_below, aims_by_child, is_replaced, top_is_replaced};
 use crate::aimed::Aimed;
-use crate::mark::{Mark, Sought, dealt, push_here, sought_for};
+use crate::mark::{Mark, Sought, marks_by_child, push_here, sought_for};
 use crate::marked_given::{GivenTable, MarkedGiven};
 use green_tree::{GreenElement, GreenNode, SyntaxKind};
 use std::alloc::{AllocError, Global};
@@ -142,7 +142,7 @@ fn push_kept(
         return Ok(());
     };
     let children = node.children();
-    let lists = dealt(alloc, sought, children.len())?;
+    let lists = marks_by_child(alloc, sought, children.len())?;
     for slot in 0..children.len() {
         path.push(slot)?;
         push_kept(
@@ -204,8 +204,8 @@ pub fn rebuild(
         return element.share(alloc);
     };
     let children = node.children();
-    let groups = grouped(alloc, aims, children.len())?;
-    let lists = dealt(alloc, sought, children.len())?;
+    let groups = aims_by_child(alloc, aims, children.len())?;
+    let lists = marks_by_child(alloc, sought, children.len())?;
     let mut out = Vec::with_capacity(alloc, children.len())?;
     push_gap(alloc, &mut out, found, path, given, aims, 0)?;
     for slot in 0..children.len() {
@@ -213,7 +213,7 @@ pub fn rebuild(
         if is_replaced(group, slot) {
             push_slot(alloc, &mut out, found, path, given, group, slot)?;
         } else {
-            let inner = below(alloc, group, slot)?;
+            let inner = aims_below(alloc, group, slot)?;
             let inner_sought = sought_for(&lists, slot);
             path.push(out.len())?;
             let child = &children[slot];

@@ -8,5 +8,5 @@ mod space_rule;
 mod whitespace_token;
 
 pub use space_error::SpaceError;
-pub use space_round::spaced;
+pub use space_round::elements_with_spaces;
 pub use whitespace_token::whitespace;

@@ -28,18 +28,18 @@ pub(crate) enum Space {
 fn level_of(alloc: Global, element: &SyntaxElement) -> Result<IndentLevel, SpaceError>
     ensures { FindsLevel (level (element_of element.now)) result }
 {
-    as_found(IndentLevel::from_element(alloc, element))
+    as_space_error(IndentLevel::from_element(alloc, element))
 }
 
 // The level of a node.
 fn node_level(alloc: Global, node: &SyntaxNode) -> Result<IndentLevel, SpaceError>
     ensures { FindsLevel (level node.now) result }
 {
-    as_found(IndentLevel::from_node(alloc, node))
+    as_space_error(IndentLevel::from_node(alloc, node))
 }
 
 // A refusal to read a level as one to find whitespace.
-fn as_found(read: Result<IndentLevel, IndentError>) -> Result<IndentLevel, SpaceError>
+fn as_space_error(read: Result<IndentLevel, IndentError>) -> Result<IndentLevel, SpaceError>
     requires { IfErr read (λ e. IsSome (of_level e)) }
     ensures ok { IfOk read (λ level. result ≡ Ok level) }
     ensures err { IfErr read (λ e. IfErr result (λ f. of_level e ≡ Some f)) }
@@ -72,7 +72,7 @@ fn line_of_deeper(
 }
 
 // The whitespace between two elements, by the table.
-fn between(alloc: Global, left: &SyntaxElement, right: &SyntaxElement) -> Result<Space, SpaceError>
+fn space_between(alloc: Global, left: &SyntaxElement, right: &SyntaxElement) -> Result<Space, SpaceError>
     ensures { FindsSpace (between (neighbor (element_of left.now)) (neighbor (element_of right.now))) result }
 {
     match space_rule(left.kind(), right.kind()) {
@@ -104,12 +104,12 @@ fn space_behind(
     ensures { FindsSpace (space_following (element_of anchor.now) (element_of first.now)) result }
 {
     let Some(parent) = anchor.parent(alloc)? else {
-        return between(alloc, anchor, first);
+        return space_between(alloc, anchor, first);
     };
     if opens_list(parent.kind(), anchor.kind(), first.kind()) {
         return line_below(alloc, &parent);
     }
-    between(alloc, anchor, first)
+    space_between(alloc, anchor, first)
 }
 
 // The whitespace at a position before the first new element.
@@ -140,7 +140,7 @@ fn space_after(alloc: Global, at: &Position, last: &SyntaxElement) -> Result<Spa
     ensures { FindsSpace (space_after at.now (element_of last.now)) result }
 {
     match next_of(alloc, at)? {
-        Some(next) => between(alloc, last, &next),
+        Some(next) => space_between(alloc, last, &next),
         None => Ok(Space::Nothing),
     }
 }

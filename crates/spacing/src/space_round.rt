@@ -95,7 +95,7 @@ fn spaces_round(
 ///
 /// `LevelTooLarge` comes first, where a new line would have a level past 255, then `NoTreeNumber`; `Memory` may come at any time. None
 /// of them draws a number.
-pub fn spaced(
+pub fn elements_with_spaces(
     alloc: Global,
     ids: &mut TreeIds,
     at: &Position,

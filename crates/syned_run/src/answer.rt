@@ -56,7 +56,7 @@ pub(crate) fn answer_to(alloc: Global, script: &[u8]) -> Result<Answer, AllocErr
         }),
         Err(Stopped { line, stop }) => match stop {
             Stop::Bad => bad_script(alloc, line),
-            Stop::Refused(refusal) => refused(alloc, refusal),
+            Stop::Refused(refusal) => refusal_answer(alloc, refusal),
             Stop::Memory => Err(AllocError),
         },
     }
@@ -77,7 +77,7 @@ fn bad_script(alloc: Global, line: usize) -> Result<Answer, AllocError> {
     })
 }
 
-fn refused(alloc: Global, refusal: Refusal) -> Result<Answer, AllocError> {
+fn refusal_answer(alloc: Global, refusal: Refusal) -> Result<Answer, AllocError> {
     let text = format!(in alloc; "refused {refusal}\n")?;
     Ok(Answer {
         status: Status::Refused,

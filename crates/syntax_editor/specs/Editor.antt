@@ -7,7 +7,7 @@
 --     LacksRootNumber               such a tree is to be made, and its source of numbers is spent
 --     after_call, Records           what a call that records leaves behind; it was carried out
 --     Takes, RecordRefuses          nothing speaks against a call; why it is refused
---     registered, annotated         an editor with more registrations, behind those before; each of so many elements with an annotation
+--     with_registrations, registrations_of         an editor with more registrations, behind those before; each of so many elements with an annotation
 --     registered_with, Registers    an editor in which these elements are registered with an annotation, too; a call makes one of it
 --     plan_of, FinishRefuses        the plan of an editor; why its changes are not carried out
 use Rattle.std.specs.Prelude.{◌≡◌, ℕ, Bool, true, false, cond, List, [], ◌++◌, map, Option, None, Some, unwrap_or, All, IsTrue, refl}
@@ -84,14 +84,14 @@ RecordRefuses call e record_error.NoTreeNumber = ⊥
 RecordRefuses call e record_error.Memory = Unit {0}
 
 -- ---- registering
-abbrev pub registered : List (SyntaxElement × ℕ) → Editor → Editor
-registered more e = record e { registrations = e.registrations ++ more }
+abbrev pub with_registrations : List (SyntaxElement × ℕ) → Editor → Editor
+with_registrations more e = record e { registrations = e.registrations ++ more }
 
-abbrev pub annotated : ℕ → List SyntaxElement → List (SyntaxElement × ℕ)
-annotated annotation es = map (λ e. (e, annotation)) es
+abbrev pub registrations_of : ℕ → List SyntaxElement → List (SyntaxElement × ℕ)
+registrations_of annotation es = map (λ e. (e, annotation)) es
 
 abbrev pub registered_with : ℕ → List SyntaxElement → Editor → Editor
-registered_with annotation es e = registered (annotated annotation es) e
+registered_with annotation es e = with_registrations (registrations_of annotation es) e
 
 abbrev pub Registers : ℕ → List SyntaxElement → Editor → Editor → Type 0
 Registers annotation es before after = after ≡ registered_with annotation es before

@@ -61,7 +61,7 @@ impl SyntaxFactory {
     }
 
     /// A factory with these mappings.
-    pub(crate) fn keeping(mapping: SyntaxMapping) -> SyntaxFactory
+    pub(crate) fn of_mapping(mapping: SyntaxMapping) -> SyntaxFactory
         ensures { result ≡ Some mapping }
     {
         SyntaxFactory {

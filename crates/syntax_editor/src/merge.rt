@@ -38,7 +38,7 @@ impl SyntaxEditor {
         if self.take_over(alloc, &mut other).is_err() {
             return Err((MergeError::Memory, other));
         }
-        self.factory = SyntaxFactory::keeping(mapping);
+        self.factory = SyntaxFactory::of_mapping(mapping);
         Ok(())
     }
 

@@ -8,7 +8,7 @@ use crate::editor::SyntaxEditor;
 use crate::error::RecordError;
 use cst_core::{SyntaxElement, TreeIds};
 use edit_plan::{Element, Position};
-use spacing::spaced;
+use spacing::elements_with_spaces;
 use std::alloc::Global;
 
 impl SyntaxEditor {
@@ -38,7 +38,7 @@ impl SyntaxEditor {
         }
         // The numbers are drawn last, when nothing can fail any more.
         let mut drawn = TreeIds::new(ids.peek().unwrap_or(u64::MAX));
-        let all = match spaced(alloc, &mut drawn, &at, elements) {
+        let all = match elements_with_spaces(alloc, &mut drawn, &at, elements) {
             Ok(all) => all,
             Err(error) => return Err(RecordError::of_space(error)),
         };

@@ -2,7 +2,7 @@
 -- of one tree, so paths tell its elements apart.
 --     replaced_at                          where the first Replace of a list stands, and whether one of them is a deletion
 --     as_deleted                           the same of an element that is deleted now
---     found                                what an index says of a path
+--     entry_at                                what an index says of a path
 --     SaysAt, SaysDeleted                  an index says this of a path now, and what it said of any other; that it is deleted, if it said something of it
 --     room                                 how many more elements it takes without growing
 --     Agrees                               the index says that of each path
@@ -26,20 +26,20 @@ as_deleted None = None
 as_deleted (Some r) = Some (record { first = r.first; is_deleted = true })
 
 -- ---- the index
-abbrev pub found : ReplaceIndex → Path → Option Replaced
-found x p = get_by (λ k. same_path p k.items) x.places
+abbrev pub entry_at : ReplaceIndex → Path → Option Replaced
+entry_at x p = get_by (λ k. same_path p k.items) x.places
 
 abbrev pub SaysAt : Path → Option Replaced → ReplaceIndex → ReplaceIndex → Type 0
-SaysAt path replaced before after = (p : Path) → found after p ≡ cond (same_path path p) replaced (found before p)
+SaysAt path replaced before after = (p : Path) → entry_at after p ≡ cond (same_path path p) replaced (entry_at before p)
 
 abbrev pub SaysDeleted : Path → ReplaceIndex → ReplaceIndex → Type 0
-SaysDeleted path before after = (p : Path) → found after p ≡ cond (same_path path p) (as_deleted (found before p)) (found before p)
+SaysDeleted path before after = (p : Path) → entry_at after p ≡ cond (same_path path p) (as_deleted (entry_at before p)) (entry_at before p)
 
 abbrev pub room : ReplaceIndex → ℕ
 room x = spare x.places
 
 abbrev pub Agrees : ReplaceIndex → List Change → Type 0
-Agrees x cs = (p : Path) → found x p ≡ replaced_at p cs
+Agrees x cs = (p : Path) → entry_at x p ≡ replaced_at p cs
 
 -- ---- more changes at the end, which an index is told of where the call is not refused
 abbrev pub Notes : {A E : Type 0} → Result A E → ℕ → List Change → ReplaceIndex → ReplaceIndex → Type 0

@@ -24,8 +24,8 @@ use Rattle.rewriting.specs.declared.marked_given.GivenTable.{GivenTable}
 use Rattle.rewriting.specs.declared.marked_given.MarkedGiven.{MarkedGiven}
 use Rattle.edit_change.specs.declared.change.Change.{Change}
 use Rattle.edit_plan.specs.NewTree.{payload_of}
-use Rattle.edit_plan.specs.inner.Marks.{IsTableOf, element_sought, payload_sought, exchanged, marks_given, AreMarksFrom}
-use Rattle.edit_plan.specs.inner.OwnerTables.{moved, owns_at, AreDependents, AreGiven, AreGivenFrom}
+use Rattle.edit_plan.specs.inner.Marks.{IsTableOf, element_sought, payload_sought, with_answer, marks_given, AreMarksFrom}
+use Rattle.edit_plan.specs.inner.OwnerTables.{moved_dependent, owns_at, AreDependents, AreGiven, AreGivenFrom}
 use Rattle.edit_plan.specs.declared.dependent.Dependent.{Dependent}
 use Rattle.edit_plan.specs.declared.sought.SoughtIndex.{SoughtIndex}
 
@@ -55,7 +55,7 @@ module _ (index : SoughtIndex) (changes : List Change) (before after : GivenTabl
   abbrev pub FillsMarks : ℕ → List Dependent → Type 0
   FillsMarks owner owned =
       (trees : ℕ → List MarkTree) → AreMarkedIn before trees →
-      AreMarkedIn after (exchanged trees owner (payload_sought index trees (map moved owned) (payload_of changes owner)))
+      AreMarkedIn after (with_answer trees owner (payload_sought index trees (map moved_dependent owned) (payload_of changes owner)))
 
 abbrev pub AreOwnersAt : List Change → List (Vec Dependent Global) → ℕ → List ℕ → Type 0
 AreOwnersAt changes owned level owners = owners ≡ filter (owns_at changes owned level) (counted_from 0 (length changes))

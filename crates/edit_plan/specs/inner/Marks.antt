@@ -3,12 +3,12 @@
 --     marks_given                   what a change gives, so labelled
 --     IsTableOf                     a table of registered elements has at each address what it should
 --     element_sought, payload_sought      an element, rewritten, with what a table has there as marks; several
---     exchanged                     another answer for one change
+--     with_answer                     another answer for one change
 --     paths_of_mark                 of marks in the trees that stand in a place, the paths of one mark in its tree
 --     path_lists                    lists of paths in code
 --     annotated_path, numbered_paths      an annotation's number with a path, in code; each number with each path of its list
 --     AreMarksFrom                  a table has the marks of what changes of this depth or more give, and of those that own nothing
---     NoPaths, ArePathsOf           so many lists of paths are empty; they have the paths of these marks, each those of its number
+--     ArePathsOf                    so many lists have the paths of these marks, each those of its number
 --     HasPathMore, PathsStay        a list has one path more at its end; the others are as they were
 --     IsDealtOut                    the path of one mark went to the list of its number, if there is one
 --     HasPathsMore                  a list has one path more if the mark is of this number
@@ -56,8 +56,8 @@ element_sought index trees cs e = rewritten (wanted (sought_at index (address e)
 abbrev pub payload_sought : SoughtIndex → (ℕ → List MarkTree) → List NumberedAim → List Element → List MarkTree
 payload_sought index trees cs es = map (element_sought index trees cs) es
 
-abbrev pub exchanged : (ℕ → List MarkTree) → ℕ → List MarkTree → ℕ → List MarkTree
-exchanged trees c ts n = cond (nat_eq n c) ts (trees n)
+abbrev pub with_answer : (ℕ → List MarkTree) → ℕ → List MarkTree → ℕ → List MarkTree
+with_answer trees c ts n = cond (nat_eq n c) ts (trees n)
 
 pub record AreMarksFrom (rs : List Address) (changes : List Change) (places : ℕ → Path) (level : ℕ) (table : GivenTable) : Type 0 where
   pub trees : ℕ → List MarkTree
@@ -82,9 +82,6 @@ numbered_paths (n ∷ ns) [] = []
 numbered_paths (n ∷ ns) (ps ∷ ls) = map (λ p. (n, p)) ps ++ numbered_paths ns ls
 
 -- ---- lists of paths, for one number after another
-abbrev pub NoPaths : ℕ → List (Vec (Vec ℕ Global) Global) → Type 0
-NoPaths count lists = (k : ℕ) (d : Vec (Vec ℕ Global) Global) → k < count → (get_or lists k d).items ≡ []
-
 abbrev pub ArePathsOf : List Marking → ℕ → List (Vec (Vec ℕ Global) Global) → Type 0
 ArePathsOf ms count lists =
     (k : ℕ) (d : Vec (Vec ℕ Global) Global) → k < count → paths_of (get_or lists k d).items ≡ paths_of_mark k ms

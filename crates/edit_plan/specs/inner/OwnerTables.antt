@@ -1,10 +1,10 @@
 -- What code keeps of owners, and of the changes that they own.
 --     depth_of                      the depth of the change at a number
 --     IsPlaceOf                     the only place of an owner's target in its payload, or that there is none
---     path_in, path_at, places_in   a place, if there is one; that of an owner, from a table by its number; the empty path where there is none
+--     path_at, places_in            the place of an owner, from a table by its number; the empty path where there is none
 --     IsPlaced                      a table has no other places than those of owners
 --     FoundSoFar                    the changes before this one find places in a table
---     moved                         a change that is owned, and where it aims in its owner's payload
+--     moved_dependent                         a change that is owned, and where it aims in its owner's payload
 --     dependents_in                 those of an owner, from a table by its number
 --     AreDependents                 a table has for each change those that it owns
 --     owns_at, owners_at            a change of this depth owns something; the changes that a table has for a depth
@@ -27,7 +27,7 @@ use Rattle.edit_change.specs.declared.change.Change.TheVariants.{Replace}
 use Rattle.rewriting.specs.declared.marked_given.GivenTable.{GivenTable}
 use Rattle.rewriting.specs.inner.Pass.{kind_only, given_in}
 use Rattle.rewriting.specs.Rewriting.{NumberedAim, rewritten}
-use Rattle.edit_map.specs.Mapping.{Mapping}
+use Rattle.edit_map.specs.Mapping.{Mapping, path_in}
 use Rattle.edit_change.specs.inner.AimFrom.{aim_from, depth}
 use Rattle.edit_plan.specs.Places.{IsPlaceIn, HasPlace}
 use Rattle.edit_change.specs.Nesting.{owner}
@@ -44,20 +44,17 @@ abbrev pub IsPlaceOf : Mapping → Change → Option Path → Type 0
 IsPlaceOf m o place = (p : Path) → IsPlaceIn m o p ↔ (place ≡ Some p)
 
 -- ---- tables
-abbrev pub path_in : Option (Vec ℕ Global) → Option Path
-path_in place = option_map (λ v. v.items) place
-
 abbrev pub path_at : List (Option (Vec ℕ Global)) → ℕ → Option Path
 path_at table c = option_and_then path_in (slice_get table c)
 
 abbrev pub places_in : List (Option (Vec ℕ Global)) → ℕ → Path
 places_in table c = unwrap_or (path_at table c) []
 
-abbrev pub moved : Dependent → NumberedAim
-moved d = (d.number, aim_from d.path.items d.change.now)
+abbrev pub moved_dependent : Dependent → NumberedAim
+moved_dependent d = (d.number, aim_from d.path.items d.change.now)
 
 abbrev pub dependents_in : List (Vec Dependent Global) → ℕ → List NumberedAim
-dependents_in table c = option_map_or (λ v. map moved v.items) (slice_get table c) []
+dependents_in table c = option_map_or (λ v. map moved_dependent v.items) (slice_get table c) []
 
 module _ (m : Mapping) (changes : List Change) (table : List (Option (Vec ℕ Global))) where
   abbrev pub IsPlaced : Type 0
@@ -101,7 +98,7 @@ OwnersStay before after level = (l : ℕ) → l ≢ level → owners_at after l 
 
 module _ (before after : List (Vec Dependent Global)) where
   abbrev pub OwnsOneMore : ℕ → Dependent → Type 0
-  OwnsOneMore c d = dependents_in after c ≡ dependents_in before c ++ moved d ∷ []
+  OwnsOneMore c d = dependents_in after c ≡ dependents_in before c ++ moved_dependent d ∷ []
 
   abbrev pub OthersOwnAsBefore : ℕ → Type 0
   OthersOwnAsBefore owner = (c : ℕ) → c ≢ owner → dependents_in after c ≡ dependents_in before c

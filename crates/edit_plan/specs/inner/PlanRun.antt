@@ -18,7 +18,7 @@ use Rattle.cst_core.specs.Element.{Address, Element, IsNode, NumbersTell, addres
 use Rattle.cst_core.specs.SyntaxElement.{element_of}
 use Rattle.cst_core.specs.declared.element.SyntaxElement.{SyntaxElement}
 use Rattle.edit_map.specs.Mapping.{followed, mapped_elements}
-use Rattle.edit_plan.specs.Plan.{Plan, IsPlan, WouldMake, registered}
+use Rattle.edit_plan.specs.Plan.{Plan, IsPlan, WouldMake, registered_elements}
 use Rattle.edit_change.specs.inner.Fate.{fate}
 use Rattle.edit_plan.specs.inner.Marks.{annotated_path, numbered_paths, path_lists}
 use Rattle.edit_plan.specs.inner.Sought.{sought_at}
@@ -63,7 +63,7 @@ pub record IsRewritten (p : Plan) (tree : SyntaxTree) (changed_paths : List Path
   pub changed_is : changed_paths ≡ changed (is_free p.changes) made
   pub reached : List Address
   pub annotated_is : annotated_paths ≡ numbered_paths (map (λ r. r.1) p.registrations) (map (copies_of made) reached)
-  pub reached_are : All (TellsOf p) p.registrations → reached ≡ map (λ r. address (followed p.mapping r.0)) (registered p.registrations)
+  pub reached_are : All (TellsOf p) p.registrations → reached ≡ map (λ r. address (followed p.mapping r.0)) (registered_elements p.registrations)
 
 pub record IsMade (p : Plan) (es : List SyntaxElement) (tree : SyntaxTree) (copies : List (List Path)) (changed_paths : List Path) : Type 0 where
   pub made : OriginTree

@@ -2,7 +2,7 @@
 --     MarkTree, Marking             such a tree; a mark and the path of an element that has it
 --     marks_on                      the marks of the element at a path
 --     marked                        each mark with the path of its element, in document order
---     below                         the same from an element at a path up
+--     mark_below                         the same from an element at a path up
 --     marked_from                   of trees that stand side by side, the first of them in this slot
 --     mark_of, marks_of             a mark in code and where it stands; a list of these
 --     sought_as, sought_in          a sought mark in code and the path where it is sought; a list of these
@@ -11,7 +11,6 @@
 --     seen_below, sought_below      a sought mark in a child slot or below, with that slot dropped; of these marks those that there are
 --     HasOneMore, StaysElsewhere    a list has one sought mark more at its end; the others are as they were
 --     IsDealt                       one mark went to the list of the child that it is in
---     NoneSought                    so many lists are empty
 --     sought_for, AreDealt          what is sought in a child, from its list, if there is one; lists have what is sought in each child, so many of them
 use Rattle.std.specs.Prelude.{◌≡◌, ◌≢◌, ◌<◌, ℕ, suc, cond, nat_eq, List, [], ◌∷◌, ◌++◌, map, filter, flat_map, length, get_or, slice_get, Vec}
 use Rattle.std.specs.Global.{Global}
@@ -33,12 +32,12 @@ marks_on t p = option_map_or label (at t p) []
 abbrev pub marked : MarkTree → List Marking
 marked t = flat_map (λ p. map (λ m. (m, p)) (marks_on t p)) (paths t)
 
-abbrev pub below : Path → Marking → Marking
-below p m = (m.0, p ++ m.1)
+abbrev pub mark_below : Path → Marking → Marking
+mark_below p m = (m.0, p ++ m.1)
 
 abbrev pub marked_from : ℕ → List MarkTree → List Marking
 marked_from i [] = []
-marked_from i (t ∷ ts) = map (below (i ∷ [])) (marked t) ++ marked_from (suc i) ts
+marked_from i (t ∷ ts) = map (mark_below (i ∷ [])) (marked t) ++ marked_from (suc i) ts
 
 -- ---- in code
 abbrev pub mark_of : Mark → Marking
@@ -85,9 +84,6 @@ module _ (before after : List (Vec Sought Global)) where
   abbrev pub IsDealt : ℕ → Path → Type 0
   IsDealt n p =
       (k : ℕ) (d : Vec Sought Global) → k < length before → sought_in (get_or after k d).items ≡ sought_in (get_or before k d).items ++ seen_below k n p
-
-abbrev pub NoneSought : ℕ → List (Vec Sought Global) → Type 0
-NoneSought count lists = (k : ℕ) (d : Vec Sought Global) → k < count → (get_or lists k d).items ≡ []
 
 abbrev pub sought_for : List (Vec Sought Global) → ℕ → List Marking
 sought_for lists k = option_map_or (λ v. sought_in v.items) (slice_get lists k) []

@@ -25,7 +25,7 @@ use Rattle.green_tree.specs.declared.green.GreenElement.{GreenElement}
 use Rattle.rewriting.specs.Effort.{touched, parents_of, nodes_built, nodes_built_whole, counted}
 use Rattle.rewriting.specs.Rewriting.{inserts_at, replacements_at, gap_order, rewritten, rewritten_whole}
 use Rattle.rewriting.specs.inner.Aimed.{aims_of}
-use Rattle.rewriting.specs.inner.Marked.{MarkTree, Marking, marked, marked_from, below, marks_of, sought_in, wanted, Finds}
+use Rattle.rewriting.specs.inner.Marked.{MarkTree, Marking, marked, marked_from, mark_below, marks_of, sought_in, wanted, Finds}
 use Rattle.rewriting.specs.declared.aimed.Aimed.{Aimed}
 use Rattle.rewriting.specs.declared.mark.Mark.{Mark}
 use Rattle.rewriting.specs.declared.mark.Sought.{Sought}
@@ -71,7 +71,7 @@ topped n (Node l f) = Node (n ∷ l) f
 
 -- ---- what is put into the new tree, and found
 abbrev pub marks_at_path : Path → Option ℕ → MarkedGiven → ℕ → List Marking
-marks_at_path path top g i = map (below path) (marks_there top g i)
+marks_at_path path top g i = map (mark_below path) (marks_there top g i)
 
 abbrev pub Puts : Vec GreenElement Global → Vec GreenElement Global → List SyntaxTree → Type 0
 Puts before after ts = element_trees after.items ≡ element_trees before.items ++ ts
@@ -79,7 +79,7 @@ Puts before after ts = element_trees after.items ≡ element_trees before.items 
 -- below the node at a path, which has these children so far
 module _ (path : Vec ℕ Global) (out : Vec GreenElement Global) (before after : Vec Mark Global) where
   abbrev stands_from_here : List MarkTree → List Marking
-  stands_from_here ts = map (below path.items) (marked_from (length out.items) ts)
+  stands_from_here ts = map (mark_below path.items) (marked_from (length out.items) ts)
 
   abbrev pub FindsGiven : Option ℕ → MarkedGiven → Type 0
   FindsGiven top g = (ts : List MarkTree) → IsMarked top g ts → Finds before after (stands_from_here ts)
@@ -112,13 +112,13 @@ remade_whole table aims e = rewritten_whole kind_only (given_in table) (aims_of 
 abbrev pub FindsKept : List Sought → GreenElement → Vec ℕ Global → Vec Mark Global → Vec Mark Global → Type 0
 FindsKept sought e path before after =
     let kept = rewritten (wanted (sought_in sought)) (λ c. []) [] [] (element_tree e) in
-    Finds before after (map (below path.items) (marked kept))
+    Finds before after (map (mark_below path.items) (marked kept))
 
 module _ (table : GivenTable) (aims : List Aimed) (sought : List Sought) (e : GreenElement) where
   abbrev pub FindsRebuilt : Vec ℕ Global → Vec Mark Global → Vec Mark Global → Type 0
   FindsRebuilt path before after =
       (trees : ℕ → List MarkTree) → AreMarkedIn table trees →
-      Finds before after (map (below path.items) (marked (rewritten (wanted (sought_in sought)) trees (aims_of aims) [] (element_tree e))))
+      Finds before after (map (mark_below path.items) (marked (rewritten (wanted (sought_in sought)) trees (aims_of aims) [] (element_tree e))))
 
   abbrev pub FindsWhole : Vec Mark Global → Type 0
   FindsWhole found =

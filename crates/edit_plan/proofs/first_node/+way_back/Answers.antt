@@ -20,8 +20,8 @@ loop-slot-init t c =
       left = sym (first-below c.args.kind.0 c.args.begin c.args.offset c.args.node.now.kind (forest c.args.node.now.children) (sym c.starts_as.ensures ∙ c.if-starts_as.false));
     }
 
-pub reached-requires : goal.reached-requires
-reached-requires t c =
+pub node_at_offset-requires : goal.node_at_offset-requires
+node_at_offset-requires t c =
     record { fits = room c.args.kind.0 c.args.begin c.args.offset c.args.node.now c.children-child-items.result.now c.loop-slot.slot c.child-item.result c.children-child-items.ensures c.loop-slot-test.true c.child-item.is c.loop-slot.next c.loop-slot.invariant.begins c.requires.fits }
 
 pub way_back-requires : goal.way_back-requires
@@ -47,11 +47,11 @@ overflow_add-next t c =
 
 pub loop-slot-preserved : goal.loop-slot-preserved
 loop-slot-preserved t c =
-    let none : first_from c.args.kind.0 c.loop-slot.next c.args.offset (element_tree c.child-item.result) ≡ None = elim c.match-reached.branch [
+    let none : first_from c.args.kind.0 c.loop-slot.next c.args.offset (element_tree c.child-item.result) ≡ None = elim c.match-node_at_offset.branch [
       | in-Some+in_ok-way+in_default-2 w ↦ (
           let found : None ≡ first_from c.args.kind.0 c.loop-slot.next c.args.offset (branch_tree w.in-Some.below.now) = rw w.in_default-2.is at w.in_ok-way.ensures in
           rw w.in-Some.ensures.some (sym found))
-      | in_default w ↦ (rw w.in_default.is at c.reached.ensures.none) c.args.kind.0
+      | in_default w ↦ (rw w.in_default.is at c.node_at_offset.ensures.none) c.args.kind.0
     ] in
     record {
       begins = next-begins c.args.kind.0 c.args.begin c.args.offset c.args.node.now c.children-child-items.result.now c.loop-slot.slot c.child-item.result c.children-child-items.ensures c.loop-slot-test.true c.child-item.is c.loop-slot.next c.length-next.result c.loop-slot.invariant.begins c.requires.fits c.length-next.ensures;

@@ -5,7 +5,7 @@ use Rattle.rewriting.specs.inner.Pass.{kind_only, IsMarked, given_in}
 use Rattle.rewriting.specs.Rewriting.{rewritten}
 use Rattle.std.specs.Prelude.{None}
 use Rattle.edit_change.specs.Change.{payload}
-use Rattle.edit_plan.specs.inner.OwnerTables.{moved}
+use Rattle.edit_plan.specs.inner.OwnerTables.{moved_dependent}
 use Rattle.edit_plan.specs.inner.Marks.{payload_sought}
 use Rattle.edit_plan.proofs.Nested.{filled}
 use Rattle.edit_plan.proofs.MarksFilled.{entry}
@@ -16,14 +16,14 @@ returns-clause-filled c =
     let table = c.args.given.now in
     let change = c.index-changes-owner.result in
     let aims = ap aims_of c.deref.ensures.value ∙ c.in_ok-aims.ensures in
-    filled c.args.changes.now c.args.owner change (map moved c.args.dependents.now) table _ c.in_ok-rewritten.rewritten c.requires.there (subst (λ n. c.args.owner < n) (sym c.requires.long) c.requires.there) c.index-changes-owner.is refl (c.in_ok-rewritten.ensures.trees ∙ ap₂ (λ ds es. map (rewritten kind_only (given_in table) ds []) (map subtree es)) aims c.payload-payload.ensures)
+    filled c.args.changes.now c.args.owner change (map moved_dependent c.args.dependents.now) table _ c.in_ok-rewritten.rewritten c.requires.there (subst (λ n. c.args.owner < n) (sym c.requires.long) c.requires.there) c.index-changes-owner.is refl (c.in_ok-rewritten.ensures.trees ∙ ap₂ (λ ds es. map (rewritten kind_only (given_in table) ds []) (map subtree es)) aims c.payload-payload.ensures)
 
 pub returns-clause-marks : goal.returns-clause-marks
 returns-clause-marks c = λ trees are.
     let table = c.args.given.now in
     let change = c.index-changes-owner.result in
     let index = c.args.index.now in
-    let owned = map moved c.args.dependents.now in
+    let owned = map moved_dependent c.args.dependents.now in
     let aims = ap aims_of c.deref.ensures.value ∙ c.in_ok-aims.ensures in
     let marks : IsMarked None c.in_ok-rewritten.rewritten (payload_sought index trees owned (payload change)) = subst (λ ds. IsMarked None c.in_ok-rewritten.rewritten (payload_sought index trees ds (payload change))) aims (subst (λ es. IsMarked None c.in_ok-rewritten.rewritten (payload_sought index trees (aims_of c.deref.result.now) es)) c.payload-payload.ensures (c.in_ok-rewritten.ensures.marks trees are)) in
     entry c.args.changes.now c.args.owner change index owned table c.in_ok-rewritten.rewritten c.requires.there (subst (λ n. c.args.owner < n) (sym c.requires.long) c.requires.there) c.index-changes-owner.is c.requires.top trees are marks

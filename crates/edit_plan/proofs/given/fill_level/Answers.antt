@@ -1,6 +1,6 @@
 use Rattle.std.proofs.Common.{◌≡◌, ◌<◌, ◌∙◌, map, get_or, slice_get, Some, sym, ap, subst}
 use Rattle.std.proofs.lemmas.Option.{slice_get-get_or}
-use Rattle.edit_plan.specs.inner.OwnerTables.{moved, dependents_in}
+use Rattle.edit_plan.specs.inner.OwnerTables.{moved_dependent, dependents_in}
 use Rattle.edit_plan.proofs.Levels.{owner-at}
 use Rattle.edit_plan.proofs.Nested.{level-begins, level-ends, level-filled, owned-at}
 use Rattle.edit_plan.proofs.MarksFilled as marks
@@ -25,12 +25,12 @@ loop-owner-preserved c =
       top = c.in_ok-fill.ensures.top;
       filled = λ places level are all from.
           let is_owner = owner-at cs c.args.dependents.now level i o (ap (λ xs. slice_get xs i) (sym all) ∙ stands) in
-          let owned : dependents_in c.args.dependents.now o ≡ map moved c.deref.result.now = owned-at c.args.dependents.now o c.index-dependents-owner.result (subst (λ n. o < n) (sym c.requires.owned) is_owner.0) c.index-dependents-owner.is ∙ ap (map moved) (sym c.deref.ensures.value) in
-          level-filled cs places level i o c.args.owners.now c.loop-owner.given c.fill.new.given (map moved c.deref.result.now) (c.loop-owner.invariant.filled places level are all from) stands is_owner.1 (sym owned ∙ are o) c.in_ok-fill.ensures.filled;
+          let owned : dependents_in c.args.dependents.now o ≡ map moved_dependent c.deref.result.now = owned-at c.args.dependents.now o c.index-dependents-owner.result (subst (λ n. o < n) (sym c.requires.owned) is_owner.0) c.index-dependents-owner.is ∙ ap (map moved_dependent) (sym c.deref.ensures.value) in
+          level-filled cs places level i o c.args.owners.now c.loop-owner.given c.fill.new.given (map moved_dependent c.deref.result.now) (c.loop-owner.invariant.filled places level are all from) stands is_owner.1 (sym owned ∙ are o) c.in_ok-fill.ensures.filled;
       marks = λ places rs level are sought all from.
           let is_owner = owner-at cs c.args.dependents.now level i o (ap (λ xs. slice_get xs i) (sym all) ∙ stands) in
-          let owned : dependents_in c.args.dependents.now o ≡ map moved c.deref.result.now = owned-at c.args.dependents.now o c.index-dependents-owner.result (subst (λ n. o < n) (sym c.requires.owned) is_owner.0) c.index-dependents-owner.is ∙ ap (map moved) (sym c.deref.ensures.value) in
-          marks.level-filled rs cs places level i o c.args.owners.now c.args.index.now c.loop-owner.given c.fill.new.given (map moved c.deref.result.now) sought (c.loop-owner.invariant.marks places rs level are sought all from) stands is_owner.1 (sym owned ∙ are o) c.in_ok-fill.ensures.marks;
+          let owned : dependents_in c.args.dependents.now o ≡ map moved_dependent c.deref.result.now = owned-at c.args.dependents.now o c.index-dependents-owner.result (subst (λ n. o < n) (sym c.requires.owned) is_owner.0) c.index-dependents-owner.is ∙ ap (map moved_dependent) (sym c.deref.ensures.value) in
+          marks.level-filled rs cs places level i o c.args.owners.now c.args.index.now c.loop-owner.given c.fill.new.given (map moved_dependent c.deref.result.now) sought (c.loop-owner.invariant.marks places rs level are sought all from) stands is_owner.1 (sym owned ∙ are o) c.in_ok-fill.ensures.marks;
     }
 
 pub returns-clause-filled : goal.returns-clause-filled

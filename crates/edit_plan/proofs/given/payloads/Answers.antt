@@ -6,11 +6,11 @@ use Rattle.edit_plan.proofs.given.payloads.Goals as goal
 pub loop-change-preserved : goal.loop-change-preserved
 loop-change-preserved c =
     let xs = c.loop-change.entries.items in
-    let g = c.in_ok-brought.field-0 in
+    let g = c.in_ok-marked_payload.field-0 in
     let more = c.in_ok-push.ensures.items in
     record {
       long = ap length more ∙ length-append xs (g ∷ []) ∙ ap (λ n. n + 1) c.loop-change.invariant.long;
-      brought = subst (λ ys. AreBrought c.args.index.now ys c.args.changes.now (c.loop-change.change-index + 1)) (sym more) (one-brought c.args.index.now xs g c.args.changes.now c.loop-change.change-index c.change-item.result c.loop-change.invariant.long c.loop-change-test.true c.change-item.is c.in_ok-brought.ensures.trees c.in_ok-brought.ensures.marks c.loop-change.invariant.brought);
+      brought = subst (λ ys. AreBrought c.args.index.now ys c.args.changes.now (c.loop-change.change-index + 1)) (sym more) (one-brought c.args.index.now xs g c.args.changes.now c.loop-change.change-index c.change-item.result c.loop-change.invariant.long c.loop-change-test.true c.change-item.is c.in_ok-marked_payload.ensures.trees c.in_ok-marked_payload.ensures.marks c.loop-change.invariant.brought);
     }
 
 pub returns-clause-payloads : goal.returns-clause-payloads

@@ -3,7 +3,7 @@ use Rattle.std.proofs.lemmas.List.{map-id}
 use Rattle.cst_core.specs.SyntaxElement.{element_of}
 use Rattle.rewriting.specs.Rewriting.{rewritten}
 use Rattle.rewriting.specs.inner.Aimed.{aims_of}
-use Rattle.rewriting.specs.inner.Marked.{Marking, marked, below, marks_of, sought_in, wanted}
+use Rattle.rewriting.specs.inner.Marked.{Marking, marked, mark_below, marks_of, sought_in, wanted}
 use Rattle.rewriting.specs.inner.Pass.{kind_only, given_in}
 use Rattle.edit_plan.specs.inner.Marks.{element_sought}
 use Rattle.edit_plan.proofs.given.rewritten_element.Goals as goal
@@ -18,4 +18,4 @@ returns-clause-marks c = λ trees are.
     let cs = aims_of c.args.aims.now in
     let own : List Marking = marked (element_sought index trees cs e) in
     let same = ap₂ (λ ms t. marked (rewritten (wanted ms) trees cs [] t)) (ap sought_in c.deref.ensures.value ∙ c.in_ok-sought.ensures) c.in_ok-old.ensures in
-    c.in_ok-new.ensures.marks trees are ∙ ap₂ (λ p ms. marks_of c.args.found.now.items ++ map (below p) ms) c.new-path.ensures.items same ∙ ap (λ ms. marks_of c.args.found.now.items ++ ms) (map-id own)
+    c.in_ok-new.ensures.marks trees are ∙ ap₂ (λ p ms. marks_of c.args.found.now.items ++ map (mark_below p) ms) c.new-path.ensures.items same ∙ ap (λ ms. marks_of c.args.found.now.items ++ ms) (map-id own)

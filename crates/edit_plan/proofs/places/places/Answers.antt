@@ -1,6 +1,7 @@
 use Rattle.std.proofs.Common.{◌<◌, ◌+◌, ◌∙◌, length, Some, IsSomeAnd, sym, ap, subst}
 use Rattle.std.proofs.lemmas.Bool.{false≢true}
-use Rattle.edit_plan.specs.inner.OwnerTables.{path_in, IsPlaceOf, IsPlaced, FoundSoFar}
+use Rattle.edit_map.specs.Mapping.{path_in}
+use Rattle.edit_plan.specs.inner.OwnerTables.{IsPlaceOf, IsPlaced, FoundSoFar}
 use Rattle.edit_plan.specs.Places.{HasPlace}
 use Rattle.edit_plan.proofs.Moved.{change-at, owner-is}
 use Rattle.edit_plan.proofs.Placed.{keeps-at, path-at-is, first-unplaced, found-more, none-found, all-found}

@@ -15,7 +15,7 @@ loop-number-preserved c =
           let d = w.index-changes-number.result in
           let at_i = change-at cs i d c.loop-number-test.true w.index-changes-number.is in
           let free = sym (independent-at cs c.args.fates.now i d _ c.requires.fates at_i) ∙ sym c.is_independent.ensures ∙ w.if-is_independent.true in
-          ap (λ v. aims_of v.items) w.aims-is ∙ ap aims_of w.in_ok-push.ensures.items ∙ map-append numbered c.loop-number.aims.items (w.aimed.result ∷ []) ∙ ap₂ (λ ns n. ns ++ n ∷ []) c.loop-number.invariant w.aimed.ensures ∙ sym (one-more cs i d c.loop-number-test.true w.index-changes-number.is free)
+          ap (λ v. aims_of v.items) w.aims-is ∙ ap aims_of w.in_ok-push.ensures.items ∙ map-append numbered c.loop-number.aims.items (w.numbered_aim.result ∷ []) ∙ ap₂ (λ ns n. ns ++ n ∷ []) c.loop-number.invariant w.numbered_aim.ensures ∙ sym (one-more cs i d c.loop-number-test.true w.index-changes-number.is free)
       | else-is_independent w ↦
           ap (λ v. aims_of v.items) w.aims-is ∙ c.loop-number.invariant ∙ sym (passed-at cs c.args.fates.now i _ c.requires.fates c.loop-number-test.true (sym c.is_independent.ensures ∙ w.if-is_independent.false))
     ]

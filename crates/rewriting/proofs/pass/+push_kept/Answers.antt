@@ -7,7 +7,7 @@ use Rattle.green_tree.specs.Green.{size}
 use Rattle.green_tree.specs.GreenElement.{element_tree, element_trees}
 use Rattle.rewriting.specs.Rewriting.{rewritten}
 use Rattle.rewriting.specs.declared.mark.Sought.{Sought}
-use Rattle.rewriting.specs.inner.Marked.{MarkTree, Marking, marked, below, marks_of, sought_in, marks_at, wanted, sought_below, sought_for}
+use Rattle.rewriting.specs.inner.Marked.{MarkTree, Marking, marked, mark_below, marks_of, sought_in, marks_at, wanted, sought_below, sought_for}
 use Rattle.rewriting.proofs.Children.{tree_at, size_at}
 use Rattle.rewriting.proofs.ChildByChild.{first, step, all_shown}
 use Rattle.rewriting.proofs.Marks.{shown, shown-one, marks-none}
@@ -17,8 +17,8 @@ use Rattle.rewriting.proofs.SeenBelow.{seen-below}
 use Rattle.rewriting.proofs.Untouched.{untouched}
 use Rattle.rewriting.proofs.pass.+push_kept.Goals as goal
 
-unsought : (path : Path) (found : List Marking) (sought : List Sought) (t : SyntaxTree) → length sought ≡ 0 → found ≡ found ++ map (below path) (marked (rewritten (wanted (sought_in sought)) (λ c. []) [] [] t))
-unsought path found [] t h = sym (append-nil found) ∙ ap (λ ms. found ++ map (below path) ms) (sym (ap marked (untouched (λ k. []) (λ c. []) [] refl [] t) ∙ marks-none t))
+unsought : (path : Path) (found : List Marking) (sought : List Sought) (t : SyntaxTree) → length sought ≡ 0 → found ≡ found ++ map (mark_below path) (marked (rewritten (wanted (sought_in sought)) (λ c. []) [] [] t))
+unsought path found [] t h = sym (append-nil found) ∙ ap (λ ms. found ++ map (mark_below path) ms) (sym (ap marked (untouched (λ k. []) (λ c. []) [] refl [] t) ∙ marks-none t))
 unsought path found (m ∷ ms) t h = absurd (omega (arith, h))
 
 pub returns-then-is_empty-clause-marks : goal.returns-then-is_empty-clause-marks
@@ -32,8 +32,8 @@ returns-in_default-clause-marks t c =
 
 pub push_kept-requires : goal.push_kept-requires
 push_kept-requires t c =
-    let below = size_at c.children-children.result.now c.loop-slot.slot c.index-children-slot.result c.loop-slot-test.true c.index-children-slot.is in
-    let below_node = rw c.children-children.ensures at below in
+    let mark_below = size_at c.children-children.result.now c.loop-slot.slot c.index-children-slot.result c.loop-slot-test.true c.index-children-slot.is in
+    let below_node = rw c.children-children.ensures at mark_below in
     let own = ap (λ e. size (element_tree e)) c.in-Node.is in
     (omega arith, tt)
 
@@ -66,7 +66,7 @@ loop-slot-preserved t c =
     let child = tree_at es i c.index-children-slot.result d c.loop-slot-test.true c.index-children-slot.is in
     let it : rewritten (wanted (sought_in inner)) (λ c. []) [] [] (element_tree c.index-children-slot.result) ≡ kept = ap (λ ms. rewritten (wanted ms) (λ c. []) [] [] (element_tree c.index-children-slot.result)) below_it ∙ seen-below (wanted sought) (wanted (sought_below i sought)) (λ c. []) [] [] i (element_tree c.index-children-slot.result) (λ p k. marks-below sought i p) refl ∙ ap (rewritten (wanted sought) (λ c. []) [] (i ∷ [])) child in
     let there : c.push.new.self.items ≡ path ++ i ∷ [] = c.in_ok-push.ensures.items ∙ ap (λ p. p ++ i ∷ []) c.loop-slot.invariant.path in
-    let middle : after ≡ before ++ shown path i (kept ∷ []) = c.in_ok-push_kept.ensures.marks ∙ ap₂ (λ p u. before ++ map (below p) (marked u)) there it ∙ ap (λ ms. before ++ ms) (sym (shown-one path i kept)) in
+    let middle : after ≡ before ++ shown path i (kept ∷ []) = c.in_ok-push_kept.ensures.marks ∙ ap₂ (λ p u. before ++ map (mark_below p) (marked u)) there it ∙ ap (λ ms. before ++ ms) (sym (shown-one path i kept)) in
     record {
       path = grind (arith, common_steps, c.in_ok-push.ensures.items, c.in_ok-push_kept.ensures.path, c.pop.ensures.rest, c.loop-slot.invariant.path);
       marks = step (shown path) (are_shown path) (wanted sought) (λ c. []) [] before after after _ i (i + 1) (i + 1) (kept ∷ []) i ts d in_range refl middle refl (sym (append-nil after)) (omega arith) c.loop-slot.invariant.marks;

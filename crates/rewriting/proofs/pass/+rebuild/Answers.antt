@@ -7,7 +7,7 @@ use Rattle.green_tree.specs.Green.{size}
 use Rattle.green_tree.specs.GreenElement.{element_tree, element_trees}
 use Rattle.rewriting.specs.Rewriting.{slot, is_replaced, replacements_at, gap_order, rewritten}
 use Rattle.rewriting.specs.inner.Aimed.{aims_of, placed, placed_below}
-use Rattle.rewriting.specs.inner.Marked.{MarkTree, Marking, marked, below, marks_of, sought_in, marks_at, wanted, sought_below, sought_for}
+use Rattle.rewriting.specs.inner.Marked.{MarkTree, Marking, marked, mark_below, marks_of, sought_in, marks_at, wanted, sought_below, sought_for}
 use Rattle.rewriting.specs.inner.Pass.{kind_only, given_in, gap_changes}
 use Rattle.rewriting.specs.Effort.{inside, touched, parents_of, built, nodes_built, counted}
 use Rattle.rewriting.proofs.Built.{to_come, to_come-step, parents-below, own_node, on_ok}
@@ -38,7 +38,7 @@ returns-then-not-alter_some-clause-count t c =
 pub returns-then-not-alter_some-clause-marks : goal.returns-then-not-alter_some-clause-marks
 returns-then-not-alter_some-clause-marks t c =
     let none = sym c.alter_some.ensures ∙ c.if-not-alter_some.true in
-    on_ok c.share.result (λ trees are. c.in_ok-push_kept.ensures.marks ∙ ap (λ u. marks_of c.args.found.now.items ++ map (below c.args.path.now.items) (marked u)) (sym (unaimed (wanted (sought_in c.args.sought.now)) trees c.args.aims.now none [] (element_tree c.args.element.now))))
+    on_ok c.share.result (λ trees are. c.in_ok-push_kept.ensures.marks ∙ ap (λ u. marks_of c.args.found.now.items ++ map (mark_below c.args.path.now.items) (marked u)) (sym (unaimed (wanted (sought_in c.args.sought.now)) trees c.args.aims.now none [] (element_tree c.args.element.now))))
 
 pub returns-in_default-clause-marks : goal.returns-in_default-clause-marks
 returns-in_default-clause-marks t c =
@@ -46,8 +46,8 @@ returns-in_default-clause-marks t c =
 
 pub rebuild-requires : goal.rebuild-requires
 rebuild-requires t c =
-    let below = size_at c.children-children.result.now c.loop-slot.slot c.index-children-slot.result c.loop-slot-test.true c.index-children-slot.is in
-    let below_node = rw c.children-children.ensures at below in
+    let mark_below = size_at c.children-children.result.now c.loop-slot.slot c.index-children-slot.result c.loop-slot-test.true c.index-children-slot.is in
+    let below_node = rw c.children-children.ensures at mark_below in
     let own = ap (λ e. size (element_tree e)) c.in-Node.is in
     (omega arith, tt)
 
@@ -155,7 +155,7 @@ loop-slot-preserved t c =
                 let it = ap₂ (λ xs ms. rewritten (wanted ms) trees (aims_of xs) [] e) w.deref-else-is_replaced-2.ensures.value below_it ∙ seen-below (wanted sought) (wanted (sought_below i sought)) trees aims w.in_ok-inner.inner.items i e (λ p k. marks-below sought i p) inner ∙ ap (rewritten (wanted sought) trees cs (i ∷ [])) child in
                 let slot_is : w.len.result ≡ length out = search rules in
                 let there : w.push.new.self.items ≡ path ++ length out ∷ [] = w.in_ok-push.ensures.items ∙ ap₂ (λ p n. p ++ n ∷ []) c.loop-slot.invariant.path slot_is in
-                ap (λ v. marks_of v.items) w.found-is ∙ w.in_ok-rebuild.ensures.marks trees are ∙ ap₂ (λ p u. before ++ map (below p) (marked u)) there it ∙ ap (λ ms. before ++ ms) (sym (shown-one path (length out) own)) ∙ ap (λ us. before ++ shown path (length out) us) (slot-kept (wanted sought) trees cs (i ∷ []) own (sym replaced ∙ w.if-is_replaced.false))
+                ap (λ v. marks_of v.items) w.found-is ∙ w.in_ok-rebuild.ensures.marks trees are ∙ ap₂ (λ p u. before ++ map (mark_below p) (marked u)) there it ∙ ap (λ ms. before ++ ms) (sym (shown-one path (length out) own)) ∙ ap (λ us. before ++ shown path (length out) us) (slot-kept (wanted sought) trees cs (i ∷ []) own (sym replaced ∙ w.if-is_replaced.false))
           ] in
           let wider : length mid ≡ length out + length s = width out mid (slot kind_only given cs (i ∷ []) kept) s middle (slot_as_many table trees are (wanted sought) cs (i ∷ []) own kept) in
           let ns : List ℕ = gap_changes c.as_slice-group.result.now (i + 1) in

@@ -5,7 +5,7 @@ use Rattle.green_tree.specs.GreenElement.{element_tree, element_trees}
 use Rattle.rewriting.specs.Effort.{counted, nodes_built}
 use Rattle.rewriting.specs.Rewriting.{rewritten}
 use Rattle.rewriting.specs.inner.Aimed.{aims_of}
-use Rattle.rewriting.specs.inner.Marked.{MarkTree, Marking, marked, marked_from, below, marks_of, sought_in, wanted}
+use Rattle.rewriting.specs.inner.Marked.{MarkTree, Marking, marked, marked_from, mark_below, marks_of, sought_in, wanted}
 use Rattle.rewriting.specs.inner.Pass.{kind_only, given_in, top_changes}
 use Rattle.rewriting.proofs.Children.{slot-replaced, slot-kept}
 use Rattle.rewriting.proofs.pass.rebuild_whole.Goals as goal
@@ -44,8 +44,8 @@ returns-clause-marks c = λ trees are.
       | then-top_is_replaced+in_ok-push_over_top w ↦
           let ns : List ℕ = top_changes c.args.aims.now in
           let there : List Marking = marked_from 0 (flat_map trees ns) in
-          ap (λ v. marks_of v.items) w.marks-is ∙ w.in_ok-push_over_top.ensures.marks trees are ∙ ap₂ (λ p es. marks_of c.new-marks.result.items ++ map (below p) (marked_from (length es) (flat_map trees ns))) c.new-path.ensures.items c.new-elements.ensures.items ∙ ap (λ ms. marks_of ms ++ map (λ m. m) there) c.new-marks.ensures.items ∙ map-id there ∙ ap (marked_from 0) (slot-replaced (wanted sought) trees cs [] kept (sym c.top_is_replaced.ensures ∙ w.if-top_is_replaced.true))
+          ap (λ v. marks_of v.items) w.marks-is ∙ w.in_ok-push_over_top.ensures.marks trees are ∙ ap₂ (λ p es. marks_of c.new-marks.result.items ++ map (mark_below p) (marked_from (length es) (flat_map trees ns))) c.new-path.ensures.items c.new-elements.ensures.items ∙ ap (λ ms. marks_of ms ++ map (λ m. m) there) c.new-marks.ensures.items ∙ map-id there ∙ ap (marked_from 0) (slot-replaced (wanted sought) trees cs [] kept (sym c.top_is_replaced.ensures ∙ w.if-top_is_replaced.true))
       | else-top_is_replaced+in_ok-push+in_ok-rebuild+in_ok-push-2 w ↦
           let there : w.push.new.self.items ≡ 0 ∷ [] = w.in_ok-push.ensures.items ∙ ap (λ p. p ++ 0 ∷ []) c.new-path.ensures.items in
-          ap (λ v. marks_of v.items) w.marks-is ∙ w.in_ok-rebuild.ensures.marks trees are ∙ ap₂ (λ p ms. marks_of ms ++ map (below p) (marked kept)) there c.new-marks.ensures.items ∙ sym (append-nil (map (below (0 ∷ [])) (marked kept))) ∙ ap (marked_from 0) (slot-kept (wanted sought) trees cs [] kept (sym c.top_is_replaced.ensures ∙ w.if-top_is_replaced.false))
+          ap (λ v. marks_of v.items) w.marks-is ∙ w.in_ok-rebuild.ensures.marks trees are ∙ ap₂ (λ p ms. marks_of ms ++ map (mark_below p) (marked kept)) there c.new-marks.ensures.items ∙ sym (append-nil (map (mark_below (0 ∷ [])) (marked kept))) ∙ ap (marked_from 0) (slot-kept (wanted sought) trees cs [] kept (sym c.top_is_replaced.ensures ∙ w.if-top_is_replaced.false))
     ]

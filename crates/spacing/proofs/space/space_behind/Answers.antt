@@ -17,5 +17,5 @@ returns-then-opens_list c =
 pub returns : goal.returns
 returns c =
     let there : c.in-Some.parent ≡ element_at (element_of c.args.anchor.now) (parent_path (element_of c.args.anchor.now).path) = parent_is (element_of c.args.anchor.now) c.in-Some.parent (sym c.in_ok-parent.ensures ∙ c.in-Some.is) in
-    subst (λ e. FindsSpace (space_behind (neighbor e) (neighbor (element_of c.args.anchor.now)) (neighbor (element_of c.args.first.now))) c.between-2.result) there
-    (not_opened (neighbor c.in-Some.parent) (neighbor (element_of c.args.anchor.now)) (neighbor (element_of c.args.first.now)) _ _ _ _ c.kind.ensures.kind c.kind-2.ensures.kind c.kind-3.ensures.kind c.opens_list.ensures c.between-2.result c.if-opens_list.false c.between-2.ensures)
+    subst (λ e. FindsSpace (space_behind (neighbor e) (neighbor (element_of c.args.anchor.now)) (neighbor (element_of c.args.first.now))) c.space_between-2.result) there
+    (not_opened (neighbor c.in-Some.parent) (neighbor (element_of c.args.anchor.now)) (neighbor (element_of c.args.first.now)) _ _ _ _ c.kind.ensures.kind c.kind-2.ensures.kind c.kind-3.ensures.kind c.opens_list.ensures c.space_between-2.result c.if-opens_list.false c.space_between-2.ensures)

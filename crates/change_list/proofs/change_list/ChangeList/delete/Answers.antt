@@ -3,7 +3,7 @@ use Rattle.cst_core.specs.SyntaxElement.{element_of}
 use Rattle.edit_change.specs.declared.change.Change.TheVariants.{Replace}
 use Rattle.change_list.specs.Recording.{with_replacement}
 use Rattle.change_list.specs.ByPath.{is_replace_at, delete_at}
-use Rattle.change_list.specs.inner.Indexing.{replaced_at, found}
+use Rattle.change_list.specs.inner.Indexing.{replaced_at, entry_at}
 use Rattle.change_list.proofs.TakenUp.{taken-set, taken-none}
 use Rattle.change_list.proofs.Indexed.{nothing-said, something-said, deleted-agrees}
 use Rattle.change_list.proofs.change_list.ChangeList.delete.Goals as goal
@@ -13,7 +13,7 @@ returns-in_default-clause-ok c =
     let e = c.args.element in
     let p = (element_of e).path in
     let cs = c.self.inside.changes.items in
-    let unsaid : replaced_at p cs ≡ None = sym (c.self.invariant p) ∙ sym (ap (found c.self.inside.replaced) c.slots.ensures) ∙ sym c.get.ensures ∙ c.in_default.is in
+    let unsaid : replaced_at p cs ≡ None = sym (c.self.invariant p) ∙ sym (ap (entry_at c.self.inside.replaced) c.slots.ensures) ∙ sym c.get.ensures ∙ c.in_default.is in
     let none : position (is_replace_at p) c.args.self.now ≡ None = sym (ap (position (is_replace_at p)) c.self.view_is) ∙ nothing-said p cs unsaid in
     subst (λ ds. OnOk c.add_replace.result (c.add_replace.new.self ≡ ds)) (taken-none (is_replace_at p) (with_replacement (λ _. None)) (Replace e None) c.args.self.now none) c.add_replace.ensures.ok
 
@@ -23,10 +23,10 @@ invariant_of-self c =
     let p = (element_of e).path in
     let cs = c.self.inside.changes.items in
     let r = c.in-Some.replaced in
-    let said : replaced_at p cs ≡ Some r = sym (c.self.invariant p) ∙ sym (ap (found c.self.inside.replaced) c.slots.ensures) ∙ sym c.get.ensures ∙ c.in-Some.is in
+    let said : replaced_at p cs ≡ Some r = sym (c.self.invariant p) ∙ sym (ap (entry_at c.self.inside.replaced) c.slots.ensures) ∙ sym c.get.ensures ∙ c.in-Some.is in
     let place : position (is_replace_at p) cs ≡ Some r.first = (something-said p cs r said).0 in
     let list : set cs r.first c.take_away.new.change ≡ delete_at e cs = ap (set cs r.first) (c.take_away.ensures ∙ ap (with_replacement (λ _. None)) c.index_mut.ensures.value) ∙ taken-set (is_replace_at p) (with_replacement (λ _. None)) (Replace e None) cs r.first c.index_mut.result.now place in
-    λ q. deleted-agrees e cs r.first (found c.self.inside.replaced) (found c.mark_deleted.new.self) c.slots-2.result.now place c.slots-2.ensures c.self.invariant c.mark_deleted.ensures q ∙ ap (replaced_at q) (sym list)
+    λ q. deleted-agrees e cs r.first (entry_at c.self.inside.replaced) (entry_at c.mark_deleted.new.self) c.slots-2.result.now place c.slots-2.ensures c.self.invariant c.mark_deleted.ensures q ∙ ap (replaced_at q) (sym list)
 
 pub returns-clause-ok : goal.returns-clause-ok
 returns-clause-ok c =
@@ -34,7 +34,7 @@ returns-clause-ok c =
     let p = (element_of e).path in
     let cs = c.self.inside.changes.items in
     let r = c.in-Some.replaced in
-    let said : replaced_at p cs ≡ Some r = sym (c.self.invariant p) ∙ sym (ap (found c.self.inside.replaced) c.slots.ensures) ∙ sym c.get.ensures ∙ c.in-Some.is in
+    let said : replaced_at p cs ≡ Some r = sym (c.self.invariant p) ∙ sym (ap (entry_at c.self.inside.replaced) c.slots.ensures) ∙ sym c.get.ensures ∙ c.in-Some.is in
     let place : position (is_replace_at p) cs ≡ Some r.first = (something-said p cs r said).0 in
     let list : set cs r.first c.take_away.new.change ≡ delete_at e cs = ap (set cs r.first) (c.take_away.ensures ∙ ap (with_replacement (λ _. None)) c.index_mut.ensures.value) ∙ taken-set (is_replace_at p) (with_replacement (λ _. None)) (Replace e None) cs r.first c.index_mut.result.now place in
     list ∙ ap (delete_at e) c.self.view_is

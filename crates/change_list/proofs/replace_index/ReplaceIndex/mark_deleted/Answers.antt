@@ -1,7 +1,7 @@
 use Rattle.std.proofs.Common.{◌≡◌, true, Some, sym, ◌∙◌, ap, rules}
 use Rattle.std.specs.Option.{option_copied_mut}
 use Rattle.change_list.specs.declared.replace_index.Replaced.{Replaced}
-use Rattle.change_list.specs.inner.Indexing.{found}
+use Rattle.change_list.specs.inner.Indexing.{entry_at}
 use Rattle.change_list.proofs.Indexed.{path-updated, marked}
 use Rattle.change_list.proofs.replace_index.ReplaceIndex.mark_deleted.Goals as goal
 
@@ -10,5 +10,5 @@ returns-in-Some c =
     let old = c.args.self.now in
     let r = c.in-Some.replaced.now in
     let w : Replaced = record { first = r.first; is_deleted = true } in
-    let known : found old c.args.path.now ≡ Some r = sym c.get_mut.ensures.value ∙ ap option_copied_mut c.in-Some.is in
-    λ p. path-updated old.places (c.get_mut.follows.lender w) (Some w) (λ k. k.items) c.args.path.now ((c.get_mut.follows.holds w).3 (search rules)) p ∙ marked (found old) c.args.path.now p r known
+    let known : entry_at old c.args.path.now ≡ Some r = sym c.get_mut.ensures.value ∙ ap option_copied_mut c.in-Some.is in
+    λ p. path-updated old.places (c.get_mut.follows.lender w) (Some w) (λ k. k.items) c.args.path.now ((c.get_mut.follows.holds w).3 (search rules)) p ∙ marked (entry_at old) c.args.path.now p r known

@@ -7,15 +7,15 @@ use Rattle.edit_plan.specs.inner.PlanRun.{KeepsTop}
 use Rattle.edit_plan.proofs.Rooted.{stays-a-node, takes-its-place, found-fits}
 use Rattle.edit_plan.proofs.plan.EditPlan.keep_top.Goals as goal
 
-pub root_brought-requires-clause-fits : goal.root_brought-requires-clause-fits
-root_brought-requires-clause-fits c =
+pub node_for_root-requires-clause-fits : goal.node_for_root-requires-clause-fits
+node_for_root-requires-clause-fits c =
     let cs = c.self.inside.changes.items in
     let root = c.self.inside.root in
     let found : find (λ d. has_path (targets d) []) cs ≡ Some c.in-Some.change.now = sym (c.in-Some.ensures ∙ ap (find (λ d. has_path (targets d) [])) c.deref.ensures.value) in
     (root, (found-fits (Fits root) cs c.in-Some.change.now c.self.invariant.is_plan.fit found).0)
 
-pub root_brought-requires-clause-root : goal.root_brought-requires-clause-root
-root_brought-requires-clause-root c =
+pub node_for_root-requires-clause-root : goal.node_for_root-requires-clause-root
+node_for_root-requires-clause-root c =
     let cs = c.self.inside.changes.items in
     let root = c.self.inside.root in
     let found : find (λ d. has_path (targets d) []) cs ≡ Some c.in-Some.change.now = sym (c.in-Some.ensures ∙ ap (find (λ d. has_path (targets d) [])) c.deref.ensures.value) in
@@ -25,7 +25,7 @@ pub returns-in-Some : goal.returns-in-Some
 returns-in-Some c =
     let cs = c.self.inside.changes.items in
     let found : find (λ d. has_path (targets d) []) cs ≡ Some c.in-Some.change.now = sym (c.in-Some.ensures ∙ ap (find (λ d. has_path (targets d) [])) c.deref.ensures.value) in
-    subst KeepsTop c.self.view_is (takes-its-place cs c.self.inside.root c.in-Some.change.now c.self.invariant.is_plan.apart found (c.root_brought.result.now, c.root_brought.ensures.brought, c.root_brought.ensures.node))
+    subst KeepsTop c.self.view_is (takes-its-place cs c.self.inside.root c.in-Some.change.now c.self.invariant.is_plan.apart found (c.node_for_root.result.now, c.node_for_root.ensures.brought, c.node_for_root.ensures.node))
 
 pub returns-in-None : goal.returns-in-None
 returns-in-None c =

@@ -17,4 +17,4 @@ returns-clause-merged c =
     let over = where_ok c.take_over.result c.take_over.ensures.ok (sym c.is_err.ensures.value ∙ c.if-is_err.false) in
     let of_other : IsMadeOf (unwrap_or c.args.other.factory [] ++ unwrap_or c.self.inside.factory []) m = subst (λ (e : Editor). IsMadeOf (unwrap_or e.factory [] ++ unwrap_or c.self.inside.factory []) m) c.other.view_is c.in-Ok.ensures in
     let copies : IsMadeOf (unwrap_or c.args.other.factory [] ++ unwrap_or c.args.self.now.factory []) m = subst (λ (e : Editor). IsMadeOf (unwrap_or c.args.other.factory [] ++ unwrap_or e.factory []) m) c.self.view_is of_other in
-    merged-editor c.args.self.now c.args.other taken c.keeping.result m (c.self-2.view_is ∙ over) c.keeping.ensures copies
+    merged-editor c.args.self.now c.args.other taken c.of_mapping.result m (c.self-2.view_is ∙ over) c.of_mapping.ensures copies

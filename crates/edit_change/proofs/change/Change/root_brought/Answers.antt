@@ -1,7 +1,0 @@
-use Rattle.std.proofs.Common.{◌∙◌, sym}
-use Rattle.std.proofs.lemmas.Bool.{false≢true}
-use Rattle.edit_change.proofs.RootTargets.{no-root-in}
-use Rattle.edit_change.proofs.change.Change.root_brought.Goals as goal
-
-pub unreachable-requires-in-ReplaceAll : goal.unreachable-requires-in-ReplaceAll
-unreachable-requires-in-ReplaceAll c = false≢true (sym (no-root-in c.in-ReplaceAll.is) ∙ c.requires.root)

@@ -1,0 +1,14 @@
+use Rattle.std.proofs.Common.{arith, ◌<◌, ◌+◌}
+use Rattle.cst_core.specs.Tree.{text_length}
+use Rattle.cst_core.specs.Green.{branch_tree}
+use Rattle.edit_plan.proofs.FirstNode.{none-behind, none-past}
+use Rattle.edit_plan.proofs.first_node.node_at_offset.Goals as goal
+
+pub returns-then-offset-begin-clause-none : goal.returns-then-offset-begin-clause-none
+returns-then-offset-begin-clause-none c = λ kind. rw c.in-Node.is (none-behind kind c.args.begin c.args.offset (branch_tree c.in-Node.node) c.if-offset-begin.true)
+
+pub returns-then-begin-length-clause-none : goal.returns-then-begin-length-clause-none
+returns-then-begin-length-clause-none c =
+    let fits = rw c.in-Node.is at c.requires.fits in
+    let past : c.args.begin + text_length (branch_tree c.in-Node.node) < c.args.offset = omega (arith, fits, c.length.ensures, c.if-begin-length.true) in
+    λ kind. rw c.in-Node.is (none-past kind c.args.begin c.args.offset (branch_tree c.in-Node.node) past)

@@ -1,0 +1,9 @@
+use Rattle.std.proofs.Common.{◌≡◌, ℕ, length}
+use Rattle.rewriting.specs.Lists.{AreEmpty}
+use Rattle.rewriting.proofs.lists.empty_lists.Given as goal
+
+abbrev pub invariant-loop : goal.invariant-loop
+invariant-loop g l = record {
+  size : length l.lists.items ≡ l.counter;
+  empty : AreEmpty l.lists.items;
+}
