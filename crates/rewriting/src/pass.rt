@@ -8,7 +8,7 @@ ghost use Rattle.rewriting.specs.inner.Pass.{gap_changes, slot_changes, top_chan
 ghost use Rattle.rewriting.specs.inner.Pass.{TouchesAtMost, CountsBuilt, CountsBuiltWhole, remade, remade_whole};
 ghost use Rattle.rewriting.specs.inner.Pass.{FindsRebuilt, FindsWhole};
 
-use crate::aim_list::{alter_some, aims_below, aims_by_child, is_replaced, top_is_replaced};
+use crate::aim_list::{aims_below, aims_by_child, alter_some, is_replaced, top_is_replaced};
 use crate::aimed::Aimed;
 use crate::mark::{Mark, Sought, marks_by_child, push_here, sought_for};
 use crate::marked_given::{GivenTable, MarkedGiven};

@@ -72,7 +72,11 @@ fn line_of_deeper(
 }
 
 // The whitespace between two elements, by the table.
-fn space_between(alloc: Global, left: &SyntaxElement, right: &SyntaxElement) -> Result<Space, SpaceError>
+fn space_between(
+    alloc: Global,
+    left: &SyntaxElement,
+    right: &SyntaxElement,
+) -> Result<Space, SpaceError>
     ensures { FindsSpace (between (neighbor (element_of left.now)) (neighbor (element_of right.now))) result }
 {
     match space_rule(left.kind(), right.kind()) {
