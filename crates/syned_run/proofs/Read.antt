@@ -1,5 +1,5 @@
 -- What a reader gave after several reads.
-use Rattle.std.proofs.Common.{◌≡◌, ℕ, ◌≤◌, ◌+◌, arith, length-append, List, ◌++◌, None, Some, Option, IfSome, length, take, sym, ap, ◌∙◌, append_assoc, append-nil}
+use Rattle.std.proofs.Common.{◌≡◌, ℕ, ◌≤◌, ◌+◌, arith, length-append, List, ◌++◌, None, Some, Option, IfSome, length, take, sym, ap, ◌∙◌, append-nil}
 use Rattle.std.proofs.Math.Seq.{take-append_seam}
 use Rattle.std.proofs.lemmas.List.{take_all}
 use Rattle.std.proofs.KnownBytes.{Consumes-trans}

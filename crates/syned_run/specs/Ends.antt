@@ -1,5 +1,6 @@
 -- What a read adds to what was read before, and how much of a reader reads take.
 --     IsFrontOf                   these are the first bytes of a reader, where those are known: so many, or all where they are fewer
+--     TakesFront                  of a reader's bytes, where these are known, the first were taken and no more: so many, or all where they are fewer
 --     TakesAtMost                 of a reader's bytes, where these are known, a front of at most so many as the limit was taken
 --     ReadsOn                     n bytes of a reader, at most so many as the limit, went to the end of what was there; none only at the reader's end
 --     ReadsFrom                   the same of a reader, where this tells its bytes
@@ -8,6 +9,9 @@ use Rattle.std.specs.Io.KnownBytes.{Consumes, IsAtEnd}
 
 abbrev pub IsFrontOf : Option (List ℕ) → ℕ → List ℕ → Type 0
 IsFrontOf left n bytes = IfSome left (λ all. bytes ≡ take n all)
+
+abbrev pub TakesFront : Option (List ℕ) → Option (List ℕ) → ℕ → Type 0
+TakesFront left left' n = (bytes : List ℕ) × Consumes left left' bytes × IsFrontOf left n bytes
 
 abbrev pub TakesAtMost : Option (List ℕ) → Option (List ℕ) → ℕ → Type 0
 TakesAtMost left left' limit = (bytes : List ℕ) × Consumes left left' bytes × (length bytes ≤ limit)

@@ -1,5 +1,6 @@
 //! What a run prints, and its exit status.
-ghost use Rattle.std.specs.Prelude.{◌≤◌, ◌<◌, ◌^◌, IfOk};
+ghost use Rattle.std.specs.Prelude.{◌≡◌, ◌<◌, ◌^◌, IfOk};
+ghost use Rattle.syned_run.specs.inner.ExitCode.{exit_code};
 
 use crate::ends::SCRIPT_LIMIT;
 use crate::print::print_edit;
@@ -26,7 +27,7 @@ pub(crate) enum Status {
 impl Status {
     /// The exit status.
     pub(crate) fn code(self) -> u8
-        ensures { result ≤ 3 }
+        ensures { result ≡ exit_code self }
     {
         match self {
             Status::Done => 0,
