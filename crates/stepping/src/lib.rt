@@ -1,0 +1,11 @@
+//! An element with some changes carried out, one at a time: each is one splice of the element as it stands.
+#![tactic(auto)]
+
+mod done;
+mod done_index;
+mod place;
+mod splice;
+mod stage;
+mod target;
+
+pub use stage::Stage;

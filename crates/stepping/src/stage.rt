@@ -1,0 +1,98 @@
+ghost use Rattle.std.specs.Prelude.{◌≡◌, ℕ, List, [], IfOk, OnOk, OnErr};
+ghost use Rattle.green_tree.specs.Tree.{SyntaxTree};
+ghost use Rattle.green_tree.specs.GreenElement.{element_tree, element_trees};
+ghost use Rattle.rewriting.specs.Effort.{counted};
+ghost use Rattle.rewriting.specs.inner.Aimed.{numbered};
+ghost use Rattle.stepping.specs.Stage.{old_tree, new_tree, IsStage, CanStep, TakesStep, StaysAs, step_builds};
+ghost use Rattle.stepping.specs.inner.Targets.{place_of};
+ghost use Rattle.stepping.specs.inner.Putting.{CanPut, put};
+
+use crate::done::Done;
+use crate::done_index::DoneIndex;
+use crate::place::{place, start};
+use crate::splice::spliced_at;
+use crate::target::Target;
+use green_tree::GreenElement;
+use rewriting::Aimed;
+use std::alloc::{AllocError, Global};
+
+/// An element with some changes carried out, one at a time.
+///
+/// It keeps the old element, the element as it stands now, and of each change that is done where it aimed and how many elements it gave.
+/// So a later step finds its place from the changes that are done at the nodes on its way, whatever the order of the steps.
+#[derive(Drop)]
+pub struct Stage {
+    original: GreenElement,
+    current: GreenElement,
+    done: DoneIndex,
+}
+
+impl Stage {
+    /// The element itself, of which nothing is done.
+    pub fn new(alloc: Global, element: GreenElement) -> Result<Stage, AllocError>
+        ensures old { IfOk result (λ s. old_tree s ≡ element_tree element) }
+        ensures stage { IfOk result (λ s. (given : ℕ → List SyntaxTree) → IsStage given [] s) }
+    {
+        Ok(Stage {
+            original: element.share(alloc)?,
+            current: element,
+            done: DoneIndex::new(alloc),
+        })
+    }
+
+    /// The element as it stands now.
+    pub fn element(&self) -> &GreenElement
+        ensures { element_tree result.now ≡ new_tree self.now }
+    {
+        &self.current
+    }
+
+    // The element with these put where a target is in the old one.
+    fn spliced(
+        &self,
+        alloc: Global,
+        target: &Target,
+        given: &[GreenElement],
+    ) -> Result<GreenElement, AllocError>
+        requires { CanPut self.now (place_of target.now) }
+        ensures { IfOk result (λ e. element_tree e ≡ put self.now (place_of target.now) (element_trees given.now)) }
+    {
+        let path = place(alloc, &self.done, target.parent)?;
+        let first = start(self.done.at(target.parent), target.at);
+        let count = target.at.count();
+        spliced_at(alloc, &self.current, &path, first, count, given)
+    }
+
+    /// Carries out one change more: what it gives is put where it aims in the old element, first in its gap or over its targets.
+    ///
+    /// An aim that leads to nothing in the old element alters nothing, and of a range only what is there is replaced. `builds` rises by the
+    /// nodes that are built, up to its greatest number: the node whose children change, and those above it. A refused step changes nothing.
+    pub fn step(
+        &mut self,
+        alloc: Global,
+        aim: &Aimed,
+        given: &[GreenElement],
+        builds: &mut u64,
+    ) -> Result<(), AllocError>
+        requires { CanStep self.old (numbered aim.now) }
+        ensures old { old_tree self.new ≡ old_tree self.old }
+        ensures done { OnOk result (TakesStep self.old self.new (numbered aim.now) (element_trees given.now)) }
+        ensures count { OnOk result (builds.new ≡ counted builds.old (step_builds (old_tree self.old) (numbered aim.now).1)) }
+        ensures refused { OnErr result (StaysAs self.old self.new) }
+        ensures refused_count { OnErr result (builds.new ≡ builds.old) }
+    {
+        let _builds = *builds;
+        let Some(target) = Target::of(&self.original, aim) else {
+            return Ok(());
+        };
+        let new = self.spliced(alloc, &target, given)?;
+        let done = Done {
+            at: target.at,
+            width: given.len(),
+        };
+        self.done.add(alloc, target.parent, done)?;
+        self.current = new;
+        *builds = builds.saturating_add(target.parent.len() as u64 + 1);
+        Ok(())
+    }
+}
