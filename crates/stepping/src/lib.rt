@@ -3,8 +3,7 @@
 
 mod done;
 mod done_index;
-mod place;
-mod splice;
+mod put;
 mod stage;
 mod target;
 

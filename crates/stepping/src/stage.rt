@@ -4,13 +4,10 @@ ghost use Rattle.green_tree.specs.GreenElement.{element_tree, element_trees};
 ghost use Rattle.rewriting.specs.Effort.{counted};
 ghost use Rattle.rewriting.specs.inner.Aimed.{numbered};
 ghost use Rattle.stepping.specs.Stage.{old_tree, new_tree, IsStage, CanStep, TakesStep, StaysAs, step_builds};
-ghost use Rattle.stepping.specs.inner.Targets.{place_of};
-ghost use Rattle.stepping.specs.inner.Putting.{CanPut, put};
 
 use crate::done::Done;
 use crate::done_index::DoneIndex;
-use crate::place::{place, start};
-use crate::splice::spliced_at;
+use crate::put::put;
 use crate::target::Target;
 use green_tree::GreenElement;
 use rewriting::Aimed;
@@ -47,22 +44,6 @@ impl Stage {
         &self.current
     }
 
-    // The element with these put where a target is in the old one.
-    fn spliced(
-        &self,
-        alloc: Global,
-        target: &Target,
-        given: &[GreenElement],
-    ) -> Result<GreenElement, AllocError>
-        requires { CanPut self.now (place_of target.now) }
-        ensures { IfOk result (λ e. element_tree e ≡ put self.now (place_of target.now) (element_trees given.now)) }
-    {
-        let path = place(alloc, &self.done, target.parent)?;
-        let first = start(self.done.at(target.parent), target.at);
-        let count = target.at.count();
-        spliced_at(alloc, &self.current, &path, first, count, given)
-    }
-
     /// Carries out one change more: what it gives is put where it aims in the old element, first in its gap or over its targets.
     ///
     /// An aim that leads to nothing in the old element alters nothing, and of a range only what is there is replaced. `builds` rises by the
@@ -85,7 +66,7 @@ impl Stage {
         let Some(target) = Target::of(&self.original, aim) else {
             return Ok(());
         };
-        let new = self.spliced(alloc, &target, given)?;
+        let new = put(alloc, &self.current, &self.done, &target, 0, given)?;
         let done = Done {
             at: target.at,
             width: given.len(),

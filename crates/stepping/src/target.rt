@@ -1,4 +1,4 @@
-ghost use Rattle.std.specs.Prelude.{◌≡◌, option_map};
+ghost use Rattle.std.specs.Prelude.{◌≡◌, ◌<◌, ◌+◌, ◌^◌, option_map, IfSome};
 ghost use Rattle.green_tree.specs.GreenElement.{element_tree};
 ghost use Rattle.stepping.specs.inner.Targets.{child_count, child_at, child_of, live_target, place_of};
 
@@ -36,7 +36,8 @@ fn child_count(element: &GreenElement, path: &[usize]) -> Option<usize>
 
 // The child at this path. The top is none.
 fn child_at<'a>(element: &GreenElement, path: &'a [usize]) -> Option<OldChild<'a>>
-    ensures { option_map child_of result ≡ child_at (element_tree element.now) path.now }
+    ensures child { option_map child_of result ≡ child_at (element_tree element.now) path.now }
+    ensures fits { IfSome result (λ c. c.slot + 1 < 2 ^ 64) }
 {
     let [parent @ .., slot] = path else {
         return None;

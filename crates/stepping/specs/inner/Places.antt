@@ -4,10 +4,10 @@
 --     removed_before, removed        how many old children before a slot a change replaced; how many these changes did
 --     added_before, added            how many elements that a change gave stand before what aims there; how many that these gave
 --     start                          where in the new child list that begins
---     start_fits                     no step towards it leaves the numbers of code
+--     StartFits                      no step towards it leaves the numbers of code
 --     place                          the path in the new element of what has a path in the old one, where nothing on the way is replaced
---     done_at                        what an index has for the node at a path
---     HasOneMore                     it has one more for this node
+--     done_at, done_below            what an index has for the node at a path; at a path counted from another one
+--     HasOneMore, SameDone           it has one more for this node; it has the same as before
 use Rattle.std.specs.Prelude.{◌≡◌, ◌≤◌, ◌<◌, ◌+◌, ◌-◌, ◌^◌, ℕ, zero, suc, Bool, not, cond, nat_lt, min, sum_by, List, [], ◌∷◌, ◌++◌, Vec}
 use Rattle.std.specs.HashMap.{get_by}
 use Rattle.std.specs.Option.{option_map_or}
@@ -60,12 +60,12 @@ abbrev pub place : (Path → List Done) → Path → Path
 place done [] = []
 place done (i ∷ p) = start (done []) (Slots i 1) ∷ place (λ q. done (i ∷ q)) p
 
-abbrev pub PlaceFits : (Path → List Done) → Path → Type 0
-PlaceFits done p = (q : Path) (i : ℕ) (r : Path) → q ++ i ∷ r ≡ p → StartFits (done q) (Slots i 1)
-
 -- ---- in code
 abbrev pub done_at : DoneIndex → Path → List Done
 done_at index p = option_map_or (λ v. v.items) (get_by (λ k. same_path p k.items) index.lists) []
+
+abbrev pub done_below : DoneIndex → Path → Path → List Done
+done_below index p q = done_at index (p ++ q)
 
 abbrev pub HasOneMore : DoneIndex → DoneIndex → Path → Done → Type 0
 HasOneMore before after at d = (p : Path) → done_at after p ≡ cond (same_path p at) (done_at before at ++ d ∷ []) (done_at before p)

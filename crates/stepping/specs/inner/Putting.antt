@@ -1,19 +1,20 @@
--- Elements put into a stage where a target is in the old element.
---     CanPut                         the place is there in the new element, and within the numbers of code
---     put                            the new element with these put there
-use Rattle.std.specs.Prelude.{List}
+-- Elements put where a change aims in the old tree, in the tree as it stands after these changes.
+--     CanPut                         the place is there, and no more was replaced before it than there was
+--     put                            the tree with these put there
+use Rattle.std.specs.Prelude.{◌≡◌, ◌≤◌, ℕ, List, ◌∷◌, ◌++◌}
+use Rattle.green_tree.specs.Path.{Path}
 use Rattle.green_tree.specs.Tree.{SyntaxTree}
-use Rattle.stepping.specs.Stage.{new_tree}
-use Rattle.stepping.specs.declared.stage.Stage.{Stage}
-use Rattle.stepping.specs.inner.Places.{count_of, start, place, done_at, StartFits, PlaceFits}
+use Rattle.stepping.specs.declared.done.Among.{Among}
+use Rattle.stepping.specs.declared.done.Done.{Done}
+use Rattle.stepping.specs.inner.Places.{index_of, count_of, removed, start, place}
 use Rattle.stepping.specs.inner.Splices.{spliced, updated_at, CanSplice}
-use Rattle.stepping.specs.inner.Targets.{Place}
 
-pub record CanPut (s : Stage) (a : Place) : Type 0 where
-  pub way : PlaceFits (done_at s.done) a.0
-  pub first : StartFits (done_at s.done a.0) a.1
-  pub there : CanSplice (new_tree s) (place (done_at s.done) a.0) (start (done_at s.done a.0) a.1) (count_of a.1)
+-- below the node at a path of the old tree, among its children
+module _ (t : SyntaxTree) (done : Path → List Done) (p : Path) (at : Among) where
+  pub record CanPut : Type 0 where
+    pub on_the_way : (q : Path) (i : ℕ) (r : Path) → q ++ i ∷ r ≡ p → removed (done q) i ≤ i
+    pub at_its_end : removed (done p) (index_of at) ≤ index_of at
+    pub there : CanSplice t (place done p) (start (done p) at) (count_of at)
 
-abbrev pub put : Stage → Place → List SyntaxTree → SyntaxTree
-put s a ts =
-    updated_at (new_tree s) (place (done_at s.done) a.0) (spliced (start (done_at s.done a.0) a.1) (count_of a.1) ts)
+  abbrev pub put : List SyntaxTree → SyntaxTree
+  put ts = updated_at t (place done p) (spliced (start (done p) at) (count_of at) ts)
