@@ -1,8 +1,12 @@
 -- One aim more in the list, an insert or a replacement: the rewritten tree is spliced at one node.
 --     same_path-true, same_path_from, same_path-false      the test of two paths
---     one_gap                        an aim is at one gap
---     insert_more                    an insert that stands first in its gap
---     replace_more                   a replacement of slots that are kept, with no insert between them
+--     gap_is, one_gap                the gap that an insert fills; there is no other
+--     stands_first-last              an insert that is numbered after all others of its gap stands first in it
+--     range                          so many slots of a node
+--     IsKept, keeps                  no slot on the way to a node is replaced
+--     elsewhere-insert, elsewhere-replace      the edits with the aim are those without it but at its node
+--     inserted, insert_more          an insert that stands first in its gap
+--     replaced, replace_more         a replacement of slots that are kept, with no insert between them
 use Rattle.std.specs.Prelude.{◌≡◌, ℕ, zero, suc, ◌+◌, ◌<◌, ◌≤◌, Bool, true, false, cond, ◌&&◌, ◌||◌, nat_eq, List, [], ◌∷◌, ◌++◌, length, map, filter, flat_map, Option, Some, None, refl}
 use Rattle.std.specs.List.{list_any}
 use Rattle.std.specs.Option.{option_map_or}
@@ -102,7 +106,7 @@ one_gap a p q i j h k =
 other_gap : (a : Aim) (p q : Path) (i j : ℕ) → aims_at_gap p i a ≡ true → ((p ≡ q) × (i ≡ j) → ⊥) → aims_at_gap q j a ≡ false
 other_gap a p q i j h n = false_from_ne_true (aims_at_gap q j a) (λ k. n (one_gap a p q i j h k))
 
-no_slot : (a : Aim) (p q : Path) (i : ℕ) → aims_at_gap p i a ≡ true → (replaces q a ≡ false) × (starts_at q a ≡ false)
+pub no_slot : (a : Aim) (p q : Path) (i : ℕ) → aims_at_gap p i a ≡ true → (replaces q a ≡ false) × (starts_at q a ≡ false)
 no_slot (FirstIn r) p q i h = (refl, refl)
 no_slot (Behind r) p q i h = (refl, refl)
 no_slot (Over rs) p q i h = absurd (false≢true h)
@@ -141,7 +145,7 @@ in_range p k (suc n) j l u =
       | inr other ↦ or_right (same_path (p ++ j ∷ []) (p ++ k ∷ [])) (has_path (range p (suc k) n) (p ++ j ∷ [])) (in_range p (suc k) n j (omega arith) (omega arith))
     ]
 
-out_range : (p : Path) (k n : ℕ) (q : Path) → ((j : ℕ) → k ≤ j → j < k + n → q ≡ p ++ j ∷ [] → ⊥) → has_path (range p k n) q ≡ false
+pub out_range : (p : Path) (k n : ℕ) (q : Path) → ((j : ℕ) → k ≤ j → j < k + n → q ≡ p ++ j ∷ [] → ⊥) → has_path (range p k n) q ≡ false
 out_range p k zero q h = refl
 out_range p k (suc n) q h =
     ap₂ (λ a b. a || b) (same_path-false q (p ++ k ∷ []) (h k (omega arith) (omega arith))) (out_range p (suc k) n q (λ j l u. h j (omega arith) (omega arith)))
@@ -150,7 +154,7 @@ out_range p k (suc n) q h =
 pub record IsKept (cs : List NumberedAim) (p : Path) : Type 0 where
   pub not_replaced : (q : Path) (i : ℕ) (r : Path) → q ++ i ∷ r ≡ p → is_replaced cs (q ++ i ∷ []) ≡ false
 
-taken-none : (given : ℕ → List SyntaxTree) (cs : List NumberedAim) (p : Path) → is_replaced cs p ≡ false → taken given cs p ≡ None
+pub taken-none : (given : ℕ → List SyntaxTree) (cs : List NumberedAim) (p : Path) → is_replaced cs p ≡ false → taken given cs p ≡ None
 taken-none given cs p h = ap (λ b. cond b (Some (flat_map given (replacements_at cs p))) None) h
 
 pub keeps : (given : ℕ → List SyntaxTree) (cs : List NumberedAim) (p : Path) → IsKept cs p → Keeps (edits_of kind_only given cs) p
@@ -173,56 +177,66 @@ module _ (given : ℕ → List SyntaxTree) (xs : List NumberedAim) (c : Numbered
   abbrev new : Edits ℕ
   new = edits_of kind_only given (xs ++ c ∷ ys)
 
-  same_gap : (q : Path) (j : ℕ) → aims_at_gap q j c.1 ≡ false → old.gap q j ≡ new.gap q j
+  pub same_gap : (q : Path) (j : ℕ) → aims_at_gap q j c.1 ≡ false → old.gap q j ≡ new.gap q j
   same_gap q j h = ap (λ ds. flat_map given (gap_order (numbers ds))) (sym (filter_skip (λ d. aims_at_gap q j d.1) xs c ys h))
 
-  same_slot : (q : Path) → replaces q c.1 ≡ false → starts_at q c.1 ≡ false → taken given (xs ++ ys) q ≡ taken given (xs ++ c ∷ ys) q
+  pub same_slot : (q : Path) → replaces q c.1 ≡ false → starts_at q c.1 ≡ false → taken given (xs ++ ys) q ≡ taken given (xs ++ c ∷ ys) q
   same_slot q r s = ap₂ (λ b ds. cond b (Some (flat_map given (numbers ds))) None) (sym (any_skip (λ d. replaces q d.1) xs c ys r)) (sym (filter_skip (λ d. starts_at q d.1) xs c ys s))
 
-  module _ (p : Path) (i : ℕ) (here : aims_at_gap p i c.1 ≡ true) (stands : gap_order (inserts_at (xs ++ c ∷ ys) p i) ≡ c.0 ∷ gap_order (inserts_at (xs ++ ys) p i)) where
-    first_in_gap : new.gap p i ≡ given c.0 ++ old.gap p i
-    first_in_gap = ap (λ ns. flat_map given ns) stands
-
-    other_gaps : (q : Path) (j : ℕ) → ((p ≡ q) × (i ≡ j) → ⊥) → old.gap q j ≡ new.gap q j
+  module _ (p : Path) (i : ℕ) (here : aims_at_gap p i c.1 ≡ true) where
+    pub other_gaps : (q : Path) (j : ℕ) → ((p ≡ q) × (i ≡ j) → ⊥) → old.gap q j ≡ new.gap q j
     other_gaps q j n = same_gap q j (other_gap c.1 p q i j here n)
 
-    slots : (q : Path) → old.slot q ≡ new.slot q
+    pub slots : (q : Path) → old.slot q ≡ new.slot q
     slots q = fun_ext (λ j. same_slot (q ++ j ∷ []) (no_slot c.1 p (q ++ j ∷ []) i here).0 (no_slot c.1 p (q ++ j ∷ []) i here).1)
 
-    elsewhere-insert : Elsewhere old new p
+    pub elsewhere-insert : Elsewhere old new p
     elsewhere-insert = record {
       labels = refl;
       gaps = λ q n. fun_ext (λ j. other_gaps q j (λ same. n (sym same.0)));
       slots = λ q n. slots q;
     }
 
-    inserted : Inserted (below_path p old) (below_path p new) i (given c.0)
+  module _ (p : Path) (i : ℕ) (here : aims_at_gap p i c.1 ≡ true) (stands : gap_order (inserts_at (xs ++ c ∷ ys) p i) ≡ c.0 ∷ gap_order (inserts_at (xs ++ ys) p i)) where
+    first_in_gap : new.gap p i ≡ given c.0 ++ old.gap p i
+    first_in_gap = ap (λ ns. flat_map given ns) stands
+
+    pub inserted : Inserted (below_path p old) (below_path p new) i (given c.0)
     inserted = record {
       label = refl;
       first = subst (λ q. new.gap q i ≡ given c.0 ++ old.gap q i) (sym (append-nil p)) first_in_gap;
-      gaps = λ j n. other_gaps (p ++ []) j (λ same. n (sym same.1));
-      slots = slots (p ++ []);
-      deeper = λ j. below-agree old new p j elsewhere-insert.labels elsewhere-insert.gaps elsewhere-insert.slots;
+      gaps = λ j n. other_gaps p i here (p ++ []) j (λ same. n (sym same.1));
+      slots = slots p i here (p ++ []);
+      deeper = λ j. below-agree old new p j refl (elsewhere-insert p i here).gaps (elsewhere-insert p i here).slots;
     }
 
     -- THE STEP OF AN INSERT
     pub insert_more : (t : SyntaxTree) (l : ℕ) (f : Forest ℕ) → at t p ≡ Some (Node l f) → i ≤ length (trees f) → IsKept (xs ++ ys) p → rewritten kind_only given (xs ++ c ∷ ys) [] t ≡ updated_at (rewritten kind_only given (xs ++ ys) [] t) (new_path (edits_of kind_only given (xs ++ ys)) p) (spliced (to_gap (below_path p (edits_of kind_only given (xs ++ ys))) i) 0 (given c.0))
     insert_more t l f a w k =
-        rewritten_is kind_only given (xs ++ c ∷ ys) [] t ∙ step-inserted old new p t l f i (given c.0) a w (keeps given (xs ++ ys) p k) elsewhere-insert inserted ∙ ap (λ u. updated_at u (new_path old p) (spliced (to_gap (below_path p old) i) 0 (given c.0))) (sym (rewritten_is kind_only given (xs ++ ys) [] t))
+        rewritten_is kind_only given (xs ++ c ∷ ys) [] t ∙ step-inserted old new p t l f i (given c.0) a w (keeps given (xs ++ ys) p k) (elsewhere-insert p i here) inserted ∙ ap (λ u. updated_at u (new_path old p) (spliced (to_gap (below_path p old) i) 0 (given c.0))) (sym (rewritten_is kind_only given (xs ++ ys) [] t))
 
-  -- ---- a replacement more, of slots of which m + 1 are there
-  module _ (p : Path) (count i m wanted : ℕ) (here : c.1 ≡ Over (range p i (suc wanted))) (most : m ≤ wanted) (all : (j : ℕ) → i + m < j → j < count → i + wanted < j) (kept : (j : ℕ) → i ≤ j → j ≤ i + m → is_replaced (xs ++ ys) (p ++ j ∷ []) ≡ false) (free : (j : ℕ) → i < j → j ≤ i + m → inserts_at (xs ++ ys) p j ≡ []) where
-    gaps_over : (q : Path) → old.gap q ≡ new.gap q
+  -- ---- a replacement more
+  module _ (p : Path) (i wanted : ℕ) (here : c.1 ≡ Over (range p i (suc wanted))) where
+    pub gaps_over : (q : Path) → old.gap q ≡ new.gap q
     gaps_over q = fun_ext (λ j. same_gap q j (ap (λ a. aims_at_gap q j a) here ∙ gap_of_over q j (range p i (suc wanted))))
 
     -- a slot outside the range
-    slot_outside : (q : Path) → ((j : ℕ) → i ≤ j → j < i + suc wanted → q ≡ p ++ j ∷ [] → ⊥) → taken given (xs ++ ys) q ≡ taken given (xs ++ c ∷ ys) q
+    pub slot_outside : (q : Path) → ((j : ℕ) → i ≤ j → j < i + suc wanted → q ≡ p ++ j ∷ [] → ⊥) → taken given (xs ++ ys) q ≡ taken given (xs ++ c ∷ ys) q
     slot_outside q n =
         same_slot q (ap (λ a. replaces q a) here ∙ out_range p i (suc wanted) q n) (ap (λ a. starts_at q a) here ∙ same_path-false q (p ++ i ∷ []) (n i (omega arith) (omega arith)))
 
-    slots_over : (q : Path) → (q ≡ p → ⊥) → old.slot q ≡ new.slot q
+    pub slots_over : (q : Path) → (q ≡ p → ⊥) → old.slot q ≡ new.slot q
     slots_over q n = fun_ext (λ j. slot_outside (q ++ j ∷ []) (λ k l u same. n ((same_from_push q p j k same).0)))
 
+    pub elsewhere-replace : Elsewhere old new p
+    elsewhere-replace = record {
+      labels = refl;
+      gaps = λ q n. gaps_over q;
+      slots = slots_over;
+    }
+
+  -- of its slots m + 1 are there
+  module _ (p : Path) (count i m wanted : ℕ) (here : c.1 ≡ Over (range p i (suc wanted))) (most : m ≤ wanted) (all : (j : ℕ) → i + m < j → j < count → i + wanted < j) (kept : (j : ℕ) → i ≤ j → j ≤ i + m → is_replaced (xs ++ ys) (p ++ j ∷ []) ≡ false) (free : (j : ℕ) → i < j → j ≤ i + m → inserts_at (xs ++ ys) p j ≡ []) where
     new_taken : (j : ℕ) → i ≤ j → j ≤ i + m → taken given (xs ++ c ∷ ys) (p ++ j ∷ []) ≡ Some (flat_map given (replacements_at (xs ++ c ∷ ys) (p ++ j ∷ [])))
     new_taken j l u =
         let it : replaces (p ++ j ∷ []) c.1 ≡ true = ap (λ a. replaces (p ++ j ∷ []) a) here ∙ in_range p i (suc wanted) j l (omega arith) in
@@ -240,31 +254,24 @@ module _ (given : ℕ → List SyntaxTree) (xs : List NumberedAim) (c : Numbered
         let none : replacements_at (xs ++ c ∷ ys) (p ++ j ∷ []) ≡ [] = ap numbers (filter_skip (λ d. starts_at (p ++ j ∷ []) d.1) xs c ys not_it ∙ filter_none (λ d. starts_at (p ++ j ∷ []) d.1) (λ d. replaces (p ++ j ∷ []) d.1) (λ d. starts-replaces (p ++ j ∷ []) d.1) (xs ++ ys) (kept j (omega arith) u)) in
         new_taken j (omega arith) u ∙ ap (λ ns. Some (flat_map given ns)) none
 
-    elsewhere-replace : Elsewhere old new p
-    elsewhere-replace = record {
-      labels = refl;
-      gaps = λ q n. gaps_over q;
-      slots = slots_over;
-    }
-
     -- the slots of the node itself
     own : {A : Type 0} (g h : Path → A) → g p ≡ h p → g (p ++ []) ≡ h (p ++ [])
     own g h same = subst (λ q. g q ≡ h q) (sym (append-nil p)) same
 
-    replaced : Replaced (below_path p old) (below_path p new) count i m (given c.0)
+    pub replaced : Replaced (below_path p old) (below_path p new) count i m (given c.0)
     replaced = record {
       label = refl;
-      gaps = gaps_over (p ++ []);
+      gaps = gaps_over p i wanted here (p ++ []);
       no_insert = λ j l u. own (λ q. old.gap q j) (λ q. []) (ap (λ ns. flat_map given (gap_order ns)) (free j l u));
       kept = λ j l u. own (λ q. old.slot q j) (λ q. None) (taken-none given (xs ++ ys) (p ++ j ∷ []) (kept j l u));
       first = own (λ q. new.slot q i) (λ q. Some (given c.0)) new_first;
       later = λ j l u. own (λ q. new.slot q j) (λ q. Some []) (new_later j l u);
-      below_it = λ j l. own (λ q. old.slot q j) (λ q. new.slot q j) (slot_outside (p ++ j ∷ []) (λ k a b same. absurd (let e = (same_from_push p p j k same).1 in omega arith)));
-      above_it = λ j l u. own (λ q. old.slot q j) (λ q. new.slot q j) (slot_outside (p ++ j ∷ []) (λ k a b same. absurd (let e = (same_from_push p p j k same).1 in omega (arith, all j l u))));
-      deeper = λ j. below-agree old new p j refl (λ q n. gaps_over q) slots_over;
+      below_it = λ j l. own (λ q. old.slot q j) (λ q. new.slot q j) (slot_outside p i wanted here (p ++ j ∷ []) (λ k a b same. absurd (let e = (same_from_push p p j k same).1 in omega arith)));
+      above_it = λ j l u. own (λ q. old.slot q j) (λ q. new.slot q j) (slot_outside p i wanted here (p ++ j ∷ []) (λ k a b same. absurd (let e = (same_from_push p p j k same).1 in omega (arith, all j l u))));
+      deeper = λ j. below-agree old new p j refl (λ q n. gaps_over p i wanted here q) (slots_over p i wanted here);
     }
 
     -- THE STEP OF A REPLACEMENT
     pub replace_more : (t : SyntaxTree) (l : ℕ) (f : Forest ℕ) → at t p ≡ Some (Node l f) → length (trees f) ≡ count → i + m < count → IsKept (xs ++ ys) p → rewritten kind_only given (xs ++ c ∷ ys) [] t ≡ updated_at (rewritten kind_only given (xs ++ ys) [] t) (new_path (edits_of kind_only given (xs ++ ys)) p) (spliced (to_slot (below_path p (edits_of kind_only given (xs ++ ys))) i) (suc m) (given c.0))
     replace_more t l f a n w k =
-        rewritten_is kind_only given (xs ++ c ∷ ys) [] t ∙ step-replaced old new p t l f count i m (given c.0) a n w (keeps given (xs ++ ys) p k) elsewhere-replace replaced ∙ ap (λ u. updated_at u (new_path old p) (spliced (to_slot (below_path p old) i) (suc m) (given c.0))) (sym (rewritten_is kind_only given (xs ++ ys) [] t))
+        rewritten_is kind_only given (xs ++ c ∷ ys) [] t ∙ step-replaced old new p t l f count i m (given c.0) a n w (keeps given (xs ++ ys) p k) (elsewhere-replace p i wanted here) replaced ∙ ap (λ u. updated_at u (new_path old p) (spliced (to_slot (below_path p old) i) (suc m) (given c.0))) (sym (rewritten_is kind_only given (xs ++ ys) [] t))

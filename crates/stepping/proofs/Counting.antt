@@ -200,12 +200,12 @@ module _ (d e : Edits ℕ) (count a m : ℕ) (ts : List SyntaxTree) (h : Replace
       let before = kept-replaced i (omega arith) in
       elim (where_is i) [
         | inl outside ↦
-            let same : cond (replaced_in e i) 0 1 ≡ cond (replaced_in d i) 0 1 = ap (λ o. cond (is_some o) 0 1) (slot-outside i (omega arith) outside) in
+            let same : ◌≡◌ {A = ℕ} (cond (replaced_in e i) 0 1) (cond (replaced_in d i) 0 1) = ap (λ o. cond {A = ℕ} (is_some o) 0 1) (slot-outside i (omega arith) outside) in
             let still : min (suc m) (suc i - a) ≡ min (suc m) (i - a) = elim outside [ inl less ↦ omega arith | inr more ↦ omega arith ] in
             omega arith
         | inr inside ↦
-            let was : cond (replaced_in d i) 0 1 ≡ 1 = ap (λ o. cond (is_some o) 0 1) (h.kept i inside.0 inside.1) in
-            let now : cond (replaced_in e i) 0 1 ≡ 0 = taken-now i inside.0 inside.1 in
+            let was : ◌≡◌ {A = ℕ} (cond (replaced_in d i) 0 1) 1 = ap (λ o. cond {A = ℕ} (is_some o) 0 1) (h.kept i inside.0 inside.1) in
+            let now : ◌≡◌ {A = ℕ} (cond (replaced_in e i) 0 1) 0 = taken-now i inside.0 inside.1 in
             let one : min (suc m) (suc i - a) ≡ suc (min (suc m) (i - a)) = let lower = inside.0 in let upper = inside.1 in omega arith in
             omega arith
       ]
@@ -217,11 +217,11 @@ module _ (d e : Edits ℕ) (count a m : ℕ) (ts : List SyntaxTree) (h : Replace
             | inr most ↦ elim (cases_lt (a + m) j) [ inl more ↦ inl (inr more) | inr least ↦ inr (most, least) ]
           ]
 
-      taken-now : (j : ℕ) → a ≤ j → j ≤ a + m → cond (replaced_in e j) 0 1 ≡ 0
+      taken-now : (j : ℕ) → a ≤ j → j ≤ a + m → ◌≡◌ {A = ℕ} (cond (replaced_in e j) 0 1) 0
       taken-now j l u =
           elim (cases_eq j a) [
-            | inl same ↦ ap (λ k. cond (replaced_in e k) 0 1) same ∙ ap (λ o. cond (is_some o) 0 1) h.first
-            | inr other ↦ ap (λ o. cond (is_some o) 0 1) (h.later j (omega arith) u)
+            | inl same ↦ ap (λ k. cond {A = ℕ} (replaced_in e k) 0 1) same ∙ ap (λ o. cond {A = ℕ} (is_some o) 0 1) h.first
+            | inr other ↦ ap (λ o. cond {A = ℕ} (is_some o) 0 1) (h.later j (omega arith) u)
           ]
 
   put-replaced : (i : ℕ) → i ≤ count → put_before (gap_in e) (slot_in e) i ≡ put_before (gap_in d) (slot_in d) i + cond (nat_lt a i) (length ts) 0

@@ -4,3 +4,8 @@ pub mod Steps
 pub mod AimSteps
 pub mod Dead
 pub mod Counting
+pub mod Putting
+pub mod Stepping
+pub mod Aims
+pub mod Taken
+pub mod Keyed

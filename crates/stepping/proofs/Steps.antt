@@ -1,6 +1,7 @@
 -- One change more: the rewritten tree is spliced at one node.
 --     Inserted, Replaced             the edits of the second set are those of the first with one insert, or one replacement, more in the node
 --     remade-inserted, remade-replaced      the node is spliced
+--     room-inserted, room-replaced   what is spliced is there
 --     step-inserted, step-replaced   the whole tree is updated there
 use Rattle.std.specs.Prelude.{◌≡◌, ℕ, zero, suc, ◌+◌, ◌<◌, ◌≤◌, List, [], ◌∷◌, ◌++◌, length, Some, None, refl}
 use Rattle.std.proofs.Common.{ap, ap₂, sym, ◌∙◌, get_or, arith}
@@ -43,6 +44,12 @@ module _ (d e : Edits ℕ) (i : ℕ) (ts : List SyntaxTree) (h : Inserted d e i 
       let list : spliced_list (to_gap d i) 0 ts (trees (forest (remade_from d 0 f))) ≡ front ++ ts ++ back = ap (λ xs. spliced_list (to_gap d i) 0 ts xs) old ∙ splice_at front [] back ts (to_gap d i) 0 (length-before d 0 f i w) refl in
       ap₂ (λ o xs. Node (o l) (forest xs)) (sym h.label) (new ∙ sym (append_assoc front ts back) ∙ sym list)
 
+pub room-inserted : (d : Edits ℕ) (f : Forest ℕ) (i : ℕ) → i ≤ length (trees f) → to_gap d i ≤ length (trees (forest (remade_from d 0 f)))
+room-inserted d f i w =
+    let whole = ap length (trees-forest (remade_from d 0 f) ∙ cut d 0 f i i w (omega arith)) in
+    let parts = length-append (before d 0 f i) (remade_from d i (after f i)) in
+    omega (arith, length-before d 0 f i w)
+
 -- ---- one replacement more, of the slots from i on, so many, of the node at the top, which has this count of children
 pub record Replaced (d e : Edits ℕ) (count i m : ℕ) (ts : List SyntaxTree) : Type 0 where
   pub label : d.label_at [] ≡ e.label_at []
@@ -72,26 +79,58 @@ module _ (d e : Edits ℕ) (count i m : ℕ) (ts : List SyntaxTree) (h : Replace
       let none : e.gap [] k ++ filled (e.slot [] k) (remade (below k e) t) ≡ [] = ap₂ (λ g o. g ++ filled o (remade (below k e) t)) (ap (λ g. g k) (sym h.gaps) ∙ h.no_insert k l (omega arith)) (h.later k l (omega arith)) in
       ap₂ (λ x y. x ++ y) none (none-kept (suc k) f n (omega arith) (omega arith))
 
+  -- the first of the range, and those behind it
+  abbrev first_kept : Forest ℕ → SyntaxTree
+  first_kept f = get_or (trees f) i (Token 0 [])
+
+  abbrev later_kept : Forest ℕ → List SyntaxTree
+  later_kept f = before d (suc i) (after f (suc i)) m
+
+  old-replaced : (f : Forest ℕ) → i + m < length (trees f) → trees (forest (remade_from d 0 f)) ≡ (before d 0 f i ++ d.gap [] i) ++ remade (below i d) (first_kept f) ∷ later_kept f ++ remade_from d (suc (i + m)) (after (after f (suc i)) m)
+  old-replaced f w =
+      let c = first_kept f in
+      let g = after f (suc i) in
+      let child : after f i ≡ more c g = after-more f i c (slice_get-get_or (trees f) i (Token 0 []) (omega arith)) in
+      let room : m ≤ length (trees g) = omega (arith, length-after f (suc i) (omega arith)) in
+      let x = remade (below i d) c in
+      let sum : suc i + m ≡ suc (i + m) = omega arith in
+      let at_i : remade_from d i (after f i) ≡ d.gap [] i ++ (x ∷ []) ++ (before d (suc i) g m ++ remade_from d (suc (i + m)) (after g m)) = ap (λ q. remade_from d i q) child ∙ ap₂ (λ o r. d.gap [] i ++ filled o x ++ r) (h.kept i (omega arith) (omega arith)) (cut d (suc i) g m (suc (i + m)) room sum) in
+      trees-forest (remade_from d 0 f) ∙ cut d 0 f i i (omega arith) (omega arith) ∙ ap (λ y. before d 0 f i ++ y) at_i ∙ simp append_assoc
+
+  length-front : (f : Forest ℕ) → i + m < length (trees f) → length (before d 0 f i ++ d.gap [] i) ≡ to_slot d i
+  length-front f w = length-append (before d 0 f i) (d.gap [] i) ∙ ap (λ n. n + length (d.gap [] i)) (length-before d 0 f i (omega arith))
+
+  length-later : (f : Forest ℕ) → i + m < length (trees f) → length (later_kept f) ≡ m
+  length-later f w = length-kept (suc i) (after f (suc i)) m (omega arith) (omega arith) (omega (arith, length-after f (suc i) (omega arith)))
+
+  -- the range is there
+  pub room-replaced : (f : Forest ℕ) → i + m < length (trees f) → to_slot d i + suc m ≤ length (trees (forest (remade_from d 0 f)))
+  room-replaced f w =
+      let back = remade_from d (suc (i + m)) (after (after f (suc i)) m) in
+      let front = before d 0 f i ++ d.gap [] i in
+      let x = remade (below i d) (first_kept f) in
+      let whole = ap length (old-replaced f w) in
+      let one = length-append (front ++ x ∷ later_kept f) back in
+      let two = length-append front (x ∷ later_kept f) in
+      let three = ap length (append_assoc front (x ∷ later_kept f) back) in
+      omega (arith, length-front f w, length-later f w)
+
   pub remade-replaced : (l : ℕ) (f : Forest ℕ) → length (trees f) ≡ count → i + m < count → remade e (Node l f) ≡ spliced (to_slot d i) (suc m) ts (remade d (Node l f))
   remade-replaced l f n w =
-      let none : SyntaxTree = Token 0 [] in
-      let c = get_or (trees f) i none in
+      let c = first_kept f in
       let g = after f (suc i) in
-      let child : after f i ≡ more c g = after-more f i c (slice_get-get_or (trees f) i none (omega arith)) in
+      let inside : i + m < length (trees f) = omega arith in
+      let child : after f i ≡ more c g = after-more f i c (slice_get-get_or (trees f) i (Token 0 []) (omega arith)) in
       let room : m ≤ length (trees g) = omega (arith, length-after f (suc i) (omega arith)) in
       let front = before d 0 f i ++ d.gap [] i in
       let x = remade (below i d) c in
-      let mid = before d (suc i) g m in
       let back = remade_from d (suc (i + m)) (after g m) in
       let sum : suc i + m ≡ suc (i + m) = omega arith in
       let same_before : before e 0 f i ≡ before d 0 f i = sym (before-same d e 0 f i i (omega arith) (λ j b. same_item d e j (ap (λ o. o j) h.gaps) (h.below_it j b) (h.deeper j))) in
       let same_back : remade_from e (suc (i + m)) (after g m) ≡ back = sym (from-same d e (suc (i + m)) (suc (i + m)) (after g m) (omega arith) (λ j b u. same_item d e j (ap (λ o. o j) h.gaps) (h.above_it j (omega arith) (omega (arith, length-after g m room, length-after f (suc i) (omega arith)))) (h.deeper j)) (λ j b u. ap (λ o. o j) h.gaps)) in
-      let at_i_old : remade_from d i (after f i) ≡ d.gap [] i ++ (x ∷ []) ++ (mid ++ back) = ap (λ q. remade_from d i q) child ∙ ap₂ (λ o r. d.gap [] i ++ filled o x ++ r) (h.kept i (omega arith) (omega arith)) (cut d (suc i) g m (suc (i + m)) room sum) in
       let at_i_new : remade_from e i (after f i) ≡ d.gap [] i ++ ts ++ back = ap (λ q. remade_from e i q) child ∙ ap₂ (λ y r. y ++ r) (ap₂ (λ y o. y ++ filled o (remade (below i e) c)) (ap (λ o. o i) (sym h.gaps)) h.first) (cut e (suc i) g m (suc (i + m)) room sum ∙ ap₂ (λ y r. y ++ r) (none-kept (suc i) g m (omega arith) sum) same_back) in
-      let old : trees (forest (remade_from d 0 f)) ≡ front ++ x ∷ mid ++ back = trees-forest (remade_from d 0 f) ∙ cut d 0 f i i (omega arith) (omega arith) ∙ ap (λ y. before d 0 f i ++ y) at_i_old ∙ simp append_assoc in
       let new : remade_from e 0 f ≡ front ++ ts ++ back = cut e 0 f i i (omega arith) (omega arith) ∙ ap₂ (λ y r. y ++ r) same_before at_i_new ∙ simp append_assoc in
-      let long : length front ≡ to_slot d i = length-append (before d 0 f i) (d.gap [] i) ∙ ap (λ n. n + length (d.gap [] i)) (length-before d 0 f i (omega arith)) in
-      let list : spliced_list (to_slot d i) (suc m) ts (trees (forest (remade_from d 0 f))) ≡ front ++ ts ++ back = ap (λ xs. spliced_list (to_slot d i) (suc m) ts xs) old ∙ splice_at front (x ∷ mid) back ts (to_slot d i) (suc m) long (ap suc (length-kept (suc i) g m (omega arith) sum room)) in
+      let list : spliced_list (to_slot d i) (suc m) ts (trees (forest (remade_from d 0 f))) ≡ front ++ ts ++ back = ap (λ xs. spliced_list (to_slot d i) (suc m) ts xs) (old-replaced f inside) ∙ splice_at front (x ∷ later_kept f) back ts (to_slot d i) (suc m) (length-front f inside) (ap suc (length-later f inside)) in
       ap₂ (λ o xs. Node (o l) (forest xs)) (sym h.label) (new ∙ sym list)
 
 -- ---- in the whole tree

@@ -5,7 +5,8 @@
 --     CanStep                       it is so of some aims that are done
 --     TakesStep                     whatever was done, that aim is done too, which gave these elements
 --     StaysAs                       whatever was done, nothing more is
---     is_live, step_builds          an aim leads to a node's gap or slot that is there; how many nodes a step builds
+--     is_child, is_live             there is such a child; an aim leads to a gap or a slot that is there
+--     step_builds                   how many nodes a step builds
 use Rattle.std.specs.Prelude.{◌≡◌, ◌+◌, ℕ, suc, Bool, true, false, cond, not, List, [], ◌∷◌, ◌++◌, length, sum_by, Option, Some}
 use Rattle.std.specs.Option.{option_map_or}
 use Rattle.green_tree.specs.Path.{Path}
@@ -52,7 +53,7 @@ abbrev pub StaysAs : Stage → Stage → Type 0
 StaysAs before after = (given : ℕ → List SyntaxTree) (cs : List NumberedAim) → IsStage given cs before → IsStage given cs after
 
 -- ---- how much it takes
-abbrev is_child : SyntaxTree → Path → Bool
+abbrev pub is_child : SyntaxTree → Path → Bool
 is_child t [] = false
 is_child t (i ∷ p) = option_map_or (λ e. true) (at t (i ∷ p)) false
 

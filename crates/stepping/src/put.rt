@@ -48,6 +48,7 @@ pub(crate) fn put(
     let GreenElement::Node(node) = element else {
         unreachable!()
     };
+    let children = node.children();
     let (above, below) = target.parent.split_at(depth);
     let done_here = done.at(above);
     let [slot, ..] = below else {
@@ -61,7 +62,7 @@ pub(crate) fn put(
         count: 1,
     };
     let slot = start(done_here, here);
-    let child = put(alloc, &node.children()[slot], done, target, depth + 1, given)?;
+    let child = put(alloc, &children[slot], done, target, depth + 1, given)?;
     let mut only = Vec::with_capacity(alloc, 1)?;
     only.push(child)?;
     let node = node.splice_children(alloc, slot, slot + 1, only)?;

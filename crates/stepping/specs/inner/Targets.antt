@@ -1,6 +1,6 @@
 -- Where an aim alters the children of a node of a tree, if it does.
---     child_count                    how many children the node at a path has: nothing where the path leads to no node
---     Child, child_at                a child by its parent and slot, with how many children there are from it on; that at a path
+--     count_in, child_count          how many children a node has; the node at a path: nothing where there is no node
+--     Child, child_in, child_at      a child by its parent and slot, with how many children there are from it on; that in a slot; that at a path
 --     child_of                       that of one in code
 --     Place, place_of                a node by its path, and where among its children; that of a target in code
 --     live_target                    of an aim: its node, and the gap or the slots that are there
@@ -14,7 +14,7 @@ use Rattle.stepping.specs.declared.done.Among.TheVariants.{Gap, Slots}
 use Rattle.stepping.specs.declared.target.OldChild.{OldChild}
 use Rattle.stepping.specs.declared.target.Target.{Target}
 
-abbrev count_in : SyntaxTree → Option ℕ
+abbrev pub count_in : SyntaxTree → Option ℕ
 count_in (Token k s) = None
 count_in (Node k f) = Some (length (trees f))
 
@@ -30,7 +30,7 @@ pub record Child : Type 0 where
 abbrev pub child_of : OldChild → Child
 child_of c = record { parent = c.parent.now; slot = c.slot; left = c.left }
 
-abbrev child_in : Path → ℕ → ℕ → Option Child
+abbrev pub child_in : Path → ℕ → ℕ → Option Child
 child_in p i count = cond (nat_lt i count) (Some (record { parent = p; slot = i; left = count - i })) None
 
 abbrev pub child_at : SyntaxTree → Path → Option Child

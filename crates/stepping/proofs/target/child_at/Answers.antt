@@ -1,16 +1,29 @@
-use Rattle.std.proofs.Common.{rules, ◌≡◌, ◌<◌, ◌+◌, ◌^◌, option_map, IfSome, ℕ, ◌-◌, ◌*◌, ◌≤◌, length, ◌/◌, ◌%◌, Bool, true, false, nat_eq, nat_lt, List, [], ◌∷◌, ◌++◌, slice_index_or, slice_set, bit_and, bit_or, Fits, w8, w32, w64, Bor, MutBor}
+use Rattle.std.proofs.Common.{◌≡◌, ◌-◌, ℕ, List, length, take, get_or, cond, ap, sym, ◌∙◌}
+use Rattle.std.specs.Prelude.{Option, Some, None, option_map, option_and_then, nat_lt}
+use Rattle.std.proofs.lemmas.Bool.{lt-ltb, le-ltb}
 use Rattle.green_tree.specs.GreenElement.{element_tree}
-use Rattle.stepping.specs.inner.Targets.{child_count, child_at, child_of, live_target, place_of}
+use Rattle.stepping.specs.inner.Targets.{Child, child_in, child_of, child_count}
+use Rattle.stepping.proofs.Keyed.{child-by-last}
 use Rattle.stepping.proofs.target.child_at.Goals as goal
 
--- src/target.rt:45:17
 pub returns-in_err-count-clause-child : goal.returns-in_err-count-clause-child
-returns-in_err-count-clause-child c = ?
+returns-in_err-count-clause-child c =
+    let p = c.args.path.now in
+    let t = element_tree c.args.element.now in
+    ap (option_map child_of) c.from_residual.ensures ∙ ap (option_and_then (child_in (take (length p - 1) p) (get_or p (length p - 1) 0))) c.in_err-count.ensures ∙ sym (child-by-last t p c.in-len1-up.len_at_least)
 
--- src/target.rt:47:9
 pub returns-then-slot-count-clause-child : goal.returns-then-slot-count-clause-child
-returns-then-slot-count-clause-child c = ?
+returns-then-slot-count-clause-child c =
+    let p = c.args.path.now in
+    let t = element_tree c.args.element.now in
+    let i = get_or p (length p - 1) 0 in
+    let found : Child = record { parent = take (length p - 1) p; slot = i; left = c.in_ok-count.count - i } in
+    sym (child-by-last t p c.in-len1-up.len_at_least ∙ ap (option_and_then (child_in (take (length p - 1) p) i)) (sym c.in_ok-count.ensures) ∙ ap (λ b. cond b (Some found) None) (lt-ltb i c.in_ok-count.count c.if-slot-count.true))
 
--- src/target.rt:38:1
 pub returns-clause-child : goal.returns-clause-child
-returns-clause-child c = ?
+returns-clause-child c =
+    let p = c.args.path.now in
+    let t = element_tree c.args.element.now in
+    let i = get_or p (length p - 1) 0 in
+    let found : Child = record { parent = take (length p - 1) p; slot = i; left = c.in_ok-count.count - i } in
+    sym (child-by-last t p c.in-len1-up.len_at_least ∙ ap (option_and_then (child_in (take (length p - 1) p) i)) (sym c.in_ok-count.ensures) ∙ ap (λ b. cond b (Some found) None) (le-ltb i c.in_ok-count.count c.if-slot-count.false))

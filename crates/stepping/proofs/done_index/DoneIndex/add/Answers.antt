@@ -1,8 +1,8 @@
-use Rattle.std.proofs.Common.{rules, ◌≡◌, [], OnOk, OnErr, ℕ, ◌+◌, ◌-◌, ◌*◌, ◌<◌, ◌≤◌, length, ◌/◌, ◌%◌, Bool, true, false, nat_eq, nat_lt, List, ◌∷◌, ◌++◌, slice_index_or, slice_set, bit_and, bit_or, Fits, w8, w32, w64, Bor, MutBor}
-use Rattle.green_tree.specs.Path.{Path}
-use Rattle.stepping.specs.inner.Places.{done_at, HasOneMore, SameDone}
+use Rattle.std.proofs.Common.{◌∷◌, ◌++◌, [], ap, ◌∙◌}
+use Rattle.stepping.proofs.Keyed.{one-more}
 use Rattle.stepping.proofs.done_index.DoneIndex.add.Goals as goal
 
--- src/done_index.rt:35:5
 pub returns-clause-ok : goal.returns-clause-ok
-returns-clause-ok c = ?
+returns-clause-ok c =
+    let updates = c.in_ok-insert.ensures.updates in
+    one-more c.args.self.now.lists.entries c.insert.new.self.entries c.in_ok-key.key c.push.new.self c.args.path.now c.args.done c.in_ok-key.ensures.items (c.in_ok-push.ensures.items ∙ ap (λ ds. ds ++ c.args.done ∷ []) (c.in_ok-list.ensures.items ∙ c.at.ensures)) updates.1 updates.3

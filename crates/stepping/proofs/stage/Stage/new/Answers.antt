@@ -1,11 +1,16 @@
-use Rattle.std.proofs.Common.{rules, ◌≡◌, ℕ, List, [], IfOk, OnOk, OnErr, ◌+◌, ◌-◌, ◌*◌, ◌<◌, ◌≤◌, length, ◌/◌, ◌%◌, Bool, true, false, nat_eq, nat_lt, ◌∷◌, ◌++◌, slice_index_or, slice_set, bit_and, bit_or, Fits, w8, w32, w64, Bor, MutBor}
-use Rattle.green_tree.specs.Tree.{SyntaxTree}
-use Rattle.green_tree.specs.GreenElement.{element_tree, element_trees}
-use Rattle.rewriting.specs.Effort.{counted}
-use Rattle.rewriting.specs.inner.Aimed.{numbered}
-use Rattle.stepping.specs.Stage.{old_tree, new_tree, IsStage, CanStep, TakesStep, StaysAs, step_builds}
+use Rattle.std.proofs.Common.{[], ap, sym, subst, ◌∙◌, length}
+use Rattle.green_tree.specs.Tree.{trees}
+use Rattle.green_tree.specs.GreenElement.{element_tree}
+use Rattle.rewriting.proofs.Untouched.{nothing_made}
+use Rattle.std.proofs.Common.{refl}
+use Rattle.stepping.specs.inner.Counts.{IsCounted}
+use Rattle.stepping.proofs.Taken.{none_done}
 use Rattle.stepping.proofs.stage.Stage.new.Goals as goal
 
--- src/stage.rt:29:5
 pub returns-clause-stage : goal.returns-clause-stage
-returns-clause-stage c = ?
+returns-clause-stage c = λ given.
+    let old = element_tree c.in_ok-share.field-0 in
+    record {
+      tree = ap element_tree (sym c.in_ok-share.ensures) ∙ sym (nothing_made given [] old refl);
+      counted = λ p k f there. subst (λ ds. IsCounted given [] p (length (trees f)) ds) (sym (c.new.ensures p)) (none_done given p (length (trees f)));
+    }
