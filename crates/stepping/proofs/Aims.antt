@@ -3,15 +3,15 @@
 --     IsRange, Reaches               slots that are there of those that an aim is over; a gap or slots that an aim reaches
 --     IsLive, found-live             an aim that is found is live
 --     found-dead                     one that is not found is dead: it alters nothing
-use Rattle.std.specs.Prelude.{◌≡◌, ℕ, zero, suc, ◌+◌, ◌-◌, ◌<◌, ◌≤◌, Bool, true, false, ◌&&◌, ◌||◌, cond, not, nat_lt, min, List, [], ◌∷◌, ◌++◌, map, length, get_or, slice_get, Option, Some, None, option_map, option_and_then, refl}
+use Rattle.std.specs.Prelude.{◌≡◌, ℕ, zero, suc, ◌+◌, ◌-◌, ◌<◌, ◌≤◌, true, false, ◌&&◌, ◌||◌, cond, not, nat_lt, min, List, [], ◌∷◌, ◌++◌, length, Option, Some, None, option_map, option_and_then, refl}
 use Rattle.std.specs.Option.{option_map_or, is_some}
 use Rattle.std.proofs.Common.{ap, ap₂, sym, subst, ◌∙◌, arith}
 use Rattle.std.proofs.lemmas.Bool.{cases_lt, lt-ltb, le-ltb, eq-eqb}
 use Rattle.std.proofs.lemmas.List.{same_from_push}
-use Rattle.std.proofs.lemmas.Option.{same_Some, slice_get-get_or, slice_get_past, none-some}
+use Rattle.std.proofs.lemmas.Option.{same_Some, slice_get-get_or, slice_get_past}
 use mathlib.Core.Logic.{inl, inr}
 use mathlib.Core.Path.{fun_ext}
-use Rattle.green_tree.specs.Path.{Path, same_path, parent_path, last_slot, counted_from}
+use Rattle.green_tree.specs.Path.{Path, parent_path, last_slot}
 use Rattle.green_tree.specs.Tree.{Forest, Token, Node, SyntaxTree, is_token, trees, at}
 use Rattle.green_tree.proofs.Lookup.{at-append}
 use Rattle.rewriting.specs.Aim.{Aim, FirstIn, Behind, Over, aims_at_gap, starts_at, replaces, parents}
@@ -19,17 +19,13 @@ use Rattle.rewriting.specs.Rewriting.{NumberedAim}
 use Rattle.rewriting.specs.declared.aimed.AimForm.{AimForm}
 use Rattle.rewriting.specs.declared.aimed.AimForm.TheVariants as form
 use Rattle.rewriting.specs.inner.Aimed.{aim_in}
-use Rattle.rewriting.specs.inner.Pass.{kind_only}
 use Rattle.rewriting.proofs.SeenBelow.{no_end}
 use Rattle.stepping.specs.Stage.{is_child, is_live}
 use Rattle.stepping.specs.declared.done.Among.{Among}
 use Rattle.stepping.specs.declared.done.Among.TheVariants.{Gap, Slots}
 use Rattle.stepping.specs.declared.done.Done.{Done}
 use Rattle.stepping.specs.inner.Targets.{Child, count_in, child_count, child_in, child_at, live_target, Place}
-use Rattle.stepping.proofs.Edits.{edits_of, below_path}
-use Rattle.stepping.proofs.Places.{Elsewhere}
-use Rattle.stepping.proofs.AimSteps.{same_path_from, same_path-true, range, elsewhere-insert, other_gaps, slots, elsewhere-replace, gaps_over, slot_outside, same_gap, same_slot}
-use Rattle.stepping.proofs.Dead.{AgreeTo}
+use Rattle.stepping.proofs.AimSteps.{same_path_from, range, elsewhere-insert, other_gaps, slots, elsewhere-replace, gaps_over, slot_outside, same_gap, same_slot}
 use Rattle.stepping.proofs.Stepping.{DeadAt}
 
 pub parent-last : (i : ℕ) (q : Path) → parent_path (i ∷ q) ++ last_slot (i ∷ q) ∷ [] ≡ i ∷ q
@@ -129,9 +125,6 @@ over_parent i q ps = ap (λ x. parents (Over (x ∷ ps))) (parent-last i q)
 over_live : (t : SyntaxTree) (i : ℕ) (q : Path) (ps : List Path) → is_live t (Over ((parent_path (i ∷ q) ++ last_slot (i ∷ q) ∷ []) ∷ ps)) ≡ is_child t (i ∷ q)
 over_live t i q ps = ap (is_child t) (parent-last i q)
 
-place-path : (a b : Place) → Some a ≡ Some b → a ≡ b
-place-path a b h = same_Some a b h
-
 found-first : (t : SyntaxTree) (p : Path) (b : Place) (o : Option SyntaxTree) → at t p ≡ o → option_map (λ count. (p, Gap 0)) (option_and_then count_in o) ≡ Some b → IsLive t (FirstIn p) b.0 b.1
 found-first t p b None there h = cc
 found-first t p b (Some (Token k s)) there h = cc
@@ -144,7 +137,7 @@ found-first t p b (Some (Node k f)) there h =
       reaches = (first_gap p, omega arith);
       live = ap (λ o. option_map_or (λ e. not (is_token e)) o false) there;
     } in
-    subst (λ x. IsLive t (FirstIn p) x.0 x.1) (place-path (p, Gap 0) b h) here
+    subst (λ x. IsLive t (FirstIn p) x.0 x.1) (same_Some (p, Gap 0) b h) here
 
 module _ (t : SyntaxTree) (i : ℕ) (q : Path) where
   abbrev parent : Path
@@ -160,7 +153,7 @@ module _ (t : SyntaxTree) (i : ℕ) (q : Path) where
   found-behind b None was h = cc
   found-behind b (Some c) was h =
       let found = is-found t parent last c (at t parent) refl was in
-      let whole : (c.parent, Gap (suc c.slot)) ≡ (parent, Gap (suc last)) = ap (λ x. (x.parent, Gap (suc x.slot))) found.is in
+      let whole : ◌≡◌ {A = Place} (c.parent, Gap (suc c.slot)) (parent, Gap (suc last)) = ap (λ x. (x.parent, Gap (suc x.slot))) found.is in
       let here : IsLive t (Behind (i ∷ q)) parent (Gap (suc last)) = record {
         kind = found.kind;
         children = found.children;
@@ -169,14 +162,14 @@ module _ (t : SyntaxTree) (i : ℕ) (q : Path) where
         reaches = (next_gap i q, omega (arith, found.within));
         live = some-child c was;
       } in
-      subst (λ x. IsLive t (Behind (i ∷ q)) x.0 x.1) (sym whole ∙ place-path (c.parent, Gap (suc c.slot)) b h) here
+      subst (λ x. IsLive t (Behind (i ∷ q)) x.0 x.1) (sym whole ∙ same_Some (c.parent, Gap (suc c.slot)) b h) here
 
   found-over : (n : ℕ) (b : Place) (o : Option Child) → child_at t (i ∷ q) ≡ o → option_map (λ c. (c.parent, Slots c.slot (min (suc n) c.left))) o ≡ Some b → IsLive t (Over (range parent last (suc n))) b.0 b.1
   found-over n b None was h = cc
   found-over n b (Some c) was h =
       let found = is-found t parent last c (at t parent) refl was in
       let count = length (trees found.children) in
-      let whole : (c.parent, Slots c.slot (min (suc n) c.left)) ≡ (parent, Slots last (min (suc n) (count - last))) = ap (λ x. (x.parent, Slots x.slot (min (suc n) x.left))) found.is in
+      let whole : ◌≡◌ {A = Place} (c.parent, Slots c.slot (min (suc n) c.left)) (parent, Slots last (min (suc n) (count - last))) = ap (λ x. (x.parent, Slots x.slot (min (suc n) x.left))) found.is in
       let inside : last < count = found.within in
       let here : IsLive t (Over (range parent last (suc n))) parent (Slots last (min (suc n) (count - last))) = record {
         kind = found.kind;
@@ -194,7 +187,7 @@ module _ (t : SyntaxTree) (i : ℕ) (q : Path) where
         };
         live = over_live t i q (range parent (suc last) n) ∙ some-child c was;
       } in
-      subst (λ x. IsLive t (Over (range parent last (suc n))) x.0 x.1) (sym whole ∙ place-path (c.parent, Slots c.slot (min (suc n) c.left)) b h) here
+      subst (λ x. IsLive t (Over (range parent last (suc n))) x.0 x.1) (sym whole ∙ same_Some (c.parent, Slots c.slot (min (suc n) c.left)) b h) here
 
 pub found-live : (t : SyntaxTree) (p : Path) (w : AimForm) (b : Place) → live_target t p w ≡ Some b → IsLive t (aim_in p w) b.0 b.1
 found-live t p form.FirstIn b h = found-first t p b (at t p) refl h
@@ -209,6 +202,7 @@ none-mapped : {X Y : Type 0} (f : X → Y) (o : Option X) → option_map f o ≡
 none-mapped f None h = refl
 none-mapped f (Some x) h = cc
 
+-- so it is not live
 pub found-none : (t : SyntaxTree) (p : Path) (w : AimForm) → live_target t p w ≡ None → is_live t (aim_in p w) ≡ false
 found-none t p form.FirstIn h = first-live (at t p) ∙ ap is_some (none-mapped (λ n. (p, Gap 0)) (child_count t p) h)
 found-none t [] form.Behind h = refl

@@ -4,7 +4,7 @@
 --     start-gap, start-slot          where a gap and a slot begin is found from the changes
 --     told-inserted, told-replaced   one change more is told by one more in the list
 --     told-same                      what edits at a node say stays as long as these edits do
-use Rattle.std.specs.Prelude.{◌≡◌, ◌⊎◌, ℕ, zero, suc, ◌+◌, ◌-◌, ◌<◌, ◌≤◌, Bool, true, false, not, cond, min, nat_lt, sum_by, List, [], ◌∷◌, ◌++◌, flat_map, length, Option, Some, None, refl}
+use Rattle.std.specs.Prelude.{◌≡◌, ◌⊎◌, ℕ, zero, suc, ◌+◌, ◌-◌, ◌<◌, ◌≤◌, Bool, true, false, not, cond, min, nat_lt, List, [], ◌∷◌, ◌++◌, flat_map, length, Option, Some, None, refl}
 use Rattle.std.specs.Option.{is_some}
 use Rattle.std.proofs.Common.{ap, ap₂, sym, subst, ◌∙◌, arith}
 use Rattle.std.proofs.lemmas.Bool.{cases_eq, cases_lt, lt-ltb, le-ltb}
@@ -252,20 +252,19 @@ module _ (d e : Edits ℕ) (count a m : ℕ) (ts : List SyntaxTree) (h : Replace
     where
       -- what a slot holds: the elements at the first one, and else what it held
       held : (j : ℕ) → j < count → (j ≡ a → slot_in e j ≡ slot_in d j + length ts) × ((j ≡ a → ⊥) → slot_in e j ≡ slot_in d j)
-      held j l =
-          (
-            (λ same.
-                let now : slot_in e j ≡ length ts = ap (λ k. slot_in e k) same ∙ ap put_in h.first in
-                let was : slot_in d j ≡ 0 = ap put_in (h.kept j (omega arith) (omega arith)) in
-                omega arith),
-            (λ other. elim (cases_lt j a) [
-              | inl less ↦ ap put_in (sym (h.below_it j less))
-              | inr most ↦ elim (cases_lt (a + m) j) [
-                | inl more ↦ ap put_in (sym (h.above_it j more l))
-                | inr least ↦ ap put_in (h.later j (omega arith) least) ∙ sym (ap put_in (h.kept j most least))
-              ]
-            ])
-          )
+      held j l = (
+        (λ same.
+            let now : slot_in e j ≡ length ts = ap (λ k. slot_in e k) same ∙ ap put_in h.first in
+            let was : slot_in d j ≡ 0 = ap put_in (h.kept j (omega arith) (omega arith)) in
+            omega arith),
+        (λ other. elim (cases_lt j a) [
+          | inl less ↦ ap put_in (sym (h.below_it j less))
+          | inr most ↦ elim (cases_lt (a + m) j) [
+            | inl more ↦ ap put_in (sym (h.above_it j more l))
+            | inr least ↦ ap put_in (h.later j (omega arith) least) ∙ sym (ap put_in (h.kept j most least))
+          ]
+        ]),
+      )
 
   pub told-replaced : (ds : List Done) → Told d count ds → Told e count (ds ++ replacing ∷ [])
   told-replaced ds t = record {

@@ -1,10 +1,10 @@
 -- Edits that differ only where nothing is make the same tree.
 --     AgreeTo, AgreeThere            they agree in the gaps and slots of a node with so many children; of the node that is there, if one is
 --     remade-agree                   they make the same tree
-use Rattle.std.specs.Prelude.{◌≡◌, ℕ, zero, suc, ◌+◌, ◌<◌, ◌≤◌, List, [], ◌∷◌, ◌++◌, length, slice_get, Option, Some, None, option_and_then, refl}
-use Rattle.std.proofs.Common.{ap, ap₂, sym, subst, ◌∙◌, arith}
+use Rattle.std.specs.Prelude.{◌≡◌, ℕ, zero, suc, ◌+◌, ◌<◌, ◌≤◌, [], ◌∷◌, ◌++◌, length, slice_get, Option, Some, None, option_and_then, refl}
+use Rattle.std.proofs.Common.{ap, ap₂, sym, subst, arith}
 use Rattle.green_tree.specs.Path.{Path}
-use Rattle.green_tree.specs.Tree.{Forest, Token, Node, end, more, SyntaxTree, forest, trees, children, at}
+use Rattle.green_tree.specs.Tree.{Forest, Token, Node, end, more, SyntaxTree, forest, trees, at}
 use Rattle.stepping.proofs.Edits.{Edits, below, below_path, filled, remade, remade_from}
 use Rattle.stepping.proofs.Places.{same_item, from-same, Elsewhere, Beside, beside, elsewhere_below}
 

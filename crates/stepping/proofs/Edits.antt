@@ -9,7 +9,7 @@ use Rattle.std.proofs.Common.{ap, ap₂, sym, ◌∙◌}
 use Rattle.std.proofs.lemmas.List.{append-nil, append_assoc}
 use Rattle.green_tree.specs.Path.{Path}
 use Rattle.green_tree.specs.Tree.{Tree, Forest, Token, Node, end, more, SyntaxTree, forest}
-use Rattle.rewriting.specs.Rewriting.{NumberedAim, replacements_at, is_replaced, gap_order, gap, slot, rewritten, rewritten_from}
+use Rattle.rewriting.specs.Rewriting.{NumberedAim, replacements_at, is_replaced, gap, slot, rewritten, rewritten_from}
 
 pub record Edits (L : Type 0) : Type 0 where
   pub label_at : Path → ℕ → L

@@ -3,11 +3,11 @@
 --     one-more                       one change more at a node
 --     child-by-last                  a child by its path without the last slot, as code takes it apart
 --     count-token                    below a token there is no node
-use Rattle.std.specs.Prelude.{◌≡◌, ℕ, zero, suc, ◌-◌, ◌≤◌, Bool, true, false, cond, List, [], ◌∷◌, ◌++◌, take, length, Option, Some, None, option_and_then, Vec, refl}
+use Rattle.std.specs.Prelude.{◌≡◌, ℕ, suc, ◌-◌, ◌≤◌, Bool, true, false, cond, List, [], ◌∷◌, ◌++◌, take, length, Some, None, option_and_then, Vec, refl}
 use Rattle.std.specs.Global.{Global}
 use Rattle.std.specs.Map.{lookup, KeepsOthers}
 use Rattle.std.specs.Option.{option_map_or}
-use Rattle.std.proofs.Common.{ap, ap₂, sym, subst, ◌∙◌, arith, get_or}
+use Rattle.std.proofs.Common.{ap, ap₂, sym, ◌∙◌, arith, get_or}
 use Rattle.std.proofs.lemmas.Bool.{cases_Bool}
 use mathlib.Core.Logic.{inl, inr}
 use Rattle.green_tree.specs.Path.{Path, same_path, parent_path, last_slot}

@@ -9,7 +9,7 @@
 --     Elsewhere, remade-update       where two sets of edits agree but at one node, the one tree is an update of the other there
 use Rattle.std.specs.Prelude.{◌≡◌, ℕ, zero, suc, ◌+◌, ◌<◌, ◌≤◌, List, [], ◌∷◌, ◌++◌, length, slice_get, Option, Some, None, option_and_then, refl}
 use Rattle.std.specs.Option.{option_map_or}
-use Rattle.std.proofs.Common.{ap, ap₂, sym, ◌∙◌, take, drop, arith}
+use Rattle.std.proofs.Common.{ap, ap₂, sym, ◌∙◌, take, arith}
 use Rattle.std.proofs.lemmas.List.{append_assoc, length-append, take_at, drop_at}
 use Rattle.std.proofs.lemmas.Option.{same_Some, slice_get_within}
 use Rattle.green_tree.specs.Path.{Path}

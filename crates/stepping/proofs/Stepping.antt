@@ -25,7 +25,7 @@ use Rattle.stepping.specs.inner.Places.{index_of, count_of, removed, start, plac
 use Rattle.stepping.specs.inner.Putting.{CanPut, put}
 use Rattle.stepping.specs.inner.Splices.{spliced, updated_at}
 use Rattle.stepping.proofs.Edits.{Edits, below, below_path, edits_of, remade, remade_from, rewritten_is}
-use Rattle.stepping.proofs.Places.{to_gap, to_slot, new_path, at-new_path, Elsewhere}
+use Rattle.stepping.proofs.Places.{to_slot, new_path, at-new_path, Elsewhere}
 use Rattle.stepping.proofs.Steps.{room-inserted, room-replaced}
 use Rattle.stepping.proofs.AimSteps.{same_path-true, same_path_from, gap_is, range, in_range, IsKept, keeps, elsewhere-insert, inserted, insert_more, elsewhere-replace, replaced, replace_more}
 use Rattle.stepping.proofs.Dead.{AgreeTo, AgreeThere, remade-agree}

@@ -8,7 +8,7 @@ use Rattle.std.proofs.Common.{ap, ap₂, sym, ◌∙◌, get_or, arith}
 use Rattle.std.proofs.lemmas.List.{append-nil, append_assoc, length-append}
 use Rattle.std.proofs.lemmas.Option.{slice_get-get_or}
 use Rattle.green_tree.specs.Path.{Path}
-use Rattle.green_tree.specs.Tree.{Tree, Forest, Token, Node, end, more, SyntaxTree, forest, trees, at}
+use Rattle.green_tree.specs.Tree.{Forest, Token, Node, end, more, SyntaxTree, forest, trees, at}
 use Rattle.green_tree.proofs.Lookup.{trees-forest}
 use Rattle.stepping.specs.inner.Splices.{spliced_list, spliced, updated_at}
 use Rattle.stepping.proofs.Edits.{Edits, below, below_path, filled, remade, remade_from}

@@ -2,10 +2,10 @@
 --     made-live                      what a live aim makes
 --     none_done                      where nothing is done, that is told
 --     builds-live, builds-dead       a step of a live aim builds the nodes on the way, and one of a dead aim none
-use Rattle.std.specs.Prelude.{◌≡◌, ℕ, zero, suc, ◌+◌, ◌≤◌, true, false, cond, List, [], ◌∷◌, ◌++◌, length, sum_by, refl}
+use Rattle.std.specs.Prelude.{◌≡◌, ℕ, zero, suc, ◌+◌, true, false, cond, List, [], ◌∷◌, ◌++◌, length, sum_by, refl}
 use Rattle.std.proofs.Common.{ap, ap₂, sym, subst, ◌∙◌, arith}
 use Rattle.green_tree.specs.Path.{Path}
-use Rattle.green_tree.specs.Tree.{Forest, SyntaxTree, trees}
+use Rattle.green_tree.specs.Tree.{SyntaxTree}
 use Rattle.rewriting.specs.Aim.{Aim, parents}
 use Rattle.rewriting.specs.Rewriting.{NumberedAim}
 use Rattle.stepping.specs.Stage.{IsNext, is_live, step_builds}
@@ -13,7 +13,7 @@ use Rattle.stepping.specs.declared.done.Among.{Among}
 use Rattle.stepping.specs.declared.done.Among.TheVariants.{Gap, Slots}
 use Rattle.stepping.specs.declared.done.Done.{Done}
 use Rattle.stepping.specs.inner.Counts.{kept_slots, put_before, IsCounted}
-use Rattle.stepping.proofs.Aims.{IsLive, Reaches}
+use Rattle.stepping.proofs.Aims.{IsLive}
 use Rattle.stepping.proofs.Stepping.{AllCounted, StepMade, insert-made, replace-made}
 
 pub made-live : (t : SyntaxTree) (given : ℕ → List SyntaxTree) (xs : List NumberedAim) (c : NumberedAim) (ys : List NumberedAim) (done : Path → List Done) (p : Path) (a : Among) → AllCounted t given (xs ++ ys) done → IsLive t c.1 p a → IsNext xs c ys → StepMade t given xs c ys done p a

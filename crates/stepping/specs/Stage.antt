@@ -7,7 +7,7 @@
 --     StaysAs                       whatever was done, nothing more is
 --     is_child, is_live             there is such a child; an aim leads to a gap or a slot that is there
 --     step_builds                   how many nodes a step builds
-use Rattle.std.specs.Prelude.{◌≡◌, ◌+◌, ℕ, suc, Bool, true, false, cond, not, List, [], ◌∷◌, ◌++◌, length, sum_by, Option, Some}
+use Rattle.std.specs.Prelude.{◌≡◌, ◌+◌, ℕ, suc, Bool, true, false, cond, not, List, [], ◌∷◌, ◌++◌, length, sum_by, Some}
 use Rattle.std.specs.Option.{option_map_or}
 use Rattle.green_tree.specs.Path.{Path}
 use Rattle.green_tree.specs.Tree.{Forest, Node, SyntaxTree, is_token, trees, at}

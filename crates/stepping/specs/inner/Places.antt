@@ -8,7 +8,7 @@
 --     place                          the path in the new element of what has a path in the old one, where nothing on the way is replaced
 --     done_at, done_below            what an index has for the node at a path; at a path counted from another one
 --     HasOneMore, SameDone           it has one more for this node; it has the same as before
-use Rattle.std.specs.Prelude.{◌≡◌, ◌≤◌, ◌<◌, ◌+◌, ◌-◌, ◌^◌, ℕ, zero, suc, Bool, not, cond, nat_lt, min, sum_by, List, [], ◌∷◌, ◌++◌, Vec}
+use Rattle.std.specs.Prelude.{◌≡◌, ◌≤◌, ◌<◌, ◌+◌, ◌-◌, ◌^◌, ℕ, Bool, not, cond, nat_lt, min, sum_by, List, [], ◌∷◌, ◌++◌}
 use Rattle.std.specs.HashMap.{get_by}
 use Rattle.std.specs.Option.{option_map_or}
 use Rattle.green_tree.specs.Path.{Path, same_path}

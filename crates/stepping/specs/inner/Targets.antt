@@ -4,7 +4,7 @@
 --     child_of                       that of one in code
 --     Place, place_of                a node by its path, and where among its children; that of a target in code
 --     live_target                    of an aim: its node, and the gap or the slots that are there
-use Rattle.std.specs.Prelude.{◌-◌, ℕ, zero, suc, cond, nat_lt, min, List, [], ◌∷◌, length, Option, Some, None, option_map, option_and_then}
+use Rattle.std.specs.Prelude.{◌-◌, ℕ, zero, suc, cond, nat_lt, min, [], ◌∷◌, length, Option, Some, None, option_map, option_and_then}
 use Rattle.green_tree.specs.Path.{Path, parent_path, last_slot}
 use Rattle.green_tree.specs.Tree.{Token, Node, SyntaxTree, trees, at}
 use Rattle.rewriting.specs.declared.aimed.AimForm.{AimForm}

@@ -1,4 +1,4 @@
-use Rattle.std.proofs.Common.{◌≡◌, ◌<◌, ◌≤◌, ◌+◌, ◌∷◌, [], ◌++◌, length, take, drop, get_or, arith, length-drop, ap, ap₂, sym, subst, ◌∙◌}
+use Rattle.std.proofs.Common.{◌≡◌, ◌<◌, ◌+◌, ◌∷◌, [], ◌++◌, length, take, drop, get_or, arith, length-drop, ap, ap₂, sym, subst, ◌∙◌}
 use Rattle.std.specs.Prelude.{Some, slice_get, slice_index_or}
 use Rattle.std.proofs.lemmas.List.{length-map}
 use Rattle.green_tree.specs.Tree.{Node, node, at}
@@ -8,7 +8,6 @@ use Rattle.green_tree.proofs.Lookup.{trees-forest}
 use Rattle.green_tree.proofs.Slots.{path_ends, slice_get-child}
 use Rattle.stepping.specs.declared.done.Among.TheVariants.{Slots}
 use Rattle.stepping.specs.inner.Places.{count_of, start, place, done_at, done_below, StartFits}
-use Rattle.stepping.specs.inner.Putting.{put}
 use Rattle.stepping.proofs.Putting.{no-token, at-end, put-end, further, put-further, done_here, way_here, done_next}
 use Rattle.stepping.proofs.put.+put.Goals as goal
 

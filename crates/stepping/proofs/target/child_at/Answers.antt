@@ -1,8 +1,8 @@
-use Rattle.std.proofs.Common.{◌≡◌, ◌-◌, ℕ, List, length, take, get_or, cond, ap, sym, ◌∙◌}
-use Rattle.std.specs.Prelude.{Option, Some, None, option_map, option_and_then, nat_lt}
+use Rattle.std.proofs.Common.{◌-◌, length, take, get_or, cond, ap, sym, ◌∙◌}
+use Rattle.std.specs.Prelude.{Some, None, option_map, option_and_then}
 use Rattle.std.proofs.lemmas.Bool.{lt-ltb, le-ltb}
 use Rattle.green_tree.specs.GreenElement.{element_tree}
-use Rattle.stepping.specs.inner.Targets.{Child, child_in, child_of, child_count}
+use Rattle.stepping.specs.inner.Targets.{Child, child_in, child_of}
 use Rattle.stepping.proofs.Keyed.{child-by-last}
 use Rattle.stepping.proofs.target.child_at.Goals as goal
 

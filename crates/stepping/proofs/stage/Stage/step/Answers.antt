@@ -1,11 +1,10 @@
-use Rattle.std.proofs.Common.{◌≡◌, ◌+◌, ◌∷◌, [], ◌++◌, length, refl, ap, sym, subst, ◌∙◌, cond, arith}
-use Rattle.std.specs.Prelude.{min, ◌^◌, ◌-◌}
+use Rattle.std.proofs.Common.{◌≡◌, ◌∷◌, [], ◌++◌, length, refl, ap, sym, subst, ◌∙◌, cond, arith}
 use Rattle.std.proofs.lemmas.List.{length-map}
-use Rattle.green_tree.specs.Path.{Path, same_path}
+use Rattle.green_tree.specs.Path.{same_path}
 use Rattle.green_tree.specs.GreenElement.{element_tree, element_trees}
 use Rattle.rewriting.specs.Effort.{counted}
 use Rattle.rewriting.specs.inner.Aimed.{numbered, aim_in}
-use Rattle.stepping.specs.Stage.{old_tree, step_builds}
+use Rattle.stepping.specs.Stage.{old_tree}
 use Rattle.stepping.specs.declared.done.Done.{Done}
 use Rattle.stepping.specs.inner.Places.{done_at}
 use Rattle.stepping.specs.inner.Putting.{CanPut, put}
