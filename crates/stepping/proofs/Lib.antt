@@ -9,3 +9,4 @@ pub mod Stepping
 pub mod Aims
 pub mod Taken
 pub mod Keyed
+pub mod Rows

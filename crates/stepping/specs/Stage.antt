@@ -1,18 +1,19 @@
 -- An element with some changes carried out, one at a time.
 --     old_tree, new_tree            the element with nothing done; as it stands now
---     IsStage                       these aims are done, each of which gave this: the old element is rewritten by them
+--     IsStage                       these aims are done, each of which gave this: the new tree is the old one, rewritten by them
 --     IsNext                        an aim can be the next to be done, with its number between those of these and those of these
 --     CanStep                       it is so of some aims that are done
 --     TakesStep                     whatever was done, that aim is done too, which gave these elements
 --     StaysAs                       whatever was done, nothing more is
 --     is_child, is_live             there is such a child; an aim leads to a gap or a slot that is there
---     step_builds                   how many nodes a step builds
+--     step_builds, CountsStep       how many nodes a step builds; how a count of these rises
 use Rattle.std.specs.Prelude.{◌≡◌, ◌+◌, ℕ, suc, Bool, true, false, cond, not, List, [], ◌∷◌, ◌++◌, length, sum_by, Some}
 use Rattle.std.specs.Option.{option_map_or}
 use Rattle.green_tree.specs.Path.{Path}
 use Rattle.green_tree.specs.Tree.{Forest, Node, SyntaxTree, is_token, trees, at}
 use Rattle.green_tree.specs.GreenElement.{element_tree}
 use Rattle.rewriting.specs.Aim.{Aim, FirstIn, Behind, Over, Gap, gap_of, replaces, parents}
+use Rattle.rewriting.specs.Effort.{counted}
 use Rattle.rewriting.specs.Rewriting.{NumberedAim, inserts_at, is_replaced, gap_order, rewritten}
 use Rattle.rewriting.specs.inner.Pass.{kind_only}
 use Rattle.stepping.specs.declared.stage.Stage.{Stage}
@@ -66,3 +67,6 @@ is_live t (Over (p ∷ ps)) = is_child t p
 -- those at and above the node whose children it alters
 abbrev pub step_builds : SyntaxTree → Aim → ℕ
 step_builds t a = cond (is_live t a) (sum_by (λ p. length p + 1) (parents a)) 0
+
+abbrev pub CountsStep : Stage → NumberedAim → ℕ → ℕ → Type 0
+CountsStep s c before after = after ≡ counted before (step_builds (old_tree s) c.1)

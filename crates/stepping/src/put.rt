@@ -1,7 +1,7 @@
-ghost use Rattle.std.specs.Prelude.{◌≡◌, ◌≤◌, length, take, drop, IfOk};
+ghost use Rattle.std.specs.Prelude.{◌≡◌, ◌≤◌, length, IfOk};
 ghost use Rattle.green_tree.specs.GreenElement.{element_tree, element_trees};
-ghost use Rattle.stepping.specs.inner.Places.{start, StartFits, done_below};
-ghost use Rattle.stepping.specs.inner.Putting.{CanPut, put};
+ghost use Rattle.stepping.specs.inner.Places.{start, StartFits};
+ghost use Rattle.stepping.specs.inner.Putting.{CanPutFrom, put_from};
 
 use crate::done::{Among, Done};
 use crate::done_index::DoneIndex;
@@ -9,7 +9,7 @@ use crate::target::Target;
 use green_tree::GreenElement;
 use std::alloc::{AllocError, Global};
 
-// Where in the new child list of a node that begins which aims there among its old children, after these changes.
+// Where in the new child list of a node a gap or slots of the old one begin, after these changes.
 fn start(done: &[Done], at: Among) -> usize
     requires { StartFits done.now at }
     ensures { result ≡ start done.now at }
@@ -31,8 +31,8 @@ fn shared(alloc: Global, elements: &[GreenElement]) -> Result<Vec<GreenElement>,
     Ok(out)
 }
 
-// An element of the new tree with these put where a target is: `depth` is how many slots of the target's path lead to the element. The
-// nodes on the way are built anew, and all else is shared. Only the changes at these nodes are looked at.
+// An element of the new tree with these put where a target is: the first `depth` slots of the target's path lead to the element. The nodes
+// on the way are built anew, and all else is shared. Only the changes at these nodes are looked at.
 pub(crate) fn put(
     alloc: Global,
     element: &GreenElement,
@@ -42,8 +42,8 @@ pub(crate) fn put(
     given: &[GreenElement],
 ) -> Result<GreenElement, AllocError>
     requires above { depth ≤ length target.now.parent.now }
-    requires there { CanPut (element_tree element.now) (done_below done.now (take depth target.now.parent.now)) (drop depth target.now.parent.now) target.now.at }
-    ensures { IfOk result (λ e. element_tree e ≡ put (element_tree element.now) (done_below done.now (take depth target.now.parent.now)) (drop depth target.now.parent.now) target.now.at (element_trees given.now)) }
+    requires there { CanPutFrom (element_tree element.now) done.now depth target.now }
+    ensures { IfOk result (λ e. element_tree e ≡ put_from (element_tree element.now) done.now depth target.now (element_trees given.now)) }
 {
     let GreenElement::Node(node) = element else {
         unreachable!()

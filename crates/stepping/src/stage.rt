@@ -1,9 +1,8 @@
 ghost use Rattle.std.specs.Prelude.{◌≡◌, ℕ, List, [], IfOk, OnOk, OnErr};
 ghost use Rattle.green_tree.specs.Tree.{SyntaxTree};
 ghost use Rattle.green_tree.specs.GreenElement.{element_tree, element_trees};
-ghost use Rattle.rewriting.specs.Effort.{counted};
 ghost use Rattle.rewriting.specs.inner.Aimed.{numbered};
-ghost use Rattle.stepping.specs.Stage.{old_tree, new_tree, IsStage, CanStep, TakesStep, StaysAs, step_builds};
+ghost use Rattle.stepping.specs.Stage.{old_tree, new_tree, IsStage, CanStep, TakesStep, StaysAs, CountsStep};
 
 use crate::done::Done;
 use crate::done_index::DoneIndex;
@@ -15,8 +14,8 @@ use std::alloc::{AllocError, Global};
 
 /// An element with some changes carried out, one at a time.
 ///
-/// It keeps the old element, the element as it stands now, and of each change that is done where it aimed and how many elements it gave.
-/// So a later step finds its place from the changes that are done at the nodes on its way, whatever the order of the steps.
+/// It keeps the old element, the element as it stands now, and of each change that is done where it aimed and how many elements it gave. So
+/// a later step finds its place from the changes that are done at the nodes on its way, in whatever order they came.
 #[derive(Drop)]
 pub struct Stage {
     original: GreenElement,
@@ -44,10 +43,11 @@ impl Stage {
         &self.current
     }
 
-    /// Carries out one change more: what it gives is put where it aims in the old element, first in its gap or over its targets.
+    /// Carries out one change more: what it gives goes first into its gap, or in the place of what it replaces.
     ///
-    /// An aim that leads to nothing in the old element alters nothing, and of a range only what is there is replaced. `builds` rises by the
-    /// nodes that are built, up to its greatest number: the node whose children change, and those above it. A refused step changes nothing.
+    /// The aim is one in the old element. Where its node, its gap or its first slot is not there, nothing changes, and of a range only what
+    /// is there is replaced. `builds` rises by the nodes that are built, up to its greatest number: the node whose children change,
+    /// and those above it. After a refusal the stage and the count are as they were.
     pub fn step(
         &mut self,
         alloc: Global,
@@ -58,7 +58,7 @@ impl Stage {
         requires { CanStep self.old (numbered aim.now) }
         ensures old { old_tree self.new ≡ old_tree self.old }
         ensures done { OnOk result (TakesStep self.old self.new (numbered aim.now) (element_trees given.now)) }
-        ensures count { OnOk result (builds.new ≡ counted builds.old (step_builds (old_tree self.old) (numbered aim.now).1)) }
+        ensures count { OnOk result (CountsStep self.old (numbered aim.now) builds.old builds.new) }
         ensures refused { OnErr result (StaysAs self.old self.new) }
         ensures refused_count { OnErr result (builds.new ≡ builds.old) }
     {
