@@ -1,0 +1,12 @@
+pub mod Edits
+pub mod Places
+pub mod Steps
+pub mod AimSteps
+pub mod Dead
+pub mod Counting
+pub mod Putting
+pub mod Stepping
+pub mod Aims
+pub mod Taken
+pub mod Keyed
+pub mod Rows

@@ -1,0 +1,6 @@
+-- What private calls cite, and the crates above for their proofs: no contract that a user calls by names any of it.
+pub mod Places
+pub mod Splices
+pub mod Targets
+pub mod Counts
+pub mod Putting

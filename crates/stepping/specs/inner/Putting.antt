@@ -1,0 +1,30 @@
+-- Elements put where a change aims in the old tree, in the tree as it stands after these changes.
+--     CanPut                         the place is there, and no more was replaced before it than there was
+--     put                            the tree with these put there
+--     CanPutFrom, put_from           the same where a target is in code, and so many slots of its path lead to the tree
+use Rattle.std.specs.Prelude.{◌≡◌, ◌≤◌, ℕ, List, ◌∷◌, ◌++◌, take, drop}
+use Rattle.green_tree.specs.Path.{Path}
+use Rattle.green_tree.specs.Tree.{SyntaxTree}
+use Rattle.stepping.specs.declared.done.Among.{Among}
+use Rattle.stepping.specs.declared.done.Done.{Done}
+use Rattle.stepping.specs.declared.done_index.DoneIndex.{DoneIndex}
+use Rattle.stepping.specs.declared.target.Target.{Target}
+use Rattle.stepping.specs.inner.Places.{index_of, count_of, removed, start, place, done_below}
+use Rattle.stepping.specs.inner.Splices.{spliced, updated_at, CanSplice}
+
+-- below the node at a path of the old tree, among its children
+module _ (t : SyntaxTree) (done : Path → List Done) (p : Path) (at : Among) where
+  pub record CanPut : Type 0 where
+    pub on_the_way : (q : Path) (i : ℕ) (r : Path) → q ++ i ∷ r ≡ p → removed (done q) i ≤ i
+    pub at_its_end : removed (done p) (index_of at) ≤ index_of at
+    pub there : CanSplice t (place done p) (start (done p) at) (count_of at)
+
+  abbrev pub put : List SyntaxTree → SyntaxTree
+  put ts = updated_at t (place done p) (spliced (start (done p) at) (count_of at) ts)
+
+module _ (t : SyntaxTree) (index : DoneIndex) (depth : ℕ) (a : Target) where
+  abbrev pub CanPutFrom : Type 0
+  CanPutFrom = CanPut t (done_below index (take depth a.parent.now)) (drop depth a.parent.now) a.at
+
+  abbrev pub put_from : List SyntaxTree → SyntaxTree
+  put_from ts = put t (done_below index (take depth a.parent.now)) (drop depth a.parent.now) a.at ts
