@@ -1,0 +1,9 @@
+mod Tables
+mod Carried
+mod Decided
+mod Undropped
+mod EachOnce
+mod Gaps
+mod Links
+mod Orders
+mod GapTables

@@ -1,0 +1,4 @@
+pub mod Schedule
+pub mod OrderRefusal
+pub mod DefaultOrder
+pub mod inner
