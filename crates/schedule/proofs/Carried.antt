@@ -1,5 +1,6 @@
 -- The three tables of links say what the three tests say.
 --     owners-carry, gaps-carry, tokens-carry      each of them
+--     replaces-targets              what an aim replaces are the targets of its change
 use Rattle.std.specs.Prelude.{◌≡◌, ◌<◌, ◌≤◌, ◌+◌, ◌-◌, ℕ, zero, suc, true, false, cond, nat_eq, List, [], ◌∷◌, length, slice_get, Option, Some, None, option_map, option_and_then, refl}
 use Rattle.std.specs.Option.{option_map_or}
 use Rattle.std.specs.List.{AllByRecursion}
@@ -131,7 +132,7 @@ module _ (cs : List Change) (table : List (Option ℕ)) (linked : IsLinked (gap_
   }
 
 -- ---- tokens
-replaces-targets : (p : Path) (d : Change) → replaces p (aim d) ≡ has_path (targets d) p
+pub replaces-targets : (p : Path) (d : Change) → replaces p (aim d) ≡ has_path (targets d) p
 replaces-targets p (Insert (FirstChild n) e) = refl
 replaces-targets p (Insert (After f) e) = refl
 replaces-targets p (InsertAll (FirstChild n) es) = refl

@@ -1,4 +1,9 @@
 mod Tables
+mod PathOrder
+mod DefaultFirst
+mod TurnOrder
+mod Turns
+mod TurnsSorted
 mod Carried
 mod Decided
 mod Undropped

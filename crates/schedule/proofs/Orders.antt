@@ -1,5 +1,6 @@
 -- Orders and tables of links.
 --     Respects, respects_to, respects_from      what it says that an order keeps to a test, change by change
+--     found-place                   where a number stands that is there
 --     Leads                         links lead from one change to another
 --     Carries                       a table of links says what a test says: each link is between changes that pass, and links lead from each to each that pass
 --     respects-keeps                an order keeps to the test exactly if it keeps to the links
@@ -54,7 +55,7 @@ missing-place (x ∷ order) n h =
           ap (λ b. cond (not b) (1 + place_in order n) 0) other ∙ omega (arith, rest)
     ]
 
-found-place : (order : List ℕ) (n : ℕ) → 0 < count_by (nat_eq n) order → place_in order n < length order
+pub found-place : (order : List ℕ) (n : ℕ) → 0 < count_by (nat_eq n) order → place_in order n < length order
 found-place [] n h = absurd (omega (arith, h))
 found-place (x ∷ order) n h =
     let parts = sum_by-cons (λ y. one_if (nat_eq n y)) x order in
