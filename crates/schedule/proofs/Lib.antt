@@ -4,6 +4,8 @@ mod DefaultFirst
 mod TurnOrder
 mod Turns
 mod TurnsSorted
+mod WaitCounts
+mod Readiness
 mod Carried
 mod Decided
 mod Undropped

@@ -2,3 +2,4 @@
 pub mod Followers
 pub mod GapTable
 pub mod Turns
+pub mod Waits

@@ -6,7 +6,10 @@ mod followers;
 mod gap_table;
 mod order;
 mod order_error;
+mod waiting;
+mod waits;
 
 pub use document_order::default_order;
 pub use order::check;
 pub use order_error::OrderError;
+pub use waiting::Waiting;
