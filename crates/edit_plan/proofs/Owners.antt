@@ -2,27 +2,25 @@
 --     owner_is_above                an owner is less deep than what it owns
 --     rank                          how many changes are deeper
 --     rank_less                     fewer are deeper than a deeper one
-use Rattle.std.specs.Prelude.{◌≡◌, ℕ, zero, suc, ◌-◌, ◌<◌, ◌≤◌, true, false, cond, nat_eq, nat_lt, List, [], ◌∷◌, ◌++◌, length, map, filter_map, slice_get, Option, Some, None, refl}
-use Rattle.std.specs.List.{AllByRecursion, cons_option}
+use Rattle.std.specs.Prelude.{◌≡◌, ℕ, zero, suc, ◌-◌, ◌<◌, ◌≤◌, true, false, cond, nat_lt, List, [], ◌∷◌, ◌++◌, length, map, slice_get, Some}
+use Rattle.std.specs.List.{AllByRecursion}
 use Rattle.std.specs.Option.{option_map_or}
-use Rattle.std.proofs.Common.{ap, sym, subst, get_or, arith}
-use Rattle.std.proofs.lemmas.Bool.{cases_lt, false≢true, or_cases, eqb-true, lt-ltb, le-ltb}
+use Rattle.std.proofs.Common.{ap, sym, subst, arith}
+use Rattle.std.proofs.lemmas.Bool.{cases_lt, false≢true, or_cases, lt-ltb, le-ltb}
 use Rattle.std.proofs.lemmas.List.{length-append}
-use Rattle.std.proofs.lemmas.List.Quantifiers.{position-Some}
-use Rattle.std.proofs.lemmas.Option.{slice_get-get_or, same_Some}
+use Rattle.std.proofs.lemmas.Option.{same_Some}
 use mathlib.Core.Logic.{inl, inr}
-use Rattle.cst_core.specs.Path.{Path, same_path, has_path, parent_path, above, up_to, counted_from, last_slot, last_item}
-use Rattle.cst_core.specs.Tree as tree
+use Rattle.cst_core.specs.Path.{Path, same_path, has_path, parent_path, above, up_to, counted_from, last_slot}
 use Rattle.cst_core.specs.SyntaxElement.{element_of}
 use Rattle.cst_core.specs.declared.element.SyntaxElement.{SyntaxElement}
 use Rattle.cst_core.specs.declared.element.SyntaxElement.TheVariants.{Node, Token}
 use Rattle.edit_change.specs.Position.{anchor}
 use Rattle.edit_change.specs.inner.AimFrom.{depth}
 use Rattle.edit_plan.specs.inner.OwnerTables.{depth_of}
-use Rattle.edit_change.specs.Nesting.{region, region_of_one, surroundings, is_dropped, region_at, owner, has_owner}
+use Rattle.edit_change.specs.Nesting.{region, region_of_one, surroundings, owner}
 use Rattle.edit_change.specs.declared.change.Change.{Change}
 use Rattle.edit_change.specs.declared.change.Change.TheVariants.{Insert, InsertAll, Replace, ReplaceWithMany, ReplaceAll}
-use Rattle.edit_change.proofs.Lists.{all-append, all_last, all_weaker}
+use Rattle.edit_change.proofs.Lists.{all-append, all_weaker}
 use Rattle.edit_change.proofs.Owners.{HasRegion, owner_region}
 use Rattle.edit_change.proofs.Paths.{same_path-true}
 

@@ -18,7 +18,8 @@ use Rattle.edit_change.specs.declared.change.Change.{Change}
 use Rattle.edit_change.specs.declared.fate.Fate.{Fate}
 use Rattle.schedule.specs.Schedule.{ListsEachOnce, undropped}
 use Rattle.schedule.proofs.Tables.{has_at, get-past}
-use Rattle.schedule.proofs.Undropped.{one_if, count-undropped, count-past, told-dropped}
+use Rattle.schedule.specs.inner.Waits.{one_if}
+use Rattle.schedule.proofs.Undropped.{count-undropped, count-past, told-dropped}
 
 -- whether the change with this number is dropped
 abbrev pub dropped_at : List Change → ℕ → Bool

@@ -15,7 +15,8 @@ use Rattle.edit_change.specs.Nesting.{is_dropped}
 use Rattle.edit_change.specs.declared.change.Change.{Change}
 use Rattle.schedule.specs.Schedule.{Numbered, ListsEachOnce, respects, place_in, stands_before}
 use Rattle.schedule.specs.inner.Followers.{link, steps, ArePlaces, Keeps}
-use Rattle.schedule.proofs.Undropped.{all-undropped, all_undropped_from, count-undropped, one_if}
+use Rattle.schedule.specs.inner.Waits.{one_if}
+use Rattle.schedule.proofs.Undropped.{all-undropped, all_undropped_from, count-undropped}
 
 -- ---- an order that keeps to a test
 pub record Respects (first : Numbered → Numbered → Bool) (cs : List Change) (order : List ℕ) : Type 0 where

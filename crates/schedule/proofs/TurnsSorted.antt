@@ -24,7 +24,8 @@ use Rattle.schedule.proofs.DefaultFirst.{owned-default, gap-default, token-defau
 use Rattle.schedule.proofs.Orders.{respects_from, found-place}
 use Rattle.schedule.proofs.Tables.{has_at}
 use Rattle.schedule.proofs.TurnOrder.{shown_cmp, shown-total, compares-shown, default-less}
-use Rattle.schedule.proofs.Undropped.{one_if, count-undropped}
+use Rattle.schedule.specs.inner.Waits.{one_if}
+use Rattle.schedule.proofs.Undropped.{count-undropped}
 use Rattle.schedule.specs.contracts.document_order.TurnOrd.TheImpl as ord
 
 pub default-allowed : (cs : List Change) (order : List ℕ) → IsDefaultOrder cs order → IsAllowed cs order

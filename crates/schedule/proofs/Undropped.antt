@@ -14,6 +14,7 @@ use Rattle.edit_change.specs.inner.Fate.{fate, by_owner, is_dropped_in}
 use Rattle.edit_change.specs.declared.change.Change.{Change}
 use Rattle.edit_change.specs.declared.fate.Fate.{Fate}
 use Rattle.edit_change.specs.declared.fate.Fate.TheVariants.{Dropped}
+use Rattle.schedule.specs.inner.Waits.{one_if}
 use Rattle.schedule.specs.Schedule.{Numbered, undropped}
 
 abbrev kept : (Change → Bool) → ℕ → List Change → List Numbered
@@ -58,9 +59,6 @@ pub all_undropped_from : (p : Numbered → Bool) (cs : List Change) → ((n : �
 all_undropped_from p cs h = all_kept_from (is_dropped cs) p 0 cs (λ n c is f. let e : 0 + n ≡ n = omega arith in ap (λ m. p (m, c)) e ∙ h n c is f)
 
 -- ---- how often a number is there
-abbrev pub one_if : Bool → ℕ
-one_if b = cond b 1 0
-
 count-cons : (drops : Change → Bool) (n k : ℕ) (c : Change) (cs : List Change) → count_by (λ d. nat_eq n d.0) (kept drops k (c ∷ cs)) ≡ one_if (nat_eq n k && not (drops c)) + count_by (λ d. nat_eq n d.0) (kept drops (k + 1) cs)
 count-cons drops n k c cs =
     elim (cases_Bool (drops c)) [

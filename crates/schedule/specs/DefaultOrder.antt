@@ -1,9 +1,10 @@
 -- The order in which changes are carried out where none is asked for: from the last in the document to the first.
---     gap_place, document_place     the path of the slot that a gap stands before; of that slot, or of the first element that is replaced
+--     gap_place                     the path of the slot that a gap stands before
+--     document_place                of a change: this path, or that of the first element that it replaces
 --     fills_gap                     the change is an insert
 --     stands_ahead                  document order of changes: a gap stands before its slot
---     default_first                 of two changes, the first is carried out first: it stands behind; or both stand in one gap, and it was recorded first
---     IsDefaultOrder                the order has each undropped change once and nothing else, and goes by `default_first`
+--     default_first                 the first change comes before the second: it stands behind it, or both fill one gap and it was recorded first
+--     IsDefaultOrder                an order of each undropped change that goes by `default_first`
 use Rattle.std.specs.Prelude.{ℕ, suc, Bool, true, false, not, ◌&&◌, ◌||◌, nat_lt, List, [], ◌∷◌, ◌++◌, IsTrue}
 use Rattle.cst_core.specs.Path.{Path, same_path, precedes, parent_path, last_slot}
 use Rattle.cst_core.specs.SyntaxElement.{element_of}
@@ -35,7 +36,8 @@ fills_gap (ReplaceAll first last es) = false
 
 abbrev pub stands_ahead : Change → Change → Bool
 stands_ahead c d =
-    precedes (document_place c) (document_place d) || (same_path (document_place c) (document_place d) && (fills_gap c && not (fills_gap d)))
+    precedes (document_place c) (document_place d)
+    || (same_path (document_place c) (document_place d) && (fills_gap c && not (fills_gap d)))
 
 abbrev pub default_first : Numbered → Numbered → Bool
 default_first c d = stands_ahead d.1 c.1 || (not (stands_ahead c.1 d.1) && nat_lt c.0 d.0)

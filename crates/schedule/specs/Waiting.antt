@@ -1,6 +1,7 @@
 -- Changes that are carried out one at a time.
 --     IsWaiting                     what code keeps of them, where these are done
-use Rattle.std.specs.Prelude.{◌≡◌, ℕ, Bool, List, length, slice_get, slice_index_or, Some}
+--     HasChange                     there is a change with this number
+use Rattle.std.specs.Prelude.{◌≡◌, ◌<◌, ℕ, Bool, List, length, slice_get, slice_index_or, Some}
 use Rattle.edit_change.specs.inner.TargetIndex.{IsApart}
 use Rattle.edit_change.specs.declared.change.Change.{Change}
 use Rattle.schedule.specs.inner.Followers.{owner_link, gap_link, token_link}
@@ -16,3 +17,6 @@ pub record IsWaiting (cs : List Change) (done : ℕ → Bool) (w : Waiting) : Ty
   pub owners : IsCounted (owner_link cs) cs done w.owners
   pub gaps : IsCounted (gap_link cs) cs done w.gaps
   pub tokens : IsCounted (token_link cs) cs done w.tokens
+
+abbrev pub HasChange : Waiting → ℕ → Type 0
+HasChange w n = (cs : List Change) × (done : ℕ → Bool) × IsWaiting cs done w × (n < length cs)

@@ -15,8 +15,8 @@ enum Side {
     Slot,
 }
 
-/// By these values turns ascend as changes stand in the document, those of one gap from the last recorded to the first. So changes take
-/// their turns from the last value to the first.
+/// By these values turns ascend as changes stand in the document, those of one gap from the last recorded to the first.
+/// So changes take their turns from the last value to the first.
 #[derive(PartialEq, Eq, PartialOrd, Ord, Drop)]
 struct Turn {
     /// The path of the slot.
@@ -41,7 +41,7 @@ fn gap_place(alloc: Global, position: &Position) -> Result<Vec<usize>, AllocErro
     Ok(path)
 }
 
-// The path of the slot that stands at the place of a change: the first one that it replaces, or the one behind its gap.
+// The path of the slot at the place of a change: the first one that it replaces, or the one behind its gap.
 fn document_place(alloc: Global, change: &Change) -> Result<Vec<usize>, AllocError>
     ensures { IfOk result (λ v. v.items ≡ document_place change.now) }
 {
@@ -97,8 +97,8 @@ fn numbers_back(alloc: Global, turns: &[Turn]) -> Result<Vec<usize>, AllocError>
     turns.iter().rev().map(|turn| turn.number.0).collect(alloc)
 }
 
-/// The changes that are not dropped, from the last in the document to the first, where a gap stands before its slot; inserts of
-/// one gap as they were recorded. So each change comes after those that it owns.
+/// The changes that are not dropped, from the last in the document to the first, where a gap stands before its slot; inserts
+/// of one gap as they were recorded. So each change comes after those that it owns.
 ///
 /// `fates` has what becomes of each change. Takes time near linear in the paths of the changes.
 pub fn default_order(

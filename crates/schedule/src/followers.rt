@@ -10,7 +10,8 @@ use cst_core::SyntaxElement;
 use edit_change::{Change, ClashError, Fate, Position, TargetIndex};
 use std::alloc::{AllocError, Global};
 
-/// Of each change, by its number, the changes that have to wait for it: at most one of each sort. A dropped change has none.
+/// Of each change, by its number, the changes that have to wait for it: at most one for each reason. A dropped change has
+/// none.
 #[derive(Drop)]
 pub(crate) struct Followers {
     /// Its owner.

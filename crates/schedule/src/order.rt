@@ -45,8 +45,8 @@ fn lists_each_once(
     Ok(all_are_met(&met))
 }
 
-// Where each number below this count stands in an order; the length of the order where it is missing. Goes from the last place to the
-// first, so that the first one stays.
+// Where each number below this count stands in an order; the length of the order where it is missing. Goes from the last
+// place to the first, so that the first one stays.
 fn places(alloc: Global, count: usize, order: &[usize]) -> Result<Vec<usize>, AllocError>
     ensures { IfOk result (λ v. ArePlaces order.now count v.items) }
 {
@@ -76,12 +76,13 @@ fn keeps(places: &[usize], links: &[Option<usize>]) -> bool
     true
 }
 
-/// Whether changes may be carried out in this order, one at a time: it has each change that is not dropped exactly once and
-/// nothing else, a change before its owner, inserts of one gap as they were recorded, and an insert behind a token before what
-/// replaces the token.
+/// Whether changes may be carried out in this order, one at a time: it has each change that is not dropped exactly once
+/// and nothing else, a change before its owner, inserts of one gap as they were recorded, and an insert behind a token
+/// before what replaces the token.
 ///
-/// Each refusal but `Memory`, which may come at any time, is given exactly where its clause does not hold, and all those before
-/// it do. `fates` has what becomes of each change. Takes time near linear in the order and in the paths of the changes.
+/// Each refusal but `Memory`, which may come at any time, is given exactly where its clause does not hold, and all those
+/// before it do. `fates` has what becomes of each change. Takes time near linear in the order and in the paths of the
+/// changes.
 pub fn check(
     alloc: Global,
     changes: &[Change],

@@ -3,7 +3,7 @@ ghost use Rattle.edit_change.specs.Nesting.{first_clash};
 ghost use Rattle.edit_change.specs.inner.Fate.{fate};
 ghost use Rattle.edit_change.specs.declared.change.Change.{Change};
 ghost use Rattle.schedule.specs.Schedule.{is_ready};
-ghost use Rattle.schedule.specs.Waiting.{IsWaiting};
+ghost use Rattle.schedule.specs.Waiting.{IsWaiting, HasChange};
 ghost use Rattle.schedule.specs.inner.Waits.{standing_in};
 
 use crate::followers::Followers;
@@ -24,7 +24,8 @@ enum Standing {
 #[derive(Drop)]
 pub struct Waiting {
     standings: Vec<Standing>,
-    // Each change waits for what it owns, for the insert before it in its gap, and for what stands behind the token that it replaces.
+    // Each change waits for what it owns, for the insert before it in its gap, and for the inserts behind the token that it
+    // replaces.
     owners: Waits,
     gaps: Waits,
     tokens: Waits,
@@ -64,9 +65,10 @@ impl Waiting {
         })
     }
 
-    /// Whether a change may be carried out next: it is neither dropped nor done, and all that must come before it is done.
+    /// Whether a change may be carried out next: it is neither dropped nor done, and all that must come before it is
+    /// done.
     pub fn ready(&self, number: usize) -> bool
-        requires { (changes : List Change) × (done : ℕ → Bool) × IsWaiting changes done self.now × (number < length changes) }
+        requires { HasChange self.now number }
         ensures { (changes : List Change) (done : ℕ → Bool) (change : Change) → IsWaiting changes done self.now
             → slice_get changes number ≡ Some change → result ≡ is_ready changes done (number, change) }
     {
@@ -91,7 +93,7 @@ impl Waiting {
 
     /// A change that may be carried out next is done.
     pub fn done(&mut self, number: usize)
-        requires { (changes : List Change) × (done : ℕ → Bool) × IsWaiting changes done self.old × (number < length changes) }
+        requires { HasChange self.old number }
         ensures { (changes : List Change) (done : ℕ → Bool) (change : Change) → IsWaiting changes done self.old
             → slice_get changes number ≡ Some change → is_ready changes done (number, change) ≡ true
             → IsWaiting changes (λ n. nat_eq number n || done n) self.new }

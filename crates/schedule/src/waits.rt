@@ -56,7 +56,8 @@ impl Waits {
         ensures links { self.new.links ≡ self.old.links }
         ensures long { length self.new.counts.items ≡ length self.old.counts.items }
         ensures counts { (n : ℕ) → n < length self.old.counts.items
-            → slice_index self.new.counts.items n ≡ slice_index self.old.counts.items n - one_if (points_at n (link self.old.links.items number)) }
+            → slice_index self.new.counts.items n
+            ≡ slice_index self.old.counts.items n - one_if (points_at n (link self.old.links.items number)) }
     {
         if let Some(waiting) = self.links[number] {
             if waiting < self.counts.len() {

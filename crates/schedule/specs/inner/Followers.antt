@@ -3,12 +3,13 @@
 --     steps                         so many links on
 --     later                         the changes from a number on that are not dropped
 --     next_in_gap                   the first one from a number on that fills the gap of this aim
---     owner_link, gap_link, token_link      the change that has to wait for this one: its owner; the next insert of its gap; what replaces the token that it stands behind
+--     owner_link, gap_link, token_link      the change that has to wait for this one: its owner; the next insert of its gap;
+--                                   what replaces the token that it stands behind
 --     IsLinked                      a table has such a link for each change
 --     AreFollowers                  three tables have all three
 --     ArePlaces                     a table has where each number below a count stands in an order
 --     HasLinksBelow                 each link leads to a number below this one
---     Keeps                         in an order, whose places a table has, each change stands before the one that its link leads to
+--     Keeps                         by these places each change stands before the one that its link leads to
 use Rattle.std.specs.Prelude.{◌≡◌, ◌<◌, ℕ, zero, suc, not, cond, List, drop, filter, find, length, slice_get, slice_index, slice_index_or, Option, None, Some, option_map, option_and_then}
 use Rattle.std.specs.List.{enumerate_from}
 use Rattle.rewriting.specs.Aim.{Aim, same_gap}
