@@ -3,6 +3,7 @@ pub mod Paths
 pub mod Clashes
 pub mod Positions
 pub mod Around
+pub mod Owners
 pub mod Indexed
 pub mod Regions
 pub mod Walk

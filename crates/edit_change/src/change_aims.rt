@@ -190,8 +190,8 @@ fn count_of_range(first: &SyntaxElement, last: &SyntaxElement) -> usize
     slot_after(last).saturating_sub(first.index())
 }
 
-// The slot after that of an element. There is a number for it, since no node has more children than a list has items.
-fn slot_after(element: &SyntaxElement) -> usize
+/// The slot after that of an element. There is a number for it, since no node has more children than a list has items.
+pub fn slot_after(element: &SyntaxElement) -> usize
     ensures { result ≡ suc (last_slot (element_of element.now).path) }
 {
     // Its path leads to it.

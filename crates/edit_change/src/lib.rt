@@ -15,6 +15,7 @@ mod target_index;
 mod targets;
 
 pub use change::Change;
+pub use change_aims::slot_after;
 pub use clash_error::ClashError;
 pub use element_like::Element;
 pub use element_list::ElementList;

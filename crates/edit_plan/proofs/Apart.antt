@@ -28,7 +28,7 @@ use Rattle.edit_change.specs.declared.change.Change.{Change}
 use Rattle.edit_change.specs.declared.change.Change.TheVariants.{Insert, InsertAll, Replace, ReplaceWithMany, ReplaceAll}
 use Rattle.edit_change.proofs.Lists.{all_weaker}
 use Rattle.edit_change.proofs.Paths.{same_path-true, same_path_from, meets}
-use Rattle.edit_plan.proofs.Owners.{owner_cases, owner_from, HasRegion, owner_region}
+use Rattle.edit_change.proofs.Owners.{owner_cases, owner_from, HasRegion, owner_region}
 
 has_own : (p : Path) (ps : List Path) → has_path (p ∷ ps) p ≡ true
 has_own p ps = or_left (same_path p p) (has_path ps p) (same_path_from p p refl)

@@ -47,7 +47,8 @@ use Rattle.edit_plan.proofs.Carried.{enumerate-push, take-whole}
 use Rattle.edit_change.proofs.Paths.{meets, same_path_from}
 use Rattle.edit_change.proofs.Regions.{owner-told}
 use Rattle.edit_change.proofs.Lists.{slice_get-set_same, slice_get-set_other}
-use Rattle.edit_plan.proofs.Owners.{HasRegion, owner_cases, owner_region, owner_is_above}
+use Rattle.edit_change.proofs.Owners.{HasRegion, owner_cases, owner_region}
+use Rattle.edit_plan.proofs.Owners.{owner_is_above}
 
 -- ---- an owner replaces a node by a node
 any-at : {X : Type 0} (p : X → Bool) (xs : List X) (i : ℕ) (x : X) → list_any p xs ≡ false → slice_get xs i ≡ Some x → p x ≡ false

@@ -1,30 +1,27 @@
 -- An owner is less deep than what it owns, so the chain of owners ends.
---     owner_cases, owner_from       what an owner is; the owner, from the test
---     owner_region                  the region of an owner has one of the surroundings of what it owns
 --     owner_is_above                an owner is less deep than what it owns
 --     rank                          how many changes are deeper
 --     rank_less                     fewer are deeper than a deeper one
-use Rattle.std.specs.Prelude.{◌≡◌, ℕ, zero, suc, ◌-◌, ◌<◌, ◌≤◌, true, false, cond, nat_eq, nat_lt, List, [], ◌∷◌, ◌++◌, length, map, filter_map, slice_get, Option, Some, None, refl}
-use Rattle.std.specs.List.{AllByRecursion, cons_option}
+use Rattle.std.specs.Prelude.{◌≡◌, ℕ, zero, suc, ◌-◌, ◌<◌, ◌≤◌, true, false, cond, nat_lt, List, [], ◌∷◌, ◌++◌, length, map, slice_get, Some}
+use Rattle.std.specs.List.{AllByRecursion}
 use Rattle.std.specs.Option.{option_map_or}
-use Rattle.std.proofs.Common.{ap, sym, subst, get_or, arith}
-use Rattle.std.proofs.lemmas.Bool.{cases_lt, false≢true, or_cases, eqb-true, lt-ltb, le-ltb}
+use Rattle.std.proofs.Common.{ap, sym, subst, arith}
+use Rattle.std.proofs.lemmas.Bool.{cases_lt, false≢true, or_cases, lt-ltb, le-ltb}
 use Rattle.std.proofs.lemmas.List.{length-append}
-use Rattle.std.proofs.lemmas.List.Quantifiers.{position-Some}
-use Rattle.std.proofs.lemmas.Option.{slice_get-get_or, same_Some}
+use Rattle.std.proofs.lemmas.Option.{same_Some}
 use mathlib.Core.Logic.{inl, inr}
-use Rattle.cst_core.specs.Path.{Path, same_path, has_path, parent_path, above, up_to, counted_from, last_slot, last_item}
-use Rattle.cst_core.specs.Tree as tree
+use Rattle.cst_core.specs.Path.{Path, same_path, has_path, parent_path, above, up_to, counted_from, last_slot}
 use Rattle.cst_core.specs.SyntaxElement.{element_of}
 use Rattle.cst_core.specs.declared.element.SyntaxElement.{SyntaxElement}
 use Rattle.cst_core.specs.declared.element.SyntaxElement.TheVariants.{Node, Token}
 use Rattle.edit_change.specs.Position.{anchor}
 use Rattle.edit_change.specs.inner.AimFrom.{depth}
 use Rattle.edit_plan.specs.inner.OwnerTables.{depth_of}
-use Rattle.edit_change.specs.Nesting.{region, region_of_one, surroundings, is_dropped, region_at, owner, has_owner}
+use Rattle.edit_change.specs.Nesting.{region, region_of_one, surroundings, owner}
 use Rattle.edit_change.specs.declared.change.Change.{Change}
 use Rattle.edit_change.specs.declared.change.Change.TheVariants.{Insert, InsertAll, Replace, ReplaceWithMany, ReplaceAll}
-use Rattle.edit_change.proofs.Lists.{all-append, all_last, all_weaker}
+use Rattle.edit_change.proofs.Lists.{all-append, all_weaker}
+use Rattle.edit_change.proofs.Owners.{HasRegion, owner_region}
 use Rattle.edit_change.proofs.Paths.{same_path-true}
 
 all_map_cons : (i n : ℕ) (ps : List Path) → AllByRecursion (λ q. length q < n) ps → AllByRecursion (λ q. length q < suc n) (map (λ q. i ∷ q) ps)
@@ -77,46 +74,6 @@ region_is_below (Replace t e) q h = one_is_below t q h
 region_is_below (ReplaceWithMany t es) q h = one_is_below t q h
 region_is_below (ReplaceAll first last es) q h =
     siblings_are_below (element_of first).path (counted_from (last_slot (element_of first).path) (suc (last_slot (element_of last).path) - last_slot (element_of first).path)) q h
-
--- ---- what an owner is
-pub owner_cases : (cs : List Change) (d : Change) (c : ℕ) → owner cs d ≡ Some c → (is_dropped cs d ≡ false) × (last_item (filter_map (region_at cs) (surroundings d)) ≡ Some c)
-owner_cases cs d c h =
-    let found = last_item (filter_map (region_at cs) (surroundings d)) in
-    (elim (is_dropped cs d) as (λ b. cond b None found ≡ Some c → (b ≡ false) × (found ≡ Some c)) [
-      | true ↦ λ k. cc
-      | false ↦ λ k. (refl, k)
-    ]) h
-
-pub owner_from : (cs : List Change) (c : ℕ) (d : Change) → has_owner cs c d ≡ true → owner cs d ≡ Some c
-owner_from cs c d h = go (owner cs d) h
-  where
-    go : (o : Option ℕ) → option_map_or (nat_eq c) o false ≡ true → o ≡ Some c
-    go None k = absurd (false≢true k)
-    go (Some e) k = ap (λ x. Some x) (sym (eqb-true c e k))
-
--- a change with this number, and a path of its region of which P holds
-abbrev pub HasRegion : (Path → Type 0) → List Change → ℕ → Type 0
-HasRegion P cs c = (r : Change) × (q : Path) × (slice_get cs c ≡ Some r) × (has_path (region r) q ≡ true) × P q
-
-module _ (P : Path → Type 0) (cs : List Change) where
-  region_at_has : (q : Path) (c : ℕ) → P q → region_at cs q ≡ Some c → HasRegion P cs c
-  region_at_has q c holds h =
-      let none : Change = ReplaceWithMany (Token (record { number = 0; root = tree.Token 0 []; path = [] })) [] in
-      let found = position-Some (λ r. has_path (region r) q) cs c none h in
-      (get_or cs c none, q, slice_get-get_or cs c none found.0, found.1, holds)
-
-  all_region_at : (qs : List Path) → AllByRecursion P qs → AllByRecursion (HasRegion P cs) (filter_map (region_at cs) qs)
-  all_region_at [] a = tt
-  all_region_at (q ∷ qs) a = go (region_at cs q) refl (all_region_at qs a.1)
-    where
-      go : (o : Option ℕ) → region_at cs q ≡ o → AllByRecursion (HasRegion P cs) (filter_map (region_at cs) qs) → AllByRecursion (HasRegion P cs) (cons_option o (filter_map (region_at cs) qs))
-      go None is rest = rest
-      go (Some c) is rest = (region_at_has q c a.0 is, rest)
-
-  -- the owner has a region with one of the surroundings
-  pub owner_region : (d : Change) (c : ℕ) → AllByRecursion P (surroundings d) → owner cs d ≡ Some c → HasRegion P cs c
-  owner_region d c all h =
-      all_last (HasRegion P cs) (filter_map (region_at cs) (surroundings d)) c (all_region_at (surroundings d) all) (owner_cases cs d c h).1
 
 pub owner_is_above : (cs : List Change) (d : Change) (c : ℕ) → owner cs d ≡ Some c → (r : Change) × (slice_get cs c ≡ Some r) × (depth r < depth d)
 owner_is_above cs d c h =

@@ -6,7 +6,7 @@ use Rattle.cst_core.specs.Tree.{text}
 use Rattle.edit_map.proofs.RowTrees.{tree_BB}
 use Rattle.edit_map.proofs.Rows.{R, BB}
 use Rattle.edit_plan.specs.NewTree.{stage_tree, stage_payload}
-use Rattle.edit_plan.specs.Schedule.{Numbered, ListsEachOnce, respects, owned_first, gap_first, token_first, IsAllowed, is_ready, is_closed}
+use Rattle.schedule.specs.Schedule.{Numbered, ListsEachOnce, respects, owned_first, gap_first, token_first, IsAllowed, is_ready, is_closed}
 use Rattle.edit_change.specs.declared.change.Change.{Change}
 use Rattle.edit_plan.proofs.RowChanges.{no_places}
 use Rattle.edit_plan.proofs.Rows.{changes_2, changes_3, changes_4, places_4, changes_5, changes_8a, changes_8b, changes_14, changes_empty_token}

@@ -19,7 +19,8 @@ use Rattle.edit_change.specs.declared.change.Change.{Change}
 use Rattle.edit_change.proofs.Lists.{all_filter, all_weaker, all_enumerated, flat_map-agree}
 use Rattle.edit_plan.proofs.GapRule.{all-gap_order}
 use Rattle.edit_plan.proofs.Edits.{taken, filled, slot-filled, rewritten-same, plain-untouched, untouched_by_none}
-use Rattle.edit_plan.proofs.Owners.{owner_from, rank, rank-le, rank_less}
+use Rattle.edit_change.proofs.Owners.{owner_from}
+use Rattle.edit_plan.proofs.Owners.{rank, rank-le, rank_less}
 
 -- ---- two ways to say what changes give, where they agree on the changes of a list
 abbrev Agree : (ℕ → List OriginTree) → (ℕ → List OriginTree) → List ℕ → Type 0

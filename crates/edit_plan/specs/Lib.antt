@@ -7,12 +7,12 @@ pub use Rattle.edit_change.specs.ChangeAim
 pub use Rattle.edit_change.specs.Fits
 pub use Rattle.edit_change.specs.Nesting
 pub use Rattle.edit_change.specs.Display
+pub use Rattle.schedule.specs.Schedule
 pub mod Annotation
 pub mod AnnotationTable
 pub mod NewTree
 pub mod Results
 pub mod Places
-pub mod Schedule
 pub mod TouchedNodes
 pub mod EditRefusal
 pub mod Plan

@@ -18,7 +18,7 @@ ghost use Rattle.rewriting.specs.Rewriting.{NumberedAim, gap, rewritten};
 ghost use Rattle.edit_plan.specs.NewTree.{Origin, OriginTree, origin, plain, change_aims, payload_of, is_free, given, Gives, new_tree};
 ghost use Rattle.edit_plan.specs.Results.{changed};
 ghost use Rattle.edit_plan.specs.Places.{HasPlace, elements_held, IsRewriting};
-ghost use Rattle.edit_plan.specs.Schedule.{undropped};
+ghost use Rattle.schedule.specs.Schedule.{undropped};
 ghost use Rattle.edit_plan.specs.RewritingLaws.{StandsThere, IsUntouched, brought_text, text_filled};
 
 use edit_map::laws::place_keeps_the_shape;

@@ -6,7 +6,7 @@ use Rattle.std.proofs.lemmas.Option.{same_Some}
 use Rattle.cst_core.specs.Path.{Path, has_path}
 use Rattle.edit_change.specs.Nesting.{region, surroundings}
 use Rattle.edit_change.specs.declared.change.Change.{Change}
-use Rattle.edit_plan.proofs.Owners.{owner_region}
+use Rattle.edit_change.proofs.Owners.{owner_region}
 use Rattle.edit_plan.proofs.Settled.{owns_nothing, plain-given}
 use Rattle.edit_plan.proofs.laws.inserts_stand_in_order.Goals as goal
 

@@ -2,7 +2,10 @@
 --     Numbered, undropped           a change with its number; the changes that are not dropped, with their numbers
 --     owned_first, gap_first, token_first      the first change has to be carried out before the second: it is owned by it;
 --                                   it inserts into the same gap and stands last there; it inserts behind a token that the other replaces
+--     last_in_gap                   of two inserts of one gap, the one that stands last
+--     token_before, anchor_token    the token that a position is behind; that an insert stands behind
 --     comes_first                   one of these
+--     place_in                      where a number stands in the order, or the length of the order
 --     stands_before                 in the order, the one number stands before the other
 --     ListsEachOnce, respects       the order has each undropped change once and nothing else; it keeps to such a test
 --     IsAllowed                     an allowed order
@@ -32,20 +35,20 @@ abbrev pub owned_first : List Change → Numbered → Numbered → Bool
 owned_first cs c d = has_owner cs d.0 c.1
 
 -- the change that stands last in a gap with these two inserts alone
-abbrev last_in_gap : ℕ → ℕ → Option ℕ
+abbrev pub last_in_gap : ℕ → ℕ → Option ℕ
 last_in_gap c d = last_item (gap_order (min c d ∷ max c d ∷ []))
 
 -- Each insert goes to the front of its gap, so the one that stands last there is carried out first.
 abbrev pub gap_first : Numbered → Numbered → Bool
 gap_first c d = same_gap (aim c.1) (aim d.1) && not (nat_eq c.0 d.0) && option_map_or (nat_eq c.0) (last_in_gap c.0 d.0) false
 
-abbrev token_before : Position → Option Path
+abbrev pub token_before : Position → Option Path
 token_before (FirstChild n) = None
 token_before (After (Node n)) = None
 token_before (After (Token t)) = Some t.path
 
 -- the token that an insert stands behind
-abbrev anchor_token : Change → Option Path
+abbrev pub anchor_token : Change → Option Path
 anchor_token (Insert at e) = token_before at
 anchor_token (InsertAll at es) = token_before at
 anchor_token (Replace t e) = None
@@ -59,7 +62,7 @@ abbrev pub comes_first : List Change → Numbered → Numbered → Bool
 comes_first cs c d = owned_first cs c d || gap_first c d || token_first c d
 
 -- ---- orders
-abbrev place_in : List ℕ → ℕ → ℕ
+abbrev pub place_in : List ℕ → ℕ → ℕ
 place_in order c = position_or_len (nat_eq c) order
 
 abbrev pub stands_before : List ℕ → ℕ → ℕ → Bool

@@ -1,0 +1,16 @@
+mod Tables
+mod PathOrder
+mod DefaultFirst
+mod TurnOrder
+mod Turns
+mod TurnsSorted
+mod WaitCounts
+mod Readiness
+mod Carried
+mod Decided
+mod Undropped
+mod EachOnce
+mod Gaps
+mod Links
+mod Orders
+mod GapTables

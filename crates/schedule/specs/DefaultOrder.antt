@@ -1,0 +1,47 @@
+-- The order in which changes are carried out where none is asked for: from the last in the document to the first.
+--     gap_place                     the path of the slot that a gap stands before
+--     document_place                of a change: this path, or that of the first element that it replaces
+--     fills_gap                     the change is an insert
+--     stands_ahead                  document order of changes: a gap stands before its slot
+--     default_first                 the first change comes before the second: it stands behind it, or both fill one gap and it was recorded first
+--     IsDefaultOrder                an order of each undropped change that goes by `default_first`
+use Rattle.std.specs.Prelude.{ℕ, suc, Bool, true, false, not, ◌&&◌, ◌||◌, nat_lt, List, [], ◌∷◌, ◌++◌, IsTrue}
+use Rattle.cst_core.specs.Path.{Path, same_path, precedes, parent_path, last_slot}
+use Rattle.cst_core.specs.SyntaxElement.{element_of}
+use Rattle.edit_change.specs.ChangeAim.{aim_path}
+use Rattle.edit_change.specs.declared.position.Position.{Position}
+use Rattle.edit_change.specs.PositionForm.{FirstChild, After}
+use Rattle.edit_change.specs.declared.change.Change.{Change}
+use Rattle.edit_change.specs.declared.change.Change.TheVariants.{Insert, InsertAll, Replace, ReplaceWithMany, ReplaceAll}
+use Rattle.schedule.specs.Schedule.{Numbered, ListsEachOnce, respects}
+
+-- the gap behind an element is that before the next slot
+abbrev pub gap_place : Position → Path
+gap_place (FirstChild n) = n.path ++ 0 ∷ []
+gap_place (After e) = parent_path (element_of e).path ++ suc (last_slot (element_of e).path) ∷ []
+
+abbrev pub document_place : Change → Path
+document_place (Insert at e) = gap_place at
+document_place (InsertAll at es) = gap_place at
+document_place (Replace t e) = aim_path (Replace t e)
+document_place (ReplaceWithMany t es) = aim_path (ReplaceWithMany t es)
+document_place (ReplaceAll first last es) = aim_path (ReplaceAll first last es)
+
+abbrev pub fills_gap : Change → Bool
+fills_gap (Insert at e) = true
+fills_gap (InsertAll at es) = true
+fills_gap (Replace t e) = false
+fills_gap (ReplaceWithMany t es) = false
+fills_gap (ReplaceAll first last es) = false
+
+abbrev pub stands_ahead : Change → Change → Bool
+stands_ahead c d =
+    precedes (document_place c) (document_place d)
+    || (same_path (document_place c) (document_place d) && (fills_gap c && not (fills_gap d)))
+
+abbrev pub default_first : Numbered → Numbered → Bool
+default_first c d = stands_ahead d.1 c.1 || (not (stands_ahead c.1 d.1) && nat_lt c.0 d.0)
+
+pub record IsDefaultOrder (cs : List Change) (order : List ℕ) : Type 0 where
+  pub each_once : ListsEachOnce cs order
+  pub last_first : IsTrue (respects default_first cs order)

@@ -1,0 +1,64 @@
+-- Tables of which change has to wait for which.
+--     link                          the change that has to wait for this one, if there is one
+--     steps                         so many links on
+--     later                         the changes from a number on that are not dropped
+--     next_in_gap                   the first one from a number on that fills the gap of this aim
+--     owner_link, gap_link, token_link      the change that has to wait for this one: its owner; the next insert of its gap;
+--                                   what replaces the token that it stands behind
+--     IsLinked                      a table has such a link for each change
+--     AreFollowers                  three tables have all three
+--     ArePlaces                     a table has where each number below a count stands in an order
+--     HasLinksBelow                 each link leads to a number below this one
+--     Keeps                         by these places each change stands before the one that its link leads to
+use Rattle.std.specs.Prelude.{◌≡◌, ◌<◌, ℕ, zero, suc, not, cond, List, drop, filter, find, length, slice_get, slice_index, slice_index_or, Option, None, Some, option_map, option_and_then}
+use Rattle.std.specs.List.{enumerate_from}
+use Rattle.rewriting.specs.Aim.{Aim, same_gap}
+use Rattle.edit_change.specs.ChangeAim.{aim}
+use Rattle.edit_change.specs.Nesting.{is_dropped, owner}
+use Rattle.edit_change.specs.inner.TargetIndex.{target_at}
+use Rattle.edit_change.specs.declared.change.Change.{Change}
+use Rattle.schedule.specs.Schedule.{Numbered, anchor_token, place_in}
+use Rattle.schedule.specs.declared.followers.Followers.{Followers}
+
+abbrev pub link : List (Option ℕ) → ℕ → Option ℕ
+link table n = slice_index_or table n None
+
+abbrev pub steps : List (Option ℕ) → ℕ → ℕ → Option ℕ
+steps table zero n = Some n
+steps table (suc k) n = option_and_then (steps table k) (link table n)
+
+abbrev pub later : List Change → ℕ → List Numbered
+later cs n = filter (λ c. not (is_dropped cs c.1)) (enumerate_from n (drop n cs))
+
+abbrev pub next_in_gap : List Change → ℕ → Aim → Option ℕ
+next_in_gap cs n a = option_map (λ c. c.0) (find (λ c. same_gap (aim c.1) a) (later cs n))
+
+-- ---- links: a dropped change has none
+abbrev pub owner_link : List Change → ℕ → Change → Option ℕ
+owner_link cs n c = owner cs c
+
+abbrev pub gap_link : List Change → ℕ → Change → Option ℕ
+gap_link cs n c = cond (is_dropped cs c) None (next_in_gap cs (suc n) (aim c))
+
+abbrev pub token_link : List Change → ℕ → Change → Option ℕ
+token_link cs n c = cond (is_dropped cs c) None (option_and_then (target_at cs) (anchor_token c))
+
+pub record IsLinked (f : ℕ → Change → Option ℕ) (cs : List Change) (table : List (Option ℕ)) : Type 0 where
+  pub long : length table ≡ length cs
+  pub at : (n : ℕ) (c : Change) → slice_get cs n ≡ Some c → link table n ≡ f n c
+
+pub record AreFollowers (cs : List Change) (f : Followers) : Type 0 where
+  pub owners : IsLinked (owner_link cs) cs f.owner.items
+  pub gaps : IsLinked (gap_link cs) cs f.next_in_gap.items
+  pub tokens : IsLinked (token_link cs) cs f.replacement.items
+
+-- ---- orders
+abbrev pub HasLinksBelow : ℕ → List (Option ℕ) → Type 0
+HasLinksBelow count table = (n m : ℕ) → link table n ≡ Some m → m < count
+
+pub record ArePlaces (order : List ℕ) (count : ℕ) (places : List ℕ) : Type 0 where
+  pub long : length places ≡ count
+  pub at : (n : ℕ) → n < count → slice_index places n ≡ place_in order n
+
+abbrev pub Keeps : List ℕ → List (Option ℕ) → Type 0
+Keeps places table = (n m : ℕ) → link table n ≡ Some m → slice_index places n < slice_index places m

@@ -1,0 +1,33 @@
+use std::alloc::AllocError;
+use thiserror::Error;
+
+/// Why an order is not allowed. Of several reasons the first here is given.
+#[derive(Debug, PartialEq, Eq, Drop, Error)]
+pub enum OrderError {
+    /// A change that is not dropped is missing or there twice, or there is another number.
+    #[error("NotEachOnce")]
+    NotEachOnce,
+    /// A change stands behind its owner.
+    #[error("OwnerTooEarly")]
+    OwnerTooEarly,
+    /// Two inserts of one gap stand the wrong way round.
+    #[error("GapOutOfOrder")]
+    GapOutOfOrder,
+    /// A token is replaced before an insert that stands behind it.
+    #[error("TokenTooEarly")]
+    TokenTooEarly,
+    /// Memory was refused.
+    #[error("Memory")]
+    Memory,
+}
+
+impl From<AllocError> for OrderError {
+    ghost use Rattle.std.specs.Prelude.{◌≡◌};
+    ghost use Rattle.schedule.specs.declared.order_error.OrderError.{OrderError};
+
+    ghost from_gives = { λ _ e. e ≡ OrderError.Memory };
+
+    fn from(_: AllocError) -> OrderError {
+        OrderError::Memory
+    }
+}
