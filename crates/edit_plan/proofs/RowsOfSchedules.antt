@@ -6,6 +6,7 @@ use Rattle.cst_core.specs.Tree.{text}
 use Rattle.edit_map.proofs.RowTrees.{tree_BB}
 use Rattle.edit_map.proofs.Rows.{R, BB}
 use Rattle.edit_plan.specs.NewTree.{stage_tree, stage_payload}
+use Rattle.schedule.specs.DefaultOrder.{default_first}
 use Rattle.schedule.specs.Schedule.{Numbered, ListsEachOnce, respects, owned_first, gap_first, token_first, IsAllowed, is_ready, is_closed}
 use Rattle.edit_change.specs.declared.change.Change.{Change}
 use Rattle.edit_plan.proofs.RowChanges.{no_places}
@@ -39,6 +40,19 @@ row_owners_of_owners = refl
 
 row_empty_token_orders : kept_by token_first changes_empty_token ((1 ∷ 0 ∷ []) ∷ (0 ∷ 1 ∷ []) ∷ []) ≡ true ∷ false ∷ []
 row_empty_token_orders = refl
+
+-- from the last in the document to the first
+row_default_2 : kept_by default_first changes_2 ((1 ∷ 0 ∷ []) ∷ (0 ∷ 1 ∷ []) ∷ []) ≡ true ∷ false ∷ []
+row_default_2 = refl
+
+row_default_4 : kept_by default_first changes_4 ((1 ∷ 0 ∷ 2 ∷ []) ∷ (0 ∷ 1 ∷ 2 ∷ []) ∷ []) ≡ true ∷ false ∷ []
+row_default_4 = refl
+
+row_default_8b : kept_by default_first changes_8b ((1 ∷ 0 ∷ []) ∷ (0 ∷ 1 ∷ []) ∷ []) ≡ true ∷ false ∷ []
+row_default_8b = refl
+
+row_default_14 : kept_by default_first changes_14 ((0 ∷ 1 ∷ []) ∷ (1 ∷ 0 ∷ []) ∷ []) ≡ true ∷ false ∷ []
+row_default_14 = refl
 
 -- both allowed orders of row 4
 row_22_allowed : IsAllowed changes_4 (0 ∷ 1 ∷ 2 ∷ [])
