@@ -63,7 +63,7 @@ pub record Replaced (d e : Edits ℕ) (count i m : ℕ) (ts : List SyntaxTree) :
   pub deeper : (j : ℕ) → below j d ≡ below j e
 
 module _ (d e : Edits ℕ) (count i m : ℕ) (ts : List SyntaxTree) (h : Replaced d e count i m ts) where
-  -- the kept children behind the first of the range
+  -- the kept children after the first of the range
   length-kept : (k : ℕ) (f : Forest ℕ) (n : ℕ) → i < k → k + n ≡ suc (i + m) → n ≤ length (trees f) → length (before d k f n) ≡ n
   length-kept k f zero l s w = refl
   length-kept k end (suc n) l s w = absurd (omega arith)
@@ -79,7 +79,7 @@ module _ (d e : Edits ℕ) (count i m : ℕ) (ts : List SyntaxTree) (h : Replace
       let none : e.gap [] k ++ filled (e.slot [] k) (remade (below k e) t) ≡ [] = ap₂ (λ g o. g ++ filled o (remade (below k e) t)) (ap (λ g. g k) (sym h.gaps) ∙ h.no_insert k l (omega arith)) (h.later k l (omega arith)) in
       ap₂ (λ x y. x ++ y) none (none-kept (suc k) f n (omega arith) (omega arith))
 
-  -- the first of the range, and those behind it
+  -- the first of the range, and those after it
   abbrev first_kept : Forest ℕ → SyntaxTree
   first_kept f = get_or (trees f) i (Token 0 [])
 

@@ -1,7 +1,6 @@
 ghost use Rattle.std.specs.Prelude.{◌≡◌, ◌≤◌, length, IfOk};
-ghost use Rattle.green_tree.specs.GreenElement.{element_tree, element_trees};
 ghost use Rattle.stepping.specs.inner.Places.{start, StartFits};
-ghost use Rattle.stepping.specs.inner.Putting.{CanPutFrom, put_from};
+ghost use Rattle.stepping.specs.inner.Putting.{CanPutFrom, IsPutFrom};
 
 use crate::done::{Among, Done};
 use crate::done_index::DoneIndex;
@@ -42,8 +41,8 @@ pub(crate) fn put(
     given: &[GreenElement],
 ) -> Result<GreenElement, AllocError>
     requires above { depth ≤ length target.now.parent.now }
-    requires there { CanPutFrom (element_tree element.now) done.now depth target.now }
-    ensures { IfOk result (λ e. element_tree e ≡ put_from (element_tree element.now) done.now depth target.now (element_trees given.now)) }
+    requires there { CanPutFrom element.now done.now depth target.now }
+    ensures { IfOk result (IsPutFrom element.now done.now depth target.now given.now) }
 {
     let GreenElement::Node(node) = element else {
         unreachable!()

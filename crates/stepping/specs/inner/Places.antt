@@ -26,7 +26,7 @@ abbrev pub count_of : Among → ℕ
 count_of (Gap i) = 0
 count_of (Slots i n) = n
 
--- a gap is before the slot of its number, and behind the slots of lesser ones
+-- a gap is before the slot of its number, and after the slots of lesser ones
 abbrev pub is_before : Among → Among → Bool
 is_before (Gap i) (Gap j) = nat_lt i j
 is_before (Gap i) (Slots j n) = not (nat_lt j i)

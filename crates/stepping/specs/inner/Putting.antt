@@ -1,10 +1,12 @@
 -- Elements put where a change aims in the old tree, in the tree as it stands after these changes.
 --     CanPut                         the place is there, and no more was replaced before it than there was
 --     put                            the tree with these put there
---     CanPutFrom, put_from           the same where a target is in code, and so many slots of its path lead to the tree
+--     CanPutFrom, IsPutFrom          the same in code, from an element that so many slots of a target's path lead to
 use Rattle.std.specs.Prelude.{◌≡◌, ◌≤◌, ℕ, List, ◌∷◌, ◌++◌, take, drop}
 use Rattle.green_tree.specs.Path.{Path}
 use Rattle.green_tree.specs.Tree.{SyntaxTree}
+use Rattle.green_tree.specs.GreenElement.{element_tree, element_trees}
+use Rattle.green_tree.specs.declared.green.GreenElement.{GreenElement}
 use Rattle.stepping.specs.declared.done.Among.{Among}
 use Rattle.stepping.specs.declared.done.Done.{Done}
 use Rattle.stepping.specs.declared.done_index.DoneIndex.{DoneIndex}
@@ -22,9 +24,10 @@ module _ (t : SyntaxTree) (done : Path → List Done) (p : Path) (at : Among) wh
   abbrev pub put : List SyntaxTree → SyntaxTree
   put ts = updated_at t (place done p) (spliced (start (done p) at) (count_of at) ts)
 
-module _ (t : SyntaxTree) (index : DoneIndex) (depth : ℕ) (a : Target) where
+module _ (e : GreenElement) (index : DoneIndex) (depth : ℕ) (a : Target) where
   abbrev pub CanPutFrom : Type 0
-  CanPutFrom = CanPut t (done_below index (take depth a.parent.now)) (drop depth a.parent.now) a.at
+  CanPutFrom = CanPut (element_tree e) (done_below index (take depth a.parent.now)) (drop depth a.parent.now) a.at
 
-  abbrev pub put_from : List SyntaxTree → SyntaxTree
-  put_from ts = put t (done_below index (take depth a.parent.now)) (drop depth a.parent.now) a.at ts
+  abbrev pub IsPutFrom : List GreenElement → GreenElement → Type 0
+  IsPutFrom given new =
+      element_tree new ≡ put (element_tree e) (done_below index (take depth a.parent.now)) (drop depth a.parent.now) a.at (element_trees given)
