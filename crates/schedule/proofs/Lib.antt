@@ -6,6 +6,7 @@ mod Turns
 mod TurnsSorted
 mod WaitCounts
 mod Readiness
+mod Completeness
 mod Carried
 mod Decided
 mod Undropped

@@ -9,6 +9,7 @@
 --     stands_before                 in the order, the one number stands before the other
 --     ListsEachOnce, respects       the order has each undropped change once and nothing else; it keeps to such a test
 --     IsAllowed                     an allowed order
+--     is_complete                   each change that is not dropped is in a set
 --     is_ready, is_closed           what must come before a change is done, and it is not; a set of changes has, with each owner, what it owns
 use Rattle.std.specs.Prelude.{◌≡◌, ℕ, Bool, false, not, ◌&&◌, ◌||◌, nat_eq, nat_lt, min, max, List, [], ◌∷◌, filter, count_by, Option, Some, None, IsTrue}
 use Rattle.std.specs.List.{list_all, enumerate_from, position_or_len}
@@ -81,6 +82,9 @@ pub record IsAllowed (cs : List Change) (order : List ℕ) : Type 0 where
   pub tokens_last : IsTrue (respects token_first cs order)
 
 -- ---- sets of changes that are done
+abbrev pub is_complete : List Change → (ℕ → Bool) → Bool
+is_complete cs done = list_all (λ c. done c.0) (undropped cs)
+
 abbrev pub is_ready : List Change → (ℕ → Bool) → Numbered → Bool
 is_ready cs done d = not (is_dropped cs d.1) && not (done d.0) && list_all (λ c. not (comes_first cs c d) || done c.0) (undropped cs)
 

@@ -1,10 +1,11 @@
 ghost use Rattle.std.specs.Prelude.{◌≡◌, ◌<◌, ℕ, None, Some, Bool, true, false, ◌&&◌, ◌||◌, nat_eq, slice_index, List, map, length, slice_get, IfOk};
+ghost use Rattle.std.specs.List.{list_all};
 ghost use Rattle.edit_change.specs.Nesting.{first_clash};
 ghost use Rattle.edit_change.specs.inner.Fate.{fate};
 ghost use Rattle.edit_change.specs.declared.change.Change.{Change};
-ghost use Rattle.schedule.specs.Schedule.{is_ready};
+ghost use Rattle.schedule.specs.Schedule.{is_complete, is_ready};
 ghost use Rattle.schedule.specs.Waiting.{IsWaiting, HasChange};
-ghost use Rattle.schedule.specs.inner.Waits.{standing_in};
+ghost use Rattle.schedule.specs.inner.Waits.{is_settled, standing_in};
 
 use crate::followers::Followers;
 use crate::waits::Waits;
@@ -29,6 +30,25 @@ pub struct Waiting {
     owners: Waits,
     gaps: Waits,
     tokens: Waits,
+}
+
+impl Standing {
+    // Whether nothing is left to do for it.
+    fn is_settled(self) -> bool
+        ensures { result ≡ is_settled self }
+    {
+        match self {
+            Standing::Dropped => true,
+            Standing::Undone => false,
+            Standing::Done => true,
+        }
+    }
+}
+
+fn all_are_settled(standings: &[Standing]) -> bool
+    ensures { result ≡ list_all is_settled standings.now }
+{
+    standings.iter().all(|standing| standing.is_settled())
 }
 
 fn standings(alloc: Global, fates: &[Fate]) -> Result<Vec<Standing>, AllocError>
@@ -89,6 +109,14 @@ impl Waiting {
             && nat_eq (slice_index self.now.tokens.counts.items number) 0) }
     {
         self.owners.is_free(number) && self.gaps.is_free(number) && self.tokens.is_free(number)
+    }
+
+    /// Whether each change that is not dropped is done.
+    pub fn is_complete(&self) -> bool
+        ensures { (changes : List Change) (done : ℕ → Bool)
+            → IsWaiting changes done self.now → result ≡ is_complete changes done }
+    {
+        all_are_settled(&self.standings)
     }
 
     /// A change that may be carried out next is done.

@@ -3,6 +3,7 @@
 --     points_at                     a link leads to this number
 --     waits_for                     how many links lead to a number from changes that are not done
 --     IsCounted                     a table has these numbers, where what waits for a change is not done before it
+--     is_settled                    not undone
 --     standing_in                   of a fate, before anything is done
 --     standing_of                   of a change, where these are done
 use Rattle.std.specs.Prelude.{◌≡◌, ◌<◌, ℕ, Bool, true, false, not, ◌&&◌, cond, nat_eq, List, length, count_by, slice_index, Option, Some}
@@ -36,6 +37,11 @@ abbrev pub standing_in : Fate → Standing
 standing_in fates.Independent = Undone
 standing_in fates.Dropped = Dropped
 standing_in (fates.Owned d) = Undone
+
+abbrev pub is_settled : Standing → Bool
+is_settled Dropped = true
+is_settled Undone = false
+is_settled Done = true
 
 abbrev pub standing_of : List Change → (ℕ → Bool) → ℕ → Change → Standing
 standing_of cs done n c = cond (is_dropped cs c) Dropped (cond (done n) Done Undone)
