@@ -202,8 +202,8 @@ fn run<R: Clock>(rt: &R, alloc: Global, ids: &mut TreeIds, plan: &EditPlan) -> R
     Ok((edit.new_root().text_len(), seconds))
 }
 
-// An editor with the changes of a case recorded, and how many seconds recording took.
-fn recorded<R: Clock>(
+/// An editor with the changes of a case recorded, and how many seconds recording took.
+pub(crate) fn recorded<R: Clock>(
     rt: &R,
     alloc: Global,
     ids: &mut TreeIds,

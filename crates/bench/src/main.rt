@@ -7,9 +7,11 @@ mod edits;
 mod growth;
 mod nested;
 mod notes;
+mod orders;
 mod prepared;
 
 use crate::growth::{report_edits, report_growth};
+use crate::orders::{report_order_times, report_orders};
 use anyhow::Result;
 use cst_core::{GreenElement, GreenNode, GreenToken, SyntaxKind, SyntaxNode, TreeIds};
 use std::alloc::Global;
@@ -170,9 +172,11 @@ fn run<R: Print + Clock>(rt: &R, alloc: Global, timed: bool) -> Result<()> {
     measure_flat(rt, alloc, &mut ids, timed)?;
     measure_chain(rt, alloc, &mut ids, timed)?;
     if timed {
-        report_growth(rt, alloc)
+        report_growth(rt, alloc)?;
+        report_order_times(rt, alloc)
     } else {
-        report_edits(rt, alloc)
+        report_edits(rt, alloc)?;
+        report_orders(rt, alloc)
     }
 }
 

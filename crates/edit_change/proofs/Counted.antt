@@ -6,8 +6,9 @@ use Rattle.std.specs.Prelude.{◌≡◌, ℕ, suc, ◌<◌, List, [], ◌∷◌,
 use Rattle.std.proofs.Common.{ap, sym, ◌∙◌, subst, arith}
 use Rattle.std.proofs.lemmas.Option.{none-some, same_Some, slice_get_within}
 use Rattle.cst_core.specs.Path.{Path, parent_path, last_slot}
-use Rattle.cst_core.specs.Tree.{SyntaxTree, Token, at, children, trees, forest}
+use Rattle.cst_core.specs.Tree.{SyntaxTree, Token, at, children}
 use Rattle.cst_core.specs.Green.{Branch, branch_tree}
+use Rattle.green_tree.proofs.Lookup.{trees-forest}
 
 abbrev HasChild : Option SyntaxTree → ℕ → Type 0
 HasChild o i = (u : SyntaxTree) × (o ≡ Some u) × (i < length (children u))
@@ -24,10 +25,6 @@ child-there top (i ∷ j ∷ p) t below there =
       | None ↦ λ h. absurd (none-some t h)
       | Some c ↦ λ h. child-there c (j ∷ p) t (λ e. let l : suc (length p) ≡ 0 = ap length e in absurd (omega (arith, l))) h
     ]) there
-
-trees-forest : (ts : List SyntaxTree) → trees (forest ts) ≡ ts
-trees-forest [] = refl
-trees-forest (t ∷ ts) = ap (λ us. t ∷ us) (trees-forest ts)
 
 -- the parent is a node with so many children
 pub within-children : (b : Branch) (o : Option SyntaxTree) (i : ℕ) → o ≡ Some (branch_tree b) → HasChild o i → i < length b.children

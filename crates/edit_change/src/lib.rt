@@ -4,6 +4,7 @@
 mod change;
 mod change_aims;
 mod change_nesting;
+mod change_text;
 mod clash_error;
 mod element_like;
 mod element_list;

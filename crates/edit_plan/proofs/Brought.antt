@@ -21,7 +21,7 @@ use Rattle.cst_core.proofs.LastSlot.{parent-and-slot}
 use Rattle.rewriting.specs.Rewriting.{NumberedAim, numbers, replacements_at, is_replaced, gap_order, inserts_at, rewritten}
 use Rattle.rewriting.specs.Topmost.{holds_at, parent_holds, topmost}
 use Rattle.edit_change.specs.Nesting.{owner, is_dropped, is_independent}
-use Rattle.edit_plan.specs.NewTree.{Origin, OriginTree, origin, payload_of, dependents, given, is_free}
+use Rattle.edit_stages.specs.NewTree.{Origin, OriginTree, origin, payload_of, dependents, given, is_free}
 use Rattle.edit_plan.specs.Results.{is_brought}
 use Rattle.edit_change.specs.declared.change.Change.{Change}
 use Rattle.edit_plan.proofs.Edits.{Edits, below, filled, edits_of, remade, remade_from, rewritten_is}

@@ -15,7 +15,7 @@ use Rattle.cst_core.specs.Path.{Path, counted_from}
 use Rattle.edit_change.specs.Nesting.{owner}
 use Rattle.edit_change.specs.inner.AimFrom.{depth}
 use Rattle.edit_plan.specs.inner.OwnerTables.{depth_of, dependents_in, owns_at, AreDependents, AreOwners}
-use Rattle.edit_plan.specs.NewTree.{dependents}
+use Rattle.edit_stages.specs.NewTree.{dependents}
 use Rattle.edit_change.specs.declared.change.Change.{Change}
 use Rattle.edit_plan.specs.declared.dependent.Dependent.{Dependent}
 use Rattle.edit_plan.proofs.Levels.{empty-none, passing-found}

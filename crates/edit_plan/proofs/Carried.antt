@@ -16,7 +16,7 @@ use Rattle.rewriting.specs.Rewriting.{NumberedAim}
 use Rattle.edit_change.specs.ChangeAim.{aim}
 use Rattle.edit_change.specs.inner.Fate.{by_owner, fate, is_independent_in}
 use Rattle.edit_change.specs.Nesting.{surroundings, region_at, is_dropped, is_independent}
-use Rattle.edit_plan.specs.NewTree.{change_aims, independents}
+use Rattle.edit_stages.specs.NewTree.{change_aims, independents}
 use Rattle.edit_change.specs.declared.change.Change.{Change}
 use Rattle.edit_change.specs.declared.change.Change.TheVariants.{ReplaceWithMany}
 use Rattle.edit_change.specs.declared.fate.Fate.{Fate}

@@ -1,10 +1,12 @@
 -- From what the pass answers to what carrying a plan out promises.
 --     makes                         the edit that is put together is what the plan makes
+--     with-tree                     the same paths in a tree that was made otherwise
 --     refuses                       the refusals of the new root, as those of the plan
 use Rattle.std.specs.Prelude.{◌≡◌, ℕ, ◌<◌, ◌≤◌, List, [], ◌∷◌, ◌++◌, map, flat_map, length, Some, Result, Ok, Err, IfErr, refl}
 use Rattle.std.specs.Result.{IsErrAnd}
 use Rattle.std.proofs.Common.{ap, ap₂, sym, subst, ◌∙◌, arith}
-use Rattle.cst_core.specs.Path.{Path}
+use Rattle.std.proofs.lemmas.Option.{same_Some}
+use Rattle.cst_core.specs.Path.{Path, first_item}
 use Rattle.cst_core.specs.Tree.{text_length}
 use Rattle.cst_core.specs.TreeIds.{IsSpent}
 use Rattle.cst_core.specs.Element.{NumbersTell, address}
@@ -16,10 +18,12 @@ use Rattle.edit_map.specs.Mapping.{followed}
 use Rattle.edit_plan.specs.AnnotationTable.{found_for}
 use Rattle.edit_plan.specs.Plan.{Plan, Edit, Makes, RunRefuses, registered_elements}
 use Rattle.edit_plan.specs.inner.Marks.{numbered_paths}
-use Rattle.edit_plan.specs.inner.PlanRun.{IsRewritten}
+use Rattle.edit_plan.specs.inner.PlanRun.{IsRewritten, HasRewritten}
 use Rattle.edit_plan.specs.EditRefusal.{of_tree}
-use Rattle.edit_plan.specs.Places.{elements_held}
+use Rattle.edit_plan.specs.Places.{ArePlaces, elements_held}
 use Rattle.edit_plan.specs.Results.{annotated, copies_of, paths_with}
+use Rattle.edit_stages.specs.NewTree.{plain, new_tree}
+use Rattle.edit_plan.specs.declared.run.Rewritten.{Rewritten}
 use Rattle.edit_plan.proofs.Told.{all-told}
 use mathlib.Core.List.{map-map}
 use Rattle.edit_plan.specs.declared.edit_error.EditError.TheVariants.{TooLong, NoTreeNumber}
@@ -69,3 +73,9 @@ module _ (p : Plan) (green : Branch) (paths : List Path) (annotations : List (�
 pub err-gives : {T E : Type 0} (P : E → Type 0) (r : Result T E) (x : E) → IsErrAnd r (λ e. e ≡ x) → P x → IfErr r P
 err-gives P (Ok t) x is holds = tt
 err-gives P (Err e) x is holds = subst P (sym is) holds
+
+-- ---- a tree that was made otherwise
+pub with-tree : (p : Plan) (old new : Rewritten) (green shown : Branch) → HasRewritten p old → green ≡ shown → ((places : ℕ → Path) → ArePlaces p.mapping p.changes places → map plain (new_tree p.changes places p.root) ≡ branch_tree shown ∷ []) → new ≡ record { green = green; changed = old.changed; annotated = old.annotated } → HasRewritten p new
+with-tree p old new green shown r same made is =
+    let one : plain r.made ≡ branch_tree green = same_Some (plain r.made) (branch_tree green) (ap first_item (ap (map plain) (sym r.would.is_new) ∙ made r.would.places r.would.are_places ∙ ap (λ b. branch_tree b ∷ []) (sym same))) in
+    subst (HasRewritten p) (sym is) (record { made = r.made; would = r.would; tree_is = sym one; changed_is = r.changed_is; reached = r.reached; annotated_is = r.annotated_is; reached_are = r.reached_are })

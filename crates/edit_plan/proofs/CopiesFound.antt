@@ -22,7 +22,7 @@ use Rattle.rewriting.specs.Rewriting.{rewritten_whole}
 use Rattle.rewriting.specs.Topmost.{holds_at, paths_of}
 use Rattle.rewriting.specs.inner.Marked.{Marking, marks_on, marked, marked_from, mark_below, marks_at, wanted}
 use Rattle.edit_plan.specs.Results.{copies_of}
-use Rattle.edit_plan.specs.NewTree.{OriginTree, origin, given, independents, new_tree}
+use Rattle.edit_stages.specs.NewTree.{OriginTree, origin, given, independents, new_tree}
 use Rattle.edit_plan.specs.inner.Sought.{path_below, sought_one, sought_from, sought_at, registered_at, addresses}
 use Rattle.edit_plan.specs.inner.Marks.{with_marks, marks_given, IsTableOf, paths_of_mark, path_lists}
 use Rattle.edit_change.specs.declared.change.Change.{Change}

@@ -13,7 +13,7 @@ use Rattle.cst_core.specs.Path.{Path}
 use Rattle.cst_core.specs.Tree.{Tree, Forest, Token, Node, end, more, SyntaxTree, forest, forest_relabelled}
 use Rattle.cst_core.specs.Element.{Address}
 use Rattle.rewriting.specs.Rewriting.{NumberedAim, replacements_at, is_replaced, gap_order, gap, slot, rewritten, rewritten_from}
-use Rattle.edit_plan.specs.NewTree.{Origin, OriginTree, plain, origin}
+use Rattle.edit_stages.specs.NewTree.{Origin, OriginTree, plain, origin}
 use Rattle.edit_plan.specs.RewritingLaws.{IsUntouched}
 
 pub record Edits (L : Type 0) : Type 0 where

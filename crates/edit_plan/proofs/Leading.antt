@@ -17,7 +17,7 @@ use Rattle.cst_core.specs.SyntaxElement.{syntax_as, syntax_at}
 use Rattle.rewriting.specs.Topmost.{holds_at, parent_holds, topmost}
 use Rattle.edit_plan.specs.Plan.{Plan}
 use Rattle.edit_plan.specs.inner.PlanRun.{IsRewritten}
-use Rattle.edit_plan.specs.NewTree.{OriginTree, is_free}
+use Rattle.edit_stages.specs.NewTree.{OriginTree, is_free}
 use Rattle.edit_plan.specs.inner.Marks.{annotated_path, numbered_paths}
 use Rattle.edit_plan.specs.Results.{is_brought, copies_of}
 use Rattle.edit_change.proofs.Lists.{all_filter, all_weaker}

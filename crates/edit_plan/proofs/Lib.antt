@@ -20,11 +20,14 @@ mod Filled
 mod Unowned
 mod Brought
 mod Whole
+mod Running
+mod WholeWay
+mod RunFacts
+mod AllowedRuns
 mod Carrying
 mod Leading
 pub mod Exchanged
 mod Relabelled
-mod Apart
 mod Swapped
 mod Registered
 mod ByLevel

@@ -19,7 +19,7 @@ use Rattle.rewriting.specs.inner.Marked.{MarkTree, Marking, marked_from, wanted}
 use Rattle.rewriting.specs.inner.Pass.{kind_only, AreMarkedIn, given_in}
 use Rattle.rewriting.specs.declared.marked_given.GivenTable.{GivenTable}
 use Rattle.rewriting.proofs.MarksGiven.{all-topped}
-use Rattle.edit_plan.specs.NewTree.{OriginTree, plain, given, independents, new_tree}
+use Rattle.edit_stages.specs.NewTree.{OriginTree, plain, given, independents, new_tree}
 use Rattle.edit_plan.specs.Places.{ArePlaces}
 use Rattle.edit_plan.specs.Plan.{Plan}
 use Rattle.edit_plan.specs.inner.OwnerTables.{AreGiven}

@@ -33,7 +33,7 @@ use Rattle.rewriting.proofs.Untouched.{untouched}
 use Rattle.edit_change.specs.Change.{payload}
 use Rattle.edit_change.specs.Nesting.{owner}
 use Rattle.edit_plan.specs.inner.OwnerTables.{depth_of, owns_at, AreDependents, AreOwners}
-use Rattle.edit_plan.specs.NewTree.{origin, payload_of, dependents}
+use Rattle.edit_stages.specs.NewTree.{origin, payload_of, dependents}
 use Rattle.edit_plan.specs.inner.Sought.{path_below, sought_one, sought_from, sought_at, registered_at}
 use Rattle.edit_plan.specs.inner.Marks.{marks_given, IsTableOf, element_sought, payload_sought, with_answer, AreMarksFrom}
 use Rattle.edit_change.specs.declared.change.Change.{Change}

@@ -22,7 +22,7 @@ use Rattle.rewriting.proofs.Alike.{IsSeen, sides, with_number, own_number, numbe
 use Rattle.rewriting.proofs.Marks.{marks-node, marks-token}
 use Rattle.rewriting.proofs.MarksGiven.{marked-topped}
 use Rattle.edit_change.specs.declared.change.Change.{Change}
-use Rattle.edit_plan.specs.NewTree.{OriginTree, Origin, origin, given, independents, is_free, new_tree}
+use Rattle.edit_stages.specs.NewTree.{OriginTree, Origin, origin, given, independents, is_free, new_tree}
 use Rattle.edit_plan.specs.Results.{changed}
 use Rattle.edit_plan.specs.inner.Sought.{sought_from, sought_at, registered_at}
 use Rattle.edit_plan.specs.inner.Marks.{with_marks, marks_given, IsTableOf, paths_of_mark}

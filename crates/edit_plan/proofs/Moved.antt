@@ -36,7 +36,7 @@ use Rattle.edit_change.specs.inner.Fate.{fate, owner_in}
 use Rattle.edit_change.specs.declared.fate.Fate.{Fate}
 use Rattle.edit_change.specs.inner.AimFrom.{position_aim_from, aim_from, depth}
 use Rattle.edit_plan.specs.inner.OwnerTables.{moved_dependent, dependents_in}
-use Rattle.edit_plan.specs.NewTree.{moved_path, moved_aim, targets_of, dependents}
+use Rattle.edit_stages.specs.NewTree.{moved_path, moved_aim, targets_of, dependents}
 use Rattle.edit_change.specs.declared.position.Position.{Position}
 use Rattle.edit_change.specs.PositionForm.{FirstChild, After}
 use Rattle.edit_change.specs.declared.change.Change.{Change}
@@ -49,37 +49,7 @@ use Rattle.edit_change.proofs.Regions.{owner-told}
 use Rattle.edit_change.proofs.Lists.{slice_get-set_same, slice_get-set_other}
 use Rattle.edit_change.proofs.Owners.{HasRegion, owner_cases, owner_region}
 use Rattle.edit_plan.proofs.Owners.{owner_is_above}
-
--- ---- an owner replaces a node by a node
-any-at : {X : Type 0} (p : X → Bool) (xs : List X) (i : ℕ) (x : X) → list_any p xs ≡ false → slice_get xs i ≡ Some x → p x ≡ false
-any-at p [] i x none is = absurd (none-some x is)
-any-at p (y ∷ xs) zero x none is = ap p (sym (same_Some y x is)) ∙ (or_parts (p y) (list_any p xs) none).0
-any-at p (y ∷ xs) (suc i) x none is = any-at p xs i x (or_parts (p y) (list_any p xs) none).1 is
-
-all-in : (ps qs : List Path) → ((q : Path) → has_path ps q ≡ true → has_path qs q ≡ true) → AllByRecursion (λ q. has_path qs q ≡ true) ps
-all-in [] qs h = tt
-all-in (p ∷ ps) qs h = (h p (or_left (same_path p p) (has_path ps p) (same_path_from p p refl)), all-in ps qs (λ q k. h q (or_right (same_path q p) (has_path ps q) k)))
-
-pub owner-keeps : (cs : List Change) (d : Change) (c : ℕ) → owner cs d ≡ Some c → (r : Change) × (slice_get cs c ≡ Some r) × (is_keeping r ≡ true)
-owner-keeps cs d c by =
-    let found : HasRegion (λ q. has_path (surroundings d) q ≡ true) cs c = owner_region (λ q. has_path (surroundings d) q ≡ true) cs d c (all-in (surroundings d) (surroundings d) (λ q h. h)) by in
-    let kept : (not (is_keeping found.0) && is_around found.0 d) ≡ false = any-at (λ r. not (is_keeping r) && is_around r d) cs c found.0 (owner_cases cs d c by).0 found.2 in
-    (found.0, found.2, keeps (is_keeping found.0) (is_around found.0 d) (meets (surroundings d) (region found.0) found.1 found.4 found.3) kept)
-  where
-    keeps : (k a : Bool) → a ≡ true → (not k && a) ≡ false → k ≡ true
-    keeps true a h e = refl
-    keeps false a h e = absurd (true≢false (sym h ∙ e))
-
--- its one target is where it aims
-pub target-is : (cs : List Change) (c : ℕ) (r : Change) → slice_get cs c ≡ Some r → is_keeping r ≡ true → unwrap_or (first_item (targets_of cs c)) [] ≡ aim_path r
-target-is cs c r is keeps = ap (λ o. unwrap_or (first_item (option_map_or targets o [])) []) is ∙ one r keeps
-  where
-    one : (r : Change) → is_keeping r ≡ true → unwrap_or (first_item (targets r)) [] ≡ aim_path r
-    one (Insert at e) h = absurd (false≢true h)
-    one (InsertAll at es) h = absurd (false≢true h)
-    one (Replace t e) h = refl
-    one (ReplaceWithMany t es) h = absurd (false≢true h)
-    one (ReplaceAll first last es) h = absurd (false≢true h)
+use Rattle.edit_stages.proofs.Owning.{owner-keeps, target-is}
 
 -- ---- where a moved change aims
 drop-push : (n : ℕ) (p : Path) (j : ℕ) → n ≤ length p → drop n (p ++ j ∷ []) ≡ drop n p ++ j ∷ []

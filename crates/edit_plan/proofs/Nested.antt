@@ -23,7 +23,7 @@ use Rattle.rewriting.specs.Rewriting.{NumberedAim, numbers, rewritten}
 use Rattle.edit_change.specs.Change.{payload}
 use Rattle.edit_change.specs.inner.AimFrom.{depth}
 use Rattle.edit_plan.specs.inner.OwnerTables.{depth_of, moved_dependent, dependents_in, owns_at, AreDependents, AreOwners, IsGiven, AreGiven, AreGivenFrom, IsFilled}
-use Rattle.edit_plan.specs.NewTree.{plain, payload_of, dependents, given}
+use Rattle.edit_stages.specs.NewTree.{plain, payload_of, dependents, given}
 use Rattle.edit_change.specs.declared.change.Change.{Change}
 use Rattle.edit_plan.specs.declared.dependent.Dependent.{Dependent}
 use Rattle.edit_plan.proofs.Brought.{given-labelled}

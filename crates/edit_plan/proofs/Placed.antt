@@ -16,7 +16,7 @@ use Rattle.edit_change.specs.Nesting.{is_keeping, owner}
 use Rattle.edit_plan.specs.inner.OwnerTables.{path_at, places_in, IsPlaceOf, FoundSoFar}
 use Rattle.edit_plan.specs.Places.{HasPlace, IsUnplaced, IsFirstUnplaced, FindsPlace}
 use Rattle.edit_change.specs.declared.change.Change.{Change}
-use Rattle.edit_plan.proofs.Moved.{owner-keeps}
+use Rattle.edit_stages.proofs.Owning.{owner-keeps}
 
 abbrev pub HasOwner : List Change → ℕ → ℕ → Type 0
 HasOwner cs n e = (d : Change) × (slice_get cs n ≡ Some d) × (owner cs d ≡ Some e)

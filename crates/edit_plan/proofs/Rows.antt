@@ -4,7 +4,7 @@ use Rattle.cst_core.specs.Path.{Path}
 use Rattle.edit_map.proofs.RowTrees.{tree_L, tree_B, tree_BB, tree_M, tree_E, tree_F, tree_Z}
 use Rattle.edit_map.proofs.Rows.{R, B, BB, N, O, M, NM, NR, W, N7, A3, mapping_7}
 use Rattle.edit_change.specs.Nesting.{first_clash, is_dropped}
-use Rattle.edit_plan.specs.NewTree.{new_tree}
+use Rattle.edit_stages.specs.NewTree.{new_tree}
 use Rattle.edit_plan.specs.Results.{annotated_as}
 use Rattle.edit_plan.specs.TouchedNodes.{touched_by}
 use Rattle.edit_change.specs.declared.change.Change.{Change}

@@ -3,7 +3,7 @@ use Rattle.std.specs.Prelude.{◌≡◌, ℕ, List, [], ◌∷◌, ◌++◌, cod
 use Rattle.cst_core.specs.Path.{Path}
 use Rattle.cst_core.specs.Element.{Element, address}
 use Rattle.edit_map.proofs.Rows.{R}
-use Rattle.edit_plan.specs.NewTree.{plain, new_tree}
+use Rattle.edit_stages.specs.NewTree.{plain, new_tree}
 use Rattle.edit_plan.specs.Results.{annotated_as, stand_in_path}
 use Rattle.edit_plan.specs.inner.Sought.{sought_from}
 use Rattle.edit_change.specs.Display.{escape, change_text}

@@ -14,7 +14,7 @@ use Rattle.rewriting.specs.Aim.{Behind, Over}
 use Rattle.rewriting.specs.Rewriting.{NumberedAim, numbers, inserts_at, replacements_at, is_replaced, gap_order, rewritten, rewritten_from}
 use Rattle.rewriting.specs.Topmost.{holds_at, parent_holds, topmost}
 use Rattle.rewriting.proofs.Tops.{tops, top-children, tops-alone}
-use Rattle.edit_plan.specs.NewTree.{OriginTree, new_tree, is_free}
+use Rattle.edit_stages.specs.NewTree.{OriginTree, new_tree, is_free}
 use Rattle.edit_plan.specs.Results.{changed}
 use Rattle.edit_plan.specs.Places.{TextIsTooLong}
 use Rattle.edit_plan.specs.RewritingLaws.{IsUntouched, brought_text, filled_text, filled_text_from}

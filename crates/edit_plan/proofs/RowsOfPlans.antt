@@ -8,7 +8,7 @@ use Rattle.cst_core.specs.Element.{address}
 use Rattle.edit_map.specs.Mapping.{IsRising}
 use Rattle.edit_map.proofs.Places.{StandsFor-unique}
 use Rattle.edit_map.proofs.Rows.{R, BB, M, NM, NR, N7, A3, mapping_4, row_4_place, mapping_7, row_7_place, mapping_shared, row_copy_is_payload, unmapped}
-use Rattle.edit_plan.specs.NewTree.{OriginTree, plain, new_tree}
+use Rattle.edit_stages.specs.NewTree.{OriginTree, plain, new_tree}
 use Rattle.edit_plan.specs.Places.{FindsPlace, IsUnplaced, IsFirstUnplaced, IsRewriting}
 use Rattle.edit_change.specs.declared.change.Change.{Change}
 use Rattle.edit_plan.proofs.RowChanges.{after, first_in, insert, replace, E, X, V}

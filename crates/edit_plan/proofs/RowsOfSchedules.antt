@@ -5,7 +5,7 @@ use Rattle.std.proofs.Common.{arith, sym}
 use Rattle.cst_core.specs.Tree.{text}
 use Rattle.edit_map.proofs.RowTrees.{tree_BB}
 use Rattle.edit_map.proofs.Rows.{R, BB}
-use Rattle.edit_plan.specs.NewTree.{stage_tree, stage_payload}
+use Rattle.edit_stages.specs.NewTree.{stage_tree, stage_payload}
 use Rattle.schedule.specs.DefaultOrder.{default_first}
 use Rattle.schedule.specs.Schedule.{Numbered, ListsEachOnce, respects, owned_first, gap_first, token_first, IsAllowed, is_ready, is_closed}
 use Rattle.edit_change.specs.declared.change.Change.{Change}

@@ -14,7 +14,7 @@ use Rattle.rewriting.specs.Aim.{aims_at_gap, starts_at}
 use Rattle.edit_change.specs.ChangeAim.{aim}
 use Rattle.edit_change.specs.Nesting.{owner, has_owner}
 use Rattle.rewriting.specs.Rewriting.{NumberedAim, numbers, inserts_at, replacements_at, is_replaced, gap_order, gap, rewritten, rewritten_whole}
-use Rattle.edit_plan.specs.NewTree.{OriginTree, origin, moved_aim, targets_of, payload_of, payload_rewritten, dependents, given_within, given, Gives, plain}
+use Rattle.edit_stages.specs.NewTree.{OriginTree, origin, moved_aim, targets_of, payload_of, payload_rewritten, dependents, given_within, given, Gives, plain}
 use Rattle.edit_change.specs.declared.change.Change.{Change}
 use Rattle.edit_change.proofs.Lists.{all_filter, all_weaker, all_enumerated, flat_map-agree}
 use Rattle.edit_plan.proofs.GapRule.{all-gap_order}

@@ -7,7 +7,7 @@ use Rattle.cst_core.specs.Tree.{text}
 use Rattle.cst_core.specs.Element.{Element, address, subtree}
 use Rattle.cst_core.specs.Path.{Path}
 use Rattle.edit_change.specs.Nesting.{is_dropped, owner, is_independent}
-use Rattle.edit_plan.specs.NewTree.{OriginTree, origin, plain, change_aims, independents, payload_of, given, new_tree}
+use Rattle.edit_stages.specs.NewTree.{OriginTree, origin, plain, change_aims, independents, payload_of, given, new_tree}
 use Rattle.schedule.specs.Schedule.{undropped}
 use Rattle.edit_plan.specs.RewritingLaws.{brought_text, text_filled}
 use Rattle.edit_change.specs.declared.change.Change.{Change}

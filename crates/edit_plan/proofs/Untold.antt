@@ -5,7 +5,7 @@ use Rattle.std.proofs.Common.{ap, ap₂, ◌∙◌}
 use mathlib.Core.Path.{fun_ext}
 use Rattle.cst_core.specs.Path.{Path}
 use Rattle.cst_core.specs.Tree.{at, paths, label}
-use Rattle.edit_plan.specs.NewTree.{Origin, OriginTree}
+use Rattle.edit_stages.specs.NewTree.{Origin, OriginTree}
 use Rattle.rewriting.specs.Topmost.{holds_at, parent_holds}
 use Rattle.edit_plan.specs.Results.{is_brought, changed}
 

@@ -15,7 +15,7 @@ use Rattle.rewriting.specs.inner.Pass.{kind_only}
 use Rattle.rewriting.specs.Rewriting.{numbers, rewritten_whole}
 use Rattle.rewriting.specs.Topmost.{topmost}
 use Rattle.edit_change.specs.Nesting.{is_independent}
-use Rattle.edit_plan.specs.NewTree.{OriginTree, plain, origin, change_aims, given, independents, is_free, new_tree}
+use Rattle.edit_stages.specs.NewTree.{OriginTree, plain, origin, change_aims, given, independents, is_free, new_tree}
 use Rattle.edit_plan.specs.Results.{changed}
 use Rattle.edit_change.specs.declared.change.Change.{Change}
 use Rattle.edit_plan.proofs.Brought.{mark, marked, marked-free}

@@ -8,13 +8,16 @@ pub use Rattle.edit_change.specs.Fits
 pub use Rattle.edit_change.specs.Nesting
 pub use Rattle.edit_change.specs.Display
 pub use Rattle.schedule.specs.Schedule
+pub use Rattle.schedule.specs.DefaultOrder
 pub mod Annotation
 pub mod AnnotationTable
-pub mod NewTree
+pub use Rattle.edit_stages.specs.NewTree
 pub mod Results
 pub mod Places
 pub mod TouchedNodes
 pub mod EditRefusal
 pub mod Plan
+pub mod Run
+pub mod ExecuteRefusal
 pub mod RewritingLaws
 pub mod inner

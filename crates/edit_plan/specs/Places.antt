@@ -17,7 +17,7 @@ use Rattle.edit_change.specs.Change.{elements}
 use Rattle.rewriting.specs.Aim.{Behind}
 use Rattle.edit_change.specs.ChangeAim.{aim, aim_path}
 use Rattle.edit_change.specs.Nesting.{owner}
-use Rattle.edit_plan.specs.NewTree.{OriginTree, plain, new_tree, is_free}
+use Rattle.edit_stages.specs.NewTree.{OriginTree, plain, new_tree, is_free}
 use Rattle.edit_plan.specs.Results.{changed, annotated}
 use Rattle.edit_change.specs.declared.change.Change.{Change}
 use Rattle.edit_change.specs.declared.change.Change.TheVariants.{Insert, InsertAll, Replace, ReplaceWithMany, ReplaceAll}

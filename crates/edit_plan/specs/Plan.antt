@@ -23,7 +23,7 @@ use Rattle.edit_change.specs.Fits.{Fits}
 use Rattle.edit_map.specs.Mapping.{Mapping}
 use Rattle.edit_map.specs.Builder.{IsMapping}
 use Rattle.edit_change.specs.Nesting.{first_clash}
-use Rattle.edit_plan.specs.NewTree.{OriginTree, plain, is_free, new_tree}
+use Rattle.edit_stages.specs.NewTree.{OriginTree, plain, is_free, new_tree}
 use Rattle.edit_plan.specs.Results.{changed, annotated, paths_with, stand_in_path}
 use Rattle.edit_plan.specs.AnnotationTable.{found_for}
 use Rattle.edit_plan.specs.Places.{IsFirstUnplaced, ArePlaces, TextIsTooLong, elements_held}

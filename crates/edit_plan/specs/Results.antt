@@ -13,7 +13,7 @@ use Rattle.cst_core.specs.Order.{node_paths, start}
 use Rattle.cst_core.specs.Element.{Address, Element, address, same_address, subtree}
 use Rattle.edit_map.specs.Mapping.{Mapping, followed}
 use Rattle.rewriting.specs.Topmost.{holds_at, topmost}
-use Rattle.edit_plan.specs.NewTree.{Origin, OriginTree}
+use Rattle.edit_stages.specs.NewTree.{Origin, OriginTree}
 
 -- ---- changed elements, where `is_free` says which changes have no owner
 abbrev pub is_brought : (ℕ → Bool) → Origin → Bool

@@ -16,7 +16,7 @@ use Rattle.edit_map.specs.Mapping.{Mapping, StandsFor}
 use Rattle.rewriting.specs.Aim.{Behind}
 use Rattle.rewriting.specs.Rewriting.{NumberedAim, inserts_at, replacements_at, is_replaced, gap_order}
 use Rattle.edit_change.specs.ChangeAim.{aim}
-use Rattle.edit_plan.specs.NewTree.{payload_of}
+use Rattle.edit_stages.specs.NewTree.{payload_of}
 use Rattle.edit_change.specs.declared.change.Change.{Change}
 
 -- ---- places

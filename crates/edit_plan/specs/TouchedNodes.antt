@@ -5,7 +5,7 @@ use Rattle.std.specs.List.{enumerate_from}
 use Rattle.cst_core.specs.Path.{Path}
 use Rattle.cst_core.specs.Element.{Element, subtree}
 use Rattle.rewriting.specs.Effort.{touched, parents_of}
-use Rattle.edit_plan.specs.NewTree.{independents, dependents, payload_of}
+use Rattle.edit_stages.specs.NewTree.{independents, dependents, payload_of}
 use Rattle.edit_change.specs.declared.change.Change.{Change}
 
 -- a change that owns nothing adds nothing

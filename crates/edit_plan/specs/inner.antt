@@ -3,6 +3,7 @@ pub mod FirstNode
 pub mod OwnerTables
 pub mod PlacesRefusal
 pub mod PlanRun
+pub mod PlanStages
 pub mod Sought
 pub mod Marks
 pub mod GivenTables

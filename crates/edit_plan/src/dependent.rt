@@ -5,9 +5,9 @@ ghost use Rattle.edit_change.specs.ChangeAim.{aim, aim_path};
 ghost use Rattle.edit_change.specs.Fits.{Fits};
 ghost use Rattle.edit_change.specs.inner.Fate.{fate};
 ghost use Rattle.edit_change.specs.Nesting.{owner};
-ghost use Rattle.edit_plan.specs.NewTree.{moved_path, moved_aim};
+ghost use Rattle.edit_stages.specs.NewTree.{moved_path, moved_aim};
 ghost use Rattle.edit_change.specs.inner.AimFrom.{depth};
-ghost use Rattle.edit_plan.specs.inner.OwnerTables.{places_in, moved_dependent, dependents_in, AreDependents, OwnsOneMore, OthersOwnAsBefore};
+ghost use Rattle.edit_plan.specs.inner.OwnerTables.{places_in, moved_dependent, dependents_in, AimsFrom, AreDependents, OwnsOneMore, OthersOwnAsBefore};
 
 use edit_change::{Change, Fate};
 use rewriting::{Aimed, empty_lists};
@@ -106,6 +106,31 @@ fn place_at(places: &[Option<Vec<usize>>], owner: usize) -> &[usize]
     match &places[owner] {
         Some(place) => place.as_slice(),
         None => &[],
+    }
+}
+
+/// The path from which a change aims: in the payload of its owner, if it has one, and else in the tree. `fates` has what becomes of each
+/// change, and `places` the place of each owner's target in its payload.
+pub(crate) fn staged_path(
+    alloc: Global,
+    changes: &[Change],
+    fates: &[Fate],
+    places: &[Option<Vec<usize>>],
+    number: usize,
+) -> Result<Vec<usize>, AllocError>
+    requires there { number < length changes.now }
+    requires fit { (root : Element) × All (Fits root) changes.now }
+    requires fates { fates.now ≡ map (fate changes.now) changes.now }
+    requires places { length places.now ≡ length changes.now }
+    ensures { IfOk result (λ v. AimsFrom changes.now (places_in places.now) number v.items) }
+{
+    let path = changes[number].aim_path();
+    match owner_of(changes, fates, number) {
+        Some(owner) => {
+            let target = changes[owner].aim_path();
+            moved_path(alloc, target, place_at(places, owner), path)
+        }
+        None => Vec::from_slice(alloc, path),
     }
 }
 

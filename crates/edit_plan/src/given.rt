@@ -6,7 +6,7 @@ ghost use Rattle.cst_core.specs.GreenElement.{element_tree};
 ghost use Rattle.rewriting.specs.inner.Given.{given_trees};
 ghost use Rattle.rewriting.specs.inner.Pass.{IsMarked, given_in};
 ghost use Rattle.edit_change.specs.Change.{payload};
-ghost use Rattle.edit_plan.specs.NewTree.{payload_of};
+ghost use Rattle.edit_stages.specs.NewTree.{payload_of};
 ghost use Rattle.edit_plan.specs.inner.GivenTables.{element_rewritten, each_rewritten, FindsElement, IsMarkedEach};
 ghost use Rattle.edit_plan.specs.inner.GivenTables.{HasPayloadMarks, FillsMarks, FillsLevel, FillsLevelMarks};
 ghost use Rattle.edit_plan.specs.inner.GivenTables.{TellsGiven, TellsMarks};

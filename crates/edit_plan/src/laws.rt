@@ -1,6 +1,6 @@
 //! Laws of changes, of their places and of the tree that they make, of the definitions alone.
 
-ghost use Rattle.std.specs.Prelude.{ℕ, ◌≡◌, ◌↔◌, List, [], ◌∷◌, ◌++◌, map, flat_map, slice_get, Option, None, Some, false, All, IsTrue, IsSomeAnd};
+ghost use Rattle.std.specs.Prelude.{ℕ, ◌≡◌, ◌↔◌, List, [], ◌∷◌, ◌++◌, length, map, flat_map, slice_get, nat_lt, Option, None, Some, true, false, All, IsTrue, IsSomeAnd};
 ghost use Rattle.cst_core.specs.Path.{Path};
 ghost use Rattle.cst_core.specs.Tree.{SyntaxTree, text};
 ghost use Rattle.cst_core.specs.Element.{Address, Element, subtree, IsElement, NumbersTell};
@@ -15,10 +15,10 @@ ghost use Rattle.rewriting.specs.Aim.{aims_at_gap, same_gap};
 ghost use Rattle.edit_change.specs.ChangeAim.{aim};
 ghost use Rattle.edit_change.specs.Nesting.{owner, region};
 ghost use Rattle.rewriting.specs.Rewriting.{NumberedAim, gap, rewritten};
-ghost use Rattle.edit_plan.specs.NewTree.{Origin, OriginTree, origin, plain, change_aims, payload_of, is_free, given, Gives, new_tree};
+ghost use Rattle.edit_stages.specs.NewTree.{Origin, OriginTree, origin, plain, change_aims, payload_of, is_free, given, Gives, new_tree, stage_tree};
 ghost use Rattle.edit_plan.specs.Results.{changed};
 ghost use Rattle.edit_plan.specs.Places.{HasPlace, elements_held, IsRewriting};
-ghost use Rattle.schedule.specs.Schedule.{undropped};
+ghost use Rattle.schedule.specs.Schedule.{undropped, IsAllowed, place_in, is_ready};
 ghost use Rattle.edit_plan.specs.RewritingLaws.{StandsThere, IsUntouched, brought_text, text_filled};
 
 use edit_map::laws::place_keeps_the_shape;
@@ -81,6 +81,17 @@ pub fn text_is_filled()
         → All (λ c. owner changes c ≡ None) changes
         → flat_map text (new_tree changes places root)
         ≡ text_filled (brought_text changes) (change_aims (undropped changes)) (subtree root) }
+{}
+
+/// In an allowed order each change can be the next once those before it are done, and where all are done, the tree is the
+/// new one: of two allowed orders none is seen.
+pub fn allowed_orders_agree()
+    ensures next { (changes : List Change) (order : List ℕ) (i n : ℕ) (c : Change)
+        → IsAllowed changes order → slice_get order i ≡ Some n → slice_get changes n ≡ Some c
+        → is_ready changes (λ m. nat_lt (place_in order m) i) (n, c) ≡ true }
+    ensures tree { (changes : List Change) (places : ℕ → Path) (root : Element) (order : List ℕ)
+        → IsAllowed changes order
+        → stage_tree changes places (λ m. nat_lt (place_in order m) (length order)) root ≡ new_tree changes places root }
 {}
 
 /// Swapping two neighbours that aim at different gaps and share no target changes no answer.

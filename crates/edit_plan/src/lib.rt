@@ -8,12 +8,16 @@ mod by_depth;
 mod dependent;
 mod edit;
 mod edit_error;
+mod edit_run;
+mod execute;
+mod execute_error;
 mod first_node;
 mod given;
 pub mod laws;
 mod mark_paths;
 mod places;
 mod plan;
+mod plan_stages;
 mod run;
 mod sought;
 
@@ -23,4 +27,6 @@ pub use edit_change::{
     Change, Element, ElementList, Position, is_native, is_node, is_one_node, is_range, is_root,
 };
 pub use edit_error::EditError;
+pub use edit_run::EditRun;
+pub use execute_error::ExecuteError;
 pub use plan::EditPlan;

@@ -12,7 +12,7 @@ ghost use Rattle.rewriting.specs.Topmost.{paths_of};
 ghost use Rattle.edit_change.specs.Change.{targets};
 ghost use Rattle.edit_change.specs.inner.Fate.{fate};
 ghost use Rattle.edit_change.specs.Fits.{Fits};
-ghost use Rattle.edit_plan.specs.NewTree.{independents};
+ghost use Rattle.edit_stages.specs.NewTree.{independents};
 ghost use Rattle.edit_plan.specs.Plan.{Makes, RunRefuses};
 ghost use Rattle.edit_plan.specs.inner.PlanRun.{AreOwned, FindsInRoot, HasMade, HasRewritten, IsOneNode, KeepsTop};
 ghost use Rattle.edit_plan.specs.inner.PlanRun.{root_rewritten};
@@ -33,10 +33,28 @@ use std::alloc::{AllocError, Global};
 
 // A tree that is not a root's yet, the paths of the elements that changes brought, and those of annotated ones.
 #[derive(Drop)]
-struct Rewritten {
+pub(crate) struct Rewritten {
     green: GreenNode,
     changed: Vec<Vec<usize>>,
     annotated: Vec<(SyntaxAnnotation, Vec<usize>)>,
+}
+
+impl Rewritten {
+    // The same paths in this tree.
+    pub(crate) fn with_tree(self, green: GreenNode) -> Rewritten
+        ensures { result ≡ record self { green = green } }
+    {
+        let Rewritten {
+            green: _,
+            changed,
+            annotated,
+        } = self;
+        Rewritten {
+            green,
+            changed,
+            annotated,
+        }
+    }
 }
 
 // A tree that is not a root's yet, for each of some elements the paths of its copies, and the paths of the elements that changes brought.
@@ -59,11 +77,29 @@ impl EditPlan {
         ensures refused { IfErr result (RunRefuses self.now ids.old) }
         ensures err { OnErr result (ids.new ≡ ids.old) }
     {
+        let rewritten = self.rewritten_tree(alloc)?;
+        self.edit_of(alloc, ids, rewritten)
+    }
+
+    // The edit with this new tree, under the next number, and with the elements at these paths.
+    pub(crate) fn edit_of(
+        &self,
+        alloc: Global,
+        ids: &mut TreeIds,
+        rewritten: Rewritten,
+    ) -> Result<SyntaxEdit, EditError>
+        requires { HasRewritten self.now rewritten }
+        ensures ok { IfOk result (Makes self.now ids.old) }
+        ensures short { IfOk result (λ e. text_length e.new_root.root < length_limit) }
+        ensures drawn { OnOk result (ids.new ≡ ids.old + 1) }
+        ensures refused { IfErr result (RunRefuses self.now ids.old) }
+        ensures err { OnErr result (ids.new ≡ ids.old) }
+    {
         let Rewritten {
             green,
             changed,
             annotated,
-        } = self.rewritten_tree(alloc)?;
+        } = rewritten;
         // The number is drawn last, when nothing can fail any more.
         let mut own = TreeIds::new(next_number(ids));
         let new_root = SyntaxNode::new_root(alloc, &mut own, green)?;
@@ -80,7 +116,7 @@ impl EditPlan {
     }
 
     // The new tree, and the paths of its changed and annotated elements.
-    fn rewritten_tree(&self, alloc: Global) -> Result<Rewritten, AllocError>
+    pub(crate) fn rewritten_tree(&self, alloc: Global) -> Result<Rewritten, AllocError>
         ensures { IfOk result (HasRewritten self.now) }
     {
         let registered = registered_copies(alloc, &self.mapping, &self.registrations)?;

@@ -1,4 +1,4 @@
-mod Tables
+pub mod Tables
 mod PathOrder
 mod DefaultFirst
 mod TurnOrder
@@ -7,11 +7,13 @@ mod TurnsSorted
 mod WaitCounts
 mod Readiness
 mod Completeness
-mod Carried
+pub mod Carried
 mod Decided
-mod Undropped
+pub mod Undropped
 mod EachOnce
-mod Gaps
+pub mod Gaps
 mod Links
 mod Orders
+pub mod AllowedSteps
+pub mod Ordered
 mod GapTables

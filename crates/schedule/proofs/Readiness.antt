@@ -4,7 +4,8 @@
 --     standing-read                 a standing as code reads it
 --     ready-not, ready-undone       by the standing of a change
 --     waiting-done, new-counted, waiting-new      all that code keeps, once one more is done; before any is
-use Rattle.std.specs.Prelude.{◌≡◌, ◌<◌, ◌-◌, ℕ, zero, suc, Bool, true, false, not, ◌&&◌, ◌||◌, cond, nat_eq, List, map, length, count_by, slice_get, slice_index, Option, Some, None, option_map, refl}
+--     none-done-yet                 before any is, none is told as done
+use Rattle.std.specs.Prelude.{◌≡◌, ◌<◌, ◌-◌, ℕ, zero, suc, Bool, true, false, not, ◌&&◌, ◌||◌, cond, nat_eq, List, [], ◌∷◌, map, length, count_by, slice_get, slice_index, Option, Some, None, option_map, refl}
 use Rattle.std.specs.List.{list_all}
 use Rattle.std.proofs.Common.{ap, ap₂, sym, subst, ◌∙◌, arith, get_or, get_or-set_same, get_or-set_other}
 use Rattle.std.proofs.Math.ListN.{set}
@@ -20,7 +21,7 @@ use Rattle.edit_change.specs.declared.fate.Fate.{Fate}
 use Rattle.edit_change.specs.declared.fate.Fate.TheVariants as fates
 use Rattle.edit_change.proofs.Positions.{same-test}
 use Rattle.schedule.specs.Schedule.{Numbered, undropped, owned_first, gap_first, token_first, comes_first, is_ready}
-use Rattle.schedule.specs.Waiting.{IsWaiting}
+use Rattle.schedule.specs.Waiting.{IsWaiting, is_done}
 use Rattle.schedule.specs.inner.Followers.{link, steps, owner_link, gap_link, token_link, IsLinked}
 use Rattle.schedule.specs.inner.Waits.{one_if, points_at, waits_for, IsCounted, standing_in}
 use Rattle.schedule.specs.declared.waits.Waits.{Waits}
@@ -225,3 +226,15 @@ waiting-new cs fs w are is apart owners gaps tokens =
       gaps = gaps;
       tokens = tokens;
     }
+
+pub none-done-yet : (cs : List Change) (fs : List Fate) (standings : List Standing) → fs ≡ map (fate cs) cs → standings ≡ map standing_in fs → map is_done standings ≡ map (λ c. false) cs
+none-done-yet cs fs standings are is = ap (map is_done) (is ∙ ap (map standing_in) are) ∙ go cs
+  where
+    never : (f : Fate) → is_done (standing_in f) ≡ false
+    never fates.Independent = refl
+    never fates.Dropped = refl
+    never (fates.Owned d) = refl
+
+    go : (ds : List Change) → map is_done (map standing_in (map (fate cs) ds)) ≡ map (λ c. false) ds
+    go [] = refl
+    go (d ∷ ds) = ap₂ (λ b bs. b ∷ bs) (never (fate cs d)) (go ds)

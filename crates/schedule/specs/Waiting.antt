@@ -1,13 +1,15 @@
 -- Changes that are carried out one at a time.
 --     IsWaiting                     what code keeps of them, where these are done
 --     HasChange                     there is a change with this number
-use Rattle.std.specs.Prelude.{◌≡◌, ◌<◌, ℕ, Bool, List, length, slice_get, slice_index_or, Some}
+--     is_done, done_list            a change is done; of each change, whether it is
+use Rattle.std.specs.Prelude.{◌≡◌, ◌<◌, ℕ, Bool, true, false, List, map, length, slice_get, slice_index_or, Some}
 use Rattle.edit_change.specs.inner.TargetIndex.{IsApart}
 use Rattle.edit_change.specs.declared.change.Change.{Change}
 use Rattle.schedule.specs.inner.Followers.{owner_link, gap_link, token_link}
 use Rattle.schedule.specs.inner.Waits.{IsCounted, standing_of}
 use Rattle.schedule.specs.declared.waiting.Waiting.{Waiting}
-use Rattle.schedule.specs.declared.waiting.Standing.TheVariants.{Dropped}
+use Rattle.schedule.specs.declared.waiting.Standing.{Standing}
+use Rattle.schedule.specs.declared.waiting.Standing.TheVariants.{Dropped, Undone, Done}
 
 -- Of what is done all that must come before it is done too (`closed` of each part).
 pub record IsWaiting (cs : List Change) (done : ℕ → Bool) (w : Waiting) : Type 0 where
@@ -20,3 +22,12 @@ pub record IsWaiting (cs : List Change) (done : ℕ → Bool) (w : Waiting) : Ty
 
 abbrev pub HasChange : Waiting → ℕ → Type 0
 HasChange w n = (cs : List Change) × (done : ℕ → Bool) × IsWaiting cs done w × (n < length cs)
+
+abbrev pub is_done : Standing → Bool
+is_done Dropped = false
+is_done Undone = false
+is_done Done = true
+
+-- of what is dropped none is ever done
+abbrev pub done_list : Waiting → List Bool
+done_list w = map is_done w.standings.items

@@ -1,10 +1,10 @@
-ghost use Rattle.std.specs.Prelude.{◌≡◌, ◌<◌, ℕ, None, Some, Bool, true, false, ◌&&◌, ◌||◌, nat_eq, slice_index, List, map, length, slice_get, IfOk};
+ghost use Rattle.std.specs.Prelude.{◌≡◌, ◌<◌, ℕ, None, Some, Bool, true, false, ◌&&◌, ◌||◌, nat_eq, slice_index, slice_set, List, map, length, slice_get, IfOk};
 ghost use Rattle.std.specs.List.{list_all};
 ghost use Rattle.edit_change.specs.Nesting.{first_clash};
 ghost use Rattle.edit_change.specs.inner.Fate.{fate};
 ghost use Rattle.edit_change.specs.declared.change.Change.{Change};
 ghost use Rattle.schedule.specs.Schedule.{is_complete, is_ready};
-ghost use Rattle.schedule.specs.Waiting.{IsWaiting, HasChange};
+ghost use Rattle.schedule.specs.Waiting.{IsWaiting, HasChange, done_list};
 ghost use Rattle.schedule.specs.inner.Waits.{is_settled, standing_in};
 
 use crate::followers::Followers;
@@ -74,7 +74,8 @@ impl Waiting {
     pub fn new(alloc: Global, changes: &[Change], fates: &[Fate]) -> Result<Waiting, AllocError>
         requires apart { first_clash changes.now ≡ None }
         requires fates { fates.now ≡ map (fate changes.now) changes.now }
-        ensures { IfOk result (IsWaiting changes.now (λ n. false)) }
+        ensures waiting { IfOk result (IsWaiting changes.now (λ n. false)) }
+        ensures none { IfOk result (λ w. done_list w ≡ map (λ c. false) changes.now) }
     {
         let followers = Followers::of(alloc, changes, fates)?;
         Ok(Waiting {
@@ -122,9 +123,10 @@ impl Waiting {
     /// A change that may be carried out next is done.
     pub fn done(&mut self, number: usize)
         requires { HasChange self.old number }
-        ensures { (changes : List Change) (done : ℕ → Bool) (change : Change) → IsWaiting changes done self.old
+        ensures waiting { (changes : List Change) (done : ℕ → Bool) (change : Change) → IsWaiting changes done self.old
             → slice_get changes number ≡ Some change → is_ready changes done (number, change) ≡ true
             → IsWaiting changes (λ n. nat_eq number n || done n) self.new }
+        ensures list { done_list self.new ≡ slice_set (done_list self.old) number true }
     {
         self.standings[number] = Standing::Done;
         self.owners.release(number);

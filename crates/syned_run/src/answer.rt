@@ -130,7 +130,7 @@ fn end(alloc: Global, session: Session, lines: &[&str], number: usize) -> Result
 
 fn finish(alloc: Global, session: Session) -> Result<String, Stop> {
     let (editing, mut ids, words) = session.into_editing()?;
-    let edit = editing.editor.finish(alloc, &mut ids)?;
+    let edit = editing.finish(alloc, &mut ids)?;
     Ok(print_edit(alloc, &edit, words.in_order())?)
 }
 
@@ -141,6 +141,8 @@ pub struct Recorded {
     pub root: SyntaxNode,
     /// The editor, with its changes and mappings.
     pub editor: SyntaxEditor,
+    /// The order in which the changes are to be carried out, where the script says one.
+    pub order: Option<Vec<usize>>,
     /// The source of the script's tree numbers.
     pub ids: TreeIds,
 }
@@ -150,6 +152,19 @@ pub struct Recorded {
 pub fn record_script(alloc: Global, script: &str) -> Option<Recorded> {
     let lines = lines(alloc, script).ok()?;
     let (session, _) = record(alloc, &lines).ok()?;
-    let (Editing { editor, root }, ids, _) = session.into_editing().ok()?;
-    Some(Recorded { root, editor, ids })
+    let (
+        Editing {
+            editor,
+            root,
+            order,
+        },
+        ids,
+        _,
+    ) = session.into_editing().ok()?;
+    Some(Recorded {
+        root,
+        editor,
+        order,
+        ids,
+    })
 }

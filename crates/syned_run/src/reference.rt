@@ -39,8 +39,8 @@ fn read_slots(alloc: Global, text: Option<&str>) -> Result<Option<Vec<usize>>, A
     Ok(Some(slots))
 }
 
-// Decimal digits, without a sign.
-fn read_number(text: &str) -> Option<usize> {
+/// The number of these decimal digits, without a sign.
+pub(crate) fn read_number(text: &str) -> Option<usize> {
     if !text.bytes().all(|byte| byte.is_ascii_digit()) {
         return None;
     }

@@ -1,7 +1,7 @@
 //! The lines of a script.
 
 use crate::name::Name;
-use crate::reference::Reference;
+use crate::reference::{Reference, read_number};
 use crate::stop::Stop;
 use cst_core::GreenNode;
 use std::alloc::Global;
@@ -53,6 +53,10 @@ pub(crate) enum Line<'a> {
         word: Name<'a>,
         element: Reference<'a>,
     },
+    /// The order in which the changes are to be carried out.
+    Order {
+        order: Vec<usize>,
+    },
     /// The new tree is made.
     Finish,
 }
@@ -83,6 +87,7 @@ pub(crate) fn read_line<'a>(alloc: Global, text: &'a str) -> Result<Line<'a>, St
         "replace" => replace_line(alloc, &mut fields)?,
         "range" => range_line(alloc, &mut fields)?,
         "note" => note_line(alloc, &mut fields)?,
+        "order" => order_line(alloc, &mut fields)?,
         "finish" => Line::Finish,
         _ => return Err(Stop::Bad),
     };
@@ -164,6 +169,11 @@ fn note_line<'a>(alloc: Global, fields: &mut Fields<'a>) -> Result<Line<'a>, Sto
     Ok(Line::Note { word, element })
 }
 
+fn order_line<'a>(alloc: Global, fields: &mut Fields<'a>) -> Result<Line<'a>, Stop> {
+    let order = fields.numbers(alloc)?;
+    Ok(Line::Order { order })
+}
+
 // What is left of a line, without spaces at its ends. Spaces stand between its fields.
 #[derive(Drop)]
 struct Fields<'a> {
@@ -209,6 +219,16 @@ impl<'a> Fields<'a> {
             references.push(Reference::read(alloc, field)?.ok_or(Stop::Bad)?)?;
         }
         Ok(references)
+    }
+
+    // All fields that are left.
+    fn numbers(&mut self, alloc: Global) -> Result<Vec<usize>, Stop> {
+        let mut numbers = Vec::new(alloc);
+        let fields = self.take_rest().split(' ');
+        for field in fields.filter(|field| !field.is_empty()) {
+            numbers.push(read_number(field).ok_or(Stop::Bad)?)?;
+        }
+        Ok(numbers)
     }
 
     // All that is left, as one field.

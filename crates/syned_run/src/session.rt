@@ -8,7 +8,7 @@ use crate::stop::Stop;
 use crate::words::Words;
 use cst_core::{GreenNode, SyntaxElement, SyntaxNode, TreeIds};
 use std::alloc::Global;
-use syntax_editor::{Position, SyntaxEditor, SyntaxMappingBuilder};
+use syntax_editor::{Position, SyntaxEdit, SyntaxEditor, SyntaxMappingBuilder};
 
 /// The trees of a script, its source of tree numbers, and what it edits once there is something.
 #[derive(Drop)]
@@ -20,11 +20,33 @@ pub(crate) struct Session {
     editing: Option<Editing>,
 }
 
-/// The editor of a script, and the root that it edits.
+/// The editor of a script, the root that it edits, and the order of its changes, where the script says one.
 #[derive(Drop)]
 pub(crate) struct Editing {
     pub(crate) editor: SyntaxEditor,
     pub(crate) root: SyntaxNode,
+    pub(crate) order: Option<Vec<usize>>,
+}
+
+impl Editing {
+    /// Carries the changes out, in the order of the script if there is one.
+    pub(crate) fn finish(self, alloc: Global, ids: &mut TreeIds) -> Result<SyntaxEdit, Stop> {
+        let Editing { editor, order, .. } = self;
+        match order {
+            None => Ok(editor.finish(alloc, ids)?),
+            Some(order) => execute(alloc, ids, editor, &order),
+        }
+    }
+}
+
+fn execute(
+    alloc: Global,
+    ids: &mut TreeIds,
+    editor: SyntaxEditor,
+    order: &[usize],
+) -> Result<SyntaxEdit, Stop> {
+    let plan = editor.plan(alloc)?;
+    Ok(plan.execute(alloc, ids, order)?)
 }
 
 // The new elements of a line: one of them, or else none or several.
@@ -65,6 +87,7 @@ impl Session {
                 payload,
             } => self.range(&first, &last, &payload),
             Line::Note { word, element } => self.note(word, &element),
+            Line::Order { order } => self.order(order),
             Line::Finish => Err(Stop::Bad),
         }
     }
@@ -100,7 +123,11 @@ impl Session {
         let node = self.node(node)?;
         let (editor, root) = SyntaxEditor::new(self.alloc, &mut self.ids, node)?;
         let named = root.try_clone(self.alloc)?;
-        self.editing = Some(Editing { editor, root });
+        self.editing = Some(Editing {
+            editor,
+            root,
+            order: None,
+        });
         self.roots.add(self.alloc, name, named)
     }
 
@@ -174,6 +201,15 @@ impl Session {
         let Editing { editor, .. } = self.editing.as_mut().ok_or(Stop::Bad)?;
         let annotation = self.words.annotation(self.alloc, word)?;
         editor.add_annotation(self.alloc, element, annotation)?;
+        Ok(())
+    }
+
+    fn order(&mut self, order: Vec<usize>) -> Result<(), Stop> {
+        let editing = self.editing.as_mut().ok_or(Stop::Bad)?;
+        if editing.order.is_some() {
+            return Err(Stop::Bad);
+        }
+        editing.order = Some(order);
         Ok(())
     }
 

@@ -1,6 +1,6 @@
 use cst_core::TreeError;
 use std::alloc::{AllocError, AllocFailed};
-use syntax_editor::{EditError, MapError, RecordError};
+use syntax_editor::{EditError, ExecuteError, MapError, RecordError};
 use thiserror::Error;
 use tree_text::ExpressionError;
 
@@ -39,6 +39,8 @@ pub(crate) enum Refusal {
     Record(RecordError),
     #[error("{0}")]
     Edit(EditError),
+    #[error("{0}")]
+    Order(ExecuteError),
 }
 
 impl From<AllocError> for Stop {
@@ -96,6 +98,15 @@ impl From<EditError> for Stop {
         match error {
             EditError::Memory => Stop::Memory,
             error => Stop::Refused(Refusal::Edit(error)),
+        }
+    }
+}
+
+impl From<ExecuteError> for Stop {
+    fn from(error: ExecuteError) -> Stop {
+        match error {
+            ExecuteError::Edit(error) => Stop::from(error),
+            error => Stop::Refused(Refusal::Order(error)),
         }
     }
 }

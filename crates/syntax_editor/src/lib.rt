@@ -17,8 +17,8 @@ pub use ast_node_edit::AstNodeEdit;
 pub use attrs_owner_edit::AttrsOwnerEdit;
 pub use edit_map::{MapError, SyntaxMapping, SyntaxMappingBuilder};
 pub use edit_plan::{
-    Annotations, Change, EditError, EditPlan, Element, ElementList, Position, SyntaxAnnotation,
-    SyntaxEdit,
+    Annotations, Change, EditError, EditPlan, EditRun, Element, ElementList, ExecuteError,
+    Position, SyntaxAnnotation, SyntaxEdit,
 };
 pub use editor::SyntaxEditor;
 pub use error::{MergeError, RecordError};

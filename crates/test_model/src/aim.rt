@@ -4,7 +4,7 @@ use std::alloc::{AllocError, Global};
 use syntax_editor::{Change, Position};
 
 /// Where a change aims, by paths.
-#[derive(Drop)]
+#[derive(Clone, Drop)]
 pub enum Aim {
     /// The gap before the first child of a node.
     First(Vec<usize>),

@@ -1,16 +1,21 @@
+use crate::order::Clause;
 use crate::piece::{Piece, print_tree};
 use crate::rewriter::rewritten;
 use anyhow::Result;
 use cst_core::{GreenElementRef, SyntaxElement, TreeIds};
 use std::alloc::{AllocError, Global};
 use std::fmt::{self, Display, Formatter, Write};
-use syntax_editor::{EditError, SyntaxEdit, SyntaxEditor};
+use syntax_editor::{EditError, ExecuteError, SyntaxEdit, SyntaxEditor};
 
 /// What comes of changes: a refusal, or the new tree with the changed paths, as they are printed.
 #[derive(PartialEq, Eq, Drop)]
 pub enum Answer {
     Intersecting { first: usize, second: usize },
     MissingMapping { change: usize, owner: usize },
+    /// The order does not keep this clause.
+    NotAllowed(Clause),
+    /// A stage is not the one of the model, which never answers so.
+    OtherStage(String),
     Made(String),
 }
 
@@ -62,6 +67,8 @@ impl Display for Answer {
                 f,
                 "MissingMapping {change} {owner}"
             ),
+            Answer::NotAllowed(clause) => write!(f, "{clause}"),
+            Answer::OtherStage(difference) => write!(f, "{difference}"),
             Answer::Made(text) => write!(f, "{text}"),
         }
     }
@@ -69,14 +76,51 @@ impl Display for Answer {
 
 /// What the editor answers.
 pub fn editor_answer(alloc: Global, ids: &mut TreeIds, editor: SyntaxEditor) -> Result<Answer> {
-    match editor.finish(alloc, ids) {
+    answer_of(alloc, editor.finish(alloc, ids))
+}
+
+/// What a call answered that makes an edit.
+pub fn answer_of(alloc: Global, made: Result<SyntaxEdit, EditError>) -> Result<Answer> {
+    match made {
         Ok(edit) => Ok(Answer::of_edit(alloc, &edit)?),
-        Err(EditError::Intersecting { first, second }) => {
-            Ok(Answer::Intersecting { first, second })
-        }
-        Err(EditError::MissingMapping { change, owner }) => {
+        Err(refusal) => answer_of_refusal(refusal),
+    }
+}
+
+/// A refusal that the model knows of.
+pub fn answer_of_refusal(refusal: EditError) -> Result<Answer> {
+    match refusal {
+        EditError::Intersecting { first, second } => Ok(Answer::Intersecting { first, second }),
+        EditError::MissingMapping { change, owner } => {
             Ok(Answer::MissingMapping { change, owner })
         }
-        Err(refusal) => Err(refusal.into()),
+        refusal => Err(refusal.into()),
+    }
+}
+
+fn not_allowed(refusal: ExecuteError) -> Result<Answer> {
+    match refusal {
+        ExecuteError::NotEachOnce => Ok(Answer::NotAllowed(Clause::NotEachOnce)),
+        ExecuteError::OwnerTooEarly => Ok(Answer::NotAllowed(Clause::OwnerTooEarly)),
+        ExecuteError::GapOutOfOrder => Ok(Answer::NotAllowed(Clause::GapOutOfOrder)),
+        ExecuteError::TokenTooEarly => Ok(Answer::NotAllowed(Clause::TokenTooEarly)),
+        ExecuteError::Edit(refusal) => answer_of_refusal(refusal),
+    }
+}
+
+/// What the editor answers where its changes are carried out in an order.
+pub fn ordered_answer(
+    alloc: Global,
+    ids: &mut TreeIds,
+    editor: SyntaxEditor,
+    order: &[usize],
+) -> Result<Answer> {
+    let plan = match editor.plan(alloc) {
+        Ok(plan) => plan,
+        Err(refusal) => return answer_of_refusal(refusal),
+    };
+    match plan.execute(alloc, ids, order) {
+        Ok(edit) => Ok(Answer::of_edit(alloc, &edit)?),
+        Err(refusal) => not_allowed(refusal),
     }
 }

@@ -1,9 +1,14 @@
-use crate::answer::{Answer, editor_answer};
+use crate::answer::{Answer, answer_of, answer_of_refusal, editor_answer, ordered_answer};
+use crate::choice::Choice;
+use crate::fate::fates;
 use crate::model::model_answer;
+use crate::order::Fated;
+use crate::planned::plan;
+use crate::stepper::Stepper;
 use anyhow::Result;
 use cst_core::{SyntaxNode, TreeIds};
 use std::alloc::{AllocError, Global};
-use syntax_editor::{SyntaxEditor, SyntaxMapping};
+use syntax_editor::{Change, SyntaxEditor, SyntaxMapping};
 
 /// What the editor and the model answer to the same changes.
 #[derive(Drop)]
@@ -36,5 +41,86 @@ pub fn answers_to(
     let mapping = mapping_of(alloc, &mut editor)?;
     let model = model_answer(alloc, root, editor.changes(), &mapping)?;
     let editor = editor_answer(alloc, ids, editor)?;
+    Ok(Answers { editor, model })
+}
+
+// What the model answers where the changes are carried out in an order. The order makes no difference where it is allowed.
+fn ordered_model_answer(
+    alloc: Global,
+    root: &SyntaxNode,
+    changes: &[Change],
+    mapping: &SyntaxMapping,
+    order: &[usize],
+) -> Result<Answer> {
+    let answer = model_answer(alloc, root, changes, mapping)?;
+    let Answer::Made(_) = answer else {
+        return Ok(answer);
+    };
+    let planned = plan(alloc, changes)?;
+    let fates = fates(alloc, &planned, mapping)?;
+    let fated = Fated {
+        planned: &planned,
+        fates: &fates,
+    };
+    match fated.broken(order) {
+        Some(clause) => Ok(Answer::NotAllowed(clause)),
+        None => Ok(answer),
+    }
+}
+
+/// What both answer where the changes are carried out in this order.
+pub fn ordered_answers(
+    alloc: Global,
+    ids: &mut TreeIds,
+    root: &SyntaxNode,
+    mut editor: SyntaxEditor,
+    order: &[usize],
+) -> Result<Answers> {
+    let mapping = mapping_of(alloc, &mut editor)?;
+    let model = ordered_model_answer(alloc, root, editor.changes(), &mapping, order)?;
+    let editor = ordered_answer(alloc, ids, editor, order)?;
+    Ok(Answers { editor, model })
+}
+
+// What comes of a plan that is carried out one change at a time, in an order that the next tree number picks.
+fn stepped_answer(
+    alloc: Global,
+    ids: &mut TreeIds,
+    root: &SyntaxNode,
+    fated: Fated<'_>,
+    editor: SyntaxEditor,
+) -> Result<Answer> {
+    let plan = match editor.plan(alloc) {
+        Ok(plan) => plan,
+        Err(refusal) => return answer_of_refusal(refusal),
+    };
+    let mut choice = Choice::new(ids.peek().unwrap_or(0));
+    let mut stepper = Stepper::new(alloc, &plan, root, fated)?;
+    if let Some(difference) = stepper.step_on(&mut choice)? {
+        return Ok(Answer::OtherStage(difference));
+    }
+    match stepper.finish(ids) {
+        Some(made) => answer_of(alloc, made),
+        None => Ok(Answer::OtherStage(String::from_str(alloc, "no change is ready")?)),
+    }
+}
+
+/// The same where the changes are carried out one at a time, and each stage is compared. `same` has recorded what `editor` has.
+pub fn stepped_answers(
+    alloc: Global,
+    ids: &mut TreeIds,
+    root: &SyntaxNode,
+    mut editor: SyntaxEditor,
+    same: SyntaxEditor,
+) -> Result<Answers> {
+    let mapping = mapping_of(alloc, &mut editor)?;
+    let planned = plan(alloc, editor.changes())?;
+    let fates = fates(alloc, &planned, &mapping)?;
+    let fated = Fated {
+        planned: &planned,
+        fates: &fates,
+    };
+    let model = model_answer(alloc, root, editor.changes(), &mapping)?;
+    let editor = stepped_answer(alloc, ids, root, fated, same)?;
     Ok(Answers { editor, model })
 }

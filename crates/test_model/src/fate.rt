@@ -6,7 +6,7 @@ use std::alloc::Global;
 use syntax_editor::{Change, SyntaxMapping};
 
 /// What becomes of a change.
-#[derive(Drop)]
+#[derive(Clone, Drop)]
 pub enum Fate {
     /// It lies in what another one takes away.
     Dropped,

@@ -7,12 +7,17 @@ mod aim;
 mod answer;
 mod answers;
 mod changed;
+mod choice;
 mod fate;
 mod given;
 mod model;
+mod order;
 mod piece;
 mod planned;
 mod rewriter;
+mod stage;
+mod stepper;
 
 pub use answer::Answer;
-pub use answers::{Answers, answers_to};
+pub use answers::{Answers, answers_to, ordered_answers, stepped_answers};
+pub use order::Clause;

@@ -12,8 +12,8 @@ use cst_core::{GreenElementRef, SyntaxNode};
 use std::alloc::{AllocError, Global};
 use syntax_editor::{Change, SyntaxMapping};
 
-// The tree that is made of the old one by what its changes bring.
-fn tree_of(
+/// The tree that is made of the old one by what its changes bring.
+pub fn tree_of(
     alloc: Global,
     root: &SyntaxNode,
     planned: &[Planned],

@@ -1,5 +1,5 @@
-//! Reads a script of `syned` and asks the editor and a plain model what comes of its changes. It prints what both answer; where they
-//! differ it prints both answers and fails.
+//! Reads a script of `syned` and asks the editor and a plain model what comes of its changes: all at once, one at a time, and in the
+//! order of the script where it says one. It prints what both answer, and fails at the first of these where they differ.
 #![tactic(auto)]
 
 use anyhow::Result;
@@ -7,15 +7,16 @@ use std::alloc::Global;
 use std::io::read_to_string;
 use std::process::ExitCode;
 use syned_run::{Recorded, record_script};
-use test_model::{Answers, answers_to};
+use test_model::{Answers, answers_to, ordered_answers, stepped_answers};
 
 // What both answer, where the script comes to its end.
-fn compared(alloc: Global, script: &str) -> Result<Option<Answers>> {
+fn at_once(alloc: Global, script: &str) -> Result<Option<Answers>> {
     let Some(
         Recorded {
             root,
             editor,
             mut ids,
+            ..
         },
     ) = record_script(alloc, script)
     else {
@@ -24,18 +25,78 @@ fn compared(alloc: Global, script: &str) -> Result<Option<Answers>> {
     Ok(Some(answers_to(alloc, &mut ids, &root, editor)?))
 }
 
+// The same, one change at a time.
+fn stepped(alloc: Global, script: &str) -> Result<Option<Answers>> {
+    let Some(
+        Recorded {
+            root,
+            editor,
+            mut ids,
+            ..
+        },
+    ) = record_script(alloc, script)
+    else {
+        return Ok(None);
+    };
+    let Some(Recorded { editor: same, .. }) = record_script(alloc, script) else {
+        return Ok(None);
+    };
+    Ok(Some(stepped_answers(alloc, &mut ids, &root, editor, same)?))
+}
+
+// The same in the order of the script, where it says one.
+fn ordered(alloc: Global, script: &str) -> Result<Option<Answers>> {
+    let Some(
+        Recorded {
+            root,
+            editor,
+            order,
+            mut ids,
+        },
+    ) = record_script(alloc, script)
+    else {
+        return Ok(None);
+    };
+    let Some(order) = order else {
+        return Ok(None);
+    };
+    Ok(Some(ordered_answers(alloc, &mut ids, &root, editor, &order)?))
+}
+
+// Prints the answers if they differ, and says whether they agree.
+fn agree<R: Print>(rt: &R, how: &str, answers: &Answers) -> Result<bool> {
+    if !answers.agree() {
+        println!(rt; "{how}: {}, but {}", answers.editor, answers.model)?;
+    }
+    Ok(answers.agree())
+}
+
+fn all_agree<R: Print>(rt: &R, alloc: Global, script: &str, at_once: &Answers) -> Result<bool> {
+    if !agree(rt, "at once", at_once)? {
+        return Ok(false);
+    }
+    if let Some(answers) = stepped(alloc, script)? {
+        if !agree(rt, "one at a time", &answers)? {
+            return Ok(false);
+        }
+    }
+    match ordered(alloc, script)? {
+        Some(answers) => agree(rt, "in the order", &answers),
+        None => Ok(true),
+    }
+}
+
 fn main(rt: HostRuntime) -> Result<ExitCode> {
     let alloc = rt.alloc();
     let script = read_to_string(alloc, rt.stdin())?;
-    let Some(answers) = compared(alloc, &script)? else {
+    let Some(answers) = at_once(alloc, &script)? else {
         println!(rt; "nothing recorded")?;
         return Ok(ExitCode::SUCCESS);
     };
-    if answers.agree() {
+    if all_agree(&rt, alloc, &script, &answers)? {
         println!(rt; "both: {}", answers.model)?;
         Ok(ExitCode::SUCCESS)
     } else {
-        println!(rt; "{}, but {}", answers.editor, answers.model)?;
         Ok(ExitCode::FAILURE)
     }
 }

@@ -1,5 +1,5 @@
 //! Compares the editor with a plain model of it: every pair of single changes of a small tree is recorded, and both say what comes of
-//! it. It prints a line for each pair on which they differ, and at the end of each scenario how many pairs there were.
+//! it, all at once and one change at a time. It prints a line for each pair on which they differ, and at the end of each scenario how many pairs there were.
 #![tactic(auto)]
 
 mod report;
@@ -30,6 +30,8 @@ fn try_pairs<R: Print>(
         for (second, behind) in singles.iter().enumerate() {
             let answers = trial.answers(ids, before, behind)?;
             report.note(rt, first, second, &answers)?;
+            let stepped = trial.stepped(ids, before, behind)?;
+            report.note_stepped(rt, first, second, &stepped)?;
         }
     }
     Ok(())

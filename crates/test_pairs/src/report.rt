@@ -1,13 +1,14 @@
 use anyhow::Result;
 use test_model::{Answer, Answers};
 
-/// How many pairs were tried, how many of them are refused and why, and on how many the answers differ.
+/// How many pairs were tried, how many of them are refused and why, and on how many the answers differ, or do one change at a time.
 #[derive(Drop)]
 pub struct Report {
     tried: u32,
     intersecting: u32,
     missing: u32,
     differ: u32,
+    differ_stepped: u32,
 }
 
 fn note_one(count: &mut u32) {
@@ -21,6 +22,7 @@ impl Report {
             intersecting: 0,
             missing: 0,
             differ: 0,
+            differ_stepped: 0,
         }
     }
 
@@ -29,7 +31,7 @@ impl Report {
         match answer {
             Answer::Intersecting { .. } => note_one(&mut self.intersecting),
             Answer::MissingMapping { .. } => note_one(&mut self.missing),
-            Answer::Made(_) => {}
+            _ => {}
         }
     }
 
@@ -53,16 +55,35 @@ impl Report {
         Ok(())
     }
 
+    /// Prints both answers where the editor's, one change at a time, is another one.
+    pub fn note_stepped<R: Print>(
+        &mut self,
+        rt: &R,
+        first: usize,
+        second: usize,
+        answers: &Answers,
+    ) -> Result<()> {
+        if answers.agree() {
+            return Ok(());
+        }
+        note_one(&mut self.differ_stepped);
+        println!(rt;
+            "{first} and {second} one at a time: {}, but {}",
+            answers.editor, answers.model
+        )?;
+        Ok(())
+    }
+
     /// Prints the counts of a scenario.
     pub fn close<R: Print>(&self, rt: &R, name: &str) -> Result<()> {
         println!(rt;
-            "{}: {} tried, {} refused as Intersecting, {} as MissingMapping, {} differ",
-            name, self.tried, self.intersecting, self.missing, self.differ
+            "{}: {} tried, {} refused as Intersecting, {} as MissingMapping, {} differ, {} one at a time",
+            name, self.tried, self.intersecting, self.missing, self.differ, self.differ_stepped
         )?;
         Ok(())
     }
 
     pub fn all_agree(&self) -> bool {
-        self.differ == 0
+        self.differ == 0 && self.differ_stepped == 0
     }
 }

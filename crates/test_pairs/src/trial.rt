@@ -5,7 +5,7 @@ use anyhow::{Context, Result};
 use cst_core::{SyntaxNode, TreeIds};
 use std::alloc::Global;
 use syntax_editor::{SyntaxEditor, SyntaxMapping};
-use test_model::{Answers, answers_to};
+use test_model::{Answers, answers_to, stepped_answers};
 
 /// Tries pairs, each with a new editor.
 #[derive(Drop)]
@@ -73,10 +73,28 @@ impl Trial {
         behind.record(self.alloc, editor, &self.trees.payloads.second)
     }
 
-    /// What comes of two changes, recorded in this order.
-    pub fn answers(&self, ids: &mut TreeIds, before: &Single, behind: &Single) -> Result<Answers> {
+    // An editor that has recorded two changes, in this order.
+    fn recorded(
+        &self,
+        ids: &mut TreeIds,
+        before: &Single,
+        behind: &Single,
+    ) -> Result<SyntaxEditor> {
         let mut editor = self.editor(ids)?;
         self.record(&mut editor, before, behind)?;
+        Ok(editor)
+    }
+
+    /// What comes of two changes, recorded in this order.
+    pub fn answers(&self, ids: &mut TreeIds, before: &Single, behind: &Single) -> Result<Answers> {
+        let editor = self.recorded(ids, before, behind)?;
         answers_to(self.alloc, ids, &self.trees.root, editor)
+    }
+
+    /// The same where they are carried out one at a time.
+    pub fn stepped(&self, ids: &mut TreeIds, before: &Single, behind: &Single) -> Result<Answers> {
+        let editor = self.recorded(ids, before, behind)?;
+        let same = self.recorded(ids, before, behind)?;
+        stepped_answers(self.alloc, ids, &self.trees.root, editor, same)
     }
 }

@@ -198,6 +198,11 @@ pub const OWED: &[Owed] = &[
         answers: &["true", "false"],
     },
     Owed {
+        call: "text",
+        name: "Change::text",
+        answers: &["ok"],
+    },
+    Owed {
         call: "merge",
         name: "SyntaxEditor::merge",
         answers: &["ok", "OtherRoot"],
@@ -215,6 +220,34 @@ pub const OWED: &[Owed] = &[
     Owed {
         call: "run",
         name: "EditPlan::run",
+        answers: &["ok", "TooLong", "NoTreeNumber"],
+    },
+    Owed {
+        call: "default_order",
+        name: "EditPlan::default_order",
+        answers: &["ok"],
+    },
+    Owed {
+        call: "execute",
+        name: "EditPlan::execute",
+        answers: &[
+            "ok",
+            "NotEachOnce",
+            "OwnerTooEarly",
+            "GapOutOfOrder",
+            "TokenTooEarly",
+            "TooLong",
+            "NoTreeNumber",
+        ],
+    },
+    Owed {
+        call: "stepped",
+        name: "EditRun::step",
+        answers: &["ok"],
+    },
+    Owed {
+        call: "finish_run",
+        name: "EditRun::finish",
         answers: &["ok", "TooLong", "NoTreeNumber"],
     },
     Owed {

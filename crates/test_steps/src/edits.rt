@@ -5,7 +5,8 @@ use crate::making::annotation;
 use crate::session::Session;
 use cst_core::SyntaxNode;
 use std::alloc::Global;
-use syntax_editor::{EditError, SyntaxEdit};
+use std::fmt::Display;
+use syntax_editor::SyntaxEdit;
 use test_trees::{NoAnswer, Words, push_path};
 
 /// What the step of this name answers, if it is one of these.
@@ -34,10 +35,10 @@ fn last(session: &Session) -> Result<&SyntaxEdit, NoAnswer> {
 }
 
 /// Keeps an edit, and answers its new root.
-pub fn keep_edit(
+pub fn keep_edit<E: Display + Drop>(
     alloc: Global,
     session: &mut Session,
-    edit: Result<SyntaxEdit, EditError>,
+    edit: Result<SyntaxEdit, E>,
 ) -> Result<String, NoAnswer> {
     match edit {
         Ok(edit) => {

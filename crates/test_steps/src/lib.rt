@@ -15,9 +15,11 @@ mod plans;
 mod recorded;
 mod recording;
 mod roots;
+mod runs;
 mod session;
 mod shifts;
 mod standing;
+mod stepped;
 
 use crate::answers::MEMORY;
 use crate::calls::name_of;
@@ -74,6 +76,9 @@ fn other_answer(
         return answer;
     }
     if let Some(answer) = plans::answer(alloc, session, name, words) {
+        return answer;
+    }
+    if let Some(answer) = runs::answer(alloc, session, name, words) {
         return answer;
     }
     if let Some(answer) = edits::answer(alloc, session, name, words) {

@@ -5,7 +5,7 @@ use crate::session::{Session, last};
 use cst_core::SyntaxElement;
 use std::alloc::{AllocError, Global};
 use syntax_editor::Change;
-use test_trees::{NoAnswer, Words, number, push_quoted};
+use test_trees::{NoAnswer, Words, number, push_quoted, quoted};
 
 /// What the step of this name answers, if it is one of these.
 pub fn answer(
@@ -20,6 +20,7 @@ pub fn answer(
         "deletions" => deletions(alloc, session),
         "inserted" => inserted(alloc, session),
         "fits" => fits(alloc, session, words),
+        "text" => text(alloc, session, words),
         _ => return None,
     };
     Some(answer)
@@ -91,4 +92,25 @@ fn fits(alloc: Global, session: &mut Session, words: &mut Words) -> Result<Strin
         .first()
         .ok_or(NoAnswer::Missing("no change"))?;
     truth(alloc, change.fits(&root))
+}
+
+// The text that shows a change, by its number.
+fn text(alloc: Global, session: &mut Session, words: &mut Words) -> Result<String, NoAnswer> {
+    let number = words.count()?;
+    let editor = last(&mut session.editors)?;
+    let change = editor
+        .changes()
+        .get(number)
+        .ok_or(NoAnswer::Missing("no such change"))?;
+    match change.text(alloc) {
+        Ok(text) => with_escape_shown(alloc, &text),
+        Err(_) => memory(alloc),
+    }
+}
+
+// A text between quotes, with \e for the byte ESC.
+fn with_escape_shown(alloc: Global, text: &str) -> Result<String, NoAnswer> {
+    let quoted = quoted(alloc, text)?;
+    let shown = quoted.replace(alloc, '\x1b', "\\e")?;
+    Ok(format!(in alloc; "ok {shown}")?)
 }

@@ -1,8 +1,9 @@
 //! What a refusal leaves as it is: numbers that stand for the values, made without memory.
+ghost use Rattle.std.specs.Prelude.{◌≤◌, length};
 
-use cst_core::{SyntaxElement, SyntaxNode};
+use cst_core::{GreenNode, SyntaxElement, SyntaxNode};
 use std::hash::{DefaultHasher, Hash, Hasher};
-use syntax_editor::{Change, EditPlan, Position, SyntaxEditor, SyntaxMapping};
+use syntax_editor::{Change, EditPlan, EditRun, Position, SyntaxEditor, SyntaxMapping};
 
 /// Some values in their order: how many there are, what stands for all of them, and for all but the last.
 #[derive(Clone, Copy)]
@@ -167,6 +168,37 @@ fn elements_standing(elements: &[SyntaxElement]) -> u64 {
     let mut group = Group::new();
     for element in elements {
         group.add(hash_of(element));
+    }
+    group.all
+}
+
+/// A run of a plan with so many changes: which may be the next ones, the tree and the payloads, each by the lengths of its children,
+/// and how many nodes were built.
+pub fn run_standing(run: &EditRun, count: usize) -> u64
+    requires { count ≤ length run.now.plan.changes }
+{
+    let mut group = Group::new();
+    group.add(run.builds());
+    group.add(tree_standing(run.green()));
+    for change in 0..count {
+        group.add(if run.ready(change) { 1 } else { 0 });
+        group.add(payload_standing(run.payload(change)));
+    }
+    group.all
+}
+
+fn payload_standing(payload: Option<&GreenNode>) -> u64 {
+    match payload {
+        Some(tree) => tree_standing(tree),
+        None => 0,
+    }
+}
+
+fn tree_standing(tree: &GreenNode) -> u64 {
+    let mut group = Group::new();
+    group.add(u64::from(tree.kind().0));
+    for child in tree.children() {
+        group.add(child.length());
     }
     group.all
 }

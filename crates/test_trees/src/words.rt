@@ -41,6 +41,15 @@ impl<'a> Words<'a> {
         count_of(self.word()?)
     }
 
+    /// All words that are left as such numbers.
+    pub fn counts(&mut self, alloc: Global) -> Result<Vec<usize>, NoAnswer> {
+        let mut counts = Vec::new(alloc);
+        for word in self.take_rest().split(' ').filter(|word| !word.is_empty()) {
+            counts.push(count_of(word)?)?;
+        }
+        Ok(counts)
+    }
+
     /// The next word as a level.
     pub fn level(&mut self) -> Result<u8, NoAnswer> {
         self.word()?.parse::<u8>().ok().ok_or(NoAnswer::Arguments)

@@ -23,7 +23,7 @@ use Rattle.rewriting.specs.declared.mark.Mark.{Mark}
 use Rattle.rewriting.specs.declared.marked_given.GivenTable.{GivenTable}
 use Rattle.rewriting.specs.declared.marked_given.MarkedGiven.{MarkedGiven}
 use Rattle.edit_change.specs.declared.change.Change.{Change}
-use Rattle.edit_plan.specs.NewTree.{payload_of}
+use Rattle.edit_stages.specs.NewTree.{payload_of}
 use Rattle.edit_plan.specs.inner.Marks.{IsTableOf, element_sought, payload_sought, with_answer, marks_given, AreMarksFrom}
 use Rattle.edit_plan.specs.inner.OwnerTables.{moved_dependent, owns_at, AreDependents, AreGiven, AreGivenFrom}
 use Rattle.edit_plan.specs.declared.dependent.Dependent.{Dependent}

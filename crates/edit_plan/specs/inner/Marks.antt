@@ -36,7 +36,7 @@ use Rattle.rewriting.specs.inner.Pass.{AreMarkedIn}
 use Rattle.rewriting.specs.Topmost.{paths_of}
 use Rattle.rewriting.specs.declared.marked_given.GivenTable.{GivenTable}
 use Rattle.edit_plan.specs.inner.OwnerTables.{depth_of}
-use Rattle.edit_plan.specs.NewTree.{OriginTree, dependents, given}
+use Rattle.edit_stages.specs.NewTree.{OriginTree, dependents, given}
 use Rattle.edit_plan.specs.inner.Sought.{sought_from, sought_at, registered_at}
 use Rattle.edit_change.specs.declared.change.Change.{Change}
 use Rattle.edit_plan.specs.declared.sought.SoughtIndex.{SoughtIndex}

@@ -6,6 +6,7 @@
 --     FoundSoFar                    the changes before this one find places in a table
 --     moved_dependent                         a change that is owned, and where it aims in its owner's payload
 --     dependents_in                 those of an owner, from a table by its number
+--     AimsFrom                      with this path in place of its own, a change aims where it is carried out
 --     AreDependents                 a table has for each change those that it owns
 --     owns_at, owners_at            a change of this depth owns something; the changes that a table has for a depth
 --     AreOwners                     a table has for each depth the changes of that depth that own something
@@ -31,8 +32,9 @@ use Rattle.edit_map.specs.Mapping.{Mapping, path_in}
 use Rattle.edit_change.specs.inner.AimFrom.{aim_from, depth}
 use Rattle.edit_plan.specs.Places.{IsPlaceIn, HasPlace}
 use Rattle.edit_change.specs.Nesting.{owner}
-use Rattle.edit_plan.specs.NewTree.{plain, payload_of, dependents, given}
+use Rattle.edit_stages.specs.NewTree.{plain, payload_of, dependents, given}
 use Rattle.edit_change.specs.declared.change.Change.{Change}
+use Rattle.edit_stages.specs.inner.Stages.{staged_aim}
 use Rattle.edit_plan.specs.declared.dependent.Dependent.{Dependent}
 
 -- ---- depth
@@ -76,6 +78,9 @@ AreOwners changes table owners = (level : ℕ) → owners_at owners level ≡ fi
 module _ (changes : List Change) (places : ℕ → Path) where
   abbrev pub AreDependents : List (Vec Dependent Global) → Type 0
   AreDependents table = (c : ℕ) → dependents_in table c ≡ dependents changes places c
+
+  abbrev pub AimsFrom : ℕ → Path → Type 0
+  AimsFrom n p = (c : Change) → slice_get changes n ≡ Some c → aim_from p c ≡ staged_aim changes places c
 
   abbrev pub IsGiven : GivenTable → ℕ → Type 0
   IsGiven table c = given_in table c ≡ map plain (given changes places c)

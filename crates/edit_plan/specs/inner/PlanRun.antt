@@ -25,7 +25,7 @@ use Rattle.edit_plan.specs.inner.Sought.{sought_at}
 use Rattle.edit_plan.specs.inner.OwnerTables.{places_in, AreDependents, AreGiven}
 use Rattle.edit_change.specs.Change.{payload}
 use Rattle.edit_plan.specs.Results.{changed, copies_of}
-use Rattle.edit_plan.specs.NewTree.{OriginTree, plain, is_free, independents}
+use Rattle.edit_stages.specs.NewTree.{OriginTree, plain, is_free, independents}
 use Rattle.rewriting.specs.declared.marked_given.GivenTable.{GivenTable}
 use Rattle.rewriting.specs.inner.Pass.{kind_only, given_in, AreMarkedIn}
 use Rattle.rewriting.specs.inner.Aimed.{aims_of}

@@ -1,6 +1,6 @@
 use Rattle.std.proofs.Common.{◌∙◌, ap, ap₂}
 use Rattle.edit_change.specs.ChangeAim.{aim_path}
-use Rattle.edit_plan.specs.NewTree.{moved_path}
+use Rattle.edit_stages.specs.NewTree.{moved_path}
 use Rattle.edit_change.specs.inner.AimFrom.{aim_from}
 use Rattle.edit_plan.proofs.Moved.{moved-own}
 use Rattle.edit_plan.proofs.dependent.dependent_of.Goals as goal

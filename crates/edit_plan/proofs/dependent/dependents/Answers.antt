@@ -1,7 +1,7 @@
 use Rattle.std.proofs.Common.{◌≡◌, ◌+◌, ◌∙◌, ℕ, map, length, Some, ap, sym, subst}
 use Rattle.edit_change.specs.ChangeAim.{aim, aim_path}
 use Rattle.edit_plan.specs.inner.OwnerTables.{places_in, moved_dependent, dependents_in}
-use Rattle.edit_plan.specs.NewTree.{moved_aim}
+use Rattle.edit_stages.specs.NewTree.{moved_aim}
 use Rattle.edit_plan.proofs.Moved.{dependents-to, dependents-whole, none-at, one-entered, change-at, owner-is, owned-is-inside}
 use Rattle.edit_plan.proofs.Levels.{empty-at}
 use Rattle.edit_plan.proofs.dependent.dependents.Goals as goal

@@ -1,0 +1,132 @@
+//! How long it takes to carry changes out one at a time, in the default order, beside all of them at once.
+use crate::case::{Case, Subject};
+use crate::growth::recorded;
+use anyhow::Result;
+use cst_core::TreeIds;
+use std::alloc::Global;
+use std::rt::Clock;
+use std::time::Instant;
+use syntax_editor::{SyntaxEdit, SyntaxEditor};
+
+const TRIES: usize = 3;
+
+/// Parts of the trees, each with a change. Each step copies the list of children that it alters, so sizes are small.
+const SIZES: [usize; 5] = [LEAST, 512, 1024, 2048, 4096];
+
+const LEAST: usize = 256;
+
+const SUBJECTS: [Subject; 3] = [Subject::Literals, Subject::Statements, Subject::Leaves];
+
+/// How many changes there were, how many bytes the new text has, and how many seconds it took to finish them at once, and in the
+/// default order.
+#[derive(Clone, Copy)]
+struct Figures {
+    changes: usize,
+    bytes: u64,
+    finished: f64,
+    executed: f64,
+}
+
+impl Figures {
+    // The shorter of each two times.
+    fn best(self, other: Figures) -> Figures {
+        Figures {
+            finished: self.finished.min(other.finished),
+            executed: self.executed.min(other.executed),
+            ..self
+        }
+    }
+}
+
+fn case(subject: Subject, size: usize) -> Case {
+    Case::Spread {
+        subject,
+        size,
+        step: 1,
+    }
+}
+
+// An edit by the default order.
+fn execute(alloc: Global, ids: &mut TreeIds, editor: SyntaxEditor) -> Result<SyntaxEdit> {
+    let plan = editor.plan(alloc)?;
+    let order = plan.default_order(alloc)?;
+    Ok(plan.execute(alloc, ids, &order)?)
+}
+
+// How many changes there are, how many bytes the new text has, and how many seconds it takes in the default order.
+fn executed<R: Clock>(rt: &R, alloc: Global, case: Case) -> Result<(usize, u64, f64)> {
+    let mut ids = TreeIds::new(1);
+    let (editor, _) = recorded(rt, alloc, &mut ids, case)?;
+    let changes = editor.changes().len();
+    let start = Instant::now(rt)?;
+    let edit = execute(alloc, &mut ids, editor)?;
+    let seconds = start.elapsed(rt)?.as_secs_f64();
+    Ok((changes, edit.new_root().text_len(), seconds))
+}
+
+// How many seconds it takes at once.
+fn finished<R: Clock>(rt: &R, alloc: Global, case: Case) -> Result<f64> {
+    let mut ids = TreeIds::new(1);
+    let (editor, _) = recorded(rt, alloc, &mut ids, case)?;
+    let start = Instant::now(rt)?;
+    editor.finish(alloc, &mut ids)?;
+    Ok(start.elapsed(rt)?.as_secs_f64())
+}
+
+fn measured<R: Clock>(rt: &R, alloc: Global, case: Case) -> Result<Figures> {
+    let finished = finished(rt, alloc, case)?;
+    let (changes, bytes, executed) = executed(rt, alloc, case)?;
+    Ok(Figures {
+        changes,
+        bytes,
+        finished,
+        executed,
+    })
+}
+
+// The shortest times of some tries.
+fn tried<R: Clock>(rt: &R, alloc: Global, case: Case) -> Result<Figures> {
+    let mut best = measured(rt, alloc, case)?;
+    for _ in 1..TRIES {
+        best = best.best(measured(rt, alloc, case)?);
+    }
+    Ok(best)
+}
+
+fn show_times<R: Print>(rt: &R, alloc: Global, case: Case, figures: Figures) -> Result<()> {
+    let label = case.label(alloc)?;
+    let Figures { changes, .. } = figures;
+    let finished = figures.finished * 1e3;
+    let executed = figures.executed * 1e3;
+    println!(rt;
+        "{label}: {changes} changes, finished {finished:.3} ms, by the default order {executed:.3} ms"
+    )?;
+    Ok(())
+}
+
+fn report_sizes<R: Print + Clock>(rt: &R, alloc: Global, subject: Subject) -> Result<()> {
+    for size in SIZES {
+        let case = case(subject, size);
+        show_times(rt, alloc, case, tried(rt, alloc, case)?)?;
+    }
+    Ok(())
+}
+
+/// Edits that grow, with the time of each at once and in the default order.
+pub(crate) fn report_order_times<R: Print + Clock>(rt: &R, alloc: Global) -> Result<()> {
+    for subject in SUBJECTS {
+        report_sizes(rt, alloc, subject)?;
+    }
+    Ok(())
+}
+
+/// One small edit of each kind by the default order, without a time.
+pub(crate) fn report_orders<R: Print + Clock>(rt: &R, alloc: Global) -> Result<()> {
+    for subject in SUBJECTS {
+        let case = case(subject, LEAST);
+        let label = case.label(alloc)?;
+        let (changes, bytes, _) = executed(rt, alloc, case)?;
+        println!(rt; "{label}: {changes} changes by the default order, {bytes} bytes")?;
+    }
+    Ok(())
+}

@@ -1,0 +1,240 @@
+ghost use Rattle.std.specs.Prelude.{◌≡◌, ◌++◌, ◌∷◌, [], take, drop, IfOk, string_bytes};
+ghost use Rattle.std.specs.Fmt.{WritesOnOk};
+ghost use Rattle.cst_core.specs.Tree.{text};
+ghost use Rattle.cst_core.specs.Green.{branch_tree, texts};
+ghost use Rattle.cst_core.specs.GreenElement.{element_trees};
+ghost use Rattle.cst_core.specs.GreenElementRef.{ref_tree};
+ghost use Rattle.edit_change.specs.Display.{put_in, taken_away, reset, element_texts, siblings_of};
+ghost use Rattle.edit_change.specs.Display.{exchanged, with_insert, with_range, at_position, change_text};
+
+use crate::change::Change;
+use crate::change_aims::slot_after;
+use crate::position::Position;
+use crate::targets::parent;
+use cst_core::{GreenElement, GreenElementRef, GreenNode, SyntaxElement};
+use std::alloc::{AllocError, Global};
+use std::{fmt, slice};
+
+// Escape sequences: green from here on, red from here on, and no colour any more, up to the line's end.
+const PUT_IN: &str = "\x1b[42m";
+
+const TAKEN_AWAY: &str = "\x1b[41m";
+
+const RESET: &str = "\x1b[0m\x1b[K";
+
+/// Prints the text that shows the change, as `Change::text` gives it.
+impl fmt::Display for Change {
+    ghost use Rattle.std.specs.Prelude.{Some};
+    ghost use Rattle.edit_change.specs.Display.{change_text};
+
+    ghost output = { λ change. Some (change_text change) };
+
+    fn fmt<W: fmt::Write>(&self, f: &mut fmt::Formatter<W>) -> fmt::Result {
+        write_change(self, f)
+    }
+}
+
+impl Change {
+    /// The text that shows the change to a reader of a terminal: what is put in is green (behind ESC[42m), what is
+    /// taken away is red (behind ESC[41m), and ESC[0m ESC[K ends the colour.
+    ///
+    /// An insert, and a change of a range, stands in the text of the parent. Of any other change it is the old text and
+    /// the new text alone, and of a deletion by `Replace` the old text alone.
+    pub fn text(&self, alloc: Global) -> Result<String, AllocError>
+        ensures { IfOk result (λ s. string_bytes s ≡ change_text self.now) }
+    {
+        self.to_string(alloc)
+    }
+}
+
+fn write_change<W: fmt::Write>(change: &Change, f: &mut fmt::Formatter<W>) -> fmt::Result
+    ensures { WritesOnOk W.write_str_gives f.old result (change_text change.now) f.new }
+{
+    match change {
+        Change::Insert(position, element) => write_insert(position, slice::from_ref(element), f),
+        Change::InsertAll(position, elements) => write_insert(position, elements.as_slice(), f),
+        Change::Replace(target, None) => write_deletion(target, f),
+        Change::Replace(target, Some(element)) => {
+            write_replacement(target, slice::from_ref(element), f)
+        }
+        Change::ReplaceWithMany(target, elements) => {
+            write_replacement(target, elements.as_slice(), f)
+        }
+        Change::ReplaceAll(first, last, elements) => {
+            write_range(first, last, elements.as_slice(), f)
+        }
+    }
+}
+
+// The parent's text, with the elements put in at the position.
+fn write_insert<W: fmt::Write>(
+    position: &Position,
+    elements: &[SyntaxElement],
+    f: &mut fmt::Formatter<W>,
+) -> fmt::Result
+    ensures { WritesOnOk W.write_str_gives f.old result (at_position position.now (element_texts elements.now)) f.new }
+{
+    match position.after_of() {
+        Some(element) => write_opened(siblings(element), slot_after(element), elements, f),
+        None => match position.first_of() {
+            Some(node) => write_opened(node.as_green().children(), 0, elements, f),
+            None => unreachable!(),
+        },
+    }
+}
+
+// The texts of siblings, with the elements put in before the one in this slot.
+fn write_opened<W: fmt::Write>(
+    siblings: &[GreenElement],
+    slot: usize,
+    elements: &[SyntaxElement],
+    f: &mut fmt::Formatter<W>,
+) -> fmt::Result
+    ensures { let bytes = with_insert (element_trees siblings.now) slot (element_texts elements.now) in
+        WritesOnOk W.write_str_gives f.old result bytes f.new }
+{
+    write_shared(before(siblings, slot), f)?;
+    f.write_str(PUT_IN)?;
+    write_elements(elements, f)?;
+    f.write_str(RESET)?;
+    write_shared(from_slot(siblings, slot), f)
+}
+
+// The old text, taken away.
+fn write_deletion<W: fmt::Write>(target: &SyntaxElement, f: &mut fmt::Formatter<W>) -> fmt::Result
+    ensures { WritesOnOk W.write_str_gives f.old result (taken_away ++ element_texts (target.now ∷ []) ++ reset) f.new }
+{
+    f.write_str(TAKEN_AWAY)?;
+    write_elements(slice::from_ref(target), f)?;
+    f.write_str(RESET)
+}
+
+// The old text, taken away, and the elements, put in.
+fn write_replacement<W: fmt::Write>(
+    target: &SyntaxElement,
+    elements: &[SyntaxElement],
+    f: &mut fmt::Formatter<W>,
+) -> fmt::Result
+    ensures { let bytes = exchanged (element_texts (target.now ∷ [])) (element_texts elements.now) in
+        WritesOnOk W.write_str_gives f.old result bytes f.new }
+{
+    f.write_str(TAKEN_AWAY)?;
+    write_elements(slice::from_ref(target), f)?;
+    write_put_in(elements, f)
+}
+
+// The elements, put in, with the end of the colour.
+fn write_put_in<W: fmt::Write>(elements: &[SyntaxElement], f: &mut fmt::Formatter<W>) -> fmt::Result
+    ensures { WritesOnOk W.write_str_gives f.old result (put_in ++ element_texts elements.now ++ reset) f.new }
+{
+    f.write_str(PUT_IN)?;
+    write_elements(elements, f)?;
+    f.write_str(RESET)
+}
+
+// The text of the parent of `first`, in which the siblings up to `last` are exchanged for the elements.
+fn write_range<W: fmt::Write>(
+    first: &SyntaxElement,
+    last: &SyntaxElement,
+    elements: &[SyntaxElement],
+    f: &mut fmt::Formatter<W>,
+) -> fmt::Result
+    ensures { let bytes = change_text (Change.ReplaceAll first.now last.now elements.now) in
+        WritesOnOk W.write_str_gives f.old result bytes f.new }
+{
+    write_exchanged(
+        siblings(first),
+        first.index(),
+        slot_after(last),
+        elements,
+        f,
+    )
+}
+
+// The texts of siblings, with those from slot `start` up to slot `end`, which stays, exchanged for the elements.
+fn write_exchanged<W: fmt::Write>(
+    siblings: &[GreenElement],
+    start: usize,
+    end: usize,
+    elements: &[SyntaxElement],
+    f: &mut fmt::Formatter<W>,
+) -> fmt::Result
+    ensures { let bytes = with_range (element_trees siblings.now) start end (element_texts elements.now) in
+        WritesOnOk W.write_str_gives f.old result bytes f.new }
+{
+    write_shared(before(siblings, start), f)?;
+    f.write_str(TAKEN_AWAY)?;
+    write_shared(from_slot(before(siblings, end), start), f)?;
+    write_put_in(elements, f)?;
+    write_shared(from_slot(siblings, end), f)
+}
+
+// An element with its siblings; a root by itself has those below it.
+fn siblings(element: &SyntaxElement) -> &[GreenElement]
+    ensures { element_trees result.now ≡ siblings_of element.now }
+{
+    match element.top_green().get(parent(element.slots())) {
+        Some(GreenElementRef::Node(node)) => node.children(),
+        Some(GreenElementRef::Token(_)) => &[],
+        None => &[],
+    }
+}
+
+// Those before a slot, which are all where there is no such slot.
+fn before(elements: &[GreenElement], slot: usize) -> &[GreenElement]
+    ensures { element_trees result.now ≡ take slot (element_trees elements.now) }
+{
+    &elements[..slot.min(elements.len())]
+}
+
+// Those from a slot on, which are none where there is no such slot.
+fn from_slot(elements: &[GreenElement], slot: usize) -> &[GreenElement]
+    ensures { element_trees result.now ≡ drop slot (element_trees elements.now) }
+{
+    &elements[slot.min(elements.len())..]
+}
+
+fn write_elements<W: fmt::Write>(
+    elements: &[SyntaxElement],
+    f: &mut fmt::Formatter<W>,
+) -> fmt::Result
+    ensures { WritesOnOk W.write_str_gives f.old result (element_texts elements.now) f.new }
+{
+    for element in elements {
+        write_element(element.as_green(), f)?;
+    }
+    Ok(())
+}
+
+fn write_shared<W: fmt::Write>(elements: &[GreenElement], f: &mut fmt::Formatter<W>) -> fmt::Result
+    ensures { WritesOnOk W.write_str_gives f.old result (texts (element_trees elements.now)) f.new }
+{
+    for element in elements {
+        write_element(element.as_ref(), f)?;
+    }
+    Ok(())
+}
+
+fn write_element<W: fmt::Write>(
+    element: GreenElementRef<'_>,
+    f: &mut fmt::Formatter<W>,
+) -> fmt::Result
+    ensures { WritesOnOk W.write_str_gives f.old result (text (ref_tree element.entry)) f.new }
+{
+    match element {
+        GreenElementRef::Node(node) => write_node(node, f),
+        GreenElementRef::Token(token) => f.write_str(token.text()),
+    }
+}
+
+fn write_node<W: fmt::Write>(node: &GreenNode, f: &mut fmt::Formatter<W>) -> fmt::Result
+    ensures { WritesOnOk W.write_str_gives f.old result (text (branch_tree node.now)) f.new }
+{
+    for child in node.children() {
+        match child {
+            GreenElement::Node(below) => write_node(below, f)?,
+            GreenElement::Token(token) => f.write_str(token.text())?,
+        }
+    }
+    Ok(())
+}

@@ -1,0 +1,12 @@
+use Rattle.std.proofs.Common.{sym, subst, ◌≡◌, map, false}
+use Rattle.std.specs.Prelude.{IfOk}
+use Rattle.cst_core.specs.Element.{subtree}
+use Rattle.edit_stages.specs.inner.Stages.{Begins, done_in}
+use Rattle.edit_plan.proofs.RunFacts.{begun-both}
+use Rattle.edit_plan.proofs.plan.EditPlan.stages.Goals as goal
+
+pub returns-clause-running : goal.returns-clause-running
+returns-clause-running c =
+    let begins = subst (λ cs. IfOk c.new.result (Begins cs (subtree c.self.inside.root))) c.deref.ensures.value c.new.ensures.stages in
+    let none = subst (λ cs. IfOk c.new.result (λ s. done_in s ≡ map (λ d. false) cs)) c.deref.ensures.value c.new.ensures.none_done in
+    begun-both _ _ c.new.result c.self.view_is c.self.invariant.is_plan begins none

@@ -1,0 +1,69 @@
+-- A plan that is carried out one change at a time, as contracts see it.
+--     Run                           the plan, of each change whether it is done, and how many nodes were built
+--     run_code                      the code of a run, as a model's value
+--     new_run                       one in which nothing is done
+--     is_done                       the change at a number is done
+--     TellsReady, CanStep           an answer tells whether a change can be the next; it can be
+--     ShowsTree, ShowsPayload       the tree at this stage; a payload at this stage, if it is one that other changes can be carried out in
+--     way_length                    one more than the length of the path of the node whose children a change alters: 0 for a replaced root
+--     CountsWay, CountsStep         how a count rises by the way to a change; by a step
+use Rattle.std.specs.Prelude.{◌≡◌, ◌+◌, ℕ, Bool, true, false, List, [], ◌∷◌, map, length, sum_by, slice_get, slice_index_or, Option, Some, MatchOption, IsSomeAnd, refl}
+use Rattle.std.specs.Borrow.{Bor}
+use Rattle.std.specs.Coded.{Coded, code_by, coded_ℕ, coded_bool, coded_list, coded×}
+use Rattle.cst_core.specs.Path.{Path}
+use Rattle.cst_core.specs.Tree.{SyntaxTree}
+use Rattle.cst_core.specs.Green.{Branch, branch_tree}
+use Rattle.cst_core.specs.Element.{NumbersTell, subtree}
+use Rattle.rewriting.specs.Aim.{parents}
+use Rattle.rewriting.specs.Effort.{counted}
+use Rattle.stepping.specs.Stage.{step_builds}
+use Rattle.schedule.specs.Schedule.{is_ready}
+use Rattle.edit_change.specs.declared.change.Change.{Change}
+use Rattle.edit_stages.specs.NewTree.{plain, stage_tree, stage_payload}
+use Rattle.edit_stages.specs.inner.Stages.{has_stage, staged_aim, tree_of}
+use Rattle.edit_plan.specs.Places.{ArePlaces, elements_held}
+use Rattle.edit_plan.specs.Plan.{Plan, plan_code, registered_elements}
+
+pub record Run : Type 0 where
+  pub plan : Plan
+  pub done : List Bool
+  pub builds : ℕ
+
+abbrev pub run_code : Coded Run
+run_code = code_by (Plan × (List Bool × ℕ)) (coded× plan_code (coded× (coded_list coded_bool) coded_ℕ)) (λ r. (r.plan, (r.done, r.builds))) (λ q. record { plan = q.0; done = q.1.0; builds = q.1.1 }) (λ _. refl)
+
+abbrev pub new_run : Plan → Run
+new_run p = record { plan = p; done = map (λ c. false) p.changes; builds = 0 }
+
+abbrev pub is_done : Run → ℕ → Bool
+is_done r n = slice_index_or r.done n false
+
+-- ---- what can be next
+abbrev pub TellsReady : Run → ℕ → Bool → Type 0
+TellsReady r n answer = (c : Change) → slice_get r.plan.changes n ≡ Some c → answer ≡ is_ready r.plan.changes (is_done r) (n, c)
+
+abbrev pub CanStep : Run → ℕ → Type 0
+CanStep r n = IsSomeAnd (slice_get r.plan.changes n) (λ c. is_ready r.plan.changes (is_done r) (n, c) ≡ true)
+
+-- ---- the stage
+abbrev pub ShowsTree : Run → SyntaxTree → Type 0
+ShowsTree r t =
+    (places : ℕ → Path) → ArePlaces r.plan.mapping r.plan.changes places → map plain (stage_tree r.plan.changes places (is_done r) r.plan.root) ≡ t ∷ []
+
+abbrev pub ShowsPayload : Run → ℕ → Option (Bor Branch) → Type 0
+ShowsPayload r n shown =
+    (places : ℕ → Path) → ArePlaces r.plan.mapping r.plan.changes places → MatchOption shown (has_stage r.plan.changes n ≡ false) (λ b. (has_stage r.plan.changes n ≡ true) × (map plain (stage_payload r.plan.changes places (is_done r) n) ≡ branch_tree b.now ∷ []))
+
+-- ---- the count
+abbrev pub way_length : List Change → (ℕ → Path) → Change → ℕ
+way_length cs places c = sum_by (λ p. length p + 1) (parents (staged_aim cs places c))
+
+-- Where trees of one number differ, a change may aim at nothing in its owner's payload, and then it builds nothing. Else a step
+-- builds the whole way.
+pub record CountsWay (r : Run) (builds : ℕ) (places : ℕ → Path) (c : Change) : Type 0 where
+  pub live : builds ≡ counted r.builds (step_builds (tree_of r.plan.changes (subtree r.plan.root) c) (staged_aim r.plan.changes places c))
+  pub whole : NumbersTell (elements_held r.plan.root r.plan.changes (registered_elements r.plan.registrations) r.plan.mapping) → builds ≡ counted r.builds (way_length r.plan.changes places c)
+
+abbrev pub CountsStep : Run → ℕ → ℕ → Type 0
+CountsStep r n builds =
+    (places : ℕ → Path) (c : Change) → ArePlaces r.plan.mapping r.plan.changes places → slice_get r.plan.changes n ≡ Some c → CountsWay r builds places c

@@ -1,0 +1,127 @@
+//! A plan carried out one change at a time, in any order that is allowed.
+
+ghost use Rattle.std.specs.Prelude.{◌≡◌, ◌+◌, ◌<◌, Some, true, slice_set, length, slice_get, IfOk, IfErr, OnOk, OnErr};
+ghost use Rattle.cst_core.specs.Green.{branch_tree, length_limit};
+ghost use Rattle.cst_core.specs.Tree.{text_length};
+ghost use Rattle.schedule.specs.Schedule.{is_ready, is_complete};
+ghost use Rattle.edit_plan.specs.Plan.{Makes, RunRefuses};
+ghost use Rattle.edit_plan.specs.Run.{new_run, is_done, TellsReady, CanStep, ShowsTree, ShowsPayload, CountsStep};
+
+use crate::edit::SyntaxEdit;
+use crate::edit_error::EditError;
+use crate::plan::EditPlan;
+use crate::run::Rewritten;
+use cst_core::{GreenNode, TreeIds};
+use edit_stages::Stages;
+use std::alloc::{AllocError, Global};
+use std::marker::Model;
+
+/// A plan that is carried out one change at a time.
+///
+/// It keeps the tree with the changes that are done so far, and for each change that replaces a node by a node the payload with the
+/// changes in it that are done. docs/DEFINITIONS.md, 'Orders', says which change may come when.
+#[derive(Drop)]
+pub struct EditRun<'a> {
+    plan: &'a EditPlan,
+    stages: Stages,
+}
+
+impl<'a> Model for EditRun<'a> {
+    ghost use Rattle.edit_plan.specs.Run.{Run, run_code};
+    ghost use Rattle.edit_stages.specs.inner.Stages.{builds_of, done_in};
+
+    ghost Value = { Run };
+
+    ghost coded = { run_code };
+
+    ghost view = { λ a. record { plan = a.plan.now; done = done_in a.stages; builds = builds_of a.stages } };
+
+    ghost use Rattle.edit_plan.specs.inner.PlanStages.{IsRunning};
+
+    ghost invariant = { λ a. IsRunning a.plan.now a.stages };
+}
+
+impl<'a> EditRun<'a> {
+    /// A run of this plan in which no change is done yet.
+    ///
+    /// Takes time near linear in the changes and the paths on the way to them, and none for the tree.
+    pub fn new(alloc: Global, plan: &'a EditPlan) -> Result<EditRun<'a>, AllocError>
+        ensures { IfOk result (λ r. r ≡ new_run plan.now) }
+    {
+        Ok(EditRun {
+            plan,
+            stages: plan.stages(alloc)?,
+        })
+    }
+
+    /// Whether a change may be carried out next: it is not dropped, it is not done yet, and each change that must come before it is
+    /// done. Those are the changes that it owns, the inserts of its gap that stand after it there, and the inserts after a token that it
+    /// replaces.
+    pub fn ready(&self, change: usize) -> bool
+        requires { change < length self.now.plan.changes }
+        ensures { TellsReady self.now change result }
+    {
+        self.stages.ready(change)
+    }
+
+    /// Carries out a change: one splice of the tree, or of the payload of the change's owner.
+    ///
+    /// Only the nodes on the way to the place of the change are built anew; `builds` counts them. After a refusal the run is as it was.
+    pub fn step(&mut self, alloc: Global, change: usize) -> Result<(), AllocError>
+        requires { CanStep self.old change }
+        ensures plan { self.new.plan ≡ self.old.plan }
+        ensures done { OnOk result (self.new.done ≡ slice_set self.old.done change true) }
+        ensures builds { OnOk result (CountsStep self.old change self.new.builds) }
+        ensures err { OnErr result (self.new ≡ self.old) }
+    {
+        self.plan.carry_out(alloc, &mut self.stages, change)
+    }
+
+    /// The tree as it stands now: the old tree, rewritten by the changes that are done and have no owner.
+    pub fn green(&self) -> &GreenNode
+        ensures { ShowsTree self.now (branch_tree result.now) }
+    {
+        self.stages.green()
+    }
+
+    /// The payload of a change as it stands now: rewritten by the changes that are done and that this one owns. `None` where the
+    /// change is dropped, or does not replace a node by a node.
+    pub fn payload(&self, change: usize) -> Option<&GreenNode>
+        requires { change < length self.now.plan.changes }
+        ensures { ShowsPayload self.now change result }
+    {
+        self.stages.payload(change)
+    }
+
+    /// How many nodes the steps built. At 2^64 - 1 the count stays.
+    pub fn builds(&self) -> u64
+        ensures { result ≡ self.now.builds }
+    {
+        self.stages.builds()
+    }
+
+    /// Whether each change that is not dropped is done.
+    pub fn is_complete(&self) -> bool
+        ensures { result ≡ is_complete self.now.plan.changes (is_done self.now) }
+    {
+        self.stages.is_complete()
+    }
+
+    /// The edit that the steps made, under the next number of `ids`.
+    ///
+    /// `TooLong` comes where the text of the new tree passes 4,294,967,295 bytes, else `NoTreeNumber` where the source is spent; `Memory`
+    /// may come at any time. None of them draws a number.
+    pub fn finish(self, alloc: Global, ids: &mut TreeIds) -> Result<SyntaxEdit, EditError>
+        requires { is_complete self.plan.changes (is_done self) ≡ true }
+        ensures ok { IfOk result (Makes self.entry.plan ids.old) }
+        ensures short { IfOk result (λ e. text_length e.new_root.root < length_limit) }
+        ensures drawn { OnOk result (ids.new ≡ ids.old + 1) }
+        ensures refused { IfErr result (RunRefuses self.entry.plan ids.old) }
+        ensures err { OnErr result (ids.new ≡ ids.old) }
+    {
+        let plan = self.plan;
+        let green = self.stages.green().share(alloc)?;
+        let rewritten = plan.rewritten_tree(alloc)?;
+        plan.edit_of(alloc, ids, rewritten.with_tree(green))
+    }
+}

@@ -1,0 +1,64 @@
+//! The stages of a plan: before anything is done, and after one change more.
+
+ghost use Rattle.std.specs.Prelude.{◌≡◌, true, false, map, slice_set, IfOk, OnOk, OnErr};
+ghost use Rattle.edit_stages.specs.inner.Stages.{builds_of, done_in};
+ghost use Rattle.edit_plan.specs.Run.{CanStep, CountsStep};
+ghost use Rattle.edit_plan.specs.inner.PlanStages.{AgreeOnPlaces, IsRunning, KeepsShapes, run_of};
+
+use crate::dependent::staged_path;
+use crate::plan::EditPlan;
+use edit_map::laws::{pairs_rise, place_is_unique, place_keeps_the_shape};
+use edit_stages::Stages;
+use std::alloc::{AllocError, Global};
+
+impl EditPlan {
+    // The stages of the plan in which nothing is done.
+    pub(crate) fn stages(&self, alloc: Global) -> Result<Stages, AllocError>
+        ensures running { IfOk result (IsRunning self.now) }
+        ensures none_done { IfOk result (λ s. done_in s ≡ map (λ c. false) self.now.changes) }
+        ensures none_built { IfOk result (λ s. builds_of s ≡ 0) }
+    {
+        Stages::new(alloc, &self.root, &self.changes, &self.fates)
+    }
+
+    // Any two tables of places agree on the owners of changes.
+    fn agree_on_places(&self)
+        ensures { AgreeOnPlaces self.now }
+    {
+        // What is true of every plan.
+        let _ = &self.root;
+        place_is_unique();
+        pairs_rise();
+    }
+
+    // At its place in the payload an owner's target has its shape.
+    fn keep_shapes(&self)
+        ensures { KeepsShapes self.now }
+    {
+        // What is true of every plan.
+        let _ = &self.root;
+        place_keeps_the_shape();
+    }
+
+    // Carries out one change more.
+    pub(crate) fn carry_out(
+        &self,
+        alloc: Global,
+        stages: &mut Stages,
+        change: usize,
+    ) -> Result<(), AllocError>
+        requires running { IsRunning self.now stages.old }
+        requires ready { CanStep (run_of self.now stages.old) change }
+        ensures running { IsRunning self.now stages.new }
+        ensures list { OnOk result (done_in stages.new ≡ slice_set (done_in stages.old) change true) }
+        ensures count { OnOk result (CountsStep (run_of self.now stages.old) change (builds_of stages.new)) }
+        ensures refused_list { OnErr result (done_in stages.new ≡ done_in stages.old) }
+        ensures refused_count { OnErr result (builds_of stages.new ≡ builds_of stages.old) }
+    {
+        self.agree_on_places();
+        self.keep_shapes();
+        let path = staged_path(alloc, &self.changes, &self.fates, &self.places, change)?;
+        let aim = self.changes[change].numbered_aim_from(change, &path);
+        stages.step(alloc, &self.changes, &self.fates, change, &aim)
+    }
+}

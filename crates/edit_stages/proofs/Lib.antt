@@ -1,0 +1,14 @@
+pub mod Apart
+pub mod RootAlone
+pub mod Owning
+pub mod Begun
+pub mod Replaced
+pub mod Splits
+pub mod Altered
+pub mod Deepest
+pub mod Below
+pub mod Groups
+pub mod GroupNext
+pub mod Next
+pub mod Taking
+pub mod Live

@@ -1,0 +1,2 @@
+pub mod NewTree
+pub mod inner

@@ -1,0 +1,7 @@
+//! The tree and the payloads of changes that are carried out one at a time.
+#![tactic(auto)]
+
+mod payload;
+mod stages;
+
+pub use stages::Stages;

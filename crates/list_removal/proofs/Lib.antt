@@ -1,0 +1,6 @@
+mod Siblings
+mod Refused
+mod Kept
+mod Cut
+mod Alone
+mod RowsOfRemovals

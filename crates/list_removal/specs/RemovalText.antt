@@ -1,0 +1,16 @@
+-- What a removal leaves of a text.
+--     end_of             where the element at a path ends, in bytes from the start of the tree's text
+--     text_without       the tree's text without what stands from the start of one element to the end of another
+use Rattle.std.specs.Prelude.{ℕ, ◌+◌, List, ◌++◌, take, drop}
+use Rattle.std.specs.Option.{option_map_or}
+use Rattle.cst_core.specs.Path.{Path}
+use Rattle.cst_core.specs.Tree.{SyntaxTree, at, text, text_length}
+use Rattle.cst_core.specs.Order.{start}
+use Rattle.cst_core.specs.SyntaxElement.{element_of}
+use Rattle.cst_core.specs.declared.element.SyntaxElement.{SyntaxElement}
+
+abbrev pub end_of : SyntaxTree → Path → ℕ
+end_of t p = start t p + option_map_or text_length (at t p) 0
+
+abbrev pub text_without : SyntaxTree → SyntaxElement → SyntaxElement → List ℕ
+text_without t first last = take (start t (element_of first).path) (text t) ++ drop (end_of t (element_of last).path) (text t)

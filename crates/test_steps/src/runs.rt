@@ -1,0 +1,78 @@
+//! Plans carried out in an order, at once or one change at a time.
+
+use crate::answers::{memory, ok};
+use crate::edits::keep_edit;
+use crate::session::Session;
+use crate::stepped::Stepped;
+use std::alloc::Global;
+use syntax_editor::EditPlan;
+use test_trees::{NoAnswer, Words, word};
+
+/// What the step of this name answers, if it is one of these.
+pub fn answer(
+    alloc: Global,
+    session: &mut Session,
+    name: &str,
+    words: &mut Words,
+) -> Option<Result<String, NoAnswer>> {
+    let answer = match name {
+        "default_order" => default_order(alloc, session),
+        "execute" => execute(alloc, session, words),
+        "stepped" => stepped(alloc, session, words),
+        "finish_run" => finish_run(alloc, session, words),
+        _ => return None,
+    };
+    Some(answer)
+}
+
+// The last plan.
+fn last(plans: &[EditPlan]) -> Result<&EditPlan, NoAnswer> {
+    plans.last().ok_or(NoAnswer::Missing("no plan was made"))
+}
+
+fn default_order(alloc: Global, session: &mut Session) -> Result<String, NoAnswer> {
+    let Ok(order) = last(&session.plans)?.default_order(alloc) else {
+        return memory(alloc);
+    };
+    let mut answer = ok(alloc)?;
+    for change in order.iter() {
+        write!(answer, " {change}")?;
+    }
+    Ok(answer)
+}
+
+fn execute(alloc: Global, session: &mut Session, words: &mut Words) -> Result<String, NoAnswer> {
+    let order = words.counts(alloc)?;
+    let plan = last(&session.plans)?;
+    let edit = plan.execute(alloc, &mut session.ids, &order);
+    keep_edit(alloc, session, edit)
+}
+
+// A run of the last plan: words that are numbers are changes that are carried out, and each other word is a question.
+fn stepped(alloc: Global, session: &mut Session, words: &mut Words) -> Result<String, NoAnswer> {
+    let plan = last(&session.plans)?;
+    let mut stepped = Stepped::new(alloc, plan)?;
+    stepped.take_all(words)?;
+    let refused = stepped.refused();
+    let answer = stepped.into_answer();
+    if refused.is_some() {
+        session.refused = refused;
+    }
+    Ok(answer)
+}
+
+// A run by these steps, and the edit that it gives where it is complete.
+fn finish_run(alloc: Global, session: &mut Session, words: &mut Words) -> Result<String, NoAnswer> {
+    let plan = last(&session.plans)?;
+    let mut stepped = Stepped::new(alloc, plan)?;
+    stepped.take_all(words)?;
+    let refused = stepped.refused();
+    let edit = stepped.finish(&mut session.ids);
+    if refused.is_some() {
+        session.refused = refused;
+    }
+    match edit {
+        Some(edit) => keep_edit(alloc, session, edit),
+        None => word(alloc, "not complete"),
+    }
+}
