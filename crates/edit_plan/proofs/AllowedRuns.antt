@@ -9,7 +9,7 @@ use Rattle.std.proofs.lemmas.Bool.{le-ltb}
 use Rattle.std.proofs.lemmas.List.{length-map, length-set}
 use Rattle.std.proofs.lemmas.Option.{slice_get-get_or, slice_get_within}
 use Rattle.edit_change.specs.declared.change.Change.{Change}
-use Rattle.schedule.specs.Schedule.{IsAllowed, place_in, is_ready}
+use Rattle.schedule.specs.Schedule.{IsAllowed, index_in, is_ready}
 use Rattle.schedule.proofs.AllowedSteps.{OnTheWay, allowed-step, next-done, allowed-complete}
 use Rattle.schedule.specs.OrderRefusal.{OrderRefuses}
 use Rattle.schedule.specs.declared.order_error.OrderError.{OrderError}
@@ -29,7 +29,7 @@ pub along-new : (p : Plan) (order : List ℕ) (r : Run) → r ≡ new_run p → 
 along-new p order r is = record {
   plan_is = ap (λ x. x.plan) is;
   long = ap (λ x. length x.done) is ∙ length-map p.changes (λ c. false);
-  way = λ k. ap (λ x. is_done x k) is ∙ told-false p.changes k ∙ sym (le-ltb (place_in order k) 0 (omega arith));
+  way = λ k. ap (λ x. is_done x k) is ∙ told-false p.changes k ∙ sym (le-ltb (index_in order k) 0 (omega arith));
 }
 
 module _ (p : Plan) (order : List ℕ) (allowed : IsAllowed p.changes order) (i : ℕ) (r : Run) (along : IsAlong p order i r) where

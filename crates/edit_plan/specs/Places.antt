@@ -4,7 +4,7 @@
 --     IsUnplaced, IsFirstUnplaced   a change that is not dropped and has no place in its owner's payload; the least such change
 --     FindsPlace, ArePlaces         a change has its place where one is kept for each owner; each change does
 --     elements_held                 all element values that a plan holds, of which NumbersTell is the premise of every promise on the tree
---     TextIsTooLong                     the new text passes the limit
+--     TextIsTooLong                 the new text passes the limit
 --     IsRewriting                   a tree with changed and annotated paths is the simultaneous rewriting of the old tree
 use Rattle.std.specs.Prelude.{◌≡◌, ◌≢◌, ℕ, ◌<◌, ◌≤◌, List, [], ◌∷◌, ◌++◌, map, flat_map, slice_get, Some, None, IfSome, IsSome, IsSomeAnd, All}
 use Rattle.cst_core.specs.Path.{Path}

@@ -18,7 +18,7 @@ ghost use Rattle.rewriting.specs.Rewriting.{NumberedAim, gap, rewritten};
 ghost use Rattle.edit_stages.specs.NewTree.{Origin, OriginTree, origin, plain, change_aims, payload_of, is_free, given, Gives, new_tree, stage_tree};
 ghost use Rattle.edit_plan.specs.Results.{changed};
 ghost use Rattle.edit_plan.specs.Places.{HasPlace, elements_held, IsRewriting};
-ghost use Rattle.schedule.specs.Schedule.{undropped, IsAllowed, place_in, is_ready};
+ghost use Rattle.schedule.specs.Schedule.{undropped, IsAllowed, index_in, is_ready};
 ghost use Rattle.edit_plan.specs.RewritingLaws.{StandsThere, IsUntouched, brought_text, text_filled};
 
 use edit_map::laws::place_keeps_the_shape;
@@ -88,10 +88,10 @@ pub fn text_is_filled()
 pub fn allowed_orders_agree()
     ensures next { (changes : List Change) (order : List ℕ) (i n : ℕ) (c : Change)
         → IsAllowed changes order → slice_get order i ≡ Some n → slice_get changes n ≡ Some c
-        → is_ready changes (λ m. nat_lt (place_in order m) i) (n, c) ≡ true }
+        → is_ready changes (λ m. nat_lt (index_in order m) i) (n, c) ≡ true }
     ensures tree { (changes : List Change) (places : ℕ → Path) (root : Element) (order : List ℕ)
         → IsAllowed changes order
-        → stage_tree changes places (λ m. nat_lt (place_in order m) (length order)) root ≡ new_tree changes places root }
+        → stage_tree changes places (λ m. nat_lt (index_in order m) (length order)) root ≡ new_tree changes places root }
 {}
 
 /// Swapping two neighbours that aim at different gaps and share no target changes no answer.

@@ -73,7 +73,7 @@ impl<'a> SoughtIndex<'a> {
         }
     }
 
-    /// Whether nothing is registered.
+    /// Whether nothing is registered. Where this says no, an element may still have none.
     pub(crate) fn is_empty(&self) -> bool
         ensures { result ≡ true → (a : Address) → sought_at self.now a ≡ [] }
     {

@@ -1,8 +1,8 @@
 -- Along an allowed order each change can be the next.
---     in-count, place-of            a number that is there is counted; where it is there once, that is its place
---     OnTheWay                      what stands in an order before a place is done
---     allowed-step                  then what stands at that place can be the next
---     next-done                     and with it all before the next place is done
+--     in-count, index-of            a number that is there is counted; where it is there once, that is its index
+--     OnTheWay                      what stands in an order before a index is done
+--     allowed-step                  then what stands at that index can be the next
+--     next-done                     and with it all before the next index is done
 --     allowed-complete              at the end all is done
 use Rattle.std.specs.Prelude.{◌≡◌, ◌<◌, ◌≤◌, ◌+◌, ℕ, zero, suc, Bool, true, false, not, ◌&&◌, ◌||◌, cond, nat_eq, nat_lt, List, [], ◌∷◌, length, count_by, slice_get, Some, refl}
 use Rattle.std.specs.List.{list_all}
@@ -13,9 +13,9 @@ use Rattle.std.proofs.lemmas.Option.{none-some, same_Some, slice_get_within}
 use mathlib.Core.Logic.{inl, inr}
 use Rattle.edit_change.specs.Nesting.{is_dropped}
 use Rattle.edit_change.specs.declared.change.Change.{Change}
-use Rattle.schedule.specs.Schedule.{Numbered, IsAllowed, place_in, undropped, owned_first, gap_first, token_first, comes_first, is_ready, is_complete}
+use Rattle.schedule.specs.Schedule.{Numbered, IsAllowed, index_in, undropped, owned_first, gap_first, token_first, comes_first, is_ready, is_complete}
 use Rattle.schedule.specs.inner.Waits.{one_if}
-use Rattle.schedule.proofs.Orders.{Respects, respects_to, found-place}
+use Rattle.schedule.proofs.Orders.{Respects, respects_to, found-index}
 use Rattle.schedule.proofs.Tables.{has_at}
 use Rattle.schedule.proofs.Undropped.{all_undropped_from, count-undropped, count-past}
 
@@ -31,37 +31,37 @@ in-count (x ∷ order) (suc i) n at =
     let rest = in-count order i n at in
     omega (arith, parts, rest)
 
-pub place-of : (order : List ℕ) (i n : ℕ) → slice_get order i ≡ Some n → count_by (nat_eq n) order ≡ 1 → place_in order n ≡ i
-place-of [] i n at once = absurd (none-some n at)
-place-of (x ∷ order) zero n at once =
+pub index-of : (order : List ℕ) (i n : ℕ) → slice_get order i ≡ Some n → count_by (nat_eq n) order ≡ 1 → index_in order n ≡ i
+index-of [] i n at once = absurd (none-some n at)
+index-of (x ∷ order) zero n at once =
     let here : nat_eq n x ≡ true = eq-eqb n x (sym (same_Some x n at)) in
-    ap (λ b. cond (not b) (1 + place_in order n) 0) here
-place-of (x ∷ order) (suc i) n at once =
+    ap (λ b. cond (not b) (1 + index_in order n) 0) here
+index-of (x ∷ order) (suc i) n at once =
     let parts = sum_by-cons (λ y. one_if (nat_eq n y)) x order in
     let some = in-count order i n at in
     elim (cases_Bool (nat_eq n x)) [
       | inl here ↦ let one = ap one_if here in absurd (omega (arith, once, parts, some, one))
       | inr other ↦
           let none = ap one_if other in
-          let rest = place-of order i n at (omega (arith, once, parts, none)) in
-          ap (λ b. cond (not b) (1 + place_in order n) 0) other ∙ omega (arith, rest)
+          let rest = index-of order i n at (omega (arith, once, parts, none)) in
+          ap (λ b. cond (not b) (1 + index_in order n) 0) other ∙ omega (arith, rest)
     ]
 
--- what stands at a place
-at-place : (order : List ℕ) (n : ℕ) → place_in order n < length order → slice_get order (place_in order n) ≡ Some n
-at-place [] n l = absurd (omega (arith, l))
-at-place (x ∷ order) n l =
+-- what stands at a index
+at-index : (order : List ℕ) (n : ℕ) → index_in order n < length order → slice_get order (index_in order n) ≡ Some n
+at-index [] n l = absurd (omega (arith, l))
+at-index (x ∷ order) n l =
     elim (cases_Bool (nat_eq n x)) [
       | inl here ↦
-          let first : place_in (x ∷ order) n ≡ 0 = ap (λ b. cond (not b) (1 + place_in order n) 0) here in
+          let first : index_in (x ∷ order) n ≡ 0 = ap (λ b. cond (not b) (1 + index_in order n) 0) here in
           ap (slice_get (x ∷ order)) first ∙ ap Some (sym (eqb-true n x here))
       | inr other ↦
-          let next : place_in (x ∷ order) n ≡ suc (place_in order n) = ap (λ b. cond (not b) (1 + place_in order n) 0) other ∙ omega arith in
-          ap (slice_get (x ∷ order)) next ∙ at-place order n (omega (arith, l, next))
+          let next : index_in (x ∷ order) n ≡ suc (index_in order n) = ap (λ b. cond (not b) (1 + index_in order n) 0) other ∙ omega arith in
+          ap (slice_get (x ∷ order)) next ∙ at-index order n (omega (arith, l, next))
     ]
 
 abbrev pub OnTheWay : List ℕ → ℕ → (ℕ → Bool) → Type 0
-OnTheWay order i done = (k : ℕ) → done k ≡ nat_lt (place_in order k) i
+OnTheWay order i done = (k : ℕ) → done k ≡ nat_lt (index_in order k) i
 
 module _ (cs : List Change) (order : List ℕ) (allowed : IsAllowed cs order) where
   once : (n : ℕ) (c : Change) → slice_get cs n ≡ Some c → is_dropped cs c ≡ false → count_by (nat_eq n) order ≡ 1
@@ -87,23 +87,23 @@ module _ (cs : List Change) (order : List ℕ) (allowed : IsAllowed cs order) wh
         | inr past ↦ absurd (omega (arith, some, count-past cs n past))
       ]
 
-  earlier : (first : Numbered → Numbered → Bool) → Respects first cs order → (m n : ℕ) (d c : Change) → slice_get cs m ≡ Some d → is_dropped cs d ≡ false → slice_get cs n ≡ Some c → is_dropped cs c ≡ false → first (m, d) (n, c) ≡ true → place_in order m < place_in order n
+  earlier : (first : Numbered → Numbered → Bool) → Respects first cs order → (m n : ℕ) (d c : Change) → slice_get cs m ≡ Some d → is_dropped cs d ≡ false → slice_get cs n ≡ Some c → is_dropped cs c ≡ false → first (m, d) (n, c) ≡ true → index_in order m < index_in order n
   earlier first keeps m n d c at_m m_stays at_n n_stays comes = keeps.at m n d c at_m m_stays at_n n_stays comes
 
   pub allowed-step : (done : ℕ → Bool) (i n : ℕ) → OnTheWay order i done → slice_get order i ≡ Some n → (c : Change) × (slice_get cs n ≡ Some c) × (is_ready cs done (n, c) ≡ true)
   allowed-step done i n way at =
       let it = is-there i n at in
-      let place : place_in order n ≡ i = place-of order i n at (once n it.0 it.1 it.2) in
-      let fresh : done n ≡ false = way n ∙ le-ltb (place_in order n) i (omega (arith, place)) in
+      let index : index_in order n ≡ i = index-of order i n at (once n it.0 it.1 it.2) in
+      let fresh : done n ≡ false = way n ∙ le-ltb (index_in order n) i (omega (arith, index)) in
       let before : (m : ℕ) (d : Change) → slice_get cs m ≡ Some d → is_dropped cs d ≡ false → comes_first cs (m, d) (n, it.0) ≡ true → done m ≡ true = λ m d at_m stays comes.
-      let less : place_in order m < place_in order n = elim (or_cases (owned_first cs (m, d) (n, it.0) || gap_first (m, d) (n, it.0)) (token_first (m, d) (n, it.0)) comes) [
+      let less : index_in order m < index_in order n = elim (or_cases (owned_first cs (m, d) (n, it.0) || gap_first (m, d) (n, it.0)) (token_first (m, d) (n, it.0)) comes) [
         | inl two ↦ elim (or_cases (owned_first cs (m, d) (n, it.0)) (gap_first (m, d) (n, it.0)) two) [
           | inl owned ↦ earlier (owned_first cs) (respects_to (owned_first cs) cs order allowed.owned_changes_first) m n d it.0 at_m stays it.1 it.2 owned
           | inr gap ↦ earlier gap_first (respects_to gap_first cs order allowed.gaps_in_order) m n d it.0 at_m stays it.1 it.2 gap
         ]
         | inr token ↦ earlier token_first (respects_to token_first cs order allowed.tokens_last) m n d it.0 at_m stays it.1 it.2 token
       ] in
-      way m ∙ lt-ltb (place_in order m) i (omega (arith, less, place)) in
+      way m ∙ lt-ltb (index_in order m) i (omega (arith, less, index)) in
       let all : list_all (λ d. not (comes_first cs d (n, it.0)) || done d.0) (undropped cs) ≡ true = all_undropped_from (λ d. not (comes_first cs d (n, it.0)) || done d.0) cs (λ m d at_m stays.
       elim (cases_Bool (comes_first cs (m, d) (n, it.0))) [
         | inl comes ↦ or_right (not (comes_first cs (m, d) (n, it.0))) (done m) (before m d at_m stays comes)
@@ -114,19 +114,19 @@ module _ (cs : List Change) (order : List ℕ) (allowed : IsAllowed cs order) wh
   pub next-done : (done : ℕ → Bool) (i n : ℕ) → OnTheWay order i done → slice_get order i ≡ Some n → OnTheWay order (i + 1) (λ k. nat_eq n k || done k)
   next-done done i n way at = λ k.
       let it = is-there i n at in
-      let place : place_in order n ≡ i = place-of order i n at (once n it.0 it.1 it.2) in
+      let index : index_in order n ≡ i = index-of order i n at (once n it.0 it.1 it.2) in
       elim (cases_eq n k) [
         | inl same ↦
-            let here : place_in order k ≡ i = ap (place_in order) (sym same) ∙ place in
-            or_left (nat_eq n k) (done k) (eq-eqb n k same) ∙ sym (lt-ltb (place_in order k) (i + 1) (omega (arith, here)))
+            let here : index_in order k ≡ i = ap (index_in order) (sym same) ∙ index in
+            or_left (nat_eq n k) (done k) (eq-eqb n k same) ∙ sym (lt-ltb (index_in order k) (i + 1) (omega (arith, here)))
         | inr other ↦
-            let apart : place_in order k ≡ i → ⊥ = λ same. other (same_Some n k (sym at ∙ ap (slice_get order) (sym same) ∙ at-place order k (omega (arith, same, slice_get_within order i n at)))) in
-            ap (λ b. b || done k) (ne_eqb n k other) ∙ way k ∙ (elim (cases_lt (place_in order k) i) [
-              | inl less ↦ lt-ltb (place_in order k) i less ∙ sym (lt-ltb (place_in order k) (i + 1) (omega (arith, less)))
-              | inr later ↦ le-ltb (place_in order k) i later ∙ sym (le-ltb (place_in order k) (i + 1) (omega (arith, later, apart)))
+            let apart : index_in order k ≡ i → ⊥ = λ same. other (same_Some n k (sym at ∙ ap (slice_get order) (sym same) ∙ at-index order k (omega (arith, same, slice_get_within order i n at)))) in
+            ap (λ b. b || done k) (ne_eqb n k other) ∙ way k ∙ (elim (cases_lt (index_in order k) i) [
+              | inl less ↦ lt-ltb (index_in order k) i less ∙ sym (lt-ltb (index_in order k) (i + 1) (omega (arith, less)))
+              | inr later ↦ le-ltb (index_in order k) i later ∙ sym (le-ltb (index_in order k) (i + 1) (omega (arith, later, apart)))
             ])
       ]
 
   pub allowed-complete : (done : ℕ → Bool) (i : ℕ) → length order ≤ i → OnTheWay order i done → is_complete cs done ≡ true
   allowed-complete done i end way =
-      all_undropped_from (λ c. done c.0) cs (λ n c at stays. let one = once n c at stays in way n ∙ lt-ltb (place_in order n) i (omega (arith, end, found-place order n (omega (arith, one)))))
+      all_undropped_from (λ c. done c.0) cs (λ n c at stays. let one = once n c at stays in way n ∙ lt-ltb (index_in order n) i (omega (arith, end, found-index order n (omega (arith, one)))))

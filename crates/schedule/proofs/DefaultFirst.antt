@@ -23,18 +23,18 @@ use Rattle.edit_change.specs.declared.change.Change.TheVariants.{Insert, InsertA
 use Rattle.edit_change.proofs.Owners.{HasRegion, owner_from, owner_region}
 use Rattle.edit_change.proofs.Paths.{same_path-true}
 use Rattle.schedule.specs.Schedule.{Numbered, respects, owned_first, gap_first, token_first, token_before, anchor_token}
-use Rattle.schedule.specs.DefaultOrder.{gap_place, document_place, fills_gap, stands_ahead, default_first}
+use Rattle.schedule.specs.DefaultOrder.{gap_path, document_path, fills_gap, stands_ahead, default_first}
 use Rattle.schedule.proofs.Carried.{replaces-targets}
 use Rattle.schedule.proofs.Gaps.{gap_first-less, same_gap-sym}
 use Rattle.schedule.proofs.Orders.{respects_to, respects_from}
 use Rattle.schedule.proofs.PathOrder.{precedes-self, all-above, all-up_to, before-first, before-next, range-behind}
 
 -- ---- what stands ahead
-path-ahead : (c d : Numbered) → precedes (document_place d.1) (document_place c.1) ≡ true → default_first c d ≡ true
+path-ahead : (c d : Numbered) → precedes (document_path d.1) (document_path c.1) ≡ true → default_first c d ≡ true
 path-ahead c d h =
-    or_left (stands_ahead d.1 c.1) (not (stands_ahead c.1 d.1) && nat_lt c.0 d.0) (or_left (precedes (document_place d.1) (document_place c.1)) (same_path (document_place d.1) (document_place c.1) && (fills_gap d.1 && not (fills_gap c.1))) h)
+    or_left (stands_ahead d.1 c.1) (not (stands_ahead c.1 d.1) && nat_lt c.0 d.0) (or_left (precedes (document_path d.1) (document_path c.1)) (same_path (document_path d.1) (document_path c.1) && (fills_gap d.1 && not (fills_gap c.1))) h)
 
--- what a replacement replaces does not stand before its place
+-- what a replacement replaces does not stand before the path that the change has
 one-behind : (p q : Path) → has_path (p ∷ []) q ≡ true → (r : Path) → precedes q r ≡ true → precedes p r ≡ true
 one-behind p q h r k =
     elim (or_cases (same_path q p) false h) [
@@ -42,7 +42,7 @@ one-behind p q h r k =
       | inr none ↦ absurd (false≢true none)
     ]
 
-targets-behind : (d : Change) (q : Path) → has_path (targets d) q ≡ true → (r : Path) → precedes q r ≡ true → precedes (document_place d) r ≡ true
+targets-behind : (d : Change) (q : Path) → has_path (targets d) q ≡ true → (r : Path) → precedes q r ≡ true → precedes (document_path d) r ≡ true
 targets-behind (Insert at e) q h = absurd (false≢true h)
 targets-behind (InsertAll at es) q h = absurd (false≢true h)
 targets-behind (Replace t e) q h = one-behind (element_of t).path q h
@@ -60,45 +60,45 @@ region-target (ReplaceWithMany (Token t) es) q h = absurd (false≢true h)
 region-target (ReplaceAll first last es) q h = h
 
 -- ---- owners
-surrounded-place : (at : Position) → precedes (anchor at).path (gap_place at) ≡ true
-surrounded-place (FirstChild n) = before-first n.path
-surrounded-place (After e) = before-next (element_of e).path
+surrounded-path : (at : Position) → precedes (anchor at).path (gap_path at) ≡ true
+surrounded-path (FirstChild n) = before-first n.path
+surrounded-path (After e) = before-next (element_of e).path
 
-surroundings-ahead : (c : Change) → AllByRecursion (λ q. precedes q (document_place c) ≡ true) (surroundings c)
-surroundings-ahead (Insert at e) = all-up_to (anchor at).path (gap_place at) (surrounded-place at)
-surroundings-ahead (InsertAll at es) = all-up_to (anchor at).path (gap_place at) (surrounded-place at)
+surroundings-ahead : (c : Change) → AllByRecursion (λ q. precedes q (document_path c) ≡ true) (surroundings c)
+surroundings-ahead (Insert at e) = all-up_to (anchor at).path (gap_path at) (surrounded-path at)
+surroundings-ahead (InsertAll at es) = all-up_to (anchor at).path (gap_path at) (surrounded-path at)
 surroundings-ahead (Replace t e) = all-above (element_of t).path
 surroundings-ahead (ReplaceWithMany t es) = all-above (element_of t).path
 surroundings-ahead (ReplaceAll first last es) = all-above (element_of first).path
 
 pub owned-default : (cs : List Change) (n m : ℕ) (c d : Change) → slice_get cs m ≡ Some d → owned_first cs (n, c) (m, d) ≡ true → default_first (n, c) (m, d) ≡ true
 owned-default cs n m c d is_d owned =
-    let P : Path → Type 0 = λ q. precedes q (document_place c) ≡ true in
+    let P : Path → Type 0 = λ q. precedes q (document_path c) ≡ true in
     let found : HasRegion P cs m = owner_region P cs c m (surroundings-ahead c) (owner_from cs m c owned) in
     let same : found.0 ≡ d = same_Some found.0 d (sym found.2 ∙ is_d) in
-    let ahead : precedes (document_place found.0) (document_place c) ≡ true = targets-behind found.0 found.1 (region-target found.0 found.1 found.3) (document_place c) found.4 in
-    path-ahead (n, c) (m, d) (ap (λ x. precedes (document_place x) (document_place c)) (sym same) ∙ ahead)
+    let ahead : precedes (document_path found.0) (document_path c) ≡ true = targets-behind found.0 found.1 (region-target found.0 found.1 found.3) (document_path c) found.4 in
+    path-ahead (n, c) (m, d) (ap (λ x. precedes (document_path x) (document_path c)) (sym same) ∙ ahead)
 
 -- ---- gaps
 record InOneGap (c d : Change) : Type 0 where
-  pub place : document_place c ≡ document_place d
+  pub path : document_path c ≡ document_path d
   pub one : fills_gap c ≡ true
   pub other : fills_gap d ≡ true
 
-gap_place-same : (at to : Position) → same_gap (position_aim at) (position_aim to) ≡ true → gap_place at ≡ gap_place to
-gap_place-same (FirstChild n) (FirstChild m) h = ap (λ p. p ++ 0 ∷ []) (same_path-true n.path m.path h)
-gap_place-same (FirstChild n) (After f) h = absurd (false≢true h)
-gap_place-same (After e) (FirstChild m) h = absurd (false≢true h)
-gap_place-same (After e) (After f) h = ap (λ p. parent_path p ++ suc (last_slot p) ∷ []) (same_path-true (element_of e).path (element_of f).path h)
+gap_path-same : (at to : Position) → same_gap (position_aim at) (position_aim to) ≡ true → gap_path at ≡ gap_path to
+gap_path-same (FirstChild n) (FirstChild m) h = ap (λ p. p ++ 0 ∷ []) (same_path-true n.path m.path h)
+gap_path-same (FirstChild n) (After f) h = absurd (false≢true h)
+gap_path-same (After e) (FirstChild m) h = absurd (false≢true h)
+gap_path-same (After e) (After f) h = ap (λ p. parent_path p ++ suc (last_slot p) ∷ []) (same_path-true (element_of e).path (element_of f).path h)
 
 in_one_gap : (c d : Change) → same_gap (aim c) (aim d) ≡ true → same_gap (aim d) (aim c) ≡ true → InOneGap c d
-in_one_gap (Insert at e) (Insert to f) h k = record { place = gap_place-same at to h; one = refl; other = refl }
-in_one_gap (Insert at e) (InsertAll to fs) h k = record { place = gap_place-same at to h; one = refl; other = refl }
+in_one_gap (Insert at e) (Insert to f) h k = record { path = gap_path-same at to h; one = refl; other = refl }
+in_one_gap (Insert at e) (InsertAll to fs) h k = record { path = gap_path-same at to h; one = refl; other = refl }
 in_one_gap (Insert at e) (Replace t f) h k = absurd (false≢true k)
 in_one_gap (Insert at e) (ReplaceWithMany t fs) h k = absurd (false≢true k)
 in_one_gap (Insert at e) (ReplaceAll first last fs) h k = absurd (false≢true k)
-in_one_gap (InsertAll at es) (Insert to f) h k = record { place = gap_place-same at to h; one = refl; other = refl }
-in_one_gap (InsertAll at es) (InsertAll to fs) h k = record { place = gap_place-same at to h; one = refl; other = refl }
+in_one_gap (InsertAll at es) (Insert to f) h k = record { path = gap_path-same at to h; one = refl; other = refl }
+in_one_gap (InsertAll at es) (InsertAll to fs) h k = record { path = gap_path-same at to h; one = refl; other = refl }
 in_one_gap (InsertAll at es) (Replace t f) h k = absurd (false≢true k)
 in_one_gap (InsertAll at es) (ReplaceWithMany t fs) h k = absurd (false≢true k)
 in_one_gap (InsertAll at es) (ReplaceAll first last fs) h k = absurd (false≢true k)
@@ -108,7 +108,7 @@ in_one_gap (ReplaceAll first last es) d h k = absurd (false≢true h)
 
 not-ahead : (c d : Change) → InOneGap c d → stands_ahead c d ≡ false
 not-ahead c d gap =
-    ap₂ (λ p b. precedes p (document_place d) || (same_path p (document_place d) && (b && not (fills_gap d)))) gap.place gap.one ∙ ap₂ (λ a b. a || (same_path (document_place d) (document_place d) && (true && not b))) (precedes-self (document_place d)) gap.other ∙ no-one (same_path (document_place d) (document_place d))
+    ap₂ (λ p b. precedes p (document_path d) || (same_path p (document_path d) && (b && not (fills_gap d)))) gap.path gap.one ∙ ap₂ (λ a b. a || (same_path (document_path d) (document_path d) && (true && not b))) (precedes-self (document_path d)) gap.other ∙ no-one (same_path (document_path d) (document_path d))
   where
     no-one : (a : Bool) → (a && false) ≡ false
     no-one true = refl
@@ -124,12 +124,12 @@ gap-default c d h =
 pub token-default : (c d : Numbered) → token_first c d ≡ true → default_first c d ≡ true
 token-default c d h = path-ahead c d (ahead c.1 h)
   where
-    at-token : (at : Position) → option_map_or (λ p. replaces p (aim d.1)) (token_before at) false ≡ true → precedes (document_place d.1) (gap_place at) ≡ true
+    at-token : (at : Position) → option_map_or (λ p. replaces p (aim d.1)) (token_before at) false ≡ true → precedes (document_path d.1) (gap_path at) ≡ true
     at-token (FirstChild n) k = absurd (false≢true k)
     at-token (After (Node n)) k = absurd (false≢true k)
-    at-token (After (Token t)) k = targets-behind d.1 t.path (sym (replaces-targets t.path d.1) ∙ k) (gap_place (After (Token t))) (before-next t.path)
+    at-token (After (Token t)) k = targets-behind d.1 t.path (sym (replaces-targets t.path d.1) ∙ k) (gap_path (After (Token t))) (before-next t.path)
 
-    ahead : (e : Change) → option_map_or (λ p. replaces p (aim d.1)) (anchor_token e) false ≡ true → precedes (document_place d.1) (document_place e) ≡ true
+    ahead : (e : Change) → option_map_or (λ p. replaces p (aim d.1)) (anchor_token e) false ≡ true → precedes (document_path d.1) (document_path e) ≡ true
     ahead (Insert at e) k = at-token at k
     ahead (InsertAll at es) k = at-token at k
     ahead (Replace t e) k = absurd (false≢true k)

@@ -1,6 +1,6 @@
 -- Orders and tables of links.
 --     Respects, respects_to, respects_from      what it says that an order keeps to a test, change by change
---     found-place                   where a number stands that is there
+--     found-index                   where a number stands that is there
 --     Leads                         links lead from one change to another
 --     Carries                       a table of links says what a test says: each link is between changes that pass, and links lead from each to each that pass
 --     respects-keeps                an order keeps to the test exactly if it keeps to the links
@@ -13,14 +13,14 @@ use Rattle.std.proofs.lemmas.Option.{none-some, slice_get_within}
 use mathlib.Core.Logic.{inl, inr}
 use Rattle.edit_change.specs.Nesting.{is_dropped}
 use Rattle.edit_change.specs.declared.change.Change.{Change}
-use Rattle.schedule.specs.Schedule.{Numbered, ListsEachOnce, respects, place_in, stands_before}
-use Rattle.schedule.specs.inner.Followers.{link, steps, ArePlaces, Keeps}
+use Rattle.schedule.specs.Schedule.{Numbered, ListsEachOnce, respects, index_in, stands_before}
+use Rattle.schedule.specs.inner.Followers.{link, steps, AreIndices, Keeps}
 use Rattle.schedule.specs.inner.Waits.{one_if}
 use Rattle.schedule.proofs.Undropped.{all-undropped, all_undropped_from, count-undropped}
 
 -- ---- an order that keeps to a test
 pub record Respects (first : Numbered → Numbered → Bool) (cs : List Change) (order : List ℕ) : Type 0 where
-  pub at : (n m : ℕ) (c d : Change) → slice_get cs n ≡ Some c → is_dropped cs c ≡ false → slice_get cs m ≡ Some d → is_dropped cs d ≡ false → first (n, c) (m, d) ≡ true → place_in order n < place_in order m
+  pub at : (n m : ℕ) (c d : Change) → slice_get cs n ≡ Some c → is_dropped cs c ≡ false → slice_get cs m ≡ Some d → is_dropped cs d ≡ false → first (n, c) (m, d) ≡ true → index_in order n < index_in order m
 
 module _ (first : Numbered → Numbered → Bool) (cs : List Change) (order : List ℕ) where
   abbrev row : Numbered → Numbered → Bool
@@ -32,49 +32,49 @@ module _ (first : Numbered → Numbered → Bool) (cs : List Change) (order : Li
         let one : row (n, c) (m, d) ≡ true = all-undropped (row (n, c)) cs (all-undropped (λ e. list_all (row e) _) cs h n c is_c c_stays) m d is_d d_stays in
         elim (or_cases (not (first (n, c) (m, d))) (stands_before order n m) one) [
           | inl never ↦ absurd (false≢true (sym (not_from_true (first (n, c) (m, d)) comes) ∙ never))
-          | inr stands ↦ ltb-true (place_in order n) (place_in order m) stands
+          | inr stands ↦ ltb-true (index_in order n) (index_in order m) stands
         ];
   }
 
   pub respects_from : Respects first cs order → respects first cs order ≡ true
   respects_from r = all_undropped_from (λ e. list_all (row e) _) cs (λ n c is_c c_stays. all_undropped_from (row (n, c)) cs (λ m d is_d d_stays.
       elim (cases_Bool (first (n, c) (m, d))) [
-        | inl comes ↦ or_right (not (first (n, c) (m, d))) (stands_before order n m) (lt-ltb (place_in order n) (place_in order m) (r.at n m c d is_c c_stays is_d d_stays comes))
+        | inl comes ↦ or_right (not (first (n, c) (m, d))) (stands_before order n m) (lt-ltb (index_in order n) (index_in order m) (r.at n m c d is_c c_stays is_d d_stays comes))
         | inr never ↦ or_left (not (first (n, c) (m, d))) (stands_before order n m) (not_from_false (first (n, c) (m, d)) never)
       ]))
 
--- ---- places
-missing-place : (order : List ℕ) (n : ℕ) → count_by (nat_eq n) order ≡ 0 → place_in order n ≡ length order
-missing-place [] n h = refl
-missing-place (x ∷ order) n h =
+-- ---- indices
+missing-index : (order : List ℕ) (n : ℕ) → count_by (nat_eq n) order ≡ 0 → index_in order n ≡ length order
+missing-index [] n h = refl
+missing-index (x ∷ order) n h =
     let parts = sum_by-cons (λ y. one_if (nat_eq n y)) x order in
     elim (cases_Bool (nat_eq n x)) [
       | inl here ↦ let one = ap one_if here in absurd (omega (arith, h, parts, one))
       | inr other ↦
           let none = ap one_if other in
-          let rest = missing-place order n (omega (arith, h, parts, none)) in
-          ap (λ b. cond (not b) (1 + place_in order n) 0) other ∙ omega (arith, rest)
+          let rest = missing-index order n (omega (arith, h, parts, none)) in
+          ap (λ b. cond (not b) (1 + index_in order n) 0) other ∙ omega (arith, rest)
     ]
 
-pub found-place : (order : List ℕ) (n : ℕ) → 0 < count_by (nat_eq n) order → place_in order n < length order
-found-place [] n h = absurd (omega (arith, h))
-found-place (x ∷ order) n h =
+pub found-index : (order : List ℕ) (n : ℕ) → 0 < count_by (nat_eq n) order → index_in order n < length order
+found-index [] n h = absurd (omega (arith, h))
+found-index (x ∷ order) n h =
     let parts = sum_by-cons (λ y. one_if (nat_eq n y)) x order in
     elim (cases_Bool (nat_eq n x)) [
-      | inl here ↦ let first : place_in (x ∷ order) n ≡ 0 = ap (λ b. cond (not b) (1 + place_in order n) 0) here in omega (arith, first)
+      | inl here ↦ let first : index_in (x ∷ order) n ≡ 0 = ap (λ b. cond (not b) (1 + index_in order n) 0) here in omega (arith, first)
       | inr other ↦
           let none = ap one_if other in
-          let rest = found-place order n (omega (arith, h, parts, none)) in
-          let next : place_in (x ∷ order) n ≡ 1 + place_in order n = ap (λ b. cond (not b) (1 + place_in order n) 0) other in
+          let rest = found-index order n (omega (arith, h, parts, none)) in
+          let next : index_in (x ∷ order) n ≡ 1 + index_in order n = ap (λ b. cond (not b) (1 + index_in order n) 0) other in
           omega (arith, rest, next)
     ]
 
 -- what is dropped stands nowhere, so all else stands before it
-before-dropped : (cs : List Change) (order : List ℕ) → ListsEachOnce cs order → (n m : ℕ) (c d : Change) → slice_get cs n ≡ Some c → is_dropped cs c ≡ false → slice_get cs m ≡ Some d → is_dropped cs d ≡ true → place_in order n < place_in order m
+before-dropped : (cs : List Change) (order : List ℕ) → ListsEachOnce cs order → (n m : ℕ) (c d : Change) → slice_get cs n ≡ Some c → is_dropped cs c ≡ false → slice_get cs m ≡ Some d → is_dropped cs d ≡ true → index_in order n < index_in order m
 before-dropped cs order each n m c d is_c c_stays is_d d_gone =
     let one : count_by (nat_eq n) order ≡ 1 = each n ∙ count-undropped cs n c is_c ∙ ap (λ b. one_if (not b)) c_stays in
     let none : count_by (nat_eq m) order ≡ 0 = each m ∙ count-undropped cs m d is_d ∙ ap (λ b. one_if (not b)) d_gone in
-    omega (arith, found-place order n (omega (arith, one)), missing-place order m none)
+    omega (arith, found-index order n (omega (arith, one)), missing-index order m none)
 
 -- ---- links
 abbrev pub Leads : List (Option ℕ) → ℕ → ℕ → Type 0
@@ -98,33 +98,33 @@ pub record Carries (first : Numbered → Numbered → Bool) (cs : List Change) (
   pub sound : (n m : ℕ) → link table n ≡ Some m → (c : Change) × (d : Change) × (slice_get cs n ≡ Some c) × (is_dropped cs c ≡ false) × (slice_get cs m ≡ Some d) × (first (n, c) (m, d) ≡ true)
   pub covers : (n m : ℕ) (c d : Change) → slice_get cs n ≡ Some c → is_dropped cs c ≡ false → slice_get cs m ≡ Some d → is_dropped cs d ≡ false → first (n, c) (m, d) ≡ true → Leads table n m
 
-keeps-along : (places : List ℕ) (table : List (Option ℕ)) → Keeps places table → (k n m : ℕ) → steps table (suc k) n ≡ Some m → slice_index places n < slice_index places m
-keeps-along places table keeps zero n m h =
+keeps-along : (indices : List ℕ) (table : List (Option ℕ)) → Keeps indices table → (k n m : ℕ) → steps table (suc k) n ≡ Some m → slice_index indices n < slice_index indices m
+keeps-along indices table keeps zero n m h =
     let one = first_step table n 0 m h in
     keeps n m (one.1 ∙ one.2)
-keeps-along places table keeps (suc k) n m h =
+keeps-along indices table keeps (suc k) n m h =
     let one = first_step table n (suc k) m h in
-    omega (arith, keeps n one.0 one.1, keeps-along places table keeps k one.0 m one.2)
+    omega (arith, keeps n one.0 one.1, keeps-along indices table keeps k one.0 m one.2)
 
-pub respects-keeps : (first : Numbered → Numbered → Bool) (cs : List Change) (order places : List ℕ) (table : List (Option ℕ)) → ListsEachOnce cs order → ArePlaces order (length cs) places → Carries first cs table → IsTrue (respects first cs order) ↔ Keeps places table
-respects-keeps first cs order places table each are carries = (to, from)
+pub respects-keeps : (first : Numbered → Numbered → Bool) (cs : List Change) (order indices : List ℕ) (table : List (Option ℕ)) → ListsEachOnce cs order → AreIndices order (length cs) indices → Carries first cs table → IsTrue (respects first cs order) ↔ Keeps indices table
+respects-keeps first cs order indices table each are carries = (to, from)
   where
-    to : respects first cs order ≡ true → Keeps places table
+    to : respects first cs order ≡ true → Keeps indices table
     to h n m is =
         let ends = carries.sound n m is in
         let n_at = are.at n (slice_get_within cs n ends.0 ends.2) in
         let m_at = are.at m (slice_get_within cs m ends.1 ends.4) in
-        let less : place_in order n < place_in order m = elim (cases_Bool (is_dropped cs ends.1)) [
+        let less : index_in order n < index_in order m = elim (cases_Bool (is_dropped cs ends.1)) [
           | inl gone ↦ before-dropped cs order each n m ends.0 ends.1 ends.2 ends.3 ends.4 gone
           | inr stays ↦ (respects_to first cs order h).at n m ends.0 ends.1 ends.2 ends.3 ends.4 stays ends.5
         ] in
         omega (arith, less, n_at, m_at)
 
-    from : Keeps places table → respects first cs order ≡ true
+    from : Keeps indices table → respects first cs order ≡ true
     from keeps = respects_from first cs order (record {
       at = λ n m c d is_c c_stays is_d d_stays comes.
           let on = carries.covers n m c d is_c c_stays is_d d_stays comes in
-          omega (arith, keeps-along places table keeps on.0 n m on.1, are.at n (slice_get_within cs n c is_c), are.at m (slice_get_within cs m d is_d));
+          omega (arith, keeps-along indices table keeps on.0 n m on.1, are.at n (slice_get_within cs n c is_c), are.at m (slice_get_within cs m d is_d));
     })
 
 pub links-below : (first : Numbered → Numbered → Bool) (cs : List Change) (table : List (Option ℕ)) → Carries first cs table → (n m : ℕ) → link table n ≡ Some m → m < length cs

@@ -15,7 +15,7 @@ use Rattle.edit_change.specs.declared.change.Change.{Change}
 use Rattle.edit_change.specs.declared.change.Change.TheVariants.{Insert, InsertAll, Replace, ReplaceWithMany, ReplaceAll}
 use Rattle.edit_change.proofs.Paths.{same_path-true, same_path_from}
 use Rattle.schedule.specs.Schedule.{Numbered}
-use Rattle.schedule.specs.DefaultOrder.{document_place, fills_gap, default_first}
+use Rattle.schedule.specs.DefaultOrder.{document_path, fills_gap, default_first}
 use Rattle.schedule.proofs.PathOrder.{precedes-compared, precedes-self}
 use Rattle.schedule.specs.inner.Turns.{ShownTurn, turn_of, turn_in, side_of}
 use Rattle.schedule.specs.declared.document_order.Side.{Side}
@@ -68,10 +68,10 @@ sides-decide false false n m = less-compared n m
 
 module _ (c d : Numbered) where
   abbrev here : Path
-  here = document_place c.1
+  here = document_path c.1
 
   abbrev there : Path
-  there = document_place d.1
+  there = document_path d.1
 
   abbrev rest : Ordering
   rest = ordering_then (nat_cmp (rank (side_of d.1)) (rank (side_of c.1))) (nat_cmp c.0 d.0)

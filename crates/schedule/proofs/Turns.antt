@@ -1,6 +1,6 @@
 -- The turns of changes, one after another.
 --     front-parent                  all of a path but its last slot
---     gap-first, gap-behind         the place of a gap, by its form
+--     gap-first, gap-behind         the index of a gap, by its form
 --     turns-kept, turns-passed      the turns of one change more
 use Rattle.std.specs.Prelude.{◌≡◌, ◌<◌, ◌+◌, ◌-◌, ℕ, suc, true, false, not, cond, List, [], ◌∷◌, ◌++◌, map, filter, length, take, Some, None, refl}
 use Rattle.std.specs.List.{enumerate_from}
@@ -18,12 +18,12 @@ use Rattle.edit_change.specs.declared.position.Position.{Position}
 use Rattle.edit_change.specs.declared.change.Change.{Change}
 use Rattle.edit_change.proofs.Positions.{push-of-take}
 use Rattle.schedule.specs.Schedule.{Numbered}
-use Rattle.schedule.specs.DefaultOrder.{gap_place}
+use Rattle.schedule.specs.DefaultOrder.{gap_path}
 use Rattle.schedule.specs.inner.Turns.{turn_in, turn_of}
 use Rattle.schedule.specs.declared.document_order.Turn.{Turn}
 use Rattle.schedule.proofs.Tables.{enumerated-push}
 
--- ---- the place of a gap
+-- ---- the index of a gap
 pub front-parent : (p : Path) (n : ℕ) → n ≡ length p - 1 → take n p ≡ parent_path p
 front-parent [] n is = ap (λ k. take k []) is
 front-parent (i ∷ []) n is = ap (λ k. take k (i ∷ [])) is
@@ -31,12 +31,12 @@ front-parent (i ∷ j ∷ p) n is =
     let more : length (i ∷ j ∷ p) - 1 ≡ suc (length (j ∷ p) - 1) = omega arith in
     ap (λ k. take k (i ∷ j ∷ p)) (is ∙ more) ∙ ap (λ q. i ∷ q) (front-parent (j ∷ p) (length (j ∷ p) - 1) refl)
 
-pub gap-behind : (at : Position) (e : SyntaxElement) (slot : ℕ) → after_of at ≡ Some e → slot ≡ suc (last_slot (element_of e).path) → parent_path (anchor at).path ++ slot ∷ [] ≡ gap_place at
+pub gap-behind : (at : Position) (e : SyntaxElement) (slot : ℕ) → after_of at ≡ Some e → slot ≡ suc (last_slot (element_of e).path) → parent_path (anchor at).path ++ slot ∷ [] ≡ gap_path at
 gap-behind (FirstChild n) e slot is next = absurd (none-some e is)
 gap-behind (After f) e slot is next =
     ap {A = ℕ} {B = Path} (λ k. parent_path (element_of f).path ++ k ∷ []) (next ∙ ap (λ x. suc (last_slot (element_of x).path)) (sym (same_Some f e is)))
 
-pub gap-first : (at : Position) → after_of at ≡ None → (anchor at).path ++ 0 ∷ [] ≡ gap_place at
+pub gap-first : (at : Position) → after_of at ≡ None → (anchor at).path ++ 0 ∷ [] ≡ gap_path at
 gap-first (FirstChild n) is = refl
 gap-first (After f) is = absurd (none-some f (sym is))
 

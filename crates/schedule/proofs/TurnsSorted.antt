@@ -16,12 +16,12 @@ use mathlib.Core.Logic.{inl, inr}
 use Rattle.edit_change.specs.Nesting.{is_dropped}
 use Rattle.edit_change.specs.declared.change.Change.{Change}
 use Rattle.edit_change.proofs.Lists.{all_filter, all_weaker, all_enumerated}
-use Rattle.schedule.specs.Schedule.{Numbered, undropped, ListsEachOnce, place_in, respects, owned_first, gap_first, token_first, IsAllowed}
+use Rattle.schedule.specs.Schedule.{Numbered, undropped, ListsEachOnce, index_in, respects, owned_first, gap_first, token_first, IsAllowed}
 use Rattle.schedule.specs.DefaultOrder.{default_first, IsDefaultOrder}
 use Rattle.schedule.specs.inner.Turns.{ShownTurn, turn_in, turn_of, number_in}
 use Rattle.schedule.specs.declared.document_order.Turn.{Turn}
 use Rattle.schedule.proofs.DefaultFirst.{owned-default, gap-default, token-default, respects-weaker}
-use Rattle.schedule.proofs.Orders.{respects_from, found-place}
+use Rattle.schedule.proofs.Orders.{respects_from, found-index}
 use Rattle.schedule.proofs.Tables.{has_at}
 use Rattle.schedule.proofs.TurnOrder.{shown_cmp, shown-total, compares-shown, default-less}
 use Rattle.schedule.specs.inner.Waits.{one_if}
@@ -81,12 +81,12 @@ module _ (cs : List Change) (turns sorted : List Turn) (told : map turn_in turns
       let turns_shown = all-mapped IsShown turn_in turns (subst (AllByRecursion IsShown) (sym told) (all_mapped_from IsShown turn_of (undropped cs) shown)) in
       All-permutation (λ t. IsShown (turn_in t)) turns (reverse sorted) turned (All-from_recursion (λ t. IsShown (turn_in t)) turns turns_shown)
 
-  -- the turn at the place of a change is its own
-  turn-at : (n : ℕ) (c : Change) → slice_get cs n ≡ Some c → is_dropped cs c ≡ false → (t : Turn) × (slice_get (reverse sorted) (place_in order n) ≡ Some t) × (turn_in t ≡ turn_of (n, c))
+  -- the turn at the index of a change is its own
+  turn-at : (n : ℕ) (c : Change) → slice_get cs n ≡ Some c → is_dropped cs c ≡ false → (t : Turn) × (slice_get (reverse sorted) (index_in order n) ≡ Some t) × (turn_in t ≡ turn_of (n, c))
   turn-at n c is stays =
-      let i = place_in order n in
+      let i = index_in order n in
       let one : count_by (nat_eq n) order ≡ 1 = each-listed n ∙ count-undropped cs n c is ∙ ap (λ b. one_if (not b)) stays in
-      let within : i < length order = found-place order n (omega (arith, one)) in
+      let within : i < length order = found-index order n (omega (arith, one)) in
       let long = length-map (reverse sorted) number_in in
       let at = has_at (reverse sorted) i (omega (arith, within, long)) in
       let t = at.0 in
@@ -119,10 +119,10 @@ module _ (cs : List Change) (turns sorted : List Turn) (told : map turn_in turns
       at = λ n m c d is_c c_stays is_d d_stays comes.
           let s = turn-at n c is_c c_stays in
           let t = turn-at m d is_d d_stays in
-          elim (cases_lt (place_in order n) (place_in order m)) [
+          elim (cases_lt (index_in order n) (index_in order m)) [
             | inl less ↦ less
             | inr more ↦
-                let never : below t.0 s.0 ≡ false = none-before (place_in order m) (place_in order n) t.0 s.0 more t.1 s.1 in
+                let never : below t.0 s.0 ≡ false = none-before (index_in order m) (index_in order n) t.0 s.0 more t.1 s.1 in
                 let turns_less : below t.0 s.0 ≡ true = ap₂ (λ x y. is_lt (shown_cmp x y)) t.2 s.2 ∙ sym (default-less (n, c) (m, d)) ∙ comes in
                 absurd (false≢true (sym never ∙ turns_less))
           ];

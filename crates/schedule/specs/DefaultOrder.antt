@@ -1,6 +1,6 @@
 -- The order in which changes are carried out where none is asked for: from the last in the document to the first.
---     gap_place                     the path of the slot that a gap stands before
---     document_place                of a change: this path, or that of the first element that it replaces
+--     gap_path                      the path of the slot that a gap stands before
+--     document_path                 of a change: this path, or that of the first element that it replaces
 --     fills_gap                     the change is an insert
 --     stands_ahead                  document order of changes: a gap stands before its slot
 --     default_first                 the first change comes before the second: it stands behind it, or both fill one gap and it was recorded first
@@ -16,16 +16,16 @@ use Rattle.edit_change.specs.declared.change.Change.TheVariants.{Insert, InsertA
 use Rattle.schedule.specs.Schedule.{Numbered, ListsEachOnce, respects}
 
 -- the gap behind an element is that before the next slot
-abbrev pub gap_place : Position → Path
-gap_place (FirstChild n) = n.path ++ 0 ∷ []
-gap_place (After e) = parent_path (element_of e).path ++ suc (last_slot (element_of e).path) ∷ []
+abbrev pub gap_path : Position → Path
+gap_path (FirstChild n) = n.path ++ 0 ∷ []
+gap_path (After e) = parent_path (element_of e).path ++ suc (last_slot (element_of e).path) ∷ []
 
-abbrev pub document_place : Change → Path
-document_place (Insert at e) = gap_place at
-document_place (InsertAll at es) = gap_place at
-document_place (Replace t e) = aim_path (Replace t e)
-document_place (ReplaceWithMany t es) = aim_path (ReplaceWithMany t es)
-document_place (ReplaceAll first last es) = aim_path (ReplaceAll first last es)
+abbrev pub document_path : Change → Path
+document_path (Insert at e) = gap_path at
+document_path (InsertAll at es) = gap_path at
+document_path (Replace t e) = aim_path (Replace t e)
+document_path (ReplaceWithMany t es) = aim_path (ReplaceWithMany t es)
+document_path (ReplaceAll first last es) = aim_path (ReplaceAll first last es)
 
 abbrev pub fills_gap : Change → Bool
 fills_gap (Insert at e) = true
@@ -36,8 +36,8 @@ fills_gap (ReplaceAll first last es) = false
 
 abbrev pub stands_ahead : Change → Change → Bool
 stands_ahead c d =
-    precedes (document_place c) (document_place d)
-    || (same_path (document_place c) (document_place d) && (fills_gap c && not (fills_gap d)))
+    precedes (document_path c) (document_path d)
+    || (same_path (document_path c) (document_path d) && (fills_gap c && not (fills_gap d)))
 
 abbrev pub default_first : Numbered → Numbered → Bool
 default_first c d = stands_ahead d.1 c.1 || (not (stands_ahead c.1 d.1) && nat_lt c.0 d.0)

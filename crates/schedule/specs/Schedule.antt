@@ -5,7 +5,7 @@
 --     last_in_gap                   of two inserts of one gap, the one that stands last
 --     token_before, anchor_token    the token that a position is behind; that an insert stands behind
 --     comes_first                   one of these
---     place_in                      where a number stands in the order, or the length of the order
+--     index_in                      where a number stands in the order, or the length of the order
 --     stands_before                 in the order, the one number stands before the other
 --     ListsEachOnce, respects       the order has each undropped change once and nothing else; it keeps to such a test
 --     IsAllowed                     an allowed order
@@ -63,11 +63,11 @@ abbrev pub comes_first : List Change → Numbered → Numbered → Bool
 comes_first cs c d = owned_first cs c d || gap_first c d || token_first c d
 
 -- ---- orders
-abbrev pub place_in : List ℕ → ℕ → ℕ
-place_in order c = position_or_len (nat_eq c) order
+abbrev pub index_in : List ℕ → ℕ → ℕ
+index_in order c = position_or_len (nat_eq c) order
 
 abbrev pub stands_before : List ℕ → ℕ → ℕ → Bool
-stands_before order c d = nat_lt (place_in order c) (place_in order d)
+stands_before order c d = nat_lt (index_in order c) (index_in order d)
 
 abbrev pub ListsEachOnce : List Change → List ℕ → Type 0
 ListsEachOnce cs order = (n : ℕ) → count_by (nat_eq n) order ≡ count_by (λ c. nat_eq n c.0) (undropped cs)

@@ -1,7 +1,7 @@
 ghost use Rattle.std.specs.Prelude.{◌≡◌, map, reverse, IfOk};
 ghost use Rattle.edit_change.specs.inner.Fate.{fate};
 ghost use Rattle.schedule.specs.Schedule.{IsAllowed, undropped};
-ghost use Rattle.schedule.specs.DefaultOrder.{document_place, gap_place, IsDefaultOrder};
+ghost use Rattle.schedule.specs.DefaultOrder.{document_path, gap_path, IsDefaultOrder};
 ghost use Rattle.schedule.specs.inner.Turns.{turn_of, turn_in, number_in, side_of};
 
 use edit_change::{Change, Fate, Position, slot_after};
@@ -26,8 +26,8 @@ struct Turn {
 }
 
 // The path of the slot that a gap stands before.
-fn gap_place(alloc: Global, position: &Position) -> Result<Vec<usize>, AllocError>
-    ensures { IfOk result (λ v. v.items ≡ gap_place position.now) }
+fn gap_path(alloc: Global, position: &Position) -> Result<Vec<usize>, AllocError>
+    ensures { IfOk result (λ v. v.items ≡ gap_path position.now) }
 {
     let mut path = Vec::from_slice(alloc, position.anchor())?;
     let slot = match position.after_of() {
@@ -41,13 +41,13 @@ fn gap_place(alloc: Global, position: &Position) -> Result<Vec<usize>, AllocErro
     Ok(path)
 }
 
-// The path of the slot at the place of a change: the first one that it replaces, or the one behind its gap.
-fn document_place(alloc: Global, change: &Change) -> Result<Vec<usize>, AllocError>
-    ensures { IfOk result (λ v. v.items ≡ document_place change.now) }
+// The path of the slot where a change begins: the first one that it replaces, or the one behind its gap.
+fn document_path(alloc: Global, change: &Change) -> Result<Vec<usize>, AllocError>
+    ensures { IfOk result (λ v. v.items ≡ document_path change.now) }
 {
     match change {
-        Change::Insert(position, _) => gap_place(alloc, position),
-        Change::InsertAll(position, _) => gap_place(alloc, position),
+        Change::Insert(position, _) => gap_path(alloc, position),
+        Change::InsertAll(position, _) => gap_path(alloc, position),
         Change::Replace(_, _) => Vec::from_slice(alloc, change.aim_path()),
         Change::ReplaceWithMany(_, _) => Vec::from_slice(alloc, change.aim_path()),
         Change::ReplaceAll(_, _, _) => Vec::from_slice(alloc, change.aim_path()),
@@ -70,7 +70,7 @@ fn turn_of(alloc: Global, change: &Change, number: usize) -> Result<Turn, AllocE
     ensures { IfOk result (λ t. turn_in t ≡ turn_of (number, change.now)) }
 {
     Ok(Turn {
-        path: document_place(alloc, change)?,
+        path: document_path(alloc, change)?,
         side: side_of(change),
         number: Reverse(number),
     })

@@ -4,7 +4,7 @@ ghost use Rattle.edit_change.specs.Nesting.{first_clash};
 ghost use Rattle.edit_change.specs.inner.Fate.{fate, is_dropped_in};
 ghost use Rattle.schedule.specs.Schedule.{ListsEachOnce, IsAllowed};
 ghost use Rattle.schedule.specs.OrderRefusal.{OrderRefuses};
-ghost use Rattle.schedule.specs.inner.Followers.{ArePlaces, Keeps, HasLinksBelow};
+ghost use Rattle.schedule.specs.inner.Followers.{AreIndices, Keeps, HasLinksBelow};
 
 use crate::followers::Followers;
 use crate::order_error::OrderError;
@@ -46,29 +46,29 @@ fn lists_each_once(
 }
 
 // Where each number below this count stands in an order; the length of the order where it is missing. Goes from the last
-// place to the first, so that the first one stays.
-fn places(alloc: Global, count: usize, order: &[usize]) -> Result<Vec<usize>, AllocError>
-    ensures { IfOk result (λ v. ArePlaces order.now count v.items) }
+// index to the first, so that the first one stays.
+fn indices(alloc: Global, count: usize, order: &[usize]) -> Result<Vec<usize>, AllocError>
+    ensures { IfOk result (λ v. AreIndices order.now count v.items) }
 {
-    let mut places = vec![in alloc; order.len(); count]?;
-    for place in (0..order.len()).rev() {
-        let number = order[place];
+    let mut indices = vec![in alloc; order.len(); count]?;
+    for index in (0..order.len()).rev() {
+        let number = order[index];
         if number < count {
-            places[number] = place;
+            indices[number] = index;
         }
     }
-    Ok(places)
+    Ok(indices)
 }
 
 // Whether each change stands before the one that has to wait for it.
-fn keeps(places: &[usize], links: &[Option<usize>]) -> bool
-    requires long { length links.now ≤ length places.now }
-    requires within { HasLinksBelow (length places.now) links.now }
-    ensures { IsTrue result ↔ Keeps places.now links.now }
+fn keeps(indices: &[usize], links: &[Option<usize>]) -> bool
+    requires long { length links.now ≤ length indices.now }
+    requires within { HasLinksBelow (length indices.now) links.now }
+    ensures { IsTrue result ↔ Keeps indices.now links.now }
 {
     for (number, link) in links.iter().enumerate() {
         if let Some(after) = *link {
-            if places[after] <= places[number] {
+            if indices[after] <= indices[number] {
                 return false;
             }
         }
@@ -97,15 +97,15 @@ pub fn check(
     if !lists_each_once(alloc, changes, fates, order)? {
         return Err(OrderError::NotEachOnce);
     }
-    let places = places(alloc, changes.len(), order)?;
+    let indices = indices(alloc, changes.len(), order)?;
     let followers = Followers::of(alloc, changes, fates)?;
-    if !keeps(&places, &followers.owner) {
+    if !keeps(&indices, &followers.owner) {
         return Err(OrderError::OwnerTooEarly);
     }
-    if !keeps(&places, &followers.next_in_gap) {
+    if !keeps(&indices, &followers.next_in_gap) {
         return Err(OrderError::GapOutOfOrder);
     }
-    if !keeps(&places, &followers.replacement) {
+    if !keeps(&indices, &followers.replacement) {
         return Err(OrderError::TokenTooEarly);
     }
     Ok(())

@@ -24,7 +24,7 @@ use Rattle.rewriting.specs.inner.Pass.{kind_only}
 use Rattle.rewriting.specs.Rewriting.{NumberedAim, numbers, inserts_at, replacements_at, is_replaced, gap_order, rewritten}
 use Rattle.stepping.specs.inner.Splices.{spliced, updated_at}
 use Rattle.stepping.proofs.Edits.{Edits, below, below_path, taken, edits_of, rewritten_is}
-use Rattle.stepping.proofs.Places.{to_gap, to_slot, new_path, Keeps, keeps_from, Elsewhere}
+use Rattle.stepping.proofs.CurrentPaths.{to_gap, to_slot, new_path, Keeps, keeps_from, Elsewhere}
 use Rattle.stepping.proofs.Steps.{Inserted, Replaced, step-inserted, step-replaced}
 
 -- ---- paths

@@ -24,7 +24,7 @@ use Rattle.stepping.specs.Stage.{is_child, is_live}
 use Rattle.stepping.specs.declared.done.Among.{Among}
 use Rattle.stepping.specs.declared.done.Among.TheVariants.{Gap, Slots}
 use Rattle.stepping.specs.declared.done.Done.{Done}
-use Rattle.stepping.specs.inner.Targets.{Child, count_in, child_count, child_in, child_at, live_target, Place}
+use Rattle.stepping.specs.inner.Targets.{Child, count_in, child_count, child_in, child_at, live_target, Site}
 use Rattle.stepping.proofs.AimSteps.{same_path_from, range, elsewhere-insert, other_gaps, slots, elsewhere-replace, gaps_over, slot_outside, same_gap, same_slot}
 use Rattle.stepping.proofs.Stepping.{DeadAt}
 
@@ -125,7 +125,7 @@ over_parent i q ps = ap (λ x. parents (Over (x ∷ ps))) (parent-last i q)
 over_live : (t : SyntaxTree) (i : ℕ) (q : Path) (ps : List Path) → is_live t (Over ((parent_path (i ∷ q) ++ last_slot (i ∷ q) ∷ []) ∷ ps)) ≡ is_child t (i ∷ q)
 over_live t i q ps = ap (is_child t) (parent-last i q)
 
-found-first : (t : SyntaxTree) (p : Path) (b : Place) (o : Option SyntaxTree) → at t p ≡ o → option_map (λ count. (p, Gap 0)) (option_and_then count_in o) ≡ Some b → IsLive t (FirstIn p) b.0 b.1
+found-first : (t : SyntaxTree) (p : Path) (b : Site) (o : Option SyntaxTree) → at t p ≡ o → option_map (λ count. (p, Gap 0)) (option_and_then count_in o) ≡ Some b → IsLive t (FirstIn p) b.0 b.1
 found-first t p b None there h = cc
 found-first t p b (Some (Token k s)) there h = cc
 found-first t p b (Some (Node k f)) there h =
@@ -149,11 +149,11 @@ module _ (t : SyntaxTree) (i : ℕ) (q : Path) where
   some-child : (c : Child) → child_at t (i ∷ q) ≡ Some c → is_child t (i ∷ q) ≡ true
   some-child c h = child-live t i q ∙ ap is_some h
 
-  found-behind : (b : Place) (o : Option Child) → child_at t (i ∷ q) ≡ o → option_map (λ c. (c.parent, Gap (suc c.slot))) o ≡ Some b → IsLive t (Behind (i ∷ q)) b.0 b.1
+  found-behind : (b : Site) (o : Option Child) → child_at t (i ∷ q) ≡ o → option_map (λ c. (c.parent, Gap (suc c.slot))) o ≡ Some b → IsLive t (Behind (i ∷ q)) b.0 b.1
   found-behind b None was h = cc
   found-behind b (Some c) was h =
       let found = is-found t parent last c (at t parent) refl was in
-      let whole : ◌≡◌ {A = Place} (c.parent, Gap (suc c.slot)) (parent, Gap (suc last)) = ap (λ x. (x.parent, Gap (suc x.slot))) found.is in
+      let whole : ◌≡◌ {A = Site} (c.parent, Gap (suc c.slot)) (parent, Gap (suc last)) = ap (λ x. (x.parent, Gap (suc x.slot))) found.is in
       let here : IsLive t (Behind (i ∷ q)) parent (Gap (suc last)) = record {
         kind = found.kind;
         children = found.children;
@@ -164,12 +164,12 @@ module _ (t : SyntaxTree) (i : ℕ) (q : Path) where
       } in
       subst (λ x. IsLive t (Behind (i ∷ q)) x.0 x.1) (sym whole ∙ same_Some (c.parent, Gap (suc c.slot)) b h) here
 
-  found-over : (n : ℕ) (b : Place) (o : Option Child) → child_at t (i ∷ q) ≡ o → option_map (λ c. (c.parent, Slots c.slot (min (suc n) c.left))) o ≡ Some b → IsLive t (Over (range parent last (suc n))) b.0 b.1
+  found-over : (n : ℕ) (b : Site) (o : Option Child) → child_at t (i ∷ q) ≡ o → option_map (λ c. (c.parent, Slots c.slot (min (suc n) c.left))) o ≡ Some b → IsLive t (Over (range parent last (suc n))) b.0 b.1
   found-over n b None was h = cc
   found-over n b (Some c) was h =
       let found = is-found t parent last c (at t parent) refl was in
       let count = length (trees found.children) in
-      let whole : ◌≡◌ {A = Place} (c.parent, Slots c.slot (min (suc n) c.left)) (parent, Slots last (min (suc n) (count - last))) = ap (λ x. (x.parent, Slots x.slot (min (suc n) x.left))) found.is in
+      let whole : ◌≡◌ {A = Site} (c.parent, Slots c.slot (min (suc n) c.left)) (parent, Slots last (min (suc n) (count - last))) = ap (λ x. (x.parent, Slots x.slot (min (suc n) x.left))) found.is in
       let inside : last < count = found.within in
       let here : IsLive t (Over (range parent last (suc n))) parent (Slots last (min (suc n) (count - last))) = record {
         kind = found.kind;
@@ -189,7 +189,7 @@ module _ (t : SyntaxTree) (i : ℕ) (q : Path) where
       } in
       subst (λ x. IsLive t (Over (range parent last (suc n))) x.0 x.1) (sym whole ∙ same_Some (c.parent, Slots c.slot (min (suc n) c.left)) b h) here
 
-pub found-live : (t : SyntaxTree) (p : Path) (w : AimForm) (b : Place) → live_target t p w ≡ Some b → IsLive t (aim_in p w) b.0 b.1
+pub found-live : (t : SyntaxTree) (p : Path) (w : AimForm) (b : Site) → live_target t p w ≡ Some b → IsLive t (aim_in p w) b.0 b.1
 found-live t p form.FirstIn b h = found-first t p b (at t p) refl h
 found-live t [] form.Behind b h = cc
 found-live t (i ∷ q) form.Behind b h = found-behind t i q b (child_at t (i ∷ q)) refl h

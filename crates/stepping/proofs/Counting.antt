@@ -18,10 +18,10 @@ use Rattle.rewriting.specs.Rewriting.{NumberedAim, replacements_at, is_replaced,
 use Rattle.rewriting.specs.inner.Pass.{kind_only}
 use Rattle.stepping.specs.declared.done.Among.TheVariants.{Gap, Slots}
 use Rattle.stepping.specs.declared.done.Done.{Done}
-use Rattle.stepping.specs.inner.Places.{removed, added, removed_before, added_before, start}
+use Rattle.stepping.specs.inner.CurrentPaths.{removed, added, removed_before, added_before, start}
 use Rattle.stepping.specs.inner.Counts.{kept_slots, put_before, Counts, in_slot, IsCounted}
 use Rattle.stepping.proofs.Edits.{Edits, below_path, taken, edits_of}
-use Rattle.stepping.proofs.Places.{width, widths, to_gap, to_slot}
+use Rattle.stepping.proofs.CurrentPaths.{width, widths, to_gap, to_slot}
 use Rattle.stepping.proofs.Steps.{Inserted, Replaced}
 
 -- ---- what edits say of the node at the top

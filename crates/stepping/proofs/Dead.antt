@@ -6,7 +6,7 @@ use Rattle.std.proofs.Common.{ap, ap₂, sym, subst, arith}
 use Rattle.green_tree.specs.Path.{Path}
 use Rattle.green_tree.specs.Tree.{Forest, Token, Node, end, more, SyntaxTree, forest, trees, at}
 use Rattle.stepping.proofs.Edits.{Edits, below, below_path, filled, remade, remade_from}
-use Rattle.stepping.proofs.Places.{same_item, from-same, Elsewhere, Beside, beside, elsewhere_below}
+use Rattle.stepping.proofs.CurrentPaths.{same_item, from-same, Elsewhere, Beside, beside, elsewhere_below}
 
 pub record AgreeTo (d e : Edits ℕ) (count : ℕ) : Type 0 where
   pub gaps : (j : ℕ) → j ≤ count → d.gap [] j ≡ e.gap [] j

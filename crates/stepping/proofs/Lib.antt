@@ -1,5 +1,5 @@
 pub mod Edits
-pub mod Places
+pub mod CurrentPaths
 pub mod Steps
 pub mod AimSteps
 pub mod Dead

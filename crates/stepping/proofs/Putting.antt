@@ -1,7 +1,7 @@
 -- Elements put into a node, or into a child of it.
 --     room_here, put-here            into the node itself: what they replace is there; the node is spliced
 --     WayOn, way_on, put-on          into a child: it is there, and they can be put into it; the child is exchanged
---     no-token                       a token has no place for them
+--     no-token                       a token has no children to put them among
 --     AtEnd, at-end, put-end         at the end of the way, as code holds it
 --     further, put-further           one slot further on the way
 use Rattle.std.specs.Prelude.{◌≡◌, ◌<◌, ◌≤◌, ◌+◌, ℕ, List, [], ◌∷◌, ◌++◌, take, drop, length, slice_get, Option, Some, None, option_and_then, refl}
@@ -17,7 +17,7 @@ use Rattle.stepping.specs.declared.done.Among.{Among}
 use Rattle.stepping.specs.declared.done.Among.TheVariants.{Slots}
 use Rattle.stepping.specs.declared.done.Done.{Done}
 use Rattle.stepping.specs.declared.done_index.DoneIndex.{DoneIndex}
-use Rattle.stepping.specs.inner.Places.{index_of, count_of, removed, start, place, done_at, done_below}
+use Rattle.stepping.specs.inner.CurrentPaths.{index_of, count_of, removed, start, current_path, done_at, done_below}
 use Rattle.stepping.specs.inner.Splices.{spliced, updated_at}
 use Rattle.stepping.specs.inner.Putting.{CanPut, put}
 
@@ -48,10 +48,10 @@ module _ (k : ℕ) (ts : List SyntaxTree) (done : Path → List Done) (a : Among
       pub further : (c : SyntaxTree) → slice_get ts slot ≡ Some c → CanPut c inner r a
 
     pub way_on : CanPut (node k ts) done (i ∷ r) a → WayOn
-    way_on h = go (slice_get ts slot) refl (ap (λ us. option_and_then (λ c. at c (place inner r)) (slice_get us slot)) (sym (trees-forest ts)) ∙ h.there.there)
+    way_on h = go (slice_get ts slot) refl (ap (λ us. option_and_then (λ c. at c (current_path inner r)) (slice_get us slot)) (sym (trees-forest ts)) ∙ h.there.there)
       where
-        go : (o : Option SyntaxTree) → slice_get ts slot ≡ o → option_and_then (λ c. at c (place inner r)) (slice_get ts slot) ≡ Some (Node h.there.kind h.there.below) → WayOn
-        go None is had = let wrong = ap (λ x. option_and_then (λ c. at c (place inner r)) x) (sym is) ∙ had in cc
+        go : (o : Option SyntaxTree) → slice_get ts slot ≡ o → option_and_then (λ c. at c (current_path inner r)) (slice_get ts slot) ≡ Some (Node h.there.kind h.there.below) → WayOn
+        go None is had = let wrong = ap (λ x. option_and_then (λ c. at c (current_path inner r)) x) (sym is) ∙ had in cc
         go (Some c) is had = record {
           lessens = h.on_the_way [] i r refl;
           inside = slice_get_within ts slot c is;
@@ -61,7 +61,7 @@ module _ (k : ℕ) (ts : List SyntaxTree) (done : Path → List Done) (a : Among
             there = record {
               kind = h.there.kind;
               below = h.there.below;
-              there = ap (λ x. option_and_then (λ d. at d (place inner r)) x) (sym found) ∙ had;
+              there = ap (λ x. option_and_then (λ d. at d (current_path inner r)) x) (sym found) ∙ had;
               within = h.there.within;
             };
           };
@@ -71,7 +71,7 @@ module _ (k : ℕ) (ts : List SyntaxTree) (done : Path → List Done) (a : Among
     put-on new c is =
         let h : SyntaxTree → SyntaxTree = spliced (start (done (i ∷ r)) a) (count_of a) new in
         let all : trees (forest ts) ≡ ts = trees-forest ts in
-        ap (λ us. option_map_or (λ d. Node k (forest (take slot us ++ (updated_at d (place inner r) h ∷ []) ++ drop (slot + 1) us))) (slice_get us slot) (node k ts)) all ∙ ap (λ o. option_map_or (λ d. Node k (forest (take slot ts ++ (updated_at d (place inner r) h ∷ []) ++ drop (slot + 1) ts))) o (node k ts)) is
+        ap (λ us. option_map_or (λ d. Node k (forest (take slot us ++ (updated_at d (current_path inner r) h ∷ []) ++ drop (slot + 1) us))) (slice_get us slot) (node k ts)) all ∙ ap (λ o. option_map_or (λ d. Node k (forest (take slot ts ++ (updated_at d (current_path inner r) h ∷ []) ++ drop (slot + 1) ts))) o (node k ts)) is
 
 pub no-token : (k : ℕ) (s : List ℕ) (p : Path) (l : ℕ) (f : Forest ℕ) → at (Token k s) p ≡ Some (Node l f) → ⊥
 no-token k s [] l f h = cc

@@ -7,7 +7,7 @@ use Rattle.rewriting.specs.declared.aimed.AimForm.TheVariants as form
 use Rattle.stepping.specs.Stage.{step_builds}
 use Rattle.stepping.specs.declared.done.Among.TheVariants.{Gap, Slots}
 use Rattle.stepping.specs.declared.done.Done.{Done}
-use Rattle.stepping.specs.inner.Places.{start, place}
+use Rattle.stepping.specs.inner.CurrentPaths.{start, current_path}
 use Rattle.stepping.specs.inner.Targets.{live_target}
 
 -- the tree `L`, its kinds numbered in the order in which they come
@@ -36,7 +36,7 @@ second_literal = refl
 same_gap : start at_top (Gap 1) ≡ 1
 same_gap = refl
 
-moved : place done (4 ∷ 0 ∷ []) ≡ 5 ∷ 0 ∷ []
+moved : current_path done (4 ∷ 0 ∷ []) ≡ 5 ∷ 0 ∷ []
 moved = refl
 
 -- three siblings from L/4 on

@@ -1,7 +1,7 @@
 -- One aim more: what a stage becomes.
 --     AllCounted                     the changes that are done at each node tell what aims replace and put there
---     on_way, place-is               nodes on the way to a node; its path in the new element
---     StepMade, insert-made, replace-made      the place of a live aim is there, the new tree is the rewriting, and its changes tell it
+--     on_way, current-path-is               nodes on the way to a node; its path in the new element
+--     StepMade, insert-made, replace-made      what a live aim leads to is there, the new tree is the rewriting, and its changes tell it
 --     DeadAt, agree_there            the edits with an aim differ from those without it only where nothing is
 --     dead-tree, dead-counted        so the rewriting stays, and what is told of it
 use Rattle.std.specs.Prelude.{◌≡◌, ℕ, zero, suc, ◌+◌, ◌<◌, ◌≤◌, true, false, cond, List, [], ◌∷◌, ◌++◌, length, slice_get, Option, Some, None, option_and_then, refl}
@@ -21,11 +21,11 @@ use Rattle.stepping.specs.declared.done.Among.{Among}
 use Rattle.stepping.specs.declared.done.Among.TheVariants.{Gap, Slots}
 use Rattle.stepping.specs.declared.done.Done.{Done}
 use Rattle.stepping.specs.inner.Counts.{IsCounted}
-use Rattle.stepping.specs.inner.Places.{index_of, count_of, removed, start, place}
+use Rattle.stepping.specs.inner.CurrentPaths.{index_of, count_of, removed, start, current_path}
 use Rattle.stepping.specs.inner.Putting.{CanPut, put}
 use Rattle.stepping.specs.inner.Splices.{spliced, updated_at}
 use Rattle.stepping.proofs.Edits.{Edits, below, below_path, edits_of, remade, remade_from, rewritten_is}
-use Rattle.stepping.proofs.Places.{to_slot, new_path, at-new_path, Elsewhere}
+use Rattle.stepping.proofs.CurrentPaths.{to_slot, new_path, at-new_path, Elsewhere}
 use Rattle.stepping.proofs.Steps.{room-inserted, room-replaced}
 use Rattle.stepping.proofs.AimSteps.{same_path-true, same_path_from, gap_is, range, in_range, IsKept, keeps, elsewhere-insert, inserted, insert_more, elsewhere-replace, replaced, replace_more}
 use Rattle.stepping.proofs.Dead.{AgreeTo, AgreeThere, remade-agree}
@@ -50,10 +50,10 @@ on_way t p u a q i r same = go (at t q) refl (sym (at-append t q (i ∷ r)) ∙ 
     go (Some (Token k s)) is had = cc
     go (Some (Node k g)) is had = record { kind = k; children = g; there = is; within = inside g (slice_get (trees g) i) refl had }
 
-pub place-is : (e : Edits ℕ) (done : Path → List Done) (p : Path) → ((q : Path) (i : ℕ) (r : Path) → q ++ i ∷ r ≡ p → start (done q) (Slots i 1) ≡ to_slot (below_path q e) i) → place done p ≡ new_path e p
-place-is e done [] h = refl
-place-is e done (i ∷ p) h =
-    ap₂ (λ s q. s ∷ q) (h [] i p refl) (place-is (below i e) (λ q. done (i ∷ q)) p (λ q j r same. h (i ∷ q) j r (ap (λ x. i ∷ x) same)))
+pub current-path-is : (e : Edits ℕ) (done : Path → List Done) (p : Path) → ((q : Path) (i : ℕ) (r : Path) → q ++ i ∷ r ≡ p → start (done q) (Slots i 1) ≡ to_slot (below_path q e) i) → current_path done p ≡ new_path e p
+current-path-is e done [] h = refl
+current-path-is e done (i ∷ p) h =
+    ap₂ (λ s q. s ∷ q) (h [] i p refl) (current-path-is (below i e) (λ q. done (i ∷ q)) p (λ q j r same. h (i ∷ q) j r (ap (λ x. i ∷ x) same)))
 
 -- ---- of one tree, before and after one aim more
 module _ (t : SyntaxTree) (given : ℕ → List SyntaxTree) where
@@ -110,12 +110,12 @@ module _ (t : SyntaxTree) (given : ℕ → List SyntaxTree) where
             apart q r s other = absurd (true≢false (sym (same_path_from q r s) ∙ other))
 
         module _ (kept : IsKept (xs ++ ys) p) where
-          path-is : place done p ≡ new_path old p
-          path-is = place-is old done p (λ q i r same.
+          path-is : current_path done p ≡ new_path old p
+          path-is = current-path-is old done p (λ q i r same.
               let w = on_way t p (Node l f) there q i r same in
               start-slot (below_path q old) (length (trees w.children)) (done q) (told q w.kind w.children w.there) i (omega (arith, w.within)) 1)
 
-          stands : at before (place done p) ≡ Some (remade (below_path p old) (Node l f))
+          stands : at before (current_path done p) ≡ Some (remade (below_path p old) (Node l f))
           stands =
               ap₂ at (rewritten_is kind_only given (xs ++ ys) [] t) path-is ∙ at-new_path old p t (Node l f) there (keeps given (xs ++ ys) p kept)
 

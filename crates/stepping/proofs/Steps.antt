@@ -12,7 +12,7 @@ use Rattle.green_tree.specs.Tree.{Forest, Token, Node, end, more, SyntaxTree, fo
 use Rattle.green_tree.proofs.Lookup.{trees-forest}
 use Rattle.stepping.specs.inner.Splices.{spliced_list, spliced, updated_at}
 use Rattle.stepping.proofs.Edits.{Edits, below, below_path, filled, remade, remade_from}
-use Rattle.stepping.proofs.Places.{splice_at, to_gap, to_slot, new_path, Keeps, before, after, after-more, length-after, cut, length-before, SameItem, same_item, before-same, from-same, Elsewhere, remade-update}
+use Rattle.stepping.proofs.CurrentPaths.{splice_at, to_gap, to_slot, new_path, Keeps, before, after, after-more, length-after, cut, length-before, SameItem, same_item, before-same, from-same, Elsewhere, remade-update}
 
 -- ---- one insert more, first in gap i of the node at the top
 pub record Inserted (d e : Edits ℕ) (i : ℕ) (ts : List SyntaxTree) : Type 0 where

@@ -17,7 +17,7 @@ use Rattle.rewriting.specs.Effort.{counted}
 use Rattle.rewriting.specs.Rewriting.{NumberedAim, inserts_at, is_replaced, gap_order, rewritten}
 use Rattle.rewriting.specs.inner.Pass.{kind_only}
 use Rattle.stepping.specs.declared.stage.Stage.{Stage}
-use Rattle.stepping.specs.inner.Places.{done_at}
+use Rattle.stepping.specs.inner.CurrentPaths.{done_at}
 use Rattle.stepping.specs.inner.Counts.{IsCounted}
 
 abbrev pub old_tree : Stage → SyntaxTree

@@ -1,5 +1,5 @@
 -- What private calls cite, and the crates above for their proofs: no contract that a user calls by names any of it.
-pub mod Places
+pub mod CurrentPaths
 pub mod Splices
 pub mod Targets
 pub mod Counts

@@ -1,5 +1,5 @@
 ghost use Rattle.std.specs.Prelude.{◌≡◌};
-ghost use Rattle.stepping.specs.inner.Places.{index_of, count_of, is_before, removed_before, added_before};
+ghost use Rattle.stepping.specs.inner.CurrentPaths.{index_of, count_of, is_before, removed_before, added_before};
 
 /// Where a change alters the children of a node.
 #[derive(Clone, Copy)]

@@ -1,6 +1,6 @@
 ghost use Rattle.std.specs.Prelude.{◌≡◌, [], OnOk, OnErr};
 ghost use Rattle.green_tree.specs.Path.{Path};
-ghost use Rattle.stepping.specs.inner.Places.{done_at, HasOneMore, SameDone};
+ghost use Rattle.stepping.specs.inner.CurrentPaths.{done_at, HasOneMore, SameDone};
 
 use crate::done::Done;
 use std::alloc::{AllocError, Global};

@@ -1,10 +1,10 @@
 ghost use Rattle.std.specs.Prelude.{◌≡◌, ◌≤◌, length, IfOk};
-ghost use Rattle.stepping.specs.inner.Places.{start, StartFits};
+ghost use Rattle.stepping.specs.inner.CurrentPaths.{start, StartFits};
 ghost use Rattle.stepping.specs.inner.Putting.{CanPutFrom, IsPutFrom};
 
 use crate::done::{Among, Done};
 use crate::done_index::DoneIndex;
-use crate::target::Target;
+use crate::aim_target::AimTarget;
 use green_tree::GreenElement;
 use std::alloc::{AllocError, Global};
 
@@ -36,7 +36,7 @@ pub(crate) fn put(
     alloc: Global,
     element: &GreenElement,
     done: &DoneIndex,
-    target: &Target,
+    target: &AimTarget,
     depth: usize,
     given: &[GreenElement],
 ) -> Result<GreenElement, AllocError>

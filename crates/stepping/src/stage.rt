@@ -7,7 +7,7 @@ ghost use Rattle.stepping.specs.Stage.{old_tree, new_tree, IsStage, CanStep, Tak
 use crate::done::Done;
 use crate::done_index::DoneIndex;
 use crate::put::put;
-use crate::target::Target;
+use crate::aim_target::AimTarget;
 use green_tree::GreenElement;
 use rewriting::Aimed;
 use std::alloc::{AllocError, Global};
@@ -15,7 +15,7 @@ use std::alloc::{AllocError, Global};
 /// An element with some changes carried out, one at a time.
 ///
 /// It keeps the old element, the element as it stands now, and of each change that is done where it aimed and how many elements it gave. So
-/// a later step finds its place from the changes that are done at the nodes on its way, in whatever order they came.
+/// a later step finds where it goes from the changes that are done at the nodes on its way, in whatever order they came.
 #[derive(Drop)]
 pub struct Stage {
     original: GreenElement,
@@ -43,7 +43,7 @@ impl Stage {
         &self.current
     }
 
-    /// Carries out one change more: what it gives goes first into its gap, or in the place of what it replaces.
+    /// Carries out one change more: what it gives goes first into its gap, or stands for what it replaces.
     ///
     /// The aim is one in the old element. Where its node, its gap or its first slot is not there, nothing changes, and of a range only what
     /// is there is replaced. `builds` rises by the nodes that are built, up to its greatest number: the node whose children change,
@@ -63,7 +63,7 @@ impl Stage {
         ensures refused_count { OnErr result (builds.new ≡ builds.old) }
     {
         let _builds = *builds;
-        let Some(target) = Target::of(&self.original, aim) else {
+        let Some(target) = AimTarget::of(&self.original, aim) else {
             return Ok(());
         };
         let new = put(alloc, &self.current, &self.done, &target, 0, given)?;

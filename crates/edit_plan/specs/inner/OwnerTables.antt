@@ -4,7 +4,7 @@
 --     path_at, places_in            the place of an owner, from a table by its number; the empty path where there is none
 --     IsPlaced                      a table has no other places than those of owners
 --     FoundSoFar                    the changes before this one find places in a table
---     moved_dependent                         a change that is owned, and where it aims in its owner's payload
+--     moved_dependent               a change that is owned, and where it aims in its owner's payload
 --     dependents_in                 those of an owner, from a table by its number
 --     AimsFrom                      with this path in place of its own, a change aims where it is carried out
 --     AreDependents                 a table has for each change those that it owns

@@ -7,9 +7,9 @@
 --                                   what replaces the token that it stands behind
 --     IsLinked                      a table has such a link for each change
 --     AreFollowers                  three tables have all three
---     ArePlaces                     a table has where each number below a count stands in an order
+--     AreIndices                     a table has where each number below a count stands in an order
 --     HasLinksBelow                 each link leads to a number below this one
---     Keeps                         by these places each change stands before the one that its link leads to
+--     Keeps                         by these indices each change stands before the one that its link leads to
 use Rattle.std.specs.Prelude.{◌≡◌, ◌<◌, ℕ, zero, suc, not, cond, List, drop, filter, find, length, slice_get, slice_index, slice_index_or, Option, None, Some, option_map, option_and_then}
 use Rattle.std.specs.List.{enumerate_from}
 use Rattle.rewriting.specs.Aim.{Aim, same_gap}
@@ -17,7 +17,7 @@ use Rattle.edit_change.specs.ChangeAim.{aim}
 use Rattle.edit_change.specs.Nesting.{is_dropped, owner}
 use Rattle.edit_change.specs.inner.TargetIndex.{target_at}
 use Rattle.edit_change.specs.declared.change.Change.{Change}
-use Rattle.schedule.specs.Schedule.{Numbered, anchor_token, place_in}
+use Rattle.schedule.specs.Schedule.{Numbered, anchor_token, index_in}
 use Rattle.schedule.specs.declared.followers.Followers.{Followers}
 
 abbrev pub link : List (Option ℕ) → ℕ → Option ℕ
@@ -56,9 +56,9 @@ pub record AreFollowers (cs : List Change) (f : Followers) : Type 0 where
 abbrev pub HasLinksBelow : ℕ → List (Option ℕ) → Type 0
 HasLinksBelow count table = (n m : ℕ) → link table n ≡ Some m → m < count
 
-pub record ArePlaces (order : List ℕ) (count : ℕ) (places : List ℕ) : Type 0 where
-  pub long : length places ≡ count
-  pub at : (n : ℕ) → n < count → slice_index places n ≡ place_in order n
+pub record AreIndices (order : List ℕ) (count : ℕ) (indices : List ℕ) : Type 0 where
+  pub long : length indices ≡ count
+  pub at : (n : ℕ) → n < count → slice_index indices n ≡ index_in order n
 
 abbrev pub Keeps : List ℕ → List (Option ℕ) → Type 0
-Keeps places table = (n m : ℕ) → link table n ≡ Some m → slice_index places n < slice_index places m
+Keeps indices table = (n m : ℕ) → link table n ≡ Some m → slice_index indices n < slice_index indices m

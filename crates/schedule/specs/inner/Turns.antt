@@ -6,7 +6,7 @@ use Rattle.std.specs.Prelude.{ℕ}
 use Rattle.cst_core.specs.Path.{Path}
 use Rattle.edit_change.specs.declared.change.Change.{Change}
 use Rattle.edit_change.specs.declared.change.Change.TheVariants.{Insert, InsertAll, Replace, ReplaceWithMany, ReplaceAll}
-use Rattle.schedule.specs.DefaultOrder.{document_place}
+use Rattle.schedule.specs.DefaultOrder.{document_path}
 use Rattle.schedule.specs.Schedule.{Numbered}
 use Rattle.schedule.specs.declared.document_order.Side.{Side}
 use Rattle.schedule.specs.declared.document_order.Side.TheVariants.{Gap, Slot}
@@ -25,7 +25,7 @@ side_of (ReplaceWithMany t es) = Slot
 side_of (ReplaceAll first last es) = Slot
 
 abbrev pub turn_of : Numbered → ShownTurn
-turn_of c = record { path = document_place c.1; side = side_of c.1; number = c.0 }
+turn_of c = record { path = document_path c.1; side = side_of c.1; number = c.0 }
 
 abbrev pub turn_in : Turn → ShownTurn
 turn_in t = record { path = t.path.items; side = t.side; number = t.number.0 }

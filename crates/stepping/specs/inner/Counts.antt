@@ -11,7 +11,7 @@ use Rattle.rewriting.specs.Rewriting.{NumberedAim, replacements_at, is_replaced,
 use Rattle.rewriting.specs.inner.Pass.{kind_only}
 use Rattle.stepping.specs.declared.done.Among.TheVariants.{Gap, Slots}
 use Rattle.stepping.specs.declared.done.Done.{Done}
-use Rattle.stepping.specs.inner.Places.{removed, added}
+use Rattle.stepping.specs.inner.CurrentPaths.{removed, added}
 
 -- of a node's slots it is told whether they are replaced, and of its gaps and slots how much they hold
 abbrev pub kept_slots : (ℕ → Bool) → ℕ → ℕ

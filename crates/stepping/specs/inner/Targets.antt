@@ -2,7 +2,7 @@
 --     count_in, child_count          how many children a node has; the node at a path: nothing where there is no node
 --     Child, child_in, child_at      a child by its parent and slot, with how many children there are from it on; that in a slot; that at a path
 --     child_of                       that of one in code
---     Place, place_of                a node by its path, and where among its children; that of a target in code
+--     Site, site_of                  a node by its path, and where among its children; that of a target in code
 --     live_target                    of an aim: its node, and the gap or the slots that are there
 use Rattle.std.specs.Prelude.{◌-◌, ℕ, zero, suc, cond, nat_lt, min, [], ◌∷◌, length, Option, Some, None, option_map, option_and_then}
 use Rattle.green_tree.specs.Path.{Path, parent_path, last_slot}
@@ -11,8 +11,8 @@ use Rattle.rewriting.specs.declared.aimed.AimForm.{AimForm}
 use Rattle.rewriting.specs.declared.aimed.AimForm.TheVariants.{FirstIn, Behind, Over}
 use Rattle.stepping.specs.declared.done.Among.{Among}
 use Rattle.stepping.specs.declared.done.Among.TheVariants.{Gap, Slots}
-use Rattle.stepping.specs.declared.target.OldChild.{OldChild}
-use Rattle.stepping.specs.declared.target.Target.{Target}
+use Rattle.stepping.specs.declared.aim_target.OldChild.{OldChild}
+use Rattle.stepping.specs.declared.aim_target.AimTarget.{AimTarget}
 
 abbrev pub count_in : SyntaxTree → Option ℕ
 count_in (Token k s) = None
@@ -38,13 +38,13 @@ child_at t [] = None
 child_at t (i ∷ p) = option_and_then (child_in (parent_path (i ∷ p)) (last_slot (i ∷ p))) (child_count t (parent_path (i ∷ p)))
 
 -- ---- an aim
-abbrev pub Place : Type 0
-Place = Path × Among
+abbrev pub Site : Type 0
+Site = Path × Among
 
-abbrev pub place_of : Target → Place
-place_of a = (a.parent.now, a.at)
+abbrev pub site_of : AimTarget → Site
+site_of a = (a.parent.now, a.at)
 
-abbrev pub live_target : SyntaxTree → Path → AimForm → Option Place
+abbrev pub live_target : SyntaxTree → Path → AimForm → Option Site
 live_target t p FirstIn = option_map (λ count. (p, Gap 0)) (child_count t p)
 live_target t p Behind = option_map (λ c. (c.parent, Gap (suc c.slot))) (child_at t p)
 live_target t p (Over zero) = None

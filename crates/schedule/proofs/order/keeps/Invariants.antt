@@ -5,4 +5,4 @@ use Rattle.schedule.proofs.order.keeps.Given as goal
 
 abbrev pub invariant-loop-number : goal.invariant-loop-number
 invariant-loop-number l =
-    (n m : ℕ) → n < l.number → link l.links n ≡ Some m → slice_index l.places n < slice_index l.places m
+    (n m : ℕ) → n < l.number → link l.links n ≡ Some m → slice_index l.indices n < slice_index l.indices m

@@ -7,7 +7,7 @@ use Rattle.green_tree.specs.GreenElement.{element_tree, element_trees}
 use Rattle.green_tree.proofs.Lookup.{trees-forest}
 use Rattle.green_tree.proofs.Slots.{path_ends, slice_get-child}
 use Rattle.stepping.specs.declared.done.Among.TheVariants.{Slots}
-use Rattle.stepping.specs.inner.Places.{count_of, start, place, done_at, done_below, StartFits}
+use Rattle.stepping.specs.inner.CurrentPaths.{count_of, start, current_path, done_at, done_below, StartFits}
 use Rattle.stepping.proofs.Putting.{no-token, at-end, put-end, further, put-further, done_here, way_here, done_next}
 use Rattle.stepping.proofs.put.+put.Goals as goal
 
@@ -16,7 +16,7 @@ unreachable-requires t c =
     let leaf = c.in_default.field-0 in
     let there = c.requires.there.there in
     let path = c.args.target.now.parent.now in
-    let way = place (done_below c.args.done.now (take c.args.depth path)) (drop c.args.depth path) in
+    let way = current_path (done_below c.args.done.now (take c.args.depth path)) (drop c.args.depth path) in
     no-token leaf.kind leaf.text way there.kind there.below (subst (λ e. at (element_tree e) way ≡ Some (Node there.kind there.below)) c.in_default.is there.there)
 
 pub start-first-requires : goal.start-first-requires

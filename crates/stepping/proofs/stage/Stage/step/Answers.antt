@@ -6,9 +6,9 @@ use Rattle.rewriting.specs.Effort.{counted}
 use Rattle.rewriting.specs.inner.Aimed.{numbered, aim_in}
 use Rattle.stepping.specs.Stage.{old_tree}
 use Rattle.stepping.specs.declared.done.Done.{Done}
-use Rattle.stepping.specs.inner.Places.{done_at}
+use Rattle.stepping.specs.inner.CurrentPaths.{done_at}
 use Rattle.stepping.specs.inner.Putting.{CanPut, put}
-use Rattle.stepping.specs.inner.Targets.{place_of}
+use Rattle.stepping.specs.inner.Targets.{site_of}
 use Rattle.stepping.proofs.Aims.{found-live, found-dead, found-none}
 use Rattle.stepping.proofs.Stepping.{dead-tree, dead-counted}
 use Rattle.stepping.proofs.Taken.{made-live, builds-live, builds-dead}
@@ -36,7 +36,7 @@ pub put-requires-clause-there : goal.put-requires-clause-there
 put-requires-clause-there c =
     let s = c.args.self.now in
     let aim = c.args.aim.now in
-    let live = found-live (old_tree s) aim.path.now aim.form (place_of c.in-Some.target) (sym c.in-Some.ensures) in
+    let live = found-live (old_tree s) aim.path.now aim.form (site_of c.in-Some.target) (sym c.in-Some.ensures) in
     let stage = c.requires.3 in
     let made = made-live (old_tree s) c.requires.0 c.requires.1 (numbered aim) c.requires.2 (done_at s.done) c.in-Some.target.parent.now c.in-Some.target.at stage.counted live c.requires.4 in
     subst (λ t. CanPut t (done_at s.done) c.in-Some.target.parent.now c.in-Some.target.at) (sym stage.tree) made.can
@@ -47,7 +47,7 @@ returns-clause-done c = λ given xs ys stage next gives.
     let aim = c.args.aim.now in
     let p = c.in-Some.target.parent.now in
     let a = c.in-Some.target.at in
-    let live = found-live (old_tree s) aim.path.now aim.form (place_of c.in-Some.target) (sym c.in-Some.ensures) in
+    let live = found-live (old_tree s) aim.path.now aim.form (site_of c.in-Some.target) (sym c.in-Some.ensures) in
     let made = made-live (old_tree s) given xs (numbered aim) ys (done_at s.done) p a stage.counted live next in
     let wide : length c.args.given.now ≡ length (given aim.change) = sym (length-map c.args.given.now element_tree) ∙ ap length (sym gives) in
     record {
@@ -59,6 +59,6 @@ pub returns-clause-count : goal.returns-clause-count
 returns-clause-count c =
     let s = c.args.self.now in
     let aim = c.args.aim.now in
-    let live = found-live (old_tree s) aim.path.now aim.form (place_of c.in-Some.target) (sym c.in-Some.ensures) in
+    let live = found-live (old_tree s) aim.path.now aim.form (site_of c.in-Some.target) (sym c.in-Some.ensures) in
     let many = builds-live (old_tree s) (aim_in aim.path.now aim.form) c.in-Some.target.parent.now live.live live.parent in
     c.saturating_add.ensures ∙ ap (counted c.args.builds.now) (sym many)

@@ -4,7 +4,7 @@ use Rattle.std.proofs.lemmas.Bool.{lt-ltb, le-ltb}
 use Rattle.green_tree.specs.GreenElement.{element_tree}
 use Rattle.stepping.specs.inner.Targets.{Child, child_in, child_of}
 use Rattle.stepping.proofs.Keyed.{child-by-last}
-use Rattle.stepping.proofs.target.child_at.Goals as goal
+use Rattle.stepping.proofs.aim_target.child_at.Goals as goal
 
 pub returns-in_err-count-clause-child : goal.returns-in_err-count-clause-child
 returns-in_err-count-clause-child c =

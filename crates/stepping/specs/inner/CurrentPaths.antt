@@ -5,7 +5,7 @@
 --     added_before, added            how many elements that a change gave stand before what aims there; how many that these gave
 --     start                          where in the new child list that begins
 --     StartFits                      no step towards it leaves the numbers of code
---     place                          the path in the new element of what has a path in the old one, where nothing on the way is replaced
+--     current_path                   the path in the new element of what has a path in the old one, where nothing on the way is replaced
 --     done_at, done_below            what an index has for the node at a path; at a path counted from another one
 --     HasOneMore, SameDone           it has one more for this node; it has the same as before
 use Rattle.std.specs.Prelude.{◌≡◌, ◌≤◌, ◌<◌, ◌+◌, ◌-◌, ◌^◌, ℕ, Bool, not, cond, nat_lt, min, sum_by, List, [], ◌∷◌, ◌++◌}
@@ -56,9 +56,9 @@ pub record StartFits (ds : List Done) (at : Among) : Type 0 where
   pub fits : start ds at < 2 ^ 64
 
 -- ---- from the top down
-abbrev pub place : (Path → List Done) → Path → Path
-place done [] = []
-place done (i ∷ p) = start (done []) (Slots i 1) ∷ place (λ q. done (i ∷ q)) p
+abbrev pub current_path : (Path → List Done) → Path → Path
+current_path done [] = []
+current_path done (i ∷ p) = start (done []) (Slots i 1) ∷ current_path (λ q. done (i ∷ q)) p
 
 -- ---- in code
 abbrev pub done_at : DoneIndex → Path → List Done

@@ -3,8 +3,8 @@ use Rattle.std.specs.Prelude.{option_map, Some, None}
 use Rattle.cst_core.specs.Path.{Path, parent_path}
 use Rattle.edit_change.specs.Position.{anchor, after_of}
 use Rattle.schedule.proofs.Turns.{front-parent, gap-first, gap-behind}
-use Rattle.schedule.proofs.document_order.gap_place.Goals as goal
-use Rattle.schedule.proofs.document_order.gap_place.Goals.{in-Some, in-None}
+use Rattle.schedule.proofs.document_order.gap_path.Goals as goal
+use Rattle.schedule.proofs.document_order.gap_path.Goals.{in-Some, in-None}
 
 pub returns : goal.returns
 returns c =

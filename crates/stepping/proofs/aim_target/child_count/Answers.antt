@@ -6,7 +6,7 @@ use Rattle.green_tree.specs.GreenElementRef.{ref_tree}
 use Rattle.green_tree.proofs.Lookup.{trees-forest}
 use Rattle.stepping.specs.inner.Targets.{count_in, child_count}
 use Rattle.stepping.proofs.Keyed.{count-token}
-use Rattle.stepping.proofs.target.child_count.Goals as goal
+use Rattle.stepping.proofs.aim_target.child_count.Goals as goal
 
 pub returns-in_default : goal.returns-in_default
 returns-in_default c =

@@ -1,6 +1,6 @@
 ghost use Rattle.std.specs.Prelude.{◌≡◌, ◌<◌, ◌+◌, ◌^◌, option_map, IfSome};
 ghost use Rattle.green_tree.specs.GreenElement.{element_tree};
-ghost use Rattle.stepping.specs.inner.Targets.{child_count, child_at, child_of, live_target, place_of};
+ghost use Rattle.stepping.specs.inner.Targets.{child_count, child_at, child_of, live_target, site_of};
 
 use crate::done::Among;
 use green_tree::{GreenElement, GreenElementRef};
@@ -8,7 +8,7 @@ use rewriting::{AimForm, Aimed};
 
 /// The node whose children an aim alters, by its path, and where among them.
 #[derive(Clone, Copy)]
-pub(crate) struct Target<'a> {
+pub(crate) struct AimTarget<'a> {
     pub(crate) parent: &'a [usize],
     pub(crate) at: Among,
 }
@@ -53,23 +53,23 @@ fn child_at<'a>(element: &GreenElement, path: &'a [usize]) -> Option<OldChild<'a
     None
 }
 
-impl<'a> Target<'a> {
+impl<'a> AimTarget<'a> {
     // Where an aim alters the element. `None` where its node, its gap or its first slot is not there. Of a range the slots
     // count that are there.
-    pub(crate) fn of(element: &GreenElement, aim: &Aimed<'a>) -> Option<Target<'a>>
-        ensures { option_map place_of result ≡ live_target (element_tree element.now) aim.now.path.now aim.now.form }
+    pub(crate) fn of(element: &GreenElement, aim: &Aimed<'a>) -> Option<AimTarget<'a>>
+        ensures { option_map site_of result ≡ live_target (element_tree element.now) aim.now.path.now aim.now.form }
     {
         match aim.form {
             AimForm::FirstIn => {
                 child_count(element, aim.path)?;
-                Some(Target {
+                Some(AimTarget {
                     parent: aim.path,
                     at: Among::Gap(0),
                 })
             }
             AimForm::Behind => {
                 let child = child_at(element, aim.path)?;
-                Some(Target {
+                Some(AimTarget {
                     parent: child.parent,
                     at: Among::Gap(child.slot + 1),
                 })
@@ -81,7 +81,7 @@ impl<'a> Target<'a> {
                     first: child.slot,
                     count: wanted.min(child.left),
                 };
-                Some(Target {
+                Some(AimTarget {
                     parent: child.parent,
                     at,
                 })

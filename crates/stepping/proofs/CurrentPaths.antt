@@ -28,7 +28,7 @@ splice_at front mid back xs from n l m =
     let whole : length (front ++ mid) ≡ from + n = length-append front mid ∙ ap₂ (λ a b. a + b) l m in
     ap₂ (λ x y. x ++ xs ++ y) (ap (λ t. take from t) (append_assoc front mid back) ∙ take_at front (mid ++ back) from l) (drop_at (front ++ mid) back (from + n) whole)
 
--- ---- widths and places
+-- ---- widths and indices
 abbrev pub width : Option (List SyntaxTree) → ℕ
 width (Some ts) = length ts
 width None = 1
