@@ -3,24 +3,28 @@
 --     followed-more                 one more registered element is followed
 --     is_rewritten                  the annotated paths of a plan, from where its registered elements lead to
 --     found-in                      what an edit has for an annotation is what the table has
-use Rattle.std.specs.Prelude.{◌≡◌, All, ℕ, ◌+◌, ◌<◌, true, false, cond, nat_eq, List, [], ◌∷◌, ◌++◌, map, filter, take, length, Vec, Some, get_or, refl}
+use Rattle.std.specs.Prelude.{◌≡◌, All, ℕ, ◌+◌, ◌<◌, true, false, cond, nat_eq, List, [], ◌∷◌, ◌++◌, map, flat_map, filter, take, length, Vec, Some, IsSome, get_or, refl}
 use Rattle.std.specs.Global.{Global}
 use Rattle.std.proofs.Common.{ap, ap₂, sym, subst, ◌∙◌}
 use Rattle.std.proofs.lemmas.List.{take_more, map-append}
 use Rattle.std.proofs.lemmas.List.Elements.{filter-append, All-get_or}
 use Rattle.cst_core.specs.Path.{Path}
-use Rattle.cst_core.specs.Tree.{SyntaxTree}
-use Rattle.cst_core.specs.Element.{Element, NumbersTell, address}
+use Rattle.cst_core.specs.Tree.{SyntaxTree, at}
+use Rattle.cst_core.specs.Element.{Address, Element, NumbersTell, address}
 use Rattle.cst_core.specs.SyntaxElement.{element_of, syntax_at}
 use Rattle.edit_map.specs.Mapping.{Mapping, followed, mapped_elements}
 use Rattle.cst_core.specs.declared.element.SyntaxElement.{SyntaxElement}
 use Rattle.std.specs.Map.{lookup}
 use Rattle.std.specs.Option.{option_map_or}
 use Rattle.edit_plan.specs.AnnotationTable.{entries_of, found_for}
-use Rattle.edit_plan.specs.Plan.{Plan}
-use Rattle.edit_plan.specs.inner.Marks.{annotated_path, numbered_paths}
-use Rattle.edit_plan.specs.inner.PlanRun.{IsMade, IsRewritten}
-use Rattle.edit_plan.specs.Results.{copies_of, paths_with}
+use Rattle.edit_plan.specs.Plan.{Plan, registered_elements}
+use Rattle.edit_stages.specs.NewTree.{OriginTree}
+use Rattle.edit_plan.specs.Engine.{annotated_path, IsRewritten}
+use Rattle.edit_plan.specs.inner.Marks.{numbered_paths}
+use Rattle.edit_plan.specs.inner.PlanRun.{IsMade}
+use Rattle.edit_plan.specs.Results.{annotated, copies_of, paths_with}
+use Rattle.edit_plan.proofs.Leading.{numbered-lead}
+use Rattle.edit_plan.proofs.Told.{all-told}
 use mathlib.Core.List.{map-map}
 
 -- ---- the paths of one annotation
@@ -47,16 +51,39 @@ followed-more m rs i r x xs ys lt is more leads before all =
     ap (map element_of) more ∙ map-append element_of xs (x ∷ []) ∙ ap₂ (λ us e. us ++ e ∷ []) (before all) (leads tells ∙ ap (leads_to m) is) ∙ sym (ap (map (leads_to m)) (take_more rs i r lt) ∙ map-append (leads_to m) (take i rs) (get_or rs i r ∷ []))
 
 -- ---- the annotated paths of a plan
+numbered-each : {R : Type 0} (f : R → List Path) (number : R → ℕ) (rs : List R) → numbered_paths (map number rs) (map f rs) ≡ flat_map (λ r. map (λ p. (number r, p)) (f r)) rs
+numbered-each f number [] = refl
+numbered-each f number (r ∷ rs) = ap (λ ns. map (λ p. (number r, p)) (f r) ++ ns) (numbered-each f number rs)
+
+module _ (p : Plan) (fs : List SyntaxElement) (made : OriginTree) (copies : List (List Path)) (ns : List (ℕ × Path)) where
+  abbrev reached : List Address
+  reached = map (λ e. address (element_of e)) fs
+
+  abbrev numbers : List ℕ
+  numbers = map (λ r. r.1) p.registrations
+
+  numbered-are : copies ≡ map (λ e. copies_of made (address (element_of e))) fs → ns ≡ numbered_paths numbers copies → ns ≡ numbered_paths numbers (map (copies_of made) reached)
+  numbered-are copies_are is = is ∙ ap (numbered_paths numbers) (copies_are ∙ sym (map-map (copies_of made) (λ e. address (element_of e)) fs))
+
+  reached-are : map element_of fs ≡ map (leads_to p.mapping) p.registrations → reached ≡ map (λ r. address (followed p.mapping r.0)) (registered_elements p.registrations)
+  reached-are followed_are = sym (map-map address element_of fs) ∙ ap (map address) followed_are ∙ map-map address (leads_to p.mapping) p.registrations ∙ sym (map-map (λ r. address (followed p.mapping r.0)) (λ r. (element_of r.0, r.1)) p.registrations)
+
+  annotated-are : ns ≡ numbered_paths numbers (map (copies_of made) reached) → map element_of fs ≡ map (leads_to p.mapping) p.registrations → ns ≡ annotated p.mapping (registered_elements p.registrations) made
+  annotated-are is followed_are =
+      let rs = registered_elements p.registrations in
+      is ∙ ap₂ (λ ms reached. numbered_paths ms (map (copies_of made) reached)) (sym (map-map (λ x. x.1) (λ x. (element_of x.0, x.1)) p.registrations)) (reached-are followed_are) ∙ ap (numbered_paths (map (λ x. x.1) rs)) (map-map (copies_of made) (λ x. address (followed p.mapping x.0)) rs) ∙ numbered-each (λ x. copies_of made (address (followed p.mapping x.0))) (λ x. x.1) rs
+
 pub is_rewritten : (p : Plan) (fs : List SyntaxElement) (tree : SyntaxTree) (copies : List (List Path)) (paths : List Path) (ns : List (ℕ × Path)) → IsMade p fs tree copies paths → (All (Tells p.mapping) p.registrations → map element_of fs ≡ map (leads_to p.mapping) p.registrations) → ns ≡ numbered_paths (map (λ r. r.1) p.registrations) copies → IsRewritten p tree paths ns
-is_rewritten p fs tree copies paths ns is_made followed_are is = record {
-  made = is_made.made;
-  would = is_made.would;
-  tree_is = is_made.tree_is;
-  changed_is = is_made.changed_is;
-  reached = map (λ e. address (element_of e)) fs;
-  annotated_is = is ∙ ap (numbered_paths (map (λ r. r.1) p.registrations)) (is_made.copies_are ∙ sym (map-map (copies_of is_made.made) (λ e. address (element_of e)) fs));
-  reached_are = λ tells. sym (map-map address element_of fs) ∙ ap (map address) (followed_are tells) ∙ map-map address (leads_to p.mapping) p.registrations ∙ sym (map-map (λ r. address (followed p.mapping r.0)) (λ r. (element_of r.0, r.1)) p.registrations);
-}
+is_rewritten p fs tree copies paths ns is_made followed_are is =
+    let numbered = numbered-are p fs is_made.made copies ns is_made.copies_are is in
+    record {
+      made = is_made.made;
+      would = is_made.would;
+      tree_is = is_made.tree_is;
+      changed_is = is_made.changed_is;
+      leads = subst (All (λ n. IsSome (at tree n.1))) (sym numbered) (numbered-lead is_made.made tree (map (λ r. r.1) p.registrations) (map (λ e. address (element_of e)) fs) is_made.tree_is);
+      annotated_is = λ tell. annotated-are p fs is_made.made copies ns numbered (followed_are (all-told p tell));
+    }
 
 -- ---- tables as edits have them
 pub found-in : (es : List (ℕ × Vec SyntaxElement Global)) (a : ℕ) → found_for (entries_of es) a ≡ option_map_or (λ v. v.items) (lookup (nat_eq a) es) []

@@ -1,45 +1,32 @@
 -- From what the pass answers to what carrying a plan out promises.
 --     makes                         the edit that is put together is what the plan makes
 --     with-tree                     the same paths in a tree that was made otherwise
+--     too-long                      a tree whose text passes the limit is too long for the plan
 --     refuses                       the refusals of the new root, as those of the plan
-use Rattle.std.specs.Prelude.{◌≡◌, ℕ, ◌<◌, ◌≤◌, List, [], ◌∷◌, ◌++◌, map, flat_map, length, Some, Result, Ok, Err, IfErr, refl}
+use Rattle.std.specs.Prelude.{◌≡◌, ℕ, ◌<◌, ◌≤◌, List, [], ◌∷◌, map, length, Some, IsSome, All, Result, Ok, Err, IfErr, refl}
 use Rattle.std.specs.Result.{IsErrAnd}
-use Rattle.std.proofs.Common.{ap, ap₂, sym, subst, ◌∙◌, arith}
+use Rattle.std.proofs.Common.{ap, sym, subst, ◌∙◌, arith}
 use Rattle.std.proofs.lemmas.Option.{same_Some}
 use Rattle.cst_core.specs.Path.{Path, first_item}
-use Rattle.cst_core.specs.Tree.{text_length}
+use Rattle.cst_core.specs.Tree.{at, text_length}
 use Rattle.cst_core.specs.TreeIds.{IsSpent}
-use Rattle.cst_core.specs.Element.{NumbersTell, address}
 use Rattle.cst_core.specs.Green.{Branch, branch_tree, length_limit}
-use Rattle.cst_core.specs.SyntaxElement.{element_of, syntax_at}
+use Rattle.cst_core.specs.SyntaxElement.{syntax_at}
 use Rattle.cst_core.specs.TreeError.{TreeError}
 use Rattle.cst_core.specs.TreeError.TheVariants as tree
-use Rattle.edit_map.specs.Mapping.{followed}
 use Rattle.edit_plan.specs.AnnotationTable.{found_for}
-use Rattle.edit_plan.specs.Plan.{Plan, Edit, Makes, RunRefuses, registered_elements}
-use Rattle.edit_plan.specs.inner.Marks.{numbered_paths}
-use Rattle.edit_plan.specs.inner.PlanRun.{IsRewritten, HasRewritten}
+use Rattle.edit_plan.specs.Plan.{Plan, Edit, Makes, MakesTooLong, RunRefuses}
+use Rattle.edit_plan.specs.Engine.{annotated_path, IsRewritten, HasRewritten}
 use Rattle.edit_plan.specs.EditRefusal.{of_tree}
-use Rattle.edit_plan.specs.Places.{ArePlaces, elements_held}
-use Rattle.edit_plan.specs.Results.{annotated, copies_of, paths_with}
+use Rattle.edit_plan.specs.Places.{ArePlaces}
+use Rattle.edit_plan.specs.Results.{paths_with}
 use Rattle.edit_stages.specs.NewTree.{plain, new_tree}
-use Rattle.edit_plan.specs.declared.run.Rewritten.{Rewritten}
-use Rattle.edit_plan.proofs.Told.{all-told}
-use mathlib.Core.List.{map-map}
-use Rattle.edit_plan.specs.declared.edit_error.EditError.TheVariants.{TooLong, NoTreeNumber}
+use Rattle.edit_plan.specs.declared.rewritten.Rewritten.{Rewritten}
+use Rattle.edit_plan.specs.declared.edit_error.EditError.TheVariants.{NoTreeNumber}
 use Rattle.edit_plan.proofs.Filled.{text-relabelled}
 
 -- ---- what is put together of it
-numbered-each : {R : Type 0} (f : R → List Path) (number : R → ℕ) (rs : List R) → numbered_paths (map number rs) (map f rs) ≡ flat_map (λ r. map (λ p. (number r, p)) (f r)) rs
-numbered-each f number [] = refl
-numbered-each f number (r ∷ rs) = ap (λ ns. map (λ p. (number r, p)) (f r) ++ ns) (numbered-each f number rs)
-
 module _ (p : Plan) (green : Branch) (paths : List Path) (annotations : List (ℕ × Path)) (r : IsRewritten p (branch_tree green) paths annotations) where
-  annotated-is : NumbersTell (elements_held p.root p.changes (registered_elements p.registrations) p.mapping) → annotations ≡ annotated p.mapping (registered_elements p.registrations) r.made
-  annotated-is tell =
-      let rs = registered_elements p.registrations in
-      r.annotated_is ∙ ap₂ (λ ns reached. numbered_paths ns (map (copies_of r.made) reached)) (sym (map-map (λ x. x.1) (λ x. (element_of x.0, x.1)) p.registrations)) (r.reached_are (all-told p tell)) ∙ ap (numbered_paths (map (λ x. x.1) rs)) (map-map (copies_of r.made) (λ x. address (followed p.mapping x.0)) rs) ∙ numbered-each (λ x. copies_of r.made (address (followed p.mapping x.0))) (λ x. x.1) rs
-
   pub makes : (number : ℕ) (e : Edit) → e.old_root ≡ p.root → e.new_root ≡ record { number = number; root = branch_tree green; path = [] } → map Some e.changed ≡ map (syntax_at e.new_root) paths → ((a : ℕ) → map Some (found_for e.annotated a) ≡ map (syntax_at e.new_root) (paths_with a annotations)) → Makes p number e
   makes number e old new changed_are annotated_are = record {
     made = r.made;
@@ -51,23 +38,23 @@ module _ (p : Plan) (green : Branch) (paths : List Path) (annotations : List (�
     changed_are = changed_are ∙ ap (map (syntax_at e.new_root)) r.changed_is;
     annotated_paths = annotations;
     annotated_are = annotated_are;
-    annotated_is = annotated-is;
+    annotated_is = r.annotated_is;
   }
 
   same-length : text_length r.made ≡ text_length (branch_tree green)
   same-length = sym (ap text_length r.tree_is ∙ ap length (text-relabelled (λ o. o.kind) r.made))
 
-  too-long : (next : ℕ) → length_limit ≤ text_length (branch_tree green) → RunRefuses p next TooLong
-  too-long next long = (r.made, r.would, omega (arith, same-length, long))
+  pub too-long : length_limit ≤ text_length (branch_tree green) → MakesTooLong p
+  too-long long = (r.made, r.would, omega (arith, same-length, long))
 
   no-number : (next : ℕ) → IsSpent next → text_length (branch_tree green) < length_limit → RunRefuses p next NoTreeNumber
   no-number next spent short = (r.made, r.would, (λ long. let l : length_limit ≤ text_length r.made = long in omega (arith, same-length, short, l)), spent)
 
   -- the refusal of the new root, as that of the plan
-  pub refuses : (next : ℕ) (error : TreeError) → (error ≡ tree.TooLong → length_limit ≤ text_length (branch_tree green)) → (error ≡ tree.NoTreeNumber → IsSpent next × (text_length (branch_tree green) < length_limit)) → RunRefuses p next (of_tree error)
-  refuses next tree.TooLong long spent = too-long next (long refl)
-  refuses next tree.NoTreeNumber long spent = let s = spent refl in no-number next s.0 s.1
-  refuses next tree.Memory long spent = tt
+  pub refuses : (next : ℕ) (error : TreeError) → text_length (branch_tree green) < length_limit → (error ≡ tree.TooLong → length_limit ≤ text_length (branch_tree green)) → (error ≡ tree.NoTreeNumber → IsSpent next × (text_length (branch_tree green) < length_limit)) → RunRefuses p next (of_tree error)
+  refuses next tree.TooLong short long spent = let l : length_limit ≤ text_length (branch_tree green) = long refl in absurd (omega (arith, short, l))
+  refuses next tree.NoTreeNumber short long spent = let s = spent refl in no-number next s.0 s.1
+  refuses next tree.Memory short long spent = tt
 
 -- a refusal that stands for another one
 pub err-gives : {T E : Type 0} (P : E → Type 0) (r : Result T E) (x : E) → IsErrAnd r (λ e. e ≡ x) → P x → IfErr r P
@@ -78,4 +65,4 @@ err-gives P (Err e) x is holds = subst P (sym is) holds
 pub with-tree : (p : Plan) (old new : Rewritten) (green shown : Branch) → HasRewritten p old → green ≡ shown → ((places : ℕ → Path) → ArePlaces p.mapping p.changes places → map plain (new_tree p.changes places p.root) ≡ branch_tree shown ∷ []) → new ≡ record { green = green; changed = old.changed; annotated = old.annotated } → HasRewritten p new
 with-tree p old new green shown r same made is =
     let one : plain r.made ≡ branch_tree green = same_Some (plain r.made) (branch_tree green) (ap first_item (ap (map plain) (sym r.would.is_new) ∙ made r.would.places r.would.are_places ∙ ap (λ b. branch_tree b ∷ []) (sym same))) in
-    subst (HasRewritten p) (sym is) (record { made = r.made; would = r.would; tree_is = sym one; changed_is = r.changed_is; reached = r.reached; annotated_is = r.annotated_is; reached_are = r.reached_are })
+    subst (HasRewritten p) (sym is) (record { made = r.made; would = r.would; tree_is = sym one; changed_is = r.changed_is; leads = subst (λ t. All (λ n. IsSome (at t n.1)) (map annotated_path old.annotated.items)) (r.tree_is ∙ one) r.leads; annotated_is = r.annotated_is })

@@ -1,5 +1,6 @@
 -- The paths of what is told of a new tree lead to elements of it.
 --     topmost-there                 those of the topmost elements that pass a test
+--     numbered-lead                 those of copies, with annotations
 --     changed-there, annotated-there      those of the changed and of the annotated elements of a plan
 --     leads, leads-pair             a path that leads to an element leads to its value; one with an annotation
 use Rattle.std.specs.Prelude.{◌≡◌, ℕ, ◌<◌, ◌&&◌, not, Bool, true, false, List, [], ◌∷◌, ◌++◌, length, map, Vec, Some, None, option_map, is_some, IsSome, All, get_or, refl}
@@ -16,9 +17,9 @@ use Rattle.cst_core.specs.Element.{Address, Element, IsElement, element_at, same
 use Rattle.cst_core.specs.SyntaxElement.{syntax_as, syntax_at}
 use Rattle.rewriting.specs.Topmost.{holds_at, parent_holds, topmost}
 use Rattle.edit_plan.specs.Plan.{Plan}
-use Rattle.edit_plan.specs.inner.PlanRun.{IsRewritten}
-use Rattle.edit_stages.specs.NewTree.{OriginTree, is_free}
-use Rattle.edit_plan.specs.inner.Marks.{annotated_path, numbered_paths}
+use Rattle.edit_plan.specs.Engine.{annotated_path, IsRewritten}
+use Rattle.edit_stages.specs.NewTree.{OriginTree, plain, is_free}
+use Rattle.edit_plan.specs.inner.Marks.{numbered_paths}
 use Rattle.edit_plan.specs.Results.{is_brought, copies_of}
 use Rattle.edit_change.proofs.Lists.{all_filter, all_weaker}
 use Rattle.edit_plan.proofs.Relabelled.{at-relabelled}
@@ -59,9 +60,12 @@ numbered-there t [] rs = tt
 numbered-there t (n ∷ ns) [] = tt
 numbered-there t (n ∷ ns) (r ∷ rs) = both-there t n (copies_of t r) (numbered_paths ns (map (copies_of t) rs)) (copies-there t r) (numbered-there t ns rs)
 
+pub numbered-lead : (t : OriginTree) (tree : SyntaxTree) (ns : List ℕ) (rs : List Address) → tree ≡ plain t → All (λ n. IsSome (at tree n.1)) (numbered_paths ns (map (copies_of t) rs))
+numbered-lead t tree ns rs is =
+    All-from_recursion (λ n. IsSome (at tree n.1)) (numbered_paths ns (map (copies_of t) rs)) (all_weaker (λ n. IsSome (at t n.1)) (λ n. IsSome (at tree n.1)) _ (λ n h. subst (λ x. IsSome (at x n.1)) (sym is) (still-there (λ o. o.kind) t n.1 h)) (numbered-there t ns rs))
+
 pub annotated-there : (p : Plan) (tree : SyntaxTree) (changed : List Path) (annotated : List (ℕ × Path)) → IsRewritten p tree changed annotated → (e : Element) → e.root ≡ tree → All (λ n. IsElement (element_at e n.1)) annotated
-annotated-there p tree changed annotated r e is =
-    All-from_recursion (λ n. IsSome (at e.root n.1)) annotated (subst (λ ns. AllByRecursion (λ n. IsSome (at e.root n.1)) ns) (sym r.annotated_is) (all_weaker (λ n. IsSome (at r.made n.1)) (λ n. IsSome (at e.root n.1)) _ (λ n h. subst (λ t. IsSome (at t n.1)) (sym (is ∙ r.tree_is)) (still-there (λ o. o.kind) r.made n.1 h)) (numbered-there r.made (map (λ r. r.1) p.registrations) r.reached)))
+annotated-there p tree changed annotated r e is = subst (λ t. All (λ n. IsSome (at t n.1)) annotated) (sym is) r.leads
 
 no-value-nowhere : (e : Element) (q : Path) → IsSome (at e.root q) → syntax_at e q ≡ None → ⊥
 no-value-nowhere e q some none =

@@ -17,6 +17,7 @@ pub mod Places
 pub mod TouchedNodes
 pub mod EditRefusal
 pub mod Plan
+pub mod Engine
 pub mod Run
 pub mod ExecuteRefusal
 pub mod RewritingLaws

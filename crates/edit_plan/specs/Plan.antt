@@ -7,6 +7,7 @@
 --     stand_in                   the element of the new tree that stands for an old one
 --     registered_elements                    registrations, by the values of their elements
 --     WouldMake                     the tree that a plan makes, with its origins
+--     MakesTooLong                  the text of that tree passes the limit
 --     Makes                         the edit is what the plan makes of the old tree, under a tree number
 --     RunRefuses                    why a plan is not carried out, where this is the next tree number
 use Rattle.std.specs.Prelude.{◌≡◌, ℕ, List, [], ◌∷◌, map, Option, Some, None, option_map, All, Vec, refl}
@@ -80,6 +81,9 @@ pub record WouldMake (p : Plan) (made : OriginTree) : Type 0 where
   pub are_places : ArePlaces p.mapping p.changes places
   pub is_new : new_tree p.changes places p.root ≡ made ∷ []
 
+abbrev pub MakesTooLong : Plan → Type 0
+MakesTooLong p = (made : OriginTree) × WouldMake p made × TextIsTooLong made
+
 -- What is said of the annotated paths rests on equal numbers having equal trees, since following goes by numbers; nothing else does.
 pub record Makes (p : Plan) (number : ℕ) (e : Edit) : Type 0 where
   pub made : OriginTree
@@ -96,6 +100,6 @@ pub record Makes (p : Plan) (number : ℕ) (e : Edit) : Type 0 where
 abbrev pub RunRefuses : Plan → ℕ → EditError → Type 0
 RunRefuses p next (Intersecting first second) = ⊥
 RunRefuses p next (MissingMapping change owner) = ⊥
-RunRefuses p next TooLong = (made : OriginTree) × WouldMake p made × TextIsTooLong made
+RunRefuses p next TooLong = MakesTooLong p
 RunRefuses p next NoTreeNumber = (made : OriginTree) × WouldMake p made × (TextIsTooLong made → ⊥) × IsSpent next
 RunRefuses p next Memory = Unit {0}

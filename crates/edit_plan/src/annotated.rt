@@ -2,7 +2,8 @@
 
 ghost use Rattle.std.specs.Prelude.{◌≡◌, [], map, length, All, IfOk, OnOk};
 ghost use Rattle.cst_core.specs.Element.{IsElement, element_at};
-ghost use Rattle.edit_plan.specs.inner.Marks.{annotated_path, Annotates, AreNumbered, LeadByAnnotation};
+ghost use Rattle.edit_plan.specs.Engine.{annotated_path};
+ghost use Rattle.edit_plan.specs.inner.Marks.{Annotates, AreNumbered, LeadByAnnotation};
 ghost use Rattle.edit_plan.specs.inner.Marks.{TellOf, AreFollowed};
 
 use crate::annotation::SyntaxAnnotation;

@@ -1,3 +1,4 @@
+use crate::engine_error::EngineError;
 use cst_core::TreeError;
 use edit_change::ClashError;
 use std::alloc::AllocError;
@@ -59,6 +60,20 @@ impl From<TreeError> for EditError {
             TreeError::TooLong => EditError::TooLong,
             TreeError::NoTreeNumber => EditError::NoTreeNumber,
             TreeError::Memory => EditError::Memory,
+        }
+    }
+}
+
+impl From<EngineError> for EditError {
+    ghost use Rattle.std.specs.Prelude.{◌≡◌};
+    ghost use Rattle.edit_plan.specs.EditRefusal.{of_engine};
+
+    ghost from_gives = { λ x e. e ≡ of_engine x };
+
+    fn from(error: EngineError) -> EditError {
+        match error {
+            EngineError::TooLong => EditError::TooLong,
+            EngineError::Memory => EditError::Memory,
         }
     }
 }

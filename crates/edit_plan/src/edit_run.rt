@@ -5,12 +5,14 @@ ghost use Rattle.cst_core.specs.Green.{branch_tree, length_limit};
 ghost use Rattle.cst_core.specs.Tree.{text_length};
 ghost use Rattle.schedule.specs.Schedule.{is_ready, is_complete};
 ghost use Rattle.edit_plan.specs.Plan.{Makes, RunRefuses};
+ghost use Rattle.edit_plan.specs.Engine.{HasRewritten, EngineRefuses};
 ghost use Rattle.edit_plan.specs.Run.{new_run, is_done, TellsReady, CanStep, ShowsTree, ShowsPayload, CountsStep};
 
 use crate::edit::SyntaxEdit;
 use crate::edit_error::EditError;
+use crate::engine_error::EngineError;
 use crate::plan::EditPlan;
-use crate::run::Rewritten;
+use crate::rewritten::Rewritten;
 use cst_core::{GreenNode, TreeIds};
 use edit_stages::Stages;
 use std::alloc::{AllocError, Global};
@@ -119,9 +121,19 @@ impl<'a> EditRun<'a> {
         ensures refused { IfErr result (RunRefuses self.entry.plan ids.old) }
         ensures err { OnErr result (ids.new ≡ ids.old) }
     {
-        let plan = self.plan;
+        let rewritten = self.rewritten(alloc)?;
+        self.plan.edit_of(alloc, ids, rewritten)
+    }
+
+    // The tree that the steps made, with the paths of its changed and its annotated elements.
+    pub(crate) fn rewritten(&self, alloc: Global) -> Result<Rewritten, EngineError>
+        requires { is_complete self.now.plan.changes (is_done self.now) ≡ true }
+        ensures ok { IfOk result (HasRewritten self.now.plan) }
+        ensures short { IfOk result (λ r. text_length (branch_tree r.green) < length_limit) }
+        ensures refused { IfErr result (EngineRefuses self.now.plan) }
+    {
         let green = self.stages.green().share(alloc)?;
-        let rewritten = plan.rewritten_tree(alloc)?;
-        plan.edit_of(alloc, ids, rewritten.with_tree(green))
+        let rewritten = self.plan.rewritten_tree(alloc)?;
+        self.plan.within_limit(rewritten.with_tree(green))
     }
 }

@@ -29,7 +29,7 @@ impl EditPlan {
         default_order(alloc, &self.changes, &self.fates)
     }
 
-    /// Carries the changes out one at a time, in this order: every allowed order gives the same edit, that of `run`.
+    /// Carries the changes out one at a time, in this order: every allowed order gives the same edit, that of `run_with`.
     ///
     /// Where the order is not allowed, `NotEachOnce`, `OwnerTooEarly`, `GapOutOfOrder` and `TokenTooEarly` are tested in this order,
     /// each of the whole list. Then `TooLong` comes, then `NoTreeNumber`; `Memory` may come at any time. None of them draws a number.
@@ -52,7 +52,11 @@ impl EditPlan {
     }
 
     // A run in which all changes are done, in this order.
-    fn carried_out(&self, alloc: Global, order: &[usize]) -> Result<EditRun<'_>, AllocError>
+    pub(crate) fn carried_out(
+        &self,
+        alloc: Global,
+        order: &[usize],
+    ) -> Result<EditRun<'_>, AllocError>
         requires { IsAllowed self.now.changes order.now }
         ensures { IfOk result (IsCarriedOut self.now) }
     {

@@ -14,48 +14,25 @@ ghost use Rattle.edit_change.specs.inner.Fate.{fate};
 ghost use Rattle.edit_change.specs.Fits.{Fits};
 ghost use Rattle.edit_stages.specs.NewTree.{independents};
 ghost use Rattle.edit_plan.specs.Plan.{Makes, RunRefuses};
-ghost use Rattle.edit_plan.specs.inner.PlanRun.{AreOwned, FindsInRoot, HasMade, HasRewritten, IsOneNode, KeepsTop};
+ghost use Rattle.edit_plan.specs.Engine.{HasRewritten, EngineRefuses};
+ghost use Rattle.edit_plan.specs.inner.PlanRun.{AreOwned, FindsInRoot, HasMade, IsOneNode, KeepsTop};
 ghost use Rattle.edit_plan.specs.inner.PlanRun.{root_rewritten};
 
 use crate::annotated::{annotated_paths, elements_by_annotation, registered_copies};
-use crate::annotation::SyntaxAnnotation;
 use crate::dependent::{Dependent, dependents};
 use crate::edit::SyntaxEdit;
 use crate::edit_error::EditError;
+use crate::engine::EditEngine;
+use crate::engine_error::EngineError;
 use crate::given::given_table;
 use crate::mark_paths::mark_paths;
 use crate::plan::EditPlan;
+use crate::rewritten::Rewritten;
 use crate::sought::SoughtIndex;
-use cst_core::{GreenElement, GreenNode, SyntaxElement, SyntaxNode, TreeIds};
+use cst_core::{GreenElement, GreenNode, LENGTH_LIMIT, SyntaxElement, SyntaxNode, TreeIds};
 use edit_change::{Change, Fate};
 use rewriting::{Aimed, GivenTable, Rebuilt, rebuild_whole};
 use std::alloc::{AllocError, Global};
-
-// A tree that is not a root's yet, the paths of the elements that changes brought, and those of annotated ones.
-#[derive(Drop)]
-pub(crate) struct Rewritten {
-    green: GreenNode,
-    changed: Vec<Vec<usize>>,
-    annotated: Vec<(SyntaxAnnotation, Vec<usize>)>,
-}
-
-impl Rewritten {
-    // The same paths in this tree.
-    pub(crate) fn with_tree(self, green: GreenNode) -> Rewritten
-        ensures { result ≡ record self { green = green } }
-    {
-        let Rewritten {
-            green: _,
-            changed,
-            annotated,
-        } = self;
-        Rewritten {
-            green,
-            changed,
-            annotated,
-        }
-    }
-}
 
 // A tree that is not a root's yet, for each of some elements the paths of its copies, and the paths of the elements that changes brought.
 #[derive(Drop)]
@@ -66,18 +43,23 @@ struct Made {
 }
 
 impl EditPlan {
-    /// Carries the plan out: the new tree under the next number of `ids`, and its changed elements.
+    /// Carries the plan out by an engine: the new tree under the next number of `ids`, and its changed elements.
     ///
     /// `TooLong` comes first, then `NoTreeNumber`; `Memory` may come at any time. None of them draws a number, and the old tree is
     /// as it was.
-    pub fn run(&self, alloc: Global, ids: &mut TreeIds) -> Result<SyntaxEdit, EditError>
+    pub fn run_with<E: EditEngine>(
+        &self,
+        alloc: Global,
+        ids: &mut TreeIds,
+        engine: &mut E,
+    ) -> Result<SyntaxEdit, EditError>
         ensures ok { IfOk result (Makes self.now ids.old) }
         ensures short { IfOk result (λ e. text_length e.new_root.root < length_limit) }
         ensures drawn { OnOk result (ids.new ≡ ids.old + 1) }
         ensures refused { IfErr result (RunRefuses self.now ids.old) }
         ensures err { OnErr result (ids.new ≡ ids.old) }
     {
-        let rewritten = self.rewritten_tree(alloc)?;
+        let rewritten = engine.run(alloc, self)?;
         self.edit_of(alloc, ids, rewritten)
     }
 
@@ -88,7 +70,8 @@ impl EditPlan {
         ids: &mut TreeIds,
         rewritten: Rewritten,
     ) -> Result<SyntaxEdit, EditError>
-        requires { HasRewritten self.now rewritten }
+        requires rewritten { HasRewritten self.now rewritten }
+        requires short { text_length (branch_tree rewritten.green) < length_limit }
         ensures ok { IfOk result (Makes self.now ids.old) }
         ensures short { IfOk result (λ e. text_length e.new_root.root < length_limit) }
         ensures drawn { OnOk result (ids.new ≡ ids.old + 1) }
@@ -113,6 +96,19 @@ impl EditPlan {
             changed,
             annotated,
         })
+    }
+
+    // What was made for the plan, if its text is within the limit.
+    pub(crate) fn within_limit(&self, rewritten: Rewritten) -> Result<Rewritten, EngineError>
+        requires { HasRewritten self.now rewritten }
+        ensures ok { IfOk result (HasRewritten self.now) }
+        ensures short { IfOk result (λ r. text_length (branch_tree r.green) < length_limit) }
+        ensures refused { IfErr result (EngineRefuses self.now) }
+    {
+        if rewritten.green.length() >= LENGTH_LIMIT {
+            return Err(EngineError::TooLong);
+        }
+        Ok(rewritten)
     }
 
     // The new tree, and the paths of its changed and annotated elements.

@@ -6,7 +6,7 @@
 --     with_answer                     another answer for one change
 --     paths_of_mark                 of marks in the trees that stand in a place, the paths of one mark in its tree
 --     path_lists                    lists of paths in code
---     annotated_path, numbered_paths      an annotation's number with a path, in code; each number with each path of its list
+--     numbered_paths                each number with each path of its list
 --     AreMarksFrom                  a table has the marks of what changes of this depth or more give, and of those that own nothing
 --     ArePathsOf                    so many lists have the paths of these marks, each those of its number
 --     HasPathMore, PathsStay        a list has one path more at its end; the others are as they were
@@ -31,6 +31,7 @@ use Rattle.rewriting.specs.inner.Marked.{MarkTree, Marking, mark_of, wanted}
 use Rattle.rewriting.specs.declared.mark.Mark.{Mark}
 use Rattle.edit_plan.specs.AnnotationTable.{elements_at}
 use Rattle.edit_plan.specs.Results.{paths_with}
+use Rattle.edit_plan.specs.Engine.{annotated_path}
 use Rattle.edit_plan.specs.declared.annotation_table.AnnotationTable.{AnnotationTable}
 use Rattle.rewriting.specs.inner.Pass.{AreMarkedIn}
 use Rattle.rewriting.specs.Topmost.{paths_of}
@@ -73,9 +74,6 @@ abbrev pub path_lists : List (Vec (Vec ℕ Global) Global) → List (List Path)
 path_lists ls = map (λ l. paths_of l.items) ls
 
 -- ---- with their annotations
-abbrev pub annotated_path : ℕ × Vec ℕ Global → ℕ × Path
-annotated_path n = (n.0, n.1.items)
-
 abbrev pub numbered_paths : List ℕ → List (List Path) → List (ℕ × Path)
 numbered_paths [] ls = []
 numbered_paths (n ∷ ns) [] = []

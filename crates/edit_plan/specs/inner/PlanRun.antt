@@ -2,25 +2,24 @@
 --     IsPlanned                     what becomes of each change, and the places of owners
 --     IsNewRoot                     a root whose text is within the limit, as that of every edit is
 --     TellsOf                       equal tree numbers have equal trees, as far as a registered element and the mapping go
---     IsRewritten                   the tree that a plan makes, without its origins, and the changed and the annotated paths in it
 --     IsOneNode, BringsNode         trees that are one node; a change that brings one node
 --     KeepsTop                      one node stands in the place of the root
---     IsMade                        the same, where some elements are registered: the paths of the copies of each
+--     IsMade                        the tree that a plan makes, without its origins, the changed paths in it, and those of the copies of each of some elements
 --     AreOwned                      a table has what each change of a plan owns, for some places
 --     root_rewritten, FindsInRoot   what stands in the place of the root; where its marks are
---     HasMade, HasRewritten         the same as IsMade and IsRewritten, of values in code
-use Rattle.std.specs.Prelude.{◌≡◌, ◌<◌, ℕ, List, [], ◌∷◌, map, length, Option, All, Vec}
+--     HasMade                       the same as IsMade, of values in code
+use Rattle.std.specs.Prelude.{◌≡◌, ◌<◌, ℕ, List, [], ◌∷◌, map, length, Option, Vec}
 use Rattle.std.specs.Global.{Global}
 use Rattle.cst_core.specs.Path.{Path}
 use Rattle.cst_core.specs.Tree.{SyntaxTree, Forest, Node, text_length}
 use Rattle.cst_core.specs.Green.{branch_tree, length_limit}
-use Rattle.cst_core.specs.Element.{Address, Element, IsNode, NumbersTell, address, subtree}
+use Rattle.cst_core.specs.Element.{Element, IsNode, NumbersTell, address, subtree}
 use Rattle.cst_core.specs.SyntaxElement.{element_of}
 use Rattle.cst_core.specs.declared.element.SyntaxElement.{SyntaxElement}
-use Rattle.edit_map.specs.Mapping.{followed, mapped_elements}
-use Rattle.edit_plan.specs.Plan.{Plan, IsPlan, WouldMake, registered_elements}
+use Rattle.edit_map.specs.Mapping.{mapped_elements}
+use Rattle.edit_plan.specs.Plan.{Plan, IsPlan, WouldMake}
 use Rattle.edit_change.specs.inner.Fate.{fate}
-use Rattle.edit_plan.specs.inner.Marks.{annotated_path, numbered_paths, path_lists}
+use Rattle.edit_plan.specs.inner.Marks.{path_lists}
 use Rattle.edit_plan.specs.inner.Sought.{sought_at}
 use Rattle.edit_plan.specs.inner.OwnerTables.{places_in, AreDependents, AreGiven}
 use Rattle.edit_change.specs.Change.{payload}
@@ -38,7 +37,6 @@ use Rattle.edit_change.specs.declared.change.Change.{Change}
 use Rattle.edit_plan.specs.Places.{ArePlaces}
 use Rattle.edit_plan.specs.declared.dependent.Dependent.{Dependent}
 use Rattle.edit_plan.specs.declared.run.Made.{Made}
-use Rattle.edit_plan.specs.declared.run.Rewritten.{Rewritten}
 use Rattle.edit_plan.specs.declared.sought.SoughtIndex.{SoughtIndex}
 use Rattle.edit_change.specs.declared.fate.Fate.{Fate}
 
@@ -54,16 +52,6 @@ pub record IsNewRoot (e : Element) : Type 0 where
 
 abbrev pub TellsOf : Plan → SyntaxElement × ℕ → Type 0
 TellsOf p r = NumbersTell (element_of r.0 ∷ mapped_elements p.mapping)
-
--- the tree, the changed and the annotated paths in it; registered elements lead to these addresses
-pub record IsRewritten (p : Plan) (tree : SyntaxTree) (changed_paths : List Path) (annotated_paths : List (ℕ × Path)) : Type 0 where
-  pub made : OriginTree
-  pub would : WouldMake p made
-  pub tree_is : tree ≡ plain made
-  pub changed_is : changed_paths ≡ changed (is_free p.changes) made
-  pub reached : List Address
-  pub annotated_is : annotated_paths ≡ numbered_paths (map (λ r. r.1) p.registrations) (map (copies_of made) reached)
-  pub reached_are : All (TellsOf p) p.registrations → reached ≡ map (λ r. address (followed p.mapping r.0)) (registered_elements p.registrations)
 
 pub record IsMade (p : Plan) (es : List SyntaxElement) (tree : SyntaxTree) (copies : List (List Path)) (changed_paths : List Path) : Type 0 where
   pub made : OriginTree
@@ -97,6 +85,3 @@ FindsInRoot p table aims index found =
 
 abbrev pub HasMade : Plan → List SyntaxElement → Made → Type 0
 HasMade p es m = IsMade p es (branch_tree m.green) (path_lists m.copies.items) (paths_of m.changed.items)
-
-abbrev pub HasRewritten : Plan → Rewritten → Type 0
-HasRewritten p r = IsRewritten p (branch_tree r.green) (paths_of r.changed.items) (map annotated_path r.annotated.items)

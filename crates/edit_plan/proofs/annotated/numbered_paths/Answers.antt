@@ -2,7 +2,8 @@ use Rattle.std.proofs.Common.{◌≡◌, ◌<◌, ◌+◌, ◌++◌, ℕ, List, 
 use Rattle.std.proofs.lemmas.List.{append_assoc, at_drop_more}
 use Rattle.cst_core.specs.Path.{Path}
 use Rattle.rewriting.specs.Topmost.{paths_of}
-use Rattle.edit_plan.specs.inner.Marks.{annotated_path, numbered_paths, path_lists}
+use Rattle.edit_plan.specs.Engine.{annotated_path}
+use Rattle.edit_plan.specs.inner.Marks.{numbered_paths, path_lists}
 use Rattle.edit_plan.proofs.annotated.numbered_paths.Goals as goal
 
 pub loop-number-preserved : goal.loop-number-preserved

@@ -1,5 +1,6 @@
 use Rattle.std.proofs.Common.{◌≡◌, ◌++◌, map, drop}
-use Rattle.edit_plan.specs.inner.Marks.{annotated_path, numbered_paths, path_lists}
+use Rattle.edit_plan.specs.Engine.{annotated_path}
+use Rattle.edit_plan.specs.inner.Marks.{numbered_paths, path_lists}
 use Rattle.edit_plan.proofs.annotated.numbered_paths.Given as goal
 
 abbrev pub invariant-loop-number : goal.invariant-loop-number

@@ -1,6 +1,6 @@
 use Rattle.std.proofs.Common.{◌≡◌, ◌++◌, map, drop}
 use Rattle.rewriting.specs.Topmost.{paths_of}
-use Rattle.edit_plan.specs.inner.Marks.{annotated_path}
+use Rattle.edit_plan.specs.Engine.{annotated_path}
 use Rattle.edit_plan.proofs.annotated.push_annotated.Given as goal
 
 abbrev pub invariant-loop-path : goal.invariant-loop-path

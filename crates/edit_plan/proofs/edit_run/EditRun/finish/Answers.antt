@@ -1,20 +1,7 @@
-use Rattle.std.proofs.Common.{◌≡◌, ◌∙◌, map, ap, sym, subst}
-use Rattle.std.specs.Prelude.{true, IfErr}
-use Rattle.schedule.specs.Schedule.{is_complete}
+use Rattle.std.proofs.Common.{subst}
+use Rattle.std.specs.Prelude.{IfErr}
 use Rattle.edit_plan.specs.Plan.{RunRefuses}
-use Rattle.edit_plan.specs.Run.{is_done}
-use Rattle.edit_plan.proofs.RunFacts.{some-way, tree-shown, carried-tree}
-use Rattle.edit_plan.proofs.Carrying.{with-tree}
 use Rattle.edit_plan.proofs.edit_run.EditRun.finish.Goals as goal
-
-pub green-requires : goal.green-requires
-green-requires c = some-way _ _ c.self.invariant
-
-pub edit_of-requires : goal.edit_of-requires
-edit_of-requires c =
-    let complete = subst (λ r. is_complete r.plan.changes (is_done r) ≡ true) (sym c.self.view_is) c.requires in
-    let shown = carried-tree c.self.inside.plan.now c.self.inside.stages _ (tree-shown c.self.inside.plan.now c.self.inside.stages c.self.invariant _ c.green.ensures) complete in
-    with-tree c.self.inside.plan.now c.in_ok-rewritten.rewritten c.with_tree.result c.in_ok-green.green _ c.in_ok-rewritten.ensures c.in_ok-green.ensures shown c.with_tree.ensures
 
 pub returns-clause-refused : goal.returns-clause-refused
 returns-clause-refused c = subst (λ r. IfErr c.edit_of.result (RunRefuses r.plan c.args.ids.now)) c.self.view_is c.edit_of.ensures.refused

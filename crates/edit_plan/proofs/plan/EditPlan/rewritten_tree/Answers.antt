@@ -6,7 +6,8 @@ use Rattle.cst_core.specs.SyntaxElement.{element_of}
 use Rattle.edit_map.specs.Mapping.{followed, mapped_elements}
 use Rattle.rewriting.specs.Topmost.{paths_of}
 use Rattle.edit_plan.specs.Plan.{Plan}
-use Rattle.edit_plan.specs.inner.Marks.{annotated_path, numbered_paths, path_lists}
+use Rattle.edit_plan.specs.Engine.{annotated_path}
+use Rattle.edit_plan.specs.inner.Marks.{numbered_paths, path_lists}
 use Rattle.edit_plan.specs.inner.PlanRun.{IsMade}
 use Rattle.edit_plan.proofs.ByAnnotation.{is_rewritten}
 use Rattle.edit_plan.proofs.plan.EditPlan.rewritten_tree.Goals as goal

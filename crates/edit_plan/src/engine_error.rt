@@ -1,0 +1,24 @@
+use std::alloc::AllocError;
+use thiserror::Error;
+
+/// Why an engine does not make the new tree of a plan.
+#[derive(Debug, PartialEq, Eq, Drop, Error)]
+pub enum EngineError {
+    /// The text of the new tree passes 4,294,967,295 bytes.
+    #[error("TooLong")]
+    TooLong,
+    /// Memory was refused.
+    #[error("Memory")]
+    Memory,
+}
+
+impl From<AllocError> for EngineError {
+    ghost use Rattle.std.specs.Prelude.{◌≡◌};
+    ghost use Rattle.edit_plan.specs.declared.engine_error.EngineError.{EngineError};
+
+    ghost from_gives = { λ _ e. e ≡ EngineError.Memory };
+
+    fn from(_: AllocError) -> EngineError {
+        EngineError::Memory
+    }
+}

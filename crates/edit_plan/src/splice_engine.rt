@@ -1,0 +1,28 @@
+use crate::engine::EditEngine;
+use crate::engine_error::EngineError;
+use crate::plan::EditPlan;
+use crate::rewritten::Rewritten;
+use std::alloc::Global;
+
+/// An engine that carries the changes out one at a time, each by one splice, in the default order of a plan.
+#[derive(Drop)]
+pub struct SpliceEngine {}
+
+impl SpliceEngine {
+    /// Such an engine. It takes no memory.
+    pub fn new(_alloc: Global) -> SpliceEngine {
+        SpliceEngine {}
+    }
+}
+
+impl EditEngine for SpliceEngine {
+    ghost use Rattle.std.specs.Prelude.{◌≡◌};
+
+    ghost runs = { λ before _ _ after. after ≡ before };
+
+    fn run(&mut self, alloc: Global, plan: &EditPlan) -> Result<Rewritten, EngineError> {
+        let order = plan.default_order(alloc)?;
+        let run = plan.carried_out(alloc, &order)?;
+        run.rewritten(alloc)
+    }
+}
