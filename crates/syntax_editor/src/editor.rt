@@ -9,7 +9,7 @@ ghost use Rattle.syntax_editor.specs.Editor.{has_parent, edited_root, new_editor
 use crate::factory::SyntaxFactory;
 use change_list::ChangeList;
 use cst_core::{SyntaxElement, SyntaxNode, TreeError, TreeIds};
-use edit_plan::{Change, EditError, EditPlan, SyntaxAnnotation, SyntaxEdit};
+use edit_plan::{Change, EditError, EditPlan, OnePassEngine, SyntaxAnnotation, SyntaxEdit};
 use std::alloc::Global;
 use std::marker::Model;
 
@@ -128,6 +128,7 @@ impl SyntaxEditor {
         ensures refused { IfErr result (FinishRefuses self ids.old) }
         ensures err { OnErr result (ids.new ≡ ids.old) }
     {
-        self.plan(alloc)?.run(alloc, ids)
+        let plan = self.plan(alloc)?;
+        plan.run_with(alloc, ids, &mut OnePassEngine::new(alloc))
     }
 }
