@@ -8,7 +8,7 @@ use cst_core::TreeIds;
 use std::alloc::Global;
 use std::rt::Clock;
 use std::time::Instant;
-use syntax_editor::{EditPlan, SyntaxEditor};
+use syntax_editor::{EditPlan, OnePassEngine, SyntaxEditor};
 
 /// How often all growths are gone through, and how often each size is measured then, one time after another.
 const ROUNDS: usize = 5;
@@ -197,7 +197,7 @@ fn plan<R: Clock>(rt: &R, alloc: Global, editor: SyntaxEditor) -> Result<(EditPl
 // How many bytes the text of the new tree has, and how many seconds it took to carry a plan out.
 fn run<R: Clock>(rt: &R, alloc: Global, ids: &mut TreeIds, plan: &EditPlan) -> Result<(u64, f64)> {
     let start = Instant::now(rt)?;
-    let edit = plan.run(alloc, ids)?;
+    let edit = plan.run_with(alloc, ids, &mut OnePassEngine::new(alloc))?;
     let seconds = start.elapsed(rt)?.as_secs_f64();
     Ok((edit.new_root().text_len(), seconds))
 }

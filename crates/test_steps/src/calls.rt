@@ -219,7 +219,7 @@ pub const OWED: &[Owed] = &[
     },
     Owed {
         call: "run",
-        name: "EditPlan::run",
+        name: "EditPlan::run_with",
         answers: &["ok", "TooLong", "NoTreeNumber"],
     },
     Owed {

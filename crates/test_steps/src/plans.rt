@@ -10,7 +10,7 @@ use crate::session::{Session, position};
 use cst_core::SyntaxNode;
 use std::alloc::Global;
 use std::mem::replace;
-use syntax_editor::{Change, EditError, EditPlan, ElementList, SyntaxMapping};
+use syntax_editor::{Change, EditError, EditPlan, ElementList, OnePassEngine, SyntaxMapping};
 use test_trees::{NoAnswer, Words, word};
 
 /// What the step of this name answers, if it is one of these.
@@ -156,7 +156,7 @@ fn run(alloc: Global, session: &mut Session) -> Result<String, NoAnswer> {
         .plans
         .last()
         .ok_or(NoAnswer::Missing("no plan was made"))?;
-    let edit = plan.run(alloc, &mut session.ids);
+    let edit = plan.run_with(alloc, &mut session.ids, &mut OnePassEngine::new(alloc));
     keep_edit(alloc, session, edit)
 }
 
