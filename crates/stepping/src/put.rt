@@ -2,9 +2,9 @@ ghost use Rattle.std.specs.Prelude.{◌≡◌, ◌≤◌, length, IfOk};
 ghost use Rattle.stepping.specs.inner.CurrentPaths.{start, StartFits};
 ghost use Rattle.stepping.specs.inner.Putting.{CanPutFrom, IsPutFrom};
 
+use crate::aim_target::AimTarget;
 use crate::done::{Among, Done};
 use crate::done_index::DoneIndex;
-use crate::aim_target::AimTarget;
 use green_tree::GreenElement;
 use std::alloc::{AllocError, Global};
 

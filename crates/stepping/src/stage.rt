@@ -4,10 +4,10 @@ ghost use Rattle.green_tree.specs.GreenElement.{element_tree, element_trees};
 ghost use Rattle.rewriting.specs.inner.Aimed.{numbered};
 ghost use Rattle.stepping.specs.Stage.{old_tree, new_tree, IsStage, CanStep, TakesStep, StaysAs, CountsStep};
 
+use crate::aim_target::AimTarget;
 use crate::done::Done;
 use crate::done_index::DoneIndex;
 use crate::put::put;
-use crate::aim_target::AimTarget;
 use green_tree::GreenElement;
 use rewriting::Aimed;
 use std::alloc::{AllocError, Global};
