@@ -39,6 +39,9 @@ EXCEPT = {
     "SyntaxMappingBuilder::new": "keeps the allocator, and asks for nothing",
     "SyntaxFactory::with_mappings": "keeps the allocator, and asks for nothing",
     "SyntaxFactory::without_mappings": "asks for nothing",
+    "OnePassEngine::new": "asks for nothing",
+    "SpliceEngine::new": "asks for nothing",
+    "EditEngine::run": "EditPlan::run_with calls it, and has rows",
     "Change::green_payload": "gives a type that no user of edit_plan can name; EditPlan::run_with calls it, and has rows",
 }
 

@@ -223,6 +223,11 @@ pub const OWED: &[Owed] = &[
         answers: &["ok", "TooLong", "NoTreeNumber"],
     },
     Owed {
+        call: "run_spliced",
+        name: "EditPlan::run_with",
+        answers: &["ok", "TooLong", "NoTreeNumber"],
+    },
+    Owed {
         call: "default_order",
         name: "EditPlan::default_order",
         answers: &["ok"],
