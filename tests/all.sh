@@ -1,11 +1,19 @@
 #!/usr/bin/env bash
-# All tests: what the docs say of files and definitions, the gate, scripts through the built program and through a plain model, each
-# row of the table with each of its growths refused in turn, and how many growths an edit asks for.
+# All tests: what the docs say of files and definitions, the gate, scripts through the built program and through a plain model, hostile
+# scripts, each row of the table with each of its growths refused in turn, and how many growths an edit asks for.
 set -euo pipefail
 cd "$(dirname "$0")/.."
-python3 tests/docs.py
-rt ci
-tests/scripts.sh
-tests/models.sh
-tests/refuse_growths.sh
-tests/growths.sh
+
+# Runs a command, and says how many seconds it took, and its processor time.
+step() {
+    local TIMEFORMAT="$*: %0R seconds, processors %0U and %0S"
+    time "$@"
+}
+
+step python3 tests/docs.py
+step rt ci
+step tests/scripts.sh
+step tests/models.sh
+step python3 tests/hostile.py
+step tests/refuse_growths.sh
+step tests/growths.sh

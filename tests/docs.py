@@ -1,7 +1,8 @@
 """Compares what the docs and the spec files say is there with what is there.
 
 The tables of files in docs/ARCHITECTURE.md name each source and each spec file of a library once, and no other but spec files
-that it gives again; the head of a spec file names what it defines for others, all of it, and nothing else.
+that it gives again; the head of a spec file names what it defines for others, all of it, and nothing else. What docs/CALLING.md
+and README.md show of an example is in its source, word for word.
 """
 
 import re
@@ -107,8 +108,31 @@ def compare_heads():
             wrong.append(f"{file.relative_to(ROOT)}: its head does not name {name}")
 
 
+def shown_code(text):
+    return re.findall(r"```rust\n(.*?)```", text, re.S)
+
+
+def compare_examples():
+    """A heading of docs/CALLING.md names the example whose code it shows; README.md shows code of any."""
+    sources = {file.parent.parent.name: file.read_text() for file in ROOT.glob("crates/example_*/src/main.rt")}
+    shown = set()
+    for section in re.split(r"^## ", (ROOT / "docs/CALLING.md").read_text(), flags=re.M):
+        named = re.search(r"`(example_\w+)`", section.split("\n")[0])
+        if named:
+            shown.add(named.group(1))
+            for code in shown_code(section):
+                if code not in sources.get(named.group(1), ""):
+                    wrong.append(f"docs/CALLING.md: code that is not in {named.group(1)}: {code[:60]!r}")
+    for name in sorted(set(sources) - shown):
+        wrong.append(f"docs/CALLING.md: no heading names {name}")
+    for code in shown_code((ROOT / "README.md").read_text()):
+        if not any(code in source for source in sources.values()):
+            wrong.append(f"README.md: code that is in no example: {code[:60]!r}")
+
+
 compare_tables()
 compare_heads()
+compare_examples()
 for line in wrong:
     print("wrong:", line)
 print(f"docs: {len(wrong)} wrong")

@@ -1,7 +1,8 @@
 #!/usr/bin/env bash
 # Counts what edits at one end of a tree ask of memory, and what indenting asks for where nothing changes: as many growths for
-# a tree of some 2,000 nodes as for one of some 60, of the same depth, since what stays is shared. The program `test_rows` makes the
-# steps of each row with the last one and without it; the difference is what that one asks for.
+# a tree of some 2,000 nodes as for one of some 60, of the same depth, or for a list with 1,000 tokens more, since what stays is shared.
+# Of plans that is asked of each engine, and of a run with its steps. The program `test_rows` makes the steps of each row with the last
+# one and without it; the difference is what that one asks for.
 set -euo pipefail
 cd "$(dirname "$0")/.."
 
@@ -9,12 +10,7 @@ room=$(mktemp -d)
 trap 'rm -rf "$room"' EXIT
 "${CC:-cc}" -O1 -shared -fPIC -o "$room/refuse.so" tests/refuse_growth.c -ldl
 
-# The gate leaves the program where `rt run` would make it; it is made where it is not there, or older than a source.
-program=crates/test_rows/out/test_rows
-if [ ! -x "$program" ] || [ -n "$(find crates -name out -prune -o -type f -newer "$program" -print -quit)" ]; then
-    (cd crates/test_rows && rt run) <crates/test_rows/stdin >"$room/log" 2>&1 || [ -x "$program" ] || { cat "$room/log"; exit 1; }
-fi
-
+program=$(tests/program.sh test_rows)
 # How many growths a run of these steps asks for. Each of them must be done.
 growths() {
     printf 'growths: %s = not asked\n' "$1" >"$room/table"
@@ -23,27 +19,44 @@ growths() {
     sed -n 's/^growths //p' "$room/err"
 }
 
-# How many growths the last step asks for, $3, on a tree with $1 lists after the steps $2.
+# How many growths the last step asks for, $3, on the tree $1 after the steps $2.
 asked() {
     local all before
-    all=$(growths "tree R wide $1 L ; $2 ; $3")
-    before=$(growths "tree R wide $1 L ; $2")
+    all=$(growths "tree R $1 ; $2 ; $3")
+    before=$(growths "tree R $1 ; $2")
     echo $((all - before))
 }
 
 wrong=0
 
+# Says that the last step, $2 after the steps $1, asks for $3 growths on a small tree and $4 on a large one.
+report() {
+    if [ "$3" -eq "$4" ]; then
+        echo "$1 ; $2: $3 growths for each"
+    else
+        wrong=$((wrong + 1))
+        echo "wrong: $1 ; $2: $3 growths for a small tree, $4 for a large one"
+    fi
+}
+
 # The same steps on a small tree and on a large one, whose last list is in the slot $last.
 compare() {
     local small large last
-    last=19 && small=$(asked 20 "${1//LAST/$last}" "$2")
-    last=665 && large=$(asked 666 "${1//LAST/$last}" "$2")
-    if [ "$small" -eq "$large" ]; then
-        echo "$1 ; $2: $small growths for each"
-    else
-        wrong=$((wrong + 1))
-        echo "wrong: $1 ; $2: $small growths for a small tree, $large for a large one"
-    fi
+    last=19 && small=$(asked 'wide 20 L' "${1//LAST/$last}" "$2")
+    last=665 && large=$(asked 'wide 666 L' "${1//LAST/$last}" "$2")
+    report "$1" "$2" "$small" "$large"
+}
+
+# A list whose last literal has so many tokens. Its whitespace is long, so that an answer has the length of its text and not the text.
+list() {
+    printf '(ARG_LIST L_PAREN"(" (LITERAL INT_NUMBER"1") COMMA"," WHITESPACE"%120s" (LITERAL' ''
+    printf ' INT_NUMBER"2"%.0s' $(seq "$1")
+    printf ') R_PAREN")")'
+}
+
+# The same steps on a list whose last literal has one token, and on one where it has 1,000 more.
+compare_lists() {
+    report "$1" "$2" "$(asked "$(list 1)" "$1" "$2")" "$(asked "$(list 1001)" "$1" "$2")"
 }
 
 compare 'new R' 'finish'
@@ -53,5 +66,12 @@ compare 'new R ; insert first R R/0/1' 'finish'
 compare 'new R ; insert after R/LAST/5 R/0/1' 'finish'
 compare 'new R ; replace R/0/1 R/0/4 ; plan' 'run'
 compare 'new R ; replace R/LAST/4 R/0/1 ; plan' 'run'
+# A splice makes a list of the children of each node that it builds, one by one, so for splices only what they leave may grow.
+for step in 'run' 'run_spliced' 'stepped 0'; do
+    compare_lists 'tree U U ; new R ; replace R/1 U/0 ; plan' "$step"
+done
+for step in 'run' 'run_spliced' 'stepped 0 1'; do
+    compare_lists 'tree X X ; new R ; insert first R/1 X/0 ; replace R/1 R/1 ; plan' "$step"
+done
 compare 'numbers 2' 'free_indent R 1'
 [ "$wrong" -eq 0 ]

@@ -1,19 +1,18 @@
 #!/usr/bin/env bash
-# Asks the editor and a plain model what comes of the changes of each script of tests/corpus, by the program `test_models`.
+# Asks the editor and a plain model what comes of the changes of each script of tests/corpus and of tests/scripts/*.table, by the program
+# `test_models`: at once, one at a time, and in the order of the script.
 set -euo pipefail
 cd "$(dirname "$0")/.."
 
-# The gate leaves the program where `rt run` would make it; it is made where it is not there, or older than a source.
-program=crates/test_models/out/test_models
-if [ ! -x "$program" ] || [ -n "$(find crates -name out -prune -o -type f -newer "$program" -print -quit)" ]; then
-    (cd crates/test_models && rt run) <crates/test_models/stdin >/dev/null 2>&1 || [ -x "$program" ]
-fi
-
-out=$(mktemp)
-trap 'rm -f "$out"' EXIT
+program=$(tests/program.sh test_models)
+room=$(mktemp -d)
+trap 'rm -rf "$room"' EXIT
+mkdir "$room/tables"
+python3 tests/tables.py "$room/tables"
+out=$room/out
 compared=0
 wrong=0
-for answer in tests/corpus/*/*.stdout; do
+for answer in tests/corpus/*/*.stdout "$room"/tables/*.stdout; do
     script=${answer%.stdout}
     status=0
     timeout 20 "$program" <"$script" >"$out" || status=$?
@@ -24,5 +23,5 @@ for answer in tests/corpus/*/*.stdout; do
     *) wrong=$((wrong + 1)) && echo "wrong: $script: status $status" && head -c 300 "$out" ;;
     esac
 done
-echo "test_models: both engines answer the same to $compared scripts; wrong: $wrong"
+echo "test_models: both answer the same to $compared scripts; wrong: $wrong"
 [ "$wrong" -eq 0 ]

@@ -1,7 +1,7 @@
 #!/usr/bin/env bash
-# Runs each row of the table of `test_rows`, and the program `syned` on its script and on one with an order, with the first, second and each further growth
-# refused, until a run asks for no more. A row must answer as expected or end for want of memory, and what a
-# refused call must leave as it was is asked for then (tests/refused_rows.py); `syned` must print all of its answer or nothing.
+# Runs each row of the table of `test_rows`, and the program `syned` on some scripts, with the first, second and each further growth
+# refused, until a run asks for no more. A row must answer as expected or end for want of memory, and what a refused call must leave as
+# it was is asked for then (tests/refused_rows.py); `syned` must print all of its answer, or nothing and end with status 3.
 # The kit's own way to refuse an allocation takes one number a run and compiles the program anew for each, so a small library
 # stands before the C library here.
 set -euo pipefail
@@ -11,15 +11,6 @@ room=$(mktemp -d)
 trap 'rm -rf "$room"' EXIT
 "${CC:-cc}" -O1 -shared -fPIC -o "$room/refuse.so" tests/refuse_growth.c -ldl
 
-# The gate leaves a program where `rt run` would make it; it is made where it is not there, or older than a source.
-make_program() {
-    local program=crates/$1/out/$1 input=/dev/null
-    [ ! -f "crates/$1/stdin" ] || input=crates/$1/stdin
-    if [ ! -x "$program" ] || [ -n "$(find crates -name out -prune -o -type f -newer "$program" -print -quit)" ]; then
-        (cd "crates/$1" && rt run) <"$input" >"$room/log" 2>&1 || [ -x "$program" ] || { cat "$room/log"; exit 1; }
-    fi
-}
-
 # A run of the program with a growth refused has gone wrong; $1 says what is wrong with it.
 went_wrong() {
     echo "$1: with growth $growth refused the program ended with status $status and printed:"
@@ -27,19 +18,29 @@ went_wrong() {
     exit 1
 }
 
-# Runs the program $1 on the input $2, whose answer is the file $3, with each growth refused; $4 looks at each such run.
+# The exit status that goes with the answer in a file.
+status_of() {
+    case $(head -c 4 "$1") in
+    text) echo 0 ;;
+    refu) echo 1 ;;
+    *) echo 2 ;;
+    esac
+}
+
+# Runs the program $1 on the input $2, whose answer is the file $2.stdout, with each growth refused; $3 looks at each such run.
 refuse_each() {
-    local program=crates/$1/out/$1 input=$2 answer=$3 growth status
-    make_program "$1"
+    local program input=$2 answer=$2.stdout growth status wanted
+    program=$(tests/program.sh "$1")
+    wanted=$(status_of "$answer")
     for ((growth = 1; growth <= 5000; growth++)); do
         status=0
         timeout 20 env REFUSE_GROWTH=$growth LD_PRELOAD="$room/refuse.so" "$program" <"$input" >"$room/out" 2>"$room/err" || status=$?
         if ! grep -q '^growth refused' "$room/err"; then
-            [ "$status" -eq 0 ] && cmp -s "$answer" "$room/out" || went_wrong "$1 without a refusal"
-            echo "$1 on $input: refused growths: $((growth - 1)), each answered"
+            [ "$status" -eq "$wanted" ] && cmp -s "$answer" "$room/out" || went_wrong "$1 without a refusal"
+            echo "$1 on ${input##*/}: refused growths: $((growth - 1)), each answered"
             return
         fi
-        "$4" || went_wrong "$1"
+        "$3" || went_wrong "$1"
     done
     echo "$1 on $input: more than 5000 growths"
     exit 1
@@ -47,15 +48,28 @@ refuse_each() {
 
 # Where room to spare was refused, a list may still get the room that it needs; then the answer is the whole one.
 fails_in_silence() {
-    if [ "$status" -eq 0 ]; then
+    if [ "$status" -eq "$wanted" ]; then
         cmp -s "$answer" "$room/out"
     else
         [ "$status" -eq 3 ] && [ ! -s "$room/out" ]
     fi
 }
 
-make_program test_rows
-python3 tests/refused_rows.py "$room/refuse.so"
-refuse_each syned crates/syned/stdin crates/syned/stdout fails_in_silence
+python3 tests/refused_rows.py "$room/refuse.so" "$(tests/program.sh test_rows)"
+mkdir "$room/tables"
+python3 tests/tables.py "$room/tables"
+while IFS= read -r row; do
+    refuse_each syned "$room/tables/$row" fails_in_silence
+done <<'ROWS'
+edits.table: one token for a literal
+owners.table: inserts move into a wrapped block
+notes.table: notes of a name and of its use in a wrapped value
+changes.table: an insert before a range
+changes.table: two ranges that meet
+orders.table: inserts into a wrapped block by 1 0 2
+orders.table: inserts into a wrapped block by 0 2 1
+words.table: every word
+bad.table: a line behind the end
+ROWS
 # Seven changes carried out in an order, some of them in what two others bring.
-refuse_each syned tests/corpus/orders/388 tests/corpus/orders/388.stdout fails_in_silence
+refuse_each syned tests/corpus/orders/388 fails_in_silence

@@ -1,22 +1,21 @@
 #!/usr/bin/env python3
 """Runs each row of the table of `test_rows` with its first, second and each further growth refused.
 
-    refused_rows.py LIBRARY    LIBRARY is built of refuse_growth.c; the program stands in crates/test_rows/out
+    refused_rows.py LIBRARY PROGRAM    LIBRARY is built of refuse_growth.c; PROGRAM is `test_rows`
 
 A row is a table of its own, which begins with the line `growths are refused` and the trees that the row names. Each of its runs must
-answer as expected or end for want of memory. A call that was refused says its name (`Memory: NAME`). In the end each public call
-that takes an allocator must have done so, but for those of EXCEPT."""
+answer as expected or end because memory runs out. A call that was refused says its name (`Memory: NAME`). In the end each public call
+that takes an allocator, of all libraries of crates.txt, must have done so, but for those of EXCEPT, and for calls that no user can name.
+Of these each must stand in a crate above its own, so that it is refused below some call that is named."""
 import os
 import re
 import subprocess
 import sys
 import tempfile
 
-# Crates whose public calls take memory, with the names by which they give others again.
-CRATES = ["green_tree", "cst_core", "edit_map", "edit_change", "edit_plan", "indentation", "change_list", "spacing", "syntax_editor"]
-SURFACE = ["cst_core", "edit_map", "edit_plan", "syntax_editor"]
+# The crates that users name. They give some names of others again; what those have besides is below the surface.
+SURFACE = ["cst_core", "edit_map", "edit_plan", "syntax_editor", "list_removal", "tree_text", "syned_run"]
 
-PROGRAM = "crates/test_rows/out/test_rows"
 TABLE = "crates/test_rows/stdin"
 
 # Calls that no row can show to be refused. The sharing of a tree is a count, and the path of a root is empty.
@@ -40,10 +39,21 @@ EXCEPT = {
     "SyntaxFactory::with_mappings": "keeps the allocator, and asks for nothing",
     "SyntaxFactory::without_mappings": "asks for nothing",
     "OnePassEngine::new": "asks for nothing",
+    "OnePassEngine::starting_at": "asks for nothing",
     "SpliceEngine::new": "asks for nothing",
-    "EditEngine::run": "EditPlan::run_with calls it, and has rows",
     "Change::green_payload": "gives a type that no user of edit_plan can name; EditPlan::run_with calls it, and has rows",
+    "read_tree": "each row reads its trees by it, and ends where that is refused",
+    "run": "is the whole of the program `syned`, which tests/refuse_growths.sh runs with each growth refused",
+    "record_script": "is for tests alone; it records by the calls that `run` makes",
 }
+
+
+def libraries():
+    """The libraries of crates.txt but for those that are there for tests, which stand behind all others."""
+    with open("crates.txt", encoding="utf-8") as table:
+        names = re.findall(r"^(\w+):", table.read(), re.M)
+    crates = [name for name in names if os.path.exists(f"crates/{name}/src/lib.rt")]
+    return [name for name in crates if not name.startswith("test_")]
 
 
 def source(crate):
@@ -94,15 +104,28 @@ def is_trait(text, item):
 
 
 def owed_calls():
+    """The calls that a user can name, and those below the surface with their crates."""
     names = set().union(*map(given, SURFACE))
-    return {name for crate in CRATES for owner, name in calls_of(crate) if owner in names}
+    owed, below = set(), set()
+    for crate in libraries():
+        for owner, name in calls_of(crate):
+            if owner in names:
+                owed.add(name)
+            elif owner in given(crate):
+                below.add((crate, name))
+    return owed, below
+
+
+def is_called_above(crate, name):
+    word = re.compile(rf"\b{name.split('::')[-1]}\(")
+    return any(word.search(text) for other in libraries() if other != crate for text in source(other))
 
 
 def rows():
     """Each row of the table, with the trees that it names: those of a question stand in lines before it."""
     trees = {}
-    with open(TABLE, encoding="utf-8") as table:
-        for line in table.read().splitlines():
+    with open(TABLE, encoding="utf-8", newline="\n") as table:
+        for line in table.read().split("\n"):
             tree = re.match(r"tree (\S+) ", line)
             if not line or line.startswith("#"):
                 continue
@@ -113,23 +136,23 @@ def rows():
             yield line, [trees[name] for name in sorted(words & trees.keys())]
 
 
-def run_each(library, lines, table):
+def run_each(library, program, lines, table):
     table.seek(0)
     table.truncate()
     table.write("\n".join(["growths are refused", *lines, ""]))
     table.flush()
     table.seek(0)
     environment = {"LD_PRELOAD": library, "REFUSE_EACH": "1"}
-    done = subprocess.run([PROGRAM], stdin=table, capture_output=True, env=environment, timeout=600, check=False)
+    done = subprocess.run([program], stdin=table, capture_output=True, env=environment, timeout=600, check=False)
     return done.returncode, done.stdout.decode(errors="replace")
 
 
 def main():
-    library = os.path.abspath(sys.argv[1])
+    library, program = map(os.path.abspath, sys.argv[1:])
     refused, wrong, ran, growths = set(), 0, 0, 0
-    with tempfile.TemporaryFile("w+", encoding="utf-8") as table:
+    with tempfile.TemporaryFile("w+", encoding="utf-8", newline="\n") as table:
         for line, trees in rows():
-            status, out = run_each(library, [*trees, line], table)
+            status, out = run_each(library, program, [*trees, line], table)
             count = re.search(r"^growths: (\d+)\n\Z", out, re.M)
             ran += 1
             refused.update(re.findall(r"^Memory: (\S+)$", out, re.M))
@@ -137,10 +160,10 @@ def main():
                 growths += int(count.group(1))
             else:
                 wrong += 1
-                said = [it for it in out.splitlines() if not it.startswith("Memory: ")]
+                said = [it for it in out.split("\n") if not it.startswith("Memory: ")]
                 print(line, *said, sep="\n    ")
     print(f"test_rows: {ran} rows, {growths} refused growths, each answered")
-    owed = owed_calls()
+    owed, below = owed_calls()
     for name in sorted(EXCEPT.keys() - owed):
         wrong += 1
         print(f"no such call: {name}")
@@ -150,7 +173,11 @@ def main():
     for name in sorted(owed - refused - EXCEPT.keys()):
         wrong += 1
         print(f"never refused: {name}")
-    print(f"{len(owed & refused)} of {len(owed)} calls that take an allocator were refused, {len(EXCEPT)} need no row")
+    for crate, name in sorted(below):
+        if not is_called_above(crate, name):
+            wrong += 1
+            print(f"below the surface, and called by no crate above: {crate}: {name}")
+    print(f"{len(owed & refused)} of {len(owed)} calls that take an allocator were refused, {len(EXCEPT)} need no row; {len(below)} more stand below them")
     sys.exit(wrong != 0)
 
 

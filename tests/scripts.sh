@@ -2,7 +2,6 @@
 # Runs the program `syned` on scripts and compares what it prints and its exit status. tests/scripts has them:
 #   *.table            scripts with their answers
 #   bad_lines.txt      lines that are bad behind three good ones, each in a script of its own
-#   later_lines.txt    the same, of words and fields that are not there yet
 #   bad_first_lines.txt, bad_ends.txt    lines that are bad as the first one, and behind `finish`
 #   good_lines.txt     lines that change nothing
 # tests/corpus has a folder of scripts, NAME with its answer NAME.stdout.
@@ -13,12 +12,7 @@ scripts=tests/scripts
 room=$(mktemp -d)
 trap 'rm -rf "$room"' EXIT
 
-# The gate leaves the program where `rt run` would make it; it is made where it is not there, or older than a source.
-program=crates/syned/out/syned
-if [ ! -x "$program" ] || [ -n "$(find crates -name out -prune -o -type f -newer "$program" -print -quit)" ]; then
-    (cd crates/syned && rt run) </dev/null >"$room/log" 2>&1 || [ -x "$program" ] || { cat "$room/log"; exit 1; }
-fi
-
+program=$(tests/program.sh syned)
 ran=0
 wrong=0
 
@@ -83,7 +77,7 @@ lines() {
     while IFS= read -r line; do
         printf '%s\n%s\nfinish\n' "$opening" "$line" >"$room/script"
         is_bad 4 "bad line $line"
-    done < <(cat "$scripts/bad_lines.txt" "$scripts/later_lines.txt")
+    done <"$scripts/bad_lines.txt"
     while IFS= read -r line; do
         printf '%s\nfinish\n' "$line" >"$room/script"
         is_bad 1 "bad first line $line"

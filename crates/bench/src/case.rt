@@ -1,5 +1,6 @@
 //! What is edited, and by which changes.
 use crate::edits;
+use crate::floor::Touches;
 use crate::nested::{self, Nest};
 use crate::notes::{self, Noted};
 use crate::prepared::Prepared;
@@ -54,6 +55,14 @@ impl Case {
             } => edits::prepared(alloc, ids, subject, size, step),
             Case::Nested(nest) => nested::prepared(alloc, ids, nest),
             Case::Noted(noted) => notes::prepared(alloc, ids, noted),
+        }
+    }
+
+    /// Which nodes of the new tree its changes touch.
+    pub(crate) fn touches(self) -> Touches {
+        match self {
+            Case::Nested(_) => Touches::Blocks,
+            _ => Touches::Ancestors,
         }
     }
 

@@ -1,5 +1,7 @@
 //! How long edits take, and how that grows.
+use crate::built::Built;
 use crate::case::{Case, Subject};
+use crate::floor::Floor;
 use crate::nested::Nest;
 use crate::notes::Noted;
 use crate::prepared::{Call, Prepared};
@@ -8,7 +10,7 @@ use cst_core::TreeIds;
 use std::alloc::Global;
 use std::rt::Clock;
 use std::time::Instant;
-use syntax_editor::{EditPlan, OnePassEngine, SyntaxEditor};
+use syntax_editor::{EditPlan, OnePassEngine, SyntaxEdit, SyntaxEditor};
 
 /// How often all growths are gone through, and how often each size is measured then, one time after another.
 const ROUNDS: usize = 5;
@@ -69,7 +71,7 @@ const GROWTHS: [Growth; 15] = [
 ];
 
 /// How many changes were recorded, how many bytes the new text has, and how many seconds it took to record the changes, to
-/// plan the edit and to carry it out.
+/// plan the edit and to carry it out, and the least that carrying it out can take.
 #[derive(Clone, Copy)]
 struct Figures {
     changes: usize,
@@ -77,6 +79,7 @@ struct Figures {
     recorded: f64,
     planned: f64,
     run: f64,
+    floor: f64,
 }
 
 impl Growth {
@@ -158,6 +161,7 @@ impl Figures {
             recorded: self.recorded.min(other.recorded),
             planned: self.planned.min(other.planned),
             run: self.run.min(other.run),
+            floor: self.floor.min(other.floor),
             ..self
         }
     }
@@ -194,12 +198,25 @@ fn plan<R: Clock>(rt: &R, alloc: Global, editor: SyntaxEditor) -> Result<(EditPl
     Ok((plan, seconds))
 }
 
-// How many bytes the text of the new tree has, and how many seconds it took to carry a plan out.
-fn run<R: Clock>(rt: &R, alloc: Global, ids: &mut TreeIds, plan: &EditPlan) -> Result<(u64, f64)> {
+// What a plan makes, and how many seconds it took to carry it out.
+fn run<R: Clock>(
+    rt: &R,
+    alloc: Global,
+    ids: &mut TreeIds,
+    plan: &EditPlan,
+) -> Result<(SyntaxEdit, f64)> {
     let start = Instant::now(rt)?;
     let edit = plan.run_with(alloc, ids, &mut OnePassEngine::new(alloc))?;
     let seconds = start.elapsed(rt)?.as_secs_f64();
-    Ok((edit.new_root().text_len(), seconds))
+    Ok((edit, seconds))
+}
+
+// How many seconds it takes to make what any engine has to make.
+fn floor<R: Clock>(rt: &R, alloc: Global, edit: &SyntaxEdit, case: Case) -> Result<f64> {
+    let floor = Floor::of(alloc, edit, case.touches())?;
+    let start = Instant::now(rt)?;
+    let _tree = floor.make(alloc)?;
+    Ok(start.elapsed(rt)?.as_secs_f64())
 }
 
 /// An editor with the changes of a case recorded, and how many seconds recording took.
@@ -219,13 +236,14 @@ fn measured<R: Clock>(rt: &R, alloc: Global, case: Case) -> Result<Figures> {
     let (editor, recorded) = recorded(rt, alloc, &mut ids, case)?;
     let changes = editor.changes().len();
     let (plan, planned) = plan(rt, alloc, editor)?;
-    let (bytes, run) = run(rt, alloc, &mut ids, &plan)?;
+    let (edit, run) = run(rt, alloc, &mut ids, &plan)?;
     Ok(Figures {
         changes,
-        bytes,
+        bytes: edit.new_root().text_len(),
         recorded,
         planned,
         run,
+        floor: floor(rt, alloc, &edit, case)?,
     })
 }
 
@@ -305,12 +323,19 @@ fn power(figures: &[Figures], phase: Phase) -> f64 {
 
 fn show_times<R: Print>(rt: &R, alloc: Global, case: Case, figures: Figures) -> Result<()> {
     let label = case.label(alloc)?;
+    let Built { builds, nodes, .. } = Built::of(alloc, case)?;
     let Figures { changes, .. } = figures;
     let recorded = figures.recorded * 1e3;
     let planned = figures.planned * 1e3;
     let run = figures.run * 1e3;
+    let floor = figures.floor * 1e3;
+    let times_planned = figures.planned / figures.floor;
+    let times_run = figures.run / figures.floor;
     println!(rt;
-        "{label}: {changes} changes, recorded {recorded:.3} ms, planned {planned:.3} ms, run {run:.3} ms"
+        "{label}: {changes} changes, {builds} nodes built, {nodes} in the tree, recorded {recorded:.3} ms, planned {planned:.3} ms, run {run:.3} ms"
+    )?;
+    println!(rt;
+        "    the least {floor:.3} ms: planned {times_planned:.1} times that, run {times_run:.1} times"
     )?;
     Ok(())
 }
@@ -352,7 +377,23 @@ pub(crate) fn report_growth<R: Print + Clock>(rt: &R, alloc: Global) -> Result<(
     Ok(())
 }
 
-/// One small edit of each kind, without a time.
+// An edit without its times.
+fn report_edit<R: Print + Clock>(rt: &R, alloc: Global, case: Case) -> Result<()> {
+    let figures = measured(rt, alloc, case)?;
+    let Built {
+        builds,
+        least,
+        nodes,
+    } = Built::of(alloc, case)?;
+    let label = case.label(alloc)?;
+    println!(rt;
+        "{label}: {} changes, {} bytes, {builds} nodes built of {least} at least, {nodes} in the tree",
+        figures.changes, figures.bytes
+    )?;
+    Ok(())
+}
+
+/// One small edit of each kind, and one with few changes in a large tree, without a time.
 pub(crate) fn report_edits<R: Print + Clock>(rt: &R, alloc: Global) -> Result<()> {
     for growth in [
         Growth::Both(Subject::Literals),
@@ -362,13 +403,7 @@ pub(crate) fn report_edits<R: Print + Clock>(rt: &R, alloc: Global) -> Result<()
         Growth::Notes,
         Growth::PayloadNotes,
     ] {
-        let case = growth.case(LEAST);
-        let figures = measured(rt, alloc, case)?;
-        let label = case.label(alloc)?;
-        println!(rt;
-            "{label}: {} changes, {} bytes",
-            figures.changes, figures.bytes
-        )?;
+        report_edit(rt, alloc, growth.case(LEAST))?;
     }
-    Ok(())
+    report_edit(rt, alloc, Growth::Size(Subject::Leaves).case(MOST))
 }

@@ -2,8 +2,10 @@
 //! grow.
 #![tactic(auto)]
 
+mod built;
 mod case;
 mod edits;
+mod floor;
 mod growth;
 mod nested;
 mod notes;

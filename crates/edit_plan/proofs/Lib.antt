@@ -41,3 +41,6 @@ mod Rooted
 mod ToldTarget
 pub mod MarksTold
 pub mod MadeOf
+pub mod Counting
+pub mod AllBuilt
+pub mod AllTouched

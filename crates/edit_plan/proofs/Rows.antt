@@ -157,7 +157,7 @@ row_13 = refl
 abbrev pub changes_14 : List Change
 changes_14 = insert (after (R (0 ∷ []))) X ∷ insert (after (R (0 ∷ []))) Y ∷ []
 
-row_14a : outcome changes_14 no_places tree_L ≡ (codes "(yx1, 2)", (1 ∷ []) ∷ (2 ∷ []) ∷ [])
+row_14a : outcome changes_14 no_places tree_L ≡ (codes "(xy1, 2)", (1 ∷ []) ∷ (2 ∷ []) ∷ [])
 row_14a = refl
 
 abbrev changes_17 : List Change

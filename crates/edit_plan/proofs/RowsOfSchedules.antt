@@ -29,7 +29,7 @@ row_22_gaps = refl
 row_22_tokens : kept_by token_first changes_8b ((1 ∷ 0 ∷ []) ∷ (0 ∷ 1 ∷ []) ∷ []) ≡ true ∷ false ∷ []
 row_22_tokens = refl
 
-row_14b : kept_by gap_first changes_14 ((0 ∷ 1 ∷ []) ∷ (1 ∷ 0 ∷ []) ∷ []) ≡ true ∷ false ∷ []
+row_14b : kept_by gap_first changes_14 ((1 ∷ 0 ∷ []) ∷ (0 ∷ 1 ∷ []) ∷ []) ≡ true ∷ false ∷ []
 row_14b = refl
 
 row_both_orders : kept_by gap_first changes_3 ((0 ∷ 1 ∷ []) ∷ (1 ∷ 0 ∷ []) ∷ []) ≡ true ∷ true ∷ []
@@ -51,7 +51,7 @@ row_default_4 = refl
 row_default_8b : kept_by default_first changes_8b ((1 ∷ 0 ∷ []) ∷ (0 ∷ 1 ∷ []) ∷ []) ≡ true ∷ false ∷ []
 row_default_8b = refl
 
-row_default_14 : kept_by default_first changes_14 ((0 ∷ 1 ∷ []) ∷ (1 ∷ 0 ∷ []) ∷ []) ≡ true ∷ false ∷ []
+row_default_14 : kept_by default_first changes_14 ((1 ∷ 0 ∷ []) ∷ (0 ∷ 1 ∷ []) ∷ []) ≡ true ∷ false ∷ []
 row_default_14 = refl
 
 -- both allowed orders of row 4

@@ -133,7 +133,9 @@ impl<'a> EditRun<'a> {
         ensures refused { IfErr result (EngineRefuses self.now.plan) }
     {
         let green = self.stages.green().share(alloc)?;
-        let rewritten = self.plan.rewritten_tree(alloc)?;
+        // Of this pass only the paths are kept, so what it builds is not counted.
+        let mut builds = 0;
+        let rewritten = self.plan.rewritten_tree(alloc, &mut builds)?;
         self.plan.within_limit(rewritten.with_tree(green))
     }
 }

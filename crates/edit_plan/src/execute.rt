@@ -19,7 +19,7 @@ use std::alloc::{AllocError, Global};
 
 impl EditPlan {
     /// The changes that are not dropped, each after those that it owns; those of one owner, or of none, from the last in the document to
-    /// the first, where a gap stands before its slot; inserts of one gap as they were recorded.
+    /// the first, where a gap stands before its slot; inserts of one gap from the last recorded to the first.
     ///
     /// It is an allowed order. Takes time near linear in the paths of the changes.
     pub fn default_order(&self, alloc: Global) -> Result<Vec<usize>, AllocError>

@@ -2,7 +2,9 @@
 
 ghost use Rattle.std.specs.Prelude.{ℕ, None, [], ◌≡◌, ◌<◌, map, length, All, IfOk, OnOk};
 ghost use Rattle.cst_core.specs.Element.{subtree};
+ghost use Rattle.cst_core.specs.SyntaxElement.{element_of};
 ghost use Rattle.cst_core.specs.GreenElement.{element_tree};
+ghost use Rattle.rewriting.specs.inner.Aimed.{aims_of};
 ghost use Rattle.rewriting.specs.inner.Given.{given_trees};
 ghost use Rattle.rewriting.specs.inner.Pass.{IsMarked, given_in};
 ghost use Rattle.edit_change.specs.Change.{payload};
@@ -10,6 +12,7 @@ ghost use Rattle.edit_stages.specs.NewTree.{payload_of};
 ghost use Rattle.edit_plan.specs.inner.GivenTables.{element_rewritten, each_rewritten, FindsElement, IsMarkedEach};
 ghost use Rattle.edit_plan.specs.inner.GivenTables.{HasPayloadMarks, FillsMarks, FillsLevel, FillsLevelMarks};
 ghost use Rattle.edit_plan.specs.inner.GivenTables.{TellsGiven, TellsMarks};
+ghost use Rattle.edit_plan.specs.inner.GivenTables.{CountsElement, CountsEach, CountsOwner, CountsLevel, CountsPayloads};
 ghost use Rattle.edit_plan.specs.inner.Marks.{payload_sought};
 ghost use Rattle.edit_plan.specs.inner.OwnerTables.{moved_dependent, IsFilled};
 
@@ -21,7 +24,7 @@ use edit_change::Change;
 use rewriting::{Aimed, Given, GivenTable, Mark, MarkedGiven, rebuild};
 use std::alloc::{AllocError, Global};
 
-// An element, rewritten. Its marks go to the end of a list.
+// An element, rewritten. Its marks go to the end of a list, and the nodes that are built are counted.
 fn rewritten_element(
     alloc: Global,
     found: &mut Vec<Mark>,
@@ -29,24 +32,16 @@ fn rewritten_element(
     aims: &[Aimed],
     index: &SoughtIndex,
     given: &GivenTable,
+    builds: &mut u64,
 ) -> Result<GreenElement, AllocError>
+    ensures count { OnOk result (CountsElement aims.now element.now builds.old builds.new) }
     ensures tree { IfOk result (λ e. element_tree e ≡ element_rewritten given.now aims.now element.now) }
     ensures marks { OnOk result (FindsElement given.now aims.now index.now element.now found.old found.new) }
 {
     let old = element.green(alloc)?;
     let sought = index.at(alloc, element)?;
     let mut path = Vec::new(alloc);
-    let mut builds = 0;
-    let new = rebuild(
-        alloc,
-        found,
-        &mut path,
-        &old,
-        aims,
-        &sought,
-        given,
-        &mut builds,
-    )?;
+    let new = rebuild(alloc, found, &mut path, &old, aims, &sought, given, builds)?;
     Ok(new)
 }
 
@@ -57,15 +52,18 @@ fn rewritten_each<'a>(
     aims: &[Aimed],
     index: &SoughtIndex,
     given: &GivenTable,
+    builds: &mut u64,
 ) -> Result<MarkedGiven<'a>, AllocError>
+    ensures count { OnOk result (CountsEach (aims_of aims.now) (map element_of elements.now) builds.old builds.new) }
     ensures trees { IfOk result (λ g. given_trees g.elements ≡ each_rewritten given.now aims.now elements.now) }
     ensures marks { IfOk result (IsMarkedEach given.now aims.now index.now elements.now) }
 {
+    let _count = *builds;
     let mut greens = Vec::with_capacity(alloc, elements.len())?;
     let mut marks = Vec::new(alloc);
     for element in elements {
         let mut own = Vec::new(alloc);
-        let green = rewritten_element(alloc, &mut own, element, aims, index, given)?;
+        let green = rewritten_element(alloc, &mut own, element, aims, index, given, builds)?;
         greens.push(green)?;
         marks.push(own)?;
     }
@@ -94,7 +92,9 @@ fn marked_payload<'a>(
         entries: Vec::new(alloc),
         top: None,
     };
-    rewritten_each(alloc, change.payload(), &[], index, &nothing)
+    // Nothing aims into it, so nothing is built.
+    let mut builds = 0;
+    rewritten_each(alloc, change.payload(), &[], index, &nothing, &mut builds)
 }
 
 // What each change brings, by its number.
@@ -123,18 +123,20 @@ fn fill(
     dependents: &[Dependent],
     index: &SoughtIndex,
     given: &mut GivenTable,
+    builds: &mut u64,
 ) -> Result<(), AllocError>
     requires there { owner < length changes.now }
     requires long { length given.now.entries.items ≡ length changes.now }
     requires top { given.now.top ≡ None }
     ensures long { OnOk result (length given.new.entries.items ≡ length changes.now) }
     ensures top { OnOk result (given.new.top ≡ None) }
+    ensures count { OnOk result (CountsOwner changes.now owner dependents.now builds.old builds.new) }
     ensures filled { OnOk result (IsFilled changes.now owner (map moved_dependent dependents.now) given.old given.new) }
     ensures marks { OnOk result (FillsMarks index.now changes.now given.old given.new owner dependents.now) }
 {
     let aims = moved_aims(alloc, dependents)?;
     let payload = changes[owner].payload();
-    let rewritten = rewritten_each(alloc, payload, &aims, index, given)?;
+    let rewritten = rewritten_each(alloc, payload, &aims, index, given, builds)?;
     given.entries[owner] = rewritten;
     Ok(())
 }
@@ -147,6 +149,7 @@ fn fill_level(
     owners: &[usize],
     index: &SoughtIndex,
     given: &mut GivenTable,
+    builds: &mut u64,
 ) -> Result<(), AllocError>
     requires owned { length dependents.now ≡ length changes.now }
     requires there { All (λ c. c < length changes.now) owners.now }
@@ -154,16 +157,27 @@ fn fill_level(
     requires top { given.now.top ≡ None }
     ensures long { OnOk result (length given.new.entries.items ≡ length changes.now) }
     ensures top { OnOk result (given.new.top ≡ None) }
+    ensures count { OnOk result (CountsLevel changes.now dependents.now owners.now builds.old builds.new) }
     ensures filled { OnOk result (FillsLevel changes.now dependents.now owners.now given.old given.new) }
     ensures marks { OnOk result (FillsLevelMarks changes.now dependents.now index.now owners.now given.old given.new) }
 {
+    let _count = *builds;
     for owner in owners {
-        fill(alloc, changes, *owner, &dependents[*owner], index, given)?;
+        fill(
+            alloc,
+            changes,
+            *owner,
+            &dependents[*owner],
+            index,
+            given,
+            builds,
+        )?;
     }
     Ok(())
 }
 
 /// What each change gives, by its number, with the marks of the elements that a table has, where another one has what each change owns.
+/// `builds` counts the nodes that are built in the owners' payloads.
 ///
 /// An owner comes after all that is deeper. Takes time linear in the changes and the depth of the deepest one, and what the passes
 /// through the owners' payloads take.
@@ -172,12 +186,15 @@ pub(crate) fn given_table<'a>(
     changes: &'a [Change],
     dependents: &[Vec<Dependent>],
     index: &SoughtIndex,
+    builds: &mut u64,
 ) -> Result<GivenTable<'a>, AllocError>
     requires { length dependents.now ≡ length changes.now }
+    ensures count { OnOk result (CountsPayloads changes.now dependents.now builds.old builds.new) }
     ensures top { IfOk result (λ t. t.top ≡ None) }
     ensures given { IfOk result (TellsGiven changes.now dependents.now) }
     ensures marks { IfOk result (TellsMarks changes.now dependents.now index.now) }
 {
+    let _count = *builds;
     let owners = owners_by_depth(alloc, changes, dependents)?;
     let mut given = payloads(alloc, changes, index)?;
     for level in (0..owners.len()).rev() {
@@ -188,6 +205,7 @@ pub(crate) fn given_table<'a>(
             &owners[level],
             index,
             &mut given,
+            builds,
         )?;
     }
     Ok(given)

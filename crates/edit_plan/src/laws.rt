@@ -65,10 +65,10 @@ pub fn given_is_settled()
         → Gives changes places g → (c : ℕ) → g c ≡ given changes places c }
 {}
 
-/// At one gap, what is recorded last stands first, and the elements of one change keep their order.
+/// At one gap, what is recorded first stands first, and the elements of one change keep their order.
 pub fn inserts_stand_in_order()
-    ensures last_first { (label_at : Path → ℕ → Origin) (given : ℕ → List OriginTree) (cs : List NumberedAim)
-        (c : NumberedAim) (p : Path) (i : ℕ) → IsTrue (aims_at_gap p i c.1) → gap label_at given (cs ++ c ∷ []) p i ≡ given c.0 ++ gap label_at given cs p i }
+    ensures first_first { (label_at : Path → ℕ → Origin) (given : ℕ → List OriginTree) (cs : List NumberedAim)
+        (c : NumberedAim) (p : Path) (i : ℕ) → IsTrue (aims_at_gap p i c.1) → gap label_at given (c ∷ cs) p i ≡ given c.0 ++ gap label_at given cs p i }
     ensures in_order { (changes : List Change) (places : ℕ → Path) (c : ℕ)
         → IsSomeAnd (slice_get changes c) (λ change. region change ≡ [])
         → map plain (given changes places c) ≡ map subtree (payload_of changes c) }

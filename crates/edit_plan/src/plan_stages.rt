@@ -32,7 +32,7 @@ impl EditPlan {
     }
 
     // At its place in the payload an owner's target has its shape.
-    fn keep_shapes(&self)
+    pub(crate) fn keep_shapes(&self)
         ensures { KeepsShapes self.now }
     {
         // What is true of every plan.

@@ -14,9 +14,9 @@ ghost use Rattle.edit_change.specs.inner.Fate.{fate};
 ghost use Rattle.edit_change.specs.Fits.{Fits};
 ghost use Rattle.edit_stages.specs.NewTree.{independents};
 ghost use Rattle.edit_plan.specs.Plan.{Makes, RunRefuses};
-ghost use Rattle.edit_plan.specs.Engine.{HasRewritten, EngineRefuses};
+ghost use Rattle.edit_plan.specs.Engine.{HasRewritten, EngineRefuses, CountsTouched};
 ghost use Rattle.edit_plan.specs.inner.PlanRun.{AreOwned, FindsInRoot, HasMade, IsOneNode, KeepsTop};
-ghost use Rattle.edit_plan.specs.inner.PlanRun.{root_rewritten};
+ghost use Rattle.edit_plan.specs.inner.PlanRun.{root_rewritten, CountsRoot};
 
 use crate::annotated::{annotated_paths, elements_by_annotation, registered_copies};
 use crate::dependent::{Dependent, dependents};
@@ -111,16 +111,21 @@ impl EditPlan {
         Ok(rewritten)
     }
 
-    // The new tree, and the paths of its changed and annotated elements.
-    pub(crate) fn rewritten_tree(&self, alloc: Global) -> Result<Rewritten, AllocError>
-        ensures { IfOk result (HasRewritten self.now) }
+    // The new tree, and the paths of its changed and annotated elements. `builds` counts the nodes that are built.
+    pub(crate) fn rewritten_tree(
+        &self,
+        alloc: Global,
+        builds: &mut u64,
+    ) -> Result<Rewritten, AllocError>
+        ensures made { IfOk result (HasRewritten self.now) }
+        ensures count { OnOk result (CountsTouched self.now builds.old builds.new) }
     {
         let registered = registered_copies(alloc, &self.mapping, &self.registrations)?;
         let Made {
             green,
             copies,
             changed,
-        } = self.marked_tree(alloc, &registered)?;
+        } = self.marked_tree(alloc, &registered, builds)?;
         let annotated = annotated_paths(alloc, &self.registrations, &copies)?;
         Ok(Rewritten {
             green,
@@ -131,17 +136,24 @@ impl EditPlan {
 
     // The new tree, the paths of the copies of each of these elements, and those of changed elements. The number of each element is its
     // mark, and the next one is that of what changes without an owner give.
-    fn marked_tree(&self, alloc: Global, registered: &[SyntaxElement]) -> Result<Made, AllocError>
+    fn marked_tree(
+        &self,
+        alloc: Global,
+        registered: &[SyntaxElement],
+        builds: &mut u64,
+    ) -> Result<Made, AllocError>
+        ensures count { OnOk result (CountsTouched self.now builds.old builds.new) }
         ensures long { IfOk result (λ m. length m.copies.items ≡ length registered.now) }
         ensures made { IfOk result (HasMade self.now registered.now) }
     {
         let aims = self.aims(alloc)?;
         let dependents = self.dependents(alloc)?;
         let index = SoughtIndex::of(alloc, registered)?;
-        let mut given = given_table(alloc, &self.changes, &dependents, &index)?;
+        let mut given = given_table(alloc, &self.changes, &dependents, &index, builds)?;
         given.top = Some(registered.len());
-        let Rebuilt { elements, marks } = self.rebuilt_root(alloc, &aims, &index, &given)?;
+        let Rebuilt { elements, marks } = self.rebuilt_root(alloc, &aims, &index, &given, builds)?;
         self.keep_top();
+        self.keep_shapes();
         let paths = mark_paths(alloc, marks, registered.len())?;
         Ok(Made {
             green: only_node(elements),
@@ -172,15 +184,16 @@ impl EditPlan {
         aims: &[Aimed],
         index: &SoughtIndex,
         given: &GivenTable,
+        builds: &mut u64,
     ) -> Result<Rebuilt, AllocError>
+        ensures count { OnOk result (CountsRoot self.now aims.now builds.old builds.new) }
         ensures trees { IfOk result (λ r. element_trees r.elements.items ≡ root_rewritten self.now given.now aims.now) }
         ensures marks { IfOk result (λ r. FindsInRoot self.now given.now aims.now index.now r.marks) }
     {
         let root = SyntaxElement::Node(self.root.try_clone(alloc)?);
         let old = root.green(alloc)?;
         let sought = index.at(alloc, &root)?;
-        let mut builds = 0;
-        let rebuilt = rebuild_whole(alloc, &old, aims, &sought, given, &mut builds)?;
+        let rebuilt = rebuild_whole(alloc, &old, aims, &sought, given, builds)?;
         Ok(rebuilt)
     }
 

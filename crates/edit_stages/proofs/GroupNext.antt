@@ -35,7 +35,7 @@ use Rattle.schedule.proofs.Carried.{replaces-targets}
 use Rattle.schedule.proofs.Gaps.{gap_first_from}
 use Rattle.schedule.proofs.Ordered.{waiting-ordered}
 use Rattle.stepping.specs.Stage.{IsNext}
-use Rattle.stepping.proofs.AimSteps.{stands_first-last}
+use Rattle.stepping.proofs.AimSteps.{stands_first-least}
 use Rattle.edit_stages.specs.NewTree.{moved_aim, only}
 use Rattle.edit_stages.proofs.Altered.{own_up_to, fit_at, no_replacing, region_has, altered, node_over}
 use Rattle.edit_stages.proofs.Apart.{same_gap_from, moved-same_gap, moved_cancel, only_one}
@@ -152,22 +152,22 @@ module _ (cs : List Change) (root : Element) (fit : All (Fits root) cs) (apart :
       group.alone c from.0 from.1 is_ours (node.around x s whole) k e is (region_has root e x (fit_at root cs fit k e is) node_there from.3))
 
   -- ---- it stands first in its gap
-  last_in_gap : (p : Path) (i : ℕ) → aims_at_gap p i (moved c) ≡ true → inserts_at back p i ≡ []
-  last_in_gap p i here =
-      let P : NumberedAim → Type 0 = λ d. n < d.0 → done d.0 ≡ true → aims_at_gap p i d.1 ≡ false in
-      let all : AllByRecursion P aims = each P (λ k e is h later is_done. false_from_ne_true (aims_at_gap p i (moved e)) (λ hit.
+  least_in_gap : (p : Path) (i : ℕ) → aims_at_gap p i (moved c) ≡ true → filter (λ d. aims_at_gap p i d.1) front ≡ []
+  least_in_gap p i here =
+      let P : NumberedAim → Type 0 = λ d. d.0 < n → done d.0 ≡ true → aims_at_gap p i d.1 ≡ false in
+      let all : AllByRecursion P aims = each P (λ k e is h earlier is_done. false_from_ne_true (aims_at_gap p i (moved e)) (λ hit.
       let gap = moved-same_gap top place (aim c) (aim e) (group.below c is_ours) (group.below e h) (same_gap_from (moved c) (moved e) p i here hit) in
-      let first = gap_first_from (n, c) (k, e) gap later in
+      let first = gap_first_from (n, c) (k, e) gap earlier in
       let comes : comes_first cs (n, c) (k, e) ≡ true = or_left (owned_first cs (n, c) (k, e) || gap_first (n, c) (k, e)) (token_first (n, c) (k, e)) (or_right (owned_first cs (n, c) (k, e)) (gap_first (n, c) (k, e)) first) in
       true≢false (sym (waiting-ordered cs done w waiting n k c e there is (group.stays c is_ours) (group.stays e h) comes is_done) ∙ undone))) in
-      let behind : AllByRecursion P parts.back = (all_left P parts.front ((n, moved c) ∷ parts.back) (subst (AllByRecursion P) parts.is all)).1.1 in
-      let both = all_done (λ d. P d × (n < d.0)) done parts.back (all_both P (λ d. n < d.0) parts.back behind parts.upper) in
-      ap numbers (none_filter (λ a. aims_at_gap p i a) back (all_weaker (λ d. (P d × (n < d.0)) × (done d.0 ≡ true)) (λ d. aims_at_gap p i d.1 ≡ false) back (λ d x. x.0.0 x.0.1 x.1) both))
+      let ahead : AllByRecursion P parts.front = (all_left P parts.front ((n, moved c) ∷ parts.back) (subst (AllByRecursion P) parts.is all)).0 in
+      let both = all_done (λ d. P d × (d.0 < n)) done parts.front (all_both P (λ d. d.0 < n) parts.front ahead parts.lower) in
+      none_filter (λ a. aims_at_gap p i a) front (all_weaker (λ d. (P d × (d.0 < n)) × (done d.0 ≡ true)) (λ d. aims_at_gap p i d.1 ≡ false) front (λ d x. x.0.0 x.0.1 x.1) both)
 
   stands_first : (g : Gap) → gap_of (moved c) ≡ Some g → gap_order (inserts_at (front ++ (n, moved c) ∷ back) g.node g.index) ≡ n ∷ gap_order (inserts_at (front ++ back) g.node g.index)
   stands_first g is =
       let here : aims_at_gap g.node g.index (moved c) ≡ true = ap (λ o. option_map_or (λ x. same_path g.node x.node && nat_eq g.index x.index) o false) is ∙ and_from (same_path g.node g.node) (nat_eq g.index g.index) (same_path_from g.node g.node refl) (eq-eqb g.index g.index refl) in
-      stands_first-last front (n, moved c) back g.node g.index here (last_in_gap g.node g.index here)
+      stands_first-least front (n, moved c) back g.node g.index here (least_in_gap g.node g.index here)
 
   -- ---- what it replaces is not replaced
   unshared : (k : ℕ) (e : Change) → slice_get cs k ≡ Some e → done k ≡ true → shared_targets c e ≡ true → shared_targets e c ≡ true → ⊥

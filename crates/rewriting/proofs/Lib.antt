@@ -5,6 +5,7 @@ pub mod Passing
 pub mod Children
 pub mod Built
 pub mod Counted
+pub mod Touched
 pub mod Untouched
 pub mod ChildByChild
 pub mod Tops

@@ -5,10 +5,12 @@
 --     built, nodes_built            of the nodes above one of these paths, or at one, those that no aim replaces, nor what they are in; of a whole tree
 --     built_from                    those of children from a slot on
 --     nodes_built_whole             the same where the top may be replaced
+--     IsBuilt, AreBuilt             a node of the tree that no aim replaces, nor what it is in; such is each node whose children an aim alters
 --     counted                       a count after so many more: at the greatest number it stays
-use Rattle.std.specs.Prelude.{ℕ, suc, ◌+◌, ◌-◌, ◌^◌, min, nat_eq, cond, List, [], ◌∷◌, ◌++◌, flat_map}
+use Rattle.std.specs.Prelude.{◌≡◌, ℕ, suc, ◌+◌, ◌-◌, ◌^◌, min, nat_eq, true, false, not, cond, List, [], ◌∷◌, ◌++◌, flat_map, All}
+use Rattle.std.specs.Option.{option_map_or}
 use Rattle.green_tree.specs.Path.{Path}
-use Rattle.green_tree.specs.Tree.{Tree, Forest, Token, Node, end, more, SyntaxTree}
+use Rattle.green_tree.specs.Tree.{Tree, Forest, Token, Node, end, more, SyntaxTree, is_token, at}
 use Rattle.rewriting.specs.Aim.{parents}
 use Rattle.rewriting.specs.Rewriting.{NumberedAim, is_replaced}
 
@@ -47,6 +49,14 @@ module _ (cs : List NumberedAim) where
 
   abbrev pub nodes_built_whole : SyntaxTree → ℕ
   nodes_built_whole t = cond (is_replaced cs []) 0 (nodes_built t)
+
+-- Where each node that is touched is such, all of them are built.
+pub record IsBuilt (cs : List NumberedAim) (t : SyntaxTree) (p : Path) : Type 0 where
+  pub node : option_map_or (λ e. not (is_token e)) (at t p) false ≡ true
+  pub stays : (s r : Path) → s ++ r ≡ p → is_replaced cs s ≡ false
+
+abbrev pub AreBuilt : List NumberedAim → SyntaxTree → Type 0
+AreBuilt cs t = All (λ c. (p : Path) → parents c.1 ≡ p ∷ [] → IsBuilt cs t p) cs
 
 abbrev pub counted : ℕ → ℕ → ℕ
 counted n further = min (n + further) (2 ^ 64 - 1)

@@ -6,7 +6,7 @@
 --     gap, slot                     what stands in a gap; in a child's slot
 --     rewritten, rewritten_whole    each child list anew from gap 0, slot 0, gap 1, slot 1, .., the last gap; the same where the top may be replaced
 --     rewritten_from                the children from a slot on
-use Rattle.std.specs.Prelude.{ℕ, suc, Bool, cond, List, [], ◌∷◌, ◌++◌, map, reverse, filter, flat_map}
+use Rattle.std.specs.Prelude.{ℕ, suc, Bool, cond, List, [], ◌∷◌, ◌++◌, map, filter, flat_map}
 use Rattle.std.specs.List.{list_any}
 use Rattle.green_tree.specs.Path.{Path}
 use Rattle.green_tree.specs.Tree.{Tree, Forest, Token, Node, end, more, SyntaxTree, forest}
@@ -28,9 +28,9 @@ replacements_at cs p = numbers (filter (λ c. starts_at p c.1) cs)
 abbrev pub is_replaced : List NumberedAim → Path → Bool
 is_replaced cs p = list_any (λ c. replaces p c.1) cs
 
--- The gap rule: of the inserts of one gap, in recorded order, the one recorded last stands first.
+-- The gap rule: the inserts of one gap stand in recorded order.
 abbrev pub gap_order : List ℕ → List ℕ
-gap_order inserts = reverse inserts
+gap_order inserts = inserts
 
 -- ---- rewriting, where `label_at` labels what is kept, by its path and kind, and `given` says what each change gives
 module _ {L : Type 0} (label_at : Path → ℕ → L) (given : ℕ → List (Tree L)) (cs : List NumberedAim) where

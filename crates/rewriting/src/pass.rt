@@ -5,7 +5,8 @@ ghost use Rattle.rewriting.specs.Effort.{counted};
 ghost use Rattle.rewriting.specs.inner.Given.{given_trees};
 ghost use Rattle.rewriting.specs.inner.Pass.{given_in, Puts, FindsGiven, FindsChange, FindsChanges, FindsKept};
 ghost use Rattle.rewriting.specs.inner.Pass.{gap_changes, slot_changes, top_changes};
-ghost use Rattle.rewriting.specs.inner.Pass.{TouchesAtMost, CountsBuilt, CountsBuiltWhole, remade, remade_whole};
+ghost use Rattle.rewriting.specs.inner.Pass.{TouchesAtMost, CountsBuilt, CountsBuiltWhole, CountsTouched};
+ghost use Rattle.rewriting.specs.inner.Pass.{remade, remade_whole};
 ghost use Rattle.rewriting.specs.inner.Pass.{FindsRebuilt, FindsWhole};
 
 use crate::aim_list::{aims_below, aims_by_child, alter_some, is_replaced, top_is_replaced};
@@ -57,7 +58,7 @@ fn push_change(
     Ok(())
 }
 
-// What the inserts of a gap of the top give: the one recorded last stands first.
+// What the inserts of a gap of the top give, as they were recorded.
 fn push_gap(
     alloc: Global,
     out: &mut Vec<GreenElement>,
@@ -71,8 +72,7 @@ fn push_gap(
     ensures trees { OnOk result (Puts out.old out.new (flat_map (given_in given.now) (gap_changes aims.now gap))) }
     ensures marks { OnOk result (FindsChanges path.old out.old found.old found.new given.now (gap_changes aims.now gap)) }
 {
-    for index in (0..aims.len()).rev() {
-        let aim = &aims[index];
+    for aim in aims {
         if aim.inserts_at(gap) {
             push_change(alloc, out, found, path, given, aim.change())?;
         }
@@ -191,6 +191,7 @@ pub fn rebuild(
     ensures path { OnOk result (path.new.items ≡ path.old.items) }
     ensures builds { OnOk result (TouchesAtMost aims.now element.now builds.old builds.new) }
     ensures count { OnOk result (CountsBuilt aims.now element.now builds.old builds.new) }
+    ensures whole { OnOk result (CountsTouched aims.now element.now builds.old builds.new) }
     ensures tree { IfOk result (λ e. element_tree e ≡ remade given.now aims.now element.now) }
     ensures marks { OnOk result (FindsRebuilt given.now aims.now sought.now element.now path.old found.old found.new) }
 {
@@ -253,6 +254,7 @@ pub fn rebuild_whole(
 ) -> Result<Rebuilt, AllocError>
     ensures builds { OnOk result (TouchesAtMost aims.now element.now builds.old builds.new) }
     ensures count { OnOk result (CountsBuiltWhole aims.now element.now builds.old builds.new) }
+    ensures whole { OnOk result (CountsTouched aims.now element.now builds.old builds.new) }
     ensures trees { IfOk result (λ r. element_trees r.elements.items ≡ remade_whole given.now aims.now element.now) }
     ensures marks { IfOk result (λ r. FindsWhole given.now aims.now sought.now element.now r.marks) }
 {

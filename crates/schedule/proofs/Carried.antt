@@ -23,8 +23,7 @@ use Rattle.edit_change.proofs.Paths.{meets}
 use Rattle.edit_change.proofs.Positions.{position-cons}
 use Rattle.schedule.specs.Schedule.{owned_first, gap_first, token_first, anchor_token}
 use Rattle.schedule.specs.inner.Followers.{link, next_in_gap, owner_link, gap_link, token_link, IsLinked}
-use Rattle.schedule.proofs.Gaps.{gap_first-less, gap_first_from, same_gap-sym, same_gap-trans, next-here, next-past}
-use Rattle.schedule.proofs.Links.{none-left}
+use Rattle.schedule.proofs.Gaps.{gap_first-later, gap_first_from, same_gap-sym, same_gap-trans, next-here, next-past}
 use Rattle.schedule.proofs.Orders.{Leads, Carries, one_link, leads_on}
 use Rattle.schedule.proofs.Tables.{linked_some, has_at}
 
@@ -47,66 +46,65 @@ owners-carry cs table linked = record {
 }
 
 -- ---- gaps
-no-next : (cs : List Change) (a : Aim) (n m : ℕ) → n ≡ length cs → next_in_gap cs n a ≡ Some m → ⊥
-no-next cs a n m e h = none-some m (none-left cs a ∙ ap (λ k. next_in_gap cs k a) (sym e) ∙ h)
-
 -- what the next insert of a gap is
 abbrev IsNext : List Change → Aim → ℕ → ℕ → Type 0
-IsNext cs a n m = (n ≤ m) × ((d : Change) × (slice_get cs m ≡ Some d) × (is_dropped cs d ≡ false) × (same_gap (aim d) a ≡ true))
+IsNext cs a n m = (m < n) × ((d : Change) × (slice_get cs m ≡ Some d) × (is_dropped cs d ≡ false) × (same_gap (aim d) a ≡ true))
 
-next-found : (cs : List Change) (a : Aim) (k n m : ℕ) → n + k ≡ length cs → next_in_gap cs n a ≡ Some m → IsNext cs a n m
-next-found cs a zero n m e h = absurd (no-next cs a n m (omega (arith, e)) h)
-next-found cs a (suc k) n m e h =
-    let at = has_at cs n (omega (arith, e)) in
-    let on : next_in_gap cs (suc n) a ≡ Some m → IsNext cs a n m = λ next. let rest = next-found cs a k (suc n) m (omega (arith, e)) next in (omega (arith, rest.0), rest.1) in
+next-found : (cs : List Change) (a : Aim) (n m : ℕ) → n ≤ length cs → next_in_gap cs n a ≡ Some m → IsNext cs a n m
+next-found cs a zero m l h = absurd (none-some m h)
+next-found cs a (suc n) m l h =
+    let at = has_at cs n (omega (arith, l)) in
+    let on : next_in_gap cs n a ≡ Some m → IsNext cs a (suc n) m = λ next. let rest = next-found cs a n m (omega (arith, l)) next in (omega (arith, rest.0), rest.1) in
     elim (cases_Bool (is_dropped cs at.0)) [
       | inl gone ↦ on (sym (next-past cs n at.0 at.1 a gone) ∙ h)
       | inr stays ↦ elim (cases_Bool (same_gap (aim at.0) a)) [
         | inl here ↦
-            let same : n ≡ m = same_Some n m (sym (next-here cs n at.0 at.1 a stays ∙ ap (λ b. cond b (Some n) (next_in_gap cs (suc n) a)) here) ∙ h) in
+            let same : n ≡ m = same_Some n m (sym (next-here cs n at.0 at.1 a stays ∙ ap (λ b. cond b (Some n) (next_in_gap cs n a)) here) ∙ h) in
             (omega (arith, same), (at.0, ap (slice_get cs) (sym same) ∙ at.1, stays, here))
-        | inr other ↦ on (sym (next-here cs n at.0 at.1 a stays ∙ ap (λ b. cond b (Some n) (next_in_gap cs (suc n) a)) other) ∙ h)
+        | inr other ↦ on (sym (next-here cs n at.0 at.1 a stays ∙ ap (λ b. cond b (Some n) (next_in_gap cs n a)) other) ∙ h)
       ]
     ]
 
--- there is one, and none before it
-next-least : (cs : List Change) (a : Aim) (k n m : ℕ) (d : Change) → n + k ≡ m → slice_get cs m ≡ Some d → is_dropped cs d ≡ false → same_gap (aim d) a ≡ true → (i : ℕ) × (next_in_gap cs n a ≡ Some i) × (i ≤ m)
-next-least cs a zero n m d e is stays gap =
-    let same : n ≡ m = omega (arith, e) in
-    let here = ap (slice_get cs) same ∙ is in
-    (n, next-here cs n d here a stays ∙ ap (λ b. cond b (Some n) (next_in_gap cs (suc n) a)) gap, omega (arith, same))
-next-least cs a (suc k) n m d e is stays gap =
-    let at = has_at cs n (omega (arith, e, slice_get_within cs m d is)) in
-    let rest = next-least cs a k (suc n) m d (omega (arith, e)) is stays gap in
-    elim (cases_Bool (is_dropped cs at.0)) [
-      | inl gone ↦ (rest.0, next-past cs n at.0 at.1 a gone ∙ rest.1, rest.2)
-      | inr on ↦ elim (cases_Bool (same_gap (aim at.0) a)) [
-        | inl here ↦ (n, next-here cs n at.0 at.1 a on ∙ ap (λ b. cond b (Some n) (next_in_gap cs (suc n) a)) here, omega (arith, e))
-        | inr other ↦ (rest.0, next-here cs n at.0 at.1 a on ∙ ap (λ b. cond b (Some n) (next_in_gap cs (suc n) a)) other ∙ rest.1, rest.2)
-      ]
+-- there is one, and none between
+next-greatest : (cs : List Change) (a : Aim) (n m : ℕ) (d : Change) → m < n → n ≤ length cs → slice_get cs m ≡ Some d → is_dropped cs d ≡ false → same_gap (aim d) a ≡ true → (i : ℕ) × (next_in_gap cs n a ≡ Some i) × (m ≤ i)
+next-greatest cs a zero m d l within is stays gap = absurd (omega (arith, l))
+next-greatest cs a (suc n) m d l within is stays gap =
+    elim (cases_eq m n) [
+      | inl same ↦
+          let here = ap (slice_get cs) (sym same) ∙ is in
+          (n, next-here cs n d here a stays ∙ ap (λ b. cond b (Some n) (next_in_gap cs n a)) gap, omega (arith, same))
+      | inr apart ↦
+          let at = has_at cs n (omega (arith, within)) in
+          let rest = next-greatest cs a n m d (omega (arith, l, apart)) (omega (arith, within)) is stays gap in
+          elim (cases_Bool (is_dropped cs at.0)) [
+            | inl gone ↦ (rest.0, next-past cs n at.0 at.1 a gone ∙ rest.1, rest.2)
+            | inr on ↦ elim (cases_Bool (same_gap (aim at.0) a)) [
+              | inl here ↦ (n, next-here cs n at.0 at.1 a on ∙ ap (λ b. cond b (Some n) (next_in_gap cs n a)) here, omega (arith, l))
+              | inr other ↦ (rest.0, next-here cs n at.0 at.1 a on ∙ ap (λ b. cond b (Some n) (next_in_gap cs n a)) other ∙ rest.1, rest.2)
+            ]
+          ]
     ]
 
 module _ (cs : List Change) (table : List (Option ℕ)) (linked : IsLinked (gap_link cs) cs table) where
   -- the link of an insert that stays
-  gap-linked : (n : ℕ) (c : Change) → slice_get cs n ≡ Some c → is_dropped cs c ≡ false → link table n ≡ next_in_gap cs (suc n) (aim c)
-  gap-linked n c is stays = linked.at n c is ∙ ap (λ b. cond b None (next_in_gap cs (suc n) (aim c))) stays
+  gap-linked : (n : ℕ) (c : Change) → slice_get cs n ≡ Some c → is_dropped cs c ≡ false → link table n ≡ next_in_gap cs n (aim c)
+  gap-linked n c is stays = linked.at n c is ∙ ap (λ b. cond b None (next_in_gap cs n (aim c))) stays
 
-  next-of : (n m : ℕ) (c : Change) → slice_get cs n ≡ Some c → next_in_gap cs (suc n) (aim c) ≡ Some m → IsNext cs (aim c) (suc n) m
-  next-of n m c is next =
-      let l = slice_get_within cs n c is in
-      next-found cs (aim c) (length cs - suc n) (suc n) m (omega (arith, l)) next
+  next-of : (n m : ℕ) (c : Change) → slice_get cs n ≡ Some c → next_in_gap cs n (aim c) ≡ Some m → IsNext cs (aim c) n m
+  next-of n m c is next = let l = slice_get_within cs n c is in next-found cs (aim c) n m (omega (arith, l)) next
 
-  gap-leads : (k n m : ℕ) (c d : Change) → m ≤ n + k → n < m → slice_get cs n ≡ Some c → is_dropped cs c ≡ false → slice_get cs m ≡ Some d → is_dropped cs d ≡ false → same_gap (aim c) (aim d) ≡ true → Leads table n m
+  gap-leads : (k n m : ℕ) (c d : Change) → n ≤ m + k → m < n → slice_get cs n ≡ Some c → is_dropped cs c ≡ false → slice_get cs m ≡ Some d → is_dropped cs d ≡ false → same_gap (aim c) (aim d) ≡ true → Leads table n m
   gap-leads zero n m c d near l is_c c_stays is_d d_stays gap = absurd (omega (arith, near, l))
   gap-leads (suc k) n m c d near l is_c c_stays is_d d_stays gap =
-      let least = next-least cs (aim c) (m - suc n) (suc n) m d (omega (arith, l)) is_d d_stays (same_gap-sym (aim c) (aim d) gap) in
-      let i = least.0 in
-      let next = next-of n i c is_c least.1 in
-      let here : link table n ≡ Some i = gap-linked n c is_c c_stays ∙ least.1 in
+      let within = slice_get_within cs n c is_c in
+      let greatest = next-greatest cs (aim c) n m d l (omega (arith, within)) is_d d_stays (same_gap-sym (aim c) (aim d) gap) in
+      let i = greatest.0 in
+      let next = next-of n i c is_c greatest.1 in
+      let here : link table n ≡ Some i = gap-linked n c is_c c_stays ∙ greatest.1 in
       elim (cases_eq i m) [
         | inl same ↦ one_link table n m (here ∙ ap (λ j. Some j) same)
         | inr apart ↦
-            let on : i < m = omega (arith, apart, least.2) in
+            let on : m < i = omega (arith, apart, greatest.2) in
             let e = next.1.0 in
             leads_on table n i m here (gap-leads k i m e d (omega (arith, near, next.0)) on next.1.1 next.1.2 is_d d_stays (same_gap-trans (aim e) (aim c) (aim d) next.1.3 gap))
       ]
@@ -116,19 +114,19 @@ module _ (cs : List Change) (table : List (Option ℕ)) (linked : IsLinked (gap_
       let from = linked_some (gap_link cs) cs table n m linked is in
       let c = from.0 in
       elim (cases_Bool (is_dropped cs c)) [
-        | inl gone ↦ absurd (none-some m (sym (ap (λ b. cond b None (next_in_gap cs (suc n) (aim c))) gone) ∙ from.2))
+        | inl gone ↦ absurd (none-some m (sym (ap (λ b. cond b None (next_in_gap cs n (aim c))) gone) ∙ from.2))
         | inr stays ↦
-            let next = next-of n m c from.1 (sym (ap (λ b. cond b None (next_in_gap cs (suc n) (aim c))) stays) ∙ from.2) in
+            let next = next-of n m c from.1 (sym (ap (λ b. cond b None (next_in_gap cs n (aim c))) stays) ∙ from.2) in
             let d = next.1.0 in
-            (c, d, from.1, stays, next.1.1, gap_first_from (n, c) (m, d) (same_gap-sym (aim d) (aim c) next.1.3) (omega (arith, next.0)))
+            (c, d, from.1, stays, next.1.1, gap_first_from (n, c) (m, d) (same_gap-sym (aim d) (aim c) next.1.3) next.0)
       ]
 
   pub gaps-carry : Carries gap_first cs table
   gaps-carry = record {
     sound = gap-sound;
     covers = λ n m c d is_c c_stays is_d d_stays first.
-        let less = gap_first-less (n, c) (m, d) first in
-        gap-leads m n m c d (omega arith) less.1 is_c c_stays is_d d_stays less.0;
+        let later = gap_first-later (n, c) (m, d) first in
+        gap-leads n n m c d (omega arith) later.1 is_c c_stays is_d d_stays later.0;
   }
 
 -- ---- tokens

@@ -1,11 +1,11 @@
 -- The default order keeps to what must come first.
 --     owned-default, gap-default, token-default      what must come first comes first in the default order
 --     respects-weaker               an order that keeps to a test keeps to a stronger one
-use Rattle.std.specs.Prelude.{◌≡◌, ℕ, suc, ◌-◌, Bool, true, false, not, ◌&&◌, ◌||◌, nat_lt, List, [], ◌∷◌, ◌++◌, slice_get, Some, refl}
+use Rattle.std.specs.Prelude.{◌≡◌, ℕ, suc, ◌-◌, Bool, true, false, not, ◌&&◌, ◌||◌, List, [], ◌∷◌, ◌++◌, slice_get, Some, refl}
 use Rattle.std.specs.List.{AllByRecursion}
 use Rattle.std.specs.Option.{option_map_or}
 use Rattle.std.proofs.Common.{ap, ap₂, sym, ◌∙◌, arith}
-use Rattle.std.proofs.lemmas.Bool.{or_cases, or_left, or_right, and_from, lt-ltb, false≢true, not_from_false}
+use Rattle.std.proofs.lemmas.Bool.{or_cases, or_left, or_right, and_parts, and_from, false≢true, not_from_false}
 use Rattle.std.proofs.lemmas.Option.{same_Some}
 use mathlib.Core.Logic.{inl, inr}
 use Rattle.cst_core.specs.Path.{Path, same_path, has_path, precedes, parent_path, last_slot}
@@ -22,17 +22,17 @@ use Rattle.edit_change.specs.declared.change.Change.{Change}
 use Rattle.edit_change.specs.declared.change.Change.TheVariants.{Insert, InsertAll, Replace, ReplaceWithMany, ReplaceAll}
 use Rattle.edit_change.proofs.Owners.{HasRegion, owner_from, owner_region}
 use Rattle.edit_change.proofs.Paths.{same_path-true}
-use Rattle.schedule.specs.Schedule.{Numbered, respects, owned_first, gap_first, token_first, token_before, anchor_token}
+use Rattle.schedule.specs.Schedule.{Numbered, respects, stands_last, owned_first, gap_first, token_first, token_before, anchor_token}
 use Rattle.schedule.specs.DefaultOrder.{gap_path, document_path, fills_gap, stands_ahead, default_first}
 use Rattle.schedule.proofs.Carried.{replaces-targets}
-use Rattle.schedule.proofs.Gaps.{gap_first-less, same_gap-sym}
+use Rattle.schedule.proofs.Gaps.{same_gap-sym}
 use Rattle.schedule.proofs.Orders.{respects_to, respects_from}
 use Rattle.schedule.proofs.PathOrder.{precedes-self, all-above, all-up_to, before-first, before-next, range-behind}
 
 -- ---- what stands ahead
 path-ahead : (c d : Numbered) → precedes (document_path d.1) (document_path c.1) ≡ true → default_first c d ≡ true
 path-ahead c d h =
-    or_left (stands_ahead d.1 c.1) (not (stands_ahead c.1 d.1) && nat_lt c.0 d.0) (or_left (precedes (document_path d.1) (document_path c.1)) (same_path (document_path d.1) (document_path c.1) && (fills_gap d.1 && not (fills_gap c.1))) h)
+    or_left (stands_ahead d.1 c.1) (not (stands_ahead c.1 d.1) && stands_last c.0 d.0) (or_left (precedes (document_path d.1) (document_path c.1)) (same_path (document_path d.1) (document_path c.1) && (fills_gap d.1 && not (fills_gap c.1))) h)
 
 -- what a replacement replaces does not stand before the path that the change has
 one-behind : (p q : Path) → has_path (p ∷ []) q ≡ true → (r : Path) → precedes q r ≡ true → precedes p r ≡ true
@@ -116,9 +116,9 @@ not-ahead c d gap =
 
 pub gap-default : (c d : Numbered) → gap_first c d ≡ true → default_first c d ≡ true
 gap-default c d h =
-    let less = gap_first-less c d h in
-    let gap = in_one_gap c.1 d.1 less.0 (same_gap-sym (aim c.1) (aim d.1) less.0) in
-    or_right (stands_ahead d.1 c.1) (not (stands_ahead c.1 d.1) && nat_lt c.0 d.0) (and_from (not (stands_ahead c.1 d.1)) (nat_lt c.0 d.0) (not_from_false (stands_ahead c.1 d.1) (not-ahead c.1 d.1 gap)) (lt-ltb c.0 d.0 less.1))
+    let parts = and_parts (same_gap (aim c.1) (aim d.1)) (stands_last c.0 d.0) h in
+    let gap = in_one_gap c.1 d.1 parts.0 (same_gap-sym (aim c.1) (aim d.1) parts.0) in
+    or_right (stands_ahead d.1 c.1) (not (stands_ahead c.1 d.1) && stands_last c.0 d.0) (and_from (not (stands_ahead c.1 d.1)) (stands_last c.0 d.0) (not_from_false (stands_ahead c.1 d.1) (not-ahead c.1 d.1 gap)) parts.1)
 
 -- ---- tokens
 pub token-default : (c d : Numbered) → token_first c d ≡ true → default_first c d ≡ true

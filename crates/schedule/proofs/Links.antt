@@ -1,15 +1,12 @@
 -- The links of the tables that code makes.
 --     token-dropped, token-kept     to what replaces the token that a change stands behind
---     none-left                     behind the last change there is no insert
---     put-behind, put-before, passed-behind     the table of gaps, from the last change on
-use Rattle.std.specs.Prelude.{◌≡◌, ◌≢◌, ℕ, zero, suc, ◌<◌, ◌≤◌, Bool, true, false, not, cond, List, [], ◌∷◌, drop, length, slice_get, filter, find, option_and_then, option_map, Option, Some, None, refl}
-use Rattle.std.specs.List.{enumerate_from}
+--     put-before, put-behind, passed-before     the table of gaps, from the first change on
+use Rattle.std.specs.Prelude.{◌≡◌, ◌≢◌, ℕ, suc, ◌<◌, ◌≤◌, Bool, true, false, cond, List, length, slice_get, option_and_then, Option, Some, None}
 use Rattle.std.proofs.Common.{ap, ap₂, sym, ◌∙◌, arith, get_or-set_same, get_or-set_other}
 use Rattle.std.proofs.lemmas.Bool.{cases_eq}
 use Rattle.std.proofs.Math.ListN.{set}
 use mathlib.Core.Logic.{inl, inr}
 use mathlib.Core.Path.{fun_ext}
-use Rattle.rewriting.specs.Aim.{Aim, same_gap}
 use Rattle.edit_change.specs.ChangeAim.{aim}
 use Rattle.edit_change.specs.Nesting.{is_dropped}
 use Rattle.edit_change.specs.inner.TargetIndex.{number_at, target_at, IsIndex}
@@ -27,40 +24,29 @@ module _ (cs : List Change) (n : ℕ) (c : Change) (b : Bool) (told : b ≡ is_d
   token-kept o index indexed h is =
       is ∙ ap (λ f. option_and_then f (anchor_token c)) (fun_ext indexed.at_each) ∙ sym (ap (λ a. cond a None (option_and_then (target_at cs) (anchor_token c))) (sym told ∙ h))
 
-drop-past : {X : Type 0} (n : ℕ) (xs : List X) → length xs ≤ n → drop n xs ≡ []
-drop-past zero [] l = refl
-drop-past (suc n) [] l = refl
-drop-past zero (x ∷ xs) l = absurd (omega (arith, l))
-drop-past (suc n) (x ∷ xs) l = drop-past n xs (omega (arith, l))
-
-pub none-left : (cs : List Change) (a : Aim) → None ≡ next_in_gap cs (length cs) a
-none-left cs a =
-    sym (ap (λ ds. option_map (λ c. c.0) (find (λ c. same_gap (aim c.1) a) (filter (λ c. not (is_dropped cs c.1)) (enumerate_from (length cs) ds)))) (drop-past (length cs) cs (omega arith)))
-
 -- ---- the table of gaps, once the change with this number is met
-module _ (cs : List Change) (n m : ℕ) (next : m ≡ suc n) (c : Change) (is : slice_get cs n ≡ Some c) (before : List (Option ℕ)) (behind : (k : ℕ) (d : Change) → m ≤ k → slice_get cs k ≡ Some d → link before k ≡ gap_link cs k d) where
-  here-or-on : (k : ℕ) → n ≤ k → (k ≡ n → ⊥) → m ≤ k
-  here-or-on k l apart = omega (arith, l, apart, next)
+module _ (cs : List Change) (n m : ℕ) (next : m ≡ suc n) (c : Change) (is : slice_get cs n ≡ Some c) (links : List (Option ℕ)) (before : (k : ℕ) (d : Change) → k < n → slice_get cs k ≡ Some d → link links k ≡ gap_link cs k d) where
+  here-or-before : (k : ℕ) → k < m → (k ≡ n → ⊥) → k < n
+  here-or-before k l apart = omega (arith, l, apart, next)
 
-  pub passed-behind : is_dropped cs c ≡ true → link before n ≡ None → (k : ℕ) (d : Change) → n ≤ k → slice_get cs k ≡ Some d → link before k ≡ gap_link cs k d
-  passed-behind t none k d l is_k =
+  pub passed-before : is_dropped cs c ≡ true → link links n ≡ None → (k : ℕ) (d : Change) → k < m → slice_get cs k ≡ Some d → link links k ≡ gap_link cs k d
+  passed-before t none k d l is_k =
       elim (cases_eq k n) [
         | inl same ↦
             let alike : d ≡ c = same_Some d c (sym is_k ∙ ap (slice_get cs) same ∙ is) in
-            ap (link before) same ∙ none ∙ sym (ap (λ b. cond b None (next_in_gap cs (suc k) (aim d))) (ap (is_dropped cs) alike ∙ t))
-        | inr apart ↦ behind k d (here-or-on k l apart) is_k
+            ap (link links) same ∙ none ∙ sym (ap (λ b. cond b None (next_in_gap cs k (aim d))) (ap (is_dropped cs) alike ∙ t))
+        | inr apart ↦ before k d (here-or-before k l apart) is_k
       ]
 
-  module _ (o : Option ℕ) (within : n < length before) where
-    pub put-behind : is_dropped cs c ≡ false → o ≡ next_in_gap cs m (aim c) → (k : ℕ) (d : Change) → n ≤ k → slice_get cs k ≡ Some d → link (set before n o) k ≡ gap_link cs k d
-    put-behind f found k d l is_k =
+  module _ (o : Option ℕ) (within : n < length links) where
+    pub put-before : is_dropped cs c ≡ false → o ≡ next_in_gap cs n (aim c) → (k : ℕ) (d : Change) → k < m → slice_get cs k ≡ Some d → link (set links n o) k ≡ gap_link cs k d
+    put-before f found k d l is_k =
         elim (cases_eq k n) [
           | inl same ↦
               let alike : d ≡ c = same_Some d c (sym is_k ∙ ap (slice_get cs) same ∙ is) in
-              let on : m ≡ suc k = omega (arith, next, same) in
-              ap (link (set before n o)) same ∙ get_or-set_same before n o None within ∙ found ∙ ap₂ (λ j e. next_in_gap cs j (aim e)) on (sym alike) ∙ sym (ap (λ b. cond b None (next_in_gap cs (suc k) (aim d))) (ap (is_dropped cs) alike ∙ f))
-          | inr apart ↦ get_or-set_other before n k o None apart ∙ behind k d (here-or-on k l apart) is_k
+              ap (link (set links n o)) same ∙ get_or-set_same links n o None within ∙ found ∙ ap₂ (λ j e. next_in_gap cs j (aim e)) (sym same) (sym alike) ∙ sym (ap (λ b. cond b None (next_in_gap cs k (aim d))) (ap (is_dropped cs) alike ∙ f))
+          | inr apart ↦ get_or-set_other links n k o None apart ∙ before k d (here-or-before k l apart) is_k
         ]
 
-    pub put-before : ((k : ℕ) → k < m → link before k ≡ None) → (k : ℕ) → k < n → link (set before n o) k ≡ None
-    put-before none k l = let apart : k ≢ n = omega (arith, l) in get_or-set_other before n k o None apart ∙ none k (omega (arith, l, next))
+    pub put-behind : ((k : ℕ) → n ≤ k → link links k ≡ None) → (k : ℕ) → m ≤ k → link (set links n o) k ≡ None
+    put-behind none k l = let apart : k ≢ n = omega (arith, l, next) in get_or-set_other links n k o None apart ∙ none k (omega (arith, l, next))

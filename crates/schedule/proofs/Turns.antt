@@ -1,6 +1,7 @@
 -- The turns of changes, one after another.
 --     front-parent                  all of a path but its last slot
 --     gap-first, gap-behind         the index of a gap, by its form
+--     kept_of, kept-more            the changes before a number that are not dropped; one change more
 --     turns-kept, turns-passed      the turns of one change more
 use Rattle.std.specs.Prelude.{◌≡◌, ◌<◌, ◌+◌, ◌-◌, ℕ, suc, true, false, not, cond, List, [], ◌∷◌, ◌++◌, map, filter, length, take, Some, None, refl}
 use Rattle.std.specs.List.{enumerate_from}
@@ -45,7 +46,7 @@ module _ (cs : List Change) (n : ℕ) (c : Change) (l : n < length cs) (is : c �
   abbrev pub kept_of : ℕ → List Numbered
   kept_of k = filter (λ d. not (is_dropped cs d.1)) (enumerate_from 0 (take k cs))
 
-  kept-more : kept_of (n + 1) ≡ kept_of n ++ cond (not (is_dropped cs c)) ((n, c) ∷ []) []
+  pub kept-more : kept_of (n + 1) ≡ kept_of n ++ cond (not (is_dropped cs c)) ((n, c) ∷ []) []
   kept-more =
       let e : 0 + length (take n cs) ≡ n = omega (arith, length-take-le n cs (omega (arith, l))) in
       let stays = λ (d : Numbered). not (is_dropped cs d.1) in

@@ -3,9 +3,9 @@
 --     document_path                 of a change: this path, or that of the first element that it replaces
 --     fills_gap                     the change is an insert
 --     stands_ahead                  document order of changes: a gap stands before its slot
---     default_first                 the first change comes before the second: it stands behind it, or both fill one gap and it was recorded first
+--     default_first                 the first change comes before the second: it stands behind it, or both fill one gap and it stands last there
 --     IsDefaultOrder                an order of each undropped change that goes by `default_first`
-use Rattle.std.specs.Prelude.{ℕ, suc, Bool, true, false, not, ◌&&◌, ◌||◌, nat_lt, List, [], ◌∷◌, ◌++◌, IsTrue}
+use Rattle.std.specs.Prelude.{ℕ, suc, Bool, true, false, not, ◌&&◌, ◌||◌, List, [], ◌∷◌, ◌++◌, IsTrue}
 use Rattle.cst_core.specs.Path.{Path, same_path, precedes, parent_path, last_slot}
 use Rattle.cst_core.specs.SyntaxElement.{element_of}
 use Rattle.edit_change.specs.ChangeAim.{aim_path}
@@ -13,7 +13,7 @@ use Rattle.edit_change.specs.declared.position.Position.{Position}
 use Rattle.edit_change.specs.PositionForm.{FirstChild, After}
 use Rattle.edit_change.specs.declared.change.Change.{Change}
 use Rattle.edit_change.specs.declared.change.Change.TheVariants.{Insert, InsertAll, Replace, ReplaceWithMany, ReplaceAll}
-use Rattle.schedule.specs.Schedule.{Numbered, ListsEachOnce, respects}
+use Rattle.schedule.specs.Schedule.{Numbered, ListsEachOnce, respects, stands_last}
 
 -- the gap behind an element is that before the next slot
 abbrev pub gap_path : Position → Path
@@ -40,7 +40,7 @@ stands_ahead c d =
     || (same_path (document_path c) (document_path d) && (fills_gap c && not (fills_gap d)))
 
 abbrev pub default_first : Numbered → Numbered → Bool
-default_first c d = stands_ahead d.1 c.1 || (not (stands_ahead c.1 d.1) && nat_lt c.0 d.0)
+default_first c d = stands_ahead d.1 c.1 || (not (stands_ahead c.1 d.1) && stands_last c.0 d.0)
 
 pub record IsDefaultOrder (cs : List Change) (order : List ℕ) : Type 0 where
   pub each_once : ListsEachOnce cs order

@@ -2,7 +2,7 @@
 --     Numbered, undropped           a change with its number; the changes that are not dropped, with their numbers
 --     owned_first, gap_first, token_first      the first change has to be carried out before the second: it is owned by it;
 --                                   it inserts into the same gap and stands last there; it inserts behind a token that the other replaces
---     last_in_gap                   of two inserts of one gap, the one that stands last
+--     last_in_gap, stands_last      of two inserts of one gap, the one that stands last; the first one is that
 --     token_before, anchor_token    the token that a position is behind; that an insert stands behind
 --     comes_first                   one of these
 --     index_in                      where a number stands in the order, or the length of the order
@@ -39,9 +39,12 @@ owned_first cs c d = has_owner cs d.0 c.1
 abbrev pub last_in_gap : ℕ → ℕ → Option ℕ
 last_in_gap c d = last_item (gap_order (min c d ∷ max c d ∷ []))
 
+abbrev pub stands_last : ℕ → ℕ → Bool
+stands_last c d = not (nat_eq c d) && option_map_or (nat_eq c) (last_in_gap c d) false
+
 -- Each insert goes to the front of its gap, so the one that stands last there is carried out first.
 abbrev pub gap_first : Numbered → Numbered → Bool
-gap_first c d = same_gap (aim c.1) (aim d.1) && not (nat_eq c.0 d.0) && option_map_or (nat_eq c.0) (last_in_gap c.0 d.0) false
+gap_first c d = same_gap (aim c.1) (aim d.1) && stands_last c.0 d.0
 
 abbrev pub token_before : Position → Option Path
 token_before (FirstChild n) = None

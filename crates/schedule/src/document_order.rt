@@ -6,7 +6,6 @@ ghost use Rattle.schedule.specs.inner.Turns.{turn_of, turn_in, number_in, side_o
 
 use edit_change::{Change, Fate, Position, slot_after};
 use std::alloc::{AllocError, Global};
-use std::cmp::Reverse;
 
 /// Which of the two stands at a slot: its gap before it, or what is in it.
 #[derive(PartialEq, Eq, PartialOrd, Ord, Drop)]
@@ -15,14 +14,14 @@ enum Side {
     Slot,
 }
 
-/// By these values turns ascend as changes stand in the document, those of one gap from the last recorded to the first.
-/// So changes take their turns from the last value to the first.
+/// By these values turns ascend as changes stand in the document, those of one gap as they were recorded. So changes take
+/// their turns from the last value to the first.
 #[derive(PartialEq, Eq, PartialOrd, Ord, Drop)]
 struct Turn {
     /// The path of the slot.
     path: Vec<usize>,
     side: Side,
-    number: Reverse<usize>,
+    number: usize,
 }
 
 // The path of the slot that a gap stands before.
@@ -72,7 +71,7 @@ fn turn_of(alloc: Global, change: &Change, number: usize) -> Result<Turn, AllocE
     Ok(Turn {
         path: document_path(alloc, change)?,
         side: side_of(change),
-        number: Reverse(number),
+        number,
     })
 }
 
@@ -94,11 +93,11 @@ fn turns(alloc: Global, changes: &[Change], fates: &[Fate]) -> Result<Vec<Turn>,
 fn numbers_back(alloc: Global, turns: &[Turn]) -> Result<Vec<usize>, AllocError>
     ensures { IfOk result (λ v. v.items ≡ map number_in (reverse turns.now)) }
 {
-    turns.iter().rev().map(|turn| turn.number.0).collect(alloc)
+    turns.iter().rev().map(|turn| turn.number).collect(alloc)
 }
 
 /// The changes that are not dropped, from the last in the document to the first, where a gap stands before its slot; inserts
-/// of one gap as they were recorded. So each change comes after those that it owns.
+/// of one gap from the last recorded to the first. So each change comes after those that it owns.
 ///
 /// `fates` has what becomes of each change. Takes time near linear in the paths of the changes.
 pub fn default_order(

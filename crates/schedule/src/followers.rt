@@ -16,7 +16,7 @@ use std::alloc::{AllocError, Global};
 pub(crate) struct Followers {
     /// Its owner.
     pub(crate) owner: Vec<Option<usize>>,
-    /// The next insert of the same gap.
+    /// The insert before it in the same gap.
     pub(crate) next_in_gap: Vec<Option<usize>>,
     /// What replaces the token that it stands behind.
     pub(crate) replacement: Vec<Option<usize>>,
@@ -57,7 +57,7 @@ fn owners(
     fates.iter().map(|fate| fate.owner()).collect(alloc)
 }
 
-// Goes from the last change to the first, so that the table has the next insert of each gap.
+// Goes from the first change to the last, so that the table has the last insert of each gap so far.
 fn next_in_gaps(
     alloc: Global,
     changes: &[Change],
@@ -68,9 +68,9 @@ fn next_in_gaps(
 {
     let mut seen = GapTable::new(alloc);
     let mut links = vec![in alloc; None; changes.len()]?;
-    for number in (0..changes.len()).rev() {
+    for (number, change) in changes.iter().enumerate() {
         if !fates[number].is_dropped() {
-            links[number] = seen.put(alloc, &changes[number], number)?;
+            links[number] = seen.put(alloc, change, number)?;
         }
     }
     Ok(links)

@@ -1,7 +1,7 @@
 -- One aim more in the list, an insert or a replacement: the rewritten tree is spliced at one node.
 --     same_path-true, same_path_from, same_path-false      the test of two paths
 --     gap_is, one_gap                the gap that an insert fills; there is no other
---     stands_first-last              an insert that is numbered after all others of its gap stands first in it
+--     stands_first-least             an insert that is numbered before all others of its gap stands first in it
 --     range                          so many slots of a node
 --     IsKept, keeps                  no slot on the way to a node is replaced
 --     elsewhere-insert, elsewhere-replace      the edits with the aim are those without it but at its node
@@ -12,7 +12,8 @@ use Rattle.std.specs.List.{list_any}
 use Rattle.std.specs.Option.{option_map_or}
 use Rattle.std.proofs.lemmas.Option.{same_Some}
 use Rattle.std.proofs.Common.{ap, ap₂, sym, subst, ◌∙◌, arith}
-use Rattle.std.proofs.lemmas.List.{append-nil, length-append, reverse-append, same_from_push}
+use Rattle.std.proofs.lemmas.List.{append-nil, length-append, same_from_push}
+use Rattle.std.proofs.lemmas.List.Elements.{filter-append}
 use Rattle.std.proofs.lemmas.Bool.{cases_eq, false≢true, false_from_ne_true, eqb-true, eq-eqb, and_parts, or_parts, or_left, or_right}
 use mathlib.Core.Logic.{inl, inr}
 use mathlib.Core.Path.{fun_ext}
@@ -52,13 +53,9 @@ module _ {X : Type 0} (test : X → Bool) where
   filter_skip [] c ys h = ap (λ b. cond b (c ∷ filter test ys) (filter test ys)) h
   filter_skip (x ∷ xs) c ys h = ap (λ zs. cond (test x) (x ∷ zs) zs) (filter_skip xs c ys h)
 
-  pub filter_last : (xs : List X) (c : X) (ys : List X) → test c ≡ true → filter test ys ≡ [] → filter test (xs ++ c ∷ ys) ≡ filter test (xs ++ ys) ++ c ∷ []
-  filter_last [] c ys h n = ap₂ (λ b zs. cond b (c ∷ zs) zs) h n ∙ ap (λ zs. zs ++ c ∷ []) (sym n)
-  filter_last (x ∷ xs) c ys h n =
-      ap (λ zs. cond (test x) (x ∷ zs) zs) (filter_last xs c ys h n) ∙ elim (test x) as (λ b. cond b (x ∷ (filter test (xs ++ ys) ++ c ∷ [])) (filter test (xs ++ ys) ++ c ∷ []) ≡ cond b (x ∷ filter test (xs ++ ys)) (filter test (xs ++ ys)) ++ c ∷ []) [
-        | true ↦ refl
-        | false ↦ refl
-      ]
+  pub filter_least : (xs : List X) (c : X) (ys : List X) → test c ≡ true → filter test xs ≡ [] → filter test (xs ++ c ∷ ys) ≡ c ∷ filter test (xs ++ ys)
+  filter_least xs c ys h n =
+      filter-append test xs (c ∷ ys) ∙ ap₂ (λ zs b. zs ++ cond b (c ∷ filter test ys) (filter test ys)) n h ∙ ap (λ zs. c ∷ zs) (sym (filter-append test xs ys ∙ ap (λ zs. zs ++ filter test ys) n))
 
   pub any_skip : (xs : List X) (c : X) (ys : List X) → test c ≡ false → list_any test (xs ++ c ∷ ys) ≡ list_any test (xs ++ ys)
   any_skip [] c ys h = ap (λ b. b || list_any test ys) h
@@ -111,21 +108,9 @@ no_slot (FirstIn r) p q i h = (refl, refl)
 no_slot (Behind r) p q i h = (refl, refl)
 no_slot (Over rs) p q i h = absurd (false≢true h)
 
-pub gap_order-push : (ns : List ℕ) (c : ℕ) → gap_order (ns ++ c ∷ []) ≡ c ∷ gap_order ns
-gap_order-push ns c = reverse-append ns (c ∷ [])
-
-numbers-push : (cs : List NumberedAim) (c : NumberedAim) → numbers (cs ++ c ∷ []) ≡ numbers cs ++ c.0 ∷ []
-numbers-push [] c = refl
-numbers-push (d ∷ cs) c = ap (λ ns. d.0 ∷ ns) (numbers-push cs c)
-
--- an insert that is numbered after all others of its gap stands first in it
-pub stands_first-last : (xs : List NumberedAim) (c : NumberedAim) (ys : List NumberedAim) (p : Path) (i : ℕ) → aims_at_gap p i c.1 ≡ true → inserts_at ys p i ≡ [] → gap_order (inserts_at (xs ++ c ∷ ys) p i) ≡ c.0 ∷ gap_order (inserts_at (xs ++ ys) p i)
-stands_first-last xs c ys p i here last =
-    ap gap_order (ap numbers (filter_last (λ d. aims_at_gap p i d.1) xs c ys here (no_numbers (filter (λ (d : NumberedAim). aims_at_gap p i d.1) ys) last)) ∙ numbers-push (filter (λ d. aims_at_gap p i d.1) (xs ++ ys)) c) ∙ gap_order-push (inserts_at (xs ++ ys) p i) c.0
-  where
-    no_numbers : (ds : List NumberedAim) → numbers ds ≡ [] → ds ≡ []
-    no_numbers [] h = refl
-    no_numbers (d ∷ ds) h = cc
+-- an insert that is numbered before all others of its gap stands first in it
+pub stands_first-least : (xs : List NumberedAim) (c : NumberedAim) (ys : List NumberedAim) (p : Path) (i : ℕ) → aims_at_gap p i c.1 ≡ true → filter (λ d. aims_at_gap p i d.1) xs ≡ [] → gap_order (inserts_at (xs ++ c ∷ ys) p i) ≡ c.0 ∷ gap_order (inserts_at (xs ++ ys) p i)
+stands_first-least xs c ys p i here least = ap (λ ds. gap_order (numbers ds)) (filter_least (λ d. aims_at_gap p i d.1) xs c ys here least)
 
 pub starts-replaces : (q : Path) (a : Aim) → starts_at q a ≡ true → replaces q a ≡ true
 starts-replaces q (FirstIn r) h = h

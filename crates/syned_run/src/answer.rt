@@ -1,5 +1,6 @@
 //! What a run prints, and its exit status.
-ghost use Rattle.std.specs.Prelude.{◌≡◌, ◌<◌, ◌^◌, IfOk};
+ghost use Rattle.std.specs.Prelude.{◌≡◌, ◌<◌, ◌≤◌, ◌^◌, length, IfOk, IfSome, IsUtf8, string_bytes};
+ghost use Rattle.syned_run.specs.Answer.{IsAnswer, IsEditText, IsRefusalText, bad_text};
 ghost use Rattle.syned_run.specs.inner.ExitCode.{exit_code};
 
 use crate::ends::SCRIPT_LIMIT;
@@ -46,7 +47,9 @@ pub(crate) struct Answer {
 }
 
 /// The answer to a script of these bytes.
-pub(crate) fn answer_to(alloc: Global, script: &[u8]) -> Result<Answer, AllocError> {
+pub(crate) fn answer_to(alloc: Global, script: &[u8]) -> Result<Answer, AllocError>
+    ensures { IfOk result (λ a. IsAnswer script.now (exit_code a.status) (string_bytes a.text)) }
+{
     let Some(script) = script_text(script) else {
         return bad_script(alloc, 0);
     };
@@ -63,14 +66,18 @@ pub(crate) fn answer_to(alloc: Global, script: &[u8]) -> Result<Answer, AllocErr
     }
 }
 
-fn script_text(script: &[u8]) -> Option<&str> {
+fn script_text(script: &[u8]) -> Option<&str>
+    ensures { IfSome result (λ _. (length script.now ≤ SCRIPT_LIMIT) × IsUtf8 script.now) }
+{
     if script.len() > SCRIPT_LIMIT {
         return None;
     }
     str::from_utf8(script).ok()
 }
 
-fn bad_script(alloc: Global, line: usize) -> Result<Answer, AllocError> {
+fn bad_script(alloc: Global, line: usize) -> Result<Answer, AllocError>
+    ensures { IfOk result (λ a. (exit_code a.status ≡ 2) × (string_bytes a.text ≡ bad_text line)) }
+{
     let text = format!(in alloc; "bad script line {line}\n")?;
     Ok(Answer {
         status: Status::BadScript,
@@ -78,8 +85,11 @@ fn bad_script(alloc: Global, line: usize) -> Result<Answer, AllocError> {
     })
 }
 
-fn refusal_answer(alloc: Global, refusal: Refusal) -> Result<Answer, AllocError> {
-    let text = format!(in alloc; "refused {refusal}\n")?;
+fn refusal_answer(alloc: Global, refusal: Refusal) -> Result<Answer, AllocError>
+    ensures { IfOk result (λ a. (exit_code a.status ≡ 1) × IsRefusalText (string_bytes a.text)) }
+{
+    let name = format!(in alloc; "{refusal}")?;
+    let text = format!(in alloc; "refused {name}\n")?;
     Ok(Answer {
         status: Status::Refused,
         text,
@@ -87,7 +97,9 @@ fn refusal_answer(alloc: Global, refusal: Refusal) -> Result<Answer, AllocError>
 }
 
 // What is printed once the script is done.
-fn carry_out(alloc: Global, script: &str) -> Result<String, Stopped> {
+fn carry_out(alloc: Global, script: &str) -> Result<String, Stopped>
+    ensures { IfOk result (λ s. IsEditText (string_bytes s)) }
+{
     let lines = lines(alloc, script).map_err(|_| Stop::Memory.at(0))?;
     let (session, number) = record(alloc, &lines)?;
     end(alloc, session, &lines, number)
@@ -116,6 +128,7 @@ fn record(alloc: Global, lines: &[&str]) -> Result<(Session, usize), Stopped>
 // Carries out `finish`, which is the line of this number. Only blank lines may follow.
 fn end(alloc: Global, session: Session, lines: &[&str], number: usize) -> Result<String, Stopped>
     requires { number < 2 ^ 63 }
+    ensures { IfOk result (λ s. IsEditText (string_bytes s)) }
 {
     if !session.is_editing() {
         return Err(Stop::Bad.at(number));
@@ -128,7 +141,9 @@ fn end(alloc: Global, session: Session, lines: &[&str], number: usize) -> Result
     finish(alloc, session).map_err(|stop| stop.at(number))
 }
 
-fn finish(alloc: Global, session: Session) -> Result<String, Stop> {
+fn finish(alloc: Global, session: Session) -> Result<String, Stop>
+    ensures { IfOk result (λ s. IsEditText (string_bytes s)) }
+{
     let (editing, mut ids, words) = session.into_editing()?;
     let edit = editing.finish(alloc, &mut ids)?;
     Ok(print_edit(alloc, &edit, words.in_order())?)

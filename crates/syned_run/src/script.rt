@@ -3,7 +3,7 @@
 use crate::name::Name;
 use crate::reference::{Reference, read_number};
 use crate::stop::Stop;
-use cst_core::GreenNode;
+use cst_core::{GreenNode, SyntaxKind};
 use std::alloc::Global;
 use tree_text::read_tree;
 
@@ -53,6 +53,11 @@ pub(crate) enum Line<'a> {
         word: Name<'a>,
         element: Reference<'a>,
     },
+    /// An element of a separated list is deleted with one separator of this kind.
+    Remove {
+        element: Reference<'a>,
+        separator: SyntaxKind,
+    },
     /// The order in which the changes are to be carried out.
     Order {
         order: Vec<usize>,
@@ -87,6 +92,7 @@ pub(crate) fn read_line<'a>(alloc: Global, text: &'a str) -> Result<Line<'a>, St
         "replace" => replace_line(alloc, &mut fields)?,
         "range" => range_line(alloc, &mut fields)?,
         "note" => note_line(alloc, &mut fields)?,
+        "remove" => remove_line(alloc, &mut fields)?,
         "order" => order_line(alloc, &mut fields)?,
         "finish" => Line::Finish,
         _ => return Err(Stop::Bad),
@@ -169,6 +175,12 @@ fn note_line<'a>(alloc: Global, fields: &mut Fields<'a>) -> Result<Line<'a>, Sto
     Ok(Line::Note { word, element })
 }
 
+fn remove_line<'a>(alloc: Global, fields: &mut Fields<'a>) -> Result<Line<'a>, Stop> {
+    let element = fields.reference(alloc)?;
+    let separator = fields.kind()?;
+    Ok(Line::Remove { element, separator })
+}
+
 fn order_line<'a>(alloc: Global, fields: &mut Fields<'a>) -> Result<Line<'a>, Stop> {
     let order = fields.numbers(alloc)?;
     Ok(Line::Order { order })
@@ -204,6 +216,11 @@ impl<'a> Fields<'a> {
     fn name(&mut self) -> Result<Name<'a>, Stop> {
         let field = self.next().ok_or(Stop::Bad)?;
         Name::new(field).ok_or(Stop::Bad)
+    }
+
+    fn kind(&mut self) -> Result<SyntaxKind, Stop> {
+        let field = self.next().ok_or(Stop::Bad)?;
+        SyntaxKind::from_name(field).ok_or(Stop::Bad)
     }
 
     fn reference(&mut self, alloc: Global) -> Result<Reference<'a>, Stop> {

@@ -6,7 +6,8 @@ use crate::roots::Roots;
 use crate::script::{Line, Place};
 use crate::stop::Stop;
 use crate::words::Words;
-use cst_core::{GreenNode, SyntaxElement, SyntaxNode, TreeIds};
+use cst_core::{GreenNode, SyntaxElement, SyntaxKind, SyntaxNode, TreeIds};
+use list_removal::remove_separated;
 use std::alloc::Global;
 use syntax_editor::{Position, SyntaxEdit, SyntaxEditor, SyntaxMappingBuilder};
 
@@ -87,6 +88,7 @@ impl Session {
                 payload,
             } => self.range(&first, &last, &payload),
             Line::Note { word, element } => self.note(word, &element),
+            Line::Remove { element, separator } => self.remove(&element, separator),
             Line::Order { order } => self.order(order),
             Line::Finish => Err(Stop::Bad),
         }
@@ -201,6 +203,13 @@ impl Session {
         let Editing { editor, .. } = self.editing.as_mut().ok_or(Stop::Bad)?;
         let annotation = self.words.annotation(self.alloc, word)?;
         editor.add_annotation(self.alloc, element, annotation)?;
+        Ok(())
+    }
+
+    fn remove(&mut self, element: &Reference<'_>, separator: SyntaxKind) -> Result<(), Stop> {
+        let element = self.element(element)?;
+        let Editing { editor, .. } = self.editing.as_mut().ok_or(Stop::Bad)?;
+        remove_separated(editor, self.alloc, &element, separator)?;
         Ok(())
     }
 

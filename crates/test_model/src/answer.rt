@@ -2,10 +2,10 @@ use crate::order::Clause;
 use crate::piece::{Piece, print_tree};
 use crate::rewriter::rewritten;
 use anyhow::Result;
-use cst_core::{GreenElementRef, SyntaxElement, TreeIds};
+use cst_core::{GreenElementRef, GreenNode, SyntaxElement, TreeIds};
 use std::alloc::{AllocError, Global};
 use std::fmt::{self, Display, Formatter, Write};
-use syntax_editor::{EditError, ExecuteError, SyntaxEdit, SyntaxEditor};
+use syntax_editor::{EditError, ExecuteError, Rewritten, SyntaxEdit, SyntaxEditor};
 
 /// What comes of changes: a refusal, or the new tree with the changed paths, as they are printed.
 #[derive(PartialEq, Eq, Drop)]
@@ -16,6 +16,8 @@ pub enum Answer {
     NotAllowed(Clause),
     /// A stage is not the one of the model, which never answers so.
     OtherStage(String),
+    /// The engines make other trees, or other paths. The model never answers so.
+    EnginesDiffer,
     Made(String),
 }
 
@@ -42,12 +44,25 @@ impl Answer {
         Ok(Answer::Made(out))
     }
 
+    // This tree, with these changed paths.
+    fn of_tree(
+        alloc: Global,
+        tree: &GreenNode,
+        changed: &[Vec<usize>],
+    ) -> Result<Answer, AllocError> {
+        let pieces = rewritten(alloc, GreenElementRef::Node(tree), &[], false)?;
+        Answer::made(alloc, &pieces, changed)
+    }
+
     // What was made by the editor.
     fn of_edit(alloc: Global, edit: &SyntaxEdit) -> Result<Answer, AllocError> {
-        let root = GreenElementRef::Node(edit.new_root().as_green());
-        let pieces = rewritten(alloc, root, &[], false)?;
         let changed = paths_of(alloc, edit.changed_elements())?;
-        Answer::made(alloc, &pieces, &changed)
+        Answer::of_tree(alloc, edit.new_root().as_green(), &changed)
+    }
+
+    /// What was made by an engine.
+    pub fn of_rewritten(alloc: Global, made: &Rewritten) -> Result<Answer, AllocError> {
+        Answer::of_tree(alloc, &made.green, &made.changed)
     }
 }
 
@@ -69,6 +84,7 @@ impl Display for Answer {
             ),
             Answer::NotAllowed(clause) => write!(f, "{clause}"),
             Answer::OtherStage(difference) => write!(f, "{difference}"),
+            Answer::EnginesDiffer => write!(f, "the engines differ"),
             Answer::Made(text) => write!(f, "{text}"),
         }
     }

@@ -1,5 +1,6 @@
 use crate::answer::{Answer, answer_of, answer_of_refusal, editor_answer, ordered_answer};
 use crate::choice::Choice;
+use crate::engines::engines_answer;
 use crate::fate::fates;
 use crate::model::model_answer;
 use crate::order::Fated;
@@ -41,6 +42,18 @@ pub fn answers_to(
     let mapping = mapping_of(alloc, &mut editor)?;
     let model = model_answer(alloc, root, editor.changes(), &mapping)?;
     let editor = editor_answer(alloc, ids, editor)?;
+    Ok(Answers { editor, model })
+}
+
+/// The same where the editor's answer is that of both engines.
+pub fn engines_answers(
+    alloc: Global,
+    root: &SyntaxNode,
+    mut editor: SyntaxEditor,
+) -> Result<Answers> {
+    let mapping = mapping_of(alloc, &mut editor)?;
+    let model = model_answer(alloc, root, editor.changes(), &mapping)?;
+    let editor = engines_answer(alloc, editor)?;
     Ok(Answers { editor, model })
 }
 

@@ -8,6 +8,7 @@ mod answer;
 mod answers;
 mod changed;
 mod choice;
+mod engines;
 mod fate;
 mod given;
 mod model;
@@ -19,5 +20,5 @@ mod stage;
 mod stepper;
 
 pub use answer::Answer;
-pub use answers::{Answers, answers_to, ordered_answers, stepped_answers};
+pub use answers::{Answers, answers_to, engines_answers, ordered_answers, stepped_answers};
 pub use order::Clause;

@@ -93,7 +93,7 @@ impl Fated<'_> {
         match clause {
             Clause::NotEachOnce => false,
             Clause::OwnerTooEarly => matches!(fate, Fate::Moves { owner, .. } if *owner == second),
-            Clause::GapOutOfOrder => first < second && fill_one_gap(own, other),
+            Clause::GapOutOfOrder => first > second && fill_one_gap(own, other),
             Clause::TokenTooEarly => stands_behind_replaced(own, other),
         }
     }

@@ -34,9 +34,9 @@ impl<'a> Rewriter<'a> {
         }
     }
 
-    // Of those that aim at one gap the last one stands first.
+    // Those that aim at one gap stand as they were recorded.
     fn push_first_gap(&mut self) -> Result<(), AllocError> {
-        for brought in self.brought.iter().rev() {
+        for brought in self.brought {
             if brought.aim.is_first_of(self.path.as_slice()) {
                 share_pieces(self.alloc, &mut self.out, brought.pieces)?;
             }
@@ -46,7 +46,7 @@ impl<'a> Rewriter<'a> {
 
     // The gap behind the element at the path.
     fn push_gap_behind(&mut self) -> Result<(), AllocError> {
-        for brought in self.brought.iter().rev() {
+        for brought in self.brought {
             if brought.aim.is_after(self.path.as_slice()) {
                 share_pieces(self.alloc, &mut self.out, brought.pieces)?;
             }

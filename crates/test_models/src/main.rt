@@ -1,5 +1,5 @@
-//! Reads a script of `syned` and asks the editor and a plain model what comes of its changes: all at once, one at a time, and in the
-//! order of the script where it says one. It prints what both answer, and fails at the first of these where they differ.
+//! Reads a script of `syned` and asks the editor and a plain model what comes of its changes: all at once, one at a time, by each engine,
+//! and in the order of the script where it says one. It prints what both answer, and fails at the first of these where they differ.
 #![tactic(auto)]
 
 use anyhow::Result;
@@ -7,7 +7,7 @@ use std::alloc::Global;
 use std::io::read_to_string;
 use std::process::ExitCode;
 use syned_run::{Recorded, record_script};
-use test_model::{Answers, answers_to, ordered_answers, stepped_answers};
+use test_model::{Answers, answers_to, engines_answers, ordered_answers, stepped_answers};
 
 // What both answer, where the script comes to its end.
 fn at_once(alloc: Global, script: &str) -> Result<Option<Answers>> {
@@ -44,6 +44,14 @@ fn stepped(alloc: Global, script: &str) -> Result<Option<Answers>> {
     Ok(Some(stepped_answers(alloc, &mut ids, &root, editor, same)?))
 }
 
+// The same by each engine.
+fn by_engines(alloc: Global, script: &str) -> Result<Option<Answers>> {
+    let Some(Recorded { root, editor, .. }) = record_script(alloc, script) else {
+        return Ok(None);
+    };
+    Ok(Some(engines_answers(alloc, &root, editor)?))
+}
+
 // The same in the order of the script, where it says one.
 fn ordered(alloc: Global, script: &str) -> Result<Option<Answers>> {
     let Some(
@@ -77,6 +85,11 @@ fn all_agree<R: Print>(rt: &R, alloc: Global, script: &str, at_once: &Answers) -
     }
     if let Some(answers) = stepped(alloc, script)? {
         if !agree(rt, "one at a time", &answers)? {
+            return Ok(false);
+        }
+    }
+    if let Some(answers) = by_engines(alloc, script)? {
+        if !agree(rt, "by the engines", &answers)? {
             return Ok(false);
         }
     }

@@ -188,6 +188,11 @@ pub const OWED: &[Owed] = &[
         answers: &["ok", "Foreign"],
     },
     Owed {
+        call: "remove_separated",
+        name: "remove_separated",
+        answers: &["ok", "Foreign", "DeletesRoot"],
+    },
+    Owed {
         call: "deleted",
         name: "SyntaxEditor::deleted",
         answers: &["true", "false"],
@@ -226,6 +231,11 @@ pub const OWED: &[Owed] = &[
         call: "run_spliced",
         name: "EditPlan::run_with",
         answers: &["ok", "TooLong", "NoTreeNumber"],
+    },
+    Owed {
+        call: "built",
+        name: "EditEngine::run",
+        answers: &["ok", "TooLong"],
     },
     Owed {
         call: "default_order",

@@ -1,4 +1,5 @@
-//! Steps of rows: calls of `cst_core`, `edit_map`, `edit_plan` and `syntax_editor` on the values of a session, and what they answer.
+//! Steps of rows: calls of `cst_core`, `edit_map`, `edit_plan`, `syntax_editor` and `list_removal` on the values of a session, and
+//! what they answer.
 //!
 //! What the calls give is looked at by tests alone, so they have no contracts.
 #![tactic(auto)]
@@ -7,6 +8,7 @@ mod answers;
 mod calls;
 mod editors;
 mod edits;
+mod engines;
 mod levels;
 mod making;
 mod mappings;
@@ -76,6 +78,9 @@ fn other_answer(
         return answer;
     }
     if let Some(answer) = plans::answer(alloc, session, name, words) {
+        return answer;
+    }
+    if let Some(answer) = engines::answer(alloc, session, name, words) {
         return answer;
     }
     if let Some(answer) = runs::answer(alloc, session, name, words) {

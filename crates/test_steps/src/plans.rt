@@ -4,16 +4,12 @@ ghost use Rattle.edit_plan.specs.Fits.{Fits};
 
 use crate::answers::{counted, counted_or_none, ok, refused, truth};
 use crate::editors::take_last;
-use crate::edits::keep_edit;
 use crate::making::annotation;
 use crate::session::{Session, position};
 use cst_core::SyntaxNode;
 use std::alloc::Global;
 use std::mem::replace;
-use syntax_editor::{
-    Change, EditEngine, EditError, EditPlan, ElementList, OnePassEngine, SpliceEngine,
-    SyntaxMapping,
-};
+use syntax_editor::{Change, EditError, EditPlan, ElementList, SyntaxMapping};
 use test_trees::{NoAnswer, Words, word};
 
 /// What the step of this name answers, if it is one of these.
@@ -28,8 +24,6 @@ pub fn answer(
         "change" => change(alloc, session, words),
         "register" => register(alloc, session, words),
         "build" => build(alloc, session, words),
-        "run" => run(alloc, session, &mut OnePassEngine::new(alloc)),
-        "run_spliced" => run(alloc, session, &mut SpliceEngine::new(alloc)),
         "is_dropped" => is_dropped(alloc, session, words),
         "owner" => owner(alloc, session, words),
         _ => return None,
@@ -153,20 +147,6 @@ fn last(session: &Session) -> Result<&EditPlan, NoAnswer> {
         .plans
         .last()
         .ok_or(NoAnswer::Missing("no plan was made"))
-}
-
-// Carries the last plan out with this engine.
-fn run<E: EditEngine>(
-    alloc: Global,
-    session: &mut Session,
-    engine: &mut E,
-) -> Result<String, NoAnswer> {
-    let plan = session
-        .plans
-        .last()
-        .ok_or(NoAnswer::Missing("no plan was made"))?;
-    let edit = plan.run_with(alloc, &mut session.ids, engine);
-    keep_edit(alloc, session, edit)
 }
 
 // A change of the last plan.

@@ -4,7 +4,8 @@ use crate::answers::done;
 use crate::making::annotation;
 use crate::session::{Session, last, position};
 use cst_core::ast::{Fn, LetStmt};
-use cst_core::{AstNode, HasAttrs, SyntaxNode};
+use cst_core::{AstNode, HasAttrs, SyntaxKind, SyntaxNode};
+use list_removal::remove_separated;
 use std::alloc::Global;
 use syntax_editor::AttrsOwnerEdit;
 use test_trees::{NoAnswer, Words};
@@ -29,6 +30,7 @@ pub fn answer(
         "add_annotation" => add_annotation(alloc, session, words),
         "add_annotation_all" => add_annotation_all(alloc, session, words),
         "remove_attrs_and_docs" => remove_attrs_and_docs(alloc, session, words),
+        "remove_separated" => removed_with_separator(alloc, session, words),
         _ => return None,
     };
     Some(answer)
@@ -170,4 +172,18 @@ fn remove_from<N: HasAttrs>(
     let owner = N::cast(node).ok_or(NoAnswer::Missing("no function and no statement"))?;
     let editor = last(&mut session.editors)?;
     done(alloc, owner.remove_attrs_and_docs(alloc, editor))
+}
+
+// With a separator of the kind that the next word names.
+fn removed_with_separator(
+    alloc: Global,
+    session: &mut Session,
+    words: &mut Words,
+) -> Result<String, NoAnswer> {
+    let editor = last(&mut session.editors)?;
+    let element = session.trees.element(alloc, words.word()?)?;
+    let Some(separator) = SyntaxKind::from_name(words.word()?) else {
+        return Err(NoAnswer::Arguments);
+    };
+    done(alloc, remove_separated(editor, alloc, &element, separator))
 }

@@ -6,15 +6,21 @@
 --     FillsMarks                    the marks of what a change gives are entered: those of its payload, rewritten by what the table had before
 --     AreOwnersAt                   these are the changes of a depth that own something
 --     FillsLevel, FillsLevelMarks   what the owners of one depth give is entered, with its marks, where all that is deeper has been
+--     CountsElement, CountsEach     how a count of nodes is raised by an element that is rewritten; by several
+--     CountsOwner                   how it is raised by what a change gives
+--     ArePayloadsBuilt              in each payload, each node that an owned change alters is there and stays
+--     CountsLevel, CountsPayloads   how the count is raised by the payloads of some owners; of all
 --     TellsGiven, TellsMarks        a table has what each change gives, and its marks, where another one has what each change owns
-use Rattle.std.specs.Prelude.{◌≡◌, ℕ, suc, List, [], map, filter, length, None, Vec}
+use Rattle.std.specs.Prelude.{◌≡◌, ℕ, suc, List, [], map, filter, length, sum_by, All, None, Vec}
 use Rattle.std.specs.Global.{Global}
 use Rattle.cst_core.specs.Path.{Path, counted_from}
 use Rattle.cst_core.specs.Tree.{SyntaxTree}
-use Rattle.cst_core.specs.Element.{Address, subtree}
+use Rattle.cst_core.specs.Element.{Element, Address, subtree}
 use Rattle.cst_core.specs.SyntaxElement.{element_of}
 use Rattle.cst_core.specs.declared.element.SyntaxElement.{SyntaxElement}
-use Rattle.rewriting.specs.Rewriting.{rewritten}
+use Rattle.std.specs.List.{enumerate_from}
+use Rattle.rewriting.specs.Rewriting.{NumberedAim, rewritten}
+use Rattle.rewriting.specs.Effort.{touched, parents_of, AreBuilt}
 use Rattle.rewriting.specs.inner.Aimed.{aims_of}
 use Rattle.rewriting.specs.inner.Marked.{MarkTree, marked, Finds}
 use Rattle.rewriting.specs.inner.Pass.{kind_only, IsMarked, AreMarkedIn, given_in}
@@ -23,7 +29,8 @@ use Rattle.rewriting.specs.declared.mark.Mark.{Mark}
 use Rattle.rewriting.specs.declared.marked_given.GivenTable.{GivenTable}
 use Rattle.rewriting.specs.declared.marked_given.MarkedGiven.{MarkedGiven}
 use Rattle.edit_change.specs.declared.change.Change.{Change}
-use Rattle.edit_stages.specs.NewTree.{payload_of}
+use Rattle.edit_stages.specs.NewTree.{payload_of, dependents}
+use Rattle.edit_plan.specs.TouchedNodes.{touched_each, touched_in, Raises}
 use Rattle.edit_plan.specs.inner.Marks.{IsTableOf, element_sought, payload_sought, with_answer, marks_given, AreMarksFrom}
 use Rattle.edit_plan.specs.inner.OwnerTables.{moved_dependent, owns_at, AreDependents, AreGiven, AreGivenFrom}
 use Rattle.edit_plan.specs.declared.dependent.Dependent.{Dependent}
@@ -80,3 +87,31 @@ module _ (changes : List Change) (owned : List (Vec Dependent Global)) where
   TellsMarks index table =
       (places : ℕ → Path) (rs : List Address) → AreDependents changes places owned → IsTableOf rs index →
       AreMarkedIn table (marks_given rs changes places)
+
+-- ---- nodes that are built
+abbrev pub CountsElement : List Aimed → SyntaxElement → ℕ → ℕ → Type 0
+CountsElement aims e before after =
+    let tree = subtree (element_of e) in
+    Raises (AreBuilt (aims_of aims) tree) (touched tree (parents_of (aims_of aims))) before after
+
+abbrev pub CountsEach : List NumberedAim → List Element → ℕ → ℕ → Type 0
+CountsEach aims es before after = Raises (All (λ e. AreBuilt aims (subtree e)) es) (touched_each aims es) before after
+
+abbrev pub CountsOwner : List Change → ℕ → List Dependent → ℕ → ℕ → Type 0
+CountsOwner changes owner owned before after =
+    CountsEach (map moved_dependent owned) (payload_of changes owner) before after
+
+abbrev pub ArePayloadsBuilt : List Change → (ℕ → Path) → Type 0
+ArePayloadsBuilt changes places =
+    (c : ℕ) → All (λ e. AreBuilt (dependents changes places c) (subtree e)) (payload_of changes c)
+
+module _ (changes : List Change) (owned : List (Vec Dependent Global)) where
+  abbrev pub CountsLevel : List ℕ → ℕ → ℕ → Type 0
+  CountsLevel owners before after =
+      (places : ℕ → Path) → AreDependents changes places owned →
+      Raises (ArePayloadsBuilt changes places) (sum_by (touched_in changes places) owners) before after
+
+  abbrev pub CountsPayloads : ℕ → ℕ → Type 0
+  CountsPayloads before after =
+      (places : ℕ → Path) → AreDependents changes places owned →
+      Raises (ArePayloadsBuilt changes places) (sum_by (λ c. touched_in changes places c.0) (enumerate_from 0 changes)) before after

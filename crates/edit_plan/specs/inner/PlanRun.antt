@@ -8,6 +8,7 @@
 --     AreOwned                      a table has what each change of a plan owns, for some places
 --     root_rewritten, FindsInRoot   what stands in the place of the root; where its marks are
 --     HasMade                       the same as IsMade, of values in code
+--     CountsRoot                    how a count of nodes is raised by what stands in the place of the root
 use Rattle.std.specs.Prelude.{◌≡◌, ◌<◌, ℕ, List, [], ◌∷◌, map, length, Option, Vec}
 use Rattle.std.specs.Global.{Global}
 use Rattle.cst_core.specs.Path.{Path}
@@ -33,6 +34,8 @@ use Rattle.rewriting.specs.Topmost.{paths_of}
 use Rattle.rewriting.specs.declared.aimed.Aimed.{Aimed}
 use Rattle.rewriting.specs.declared.mark.Mark.{Mark}
 use Rattle.rewriting.specs.Rewriting.{rewritten_whole}
+use Rattle.rewriting.specs.Effort.{touched, parents_of, AreBuilt}
+use Rattle.edit_plan.specs.TouchedNodes.{Raises}
 use Rattle.edit_change.specs.declared.change.Change.{Change}
 use Rattle.edit_plan.specs.Places.{ArePlaces}
 use Rattle.edit_plan.specs.declared.dependent.Dependent.{Dependent}
@@ -85,3 +88,7 @@ FindsInRoot p table aims index found =
 
 abbrev pub HasMade : Plan → List SyntaxElement → Made → Type 0
 HasMade p es m = IsMade p es (branch_tree m.green) (path_lists m.copies.items) (paths_of m.changed.items)
+
+abbrev pub CountsRoot : Plan → List Aimed → ℕ → ℕ → Type 0
+CountsRoot p aims before after =
+    Raises (AreBuilt (aims_of aims) (subtree p.root)) (touched (subtree p.root) (parents_of (aims_of aims))) before after

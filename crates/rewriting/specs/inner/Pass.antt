@@ -12,6 +12,7 @@
 --     Puts                          trees that are put behind others
 --     FindsGiven, FindsChange, FindsChanges      where the marks of what is put next are found: of an entry, of a change, of several
 --     TouchesAtMost, CountsBuilt, CountsBuiltWhole      how a count of built nodes rises
+--     CountsTouched                 how it rises where all that is touched is built
 --     remade, remade_whole          the tree that a pass makes; what stands in the place of an element
 --     FindsKept, FindsRebuilt, FindsWhole        where the marks of an untouched element are found; of a rebuilt one; of what stands in its place
 use Rattle.std.specs.Prelude.{◌≡◌, ◌<◌, ◌≤◌, ◌+◌, ℕ, List, [], ◌∷◌, ◌++◌, map, flat_map, length, get_or, slice_get, Option, Some, None, Vec}
@@ -22,7 +23,7 @@ use Rattle.green_tree.specs.Tree.{Token, Node, SyntaxTree}
 use Rattle.rewriting.specs.inner.Given.{given_trees}
 use Rattle.green_tree.specs.GreenElement.{element_tree, element_trees}
 use Rattle.green_tree.specs.declared.green.GreenElement.{GreenElement}
-use Rattle.rewriting.specs.Effort.{touched, parents_of, nodes_built, nodes_built_whole, counted}
+use Rattle.rewriting.specs.Effort.{touched, parents_of, nodes_built, nodes_built_whole, AreBuilt, counted}
 use Rattle.rewriting.specs.Rewriting.{inserts_at, replacements_at, gap_order, rewritten, rewritten_whole}
 use Rattle.rewriting.specs.inner.Aimed.{aims_of}
 use Rattle.rewriting.specs.inner.Marked.{MarkTree, Marking, marked, marked_from, mark_below, marks_of, sought_in, wanted, Finds}
@@ -101,6 +102,10 @@ CountsBuilt aims e before after = after ≡ counted before (nodes_built (aims_of
 
 abbrev pub CountsBuiltWhole : List Aimed → GreenElement → ℕ → ℕ → Type 0
 CountsBuiltWhole aims e before after = after ≡ counted before (nodes_built_whole (aims_of aims) (element_tree e))
+
+abbrev pub CountsTouched : List Aimed → GreenElement → ℕ → ℕ → Type 0
+CountsTouched aims e before after =
+    AreBuilt (aims_of aims) (element_tree e) → after ≡ counted before (touched (element_tree e) (parents_of (aims_of aims)))
 
 abbrev pub remade : GivenTable → List Aimed → GreenElement → SyntaxTree
 remade table aims e = rewritten kind_only (given_in table) (aims_of aims) [] (element_tree e)

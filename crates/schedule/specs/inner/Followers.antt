@@ -1,16 +1,16 @@
 -- Tables of which change has to wait for which.
 --     link                          the change that has to wait for this one, if there is one
 --     steps                         so many links on
---     later                         the changes from a number on that are not dropped
---     next_in_gap                   the first one from a number on that fills the gap of this aim
---     owner_link, gap_link, token_link      the change that has to wait for this one: its owner; the next insert of its gap;
+--     earlier                       the changes before a number that are not dropped, from the last to the first
+--     next_in_gap                   the last one before a number that fills the gap of this aim
+--     owner_link, gap_link, token_link      the change that has to wait for this one: its owner; the insert before it in its gap;
 --                                   what replaces the token that it stands behind
 --     IsLinked                      a table has such a link for each change
 --     AreFollowers                  three tables have all three
 --     AreIndices                     a table has where each number below a count stands in an order
 --     HasLinksBelow                 each link leads to a number below this one
 --     Keeps                         by these indices each change stands before the one that its link leads to
-use Rattle.std.specs.Prelude.{◌≡◌, ◌<◌, ℕ, zero, suc, not, cond, List, drop, filter, find, length, slice_get, slice_index, slice_index_or, Option, None, Some, option_map, option_and_then}
+use Rattle.std.specs.Prelude.{◌≡◌, ◌<◌, ℕ, zero, suc, not, cond, List, take, reverse, filter, find, length, slice_get, slice_index, slice_index_or, Option, None, Some, option_map, option_and_then}
 use Rattle.std.specs.List.{enumerate_from}
 use Rattle.rewriting.specs.Aim.{Aim, same_gap}
 use Rattle.edit_change.specs.ChangeAim.{aim}
@@ -27,18 +27,18 @@ abbrev pub steps : List (Option ℕ) → ℕ → ℕ → Option ℕ
 steps table zero n = Some n
 steps table (suc k) n = option_and_then (steps table k) (link table n)
 
-abbrev pub later : List Change → ℕ → List Numbered
-later cs n = filter (λ c. not (is_dropped cs c.1)) (enumerate_from n (drop n cs))
+abbrev pub earlier : List Change → ℕ → List Numbered
+earlier cs n = reverse (filter (λ c. not (is_dropped cs c.1)) (enumerate_from 0 (take n cs)))
 
 abbrev pub next_in_gap : List Change → ℕ → Aim → Option ℕ
-next_in_gap cs n a = option_map (λ c. c.0) (find (λ c. same_gap (aim c.1) a) (later cs n))
+next_in_gap cs n a = option_map (λ c. c.0) (find (λ c. same_gap (aim c.1) a) (earlier cs n))
 
 -- ---- links: a dropped change has none
 abbrev pub owner_link : List Change → ℕ → Change → Option ℕ
 owner_link cs n c = owner cs c
 
 abbrev pub gap_link : List Change → ℕ → Change → Option ℕ
-gap_link cs n c = cond (is_dropped cs c) None (next_in_gap cs (suc n) (aim c))
+gap_link cs n c = cond (is_dropped cs c) None (next_in_gap cs n (aim c))
 
 abbrev pub token_link : List Change → ℕ → Change → Option ℕ
 token_link cs n c = cond (is_dropped cs c) None (option_and_then (target_at cs) (anchor_token c))

@@ -28,7 +28,7 @@ abbrev pub turn_of : Numbered → ShownTurn
 turn_of c = record { path = document_path c.1; side = side_of c.1; number = c.0 }
 
 abbrev pub turn_in : Turn → ShownTurn
-turn_in t = record { path = t.path.items; side = t.side; number = t.number.0 }
+turn_in t = record { path = t.path.items; side = t.side; number = t.number }
 
 abbrev pub number_in : Turn → ℕ
-number_in t = t.number.0
+number_in t = t.number

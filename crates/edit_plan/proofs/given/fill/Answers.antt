@@ -4,12 +4,24 @@ use Rattle.rewriting.specs.inner.Aimed.{aims_of}
 use Rattle.rewriting.specs.inner.Pass.{kind_only, IsMarked, given_in}
 use Rattle.rewriting.specs.Rewriting.{rewritten}
 use Rattle.std.specs.Prelude.{None}
+use Rattle.cst_core.specs.SyntaxElement.{element_of}
 use Rattle.edit_change.specs.Change.{payload}
 use Rattle.edit_plan.specs.inner.OwnerTables.{moved_dependent}
 use Rattle.edit_plan.specs.inner.Marks.{payload_sought}
+use Rattle.edit_plan.specs.inner.GivenTables.{CountsEach}
+use Rattle.edit_plan.proofs.Counting.{payload-at}
 use Rattle.edit_plan.proofs.Nested.{filled}
 use Rattle.edit_plan.proofs.MarksFilled.{entry}
 use Rattle.edit_plan.proofs.given.fill.Goals as goal
+
+pub returns-clause-count : goal.returns-clause-count
+returns-clause-count c =
+    let change = c.index-changes-owner.result in
+    let aims = ap aims_of c.deref.ensures.value ∙ c.in_ok-aims.ensures in
+    let before = c.args.builds.now in
+    let after = c.rewritten_each.new.builds in
+    let brought = c.payload-payload.ensures ∙ sym (payload-at c.args.changes.now c.args.owner change c.requires.there c.index-changes-owner.is) in
+    subst (λ es. CountsEach (map moved_dependent c.args.dependents.now) es before after) brought (subst (λ ds. CountsEach ds (map element_of c.payload-payload.result.now) before after) aims c.in_ok-rewritten.ensures.count)
 
 pub returns-clause-filled : goal.returns-clause-filled
 returns-clause-filled c =

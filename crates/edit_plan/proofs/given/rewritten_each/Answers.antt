@@ -1,17 +1,29 @@
-use Rattle.std.proofs.Common.{◌≡◌, ◌+◌, ℕ, ◌∷◌, [], ◌++◌, map, take, length, ap, ap₂, sym, ◌∙◌}
+use Rattle.std.proofs.Common.{◌≡◌, ◌+◌, ℕ, ◌∷◌, [], ◌++◌, map, take, length, ap, ap₂, arith, sym, ◌∙◌}
 use Rattle.std.proofs.lemmas.List.{map-append, length-map}
+use Rattle.std.specs.Prelude.{All}
+use Rattle.std.proofs.lemmas.List.Sums.{sum_by_push}
 use Rattle.cst_core.specs.Element.{subtree}
 use Rattle.cst_core.specs.GreenElement.{element_tree, element_trees}
 use Rattle.cst_core.specs.SyntaxElement.{element_of}
 use Rattle.rewriting.specs.Rewriting.{rewritten}
+use Rattle.rewriting.specs.Effort.{touched, parents_of, AreBuilt}
 use Rattle.rewriting.specs.inner.Aimed.{aims_of}
 use Rattle.rewriting.specs.inner.Marked.{marked, marks_of}
 use Rattle.rewriting.specs.inner.Pass.{kind_only, given_in}
 use Rattle.edit_plan.specs.inner.Marks.{element_sought, payload_sought}
+use Rattle.edit_plan.specs.TouchedNodes.{touched_each}
+use Rattle.edit_plan.proofs.Counting.{raises-none, raises-both, raises-weaker, raises-same, one-of}
 use Rattle.edit_change.proofs.Positions.{push-of-take}
 use Rattle.edit_plan.proofs.Carried.{take-whole}
 use Rattle.edit_plan.proofs.MarksFilled.{listed}
 use Rattle.edit_plan.proofs.given.rewritten_each.Goals as goal
+
+pub loop-element-init : goal.loop-element-init
+loop-element-init c = record {
+  count = raises-none (All (λ x. AreBuilt (aims_of c.args.aims.now) (subtree x)) (map element_of c.args.elements.now)) c.args.builds.now (omega arith);
+  trees = ap element_trees c.in_ok-greens.ensures.items;
+  marks = λ trees are. ap (map (λ v. marks_of v.items)) c.new-marks.ensures.items;
+}
 
 pub loop-element-preserved : goal.loop-element-preserved
 loop-element-preserved c =
@@ -23,13 +35,24 @@ loop-element-preserved c =
     let f = rewritten kind_only (given_in c.args.given.now) cs [] in
     let more = push-of-take i es e c.loop-element-test.true c.element-item.is in
     let elements : map element_of (take (i + 1) es) ≡ map element_of (take i es) ++ element_of e ∷ [] = ap (map element_of) more ∙ map-append element_of (take i es) (e ∷ []) in
+    let P = All (λ x. AreBuilt cs (subtree x)) (map element_of es) in
+    let done : ℕ = touched_each cs (map element_of (take i es)) in
+    let own : ℕ = touched (subtree (element_of e)) (parents_of cs) in
+    let sum : touched_each cs (map element_of (take (i + 1) es)) ≡ done + own = ap (touched_each cs) elements ∙ sum_by_push (λ x. touched (subtree x) (parents_of cs)) (map element_of (take i es)) (element_of e) in
     record {
+      count = raises-same P (done + own) _ _ _ (sym sum) (raises-both P done own _ c.loop-element.builds _ c.loop-element.invariant.count (raises-weaker (AreBuilt cs (subtree (element_of e))) P own _ _ (one-of (λ x. AreBuilt cs (subtree x)) es i e c.loop-element-test.true c.element-item.is) c.in_ok-green.ensures.count));
       trees = ap element_trees c.in_ok-push.ensures.items ∙ map-append element_tree c.loop-element.greens.items (c.in_ok-green.green ∷ []) ∙ ap₂ (λ ts t. ts ++ t ∷ []) c.loop-element.invariant.trees c.in_ok-green.ensures.tree ∙ sym (ap (λ xs. map f (map subtree xs)) elements ∙ ap (map f) (map-append subtree (map element_of (take i es)) (element_of e ∷ [])) ∙ map-append f (map subtree (map element_of (take i es))) (subtree (element_of e) ∷ []));
       marks = λ trees are.
           let g = element_sought index trees cs in
           let own = c.in_ok-green.ensures.marks trees are ∙ ap (λ ms. marks_of ms ++ marked (g (element_of e))) c.new-own.ensures.items in
           ap (map (λ v. marks_of v.items)) c.in_ok-push-2.ensures.items ∙ map-append (λ v. marks_of v.items) c.loop-element.marks.items (_ ∷ []) ∙ ap₂ (λ xs x. xs ++ x ∷ []) (c.loop-element.invariant.marks trees are) own ∙ sym (ap (λ xs. map marked (map g xs)) elements ∙ ap (map marked) (map-append g (map element_of (take i es)) (element_of e ∷ [])) ∙ map-append marked (map g (map element_of (take i es))) (g (element_of e) ∷ []));
     }
+
+pub returns-clause-count : goal.returns-clause-count
+returns-clause-count c =
+    let whole = take-whole c.loop-element.element-index c.args.elements.now c.loop-element-test.false in
+    let cs = aims_of c.args.aims.now in
+    raises-same (All (λ x. AreBuilt cs (subtree x)) (map element_of c.args.elements.now)) _ _ _ _ (ap (λ xs. touched_each cs (map element_of xs)) whole) c.loop-element.invariant.count
 
 pub returns-clause-trees : goal.returns-clause-trees
 returns-clause-trees c =

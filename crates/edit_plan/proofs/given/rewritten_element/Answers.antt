@@ -1,11 +1,15 @@
-use Rattle.std.proofs.Common.{[], ◌++◌, List, map, ap, ap₂, ◌∙◌}
+use Rattle.std.proofs.Common.{[], ◌++◌, List, map, ap, ap₂, subst, ◌∙◌}
 use Rattle.std.proofs.lemmas.List.{map-id}
 use Rattle.cst_core.specs.SyntaxElement.{element_of}
+use Rattle.cst_core.specs.GreenElement.{element_tree}
 use Rattle.rewriting.specs.Rewriting.{rewritten}
+use Rattle.rewriting.specs.Effort.{touched, parents_of, nodes_built, AreBuilt}
 use Rattle.rewriting.specs.inner.Aimed.{aims_of}
 use Rattle.rewriting.specs.inner.Marked.{Marking, marked, mark_below, marks_of, sought_in, wanted}
 use Rattle.rewriting.specs.inner.Pass.{kind_only, given_in}
 use Rattle.edit_plan.specs.inner.Marks.{element_sought}
+use Rattle.edit_plan.specs.TouchedNodes.{Raises}
+use Rattle.edit_plan.proofs.Counting.{raises-built}
 use Rattle.edit_plan.proofs.given.rewritten_element.Goals as goal
 
 pub returns-clause-tree : goal.returns-clause-tree
@@ -19,3 +23,11 @@ returns-clause-marks c = λ trees are.
     let own : List Marking = marked (element_sought index trees cs e) in
     let same = ap₂ (λ ms t. marked (rewritten (wanted ms) trees cs [] t)) (ap sought_in c.deref.ensures.value ∙ c.in_ok-sought.ensures) c.in_ok-old.ensures in
     c.in_ok-new.ensures.marks trees are ∙ ap₂ (λ p ms. marks_of c.args.found.now.items ++ map (mark_below p) ms) c.new-path.ensures.items same ∙ ap (λ ms. marks_of c.args.found.now.items ++ ms) (map-id own)
+
+pub returns-clause-count : goal.returns-clause-count
+returns-clause-count c =
+    let aims = aims_of c.args.aims.now in
+    let before = c.args.builds.now in
+    let after = c.rebuild.new.builds in
+    let own = element_tree c.in_ok-old.old in
+    subst (λ t. Raises (AreBuilt aims t) (touched t (parents_of aims)) before after) c.in_ok-old.ensures (raises-built (AreBuilt aims own) (touched own (parents_of aims)) (nodes_built aims own) before after c.in_ok-new.ensures.builds c.in_ok-new.ensures.count c.in_ok-new.ensures.whole)

@@ -12,6 +12,7 @@ use Rattle.rewriting.specs.inner.Pass.{kind_only, given_in, gap_changes}
 use Rattle.rewriting.specs.Effort.{inside, touched, parents_of, built, nodes_built, counted}
 use Rattle.rewriting.proofs.Built.{to_come, to_come-step, parents-below, own_node, on_ok}
 use Rattle.rewriting.proofs.Counted.{still, still-step, still-none, in_slot, counted-below, counted-own, counted-none, slot_counted-replaced, slot_counted-kept, count-step, count-one}
+use Rattle.rewriting.proofs.Touched.{on_ok-touched}
 use Rattle.rewriting.proofs.SeenBelow.{aims-below, seen-below}
 use Rattle.rewriting.proofs.Untouched.{nothing_made, unaimed}
 use Rattle.rewriting.proofs.InGroups.{group_is, group-inserted, group-replaced, group-replacements, group-below}
@@ -35,10 +36,20 @@ returns-then-not-alter_some-clause-count t c =
     let none = sym c.alter_some.ensures ∙ c.if-not-alter_some.true in
     rw (counted-none (aims_of c.args.aims.now) (element_tree c.args.element.now) none) (on_ok c.share.result (omega arith))
 
+pub returns-then-not-alter_some-clause-whole : goal.returns-then-not-alter_some-clause-whole
+returns-then-not-alter_some-clause-whole t c =
+    on_ok-touched c.share.result c.args.aims.now c.args.element.now c.args.builds.now c.args.builds.now (returns-then-not-alter_some-clause-count t c)
+
 pub returns-then-not-alter_some-clause-marks : goal.returns-then-not-alter_some-clause-marks
 returns-then-not-alter_some-clause-marks t c =
     let none = sym c.alter_some.ensures ∙ c.if-not-alter_some.true in
     on_ok c.share.result (λ trees are. c.in_ok-push_kept.ensures.marks ∙ ap (λ u. marks_of c.args.found.now.items ++ map (mark_below c.args.path.now.items) (marked u)) (sym (unaimed (wanted (sought_in c.args.sought.now)) trees c.args.aims.now none [] (element_tree c.args.element.now))))
+
+-- a token is not built
+pub returns-in_default-clause-whole : goal.returns-in_default-clause-whole
+returns-in_default-clause-whole t c =
+    let token : nodes_built (aims_of c.args.aims.now) (element_tree c.args.element.now) ≡ 0 = ap (λ e. nodes_built (aims_of c.args.aims.now) (element_tree e)) c.in_default.is in
+    on_ok-touched c.share-in_default.result c.args.aims.now c.args.element.now c.args.builds.now c.args.builds.now (on_ok c.share-in_default.result (omega (arith, token)))
 
 pub returns-in_default-clause-marks : goal.returns-in_default-clause-marks
 returns-in_default-clause-marks t c =
@@ -181,6 +192,10 @@ returns-clause-count t c =
     let past : length ts ≤ c.loop-slot.slot = rw (← c.children-children.ensures, length-map) c.loop-slot-test.false in
     let one = count-one c.args.builds.now c.loop-slot.builds (still cs 0 ts) (still cs c.loop-slot.slot ts) _ c.build_node.ensures.count (still-none cs c.loop-slot.slot ts past) c.loop-slot.invariant.count in
     on_ok c.build_node.result (one ∙ ap (counted c.args.builds.now) (sym own))
+
+pub returns-clause-whole : goal.returns-clause-whole
+returns-clause-whole t c =
+    on_ok-touched c.build_node.result c.args.aims.now c.args.element.now c.args.builds.now c.build_node.new.builds (returns-clause-count t c)
 
 pub returns-clause-marks : goal.returns-clause-marks
 returns-clause-marks t c =

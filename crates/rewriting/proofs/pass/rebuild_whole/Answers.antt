@@ -8,6 +8,7 @@ use Rattle.rewriting.specs.inner.Aimed.{aims_of}
 use Rattle.rewriting.specs.inner.Marked.{MarkTree, Marking, marked, marked_from, mark_below, marks_of, sought_in, wanted}
 use Rattle.rewriting.specs.inner.Pass.{kind_only, given_in, top_changes}
 use Rattle.rewriting.proofs.Children.{slot-replaced, slot-kept}
+use Rattle.rewriting.proofs.Touched.{counts-touched_whole}
 use Rattle.rewriting.proofs.pass.rebuild_whole.Goals as goal
 use Rattle.rewriting.proofs.pass.rebuild_whole.Goals.{then-top_is_replaced+in_ok-push_over_top, else-top_is_replaced+in_ok-push+in_ok-rebuild+in_ok-push-2}
 
@@ -22,6 +23,9 @@ returns-clause-count c =
       | else-top_is_replaced+in_ok-push+in_ok-rebuild+in_ok-push-2 w ↦
           w.builds-is ∙ w.in_ok-rebuild.ensures.count ∙ ap (λ b. counted before (cond b 0 own)) (sym w.if-top_is_replaced.false ∙ c.top_is_replaced.ensures)
     ]
+
+pub returns-clause-whole : goal.returns-clause-whole
+returns-clause-whole c = counts-touched_whole c.args.aims.now c.args.element.now c.args.builds.now _ (returns-clause-count c)
 
 pub returns-clause-trees : goal.returns-clause-trees
 returns-clause-trees c =

@@ -10,6 +10,6 @@ abbrev pub invariant-loop-number : goal.invariant-loop-number
 invariant-loop-number l = record {
   seen : (a : Aim) → gap_entry l.seen a ≡ next_in_gap l.changes l.number a;
   long : length l.links.items ≡ length l.changes;
-  behind : (n : ℕ) (c : Change) → l.number ≤ n → slice_get l.changes n ≡ Some c → link l.links.items n ≡ gap_link l.changes n c;
-  before : (n : ℕ) → n < l.number → link l.links.items n ≡ None;
+  before : (n : ℕ) (c : Change) → n < l.number → slice_get l.changes n ≡ Some c → link l.links.items n ≡ gap_link l.changes n c;
+  behind : (n : ℕ) → l.number ≤ n → link l.links.items n ≡ None;
 }

@@ -1,5 +1,14 @@
-use Rattle.std.proofs.Common.{length, Some, refl, sym, ap, subst, ◌∙◌}
+use Rattle.std.proofs.Common.{ℕ, length, Some, refl, sym, ap, subst, ◌∙◌}
+use Rattle.std.specs.Prelude.{sum_by}
+use Rattle.std.specs.List.{enumerate_from}
+use Rattle.cst_core.specs.Path.{Path}
+use Rattle.cst_core.specs.Element.{subtree}
 use Rattle.cst_core.specs.Green.{branch_tree}
+use Rattle.rewriting.specs.Effort.{touched, parents_of, AreBuilt}
+use Rattle.edit_plan.specs.Plan.{IsPlan}
+use Rattle.edit_plan.specs.TouchedNodes.{touched_in, Raises}
+use Rattle.edit_plan.specs.inner.GivenTables.{ArePayloadsBuilt}
+use Rattle.edit_plan.proofs.AllTouched.{all-touched}
 use Rattle.cst_core.specs.GreenElement.{element_trees}
 use Rattle.rewriting.specs.inner.Aimed.{aims_of}
 use Rattle.rewriting.specs.inner.Marked.{marks_of}
@@ -10,6 +19,19 @@ use Rattle.edit_plan.specs.inner.Marks.{marks_given}
 use Rattle.edit_plan.specs.inner.Sought.{addresses}
 use Rattle.edit_plan.proofs.MadeOf.{is_made, is_one}
 use Rattle.edit_plan.proofs.plan.EditPlan.marked_tree.Goals as goal
+
+pub returns-clause-count : goal.returns-clause-count
+returns-clause-count c =
+    let p = c.args.self.now in
+    let owned = c.in_ok-dependents.ensures.dependents in
+    let places : ℕ → Path = owned.0 in
+    let same_changes = c.deref.ensures.value ∙ ap (λ x. x.changes) c.self.view_is in
+    let are : AreDependents c.deref.result.now places c.deref-2.result.now = subst (λ cs. AreDependents cs places c.deref-2.result.now) (sym same_changes) (subst (λ t. AreDependents p.changes places t) (sym c.deref-2.ensures.value) owned.2) in
+    let middle = c.given_table.new.builds in
+    let given = subst (λ cs. Raises (ArePayloadsBuilt cs places) (sum_by (λ d. touched_in cs places d.0) (enumerate_from 0 cs)) c.args.builds.now middle) same_changes (c.in_ok-given.ensures.count places are) in
+    let aims = ap aims_of c.deref-3.ensures.value ∙ c.in_ok-aims.ensures in
+    let root = subst (λ ds. Raises (AreBuilt ds (subtree p.root)) (touched (subtree p.root) (parents_of ds)) middle c.rebuilt_root.new.builds) aims c.in_ok-elements.ensures.count in
+    all-touched p (subst IsPlan c.self.view_is c.self.invariant.is_plan) c.keep_shapes.ensures places owned.1 c.args.builds.now middle c.rebuilt_root.new.builds given root
 
 pub only_node-requires : goal.only_node-requires
 only_node-requires c =

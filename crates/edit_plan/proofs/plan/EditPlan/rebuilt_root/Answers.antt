@@ -1,11 +1,25 @@
-use Rattle.std.proofs.Common.{ap, ap₂, ◌∙◌}
+use Rattle.std.proofs.Common.{ap, ap₂, subst, ◌∙◌}
 use Rattle.cst_core.specs.Element.{address, subtree}
+use Rattle.cst_core.specs.GreenElement.{element_tree}
+use Rattle.rewriting.specs.Effort.{touched, parents_of, nodes_built_whole, AreBuilt}
 use Rattle.rewriting.specs.inner.Aimed.{aims_of}
 use Rattle.rewriting.specs.inner.Marked.{marked_from, wanted, sought_in}
 use Rattle.rewriting.specs.inner.Pass.{kind_only, given_in}
 use Rattle.rewriting.specs.Rewriting.{rewritten_whole}
 use Rattle.edit_plan.specs.inner.Sought.{sought_at}
+use Rattle.edit_plan.specs.TouchedNodes.{Raises}
+use Rattle.edit_plan.proofs.Counting.{raises-built}
 use Rattle.edit_plan.proofs.plan.EditPlan.rebuilt_root.Goals as goal
+
+pub returns-clause-count : goal.returns-clause-count
+returns-clause-count c =
+    let same = c.in_ok-try_clone.ensures ∙ ap (λ x. x.root) c.self.view_is in
+    let aims = aims_of c.args.aims.now in
+    let before = c.args.builds.now in
+    let after = c.rebuild_whole.new.builds in
+    let own = element_tree c.in_ok-old.old in
+    let tree = c.in_ok-old.ensures ∙ ap subtree same in
+    subst (λ t. Raises (AreBuilt aims t) (touched t (parents_of aims)) before after) tree (raises-built (AreBuilt aims own) (touched own (parents_of aims)) (nodes_built_whole aims own) before after c.in_ok-rebuilt.ensures.builds c.in_ok-rebuilt.ensures.count c.in_ok-rebuilt.ensures.whole)
 
 pub returns-clause-trees : goal.returns-clause-trees
 returns-clause-trees c =

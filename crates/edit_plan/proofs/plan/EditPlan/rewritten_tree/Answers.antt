@@ -12,8 +12,8 @@ use Rattle.edit_plan.specs.inner.PlanRun.{IsMade}
 use Rattle.edit_plan.proofs.ByAnnotation.{is_rewritten}
 use Rattle.edit_plan.proofs.plan.EditPlan.rewritten_tree.Goals as goal
 
-pub returns : goal.returns
-returns c =
+pub returns-clause-made : goal.returns-clause-made
+returns-clause-made c =
     let p = c.args.self.now in
     let m = c.self.inside.mapping in
     let fs = c.in_ok-registered.registered.items in

@@ -1,0 +1,33 @@
+-- What the assist makes of a list.
+--     calls                the calls on the first three arguments, in order
+--     after_calls          an editor after such calls
+--     Rearranges           an editor is another one after the calls on the three child nodes of a root
+--     IsRearranged         an edit is what an editor with these calls makes under this tree number
+use Rattle.std.specs.Prelude.{◌≡◌, ℕ, List, [], ◌∷◌}
+use Rattle.std.specs.List.{fold}
+use Rattle.cst_core.specs.Element.{Element}
+use Rattle.cst_core.specs.Kinds.{COMMA}
+use Rattle.cst_core.specs.SyntaxElement.{child_nodes}
+use Rattle.cst_core.specs.declared.element.SyntaxElement.TheVariants.{Node}
+use Rattle.edit_plan.specs.Plan.{Edit, Makes}
+use Rattle.list_removal.specs.Removal.{removal}
+use Rattle.syntax_editor.specs.Editor.{Editor, after_call, plan_of}
+use Rattle.syntax_editor.specs.RecordCall.{RecordCall, Replacing}
+
+abbrev pub calls : Element → Element → Element → List RecordCall
+calls first second third = Replacing (Node first) (Node second) ∷ Replacing (Node second) (Node first) ∷ removal COMMA (Node third) ∷ []
+
+abbrev pub after_calls : List RecordCall → Editor → Editor
+after_calls calls editor = fold (λ e call. after_call call e) editor calls
+
+pub record Rearranges (root : Element) (before after : Editor) : Type 0 where
+  pub first : Element
+  pub second : Element
+  pub third : Element
+  pub arguments : child_nodes root ≡ first ∷ second ∷ third ∷ []
+  pub recorded : after ≡ after_calls (calls first second third) before
+
+pub record IsRearranged (editor : Editor) (number : ℕ) (edit : Edit) : Type 0 where
+  pub after : Editor
+  pub rearranges : Rearranges editor.root editor after
+  pub makes : Makes (plan_of after) number edit

@@ -1,0 +1,68 @@
+-- What search and replacement record of the nodes of a file.
+--     is_match, is_block            a node has a pattern's kind and text; it is a block
+--     with_match, with_matches      the changes with the replacement of a node, of each of some nodes, that matches
+--     wrapped_tree                  a tree between parentheses
+--     wrapper                       the root of a tree of its own: a copy of a node between parentheses
+--     with_block, with_blocks       the next tree number and the changes with the wrapper of a node, of each of some nodes, that is a block
+--     ReplacesMatches, WrapsBlocks  an editor is another one after the replacement of the matches among some nodes, after their blocks were wrapped
+--     rewriting                     the next tree number and the changes once all nodes of a root were looked at, matches first
+--     IsRewritten                   an edit is what these changes make of a file, where this is the next tree number
+use Rattle.std.specs.Prelude.{◌≡◌, ℕ, ◌+◌, Bool, ◌&&◌, ◌==◌, cond, List, [], ◌∷◌}
+use Rattle.std.specs.List.{fold}
+use Rattle.std.specs.Cmp.Lexicographic.{pointwise}
+use Rattle.cst_core.specs.Kinds.{BLOCK_EXPR, TUPLE_EXPR, L_PAREN, R_PAREN}
+use Rattle.cst_core.specs.Tree.{SyntaxTree, end, more, label, text}
+use Rattle.cst_core.specs.Tree as tree
+use Rattle.cst_core.specs.Element.{Element, subtree}
+use Rattle.cst_core.specs.SyntaxElement.{descendants_of}
+use Rattle.cst_core.specs.declared.element.SyntaxElement.TheVariants.{Node}
+use Rattle.edit_change.specs.declared.change.Change.{Change}
+use Rattle.edit_plan.specs.Plan.{Plan, Edit, Makes}
+use Rattle.syntax_editor.specs.Editor.{Editor, has_parent, edited_root}
+use Rattle.syntax_editor.specs.RecordCall.{Replacing, recorded}
+
+-- ---- matches
+abbrev pub is_match : Element → Element → Bool
+is_match pattern n = (label (subtree n) == label (subtree pattern)) && pointwise ◌==◌ (text (subtree n)) (text (subtree pattern))
+
+abbrev pub with_match : Element → Element → List Change → Element → List Change
+with_match pattern new cs n = cond (is_match pattern n) (recorded (Replacing (Node n) (Node new)) cs) cs
+
+abbrev pub with_matches : Element → Element → List Element → List Change → List Change
+with_matches pattern new ns cs = fold (with_match pattern new) cs ns
+
+-- ---- blocks
+abbrev pub is_block : Element → Bool
+is_block n = label (subtree n) == BLOCK_EXPR.0
+
+abbrev pub wrapped_tree : SyntaxTree → SyntaxTree
+wrapped_tree t = tree.Node TUPLE_EXPR.0 (more (tree.Token L_PAREN.0 (40 ∷ [])) (more t (more (tree.Token R_PAREN.0 (41 ∷ [])) end)))
+
+abbrev pub wrapper : ℕ → Element → Element
+wrapper number n = record { number = number; root = wrapped_tree (subtree n); path = [] }
+
+abbrev pub with_block : ℕ × List Change → Element → ℕ × List Change
+with_block s n = cond (is_block n) (s.0 + 1, recorded (Replacing (Node n) (Node (wrapper s.0 n))) s.1) s
+
+abbrev pub with_blocks : List Element → ℕ × List Change → ℕ × List Change
+with_blocks ns s = fold with_block s ns
+
+-- ---- editors
+abbrev pub ReplacesMatches : Element → Element → List Element → Editor → Editor → Type 0
+ReplacesMatches pattern new ns before after = after ≡ record before { changes = with_matches pattern new ns before.changes }
+
+pub record WrapsBlocks (ns : List Element) (next next_after : ℕ) (before after : Editor) : Type 0 where
+  pub list : (next_after, after.changes) ≡ with_blocks ns (next, before.changes)
+  pub kept : after ≡ record before { changes = after.changes; factory = after.factory }
+
+-- ---- both
+abbrev pub rewriting : Element → Element → Element → ℕ → ℕ × List Change
+rewriting pattern new root next = with_blocks (descendants_of root) (next, with_matches pattern new (descendants_of root) [])
+
+pub record IsRewritten (pattern new : Element) (next : ℕ) (file : Element) (edit : Edit) : Type 0 where
+  pub plan : Plan
+  pub root_is : plan.root ≡ edited_root next file
+  pub unregistered : plan.registrations ≡ []
+  pub number : ℕ
+  pub recorded : (number, plan.changes) ≡ rewriting pattern new (edited_root next file) (cond (has_parent file) (next + 1) next)
+  pub makes : Makes plan number edit

@@ -1,0 +1,550 @@
+#!/usr/bin/env python3
+"""Runs the program `syned` on scripts that no one means: cut, endless, deep, damaged.
+
+    hostile.py            all of it
+    hostile.py damage N   N damaged scripts alone
+
+Each run has a second of processor time, and a stack of 256 KiB beyond what a script with nodes nested 200 deep needs, which is found out
+first. There are three parts: rows with their answers; every beginning of three scripts; and good scripts that were damaged, by a fixed seed,
+so each time the same ones. In a third of these bytes were changed, cut, doubled or exchanged. In the others slots, trees, words and kinds
+were exchanged for others of the script, and lines moved, so that about half of all come to an end or a refusal. Of a damaged script no answer
+is known. The program must end with a status that goes with what it prints, and where it comes to an end or a refusal, the plain model (the
+program `test_models`) must answer the same."""
+import glob
+import multiprocessing
+import os
+import random
+import re
+import resource
+import subprocess
+import sys
+
+from tables import table_rows
+
+SCRIPT_LIMIT = 1_048_576
+SPARE_STACK = 256
+DAMAGED = 20_000
+SEED = 20_260_101
+
+os.chdir(os.path.join(os.path.dirname(os.path.abspath(__file__)), ".."))
+
+
+# ---------------------------------------------------------------------------------------------------------------------
+# Programs and runs.
+
+
+def program(name):
+    """The path of a program."""
+    said = subprocess.run(["tests/program.sh", name], stdout=subprocess.PIPE, text=True, check=True)
+    return os.path.abspath(said.stdout.strip())
+
+
+def run(path, script, stack=None):
+    """The exit status, None where the run did not end by itself within its second, and what was printed."""
+
+    def limit():
+        resource.setrlimit(resource.RLIMIT_CPU, (1, 1))
+        if stack is not None:
+            resource.setrlimit(resource.RLIMIT_STACK, (stack * 1024, stack * 1024))
+
+    try:
+        done = subprocess.run([path], input=script, capture_output=True, env={}, timeout=60, check=False, preexec_fn=limit)
+    except subprocess.TimeoutExpired:
+        return None, b""
+    return (done.returncode if done.returncode >= 0 else None), done.stdout
+
+
+def status_of(answer):
+    """The exit status that goes with an answer, None where it is none."""
+    for begin, status in ((b'text "', 0), (b"refused ", 1), (b"bad script line ", 2)):
+        if answer.startswith(begin) and answer.endswith(b"\n"):
+            return status
+    return 3 if not answer else None
+
+
+# ---------------------------------------------------------------------------------------------------------------------
+# Rows: a name, a script, and its answer.
+
+LIST = 'tree A (ARG_LIST L_PAREN"(" (LITERAL INT_NUMBER"1") COMMA"," WHITESPACE" " (LITERAL INT_NUMBER"2") R_PAREN")")\n'
+OPENING = LIST + 'edit R A\ntree U (SOURCE_FILE UNDERSCORE"_")\n'
+DONE = 'text "(1, 2)"\nchanged\n'
+REPLACED = 'text "(_, 2)"\nchanged 1\n'
+
+
+def bad(line):
+    return f"bad script line {line}\n"
+
+
+def filled(before, piece, after=""):
+    """A script of the greatest length, or a bit less: so many pieces between two texts."""
+    return before + piece * ((SCRIPT_LIMIT - len(before) - len(after)) // len(piece)) + after
+
+
+def nested(levels, inner=""):
+    return "(LITERAL " * levels + inner + ")" * levels
+
+
+def deep_edit(levels):
+    """An edit at the bottom of a tree that is nested so deep, whose payload is as deep."""
+    bottom = "R" + "/0" * (levels - 1)
+    tree = nested(levels, 'IDENT"a"')
+    return f"tree A {tree}\ntree B {tree}\nedit R A\nnote w B\nreplace {bottom}/0 B\nfinish\n", bottom
+
+
+def deep_answer(levels):
+    script, bottom = deep_edit(levels)
+    path = bottom[2:] + "/0"
+    return script, f'text "a"\nchanged {path}\nnote w {path}\n'
+
+
+def line_rows():
+    """One line that is as long as a script may be, of a word, of spaces, of a number."""
+    return [
+        ("letters", filled("", "x"), bad(1)),
+        ("a comment", filled("#", "x"), bad(2)),
+        ("opening parentheses", filled("", "("), bad(1)),
+        ("closing parentheses", filled("", ")"), bad(1)),
+        ("backslashes", filled("", "\\"), bad(1)),
+        ("quotes", filled("", '"'), bad(1)),
+        ("slashes", filled("", "/"), bad(1)),
+        ("spaces", filled("", " "), bad(2)),
+        ("tabs", filled("", "\t"), bad(1)),
+        ("carriage returns", filled("", "\r"), bad(1)),
+        ("newlines", filled("", "\n"), bad(SCRIPT_LIMIT + 1)),
+        ("newlines before the end", filled(OPENING, "\n", "finish\n"), DONE),
+        ("newlines after the end", filled(OPENING + "finish\n", "\n"), DONE),
+        ("lines with carriage returns before the end", filled(OPENING, "\r\n", "finish"), DONE),
+        ("spaces after the end", filled(OPENING + "finish", " "), DONE),
+        ("spaces before the end", filled(OPENING, " ", "finish\n"), DONE),
+        ("spaces between fields", filled(OPENING + "replace R/1", " ", "U/0\nfinish\n"), REPLACED),
+        ("spaces in a tree", filled("tree A (ARG_LIST", " ", ')\nedit R A\nfinish\n'), 'text ""\nchanged\n'),
+        ("a tree's name", filled("tree ", "A", " (ARG_LIST)\n"), bad(1)),
+        ("a name that a line asks for", filled(OPENING + "delete ", "R", "\nfinish\n"), bad(4)),
+        ("a note's word", filled(OPENING + "note ", "w", " R\nfinish\n"), bad(4)),
+        ("a kind's name", filled("tree A (", "A", ")\n"), bad(1)),
+        ("a first word", filled(OPENING, "finish", "\n"), bad(4)),
+        ("a slot of zeros and a one", filled(OPENING + "replace R/", "0", "1 U/0\nfinish\n"), REPLACED),
+        ("a slot of nines", filled(OPENING + "replace R/", "9", " U/0\nfinish\n"), bad(4)),
+        ("slots", filled(OPENING + "replace R/1", "/0", " U/0\nfinish\n"), bad(4)),
+        ("slashes after a name", filled(OPENING + "replace R", "/", " U/0\nfinish\n"), bad(4)),
+        ("a number of an order, of zeros", filled(OPENING + "delete R/1\norder ", "0", "\nfinish\n"), 'text "(, 2)"\nchanged\n'),
+        ("a number of an order, of nines", filled(OPENING + "delete R/1\norder ", "9", "\nfinish\n"), bad(5)),
+        ("numbers of an order", filled(OPENING + "delete R/1\norder", " 0", "\nfinish\n"), "refused NotEachOnce\n"),
+        ("a thousand digits of a slot", OPENING + "replace R/" + "0" * 999 + "1 U/0\nfinish\n", REPLACED),
+        ("a thousand digits of a slot that is not there", OPENING + "replace R/" + "1" * 1000 + " U/0\nfinish\n", bad(4)),
+        ("a thousand digits of an order", OPENING + "delete R/1\norder " + "0" * 1000 + "\nfinish\n", 'text "(, 2)"\nchanged\n'),
+        ("a thousand digits of an order, past all numbers", OPENING + "order " + "7" * 1000 + "\nfinish\n", bad(4)),
+    ]
+
+
+def tree_rows():
+    """Trees that are nested as deep as can be or deeper, and texts."""
+    return [
+        ("200 levels", f"tree A {nested(200)}\nedit R A\nfinish\n", 'text ""\nchanged\n'),
+        ("201 levels", f"tree A {nested(201)}\nedit R A\nfinish\n", bad(1)),
+        ("201 levels behind good lines", f"{OPENING}tree B {nested(201)}\nfinish\n", bad(4)),
+        ("an edit below 200 levels", *deep_answer(200)),
+        ("levels without end", filled("tree A ", "(ATTR ", "\n"), bad(1)),
+        ("levels that all close", f"tree A {nested(100_000)}\nedit R A\nfinish\n", bad(1)),
+        ("parentheses in place of a tree", filled("tree A ", "(", "\n"), bad(1)),
+        ("parentheses that close nothing", filled("tree A (ARG_LIST", ")", "\n"), bad(1)),
+        ("nodes beside each other", filled("tree A (ARG_LIST", "(ATTR)", ")\nedit R A\nfinish\n"), 'text ""\nchanged\n'),
+        ("tokens without text beside each other", filled("tree A (ARG_LIST ", 'PLUS""', ")\nedit R A\nfinish\n"), 'text ""\nchanged\n'),
+        ("a tree that does not close", filled("tree A (ARG_LIST", "(ATTR)"), bad(1)),
+        ("a text that does not close", filled('tree A (ARG_LIST IDENT"', "x"), bad(1)),
+        ("a text of backslashes", *escaped("\\\\")),
+        ("a text of backslashes, one too many", filled('tree A (ARG_LIST IDENT"', "\\\\", '\\")\nedit R A\nfinish\n'), bad(1)),
+        ("a text of escaped newlines", *escaped("\\n")),
+        ("a text of escaped quotes", *escaped('\\"')),
+        ("a text of letters", *escaped("x")),
+    ]
+
+
+def escaped(piece):
+    """A text of such pieces, which is printed as it was written."""
+    script = filled('tree A (ARG_LIST IDENT"', piece, '")\nedit R A\nfinish\n')
+    text = script.split('"')[1] if '"' not in piece else piece * script.count(piece)
+    return script, f'text "{text}"\nchanged\n'
+
+
+def length_rows():
+    whole = filled(OPENING + "replace R/1 U/0\nfinish\n#", " ")
+    return [
+        ("the greatest length", whole, REPLACED),
+        ("one byte more", whole + " ", bad(0)),
+        ("one byte more, of a script that is bad", filled("", "no\n") + "no\n", bad(0)),
+        ("eight times as many bytes", whole * 8, bad(0)),
+    ]
+
+
+# Bytes that are no text, no space, or no newline.
+BYTE_ROWS = [
+    ("a NUL alone", b"\0", bad(1)),
+    ("NULs", b"\0" * SCRIPT_LIMIT, bad(1)),
+    ("a NUL in a name", b"tree A\0 (ARG_LIST)\n", bad(1)),
+    ("a NUL in a kind", b"tree A (ARG_LIST\0)\n", bad(1)),
+    ("a NUL at the end", OPENING.encode() + b"finish\0\n", bad(4)),
+    ("a NUL after the end", OPENING.encode() + b"finish\n\0", bad(5)),
+    ("a NUL in a comment", b"# \0\n" + OPENING.encode() + b"finish\n", DONE),
+    ("a NUL in a text", b'tree A (ARG_LIST IDENT"a\0b")\nedit R A\nfinish\n', 'text "a\0b"\nchanged\n'),
+    ("a mark of the order of bytes", b"\xef\xbb\xbf" + OPENING.encode() + b"finish\n", bad(1)),
+    ("a space that is none", OPENING.encode() + "finish\u00a0\n".encode(), bad(4)),
+    ("a newline that is none", OPENING.encode() + "finish\u2028".encode(), bad(4)),
+    ("a byte that is no text, in a comment after the end", OPENING.encode() + b"finish\n#\xff", bad(0)),
+    ("a byte that is no text, as the last of the greatest length", filled("", "no\n").encode()[:-1] + b"\xff", bad(0)),
+    ("half a character at the limit", filled(OPENING + "finish\n#", " ").encode()[:-1] + "é".encode(), bad(0)),
+    ("letters of two bytes", OPENING.encode() + "délete R/1\nfinish\n".encode(), bad(4)),
+]
+
+# Lines that are bad after `finish`, whether or not they would be good before it.
+LINES_AFTER_THE_END = [
+    'tree B (ARG_LIST)', "edit S A", "map R R R", "insert first R U/0", "insert last R", "insert before R/1 U", "insert after R/1 U",
+    "delete R/1", "delete R", "replace R/1 U", "replace R", "range R/1 R/2", "range R/1 R/2 U", "note w R", "order", "order 0", "finish",
+    "remove R/1 COMMA", "no", "\t", "\r\r", "(", '"', "0",
+]
+
+
+def end_rows():
+    rows = [(f"{line!r} after the end", f"{OPENING}finish\n# a comment\n\n{line}\n", bad(7)) for line in LINES_AFTER_THE_END]
+    rows += [(f"{line!r} after an end that is refused", f"{OPENING}replace R/1 R/1\ninsert after R/1 U\nfinish\n{line}\n", bad(7))
+             for line in LINES_AFTER_THE_END]
+    rows += [(f"{line!r} after a refusal", f"{OPENING}delete R\n{line}\nfinish\n{line}\n", "refused DeletesRoot\n")
+             for line in LINES_AFTER_THE_END]
+    return rows
+
+
+def many_rows():
+    """As many lines as there is room for."""
+    lines = (SCRIPT_LIMIT - len(OPENING) - 100) // len("insert first R U/0\n")
+    notes = (SCRIPT_LIMIT - len(OPENING) - 100) // len("note w R/1\n")
+    return [
+        ("inserts into one gap", OPENING + "insert first R U/0\n" * lines + "finish\n",
+         f'text "{"_" * lines}(1, 2)"\nchanged {" ".join(map(str, range(lines)))}\n'),
+        ("replacements of one element", filled(OPENING, "replace R/1 U/0\n", "finish\n"), REPLACED),
+        ("deletions of one element", filled(OPENING, "delete R/1\n", "finish\n"), 'text "(, 2)"\nchanged\n'),
+        ("several for one element, again and again", filled(OPENING, "replace R/1 U/0 U\n", "finish\n"), "refused Intersecting 0 1\n"),
+        ("notes of one element", OPENING + "note w R/1\n" * notes + "finish\n", f'{DONE}note w{" 1" * notes}\n'),
+        ("elements of one insert", filled(OPENING + "insert first R", " U/0", "\ndelete R/0\ndelete R/5\nrange R/1 R/4\nfinish\n"), None),
+    ]
+
+
+# ---------------------------------------------------------------------------------------------------------------------
+# Every beginning of some scripts of the tables.
+
+GOOD = None
+
+# What comes of a last line that is cut, but not bad: it is good, so that the line after it is missing, or it is refused.
+BEGINNINGS = {
+    "edits.table: one token for a literal": {
+        "replace R": "refused RootReplacement\n",
+        "replace R/1": GOOD,
+        "replace R/1 U": GOOD,
+    },
+    "notes.table: notes of a name and of its use in a wrapped value": {
+        "map W/0/2/2 NM W": "refused NotAChild\n",
+        "map W/0/2/2 NM W/0": "refused NotAChild\n",
+        "map W/0/2/2 NM W/0/2": "refused NotAChild\n",
+        "map W/0/2/2 NM W/0/2/2": "refused NotAChild\n",
+        "map W/0/2 R/4/1 W": "refused NotAChild\n",
+        "map W/0/2 R/4/1 W/0": "refused NotAChild\n",
+        "map W/0/2 R/4/1 W/0/2": "refused NotAChild\n",
+        "map W/0 R/4 W": "refused NotAChild\n",
+        "map W/0 R/4 W/0": "refused NotAChild\n",
+        "replace R": "refused RootReplacement\n",
+        "replace R/4": GOOD,
+        "replace R/4/1": GOOD,
+    },
+    "orders.table: inserts into a wrapped block by 1 0 2": {
+        "map N/0 R/0/2 N": "refused NotAChild\n",
+        "map N/0 R/0/2 N/0": "refused NotAChild\n",
+        "insert first R": GOOD,
+        "insert first R/0": GOOD,
+        "insert first R/0/2": GOOD,
+        "insert first R/0/2/0": GOOD,
+        "insert after R/0": GOOD,
+        "insert after R/0/2": GOOD,
+        "insert after R/0/2/0": GOOD,
+        "insert after R/0/2/0/2": GOOD,
+        "replace R": "refused RootReplacement\n",
+        "replace R/0": GOOD,
+        "replace R/0/2": GOOD,
+        "order": GOOD,
+        "order 1": GOOD,
+        "order 1 0": GOOD,
+    },
+}
+
+
+def beginning_rows():
+    rows = []
+    tables = table_rows()
+    for name, cut_lines in BEGINNINGS.items():
+        script, answer = tables[name]
+        for size in range(len(script) + 1):
+            beginning = script[:size]
+            before, last = beginning.rsplit("\n", 1) if "\n" in beginning else ("", beginning)
+            lines = beginning.count("\n")
+            last = last.strip(" ")
+            if last == "finish" or beginning == script:
+                wanted = answer
+            elif last == "" or last in script.split("\n") or cut_lines.get(last, "") is GOOD:
+                wanted = bad(lines + 1 + (last != ""))
+            else:
+                wanted = cut_lines.get(last, bad(lines + 1))
+            rows.append((f"{name}, the first {size} bytes", beginning, wanted))
+    return rows
+
+
+# ---------------------------------------------------------------------------------------------------------------------
+# Damaged scripts.
+
+
+def good_scripts():
+    """Scripts that are not bad; a damaged bad one is bad mostly."""
+    scripts = [script.encode() for script, answer in table_rows().values() if not answer.startswith("bad")]
+    for path in sorted(glob.glob("tests/corpus/*/*.stdout")):
+        with open(path, "rb") as answer:
+            is_bad = answer.read().startswith(b"bad")
+        if not is_bad:
+            with open(path.removesuffix(".stdout"), "rb") as script:
+                scripts.append(script.read())
+    return scripts
+
+
+def span(chance, script):
+    """The start and the end of some bytes: a few, a field, or a line."""
+    start = chance.randrange(len(script) + 1)
+    form = chance.randrange(3)
+    if form == 0:
+        return start, min(len(script), start + chance.randrange(1, 9))
+    separators = b"\n" if form == 1 else b" \n/"
+    while start > 0 and script[start - 1] not in separators:
+        start -= 1
+    end = start
+    while end < len(script) and script[end] not in separators:
+        end += 1
+    return start, min(len(script), end + 1)
+
+
+def changed_byte(chance, script):
+    at = chance.randrange(len(script))
+    if chance.randrange(3) == 0:
+        byte = chance.randrange(256)
+    elif 48 <= script[at] < 58:
+        byte = 48 + chance.randrange(10)
+    else:
+        byte = script[chance.randrange(len(script))]
+    return script[:at] + bytes([byte]) + script[at + 1:]
+
+
+def broken_once(chance, script):
+    """The script with bytes changed, cut, doubled, put elsewhere, or exchanged for others."""
+    form = chance.randrange(6)
+    if not script or form == 0:
+        return script[:chance.randrange(len(script) + 1)]
+    if form == 1:
+        return changed_byte(chance, script)
+    start, end = span(chance, script)
+    if form == 2:
+        return script[:start] + script[end:]
+    if form == 3:
+        return script[:end] + script[start:]
+    other, other_end = span(chance, script)
+    if form == 4:
+        return script[:other] + script[start:end] + script[other:]
+    if other < start:
+        start, end, other, other_end = other, other_end, start, end
+    if end > other:
+        return script
+    return script[:start] + script[other:other_end] + script[end:other] + script[start:end] + script[other_end:]
+
+
+def broken(chance, script):
+    """A script whose bytes are damaged. What comes after the trees is damaged more often than these, of which most of a script is."""
+    while True:
+        worse = script
+        for _ in range(chance.randrange(1, 4)):
+            worse = broken_once(chance, worse)
+        if worse != script and (chance.randrange(8) == 0 or len(trees_of(worse) & trees_of(script)) >= len(trees_of(script)) - 1):
+            return worse
+
+
+# What a line names, by the lines in which it may stand: a slot, a tree or an element, a word, a kind, a number of an order.
+CHANGES = rb"(?:map|insert|delete|replace|range|note|remove) "
+FIELDS = [
+    (CHANGES, rb"/\d+"),
+    (CHANGES, rb"/\d+"),
+    (CHANGES, rb"(?<= )\w+(?=[ /\n])(?:/\d+)*"),
+    (CHANGES, rb"(?<= )\w+(?=[ /\n])"),
+    (rb"insert ", rb"first|last|before|after"),
+    (rb"tree ", rb"(?<=\()[A-Z]\w*|(?<=[ )])[A-Z]\w*(?=\")"),
+    (rb"order", rb"\d+"),
+]
+
+
+def places(script, start, field):
+    """Where such fields are in the lines that start so."""
+    found = []
+    for line in re.finditer(rb"^[^\n]*\n?", script, re.M):
+        if re.match(start, line[0]):
+            found += [(line.start() + it.start(), line.start() + it.end()) for it in re.finditer(field, line[0])]
+    return found
+
+
+def exchanged_field(chance, script):
+    """The script with a field exchanged for another one of its sort."""
+    found = places(script, *chance.choice(FIELDS))
+    if not found:
+        return script
+    start, end = chance.choice(found)
+    other, other_end = chance.choice(found)
+    return script[:start] + script[other:other_end] + script[end:]
+
+
+def moved_line(chance, script):
+    """The script with two lines exchanged, or one doubled, put elsewhere or left out; lines that name trees are kept."""
+    lines = script.split(b"\n")
+    movable = [at for at, line in enumerate(lines) if re.match(CHANGES + rb"|order", line)]
+    if not movable:
+        return script
+    at, other = chance.choice(movable), chance.choice(movable)
+    form = chance.randrange(4)
+    if form == 0:
+        lines[at], lines[other] = lines[other], lines[at]
+    elif form == 1:
+        lines.insert(other, lines[at])
+    elif form == 2:
+        lines.insert(other, lines.pop(at))
+    else:
+        del lines[at]
+    return b"\n".join(lines)
+
+
+def bent(chance, script):
+    """A script that says something else: fields are exchanged for others of their sort, and lines moved."""
+    worse = script
+    for _ in range(16):
+        for _ in range(chance.randrange(1, 4)):
+            worse = chance.choice([exchanged_field, exchanged_field, moved_line])(chance, worse)
+        if worse != script:
+            break
+    return worse
+
+
+def damaged(number, scripts):
+    chance = random.Random(SEED + number)
+    script = chance.choice(scripts)
+    return broken(chance, script) if chance.randrange(3) == 0 else bent(chance, script)
+
+
+def trees_of(script):
+    return {line for line in script.split(b"\n") if line.startswith(b"tree ")}
+
+
+def paths_of(answer):
+    """The changed paths of an answer, in the words of the model."""
+    line = answer.decode(errors="replace").split("\n")[1]
+    return "".join(" ." if path == "." else f" ./{path}" for path in line.split(" ")[1:])
+
+
+def model_agrees(answer, model_status, model):
+    """Whether the model says the same as the program."""
+    model = model.decode(errors="replace")
+    if model_status != 0:
+        return False
+    if status_of(answer) == 0:
+        return model.startswith("both: (") and model.endswith(f" changed{paths_of(answer)}\n")
+    refusal = answer.decode().removeprefix("refused ").rstrip("\n")
+    if refusal.startswith(("Intersecting", "MissingMapping")):
+        return model == f"both: {refusal}\n"
+    if refusal in ("NotEachOnce", "OwnerTooEarly", "GapOutOfOrder", "TokenTooEarly"):
+        return model.startswith("both: (")
+    return model == "nothing recorded\n"
+
+
+class Task:
+    """What the workers share."""
+
+    syned = model = None
+    stack = 0
+    scripts = []
+
+
+def try_row(row):
+    name, script, wanted = row
+    script = script if isinstance(script, bytes) else script.encode()
+    status, out = run(Task.syned, script, Task.stack)
+    if wanted is not None and (status != status_of(wanted.encode()) or out != wanted.encode()):
+        return f"wrong: {name}: status {status}, it printed {out[:100]!r}, and should have printed {wanted[:100]!r}"
+    if status is None or status_of(out) != status:
+        return f"wrong: {name}: status {status}, it printed {out[:100]!r}"
+    return None
+
+
+def try_damaged(number):
+    """The status, and what is wrong."""
+    script = damaged(number, Task.scripts)
+    status, out = run(Task.syned, script, Task.stack)
+    if status is None or status_of(out) != status:
+        return status, f"wrong: damaged script {number}: status {status}, it printed {out[:100]!r}\n{script.decode(errors='replace')}"
+    if status > 1:
+        return status, None
+    model_status, model = run(Task.model, script)
+    if model_agrees(out, model_status, model):
+        return status, None
+    return status, f"wrong: damaged script {number}: it printed {out[:200]!r}, the model {model[:200]!r}\n{script.decode(errors='replace')}"
+
+
+# ---------------------------------------------------------------------------------------------------------------------
+
+
+def needed_stack():
+    """How many KiB of stack the script with 200 levels needs."""
+    script, wanted = deep_answer(200)
+    enough, little = 8192, 0
+    while enough - little > 4:
+        middle = (enough + little) // 2
+        status, out = run(Task.syned, script.encode(), middle)
+        if (status, out) == (0, wanted.encode()):
+            enough = middle
+        else:
+            little = middle
+    return enough
+
+
+def rows(pool):
+    every = line_rows() + tree_rows() + length_rows() + BYTE_ROWS + end_rows() + many_rows() + beginning_rows()
+    wrong = [said for said in pool.imap(try_row, every, chunksize=16) if said]
+    print(*wrong, f"hostile: {len(every) - len(wrong)} of {len(every)} rows answer as expected", sep="\n")
+    return wrong
+
+
+def damage(pool, count):
+    statuses, wrong = [0, 0, 0, 0], []
+    for status, said in pool.imap(try_damaged, range(count), chunksize=64):
+        if said:
+            wrong.append(said)
+        else:
+            statuses[status] += 1
+    print(*wrong[:20], sep="\n", end="\n" if wrong else "")
+    print(f"hostile: {count} damaged scripts: {statuses[0]} done, {statuses[1]} refused, {statuses[2]} bad, {statuses[3]} failed; "
+          f"the model agrees to the first two; wrong: {len(wrong)}")
+    return wrong + ["a run failed"] * statuses[3]
+
+
+def main():
+    Task.syned, Task.model = program("syned"), program("test_models")
+    Task.scripts = good_scripts()
+    needed = needed_stack()
+    Task.stack = needed + SPARE_STACK
+    print(f"hostile: an edit below 200 levels needs {needed} KiB of stack; each run has {Task.stack}")
+    with multiprocessing.get_context("fork").Pool(os.cpu_count()) as pool:
+        if sys.argv[1:2] == ["damage"]:
+            wrong = damage(pool, int(sys.argv[2]))
+        else:
+            wrong = rows(pool) + damage(pool, DAMAGED)
+    sys.exit(bool(wrong))
+
+
+if __name__ == "__main__":
+    main()
