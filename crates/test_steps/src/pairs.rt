@@ -1,9 +1,9 @@
 //! Builders of mappings, and where their pairs go.
 
-use crate::answers::{done, grown, ok};
+use crate::answers::{MEMORY, done, grown, ok};
 use crate::mappings;
+use crate::roots::Roots;
 use crate::session::{Session, last};
-use cst_core::SyntaxNode;
 use std::alloc::Global;
 use syntax_editor::SyntaxMappingBuilder;
 use test_trees::{NoAnswer, Words};
@@ -28,36 +28,33 @@ pub fn answer(
     Some(answer)
 }
 
-fn keep_builder(alloc: Global, session: &mut Session, parent: SyntaxNode) -> Result<(), NoAnswer> {
-    let builder = SyntaxMappingBuilder::new(alloc, parent);
-    Ok(session.builders.push(builder)?)
-}
-
 fn builder(alloc: Global, session: &mut Session, words: &mut Words) -> Result<String, NoAnswer> {
     let parent = session.trees.node(alloc, words.word()?)?;
-    keep_builder(alloc, session, parent)?;
+    let builder = SyntaxMappingBuilder::new(alloc, parent);
+    session.builders.push(builder)?;
     ok(alloc)
 }
 
 fn map_node(alloc: Global, session: &mut Session, words: &mut Words) -> Result<String, NoAnswer> {
     let input = words.word()?;
     let output = words.word()?;
-    pair(alloc, session, input, output)
-}
-
-// The last builder is told of a pair.
-fn pair(
-    alloc: Global,
-    session: &mut Session,
-    input: &str,
-    output: &str,
-) -> Result<String, NoAnswer> {
-    let input = session.trees.node(alloc, input)?;
-    let output = session.trees.node(alloc, output)?;
     let builder = session
         .builders
         .last_mut()
         .ok_or(NoAnswer::Missing("no builder was made"))?;
+    pair(alloc, &session.trees, builder, input, output)
+}
+
+// A builder is told of a pair.
+fn pair(
+    alloc: Global,
+    trees: &Roots,
+    builder: &mut SyntaxMappingBuilder,
+    input: &str,
+    output: &str,
+) -> Result<String, NoAnswer> {
+    let input = trees.node(alloc, input)?;
+    let output = trees.node(alloc, output)?;
     done(alloc, builder.map_node(alloc, input, output))
 }
 
@@ -79,17 +76,18 @@ fn map_children(
     done(alloc, builder.map_children(alloc, &inputs, &outputs))
 }
 
-// A builder of the copy's parent, with one pair.
+// A builder of the copy's parent, with one pair. Where memory runs out there is no such builder, so that the step can be taken again.
 fn map(alloc: Global, session: &mut Session, words: &mut Words) -> Result<String, NoAnswer> {
     let input = words.word()?;
     let output = words.word()?;
     let copy = session.trees.node(alloc, output)?;
-    keep_builder(
-        alloc,
-        session,
-        copy.parent(alloc)?.ok_or(NoAnswer::Missing("no parent"))?,
-    )?;
-    pair(alloc, session, input, output)
+    let parent = copy.parent(alloc)?.ok_or(NoAnswer::Missing("no parent"))?;
+    let mut builder = SyntaxMappingBuilder::new(alloc, parent);
+    let answer = pair(alloc, &session.trees, &mut builder, input, output)?;
+    if answer.as_str() != MEMORY {
+        session.builders.push(builder)?;
+    }
+    Ok(answer)
 }
 
 fn last_builder(session: &mut Session) -> Result<SyntaxMappingBuilder, NoAnswer> {
