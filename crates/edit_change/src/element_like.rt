@@ -1,7 +1,11 @@
-use cst_core::{SyntaxElement, SyntaxNode, SyntaxToken};
+ghost use Rattle.std.specs.Prelude.{◌≡◌, IfOk};
+ghost use Rattle.cst_core.specs.declared.element.SyntaxElement.TheVariants.{Node};
+
+use cst_core::ast::{BlockExpr, Fn, LetStmt, StmtList};
+use cst_core::{AstNode, SyntaxElement, SyntaxNode, SyntaxToken};
 use std::alloc::{AllocError, Global};
 
-/// What stands for an element: a node, a token or an element, or a reference to one.
+/// What stands for an element: a node, a token or an element, or a reference to one or to a typed node.
 pub trait Element: Drop {
     ghost use Rattle.std.specs.Prelude.{◌≡◌, IfOk};
     ghost use Rattle.cst_core.specs.declared.element.SyntaxElement.{SyntaxElement};
@@ -69,4 +73,50 @@ impl Element for &SyntaxElement {
     fn syntax_element(self, alloc: Global) -> Result<SyntaxElement, AllocError> {
         self.try_clone(alloc)
     }
+}
+
+impl Element for &BlockExpr {
+    ghost use Rattle.cst_core.specs.declared.element.SyntaxElement.TheVariants.{Node};
+
+    ghost element = { λ n. Node n.now.syntax };
+
+    fn syntax_element(self, alloc: Global) -> Result<SyntaxElement, AllocError> {
+        element_of_typed(alloc, self)
+    }
+}
+
+impl Element for &StmtList {
+    ghost use Rattle.cst_core.specs.declared.element.SyntaxElement.TheVariants.{Node};
+
+    ghost element = { λ n. Node n.now.syntax };
+
+    fn syntax_element(self, alloc: Global) -> Result<SyntaxElement, AllocError> {
+        element_of_typed(alloc, self)
+    }
+}
+
+impl Element for &LetStmt {
+    ghost use Rattle.cst_core.specs.declared.element.SyntaxElement.TheVariants.{Node};
+
+    ghost element = { λ n. Node n.now.syntax };
+
+    fn syntax_element(self, alloc: Global) -> Result<SyntaxElement, AllocError> {
+        element_of_typed(alloc, self)
+    }
+}
+
+impl Element for &Fn {
+    ghost use Rattle.cst_core.specs.declared.element.SyntaxElement.TheVariants.{Node};
+
+    ghost element = { λ n. Node n.now.syntax };
+
+    fn syntax_element(self, alloc: Global) -> Result<SyntaxElement, AllocError> {
+        element_of_typed(alloc, self)
+    }
+}
+
+fn element_of_typed<N: AstNode>(alloc: Global, node: &N) -> Result<SyntaxElement, AllocError>
+    ensures { IfOk result (λ e. e ≡ Node (N.syntax_node node.now)) }
+{
+    node.syntax().syntax_element(alloc)
 }
