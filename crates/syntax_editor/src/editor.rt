@@ -16,7 +16,7 @@ use std::marker::Model;
 
 /// Records changes in terms of a tree that does not change, and carries them out at once.
 ///
-/// The list of changes stands as the calls leave it: see the section 'Recording' of docs/DEFINITIONS.md. Payloads may be of
+/// Which list of changes each call leaves: see the section 'Recording' of docs/DEFINITIONS.md. Payloads may be of
 /// any tree; what is changed is of the editor's.
 #[derive(Drop)]
 pub struct SyntaxEditor {
@@ -97,8 +97,8 @@ impl SyntaxEditor {
         &mut self.factory
     }
 
-    /// Takes up the pairs of a builder in the mappings of the editor, where their copies win over those that are there. A factory
-    /// without mappings has some then.
+    /// Adds the pairs of a builder to the mappings of the editor. Where both map a node, the builder's pair wins. A factory without
+    /// mappings has some then.
     ///
     /// Refused for memory alone. The editor is unchanged then, and the builder is gone.
     pub fn add_mapping(

@@ -11,7 +11,7 @@ pub enum RecordError {
     /// A position, a target or an end is of another tree, or leads to no element of its form in the editor's.
     #[error("Foreign")]
     Foreign,
-    /// The ends of a range are not siblings, or the last stands before the first.
+    /// The ends of a range are not siblings, or the last comes before the first.
     #[error("BadRange")]
     BadRange,
     /// The root cannot be deleted.

@@ -101,8 +101,8 @@ impl SyntaxEditor {
         Ok(self.record(Change::ReplaceAll(first, last, nothing.into()))?)
     }
 
-    /// Replaces an element by another one. The first replacement of the same element takes it up; where that is a deletion
-    /// it stays one.
+    /// Replaces an element by another one. If the element already has a Replace, that change is updated; a deletion stays a
+    /// deletion.
     ///
     /// `Foreign` comes first, then `RootReplacement` (a root replaced by a token). `Memory` may come before them. The
     /// editor is unchanged after each.
@@ -122,7 +122,7 @@ impl SyntaxEditor {
         self.replace_element(alloc, element, new)
     }
 
-    /// Replaces an element by others, in their order. No other replacement takes it up.
+    /// Replaces an element by others, in their order. It is always a change of its own.
     ///
     /// `Foreign` comes first, then `RootReplacement` (a root replaced by other than one node). `Memory` may come before
     /// them. The editor is unchanged after each.
