@@ -1,0 +1,37 @@
+-- The nodes above an element, one level at a time.
+use Rattle.std.proofs.Common.{◌≡◌, ℕ, suc, ◌+◌, ◌<◌, [], ◌∷◌, ◌++◌, length, map, reverse, refl, ap, sym, ◌∙◌, arith, length-append}
+use Rattle.std.specs.Option.{option_map_or}
+use Rattle.std.proofs.lemmas.List.{map-append, reverse-append}
+use Rattle.green_tree.specs.Path.{Path, above, parent_path, last_slot}
+use Rattle.cst_core.specs.Element.{Element, element_at, parent_of}
+use Rattle.cst_core.specs.Navigation.{nodes_above, ancestors_of}
+use Rattle.cst_core.proofs.LastSlot.{parent-and-slot}
+
+above-push : (p : Path) (i : ℕ) → above (p ++ i ∷ []) ≡ above p ++ p ∷ []
+above-push [] i = refl
+above-push (j ∷ p) i = ap (λ ps. [] ∷ map (λ q. j ∷ q) ps) (above-push p i) ∙ ap (λ ps. [] ∷ ps) (map-append (λ q. j ∷ q) (above p) (p ∷ []))
+
+above-nearest : (p : Path) (i : ℕ) → reverse (above (p ++ i ∷ [])) ≡ p ∷ reverse (above p)
+above-nearest p i = ap reverse (above-push p i) ∙ reverse-append (above p) (p ∷ [])
+
+above-parent : (e : Element) (q : Path) → nodes_above (element_at e q) ≡ option_map_or ancestors_of (parent_of (element_at e q)) []
+above-parent e [] = refl
+above-parent e (i ∷ q) =
+    ap (λ p. map (element_at e) (reverse (above p))) (parent-and-slot i q) ∙ ap (map (element_at e)) (above-nearest (parent_path (i ∷ q)) (last_slot (i ∷ q)))
+
+-- the parent, and then those above it
+pub nodes_above-parent : (e : Element) → nodes_above e ≡ option_map_or ancestors_of (parent_of e) []
+nodes_above-parent e = above-parent e e.path
+
+-- ---- a parent is less deep
+pub depth : Element → ℕ
+depth e = suc (length e.path)
+
+parent_is_less_deep : (e : Element) (q : Path) → option_map_or depth (parent_of (element_at e q)) 0 < suc (length q)
+parent_is_less_deep e [] = omega arith
+parent_is_less_deep e (i ∷ q) =
+    let long : length (i ∷ q) ≡ length (parent_path (i ∷ q)) + 1 = ap length (parent-and-slot i q) ∙ length-append (parent_path (i ∷ q)) (last_slot (i ∷ q) ∷ []) in
+    omega (arith, long)
+
+pub above_is_less_deep : (e : Element) → option_map_or depth (parent_of e) 0 < depth e
+above_is_less_deep e = parent_is_less_deep e e.path
