@@ -1,5 +1,5 @@
 -- The elements at or below a node: the node itself, and those at or below its children.
-use Rattle.std.proofs.Common.{◌≡◌, ℕ, zero, suc, ◌<◌, ◌≤◌, List, [], ◌∷◌, ◌++◌, length, map, drop, get_or, Some, refl, ap, sym, ◌∙◌, arith, append_assoc}
+use Rattle.std.proofs.Common.{◌≡◌, ℕ, zero, suc, ◌<◌, ◌≤◌, List, [], ◌∷◌, ◌++◌, length, map, drop, get_or, Some, refl, ap, sym, ◌∙◌, subst, arith, append_assoc}
 use Rattle.std.specs.Prelude.{slice_get, option_and_then, flat_map, unwrap_or}
 use Rattle.std.proofs.lemmas.List.{map-append, append-nil}
 use Rattle.std.proofs.lemmas.Option.{slice_get-get_or}
@@ -78,7 +78,7 @@ child_is_smaller e k f xs i x h is inside at_i =
     let own = subtree_there e (tree.Node k f) h in
     let count : length xs ≡ length (children (subtree e)) = ap length is ∙ length_child_elements e in
     let within : i < length (children (subtree e)) = omega (arith, count) in
-    let there : i < length (trees f) = rw (← own) within in
+    let there : i < length (trees f) = subst (λ t. i < length (children t)) own within in
     let d : Element = below e (i ∷ []) in
     let same : x ≡ syntax_of d = at_i ∙ ap (λ ys. get_or ys i x) is ∙ get_first (child_elements e) (drop (suc i) (child_elements e)) i (syntax_of d) x (drop_child e i within) in
     let c = get_or (trees f) i (tree.Token 0 []) in
