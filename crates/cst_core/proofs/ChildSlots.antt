@@ -10,7 +10,6 @@ use Rattle.green_tree.specs.Path.{Path, counted_from, first_item, last_item, par
 use Rattle.green_tree.specs.Tree.{SyntaxTree, Token, at, children}
 use Rattle.cst_core.specs.Element.{Element, IsElement, subtree, below, element_at, parent_of}
 use Rattle.cst_core.specs.SyntaxElement.{syntax_of, syntax_at, node_of, child_elements, child_nodes}
-use Rattle.cst_core.specs.declared.element.SyntaxElement.{SyntaxElement}
 use Rattle.green_tree.proofs.Lookup.{at-append}
 use Rattle.cst_core.proofs.LastSlot.{parent-and-slot}
 use Rattle.cst_core.proofs.Children.{child_there, last_item-push}

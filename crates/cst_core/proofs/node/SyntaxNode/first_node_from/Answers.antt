@@ -1,4 +1,4 @@
-use Rattle.std.proofs.Common.{◌≡◌, ◌+◌, ◌<◌, ◌≤◌, Some, length, ap, sym, ◌∙◌, arith}
+use Rattle.std.proofs.Common.{◌≡◌, ◌+◌, ◌≤◌, Some, length, ap, sym, ◌∙◌, arith}
 use Rattle.green_tree.specs.Path.{first_item}
 use Rattle.green_tree.specs.Tree.{at, children}
 use Rattle.green_tree.specs.Green.{branch_tree}
