@@ -25,14 +25,14 @@ below-below : (e : Element) (i : ℕ) (ps : List Path) → map (λ p. syntax_of 
 below-below e i [] = refl
 below-below e i (p ∷ ps) = rw (below-below e i ps, append_assoc)
 
-below-top : (e : Element) → below e [] ≡ e
+pub below-top : (e : Element) → below e [] ≡ e
 below-top e = ap (λ p. record e { path = p }) (append-nil e.path)
 
 own_elements : (d : Element) (c : SyntaxTree) → subtree d ≡ c → map (λ p. syntax_of (below d p)) (paths c) ≡ listed (syntax_of d)
 own_elements d (tree.Token k s) h = ap (λ x. syntax_of x ∷ []) (below-top d) ∙ ap (λ t. syntax_as t d ∷ []) h ∙ ap (λ t. listed (syntax_as t d)) (sym h)
 own_elements d (tree.Node k f) h = ap (λ t. map (λ p. syntax_of (below d p)) (paths t)) (sym h) ∙ ap (λ t. listed (syntax_as t d)) (sym h)
 
-child_subtree : (e : Element) (t : SyntaxTree) (i : ℕ) (c : SyntaxTree) → at e.root e.path ≡ Some t → slice_get (children t) i ≡ Some c → subtree (below e (i ∷ [])) ≡ c
+pub child_subtree : (e : Element) (t : SyntaxTree) (i : ℕ) (c : SyntaxTree) → at e.root e.path ≡ Some t → slice_get (children t) i ≡ Some c → subtree (below e (i ∷ [])) ≡ c
 child_subtree e t i c h is = subtree_there (below e (i ∷ [])) c (at_below e t (i ∷ []) h ∙ ap (option_and_then (λ d. Some d)) is)
 
 elements-from : (e : Element) (t : SyntaxTree) (i : ℕ) (f : Forest ℕ) → at e.root e.path ≡ Some t → drop i (children t) ≡ trees f →
@@ -56,7 +56,7 @@ elements-children e k f h =
     ∙ ap (λ t. Node e ∷ flat_map listed (map (λ j. syntax_of (below e (j ∷ []))) (counted_from 0 (length (children t))))) (sym own)
 
 -- ---- a child is smaller
-part_size : (f : Forest ℕ) (i : ℕ) (c : SyntaxTree) → slice_get (trees f) i ≡ Some c → size c ≤ forest_size f
+pub part_size : (f : Forest ℕ) (i : ℕ) (c : SyntaxTree) → slice_get (trees f) i ≡ Some c → size c ≤ forest_size f
 part_size tree.end i c h = absurd (cc)
 part_size (tree.more t f) zero c h =
     let same : size t ≡ size c = ap (λ o. size (unwrap_or o c)) h in

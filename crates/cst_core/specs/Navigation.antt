@@ -5,10 +5,13 @@
 --     nodes_above, ancestors_of      the nodes above it, the nearest first; the same with itself before them
 --     element_ancestors              the ancestors of a node, itself first; of a token, its parent first
 --     elements_of                    the elements at or below it, in document order
-use Rattle.std.specs.Prelude.{suc, List, [], ◌∷◌, map, filter_map, take, drop, reverse, Option}
+--     tokens_of, last_token_of       the tokens of these, in document order; the last of them
+--     token_after                    the first token that stands after it in its tree, of a token
+use Rattle.std.specs.Prelude.{suc, List, [], ◌∷◌, map, filter, filter_map, take, drop, reverse, Option, option_map}
 use Rattle.std.specs.Option.{option_map_or}
-use Rattle.green_tree.specs.Path.{last_slot, above, first_item, last_item}
+use Rattle.green_tree.specs.Path.{precedes, last_slot, above, first_item, last_item}
 use Rattle.green_tree.specs.Tree.{paths}
+use Rattle.green_tree.specs.Order.{token_paths}
 use Rattle.cst_core.specs.Element.{Element, subtree, element_at, below, parent_of}
 use Rattle.cst_core.specs.SyntaxElement.{syntax_of, node_of, child_elements}
 use Rattle.cst_core.specs.declared.element.SyntaxElement.{SyntaxElement}
@@ -41,3 +44,12 @@ element_ancestors (Token e) = nodes_above e
 
 abbrev pub elements_of : Element → List SyntaxElement
 elements_of e = map (λ p. syntax_of (below e p)) (paths (subtree e))
+
+abbrev pub tokens_of : Element → List Element
+tokens_of e = map (below e) (token_paths (subtree e))
+
+abbrev pub last_token_of : Element → Option Element
+last_token_of e = last_item (tokens_of e)
+
+abbrev pub token_after : Element → Option Element
+token_after e = option_map (element_at e) (first_item (filter (precedes e.path) (token_paths e.root)))

@@ -3,7 +3,7 @@ ghost use Rattle.green_tree.specs.Path.{first_item, last_item};
 ghost use Rattle.green_tree.specs.Tree.{children};
 ghost use Rattle.cst_core.specs.Element.{subtree, parent_of, root_of};
 ghost use Rattle.cst_core.specs.SyntaxElement.{node_of, syntax_at, child_elements, child_nodes, next_sibling, previous_sibling, descendants_of, first_token_of};
-ghost use Rattle.cst_core.specs.Navigation.{next_node, previous_node, siblings_on, ancestors_of, elements_of};
+ghost use Rattle.cst_core.specs.Navigation.{next_node, previous_node, siblings_on, ancestors_of, elements_of, last_token_of};
 
 use crate::direction::Direction;
 use crate::element::SyntaxElement;
@@ -157,6 +157,24 @@ impl SyntaxNode {
             location: self.location.with_path(alloc, path)?,
             green: found.green,
         }))
+    }
+
+    /// The last token at or below the node in document order; `None` where there is no token below it.
+    pub fn last_token(&self, alloc: Global) -> Result<Option<SyntaxToken>, AllocError>
+        ensures { IfOk result (λ r. r ≡ last_token_of self.now) }
+    {
+        for slot in (0..self.green.children().len()).rev() {
+            match self.element_at(alloc, &[slot])? {
+                Some(SyntaxElement::Token(token)) => return Ok(Some(token)),
+                Some(SyntaxElement::Node(below)) => {
+                    if let Some(token) = below.last_token(alloc)? {
+                        return Ok(Some(token));
+                    }
+                }
+                None => {}
+            }
+        }
+        Ok(None)
     }
 
     /// The nodes at or below this one in document order, this one first.
