@@ -65,7 +65,7 @@ pub first_child : (e : Element) (t : SyntaxTree) (n : ℕ) → at e.root e.path 
 first_child e t zero h is = child_past e t 0 h (omega arith)
 first_child e t (suc n) h is = child_there e t 0 h (omega arith)
 
-last_item-push : {X : Type 0} (xs : List X) (x : X) → last_item (xs ++ x ∷ []) ≡ Some x
+pub last_item-push : {X : Type 0} (xs : List X) (x : X) → last_item (xs ++ x ∷ []) ≡ Some x
 last_item-push [] x = refl
 last_item-push (y ∷ []) x = refl
 last_item-push (y ∷ z ∷ xs) x = last_item-push (z ∷ xs) x

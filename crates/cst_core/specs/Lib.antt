@@ -12,3 +12,4 @@ pub mod TreeIds
 pub mod Element
 pub mod Placed
 pub mod SyntaxElement
+pub mod Navigation

@@ -1,4 +1,4 @@
-ghost use Rattle.std.specs.Prelude.{◌≡◌, ◌<◌, IfOk, Some, string_bytes};
+ghost use Rattle.std.specs.Prelude.{◌≡◌, ◌<◌, IfOk, Some, option_map, string_bytes};
 ghost use Rattle.green_tree.specs.Path.{last_slot};
 ghost use Rattle.green_tree.specs.Tree.{at, label, text, text_length};
 ghost use Rattle.green_tree.specs.Order.{start};
@@ -7,7 +7,9 @@ ghost use Rattle.green_tree.specs.GreenElement.{element_tree};
 ghost use Rattle.green_tree.specs.GreenElementRef.{ref_tree};
 ghost use Rattle.cst_core.specs.Element.{subtree, parent_of, root_of};
 ghost use Rattle.cst_core.specs.SyntaxElement.{element_of, node_of, token_of, syntax_of, next_sibling, previous_sibling};
+ghost use Rattle.cst_core.specs.Navigation.{siblings_on, element_ancestors};
 
+use crate::direction::Direction;
 use crate::location::Location;
 use crate::node::SyntaxNode;
 use crate::token::SyntaxToken;
@@ -30,6 +32,26 @@ impl SyntaxElement {
         match self {
             SyntaxElement::Node(node) => &node.location,
             SyntaxElement::Token(token) => &token.location,
+        }
+    }
+
+    /// The node, as it is lent; `None` for a token.
+    pub fn as_node(&self) -> Option<&SyntaxNode>
+        ensures { option_map (λ n. n.now) result ≡ node_of self.now }
+    {
+        match self {
+            SyntaxElement::Node(lent) => Some(lent),
+            SyntaxElement::Token(_) => None,
+        }
+    }
+
+    /// The token, as it is lent; `None` for a node.
+    pub fn as_token(&self) -> Option<&SyntaxToken>
+        ensures { option_map (λ t. t.now) result ≡ token_of self.now }
+    {
+        match self {
+            SyntaxElement::Node(_) => None,
+            SyntaxElement::Token(lent) => Some(lent),
         }
     }
 
@@ -181,6 +203,27 @@ impl SyntaxElement {
         ensures { IfOk result (λ r. r ≡ previous_sibling (element_of self.now)) }
     {
         self.location().previous_sibling(alloc)
+    }
+
+    /// The element itself, and then its siblings in this direction, the nearest first. A root has none.
+    pub fn siblings_with_tokens(
+        &self,
+        alloc: Global,
+        direction: Direction,
+    ) -> Result<Vec<SyntaxElement>, AllocError>
+        ensures { IfOk result (λ all. all.items ≡ siblings_on direction (element_of self.now)) }
+    {
+        self.location().siblings(alloc, direction)
+    }
+
+    /// The nodes from the element up to the root. The first is the node itself, or the parent of the token.
+    pub fn ancestors(&self, alloc: Global) -> Result<Vec<SyntaxNode>, AllocError>
+        ensures { IfOk result (λ all. all.items ≡ element_ancestors self.now) }
+    {
+        match self {
+            SyntaxElement::Node(node) => node.ancestors(alloc),
+            SyntaxElement::Token(token) => token.parent_ancestors(alloc),
+        }
     }
 }
 

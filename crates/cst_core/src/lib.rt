@@ -3,6 +3,7 @@
 
 pub mod ast;
 mod ast_node;
+mod direction;
 mod element;
 mod location;
 mod navigation;
@@ -12,6 +13,7 @@ mod token;
 mod tree_ids;
 
 pub use ast_node::{AstNode, HasAttrs};
+pub use direction::Direction;
 pub use element::SyntaxElement;
 pub use green_tree::{
     GreenElement, GreenElementRef, GreenNode, GreenToken, KIND_NAMES, LENGTH_LIMIT, SyntaxKind,

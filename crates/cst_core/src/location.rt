@@ -10,7 +10,9 @@ ghost use Rattle.green_tree.specs.Order.{start};
 ghost use Rattle.green_tree.specs.GreenElementRef.{ref_tree};
 ghost use Rattle.cst_core.specs.Element.{IsElement, element_at, parent_of};
 ghost use Rattle.cst_core.specs.SyntaxElement.{syntax_as, syntax_at, next_sibling, previous_sibling};
+ghost use Rattle.cst_core.specs.Navigation.{family_of, siblings_on, next_node, previous_node, nodes_above};
 
+use crate::direction::Direction;
 use crate::element::SyntaxElement;
 use crate::node::SyntaxNode;
 use crate::token::SyntaxToken;
@@ -201,6 +203,80 @@ impl Location {
             Some(slot) => parent.element_at(alloc, &[slot]),
             None => Ok(None),
         }
+    }
+    // The nearest sibling after this element that is a node.
+    pub(crate) fn next_node(&self, alloc: Global) -> Result<Option<SyntaxNode>, AllocError>
+        ensures { IfOk result (λ r. r ≡ next_node self.now) }
+    {
+        let Some(parent) = self.parent(alloc)? else {
+            return Ok(None);
+        };
+        let slot = self.index();
+        if slot < parent.as_green().children().len() {
+            parent.first_node_from(alloc, slot + 1)
+        } else {
+            Ok(None)
+        }
+    }
+
+    // The nearest sibling before this element that is a node.
+    pub(crate) fn previous_node(&self, alloc: Global) -> Result<Option<SyntaxNode>, AllocError>
+        ensures { IfOk result (λ r. r ≡ previous_node self.now) }
+    {
+        // An element stands at the path.
+        let _ = &self.path;
+        match self.parent(alloc)? {
+            Some(parent) => parent.last_node_before(alloc, self.index()),
+            None => Ok(None),
+        }
+    }
+
+    // The children of the parent; of a root, the root alone.
+    fn family(&self, alloc: Global) -> Result<Vec<SyntaxElement>, AllocError>
+        ensures { IfOk result (λ all. all.items ≡ family_of self.now) }
+    {
+        // The root is a node.
+        let _ = &self.root;
+        if let Some(parent) = self.parent(alloc)? {
+            return parent.children_with_tokens(alloc);
+        }
+        let mut all = Vec::new(alloc);
+        all.push(SyntaxElement::Node(self.tree_top(alloc)?))?;
+        Ok(all)
+    }
+
+    // The element itself, and then its siblings in one direction.
+    pub(crate) fn siblings(
+        &self,
+        alloc: Global,
+        direction: Direction,
+    ) -> Result<Vec<SyntaxElement>, AllocError>
+        ensures { IfOk result (λ all. all.items ≡ siblings_on direction self.now) }
+    {
+        // An element stands at the path.
+        let _ = &self.path;
+        let mut all = self.family(alloc)?;
+        match direction {
+            Direction::Next => all.split_off(self.index()),
+            Direction::Prev => {
+                all.truncate(self.index() + 1);
+                all.reverse();
+                Ok(all)
+            }
+        }
+    }
+
+    // The nodes above, the nearest first.
+    pub(crate) fn nodes_above(&self, alloc: Global) -> Result<Vec<SyntaxNode>, AllocError>
+        ensures { IfOk result (λ all. all.items ≡ nodes_above self.now) }
+    {
+        let mut all = Vec::new(alloc);
+        let mut above = self.parent(alloc)?;
+        'up: while let Some(node) = above {
+            above = node.parent(alloc)?;
+            all.push(node)?;
+        }
+        Ok(all)
     }
 }
 

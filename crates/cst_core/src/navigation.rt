@@ -1,8 +1,11 @@
-ghost use Rattle.std.specs.Prelude.{◌≡◌, ◌++◌, IfOk, OnOk};
+ghost use Rattle.std.specs.Prelude.{◌≡◌, ◌≤◌, [], ◌∷◌, ◌++◌, length, filter_map, take, drop, option_and_then, IfOk, OnOk};
 ghost use Rattle.green_tree.specs.Path.{first_item, last_item};
-ghost use Rattle.cst_core.specs.Element.{parent_of, root_of};
-ghost use Rattle.cst_core.specs.SyntaxElement.{syntax_at, child_elements, child_nodes, next_sibling, previous_sibling, descendants_of, first_token_of};
+ghost use Rattle.green_tree.specs.Tree.{children};
+ghost use Rattle.cst_core.specs.Element.{subtree, parent_of, root_of};
+ghost use Rattle.cst_core.specs.SyntaxElement.{node_of, syntax_at, child_elements, child_nodes, next_sibling, previous_sibling, descendants_of, first_token_of};
+ghost use Rattle.cst_core.specs.Navigation.{next_node, previous_node, siblings_on, ancestors_of, elements_of};
 
+use crate::direction::Direction;
 use crate::element::SyntaxElement;
 use crate::node::SyntaxNode;
 use crate::token::SyntaxToken;
@@ -82,6 +85,65 @@ impl SyntaxNode {
         }
     }
 
+    // The child in this slot, if it is a node.
+    fn node_in(&self, alloc: Global, slot: usize) -> Result<Option<SyntaxNode>, AllocError>
+        ensures { IfOk result (λ r. r ≡ option_and_then node_of (syntax_at self.now (self.now.path ++ slot ∷ []))) }
+    {
+        match self.element_at(alloc, &[slot])? {
+            Some(child) => Ok(child.into_node()),
+            None => Ok(None),
+        }
+    }
+
+    // The first child in this slot or after it that is a node.
+    pub(crate) fn first_node_from(
+        &self,
+        alloc: Global,
+        start: usize,
+    ) -> Result<Option<SyntaxNode>, AllocError>
+        ensures { IfOk result (λ r. r ≡ first_item (filter_map node_of (drop start (child_elements self.now)))) }
+    {
+        for slot in start..self.green.children().len() {
+            if let Some(node) = self.node_in(alloc, slot)? {
+                return Ok(Some(node));
+            }
+        }
+        Ok(None)
+    }
+
+    // The last child before this slot that is a node.
+    pub(crate) fn last_node_before(
+        &self,
+        alloc: Global,
+        end: usize,
+    ) -> Result<Option<SyntaxNode>, AllocError>
+        requires { end ≤ length (children (subtree self.now)) }
+        ensures { IfOk result (λ r. r ≡ last_item (filter_map node_of (take end (child_elements self.now)))) }
+    {
+        // A node stands at the path of `self`.
+        let _ = &self.green;
+        for slot in (0..end).rev() {
+            if let Some(node) = self.node_in(alloc, slot)? {
+                return Ok(Some(node));
+            }
+        }
+        Ok(None)
+    }
+
+    /// The first child that is a node; `None` where there is no such child.
+    pub fn first_child(&self, alloc: Global) -> Result<Option<SyntaxNode>, AllocError>
+        ensures { IfOk result (λ r. r ≡ first_item (child_nodes self.now)) }
+    {
+        self.first_node_from(alloc, 0)
+    }
+
+    /// The last child that is a node; `None` where there is no such child.
+    pub fn last_child(&self, alloc: Global) -> Result<Option<SyntaxNode>, AllocError>
+        ensures { IfOk result (λ r. r ≡ last_item (child_nodes self.now)) }
+    {
+        self.last_node_before(alloc, self.green.children().len())
+    }
+
     /// The first token at or below the node in document order; `None` where there is no token below it.
     pub fn first_token(&self, alloc: Global) -> Result<Option<SyntaxToken>, AllocError>
         ensures { IfOk result (λ r. r ≡ first_token_of self.now) }
@@ -103,6 +165,25 @@ impl SyntaxNode {
     {
         let mut all = Vec::new(alloc);
         push_descendants(alloc, self, &mut all)?;
+        Ok(all)
+    }
+
+    /// The elements at or below this node in document order, the node itself first.
+    pub fn descendants_with_tokens(&self, alloc: Global) -> Result<Vec<SyntaxElement>, AllocError>
+        ensures { IfOk result (λ all. all.items ≡ elements_of self.now) }
+    {
+        let mut all = Vec::new(alloc);
+        push_elements(alloc, self, &mut all)?;
+        Ok(all)
+    }
+
+    /// The nodes from this one up to the root, this one first.
+    pub fn ancestors(&self, alloc: Global) -> Result<Vec<SyntaxNode>, AllocError>
+        ensures { IfOk result (λ all. all.items ≡ ancestors_of self.now) }
+    {
+        let mut all = Vec::new(alloc);
+        all.push(self.try_clone(alloc)?)?;
+        all.append(&mut self.location.nodes_above(alloc)?)?;
         Ok(all)
     }
 
@@ -133,6 +214,31 @@ impl SyntaxNode {
     {
         self.location.previous_sibling(alloc)
     }
+
+    /// The nearest sibling after this one that is a node; `None` where there is no such sibling.
+    pub fn next_sibling(&self, alloc: Global) -> Result<Option<SyntaxNode>, AllocError>
+        ensures { IfOk result (λ r. r ≡ next_node self.now) }
+    {
+        self.location.next_node(alloc)
+    }
+
+    /// The nearest sibling before this one that is a node; `None` where there is no such sibling.
+    pub fn prev_sibling(&self, alloc: Global) -> Result<Option<SyntaxNode>, AllocError>
+        ensures { IfOk result (λ r. r ≡ previous_node self.now) }
+    {
+        self.location.previous_node(alloc)
+    }
+
+    /// The node itself, and then its siblings in this direction, the nearest first. A root has none.
+    pub fn siblings_with_tokens(
+        &self,
+        alloc: Global,
+        direction: Direction,
+    ) -> Result<Vec<SyntaxElement>, AllocError>
+        ensures { IfOk result (λ all. all.items ≡ siblings_on direction self.now) }
+    {
+        self.location.siblings(alloc, direction)
+    }
 }
 
 fn push_descendants(
@@ -148,6 +254,26 @@ fn push_descendants(
     let children = node.children(alloc)?;
     for child in &children {
         push_descendants(alloc, child, out)?;
+    }
+    Ok(())
+}
+
+fn push_elements(
+    alloc: Global,
+    node: &SyntaxNode,
+    out: &mut Vec<SyntaxElement>,
+) -> Result<(), AllocError>
+    ensures { OnOk result (out.new.items ≡ out.old.items ++ elements_of node.now) }
+{
+    // A node stands at the path of `node`.
+    let _ = &node.green;
+    out.push(SyntaxElement::Node(node.try_clone(alloc)?))?;
+    let children = node.children_with_tokens(alloc)?;
+    for child in &children {
+        match child {
+            SyntaxElement::Node(below) => push_elements(alloc, below, out)?,
+            SyntaxElement::Token(_) => out.push(child.try_clone(alloc)?)?,
+        }
     }
     Ok(())
 }

@@ -10,7 +10,9 @@ ghost use Rattle.green_tree.specs.Order.{start};
 ghost use Rattle.green_tree.specs.Green.{branch_tree, leaf_tree, length_limit};
 ghost use Rattle.cst_core.specs.Element.{subtree, parent_of, root_of, IsNode, IsToken};
 ghost use Rattle.cst_core.specs.SyntaxElement.{next_sibling, previous_sibling, token_before};
+ghost use Rattle.cst_core.specs.Navigation.{siblings_on, nodes_above};
 
+use crate::direction::Direction;
 use crate::element::SyntaxElement;
 use crate::location::Location;
 use crate::node::SyntaxNode;
@@ -159,6 +161,24 @@ impl SyntaxToken {
         ensures { IfOk result (λ r. r ≡ previous_sibling self.now) }
     {
         self.location.previous_sibling(alloc)
+    }
+
+    /// The token itself, and then its siblings in this direction, the nearest first.
+    pub fn siblings_with_tokens(
+        &self,
+        alloc: Global,
+        direction: Direction,
+    ) -> Result<Vec<SyntaxElement>, AllocError>
+        ensures { IfOk result (λ all. all.items ≡ siblings_on direction self.now) }
+    {
+        self.location.siblings(alloc, direction)
+    }
+
+    /// The nodes above the token, from its parent up to the root.
+    pub fn parent_ancestors(&self, alloc: Global) -> Result<Vec<SyntaxNode>, AllocError>
+        ensures { IfOk result (λ all. all.items ≡ nodes_above self.now) }
+    {
+        self.location.nodes_above(alloc)
     }
 
     /// The token before this one in document order; `None` for the first token of the tree. Nodes without tokens are

@@ -1,6 +1,7 @@
 -- An index of the targets of changes, and the first clash that it shows.
 --     least-push                    the least number at so many paths and one more
---     put, put-more                 a number put at a path, and at paths before
+--     put                           a number put at a path, in a table whose keys are vectors (for the table of gaps of `schedule`)
+--     put-more                      a number put at paths and at one more
 --     target-more, apart-more       one change more
 --     first-of-pairs                the first change that clashes with this one
 --     clash-found, none-found, indexed-more      a turn of the loop that makes the index

@@ -20,8 +20,8 @@ pub enum Change {
 }
 
 impl Change {
-    /// Whether it is a change of the tree of `root`, as a plan asks: what it aims at is of the tree, the ends of a range
-    /// differ, and a root is replaced by one node or not at all. Of which trees the elements are that it brings is all one.
+    /// Whether the change can be planned for the tree of `root`: its position or target is in that tree, the ends of a range
+    /// differ, and a root is replaced by exactly one node. Payload elements may come from any tree.
     pub fn fits(&self, root: &SyntaxNode) -> bool
         ensures { result ≡ fits root.now self.now }
     {

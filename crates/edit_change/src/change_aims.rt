@@ -58,7 +58,7 @@ impl Change {
         }
     }
 
-    /// Whether it inserts behind the element at a path.
+    /// Whether it inserts after the element at a path.
     pub fn is_behind(&self, path: &[usize]) -> bool
         ensures { IsTrue result ↔ (aim self.now ≡ Behind path.now) }
     {
@@ -142,7 +142,7 @@ impl Change {
         node
     }
 
-    /// The elements that the change brings, in their order.
+    /// The elements of the payload, in order.
     pub fn payload(&self) -> &[SyntaxElement]
         ensures { map element_of result.now ≡ payload self.now }
     {
@@ -156,7 +156,7 @@ impl Change {
         }
     }
 
-    /// The elements that the change brings, as shared trees: one is borrowed, of several each is shared.
+    /// The elements of the payload, as shared trees: one is borrowed, of several each is shared.
     pub fn green_payload(&self, alloc: Global) -> Result<Given<'_>, AllocError>
         ensures { IfOk result (λ g. given_trees g ≡ map subtree (payload self.now)) }
     {

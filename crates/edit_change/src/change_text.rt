@@ -35,11 +35,11 @@ impl fmt::Display for Change {
 }
 
 impl Change {
-    /// The text that shows the change to a reader of a terminal: what is put in is green (behind ESC[42m), what is
-    /// taken away is red (behind ESC[41m), and ESC[0m ESC[K ends the colour.
+    /// The text that shows the change to a reader of a terminal: the new text is green (after ESC[42m), the
+    /// old text is red (after ESC[41m), and ESC[0m ESC[K ends the colour.
     ///
-    /// An insert, and a change of a range, stands in the text of the parent. Of any other change it is the old text and
-    /// the new text alone, and of a deletion by `Replace` the old text alone.
+    /// An insert, or a change of a range, is shown inside the text of the parent. Any other change is the old text and
+    /// the new text alone, and a deletion by `Replace` is the old text alone.
     pub fn text(&self, alloc: Global) -> Result<String, AllocError>
         ensures { IfOk result (λ s. string_bytes s ≡ change_text self.now) }
     {

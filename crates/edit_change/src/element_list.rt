@@ -3,7 +3,7 @@ ghost use Rattle.std.specs.Prelude.{◌≡◌};
 use cst_core::SyntaxElement;
 use std::marker::Model;
 
-/// Elements in order, as a change brings them.
+/// The payload of a change: elements in order.
 #[derive(Drop)]
 pub struct ElementList {
     items: Vec<SyntaxElement>,

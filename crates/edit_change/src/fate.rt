@@ -1,7 +1,7 @@
-ghost use Rattle.std.specs.Prelude.{◌≡◌, None, map, position, is_some, IfOk};
-ghost use Rattle.cst_core.specs.Path.{up_to};
-ghost use Rattle.edit_change.specs.Nesting.{region_at};
-ghost use Rattle.edit_change.specs.inner.TargetIndex.{IsIndex};
+ghost use Rattle.std.specs.Prelude.{◌≡◌, List, [], ◌∷◌, ◌++◌, cond, map, IfOk};
+ghost use Rattle.cst_core.specs.Path.{Path, up_to};
+ghost use Rattle.edit_change.specs.inner.TargetIndex.{target_at, IsApart, IsIndex};
+ghost use Rattle.edit_change.specs.declared.fate.Fate.TheVariants.{Dropped, Owned};
 ghost use Rattle.edit_change.specs.inner.Fate.{fate, owner_in, is_dropped_in, is_independent_in, fate_within};
 
 use crate::change::Change;
@@ -41,6 +41,17 @@ impl Fate {
         }
     }
 
+    // The fate of what lies in a region below, where this is the fate of the region and this change keeps what is in it.
+    fn kept_by(self, number: usize) -> Fate
+        ensures { result ≡ cond (is_dropped_in self) Dropped (Owned number) }
+    {
+        match self {
+            Fate::Independent => Fate::Owned(number),
+            Fate::Dropped => Fate::Dropped,
+            Fate::Owned(_) => Fate::Owned(number),
+        }
+    }
+
     /// The number of the change that this one moves along with; `None` where it is carried out on the tree, or dropped.
     pub fn owner(self) -> Option<usize>
         ensures { result ≡ owner_in self }
@@ -53,17 +64,25 @@ impl Fate {
     }
 }
 
-// The change whose region has the element at a path.
-fn region_at(index: &TargetIndex, changes: &[Change], path: &[usize]) -> Option<usize>
-    requires { IsIndex changes.now index.now }
-    ensures { result ≡ region_at changes.now path.now }
+// The fate of what lies in an element, where what lies in the one above it has this fate. The element is replaced by the change
+// with this number, if by any.
+fn fate_below(changes: &[Change], fate: Fate, replaced_by: Option<usize>) -> Fate
+    requires apart { IsApart changes.now }
+    requires there { (p : Path) × (replaced_by ≡ target_at changes.now p) }
+    ensures { (ps : List Path) (p : Path) → replaced_by ≡ target_at changes.now p
+        → fate ≡ fate_within changes.now ps → result ≡ fate_within changes.now (ps ++ p ∷ []) }
 {
-    let number = index.get(path)?;
-    if changes[number].has_region() {
-        Some(number)
-    } else {
-        None
+    let Some(number) = replaced_by else {
+        return fate;
+    };
+    let change = &changes[number];
+    if !change.has_region() {
+        return fate;
     }
+    if !change.is_keeping() {
+        return Fate::Dropped;
+    }
+    fate.kept_by(number)
 }
 
 // The fate of a change that lies in the element at a path and in no deeper one.
@@ -71,14 +90,12 @@ fn fate_within(index: &TargetIndex, changes: &[Change], innermost: &[usize]) -> 
     requires { IsIndex changes.now index.now }
     ensures { result ≡ fate_within changes.now (up_to innermost.now) }
 {
-    let mut fate = Fate::Independent;
-    for depth in 0..innermost.len() + 1 {
-        if let Some(number) = region_at(index, changes, &innermost[..depth]) {
-            if !changes[number].is_keeping() {
-                return Fate::Dropped;
-            }
-            fate = Fate::Owned(number);
-        }
+    let table = &index.numbers;
+    let mut place = table.top();
+    let mut fate = fate_below(changes, Fate::Independent, table.number(place));
+    for slot in innermost {
+        place = table.below(place, *slot);
+        fate = fate_below(changes, fate, table.number(place));
     }
     fate
 }
@@ -95,7 +112,7 @@ fn fate_of(index: &TargetIndex, changes: &[Change], change: &Change) -> Fate
 
 /// What becomes of each change, by its number; `index` is that of these changes.
 ///
-/// Takes time near linear in the changes: for each one, the slots of all paths on the way to it.
+/// Takes time near linear in the changes and the lengths of their paths: each slot on the way to a change is looked at once.
 pub fn fates(
     alloc: Global,
     index: &TargetIndex,

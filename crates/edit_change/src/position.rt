@@ -40,7 +40,7 @@ impl Position {
         })
     }
 
-    /// The gap behind the last child of `node`, which is its first gap where it has no child.
+    /// The gap after the last child of `node`; the first gap of `node` if it has no child.
     pub fn last_child_of(alloc: Global, node: &SyntaxNode) -> Result<Position, AllocError>
         ensures { IfOk result (λ p. p ≡ last_child_of node.now) }
     {
@@ -52,7 +52,7 @@ impl Position {
         }
     }
 
-    /// The gap behind an element: that of the next slot. `None` exactly for a root, which has no gap beside it.
+    /// The gap after an element, before the next slot. `None` exactly for a root, which has no gap beside it.
     pub fn after<E: Element>(alloc: Global, element: E) -> Result<Option<Position>, AllocError>
         ensures { IfOk result (λ r. r ≡ after (E.element element)) }
     {
@@ -60,8 +60,8 @@ impl Position {
         Ok(Position::behind(element))
     }
 
-    /// The gap before an element: that of its own slot. It is the gap behind the sibling before it, if there is one, and
-    /// else the first gap of its parent. `None` exactly for a root.
+    /// The gap before an element. It is the gap after the previous sibling if there is one, else the first gap of the parent.
+    /// `None` exactly for a root.
     pub fn before<E: Element>(alloc: Global, element: E) -> Result<Option<Position>, AllocError>
         ensures { IfOk result (λ r. r ≡ before (E.element element)) }
     {
@@ -96,7 +96,7 @@ impl Position {
         }
     }
 
-    /// The path of the node whose first gap it is, or of the element that it is behind.
+    /// The path of the node whose first gap this position is, or of the element that it directly follows.
     pub fn anchor(&self) -> &[usize]
         ensures { result.now ≡ (anchor self.now).path }
     {
@@ -106,7 +106,7 @@ impl Position {
         }
     }
 
-    /// The node whose first gap it is.
+    /// The node whose first gap this position is, if it is one.
     pub fn first_of(&self) -> Option<&SyntaxNode>
         ensures { option_map (λ n. n.now) result ≡ first_of self.now }
     {
@@ -116,7 +116,7 @@ impl Position {
         }
     }
 
-    /// The element whose gap behind it it is.
+    /// The element that this position directly follows, if any.
     pub fn after_of(&self) -> Option<&SyntaxElement>
         ensures { option_map (λ e. e.now) result ≡ after_of self.now }
     {

@@ -2,18 +2,19 @@ ghost use Rattle.std.specs.Prelude.{◌≡◌, cond, Some, None, OnOk, IfOk, IfE
 ghost use Rattle.cst_core.specs.Path.{Path, has_path};
 ghost use Rattle.rewriting.specs.Topmost.{paths_of};
 ghost use Rattle.edit_change.specs.inner.TargetIndex.{number_at, IsEntered, lesser, least, IsIndex};
+ghost use Rattle.path_table.specs.PathTable.{IsTree};
 ghost use Rattle.edit_change.specs.Nesting.{first_clash};
 ghost use Rattle.edit_change.specs.Clash.{ClashRefuses};
 
 use crate::change::Change;
 use crate::clash_error::ClashError;
+use path_table::PathTable;
 use std::alloc::{AllocError, Global};
-use std::collections::HashMap;
 
 /// The numbers of replacements by the paths of what they replace.
 #[derive(Drop)]
 pub struct TargetIndex {
-    numbers: HashMap<Vec<usize>, usize>,
+    pub(crate) numbers: PathTable,
 }
 
 fn lesser(one: Option<usize>, other: Option<usize>) -> Option<usize>
@@ -28,10 +29,11 @@ fn lesser(one: Option<usize>, other: Option<usize>) -> Option<usize>
 
 impl TargetIndex {
     fn new(alloc: Global) -> TargetIndex
-        ensures { (p : Path) → number_at result p ≡ None }
+        ensures empty { (p : Path) → number_at result p ≡ None }
+        ensures tree { IsTree result.numbers }
     {
         TargetIndex {
-            numbers: HashMap::new(alloc),
+            numbers: PathTable::new(alloc),
         }
     }
 
@@ -39,7 +41,7 @@ impl TargetIndex {
     pub fn get(&self, path: &[usize]) -> Option<usize>
         ensures { result ≡ number_at self.now path.now }
     {
-        self.numbers.get(path).copied()
+        self.numbers.get(path)
     }
 
     /// The least number at any of these paths.
@@ -68,14 +70,16 @@ impl TargetIndex {
             if let Some(first) = index.least_at(&paths) {
                 return Err(ClashError::Intersecting { first, second });
             }
-            index.insert_all(paths, second)?;
+            index.insert_all(&paths, second)?;
         }
         Ok(index)
     }
 
     /// Puts a number at each of these paths.
-    fn insert_all(&mut self, paths: Vec<Vec<usize>>, number: usize) -> Result<(), AllocError>
-        ensures { OnOk result (IsEntered self.old self.new (paths_of paths.items) number) }
+    fn insert_all(&mut self, paths: &[Vec<usize>], number: usize) -> Result<(), AllocError>
+        requires { IsTree self.old.numbers }
+        ensures entered { OnOk result (IsEntered self.old self.new (paths_of paths.now) number) }
+        ensures tree { OnOk result (IsTree self.new.numbers) }
     {
         for path in paths {
             self.numbers.insert(path, number)?;

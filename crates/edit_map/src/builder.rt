@@ -141,7 +141,7 @@ impl SyntaxMappingBuilder {
         Ok(())
     }
 
-    /// Hands the pairs to a mapping, where they stand.
+    /// Adds the pairs to a mapping, where they win over older ones.
     ///
     /// Refused for memory alone. The mapping is unchanged then, and the builder is gone.
     pub fn finish(self, alloc: Global, mapping: &mut SyntaxMapping) -> Result<(), AllocError>

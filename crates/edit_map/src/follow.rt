@@ -24,8 +24,8 @@ fn lowest_node(alloc: Global, element: &SyntaxElement) -> Result<Option<SyntaxNo
 }
 
 impl SyntaxMapping {
-    /// Where the element stands once each step is made that its copies allow. One step exchanges the nearest mapped node, of
-    /// those above the element and of a node itself, for its copy; the path below stays. A node stays a node.
+    /// What the element is followed to: as long as the element or a node above it is mapped, the nearest such node is exchanged
+    /// for its copy, and the path below it is kept. A node stays a node.
     ///
     /// Where trees of one number differ, a path may lead nowhere in a copy: there it ends.
     pub fn follow(

@@ -13,7 +13,7 @@ pub fn pairs_rise()
     ensures { (m : Mapping) → ArePairs m → IsRising m }
 {}
 
-/// Where no address has two pairs each pair stands.
+/// Where no address has two pairs, each pair counts.
 pub fn each_pair_stands()
     ensures { (m : Mapping) → AreDistinct m → All (λ pair. copy m (address pair.0) ≡ Some pair.1) m }
 {}

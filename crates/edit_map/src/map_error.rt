@@ -1,4 +1,4 @@
-use std::alloc::AllocError;
+use std::alloc::{AllocError, AllocFailed};
 use thiserror::Error;
 
 /// Why a pair is not taken up by a builder.
@@ -28,6 +28,17 @@ impl From<AllocError> for MapError {
     ghost from_gives = { λ _ e. e ≡ MapError.Memory };
 
     fn from(_: AllocError) -> MapError {
+        MapError::Memory
+    }
+}
+
+impl<T: Drop> From<AllocFailed<T>> for MapError {
+    ghost use Rattle.std.specs.Prelude.{◌≡◌};
+    ghost use Rattle.edit_map.specs.declared.map_error.MapError.{MapError};
+
+    ghost from_gives = { λ _ e. e ≡ MapError.Memory };
+
+    fn from(_: AllocFailed<T>) -> MapError {
         MapError::Memory
     }
 }

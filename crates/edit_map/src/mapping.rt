@@ -14,7 +14,7 @@ use std::marker::Model;
 /// Which node of a younger tree is the copy of which one.
 ///
 /// A copy has a greater tree number than what it is the copy of, and the same shape. Nodes are told apart by tree number and
-/// path; the pair that comes last stands, and takes the place of an older one. So no node has two copies, which each call says.
+/// path; the newest pair of a node wins, so no node has two copies.
 #[derive(Drop)]
 pub struct SyntaxMapping {
     pub(crate) copies: HashMap<SyntaxNode, SyntaxNode>,
@@ -52,7 +52,7 @@ impl SyntaxMapping {
         self.copies.len()
     }
 
-    /// Takes up the pairs of a builder, which stand where this mapping has other ones.
+    /// Adds the pairs of a builder. Where both map a node, the builder's pair wins.
     ///
     /// Refused for memory alone. The mapping is unchanged then, and the builder is gone.
     pub fn add_mapping(
@@ -67,7 +67,7 @@ impl SyntaxMapping {
         self.take_in(builder.into_pairs())
     }
 
-    /// Takes up the pairs of another mapping, which stand where this one has other ones.
+    /// Adds the pairs of another mapping. Where both map a node, `other`'s pair wins.
     ///
     /// Refused for memory alone. The mapping is unchanged then, and the other one is gone.
     pub fn merge(&mut self, alloc: Global, other: SyntaxMapping) -> Result<(), AllocError>
@@ -94,8 +94,8 @@ impl SyntaxMapping {
         Ok(clone)
     }
 
-    /// Where the copy of `target` stands in `payload`: the slots that lead there from the payload, through as many copies as it
-    /// takes.
+    /// The place of `target` in `payload`: the slots that lead from the payload to the copy of the target, through any number of
+    /// copies.
     ///
     /// The place of a node in itself is the empty path. Else the way up begins at the target: to the copy of a node where it
     /// has one, and on to the parent of that, until the payload is met. `None` where a root is met instead; so a copy that is

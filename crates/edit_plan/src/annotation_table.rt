@@ -35,7 +35,7 @@ impl AnnotationTable {
         }
     }
 
-    /// One more element for an annotation, behind those that it has.
+    /// One more element for an annotation, after those that it has.
     pub(crate) fn add(
         &mut self,
         alloc: Global,

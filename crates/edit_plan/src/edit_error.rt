@@ -1,7 +1,7 @@
 use crate::engine_error::EngineError;
 use cst_core::TreeError;
 use edit_change::ClashError;
-use std::alloc::AllocError;
+use std::alloc::{AllocError, AllocFailed};
 use thiserror::Error;
 
 /// Why a list of changes is not carried out.
@@ -31,6 +31,17 @@ impl From<AllocError> for EditError {
     ghost from_gives = { λ _ e. e ≡ EditError.Memory };
 
     fn from(_: AllocError) -> EditError {
+        EditError::Memory
+    }
+}
+
+impl<T: Drop> From<AllocFailed<T>> for EditError {
+    ghost use Rattle.std.specs.Prelude.{◌≡◌};
+    ghost use Rattle.edit_plan.specs.declared.edit_error.EditError.{EditError};
+
+    ghost from_gives = { λ _ e. e ≡ EditError.Memory };
+
+    fn from(_: AllocFailed<T>) -> EditError {
         EditError::Memory
     }
 }

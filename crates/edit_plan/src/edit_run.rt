@@ -57,7 +57,7 @@ impl<'a> EditRun<'a> {
     }
 
     /// Whether a change may be carried out next: it is not dropped, it is not done yet, and each change that must come before it is
-    /// done. Those are the changes that it owns, the inserts of its gap that stand after it there, and the inserts after a token that it
+    /// done. Those are the changes that it owns, the inserts of its gap that come after it there, and the inserts after a token that it
     /// replaces.
     pub fn ready(&self, change: usize) -> bool
         requires { change < length self.now.plan.changes }
@@ -79,14 +79,14 @@ impl<'a> EditRun<'a> {
         self.plan.carry_out(alloc, &mut self.stages, change)
     }
 
-    /// The tree as it stands now: the old tree, rewritten by the changes that are done and have no owner.
+    /// The present tree: the old tree, rewritten by the changes that are done and have no owner.
     pub fn green(&self) -> &GreenNode
         ensures { ShowsTree self.now (branch_tree result.now) }
     {
         self.stages.green()
     }
 
-    /// The payload of a change as it stands now: rewritten by the changes that are done and that this one owns. `None` where the
+    /// The present payload of a change: rewritten by the changes that are done and that this one owns. `None` where the
     /// change is dropped, or does not replace a node by a node.
     pub fn payload(&self, change: usize) -> Option<&GreenNode>
         requires { change < length self.now.plan.changes }

@@ -1,4 +1,4 @@
-use std::alloc::AllocError;
+use std::alloc::{AllocError, AllocFailed};
 use thiserror::Error;
 
 /// Why an engine does not make the new tree of a plan.
@@ -19,6 +19,17 @@ impl From<AllocError> for EngineError {
     ghost from_gives = { λ _ e. e ≡ EngineError.Memory };
 
     fn from(_: AllocError) -> EngineError {
+        EngineError::Memory
+    }
+}
+
+impl<T: Drop> From<AllocFailed<T>> for EngineError {
+    ghost use Rattle.std.specs.Prelude.{◌≡◌};
+    ghost use Rattle.edit_plan.specs.declared.engine_error.EngineError.{EngineError};
+
+    ghost from_gives = { λ _ e. e ≡ EngineError.Memory };
+
+    fn from(_: AllocFailed<T>) -> EngineError {
         EngineError::Memory
     }
 }

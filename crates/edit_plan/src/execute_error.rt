@@ -1,6 +1,6 @@
 use crate::edit_error::EditError;
 use schedule::OrderError;
-use std::alloc::AllocError;
+use std::alloc::{AllocError, AllocFailed};
 use thiserror::Error;
 
 /// Why a plan is not carried out in an order. Of several reasons the first here is given.
@@ -59,6 +59,18 @@ impl From<AllocError> for ExecuteError {
     ghost from_gives = { λ _ e. e ≡ ExecuteError.Edit EditError.Memory };
 
     fn from(_: AllocError) -> ExecuteError {
+        ExecuteError::Edit(EditError::Memory)
+    }
+}
+
+impl<T: Drop> From<AllocFailed<T>> for ExecuteError {
+    ghost use Rattle.std.specs.Prelude.{◌≡◌};
+    ghost use Rattle.edit_plan.specs.declared.edit_error.EditError.{EditError};
+    ghost use Rattle.edit_plan.specs.declared.execute_error.ExecuteError.{ExecuteError};
+
+    ghost from_gives = { λ _ e. e ≡ ExecuteError.Edit EditError.Memory };
+
+    fn from(_: AllocFailed<T>) -> ExecuteError {
         ExecuteError::Edit(EditError::Memory)
     }
 }

@@ -62,7 +62,7 @@ fn way_back(
     Ok(None)
 }
 
-/// The path of the first node of this kind, in document order, that starts so many bytes into the tree.
+/// The path of the first node of this kind, in document order, that starts at this offset in bytes.
 ///
 /// Takes time linear in the children of the nodes that have the offset in them or at one of their ends.
 pub(crate) fn first_node(

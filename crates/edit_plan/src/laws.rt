@@ -30,7 +30,7 @@ pub fn no_change_makes_no_difference()
         → flat_map (changed (is_free [])) (new_tree [] places root) ≡ [] }
 {}
 
-/// Where no change aims at or below a path, what stands there stays as it was.
+/// Where no change aims at or below a path, what is there stays as it was.
 pub fn untouched_stays()
     ensures { (from : Address) (change : Option ℕ) (given : ℕ → List OriginTree) (cs : List NumberedAim)
         (p : Path) (t : SyntaxTree) → IsUntouched cs p → plain (rewritten (origin from change) given cs p t) ≡ t }
@@ -65,7 +65,7 @@ pub fn given_is_settled()
         → Gives changes places g → (c : ℕ) → g c ≡ given changes places c }
 {}
 
-/// At one gap, what is recorded first stands first, and the elements of one change keep their order.
+/// At one gap, what is recorded first comes first, and the elements of one change keep their order.
 pub fn inserts_stand_in_order()
     ensures first_first { (label_at : Path → ℕ → Origin) (given : ℕ → List OriginTree) (cs : List NumberedAim)
         (c : NumberedAim) (p : Path) (i : ℕ) → IsTrue (aims_at_gap p i c.1) → gap label_at given (c ∷ cs) p i ≡ given c.0 ++ gap label_at given cs p i }

@@ -9,8 +9,8 @@ use std::marker::Model;
 
 /// An engine that makes the new tree in one pass over the old one, from the leaves up, and counts the nodes that it builds.
 ///
-/// Only the nodes whose children a change alters are built, and those that they are in: in the old tree, and in what a change with changes
-/// of its own brings. All else is shared. A run that has an answer raises the count by the number of these nodes; at 2^64 - 1 the count
+/// Only the parents of changes and their ancestors are built, in the old tree and in the payload of each owner. All else is
+/// shared. A run that has an answer raises the count by the number of these nodes; at 2^64 - 1 the count
 /// stays. It is exact where trees with equal numbers are equal, and else no greater. A refused run leaves the count as it was.
 #[derive(Drop)]
 pub struct OnePassEngine {

@@ -1,4 +1,4 @@
-ghost use Rattle.std.specs.Prelude.{◌≡◌, ◌<◌, [], length, slice_get, option_and_then, false, All, IfOk, IfErr};
+ghost use Rattle.std.specs.Prelude.{◌≡◌, ◌==◌, ◌<◌, [], length, slice_get, option_and_then, false, All, IfOk, IfErr};
 ghost use Rattle.std.specs.Option.{option_map_or};
 ghost use Rattle.edit_change.specs.Fits.{Fits};
 ghost use Rattle.edit_change.specs.Nesting.{is_dropped, owner};
@@ -80,6 +80,13 @@ impl EditPlan {
         ensures { result ≡ length self.now.changes }
     {
         self.changes.len()
+    }
+
+    /// Whether there are no changes.
+    pub fn is_empty(&self) -> bool
+        ensures { result ≡ (length self.now.changes == 0) }
+    {
+        self.changes.is_empty()
     }
 
     /// Whether a change lies in what another one takes away.

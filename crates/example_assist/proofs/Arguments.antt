@@ -3,8 +3,8 @@
 --     rearranges         with its items as the arguments, an editor is another one after the calls on them
 use Rattle.std.specs.Prelude.{◌≡◌, ◌≤◌, ◌<◌, List, [], ◌∷◌, length, slice_index_or}
 use Rattle.std.proofs.Common.{arith}
-use Rattle.cst_core.specs.Element.{Element}
-use Rattle.cst_core.specs.SyntaxElement.{child_nodes}
+use Rattle.syntax_editor.specs.Element.{Element}
+use Rattle.syntax_editor.specs.SyntaxElement.{child_nodes}
 use Rattle.syntax_editor.specs.Editor.{Editor}
 use Rattle.example_assist.specs.Rearranged.{calls, after_calls, Rearranges}
 

@@ -5,11 +5,11 @@
 --     IsRearranged         an edit is what an editor with these calls makes under this tree number
 use Rattle.std.specs.Prelude.{◌≡◌, ℕ, List, [], ◌∷◌}
 use Rattle.std.specs.List.{fold}
-use Rattle.cst_core.specs.Element.{Element}
-use Rattle.cst_core.specs.Kinds.{COMMA}
-use Rattle.cst_core.specs.SyntaxElement.{child_nodes}
-use Rattle.cst_core.specs.declared.element.SyntaxElement.TheVariants.{Node}
-use Rattle.edit_plan.specs.Plan.{Edit, Makes}
+use Rattle.syntax_editor.specs.Element.{Element}
+use Rattle.syntax_editor.specs.Kinds.{COMMA}
+use Rattle.syntax_editor.specs.SyntaxElement.{child_nodes}
+use Rattle.syntax_editor.specs.ElementForms.TheVariants.{Node}
+use Rattle.syntax_editor.specs.Plan.{Edit, Makes}
 use Rattle.list_removal.specs.Removal.{removal}
 use Rattle.syntax_editor.specs.Editor.{Editor, after_call, plan_of}
 use Rattle.syntax_editor.specs.RecordCall.{RecordCall, Replacing}

@@ -2,8 +2,8 @@
 #![tactic(auto)]
 
 ghost use Rattle.std.specs.Prelude.{◌≡◌, ◌+◌, cond, IfOk, OnOk};
-ghost use Rattle.cst_core.specs.Kinds.{COMMA};
-ghost use Rattle.cst_core.specs.declared.element.SyntaxElement.TheVariants.{Node};
+ghost use Rattle.syntax_editor.specs.Kinds.{COMMA};
+ghost use Rattle.syntax_editor.specs.ElementForms.TheVariants.{Node};
 ghost use Rattle.list_removal.specs.Removal.{removal};
 ghost use Rattle.syntax_editor.specs.Editor.{Records, new_editor, has_parent};
 ghost use Rattle.example_assist.specs.Rearranged.{calls, after_calls, Rearranges, IsRearranged};

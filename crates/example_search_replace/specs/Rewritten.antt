@@ -10,14 +10,14 @@
 use Rattle.std.specs.Prelude.{◌≡◌, ℕ, ◌+◌, Bool, ◌&&◌, ◌==◌, cond, List, [], ◌∷◌}
 use Rattle.std.specs.List.{fold}
 use Rattle.std.specs.Cmp.Lexicographic.{pointwise}
-use Rattle.cst_core.specs.Kinds.{BLOCK_EXPR, TUPLE_EXPR, L_PAREN, R_PAREN}
-use Rattle.cst_core.specs.Tree.{SyntaxTree, end, more, label, text}
-use Rattle.cst_core.specs.Tree as tree
-use Rattle.cst_core.specs.Element.{Element, subtree}
-use Rattle.cst_core.specs.SyntaxElement.{descendants_of}
-use Rattle.cst_core.specs.declared.element.SyntaxElement.TheVariants.{Node}
-use Rattle.edit_change.specs.declared.change.Change.{Change}
-use Rattle.edit_plan.specs.Plan.{Plan, Edit, Makes}
+use Rattle.syntax_editor.specs.Kinds.{BLOCK_EXPR, TUPLE_EXPR, L_PAREN, R_PAREN}
+use Rattle.syntax_editor.specs.Tree.{SyntaxTree, end, more, label, text}
+use Rattle.syntax_editor.specs.Tree as tree
+use Rattle.syntax_editor.specs.Element.{Element, subtree}
+use Rattle.syntax_editor.specs.SyntaxElement.{descendants_of}
+use Rattle.syntax_editor.specs.ElementForms.TheVariants.{Node}
+use Rattle.syntax_editor.specs.ChangeForms.{Change}
+use Rattle.syntax_editor.specs.Plan.{Plan, Edit, Makes}
 use Rattle.syntax_editor.specs.Editor.{Editor, has_parent, edited_root}
 use Rattle.syntax_editor.specs.RecordCall.{Replacing, recorded}
 

@@ -75,10 +75,7 @@ fn map_to_copy(
     let copy = copies.first().context("the wrapper has one child node")?;
     let mut builder = SyntaxMappingBuilder::new(alloc, wrapper.try_clone(alloc)?);
     builder.map_node(alloc, node.try_clone(alloc)?, copy.try_clone(alloc)?)?;
-    if let Some(mappings) = editor.make_mut().mappings() {
-        mappings.add_mapping(alloc, builder)?;
-    }
-    Ok(())
+    Ok(editor.add_mapping(alloc, builder)?)
 }
 
 fn wrap_block(

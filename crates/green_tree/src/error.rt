@@ -1,4 +1,4 @@
-use std::alloc::AllocError;
+use std::alloc::{AllocError, AllocFailed};
 use thiserror::Error;
 
 /// Why a tree cannot be made.
@@ -22,6 +22,17 @@ impl From<AllocError> for TreeError {
     ghost from_gives = { λ _ e. e ≡ TreeError.Memory };
 
     fn from(_: AllocError) -> TreeError {
+        TreeError::Memory
+    }
+}
+
+impl<T: Drop> From<AllocFailed<T>> for TreeError {
+    ghost use Rattle.std.specs.Prelude.{◌≡◌};
+    ghost use Rattle.green_tree.specs.declared.error.TreeError.{TreeError};
+
+    ghost from_gives = { λ _ e. e ≡ TreeError.Memory };
+
+    fn from(_: AllocFailed<T>) -> TreeError {
         TreeError::Memory
     }
 }

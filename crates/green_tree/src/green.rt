@@ -144,6 +144,30 @@ impl<'a> GreenElementRef<'a> {
     }
 }
 
+impl From<GreenNode> for GreenElement {
+    ghost use Rattle.std.specs.Prelude.{◌≡◌};
+    ghost use Rattle.green_tree.specs.GreenElement.{element_tree};
+    ghost use Rattle.green_tree.specs.Green.{branch_tree};
+
+    ghost from_gives = { λ n e. element_tree e ≡ branch_tree n };
+
+    fn from(node: GreenNode) -> GreenElement {
+        GreenElement::Node(node)
+    }
+}
+
+impl From<GreenToken> for GreenElement {
+    ghost use Rattle.std.specs.Prelude.{◌≡◌};
+    ghost use Rattle.green_tree.specs.GreenElement.{element_tree};
+    ghost use Rattle.green_tree.specs.Green.{leaf_tree};
+
+    ghost from_gives = { λ t e. element_tree e ≡ leaf_tree t };
+
+    fn from(token: GreenToken) -> GreenElement {
+        GreenElement::Token(token)
+    }
+}
+
 impl GreenElement {
     /// The element itself, borrowed.
     pub fn as_ref(&self) -> GreenElementRef<'_>

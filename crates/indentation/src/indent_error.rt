@@ -3,7 +3,7 @@ ghost use Rattle.indentation.specs.IndentRefusal.{of_pairs};
 
 use cst_core::TreeError;
 use edit_map::MapError;
-use std::alloc::AllocError;
+use std::alloc::{AllocError, AllocFailed};
 use thiserror::Error;
 
 /// Why a level is not read, or a tree is not indented.
@@ -33,6 +33,17 @@ impl From<AllocError> for IndentError {
     ghost from_gives = { λ _ e. e ≡ IndentError.Memory };
 
     fn from(_: AllocError) -> IndentError {
+        IndentError::Memory
+    }
+}
+
+impl<T: Drop> From<AllocFailed<T>> for IndentError {
+    ghost use Rattle.std.specs.Prelude.{◌≡◌};
+    ghost use Rattle.indentation.specs.declared.indent_error.IndentError.{IndentError};
+
+    ghost from_gives = { λ _ e. e ≡ IndentError.Memory };
+
+    fn from(_: AllocFailed<T>) -> IndentError {
         IndentError::Memory
     }
 }

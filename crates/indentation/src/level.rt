@@ -17,7 +17,7 @@ use std::ops::{Add, AddAssign};
 const SPACES: &str =
     "                                                                                                                                                                                                                                                                                                                                                                                                                                                                                                                                                                                                                                                                                                                                                                                                                                                                                                                                                                                                                                                            ";
 
-/// A level of indentation: so many times four spaces.
+/// A level of indentation, in units of four spaces.
 #[derive(Debug, Clone, Copy, PartialEq, Eq)]
 pub struct IndentLevel(pub u8);
 
@@ -116,7 +116,7 @@ impl IndentLevel {
     }
 
     /// The level of a token: of the nearest whitespace token that holds a newline, at it or before it, each four characters
-    /// behind the last newline; 0 where there is no such token. It looks no further than that token.
+    /// after the last newline; 0 if there is no such token. It looks no further than that token.
     ///
     /// `LevelTooLarge` comes exactly where the level passes 255; else only `Memory` comes.
     pub fn from_token(alloc: Global, token: &SyntaxToken) -> Result<IndentLevel, IndentError>

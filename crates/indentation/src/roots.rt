@@ -31,8 +31,8 @@ fn shifted_root(
     }
 }
 
-/// The node indented by a level, as the root of a tree of its own under the next number of `ids`: spaces stand behind the
-/// text of each whitespace token that holds a newline. What holds no such token is shared.
+/// The node indented by a level, as the root of a tree of its own under the next number of `ids`: spaces are added to the
+/// end of each whitespace token that holds a newline. Parts without such a token are shared.
 ///
 /// `TooLong` comes first, where the new text passes 4,294,967,295 bytes, then `NoTreeNumber`; `Memory` may come at any time.
 /// None of them draws a number.
@@ -51,8 +51,8 @@ pub fn indent(
     shifted_root(alloc, Shift::Indent(level), node, ids)
 }
 
-/// The node dedented by a level, as the root of a tree of its own under the next number of `ids`: the level's spaces are taken
-/// away behind each newline in whitespace that so many spaces follow. What holds no such token is shared.
+/// The node dedented by a level, as the root of a tree of its own under the next number of `ids`: the level's spaces are removed
+/// after each newline in whitespace that is followed by at least as many. Parts without such a token are shared.
 ///
 /// `TooLong` comes first, where the new text passes 4,294,967,295 bytes, then `NoTreeNumber`; `Memory` may come at any time.
 /// None of them draws a number.

@@ -7,13 +7,13 @@ pub enum OrderError {
     /// A change that is not dropped is missing or there twice, or there is another number.
     #[error("NotEachOnce")]
     NotEachOnce,
-    /// A change stands behind its owner.
+    /// A change comes after its owner.
     #[error("OwnerTooEarly")]
     OwnerTooEarly,
-    /// Two inserts of one gap stand the wrong way round.
+    /// Two inserts of one gap come in the wrong order.
     #[error("GapOutOfOrder")]
     GapOutOfOrder,
-    /// A token is replaced before an insert that stands behind it.
+    /// A token is replaced before an insert after it.
     #[error("TokenTooEarly")]
     TokenTooEarly,
     /// Memory was refused.

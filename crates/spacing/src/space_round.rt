@@ -90,7 +90,7 @@ fn spaces_round(
     Ok((front, end))
 }
 
-/// New elements, in their order, between the whitespace that goes before and behind them at a position, each as a token in a tree of
+/// New elements, in their order, between the whitespace that goes before and after them at a position, each as a token in a tree of
 /// its own under the next number of `ids`. Nothing goes round no elements.
 ///
 /// `LevelTooLarge` comes first, where a new line would have a level past 255, then `NoTreeNumber`; `Memory` may come at any time. None

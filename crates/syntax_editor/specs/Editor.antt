@@ -7,15 +7,17 @@
 --     LacksRootNumber               such a tree is to be made, and its source of numbers is spent
 --     after_call, Records           what a call that records leaves behind; it was carried out
 --     Takes, RecordRefuses          nothing speaks against a call; why it is refused
+--     MemoryLast                    where all that a call is given is owned, memory runs out only after each reason was looked for
+--     HasPairs, Maps                a factory with these pairs, whose copies win over those that it had; an editor whose factory took them up
 --     with_registrations, registrations_of         an editor with more registrations, behind those before; each of so many elements with an annotation
 --     registered_with, Registers    an editor in which these elements are registered with an annotation, too; a call makes one of it
 --     plan_of, FinishRefuses        the plan of an editor; why its changes are not carried out
-use Rattle.std.specs.Prelude.{◌≡◌, ℕ, Bool, true, false, cond, List, [], ◌++◌, map, Option, None, Some, unwrap_or, All, IsTrue, refl}
+use Rattle.std.specs.Prelude.{◌≡◌, ℕ, Bool, true, false, cond, List, [], ◌++◌, map, Option, None, Some, unwrap_or, Result, Err, All, IsTrue, refl}
 use Rattle.std.specs.Coded.{Coded, code_by, coded_ℕ, coded_list, coded_option, coded×}
 use Rattle.cst_core.specs.Element.{Element, subtree, element_code}
 use Rattle.cst_core.specs.Path.{same_path}
 use Rattle.cst_core.specs.TreeIds.{IsSpent}
-use Rattle.edit_map.specs.Builder.{mapping_code}
+use Rattle.edit_map.specs.Builder.{mapping_code, IsMadeOf}
 use Rattle.edit_map.specs.Mapping.{Mapping}
 use Rattle.edit_change.specs.declared.change.Change.{Change}
 use Rattle.edit_plan.specs.declared.edit_error.EditError.{EditError}
@@ -82,6 +84,21 @@ RecordRefuses call e record_error.RootReplacement = refusal e.root call ≡ Some
 RecordRefuses call e record_error.LevelTooLarge = ⊥
 RecordRefuses call e record_error.NoTreeNumber = ⊥
 RecordRefuses call e record_error.Memory = Unit {0}
+
+-- a call that is handed all by value looks for the reasons first
+abbrev pub MemoryLast : Bool → RecordCall → Editor → Result (Unit {0}) RecordError → Type 0
+MemoryLast owned call e r = IsTrue owned → r ≡ Err record_error.Memory → Takes e call
+
+-- ---- mapping
+-- a factory that kept no mappings has some then
+pub record HasPairs (pairs : Mapping) (before after : Option Mapping) : Type 0 where
+  pub mapping : Mapping
+  pub factory : after ≡ Some mapping
+  pub copies : IsMadeOf (pairs ++ unwrap_or before []) mapping
+
+pub record Maps (pairs : Mapping) (before after : Editor) : Type 0 where
+  pub others : after ≡ record before { factory = after.factory }
+  pub factory : HasPairs pairs before.factory after.factory
 
 -- ---- registering
 abbrev pub with_registrations : List (SyntaxElement × ℕ) → Editor → Editor

@@ -9,7 +9,7 @@ use edit_plan::{Element, SyntaxAnnotation};
 use std::alloc::Global;
 
 impl SyntaxEditor {
-    /// Registers an element with an annotation, behind what was registered before. The element may be of any tree, and may have
+    /// Registers an element with an annotation, after what was registered before. The element may be of any tree, and may have
     /// been registered before.
     ///
     /// Refused for `Memory` alone. The editor is unchanged then.

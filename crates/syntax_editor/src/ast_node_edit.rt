@@ -26,7 +26,7 @@ pub trait AstNodeEdit: AstNode {
         IndentLevel::from_node(alloc, self.syntax())
     }
 
-    /// The node indented by a level: spaces stand behind the text of each whitespace token that holds a newline.
+    /// The node indented by a level: spaces are added to the end of each whitespace token that holds a newline.
     ///
     /// `TooLong` comes first, where the new text passes 4,294,967,295 bytes, then `NoTreeNumber`; `Memory` may come at any time.
     fn indent(
@@ -44,7 +44,7 @@ pub trait AstNodeEdit: AstNode {
         Ok(view_of(indent(alloc, self.syntax(), ids, level)?))
     }
 
-    /// The node dedented by a level: its spaces are taken away behind each newline in whitespace that so many spaces follow.
+    /// The node dedented by a level: its spaces are removed after each newline in whitespace that is followed by at least as many.
     ///
     /// Refused as `indent` is.
     fn dedent(

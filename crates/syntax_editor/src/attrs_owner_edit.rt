@@ -13,10 +13,10 @@ use cst_core::{GreenNode, HasAttrs, SyntaxElement, SyntaxKind, SyntaxNode};
 use edit_plan::is_native;
 use std::alloc::{AllocError, Global};
 
-/// Edits of nodes that attributes may stand at.
+/// Edits of nodes that can have attributes.
 pub trait AttrsOwnerEdit: HasAttrs {
-    /// Deletes the attributes and comments among the node's children, and each child of the kind WHITESPACE that stands directly
-    /// behind one of them, as `SyntaxEditor::delete` deletes one element, in order.
+    /// Deletes the attributes and comments among the node's children, and each child of the kind WHITESPACE directly
+    /// after one of them, as `SyntaxEditor::delete` deletes one element, in order.
     ///
     /// `Foreign` comes where the node or one of these children is of another tree, also where there is nothing to delete. `Memory`
     /// may come before it. The editor is unchanged after each.

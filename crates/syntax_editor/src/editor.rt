@@ -4,18 +4,19 @@ ghost use Rattle.cst_core.specs.Tree.{text_length};
 ghost use Rattle.edit_plan.specs.Plan.{Makes, IsPlan, BuildRefuses};
 ghost use Rattle.std.specs.Borrow.{sem};
 ghost use Rattle.syntax_editor.specs.Lending.{LendsFactory};
-ghost use Rattle.syntax_editor.specs.Editor.{has_parent, edited_root, new_editor, plan_of, FinishRefuses, LacksRootNumber};
+ghost use Rattle.syntax_editor.specs.Editor.{has_parent, edited_root, new_editor, plan_of, Maps, FinishRefuses, LacksRootNumber};
 
 use crate::factory::SyntaxFactory;
 use change_list::ChangeList;
 use cst_core::{SyntaxElement, SyntaxNode, TreeError, TreeIds};
+use edit_map::SyntaxMappingBuilder;
 use edit_plan::{Change, EditError, EditPlan, OnePassEngine, SyntaxAnnotation, SyntaxEdit};
-use std::alloc::Global;
+use std::alloc::{AllocError, Global};
 use std::marker::Model;
 
 /// Records changes in terms of a tree that does not change, and carries them out at once.
 ///
-/// The list of changes stands as the calls leave it: see the section 'Recording' of docs/DEFINITIONS.md. Payloads may be of
+/// Which list of changes each call leaves: see the section 'Recording' of docs/DEFINITIONS.md. Payloads may be of
 /// any tree; what is changed is of the editor's.
 #[derive(Drop)]
 pub struct SyntaxEditor {
@@ -94,6 +95,21 @@ impl SyntaxEditor {
         ensures value { result.now ≡ self.old.factory }
     {
         &mut self.factory
+    }
+
+    /// Adds the pairs of a builder to the mappings of the editor. Where both map a node, the builder's pair wins. A factory without
+    /// mappings has some then.
+    ///
+    /// Refused for memory alone. The editor is unchanged then, and the builder is gone.
+    pub fn add_mapping(
+        &mut self,
+        alloc: Global,
+        builder: SyntaxMappingBuilder,
+    ) -> Result<(), AllocError>
+        ensures mapped { OnOk result (Maps builder.pairs self.old self.new) }
+        ensures unchanged { OnErr result (self.new ≡ self.old) }
+    {
+        self.factory.add_mapping(alloc, builder)
     }
 
     /// The changes recorded so far, in order.

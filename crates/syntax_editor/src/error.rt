@@ -2,7 +2,7 @@ ghost use Rattle.std.specs.Prelude.{◌≡◌};
 ghost use Rattle.syntax_editor.specs.RecordRefusal.{of_space};
 
 use spacing::SpaceError;
-use std::alloc::AllocError;
+use std::alloc::{AllocError, AllocFailed};
 use thiserror::Error;
 
 /// Why a change is not recorded.
@@ -11,7 +11,7 @@ pub enum RecordError {
     /// A position, a target or an end is of another tree, or leads to no element of its form in the editor's.
     #[error("Foreign")]
     Foreign,
-    /// The ends of a range are not siblings, or the last stands before the first.
+    /// The ends of a range are not siblings, or the last comes before the first.
     #[error("BadRange")]
     BadRange,
     /// The root cannot be deleted.
@@ -42,6 +42,17 @@ impl From<AllocError> for RecordError {
     }
 }
 
+impl<T: Drop> From<AllocFailed<T>> for RecordError {
+    ghost use Rattle.std.specs.Prelude.{◌≡◌};
+    ghost use Rattle.syntax_editor.specs.declared.error.RecordError.{RecordError};
+
+    ghost from_gives = { λ _ e. e ≡ RecordError.Memory };
+
+    fn from(_: AllocFailed<T>) -> RecordError {
+        RecordError::Memory
+    }
+}
+
 impl RecordError {
     /// Why nothing is recorded where new elements got no whitespace round them.
     pub(crate) fn of_space(error: SpaceError) -> RecordError
@@ -64,4 +75,26 @@ pub enum MergeError {
     /// Memory was refused.
     #[error("Memory")]
     Memory,
+}
+
+impl From<AllocError> for MergeError {
+    ghost use Rattle.std.specs.Prelude.{◌≡◌};
+    ghost use Rattle.syntax_editor.specs.declared.error.MergeError.{MergeError};
+
+    ghost from_gives = { λ _ e. e ≡ MergeError.Memory };
+
+    fn from(_: AllocError) -> MergeError {
+        MergeError::Memory
+    }
+}
+
+impl<T: Drop> From<AllocFailed<T>> for MergeError {
+    ghost use Rattle.std.specs.Prelude.{◌≡◌};
+    ghost use Rattle.syntax_editor.specs.declared.error.MergeError.{MergeError};
+
+    ghost from_gives = { λ _ e. e ≡ MergeError.Memory };
+
+    fn from(_: AllocFailed<T>) -> MergeError {
+        MergeError::Memory
+    }
 }

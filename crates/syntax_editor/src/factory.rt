@@ -8,10 +8,11 @@ ghost use Rattle.indentation.specs.MappedAlong.{is_too_old, MapsAlong, AlongRefu
 ghost use Rattle.cst_core.specs.Green.{length_limit};
 ghost use Rattle.cst_core.specs.declared.element.SyntaxElement.TheVariants.{Token};
 ghost use Rattle.spacing.specs.Spacing.{whitespace, LacksTokenNumber};
+ghost use Rattle.syntax_editor.specs.Editor.{HasPairs};
 ghost use Rattle.syntax_editor.specs.Lending.{LendsMappings};
 
 use cst_core::{SyntaxNode, SyntaxToken, TreeError, TreeIds};
-use edit_map::SyntaxMapping;
+use edit_map::{SyntaxMapping, SyntaxMappingBuilder};
 use indentation::{IndentError, map_children};
 use spacing::whitespace;
 use std::alloc::{AllocError, Global};
@@ -58,6 +59,26 @@ impl SyntaxFactory {
         ensures value { option_map (λ m. m.now) result ≡ self.old }
     {
         self.mappings.as_mut()
+    }
+
+    /// Takes up the pairs of a builder, whose copies win over those that are there. After it the factory keeps mappings.
+    pub(crate) fn add_mapping(
+        &mut self,
+        alloc: Global,
+        builder: SyntaxMappingBuilder,
+    ) -> Result<(), AllocError>
+        ensures ok { OnOk result (HasPairs builder.pairs self.old self.new) }
+        ensures err { OnErr result (self.new ≡ self.old) }
+    {
+        match &mut self.mappings {
+            Some(mapping) => mapping.add_mapping(alloc, builder),
+            None => {
+                let mut mapping = SyntaxMapping::new(alloc);
+                mapping.add_mapping(alloc, builder)?;
+                self.mappings = Some(mapping);
+                Ok(())
+            }
+        }
     }
 
     /// A factory with these mappings.

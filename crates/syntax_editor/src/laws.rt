@@ -33,8 +33,8 @@ pub fn recorded_changes_fit()
         → refusal root call ≡ None → All (Fits root) changes → All (Fits root) (recorded call changes) }
 {}
 
-/// A merge puts the other's changes after the own ones, and none takes another one up. It does the same with
-/// registrations. Of an element that both map, the other's copy stands.
+/// A merge appends the other's changes, and none updates another one. It does the same with
+/// registrations. Where both map an element, the other's copy wins.
 pub fn merge_keeps_both()
     ensures own_first { (own other new : Editor) (i : ℕ)
         → IsMerged own other new → i < length own.changes → slice_get new.changes i ≡ slice_get own.changes i }

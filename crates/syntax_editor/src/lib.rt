@@ -2,6 +2,7 @@
 #![tactic(auto)]
 
 mod annotate;
+mod any_error;
 mod ast_node_edit;
 mod attrs_owner_edit;
 mod editor;
@@ -13,6 +14,7 @@ mod record;
 mod spaced_insert;
 mod typed_editor;
 
+pub use any_error::Error;
 pub use ast_node_edit::AstNodeEdit;
 pub use attrs_owner_edit::AttrsOwnerEdit;
 pub use edit_map::{MapError, SyntaxMapping, SyntaxMappingBuilder};

@@ -13,8 +13,8 @@ use edit_plan::Change;
 use std::alloc::{AllocError, Global};
 
 impl SyntaxEditor {
-    /// Puts the changes and the registrations of another editor of the same root behind the own ones. No change takes another one
-    /// up. The copies of both stand, and of a node that both map the other's; after it the factory has mappings.
+    /// Appends the changes and the registrations of another editor of the same root. No change updates another one. Both mappings
+    /// are kept; where both map a node, `other`'s copy wins. After it the factory has mappings.
     ///
     /// `OtherRoot` comes first, then `Memory`. Each hands the other editor back, and leaves both as they were. Takes time near linear
     /// in the changes, registrations and mappings of both.

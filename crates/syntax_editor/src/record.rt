@@ -1,11 +1,11 @@
 //! The calls that record a change.
-ghost use Rattle.std.specs.Prelude.{◌≡◌, false, ◌&&◌, ◌||◌, not, [], ◌∷◌, ◌++◌, IfOk, IfErr, OnOk, OnErr};
+ghost use Rattle.std.specs.Prelude.{◌≡◌, false, ◌&&◌, ◌||◌, not, [], ◌∷◌, ◌++◌, true, IfOk, IfErr, OnOk, OnErr};
 ghost use Rattle.cst_core.specs.Element.{Element};
 ghost use Rattle.edit_plan.specs.Fits.{Fits, is_native, is_root, is_one_node};
 ghost use Rattle.change_list.specs.Recording.{is_deleted};
 ghost use Rattle.change_list.specs.ByPath.{is_replace};
 ghost use Rattle.syntax_editor.specs.RecordCall.{Inserting, InsertingAll, Deleting, Replacing, ReplacingWithMany, DeletingAll, ReplacingAll};
-ghost use Rattle.syntax_editor.specs.Editor.{Records, Takes, RecordRefuses};
+ghost use Rattle.syntax_editor.specs.Editor.{Records, Takes, RecordRefuses, MemoryLast};
 
 use crate::editor::SyntaxEditor;
 use crate::error::RecordError;
@@ -48,7 +48,7 @@ impl SyntaxEditor {
         ensures recorded { OnOk result (Records (InsertingAll at elements.items) self.old self.new) }
         ensures accepted { OnOk result (Takes self.old (InsertingAll at elements.items)) }
         ensures refused { IfErr result (RecordRefuses (InsertingAll at elements.items) self.old) }
-        ensures memory_last { result ≡ Err RecordError.Memory → Takes self.old (InsertingAll at elements.items) }
+        ensures memory_last { MemoryLast true (InsertingAll at elements.items) self.old result }
         ensures unchanged { OnErr result (self.new ≡ self.old) }
     {
         if !at.is_native(&self.root) {
@@ -70,39 +70,29 @@ impl SyntaxEditor {
         self.delete_element(alloc, element)
     }
 
-    /// Deletes the siblings from `first` to `last`. Where they are one element, that one is deleted.
+    /// Deletes the siblings from `first` to `last`. If they are one element, that one is deleted.
     ///
-    /// `Foreign` comes first, then `BadRange`, then `DeletesRoot`, then `Memory`. The editor is unchanged after each.
-    pub fn delete_all(
+    /// `Foreign` comes first, then `BadRange`, then `DeletesRoot`, then `Memory`, which may come before them where an end is a
+    /// reference. The editor is unchanged after each.
+    pub fn delete_all<E: Element>(
         &mut self,
         alloc: Global,
-        first: SyntaxElement,
-        last: SyntaxElement,
+        first: E,
+        last: E,
     ) -> Result<(), RecordError>
-        ensures recorded { OnOk result (Records (DeletingAll first last) self.old self.new) }
-        ensures accepted { OnOk result (Takes self.old (DeletingAll first last)) }
-        ensures refused { IfErr result (RecordRefuses (DeletingAll first last) self.old) }
-        ensures memory_last { result ≡ Err RecordError.Memory → Takes self.old (DeletingAll first last) }
+        ensures recorded { OnOk result (Records (DeletingAll (E.element first) (E.element last)) self.old self.new) }
+        ensures accepted { OnOk result (Takes self.old (DeletingAll (E.element first) (E.element last))) }
+        ensures refused { IfErr result (RecordRefuses (DeletingAll (E.element first) (E.element last)) self.old) }
+        ensures memory_last { MemoryLast E.is_owned (DeletingAll (E.element first) (E.element last)) self.old result }
         ensures unchanged { OnErr result (self.new ≡ self.old) }
     {
-        if is_foreign_range(&self.root, &first, &last) {
-            return Err(RecordError::Foreign);
-        }
-        if !is_range(&first, &last) {
-            return Err(RecordError::BadRange);
-        }
-        if is_root(&first) {
-            return Err(RecordError::DeletesRoot);
-        }
-        if first == last {
-            return Ok(self.changes.delete(alloc, first)?);
-        }
-        let nothing = Vec::new(alloc);
-        Ok(self.record(Change::ReplaceAll(first, last, nothing.into()))?)
+        let first = first.syntax_element(alloc)?;
+        let last = last.syntax_element(alloc)?;
+        self.delete_range(alloc, first, last)
     }
 
-    /// Replaces an element by another one. The first replacement of the same element takes it up; where that is a deletion
-    /// it stays one.
+    /// Replaces an element by another one. If the element already has a Replace, that change is updated; a deletion stays a
+    /// deletion.
     ///
     /// `Foreign` comes first, then `RootReplacement` (a root replaced by a token). `Memory` may come before them. The
     /// editor is unchanged after each.
@@ -122,7 +112,7 @@ impl SyntaxEditor {
         self.replace_element(alloc, element, new)
     }
 
-    /// Replaces an element by others, in their order. No other replacement takes it up.
+    /// Replaces an element by others, in their order. It is always a change of its own.
     ///
     /// `Foreign` comes first, then `RootReplacement` (a root replaced by other than one node). `Memory` may come before
     /// them. The editor is unchanged after each.
@@ -147,36 +137,30 @@ impl SyntaxEditor {
         Ok(self.record(Change::ReplaceWithMany(element, new.into()))?)
     }
 
-    /// Replaces the siblings from `first` to `last` by others, in their order. Where they are one element, that one is
-    /// replaced as by `replace_with_many`.
+    /// Replaces the siblings from `first` to `last` by others, in their order. If they are one element, that one is replaced as by
+    /// `replace_with_many`.
     ///
-    /// `Foreign` comes first, then `BadRange`, then `RootReplacement`, then `Memory`. The editor is unchanged after each.
-    pub fn replace_all(
+    /// `Foreign` comes first, then `BadRange`, then `RootReplacement`, then `Memory`, which may come before them where an end is a
+    /// reference. The editor is unchanged after each.
+    pub fn replace_all<E: Element>(
         &mut self,
-        _alloc: Global,
-        first: SyntaxElement,
-        last: SyntaxElement,
+        alloc: Global,
+        first: E,
+        last: E,
         new: Vec<SyntaxElement>,
     ) -> Result<(), RecordError>
-        ensures recorded { OnOk result (Records (ReplacingAll first last new.items) self.old self.new) }
-        ensures accepted { OnOk result (Takes self.old (ReplacingAll first last new.items)) }
-        ensures refused { IfErr result (RecordRefuses (ReplacingAll first last new.items) self.old) }
-        ensures memory_last { result ≡ Err RecordError.Memory → Takes self.old (ReplacingAll first last new.items) }
+        ensures recorded { OnOk result (Records
+            (ReplacingAll (E.element first) (E.element last) new.items) self.old self.new) }
+        ensures accepted { OnOk result (Takes self.old (ReplacingAll (E.element first) (E.element last) new.items)) }
+        ensures refused { IfErr result (RecordRefuses
+            (ReplacingAll (E.element first) (E.element last) new.items) self.old) }
+        ensures memory_last { MemoryLast E.is_owned
+            (ReplacingAll (E.element first) (E.element last) new.items) self.old result }
         ensures unchanged { OnErr result (self.new ≡ self.old) }
     {
-        if is_foreign_range(&self.root, &first, &last) {
-            return Err(RecordError::Foreign);
-        }
-        if !is_range(&first, &last) {
-            return Err(RecordError::BadRange);
-        }
-        if is_misplaced(&first, &new) {
-            return Err(RecordError::RootReplacement);
-        }
-        if first == last {
-            return Ok(self.record(Change::ReplaceWithMany(first, new.into()))?);
-        }
-        Ok(self.record(Change::ReplaceAll(first, last, new.into()))?)
+        let first = first.syntax_element(alloc)?;
+        let last = last.syntax_element(alloc)?;
+        self.replace_range(first, last, new)
     }
 
     /// Whether an element is deleted by a call that named it alone. A range that it lies in does not count.
@@ -239,6 +223,61 @@ impl SyntaxEditor {
             return Err(RecordError::RootReplacement);
         }
         Ok(self.changes.replace(alloc, element, new)?)
+    }
+
+    fn delete_range(
+        &mut self,
+        alloc: Global,
+        first: SyntaxElement,
+        last: SyntaxElement,
+    ) -> Result<(), RecordError>
+        ensures recorded { OnOk result (Records (DeletingAll first last) self.old self.new) }
+        ensures accepted { OnOk result (Takes self.old (DeletingAll first last)) }
+        ensures refused { IfErr result (RecordRefuses (DeletingAll first last) self.old) }
+        ensures memory_last { MemoryLast true (DeletingAll first last) self.old result }
+        ensures unchanged { OnErr result (self.new ≡ self.old) }
+    {
+        if is_foreign_range(&self.root, &first, &last) {
+            return Err(RecordError::Foreign);
+        }
+        if !is_range(&first, &last) {
+            return Err(RecordError::BadRange);
+        }
+        if is_root(&first) {
+            return Err(RecordError::DeletesRoot);
+        }
+        if first == last {
+            return Ok(self.changes.delete(alloc, first)?);
+        }
+        let nothing = Vec::new(alloc);
+        Ok(self.record(Change::ReplaceAll(first, last, nothing.into()))?)
+    }
+
+    fn replace_range(
+        &mut self,
+        first: SyntaxElement,
+        last: SyntaxElement,
+        new: Vec<SyntaxElement>,
+    ) -> Result<(), RecordError>
+        ensures recorded { OnOk result (Records (ReplacingAll first last new.items) self.old self.new) }
+        ensures accepted { OnOk result (Takes self.old (ReplacingAll first last new.items)) }
+        ensures refused { IfErr result (RecordRefuses (ReplacingAll first last new.items) self.old) }
+        ensures memory_last { MemoryLast true (ReplacingAll first last new.items) self.old result }
+        ensures unchanged { OnErr result (self.new ≡ self.old) }
+    {
+        if is_foreign_range(&self.root, &first, &last) {
+            return Err(RecordError::Foreign);
+        }
+        if !is_range(&first, &last) {
+            return Err(RecordError::BadRange);
+        }
+        if is_misplaced(&first, &new) {
+            return Err(RecordError::RootReplacement);
+        }
+        if first == last {
+            return Ok(self.record(Change::ReplaceWithMany(first, new.into()))?);
+        }
+        Ok(self.record(Change::ReplaceAll(first, last, new.into()))?)
     }
 }
 

@@ -12,7 +12,7 @@ use spacing::elements_with_spaces;
 use std::alloc::Global;
 
 impl SyntaxEditor {
-    /// Inserts elements at a position, in their order, with whitespace before and behind them as the kinds and levels of their
+    /// Inserts elements at a position, in their order, with whitespace before and after them as the kinds and levels of their
     /// neighbors ask for it: see the section 'The whitespace between two neighbors' of docs/DEFINITIONS.md. It is recorded as
     /// one insert. No elements are an insert too, without whitespace.
     ///

@@ -1,6 +1,7 @@
 //! Equality, hash and form of element values, and the shape of nodes.
 
 use crate::memory::{hash_of, told};
+use crate::shown::agreed;
 use cst_core::{SyntaxElement, SyntaxNode, same_shape};
 use std::alloc::Global;
 use std::hash::Hash;
@@ -87,7 +88,21 @@ fn form(alloc: Global, trees: &Trees, place: &str) -> Result<String, NoAnswer> {
     let element = trees.element(alloc, place)?;
     let is_node = is_node(alloc, &element)?;
     let is_token = is_token(alloc, &element)?;
-    word(alloc, form_name(is_node, is_token))
+    let own = word(alloc, form_name(is_node, is_token))?;
+    agreed(alloc, own, word(alloc, lent_form(&element))?)
+}
+
+// By the node or token that is lent.
+fn lent_form(element: &SyntaxElement) -> &'static str {
+    let is_node = match element.as_node() {
+        Some(node) => hash_of(node) == hash_of(element),
+        None => false,
+    };
+    let is_token = match element.as_token() {
+        Some(token) => hash_of(token) == hash_of(element),
+        None => false,
+    };
+    form_name(is_node, is_token)
 }
 
 // The form is taken off and put on again.

@@ -7,8 +7,10 @@ mod ask_around;
 mod ask_errors;
 mod ask_facts;
 mod ask_green;
+mod ask_kin;
 mod ask_kinds;
 mod ask_lengths;
+mod ask_lists;
 mod ask_nodes;
 mod ask_numbers;
 mod ask_steps;
@@ -21,8 +23,10 @@ use crate::ask_around::AroundQuestion;
 use crate::ask_errors::ErrorQuestion;
 use crate::ask_facts::FactQuestion;
 use crate::ask_green::GreenQuestion;
+use crate::ask_kin::KinQuestion;
 use crate::ask_kinds::KindQuestion;
 use crate::ask_lengths::LengthQuestion;
+use crate::ask_lists::ListQuestion;
 use crate::ask_nodes::NodeQuestion;
 use crate::ask_numbers::NumberQuestion;
 use crate::ask_steps::StepQuestion;
@@ -71,6 +75,12 @@ fn other_answer(
     name: &str,
     arguments: &str,
 ) -> Result<String, NoAnswer> {
+    if let Some(question) = KinQuestion::from_name(name) {
+        return ask_kin::answer(alloc, trees, question, arguments);
+    }
+    if let Some(question) = ListQuestion::from_name(name) {
+        return ask_lists::answer(alloc, trees, question, arguments);
+    }
     if let Some(question) = LengthQuestion::from_name(name) {
         return ask_lengths::answer(alloc, trees, question, arguments);
     }

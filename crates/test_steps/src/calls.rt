@@ -73,6 +73,11 @@ pub const OWED: &[Owed] = &[
         answers: &["ok"],
     },
     Owed {
+        call: "typed_element",
+        name: "Element::syntax_element",
+        answers: &["ok"],
+    },
+    Owed {
         call: "map_node",
         name: "SyntaxMappingBuilder::map_node",
         answers: &["ok", "NotAChild", "NotYounger", "OtherShape"],
@@ -85,6 +90,11 @@ pub const OWED: &[Owed] = &[
     Owed {
         call: "map_all",
         name: "SyntaxMappingBuilder::finish",
+        answers: &["ok"],
+    },
+    Owed {
+        call: "map_editor",
+        name: "SyntaxEditor::add_mapping",
         answers: &["ok"],
     },
     Owed {

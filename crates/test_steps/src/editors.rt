@@ -3,6 +3,7 @@
 use crate::answers::{given, ok, refused};
 use crate::edits::keep_edit;
 use crate::session::{Session, last};
+use crate::shifts::factory;
 use cst_core::ast::BlockExpr;
 use cst_core::{AstNode, SyntaxNode};
 use std::alloc::Global;
@@ -21,6 +22,7 @@ pub fn answer(
         "with_ast_node" => with_ast_node(alloc, session, words),
         "merge" => merge(alloc, session),
         "finish" => finish(alloc, session),
+        "factory" => give_factory(alloc, session, words),
         _ => return None,
     };
     Some(answer)
@@ -76,6 +78,17 @@ fn merge(alloc: Global, session: &mut Session) -> Result<String, NoAnswer> {
             refused(alloc, refusal)
         }
     }
+}
+
+// The last editor gets another factory.
+fn give_factory(
+    alloc: Global,
+    session: &mut Session,
+    words: &mut Words,
+) -> Result<String, NoAnswer> {
+    let factory = factory(alloc, words.word()?)?;
+    *last(&mut session.editors)?.make_mut() = factory;
+    ok(alloc)
 }
 
 fn finish(alloc: Global, session: &mut Session) -> Result<String, NoAnswer> {

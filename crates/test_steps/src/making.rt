@@ -2,7 +2,8 @@
 
 use crate::answers::{counted, counted_or_none, made, memory, ok, refused, some};
 use crate::session::Session;
-use cst_core::{GreenElement, GreenNode, SyntaxElement, SyntaxKind, SyntaxNode, TreeIds};
+use cst_core::ast::{BlockExpr, Fn, LetStmt, StmtList};
+use cst_core::{AstNode, GreenElement, GreenNode, SyntaxElement, SyntaxKind, SyntaxNode, TreeIds};
 use std::alloc::{AllocError, Global};
 use syntax_editor::{Annotations, Element, Position, SyntaxAnnotation};
 use test_trees::{NoAnswer, Words, number, number_of, push_quoted, read_tree};
@@ -30,6 +31,7 @@ pub fn answer(
         "first" => first(alloc, session, words),
         "last" => last(alloc, session, words),
         "syntax_element" => syntax_element(alloc, session, words),
+        "typed_element" => typed_element(alloc, session, words),
         _ => return None,
     };
     Some(answer)
@@ -194,6 +196,32 @@ fn syntax_element(
     match made_of(alloc, &element) {
         Ok(made) => text_answer(alloc, &made),
         Err(_) => memory(alloc),
+    }
+}
+
+// The element by a reference to the typed node of its kind.
+fn typed_element(
+    alloc: Global,
+    session: &mut Session,
+    words: &mut Words,
+) -> Result<String, NoAnswer> {
+    let node = session.trees.node(alloc, words.word()?)?;
+    match made_of_typed(alloc, node).ok_or(NoAnswer::Missing("no typed node"))? {
+        Ok(made) => text_answer(alloc, &made),
+        Err(_) => memory(alloc),
+    }
+}
+
+fn made_of_typed(alloc: Global, node: SyntaxNode) -> Option<Result<SyntaxElement, AllocError>> {
+    let kind = node.kind();
+    if kind == SyntaxKind::BLOCK_EXPR {
+        Some(made_of(alloc, &BlockExpr::cast(node)?))
+    } else if kind == SyntaxKind::STMT_LIST {
+        Some(made_of(alloc, &StmtList::cast(node)?))
+    } else if kind == SyntaxKind::LET_STMT {
+        Some(made_of(alloc, &LetStmt::cast(node)?))
+    } else {
+        Some(made_of(alloc, &Fn::cast(node)?))
     }
 }
 

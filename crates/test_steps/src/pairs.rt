@@ -21,6 +21,7 @@ pub fn answer(
         "map_children" => map_children(alloc, session, words),
         "map" => map(alloc, session, words),
         "map_all" => map_all(alloc, session),
+        "map_editor" => map_editor(alloc, session),
         "finish_builder" => finish_builder(alloc, session),
         "add_mapping" => add_mapping(alloc, session),
         _ => return None,
@@ -106,6 +107,15 @@ fn map_all(alloc: Global, session: &mut Session) -> Result<String, NoAnswer> {
         .mappings()
         .ok_or(NoAnswer::Missing("no mappings"))?;
     grown(alloc, builder.finish(alloc, mapping))
+}
+
+// The same, by the editor's call.
+fn map_editor(alloc: Global, session: &mut Session) -> Result<String, NoAnswer> {
+    let builder = last_builder(session)?;
+    grown(
+        alloc,
+        last(&mut session.editors)?.add_mapping(alloc, builder),
+    )
 }
 
 // The pairs of the last builder go into the last mapping: by the builder's call, and by the mapping's.

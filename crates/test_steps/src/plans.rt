@@ -24,6 +24,7 @@ pub fn answer(
         "change" => change(alloc, session, words),
         "register" => register(alloc, session, words),
         "build" => build(alloc, session, words),
+        "is_empty" => is_empty(alloc, session),
         "is_dropped" => is_dropped(alloc, session, words),
         "owner" => owner(alloc, session, words),
         _ => return None,
@@ -158,6 +159,10 @@ fn change_number(plan: &EditPlan, words: &mut Words) -> Result<usize, NoAnswer>
         return Err(NoAnswer::Missing("no change has this number"));
     }
     Ok(change)
+}
+
+fn is_empty(alloc: Global, session: &mut Session) -> Result<String, NoAnswer> {
+    truth(alloc, last(session)?.is_empty())
 }
 
 fn is_dropped(alloc: Global, session: &mut Session, words: &mut Words) -> Result<String, NoAnswer> {

@@ -15,7 +15,7 @@ use std::alloc::Global;
 /// A node is `(`, the name of its kind, its elements, `)`. A token is the name of its kind and right after it its text
 /// between two `"`, in which `\n`, `\r`, `\t`, `\"` and `\\` are newline, carriage return, tab, quote and backslash.
 /// Spaces may stand before and after each element and before `)`, and one at least stands between a node's kind and an
-/// element that begins with a name. Nothing stands before or behind the outermost node.
+/// element that begins with a name. Nothing comes before or after the outermost node.
 ///
 /// The time is linear in the expression's length, and nested nodes take no stack.
 pub fn read_tree(alloc: Global, expression: &str) -> Result<GreenNode, ExpressionError>

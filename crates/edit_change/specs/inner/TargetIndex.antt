@@ -6,15 +6,15 @@
 --     IsApart                       no two of these changes have a target in common
 --     IsIndex                       of such changes: it has at each path the one that replaces what is there
 use Rattle.std.specs.Prelude.{◌≡◌, ℕ, ⊤, false, cond, min, List, [], ◌∷◌, position, Option, Some, None}
-use Rattle.std.specs.HashMap.{get_by}
 use Rattle.std.specs.List.{AllByRecursion}
-use Rattle.cst_core.specs.Path.{Path, same_path, has_path}
+use Rattle.cst_core.specs.Path.{Path, has_path}
 use Rattle.edit_change.specs.Change.{targets, shared_targets}
 use Rattle.edit_change.specs.declared.change.Change.{Change}
+use Rattle.path_table.specs.PathTable.{number_by_path}
 use Rattle.edit_change.specs.declared.target_index.TargetIndex.{TargetIndex}
 
 abbrev pub number_at : TargetIndex → Path → Option ℕ
-number_at index p = get_by (λ k. same_path p k.items) index.numbers
+number_at index p = number_by_path index.numbers p
 
 abbrev pub IsEntered : TargetIndex → TargetIndex → List Path → ℕ → Type 0
 IsEntered before after ps n = (p : Path) → number_at after p ≡ cond (has_path ps p) (Some n) (number_at before p)

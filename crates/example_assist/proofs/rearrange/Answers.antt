@@ -1,5 +1,5 @@
 use Rattle.std.proofs.Common.{Result, Ok, Err, OnOk, ◌≡◌, [], ◌∷◌, ◌∙◌, sym}
-use Rattle.cst_core.specs.SyntaxElement.{child_nodes}
+use Rattle.syntax_editor.specs.SyntaxElement.{child_nodes}
 use Rattle.example_assist.proofs.Arguments.{three_items, rearranges}
 use Rattle.example_assist.proofs.rearrange.Goals as goal
 

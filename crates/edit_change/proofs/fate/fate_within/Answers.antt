@@ -1,31 +1,42 @@
-use Rattle.std.proofs.Common.{◌≡◌, ◌+◌, ◌∷◌, [], ◌++◌, take, sym, subst, ◌∙◌, arith}
+use Rattle.std.proofs.Common.{◌≡◌, ◌+◌, [], ◌∷◌, take, sym, ◌∙◌, ap, refl}
+use Rattle.std.proofs.lemmas.List.{take_all}
 use Rattle.cst_core.specs.Path.{up_to}
-use Rattle.edit_change.proofs.Walk.{Walked, walked-past, walked-kept, walk-dropped, walked-all, one-deeper, found-at}
+use Rattle.path_table.specs.PathTable.{number_in, place_at}
+use Rattle.path_table.proofs.PathTables.{place-more}
+use Rattle.edit_change.specs.inner.Fate.{fate_within}
+use Rattle.edit_change.specs.inner.TargetIndex.{target_at}
+use Rattle.edit_change.proofs.Walk.{up_to-more}
 use Rattle.edit_change.proofs.fate.fate_within.Goals as goal
-use Rattle.edit_change.proofs.fate.fate_within.Goals.{in-Some+else-not-is_keeping, in_default}
 
-pub loop-depth-preserved : goal.loop-depth-preserved
-loop-depth-preserved c =
-    let cs = c.args.changes.now in
-    let p = c.args.innermost.now in
-    let k = c.loop-depth.depth in
-    let deeper : take (k + 1) (up_to p) ≡ take k (up_to p) ++ take k p ∷ [] = one-deeper p k (omega (arith, c.loop-depth-test.true)) in
-    subst (λ ps. Walked cs ps c.match-region_at.fate) (sym deeper) (elim c.match-region_at.branch [
-      | in-Some+else-not-is_keeping w ↦
-          let region = sym c.region_at.ensures ∙ w.in-Some.is in
-          subst (Walked cs (take k (up_to p) ++ take k p ∷ [])) (sym w.fate-is) (walked-kept cs (take k (up_to p)) (take k p) c.loop-depth.fate w.in-Some.number w.index-changes-number.result c.loop-depth.invariant region (found-at cs (take k p) w.in-Some.number w.index-changes-number.result region w.index-changes-number.is) (sym w.is_keeping.ensures ∙ w.if-not-is_keeping.false))
-      | in_default w ↦
-          subst (Walked cs (take k (up_to p) ++ take k p ∷ [])) (sym w.fate-is) (walked-past cs (take k (up_to p)) (take k p) c.loop-depth.fate c.loop-depth.invariant (sym c.region_at.ensures ∙ w.in_default.is))
-    ])
+pub loop-slot-init : goal.loop-slot-init
+loop-slot-init c =
+    let table = c.args.index.now.numbers in
+    record {
+      place = c.top-place.ensures;
+      fate = c.fate_below-fate.ensures [] [] (c.number.ensures ∙ ap (number_in table) c.top-place.ensures ∙ c.requires.at_each []) refl;
+    }
 
-pub returns-then-not-is_keeping : goal.returns-then-not-is_keeping
-returns-then-not-is_keeping c =
+pub fate_below-fate-requires-in-loop-slot-clause-there : goal.fate_below-fate-requires-in-loop-slot-clause-there
+fate_below-fate-requires-in-loop-slot-clause-there c =
+    let table = c.args.index.now.numbers in
+    let path = c.args.innermost.now in
+    let k = c.loop-slot.slot-index in
+    let place = c.below-place.ensures ∙ place-more table path k c.loop-slot.place c.loop-slot-test.true c.loop-slot.invariant.place in
+    (take (k + 1) path, c.number-in-loop-slot.ensures ∙ ap (number_in table) place ∙ c.requires.at_each (take (k + 1) path))
+
+pub loop-slot-preserved : goal.loop-slot-preserved
+loop-slot-preserved c =
     let cs = c.args.changes.now in
-    let p = c.args.innermost.now in
-    let k = c.loop-depth.depth in
-    let region = sym c.region_at.ensures ∙ c.in-Some.is in
-    sym (walk-dropped cs p k c.in-Some.number c.index-changes-number.result (omega (arith, c.loop-depth-test.true)) region (found-at cs (take k p) c.in-Some.number c.index-changes-number.result region c.index-changes-number.is) (sym c.is_keeping.ensures ∙ c.if-not-is_keeping.true))
+    let table = c.args.index.now.numbers in
+    let path = c.args.innermost.now in
+    let k = c.loop-slot.slot-index in
+    let place = c.below-place.ensures ∙ place-more table path k c.loop-slot.place c.loop-slot-test.true c.loop-slot.invariant.place in
+    let there = c.number-in-loop-slot.ensures ∙ ap (number_in table) place ∙ c.requires.at_each (take (k + 1) path) in
+    record {
+      place = place;
+      fate = c.fate_below-fate-in-loop-slot.ensures (up_to (take k path)) (take (k + 1) path) there c.loop-slot.invariant.fate ∙ sym (ap (fate_within cs) (up_to-more path k c.loop-slot-test.true));
+    }
 
 pub returns : goal.returns
 returns c =
-    walked-all c.args.changes.now c.args.innermost.now c.loop-depth.depth c.loop-depth.fate c.loop-depth-test.false c.loop-depth.invariant
+    c.loop-slot.invariant.fate ∙ ap (λ q. fate_within c.args.changes.now (up_to q)) (take_all c.loop-slot.slot-index c.args.innermost.now c.loop-slot-test.false)

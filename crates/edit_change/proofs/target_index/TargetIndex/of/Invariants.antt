@@ -1,6 +1,7 @@
 use Rattle.std.proofs.Common.{◌≡◌, take}
 use Rattle.std.specs.Prelude.{find, None}
 use Rattle.edit_change.specs.Nesting.{pairs}
+use Rattle.path_table.specs.PathTable.{IsTree}
 use Rattle.edit_change.specs.inner.TargetIndex.{IsIndex}
 use Rattle.edit_change.proofs.Clashes.{clash}
 use Rattle.edit_change.proofs.target_index.TargetIndex.of.Given as goal
@@ -8,5 +9,6 @@ use Rattle.edit_change.proofs.target_index.TargetIndex.of.Given as goal
 abbrev pub invariant-loop-second : goal.invariant-loop-second
 invariant-loop-second l = record {
   indexed : IsIndex (take l.second l.changes) l.index;
+  tree : IsTree l.index.numbers;
   apart : find (clash l.changes) (pairs l.second) ≡ None;
 }

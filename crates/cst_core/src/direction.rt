@@ -1,0 +1,6 @@
+/// The way along the siblings of an element: to those after it, or back to those before it.
+#[derive(Clone, Copy, Debug, PartialEq, Eq)]
+pub enum Direction {
+    Next,
+    Prev,
+}

@@ -1,0 +1,233 @@
+-- What a path leads to in a table of numbers by path.
+--     place-push, place-more        one slot more
+--     none-below                    nothing is below a place that is missing
+--     empty-tree                    a table of nothing
+--     leads-on, enter-more          what a path leads to stays where steps are added; one slot more then
+--     grown                         one place more, below a place that had none at this slot
+--     within-at                     a path leads to a place that there is
+--     entered, entered-tree         a number put at the place of a path
+use Rattle.std.specs.Prelude.{◌≡◌, ◌≢◌, ℕ, ◌+◌, ◌<◌, ◌≤◌, true, false, ◌&&◌, cond, nat_eq, [], ◌∷◌, ◌++◌, length, option_and_then, Option, Some, None, IfSome, refl}
+use Rattle.std.specs.List.{fold}
+use Rattle.std.specs.Map.{lookup}
+use Rattle.std.proofs.Common.{ap, sym, ◌∙◌, arith, take, get_or, append_assoc, append-nil}
+use Rattle.std.proofs.lemmas.Bool.{cases_Bool, and_parts, and_left, eqb-true, eq-eqb, ne_eqb, true≢false}
+use Rattle.std.proofs.lemmas.List.{take_more}
+use Rattle.std.proofs.lemmas.List.Sums.{fold-append}
+use Rattle.std.proofs.lemmas.Option.{none-some, same_Some}
+use mathlib.Core.Logic.{inl, inr}
+use lib.Pointwise.{pointwise_decides}
+use Rattle.green_tree.specs.Path.{Path, same_path}
+use Rattle.path_table.specs.PathTable.{place_below, next_place, place_at, number_in, number_by_path, size, IsTree, IsGrown}
+use Rattle.path_table.specs.declared.table.PathTable.{PathTable}
+
+pub place-push : (t : PathTable) (p : Path) (i : ℕ) → place_at t (p ++ i ∷ []) ≡ next_place t (place_at t p) i
+place-push t p i = fold-append (next_place t) (Some 0) p (i ∷ [])
+
+pub none-below : (t : PathTable) (p : Path) → fold (next_place t) None p ≡ None
+none-below t [] = refl
+none-below t (i ∷ p) = none-below t p
+
+pub place-more : (t : PathTable) (p : Path) (k : ℕ) (o : Option ℕ) → k < length p → o ≡ place_at t (take k p) → next_place t o (get_or p k 0) ≡ place_at t (take (k + 1) p)
+place-more t p k o l is =
+    ap (λ place. next_place t place (get_or p k 0)) is ∙ sym (ap (place_at t) (take_more p k 0 l) ∙ place-push t (take k p) (get_or p k 0))
+
+-- ---- a table of nothing
+pub empty-tree : (t : PathTable) → t.steps.entries ≡ [] → t.numbers.entries ≡ [] → IsTree t
+empty-tree t no_steps no_numbers =
+    let nothing : (n i m : ℕ) → place_below t n i ≡ Some m → ⊥ = λ n i m h. none-some m (sym (ap (lookup (λ k. nat_eq n k.0 && nat_eq i k.1)) no_steps) ∙ h) in
+    record {
+      steps = λ n i m h. absurd (nothing n i m h);
+      numbers = λ n x h. absurd (none-some x (sym (ap (lookup (nat_eq n)) no_numbers) ∙ h));
+      paths = (λ k. [], refl, λ n i m h. absurd (nothing n i m h));
+    }
+
+-- ---- steps that are added
+module _ (t u : PathTable) (steps : (n i m : ℕ) → place_below t n i ≡ Some m → place_below u n i ≡ Some m) where
+  pub leads-on : (o : Option ℕ) (p : Path) (m : ℕ) → fold (next_place t) o p ≡ Some m → fold (next_place u) o p ≡ Some m
+  leads-on o [] m h = h
+  leads-on None (i ∷ p) m h = absurd (none-some m (sym (none-below t p) ∙ h))
+  leads-on (Some n) (i ∷ p) m h = go (place_below t n i) refl (λ k. leads-on (Some k) p m)
+    where
+      go : (o : Option ℕ) → place_below t n i ≡ o → ((k : ℕ) → fold (next_place t) (Some k) p ≡ Some m → fold (next_place u) (Some k) p ≡ Some m) → fold (next_place u) (place_below u n i) p ≡ Some m
+      go None is rest = absurd (none-some m (sym (ap (λ o. fold (next_place t) o p) is ∙ none-below t p) ∙ h))
+      go (Some k) is rest = ap (λ o. fold (next_place u) o p) (steps n i k is) ∙ rest k (ap (λ o. fold (next_place t) o p) (sym is) ∙ h)
+
+pub enter-more : (t u : PathTable) (p : Path) (k n m : ℕ) → k < length p → place_at t (take k p) ≡ Some n → IsGrown t u → place_below u n (get_or p k 0) ≡ Some m → place_at u (take (k + 1) p) ≡ Some m
+enter-more t u p k n m l leads grown below =
+    sym (place-more u p k (Some n) l (sym (leads-on t u grown.steps (Some 0) (take k p) n leads))) ∙ below
+
+-- ---- one place more
+module _ (t u : PathTable) (n s : ℕ) (tree : IsTree t) (here : n ≤ size t) (free : place_below t n s ≡ None) (more : size u ≡ size t + 1) (same : u.numbers.entries ≡ t.numbers.entries) (put : (a i : ℕ) → place_below u a i ≡ cond (nat_eq n a && nat_eq s i) (Some (size t + 1)) (place_below t a i)) where
+  at-new : (a i : ℕ) → (nat_eq n a && nat_eq s i) ≡ true → place_below u a i ≡ Some (size t + 1)
+  at-new a i new = put a i ∙ ap (λ b. cond b (Some (size t + 1)) (place_below t a i)) new
+
+  at-old : (a i : ℕ) → (nat_eq n a && nat_eq s i) ≡ false → place_below u a i ≡ place_below t a i
+  at-old a i old = put a i ∙ ap (λ b. cond b (Some (size t + 1)) (place_below t a i)) old
+
+  was-free : (a i : ℕ) → (nat_eq n a && nat_eq s i) ≡ true → place_below t a i ≡ None
+  was-free a i new =
+      let parts = and_parts (nat_eq n a) (nat_eq s i) new in
+      ap (λ b. place_below t b i) (sym (eqb-true n a parts.0)) ∙ ap (place_below t n) (sym (eqb-true s i parts.1)) ∙ free
+
+  steps-stay : (a i m : ℕ) → place_below t a i ≡ Some m → place_below u a i ≡ Some m
+  steps-stay a i m h =
+      elim (cases_Bool (nat_eq n a && nat_eq s i)) [
+        | inl new ↦ absurd (none-some m (sym (was-free a i new) ∙ h))
+        | inr old ↦ at-old a i old ∙ h
+      ]
+
+  number-same : (o : Option ℕ) → number_in u o ≡ number_in t o
+  number-same None = refl
+  number-same (Some a) = ap (lookup (nat_eq a)) same
+
+  -- the new place has no number, and nothing below it
+  nothing-below : (i : ℕ) → place_below u (size t + 1) i ≡ None
+  nothing-below i =
+      let apart : n ≢ size t + 1 = omega (arith, here) in
+      at-old (size t + 1) i (and_left (nat_eq n (size t + 1)) (nat_eq s i) (ne_eqb n (size t + 1) apart)) ∙ go (place_below t (size t + 1) i) refl
+    where
+      go : (o : Option ℕ) → place_below t (size t + 1) i ≡ o → place_below t (size t + 1) i ≡ None
+      go None is = is
+      go (Some m) is = absurd (omega (arith, (tree.steps (size t + 1) i m is).0))
+
+  no-number : number_in t (Some (size t + 1)) ≡ None
+  no-number = go (number_in t (Some (size t + 1))) refl
+    where
+      go : (o : Option ℕ) → number_in t (Some (size t + 1)) ≡ o → number_in t (Some (size t + 1)) ≡ None
+      go None is = is
+      go (Some x) is = absurd (omega (arith, tree.numbers (size t + 1) x is))
+
+  new-number : (p : Path) → number_in u (fold (next_place u) (Some (size t + 1)) p) ≡ None
+  new-number [] = number-same (Some (size t + 1)) ∙ no-number
+  new-number (i ∷ p) = ap (λ o. number_in u (fold (next_place u) o p)) (nothing-below i) ∙ ap (number_in u) (none-below u p)
+
+  numbers-stay : (o : Option ℕ) (p : Path) → number_in u (fold (next_place u) o p) ≡ number_in t (fold (next_place t) o p)
+  numbers-stay None p = ap (number_in u) (none-below u p) ∙ sym (ap (number_in t) (none-below t p))
+  numbers-stay (Some a) [] = number-same (Some a)
+  numbers-stay (Some a) (i ∷ p) = go (numbers-stay (place_below t a i) p)
+    where
+      go : number_in u (fold (next_place u) (place_below t a i) p) ≡ number_in t (fold (next_place t) (place_below t a i) p) → number_in u (fold (next_place u) (place_below u a i) p) ≡ number_in t (fold (next_place t) (place_below t a i) p)
+      go rest =
+          elim (cases_Bool (nat_eq n a && nat_eq s i)) [
+            | inl new ↦ ap (λ o. number_in u (fold (next_place u) o p)) (at-new a i new) ∙ new-number p ∙ sym (ap (λ o. number_in t (fold (next_place t) o p)) (was-free a i new) ∙ ap (number_in t) (none-below t p))
+            | inr old ↦ ap (λ o. number_in u (fold (next_place u) o p)) (at-old a i old) ∙ rest
+          ]
+
+  steps-more : (a i m : ℕ) → place_below u a i ≡ Some m → (a ≤ size u) × (m ≤ size u)
+  steps-more a i m h =
+      elim (cases_Bool (nat_eq n a && nat_eq s i)) [
+        | inl new ↦
+            let is : n ≡ a = eqb-true n a (and_parts (nat_eq n a) (nat_eq s i) new).0 in
+            let last : size t + 1 ≡ m = same_Some (size t + 1) m (sym (at-new a i new) ∙ h) in
+            (omega (arith, here, is, more), omega (arith, last, more))
+        | inr old ↦
+            let before = tree.steps a i m (sym (at-old a i old) ∙ h) in
+            (omega (arith, before.0, more), omega (arith, before.1, more))
+      ]
+
+  abbrev path-of : ℕ → Path
+  path-of k = cond (nat_eq k (size t + 1)) (tree.paths.0 n ++ s ∷ []) (tree.paths.0 k)
+
+  path-before : (k : ℕ) → k ≤ size t → path-of k ≡ tree.paths.0 k
+  path-before k l =
+      let apart : k ≢ size t + 1 = omega (arith, l) in
+      ap (λ b. cond b (tree.paths.0 n ++ s ∷ []) (tree.paths.0 k)) (ne_eqb k (size t + 1) apart)
+
+  path-below : (a i m : ℕ) → place_below u a i ≡ Some m → path-of m ≡ path-of a ++ i ∷ []
+  path-below a i m h =
+      elim (cases_Bool (nat_eq n a && nat_eq s i)) [
+        | inl new ↦
+            let parts = and_parts (nat_eq n a) (nat_eq s i) new in
+            let last : size t + 1 ≡ m = same_Some (size t + 1) m (sym (at-new a i new) ∙ h) in
+            ap (λ b. cond b (tree.paths.0 n ++ s ∷ []) (tree.paths.0 m)) (eq-eqb m (size t + 1) (sym last)) ∙ ap (λ j. tree.paths.0 n ++ j ∷ []) (eqb-true s i parts.1) ∙ ap (λ p. p ++ i ∷ []) (sym (path-before n here) ∙ ap path-of (eqb-true n a parts.0))
+        | inr old ↦
+            let was : place_below t a i ≡ Some m = sym (at-old a i old) ∙ h in
+            let before = tree.steps a i m was in
+            path-before m before.1 ∙ tree.paths.2 a i m was ∙ ap (λ p. p ++ i ∷ []) (sym (path-before a before.0))
+      ]
+
+  pub grown : IsGrown t u
+  grown = record {
+    steps = steps-stay;
+    numbers = λ p. numbers-stay (Some 0) p;
+    tree = record {
+      steps = steps-more;
+      numbers = λ a x h. let before : a ≤ size t = tree.numbers a x (sym (number-same (Some a)) ∙ h) in omega (arith, before, more);
+      paths = (path-of, path-before 0 (omega arith) ∙ tree.paths.1, path-below);
+    };
+  }
+
+-- ---- no place more
+module _ (t u : PathTable) (tree : IsTree t) (steps : u.steps.entries ≡ t.steps.entries) where
+  places-same : (q : Path) → place_at u q ≡ place_at t q
+  places-same q = ap (λ es. fold (λ o i. option_and_then (λ n. lookup (λ k. nat_eq n k.0 && nat_eq i k.1) es) o) (Some 0) q) steps
+
+  below-same : (n i : ℕ) → place_below u n i ≡ place_below t n i
+  below-same n i = ap (lookup (λ k. nat_eq n k.0 && nat_eq i k.1)) steps
+
+  -- whatever numbers there are, at places that there are
+  tree-same : ((n x : ℕ) → number_in u (Some n) ≡ Some x → n ≤ size t) → IsTree u
+  tree-same numbers =
+      let long : size u ≡ size t = ap length steps in
+      record {
+        steps = λ n i m h. let before = tree.steps n i m (sym (below-same n i) ∙ h) in (omega (arith, before.0, long), omega (arith, before.1, long));
+        numbers = λ n x h. let before = numbers n x h in omega (arith, before, long);
+        paths = (tree.paths.0, tree.paths.1, λ n i m h. tree.paths.2 n i m (sym (below-same n i) ∙ h));
+      }
+
+-- ---- where paths lead
+decides : (p q : Path) → (same_path p q ≡ true → p ≡ q) × (p ≡ q → same_path p q ≡ true)
+decides = pointwise_decides (λ x y. (eqb-true x y, eq-eqb x y))
+
+module _ (t : PathTable) (tree : IsTree t) where
+  place-within : (o : Option ℕ) (p : Path) (m : ℕ) → IfSome o (λ a. a ≤ size t) → fold (next_place t) o p ≡ Some m → m ≤ size t
+  place-within None p m w h = absurd (none-some m (sym (none-below t p) ∙ h))
+  place-within (Some a) [] m w h = let is : a ≡ m = same_Some a m h in omega (arith, w, is)
+  place-within (Some a) (i ∷ p) m w h = place-within (place_below t a i) p m (there (place_below t a i) refl) h
+    where
+      there : (o : Option ℕ) → place_below t a i ≡ o → IfSome o (λ b. b ≤ size t)
+      there None is = tt
+      there (Some k) is = (tree.steps a i k is).1
+
+  pub within-at : (p : Path) (m : ℕ) → place_at t p ≡ Some m → m ≤ size t
+  within-at p m h = place-within (Some 0) p m (omega arith) h
+
+  path-told : (a : ℕ) (p : Path) (m : ℕ) → fold (next_place t) (Some a) p ≡ Some m → tree.paths.0 m ≡ tree.paths.0 a ++ p
+  path-told a [] m h = ap tree.paths.0 (sym (same_Some a m h)) ∙ sym (append-nil (tree.paths.0 a))
+  path-told a (i ∷ p) m h = go (place_below t a i) refl (λ k. path-told k p m)
+    where
+      go : (o : Option ℕ) → place_below t a i ≡ o → ((k : ℕ) → fold (next_place t) (Some k) p ≡ Some m → tree.paths.0 m ≡ tree.paths.0 k ++ p) → tree.paths.0 m ≡ tree.paths.0 a ++ i ∷ p
+      go None is rest = absurd (none-some m (sym (ap (λ o. fold (next_place t) o p) is ∙ none-below t p) ∙ h))
+      go (Some k) is rest =
+          rest k (ap (λ o. fold (next_place t) o p) (sym is) ∙ h) ∙ ap (λ q. q ++ p) (tree.paths.2 a i k is) ∙ append_assoc (tree.paths.0 a) (i ∷ []) p
+
+  path-is : (p : Path) (m : ℕ) → place_at t p ≡ Some m → tree.paths.0 m ≡ p
+  path-is p m h = path-told 0 p m h ∙ ap (λ q. q ++ p) tree.paths.1
+
+  -- ---- a number put at the place of a path
+  module _ (u : PathTable) (p : Path) (m x : ℕ) (leads : place_at t p ≡ Some m) (steps : u.steps.entries ≡ t.steps.entries) (put : (n : ℕ) → number_in u (Some n) ≡ cond (nat_eq m n) (Some x) (number_in t (Some n))) where
+    at-other : (q : Path) → same_path q p ≡ false → number_in u (place_at t q) ≡ number_in t (place_at t q)
+    at-other q other = go (place_at t q) refl
+      where
+        go : (o : Option ℕ) → place_at t q ≡ o → number_in u o ≡ number_in t o
+        go None is = refl
+        go (Some k) is =
+            let apart : m ≡ k → ⊥ = λ e. true≢false (sym ((decides q p).1 (sym (path-is q k is) ∙ ap tree.paths.0 (sym e) ∙ path-is p m leads)) ∙ other) in
+            put k ∙ ap (λ b. cond b (Some x) (number_in t (Some k))) (ne_eqb m k apart)
+
+    pub entered : (q : Path) → number_by_path u q ≡ cond (same_path q p) (Some x) (number_by_path t q)
+    entered q =
+        ap (number_in u) (places-same t u tree steps q) ∙ (elim (cases_Bool (same_path q p)) [
+          | inl here ↦ ap (number_in u) (ap (place_at t) ((decides q p).0 here) ∙ leads) ∙ put m ∙ ap (λ b. cond b (Some x) (number_in t (Some m))) (eq-eqb m m refl) ∙ sym (ap (λ b. cond b (Some x) (number_by_path t q)) here)
+          | inr other ↦ at-other q other ∙ sym (ap (λ b. cond b (Some x) (number_by_path t q)) other)
+        ])
+
+    pub entered-tree : IsTree u
+    entered-tree = tree-same t u tree steps numbered
+      where
+        numbered : (n y : ℕ) → number_in u (Some n) ≡ Some y → n ≤ size t
+        numbered n y h =
+            elim (cases_Bool (nat_eq m n)) [
+              | inl here ↦ (let is : m ≡ n = eqb-true m n here in let there = within-at p m leads in omega (arith, is, there))
+              | inr other ↦ tree.numbers n y (sym (put n ∙ ap (λ b. cond b (Some x) (number_in t (Some n))) other) ∙ h)
+            ]

@@ -1,0 +1,51 @@
+-- Numbers by path, as a table in code has them.
+--     place_below, next_place       the place below a place, at a slot; below a place that may be missing
+--     place_at                      the place that a path leads to from the top, if there is one
+--     number_in, number_by_path     the number of a place that may be missing; that of the place of a path
+--     SameNumbers, IsPut            two tables have the same number at each path; one path has this number now, and the others what they had
+--     size                          how many places there are below the top
+--     HasPaths                      each place can be told its path, which is that of the place above it with one slot more
+--     IsTree                        such a table, in which no other places are named than there are
+--     IsGrown                       with more places, which have no number
+use Rattle.std.specs.Prelude.{◌≡◌, ℕ, ◌≤◌, ◌&&◌, cond, nat_eq, [], ◌∷◌, ◌++◌, option_and_then, Option, Some}
+use Rattle.std.specs.List.{fold}
+use Rattle.std.specs.HashMap.{get_by, hash_map_len}
+use Rattle.green_tree.specs.Path.{Path, same_path}
+use Rattle.path_table.specs.declared.table.PathTable.{PathTable}
+
+abbrev pub place_below : PathTable → ℕ → ℕ → Option ℕ
+place_below t n i = get_by (λ k. nat_eq n k.0 && nat_eq i k.1) t.steps
+
+abbrev pub next_place : PathTable → Option ℕ → ℕ → Option ℕ
+next_place t place i = option_and_then (λ n. place_below t n i) place
+
+abbrev pub place_at : PathTable → Path → Option ℕ
+place_at t p = fold (next_place t) (Some 0) p
+
+abbrev pub number_in : PathTable → Option ℕ → Option ℕ
+number_in t place = option_and_then (λ n. get_by (nat_eq n) t.numbers) place
+
+abbrev pub number_by_path : PathTable → Path → Option ℕ
+number_by_path t p = number_in t (place_at t p)
+
+abbrev pub SameNumbers : PathTable → PathTable → Type 0
+SameNumbers before after = (p : Path) → number_by_path after p ≡ number_by_path before p
+
+abbrev pub IsPut : PathTable → PathTable → Path → ℕ → Type 0
+IsPut before after p n = (q : Path) → number_by_path after q ≡ cond (same_path q p) (Some n) (number_by_path before q)
+
+abbrev pub size : PathTable → ℕ
+size t = hash_map_len t.steps
+
+abbrev pub HasPaths : PathTable → Type 0
+HasPaths t = (path_of : ℕ → Path) × (path_of 0 ≡ []) × ((n i m : ℕ) → place_below t n i ≡ Some m → path_of m ≡ path_of n ++ i ∷ [])
+
+pub record IsTree (t : PathTable) : Type 0 where
+  pub steps : (n i m : ℕ) → place_below t n i ≡ Some m → (n ≤ size t) × (m ≤ size t)
+  pub numbers : (n x : ℕ) → number_in t (Some n) ≡ Some x → n ≤ size t
+  pub paths : HasPaths t
+
+pub record IsGrown (before after : PathTable) : Type 0 where
+  pub steps : (n i m : ℕ) → place_below before n i ≡ Some m → place_below after n i ≡ Some m
+  pub numbers : SameNumbers before after
+  pub tree : IsTree after

@@ -1,0 +1,6 @@
+//! Numbers by path, as a tree of places, so that a way down asks for each slot once.
+#![tactic(auto)]
+
+mod table;
+
+pub use table::PathTable;

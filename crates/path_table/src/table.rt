@@ -1,0 +1,93 @@
+ghost use Rattle.std.specs.Prelude.{◌≡◌, ◌≤◌, None, Some, OnOk, OnErr, IfOk};
+ghost use Rattle.green_tree.specs.Path.{Path};
+ghost use Rattle.path_table.specs.PathTable.{place_below, next_place, number_in, number_by_path, SameNumbers, IsPut, size, IsTree, IsGrown};
+
+use std::alloc::{AllocError, Global};
+use std::collections::HashMap;
+
+/// Numbers by path. From the top each path leads, by one step a slot, to a place of its own; so a way down costs its length, and
+/// finds the numbers of all elements on it.
+#[derive(Drop)]
+pub struct PathTable {
+    // The place below a place, at a slot. The top is 0, and the others are counted in the order in which they were made.
+    steps: HashMap<(usize, usize), usize>,
+    // By place.
+    numbers: HashMap<usize, usize>,
+}
+
+impl PathTable {
+    /// A table of nothing.
+    pub fn new(alloc: Global) -> PathTable
+        ensures empty { (p : Path) → number_by_path result p ≡ None }
+        ensures tree { IsTree result }
+    {
+        PathTable {
+            steps: HashMap::new(alloc),
+            numbers: HashMap::new(alloc),
+        }
+    }
+
+    /// The place of the empty path.
+    pub fn top(&self) -> Option<usize>
+        ensures { result ≡ Some 0 }
+    {
+        Some(0)
+    }
+
+    /// The place below a place, at a slot; `None` below none, and where the table has nothing.
+    pub fn below(&self, place: Option<usize>, slot: usize) -> Option<usize>
+        ensures { result ≡ next_place self.now place slot }
+    {
+        self.steps.get(&(place?, slot)).copied()
+    }
+
+    /// The number of a place, if it has one.
+    pub fn number(&self, place: Option<usize>) -> Option<usize>
+        ensures { result ≡ number_in self.now place }
+    {
+        self.numbers.get(&place?).copied()
+    }
+
+    /// The number at a path, if there is one.
+    pub fn get(&self, path: &[usize]) -> Option<usize>
+        ensures { result ≡ number_by_path self.now path.now }
+    {
+        let mut place = self.top();
+        for slot in path {
+            place = self.below(place, *slot);
+        }
+        self.number(place)
+    }
+
+    // The place below a place, at a slot, which is made if there is none.
+    fn enter(&mut self, place: usize, slot: usize) -> Result<usize, AllocError>
+        requires tree { IsTree self.old }
+        requires here { place ≤ size self.old }
+        ensures leads { IfOk result (λ m. place_below self.new place slot ≡ Some m) }
+        ensures grown { IsGrown self.old self.new }
+    {
+        if let Some(next) = self.below(Some(place), slot) {
+            return Ok(next);
+        }
+        let next = self.steps.len() + 1;
+        self.steps.insert((place, slot), next)?;
+        Ok(next)
+    }
+
+    /// Puts a number at a path, in place of the one that was there.
+    ///
+    /// Refused for memory alone. The numbers are as they were then.
+    pub fn insert(&mut self, path: &[usize], number: usize) -> Result<(), AllocError>
+        requires { IsTree self.old }
+        ensures ok { OnOk result (IsPut self.old self.new path.now number) }
+        ensures err { OnErr result (SameNumbers self.old self.new) }
+        ensures tree { IsTree self.new }
+    {
+        let mut place = 0;
+        for slot in path {
+            place = self.enter(place, *slot)?;
+        }
+        self.numbers.insert(place, number)?;
+        Ok(())
+    }
+}
