@@ -4,6 +4,7 @@
 --     plan_code, edit_code          the codes of plans and of edits, as models' values
 --     BuildRefuses                  why a plan is not built
 --     Edit                          the old root, the new root, the changed elements, and for annotations the elements that are found
+--     new_edit                      the edit of these, where code has the list of the changed elements
 --     stand_in                   the element of the new tree that stands for an old one
 --     registered_elements                    registrations, by the values of their elements
 --     WouldMake                     the tree that a plan makes, with its origins
@@ -66,6 +67,9 @@ pub record Edit : Type 0 where
   pub new_root : Element
   pub changed : List SyntaxElement
   pub annotated : List (ℕ × List SyntaxElement)
+
+abbrev pub new_edit : Element → Element → Vec SyntaxElement Global → List (ℕ × List SyntaxElement) → Edit
+new_edit old_root new_root changed annotated = record { old_root = old_root; new_root = new_root; changed = changed.items; annotated = annotated }
 
 abbrev pub edit_code : Coded Edit
 edit_code = code_by (Element × (Element × (List SyntaxElement × List (ℕ × List SyntaxElement)))) (coded× element_code (coded× element_code (coded× (coded_list syntax_element_code) (coded_list (coded× coded_ℕ (coded_list syntax_element_code)))))) (λ e. (e.old_root, (e.new_root, (e.changed, e.annotated)))) (λ q. record { old_root = q.0; new_root = q.1.0; changed = q.1.1.0; annotated = q.1.1.1 }) (λ _. refl)

@@ -1,13 +1,13 @@
 ghost use Rattle.std.specs.Prelude.{ℕ, ◌≡◌, ◌<◌, [], map, length, slice_get, option_and_then, All, IfOk, IfSome, OnOk};
 ghost use Rattle.cst_core.specs.Element.{Element};
 ghost use Rattle.rewriting.specs.inner.Aimed.{aims_of};
-ghost use Rattle.edit_change.specs.ChangeAim.{aim, aim_path};
+ghost use Rattle.edit_change.specs.ChangeAim.{aim_path};
 ghost use Rattle.edit_change.specs.Fits.{Fits};
 ghost use Rattle.edit_change.specs.inner.Fate.{fate};
 ghost use Rattle.edit_change.specs.Nesting.{owner};
-ghost use Rattle.edit_stages.specs.NewTree.{moved_path, moved_aim};
+ghost use Rattle.edit_stages.specs.NewTree.{moved_path};
 ghost use Rattle.edit_change.specs.inner.AimFrom.{depth};
-ghost use Rattle.edit_plan.specs.inner.OwnerTables.{places_in, moved_dependent, dependents_in, AimsFrom, AreDependents, OwnsOneMore, OthersOwnAsBefore};
+ghost use Rattle.edit_plan.specs.inner.OwnerTables.{aim_in_payload, places_in, moved_dependent, dependents_in, AimsFrom, AreDependents, OwnsOneMore, OthersOwnAsBefore};
 
 use edit_change::{Change, Fate};
 use rewriting::{Aimed, empty_lists};
@@ -78,7 +78,7 @@ fn dependent_of<'a>(
 ) -> Result<Dependent<'a>, AllocError>
     requires fits { (root : Element) × Fits root change.now }
     requires inside { length (aim_path owner.now) < depth change.now }
-    ensures { IfOk result (λ d. moved_dependent d ≡ (number, moved_aim (aim_path owner.now) place.now (aim change.now))) }
+    ensures { IfOk result (λ d. moved_dependent d ≡ (number, aim_in_payload owner.now place.now change.now)) }
 {
     let path = moved_path(alloc, owner.aim_path(), place, change.aim_path())?;
     Ok(Dependent {

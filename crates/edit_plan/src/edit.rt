@@ -19,14 +19,14 @@ pub struct SyntaxEdit {
 }
 
 impl Model for SyntaxEdit {
-    ghost use Rattle.edit_plan.specs.Plan.{Edit, edit_code};
+    ghost use Rattle.edit_plan.specs.Plan.{Edit, new_edit, edit_code};
     ghost use Rattle.edit_plan.specs.AnnotationTable.{entries_of};
 
     ghost Value = { Edit };
 
     ghost coded = { edit_code };
 
-    ghost view = { λ a. record { old_root = a.old_root; new_root = a.new_root; changed = a.changed.items; annotated = entries_of a.annotated.lists.entries } };
+    ghost view = { λ a. new_edit a.old_root a.new_root a.changed (entries_of a.annotated.lists.entries) };
 
     ghost use Rattle.edit_plan.specs.inner.PlanRun.{IsNewRoot};
 

@@ -68,7 +68,8 @@ pub fn given_is_settled()
 /// At one gap, what is recorded first comes first, and the elements of one change keep their order.
 pub fn inserts_stand_in_order()
     ensures first_first { (label_at : Path → ℕ → Origin) (given : ℕ → List OriginTree) (cs : List NumberedAim)
-        (c : NumberedAim) (p : Path) (i : ℕ) → IsTrue (aims_at_gap p i c.1) → gap label_at given (c ∷ cs) p i ≡ given c.0 ++ gap label_at given cs p i }
+        (c : NumberedAim) (p : Path) (i : ℕ) → IsTrue (aims_at_gap p i c.1)
+        → gap label_at given (c ∷ cs) p i ≡ given c.0 ++ gap label_at given cs p i }
     ensures in_order { (changes : List Change) (places : ℕ → Path) (c : ℕ)
         → IsSomeAnd (slice_get changes c) (λ change. region change ≡ [])
         → map plain (given changes places c) ≡ map subtree (payload_of changes c) }
@@ -91,7 +92,8 @@ pub fn allowed_orders_agree()
         → is_ready changes (λ m. nat_lt (index_in order m) i) (n, c) ≡ true }
     ensures tree { (changes : List Change) (places : ℕ → Path) (root : Element) (order : List ℕ)
         → IsAllowed changes order
-        → stage_tree changes places (λ m. nat_lt (index_in order m) (length order)) root ≡ new_tree changes places root }
+        → stage_tree changes places (λ m. nat_lt (index_in order m) (length order)) root
+        ≡ new_tree changes places root }
 {}
 
 /// Swapping two neighbours that aim at different gaps and share no target changes no answer.

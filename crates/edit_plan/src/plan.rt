@@ -28,16 +28,16 @@ pub struct EditPlan {
 }
 
 impl Model for EditPlan {
-    ghost use Rattle.edit_plan.specs.Plan.{Plan, plan_code};
+    ghost use Rattle.edit_plan.specs.Plan.{Plan, new_plan, plan_code};
     ghost use Rattle.edit_plan.specs.inner.PlanRun.{IsPlanned};
 
     ghost Value = { Plan };
 
     ghost coded = { plan_code };
 
-    ghost view = { λ a. record { root = a.root; changes = a.changes.items; registrations = a.registrations.items; mapping = a.mapping } };
+    ghost view = { λ a. new_plan a.root a.changes a.registrations a.mapping };
 
-    ghost invariant = { λ a. IsPlanned (record { root = a.root; changes = a.changes.items; registrations = a.registrations.items; mapping = a.mapping }) a.fates.items a.places.items };
+    ghost invariant = { λ a. IsPlanned (new_plan a.root a.changes a.registrations a.mapping) a.fates.items a.places.items };
 }
 
 impl EditPlan {

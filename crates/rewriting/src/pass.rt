@@ -3,7 +3,7 @@ ghost use Rattle.green_tree.specs.Tree.{node};
 ghost use Rattle.green_tree.specs.GreenElement.{element_tree, element_trees};
 ghost use Rattle.rewriting.specs.Effort.{counted};
 ghost use Rattle.rewriting.specs.inner.Given.{given_trees};
-ghost use Rattle.rewriting.specs.inner.Pass.{given_in, Puts, FindsGiven, FindsChange, FindsChanges, FindsKept};
+ghost use Rattle.rewriting.specs.inner.Pass.{given_in, Puts, FindsGiven, FindsChange, FindsAll, FindsKept};
 ghost use Rattle.rewriting.specs.inner.Pass.{gap_changes, slot_changes, top_changes};
 ghost use Rattle.rewriting.specs.inner.Pass.{TouchesAtMost, CountsBuilt, CountsBuiltWhole, CountsTouched};
 ghost use Rattle.rewriting.specs.inner.Pass.{remade, remade_whole};
@@ -70,7 +70,7 @@ fn push_gap(
 ) -> Result<(), AllocError>
     ensures path { OnOk result (path.new.items ≡ path.old.items) }
     ensures trees { OnOk result (Puts out.old out.new (flat_map (given_in given.now) (gap_changes aims.now gap))) }
-    ensures marks { OnOk result (FindsChanges path.old out.old found.old found.new given.now (gap_changes aims.now gap)) }
+    ensures marks { OnOk result (FindsAll path.old out.old found.old found.new given.now (gap_changes aims.now gap)) }
 {
     for aim in aims {
         if aim.inserts_at(gap) {
@@ -92,7 +92,7 @@ fn push_slot(
 ) -> Result<(), AllocError>
     ensures path { OnOk result (path.new.items ≡ path.old.items) }
     ensures trees { OnOk result (Puts out.old out.new (flat_map (given_in given.now) (slot_changes aims.now slot))) }
-    ensures marks { OnOk result (FindsChanges path.old out.old found.old found.new given.now (slot_changes aims.now slot)) }
+    ensures marks { OnOk result (FindsAll path.old out.old found.old found.new given.now (slot_changes aims.now slot)) }
 {
     for aim in aims {
         if aim.starts_at(slot) {
@@ -113,7 +113,7 @@ fn push_over_top(
 ) -> Result<(), AllocError>
     ensures path { OnOk result (path.new.items ≡ path.old.items) }
     ensures trees { OnOk result (Puts out.old out.new (flat_map (given_in given.now) (top_changes aims.now))) }
-    ensures marks { OnOk result (FindsChanges path.old out.old found.old found.new given.now (top_changes aims.now)) }
+    ensures marks { OnOk result (FindsAll path.old out.old found.old found.new given.now (top_changes aims.now)) }
 {
     for aim in aims {
         if aim.replaces_top() {

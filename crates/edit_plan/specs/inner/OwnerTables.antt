@@ -4,6 +4,7 @@
 --     path_at, places_in            the place of an owner, from a table by its number; the empty path where there is none
 --     IsPlaced                      a table has no other places than those of owners
 --     FoundSoFar                    the changes before this one find places in a table
+--     aim_in_payload                the aim of a change in the payload of its owner, where the owner's target has this place
 --     moved_dependent               a change that is owned, and where it aims in its owner's payload
 --     dependents_in                 those of an owner, from a table by its number
 --     AimsFrom                      with this path in place of its own, a change aims where it is carried out
@@ -27,12 +28,14 @@ use Rattle.cst_core.specs.declared.element.SyntaxElement.TheVariants.{Node}
 use Rattle.edit_change.specs.declared.change.Change.TheVariants.{Replace}
 use Rattle.rewriting.specs.declared.marked_given.GivenTable.{GivenTable}
 use Rattle.rewriting.specs.inner.Pass.{kind_only, given_in}
+use Rattle.rewriting.specs.Aim.{Aim}
 use Rattle.rewriting.specs.Rewriting.{NumberedAim, rewritten}
 use Rattle.edit_map.specs.Mapping.{Mapping, path_in}
+use Rattle.edit_change.specs.ChangeAim.{aim, aim_path}
 use Rattle.edit_change.specs.inner.AimFrom.{aim_from, depth}
 use Rattle.edit_plan.specs.Places.{IsPlaceIn, HasPlace}
 use Rattle.edit_change.specs.Nesting.{owner}
-use Rattle.edit_stages.specs.NewTree.{plain, payload_of, dependents, given}
+use Rattle.edit_stages.specs.NewTree.{moved_aim, plain, payload_of, dependents, given}
 use Rattle.edit_change.specs.declared.change.Change.{Change}
 use Rattle.edit_stages.specs.inner.Stages.{staged_aim}
 use Rattle.edit_plan.specs.declared.dependent.Dependent.{Dependent}
@@ -51,6 +54,9 @@ path_at table c = option_and_then path_in (slice_get table c)
 
 abbrev pub places_in : List (Option (Vec ℕ Global)) → ℕ → Path
 places_in table c = unwrap_or (path_at table c) []
+
+abbrev pub aim_in_payload : Change → Path → Change → Aim
+aim_in_payload owner place c = moved_aim (aim_path owner) place (aim c)
 
 abbrev pub moved_dependent : Dependent → NumberedAim
 moved_dependent d = (d.number, aim_from d.path.items d.change.now)

@@ -10,7 +10,7 @@
 --     topped                        a tree with one mark more at its top
 --     marks_at_path                 the marks of the given element at an index, which stands at a path
 --     Puts                          trees that are put behind others
---     FindsGiven, FindsChange, FindsChanges      where the marks of what is put next are found: of an entry, of a change, of several
+--     FindsGiven, FindsChange, FindsAll          where the marks of what is put next are found: of an entry, of a change, of several
 --     TouchesAtMost, CountsBuilt, CountsBuiltWhole      how a count of built nodes rises
 --     CountsTouched                 how it rises where all that is touched is built
 --     remade, remade_whole          the tree that a pass makes; what stands in the place of an element
@@ -89,8 +89,8 @@ module _ (path : Vec ℕ Global) (out : Vec GreenElement Global) (before after :
   FindsChange table c =
       (trees : ℕ → List MarkTree) → AreMarkedIn table trees → Finds before after (stands_from_here (trees c))
 
-  abbrev pub FindsChanges : GivenTable → List ℕ → Type 0
-  FindsChanges table cs =
+  abbrev pub FindsAll : GivenTable → List ℕ → Type 0
+  FindsAll table cs =
       (trees : ℕ → List MarkTree) → AreMarkedIn table trees → Finds before after (stands_from_here (flat_map trees cs))
 
 -- ---- what the pass makes of an element
