@@ -18,6 +18,7 @@ mod Settled
 mod Untold
 mod Filled
 mod Unowned
+mod OneDepth
 mod Brought
 mod Whole
 mod Running

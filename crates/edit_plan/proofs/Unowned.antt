@@ -2,6 +2,7 @@
 use Rattle.std.specs.Prelude.{◌≡◌, ℕ, zero, suc, ◌+◌, Bool, true, false, cond, not, ◌&&◌, List, [], ◌∷◌, map, filter, flat_map, slice_get, Some, None, is_none, ◌++◌, refl}
 use Rattle.std.specs.List.{AllByRecursion, enumerate_from}
 use Rattle.std.proofs.Common.{ap, ap₂, sym, subst, ◌∙◌}
+use Rattle.std.proofs.lemmas.List.{append-nil}
 use Rattle.std.proofs.lemmas.Option.{none-some, same_Some}
 use Rattle.cst_core.specs.Tree.{text}
 use Rattle.cst_core.specs.Element.{Element, address, subtree}
@@ -39,3 +40,7 @@ text-unowned changes places root none =
     let gives : (c : ℕ) → map plain (given changes places c) ≡ map subtree (payload_of changes c) = λ c. plain-given changes places c (owns_nothing changes places c (λ i d is by. none-some c (sym (all_at (λ d. owner changes d ≡ None) changes i d none is) ∙ by))) in
     let brings : (c : ℕ) → flat_map text (given changes places c) ≡ brought_text changes c = λ c. text-plain (given changes places c) ∙ ap (flat_map text) (gives c) ∙ flat_map-text (map subtree (payload_of changes c)) in
     text-rewritten_whole (origin (address root) None) (given changes places) (brought_text changes) brings (independents changes) (subtree root) ∙ ap (λ ds. text_filled (brought_text changes) (change_aims ds) (subtree root)) (kept_alike changes 0 changes none)
+
+-- the text of a tree that is made, without its origins
+pub text_of_made : (made : OriginTree) (ts : List OriginTree) → ts ≡ made ∷ [] → text (plain made) ≡ flat_map text ts
+text_of_made made ts is = text-relabelled (λ o. o.kind) made ∙ sym (append-nil (text made)) ∙ ap (flat_map text) (sym is)

@@ -1,11 +1,14 @@
 -- What the laws of places and of rewriting speak of.
 --     StandsThere                   what stands at this path of a payload is there for a target; at the empty path for no insert after the target
 --     IsUntouched                   no change aims at a gap of the node at this path or of one below, or over an element below
+--     is_at_depth                   what is around a change is above this depth, and what it replaces is not
 --     brought_text                  the text of what a change brings
 --     filled_text, text_filled      the old text, in which each gap and each replaced range gives a text for each change that aims there;
 --                                   the same where the top may be replaced
 --     filled_text_from              that of the children from a slot on
-use Rattle.std.specs.Prelude.{◌≡◌, ◌≢◌, ℕ, suc, false, cond, List, [], ◌∷◌, ◌++◌, map, flat_map}
+--     changed_text                  the text that changes give a tree, where none of them is owned
+use Rattle.std.specs.Prelude.{◌≡◌, ◌≢◌, ℕ, suc, nat_lt, Bool, ◌&&◌, not, false, cond, List, [], ◌∷◌, ◌++◌, length, map, flat_map}
+use Rattle.std.specs.List.{list_all}
 use Rattle.cst_core.specs.Path.{Path}
 use Rattle.cst_core.specs.Tree.{Forest, Token, Node, end, more, SyntaxTree}
 use Rattle.cst_core.specs.Element.{address, subtree}
@@ -16,7 +19,9 @@ use Rattle.edit_map.specs.Mapping.{Mapping, StandsFor}
 use Rattle.rewriting.specs.Aim.{Behind}
 use Rattle.rewriting.specs.Rewriting.{NumberedAim, inserts_at, replacements_at, is_replaced, gap_order}
 use Rattle.edit_change.specs.ChangeAim.{aim}
-use Rattle.edit_stages.specs.NewTree.{payload_of}
+use Rattle.edit_change.specs.Nesting.{region, surroundings}
+use Rattle.edit_stages.specs.NewTree.{payload_of, change_aims}
+use Rattle.schedule.specs.Schedule.{undropped}
 use Rattle.edit_change.specs.declared.change.Change.{Change}
 
 -- ---- places
@@ -27,6 +32,10 @@ StandsThere m target payload c p = StandsFor m (address (element_of payload)) p 
 pub record IsUntouched (cs : List NumberedAim) (p : Path) : Type 0 where
   pub no_inserts : (q : Path) (i : ℕ) → inserts_at cs (p ++ q) i ≡ []
   pub not_replaced : (q : Path) (i : ℕ) → is_replaced cs (p ++ q ++ i ∷ []) ≡ false
+
+-- ---- changes of one depth
+abbrev pub is_at_depth : ℕ → Change → Bool
+is_at_depth depth c = list_all (λ p. nat_lt (length p) depth) (surroundings c) && list_all (λ p. not (nat_lt (length p) depth)) (region c)
 
 -- ---- texts
 abbrev pub brought_text : List Change → ℕ → List ℕ
@@ -51,3 +60,7 @@ module _ (brought : ℕ → List ℕ) (cs : List NumberedAim) where
 
   abbrev pub text_filled : SyntaxTree → List ℕ
   text_filled t = slot_text [] (filled_text [] t)
+
+-- every change aims in the tree itself: none is owned
+abbrev pub changed_text : List Change → SyntaxTree → List ℕ
+changed_text changes t = text_filled (brought_text changes) (change_aims (undropped changes)) t

@@ -15,11 +15,12 @@ ghost use Rattle.rewriting.specs.Aim.{aims_at_gap, same_gap};
 ghost use Rattle.edit_change.specs.ChangeAim.{aim};
 ghost use Rattle.edit_change.specs.Nesting.{owner, region};
 ghost use Rattle.rewriting.specs.Rewriting.{NumberedAim, gap, rewritten};
-ghost use Rattle.edit_stages.specs.NewTree.{Origin, OriginTree, origin, plain, change_aims, payload_of, is_free, given, Gives, new_tree, stage_tree};
+ghost use Rattle.edit_stages.specs.NewTree.{Origin, OriginTree, origin, plain, payload_of, is_free, given, Gives, new_tree, stage_tree};
+ghost use Rattle.edit_plan.specs.Plan.{Plan, Edit, Makes};
 ghost use Rattle.edit_plan.specs.Results.{changed};
 ghost use Rattle.edit_plan.specs.Places.{HasPlace, elements_held, IsRewriting};
-ghost use Rattle.schedule.specs.Schedule.{undropped, IsAllowed, index_in, is_ready};
-ghost use Rattle.edit_plan.specs.RewritingLaws.{StandsThere, IsUntouched, brought_text, text_filled};
+ghost use Rattle.schedule.specs.Schedule.{IsAllowed, index_in, is_ready};
+ghost use Rattle.edit_plan.specs.RewritingLaws.{StandsThere, IsUntouched, is_at_depth, changed_text};
 
 use edit_map::laws::place_keeps_the_shape;
 
@@ -80,8 +81,21 @@ pub fn inserts_stand_in_order()
 pub fn text_is_filled()
     ensures { (changes : List Change) (places : ℕ → Path) (root : Element)
         → All (λ c. owner changes c ≡ None) changes
-        → flat_map text (new_tree changes places root)
-        ≡ text_filled (brought_text changes) (change_aims (undropped changes)) (subtree root) }
+        → flat_map text (new_tree changes places root) ≡ changed_text changes (subtree root) }
+{}
+
+/// The same of the edit that a plan makes.
+pub fn edit_text_is_filled()
+    ensures { (plan : Plan) (number : ℕ) (edit : Edit)
+        → Makes plan number edit → All (λ c. owner plan.changes c ≡ None) plan.changes
+        → text edit.new_root.root ≡ changed_text plan.changes (subtree plan.root) }
+{}
+
+/// No change is owned where each one is at the same depth, as those of the children of one node are: what is around it is
+/// above this depth, and what it replaces is not. An insert after a child is one level deeper.
+pub fn changes_of_one_depth_own_nothing()
+    ensures { (depth : ℕ) (changes : List Change)
+        → All (λ c. is_at_depth depth c ≡ true) changes → All (λ c. owner changes c ≡ None) changes }
 {}
 
 /// In an allowed order each change can be the next once those before it are done, and where all are done, the tree is the

@@ -4,3 +4,4 @@ mod Kept
 mod Cut
 mod Alone
 mod RowsOfRemovals
+mod OneDepth

@@ -1,6 +1,6 @@
 //! Laws of removals, of the definitions alone.
 
-ghost use Rattle.std.specs.Prelude.{ℕ, ◌≡◌, [], ◌∷◌};
+ghost use Rattle.std.specs.Prelude.{ℕ, ◌≡◌, [], ◌∷◌, length, Some};
 ghost use Rattle.cst_core.specs.Tree.{text};
 ghost use Rattle.cst_core.specs.Element.{Element, NumbersTell};
 ghost use Rattle.cst_core.specs.SyntaxElement.{element_of};
@@ -8,6 +8,7 @@ ghost use Rattle.cst_core.specs.SyntaxKind.{SyntaxKind};
 ghost use Rattle.cst_core.specs.declared.element.SyntaxElement.{SyntaxElement};
 ghost use Rattle.edit_plan.specs.Plan.{Edit, Makes};
 ghost use Rattle.syntax_editor.specs.RecordCall.{Deleting, refusal};
+ghost use Rattle.syntax_editor.specs.EditorLaws.{target_depth};
 ghost use Rattle.syntax_editor.specs.Editor.{Editor, IsEditor, Records, Takes, plan_of};
 ghost use Rattle.list_removal.specs.Removal.{removed_run, removal};
 ghost use Rattle.list_removal.specs.RemovalText.{text_without};
@@ -33,3 +34,9 @@ pub fn removal_cuts_the_text()
 {
     text_is_filled();
 }
+
+/// A removal is a deletion at the depth of the element, so the law `calls_at_one_depth_own_nothing` takes it as such.
+pub fn removal_is_at_the_depth_of_the_element()
+    ensures { (separator : SyntaxKind) (e : SyntaxElement)
+        → target_depth (removal separator e) ≡ Some (length (element_of e).path) }
+{}

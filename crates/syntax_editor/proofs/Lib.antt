@@ -7,3 +7,4 @@ mod Fitting
 mod Called
 mod Merged
 mod Removed
+mod OneDepth

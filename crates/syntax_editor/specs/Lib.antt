@@ -9,6 +9,7 @@ pub use Rattle.cst_core.specs.Green
 pub use Rattle.cst_core.specs.TreeIds
 pub use Rattle.cst_core.specs.Element
 pub use Rattle.cst_core.specs.SyntaxElement
+pub use Rattle.cst_core.specs.Navigation
 pub use Rattle.cst_core.specs.declared.element.SyntaxElement as ElementForms
 pub use Rattle.edit_map.specs.declared.map_error.MapError
 pub use Rattle.edit_map.specs.Mapping
@@ -37,6 +38,7 @@ pub use Rattle.edit_plan.specs.Plan
 pub use Rattle.edit_plan.specs.Engine
 pub use Rattle.edit_plan.specs.Run
 pub use Rattle.edit_plan.specs.ExecuteRefusal
+pub use Rattle.edit_plan.specs.RewritingLaws
 pub use Rattle.indentation.specs.declared.level.IndentLevel
 pub use Rattle.indentation.specs.declared.indent_error.IndentError
 pub use Rattle.indentation.specs.Level

@@ -1,6 +1,6 @@
 //! Laws of recorded lists and of indented trees, of the definitions alone.
 
-ghost use Rattle.std.specs.Prelude.{ℕ, ◌≡◌, ◌<◌, ◌+◌, List, [], ◌∷◌, ◌++◌, length, slice_get, None, is_none, option_to_list, true, false, All};
+ghost use Rattle.std.specs.Prelude.{ℕ, ◌≡◌, ◌<◌, ◌+◌, List, [], ◌∷◌, ◌++◌, length, slice_get, Some, None, is_none, option_to_list, true, false, All};
 ghost use Rattle.std.specs.List.{list_any};
 ghost use Rattle.std.specs.Option.{option_or};
 ghost use Rattle.cst_core.specs.Path.{last_item};
@@ -9,12 +9,14 @@ ghost use Rattle.cst_core.specs.declared.element.SyntaxElement.{SyntaxElement};
 ghost use Rattle.edit_change.specs.declared.change.Change.{Change};
 ghost use Rattle.change_list.specs.Recording.{replacements_of};
 ghost use Rattle.edit_plan.specs.Fits.{Fits};
+ghost use Rattle.edit_plan.specs.Nesting.{owner};
 ghost use Rattle.syntax_editor.specs.RecordCall.{RecordCall, recorded, all_recorded, refusal};
 ghost use Rattle.syntax_editor.specs.Editor.{Editor};
 ghost use Rattle.syntax_editor.specs.Merging.{IsMerged};
-ghost use Rattle.syntax_editor.specs.EditorLaws.{all_asked_for, copy_by};
+ghost use Rattle.syntax_editor.specs.EditorLaws.{target_depth, all_asked_for, copy_by};
 
 use edit_map::laws::newer_copies_stand;
+use edit_plan::laws::changes_of_one_depth_own_nothing;
 pub use indentation::laws::dedent_restores;
 
 /// Before any merge a list holds one Replace of an element at most. It is a deletion where a call deleted the element, and
@@ -32,6 +34,16 @@ pub fn recorded_changes_fit()
     ensures { (root : Element) (call : RecordCall) (changes : List Change)
         → refusal root call ≡ None → All (Fits root) changes → All (Fits root) (recorded call changes) }
 {}
+
+/// Calls that replace or delete elements of one depth, as the children of one node are, record a list in which no change is owned, so
+/// that `edit_plan::laws::edit_text_is_filled` says the new text.
+pub fn calls_at_one_depth_own_nothing()
+    ensures { (depth : ℕ) (calls : List RecordCall)
+        → All (λ call. target_depth call ≡ Some depth) calls
+        → All (λ c. owner (all_recorded calls) c ≡ None) (all_recorded calls) }
+{
+    changes_of_one_depth_own_nothing();
+}
 
 /// A merge appends the other's changes, and none updates another one. It does the same with
 /// registrations. Where both map an element, the other's copy wins.

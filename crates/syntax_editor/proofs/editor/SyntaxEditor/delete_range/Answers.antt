@@ -8,7 +8,7 @@ use Rattle.syntax_editor.specs.RecordCall.{DeletingAll, refusal}
 use Rattle.syntax_editor.proofs.Fitting.{recorded_fits, native_number, both_native, no-line-of-three}
 use Rattle.syntax_editor.proofs.Called.{called}
 use Rattle.syntax_editor.proofs.ByPath.{delete-by-path}
-use Rattle.syntax_editor.proofs.editor.SyntaxEditor.delete_all.Goals as goal
+use Rattle.syntax_editor.proofs.editor.SyntaxEditor.delete_range.Goals as goal
 
 pub invariant_of-self-then-eq : goal.invariant_of-self-then-eq
 invariant_of-self-then-eq c =
