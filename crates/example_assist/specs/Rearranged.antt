@@ -2,14 +2,16 @@
 --     calls                the calls on the first three arguments, in order
 --     after_calls          an editor after such calls
 --     Rearranges           an editor is another one after the calls on the three child nodes of a root
---     IsRearranged         an edit is what an editor with these calls makes under this tree number
+--     IsRearranged         an edit is what an editor with these calls makes under this tree number, and its text is what the changes give
 use Rattle.std.specs.Prelude.{◌≡◌, ℕ, List, [], ◌∷◌}
 use Rattle.std.specs.List.{fold}
-use Rattle.syntax_editor.specs.Element.{Element}
+use Rattle.syntax_editor.specs.Tree.{text}
+use Rattle.syntax_editor.specs.Element.{Element, subtree}
 use Rattle.syntax_editor.specs.Kinds.{COMMA}
 use Rattle.syntax_editor.specs.SyntaxElement.{child_nodes}
 use Rattle.syntax_editor.specs.ElementForms.TheVariants.{Node}
 use Rattle.syntax_editor.specs.Plan.{Edit, Makes}
+use Rattle.syntax_editor.specs.RewritingLaws.{changed_text}
 use Rattle.list_removal.specs.Removal.{removal}
 use Rattle.syntax_editor.specs.Editor.{Editor, after_call, plan_of}
 use Rattle.syntax_editor.specs.RecordCall.{RecordCall, Replacing}
@@ -31,3 +33,4 @@ pub record IsRearranged (editor : Editor) (number : ℕ) (edit : Edit) : Type 0 
   pub after : Editor
   pub rearranges : Rearranges editor.root editor after
   pub makes : Makes (plan_of after) number edit
+  pub text_is : text edit.new_root.root ≡ changed_text after.changes (subtree after.root)

@@ -1,17 +1,23 @@
 //! Swaps the first two arguments of a list and deletes the third with its comma: `(1, 2, 3)` becomes `(2, 1)`.
 #![tactic(auto)]
 
-ghost use Rattle.std.specs.Prelude.{◌≡◌, ◌+◌, cond, IfOk, OnOk};
+ghost use Rattle.std.specs.Prelude.{◌≡◌, ℕ, ◌+◌, cond, [], IfOk, OnOk};
 ghost use Rattle.syntax_editor.specs.Kinds.{COMMA};
 ghost use Rattle.syntax_editor.specs.ElementForms.TheVariants.{Node};
+ghost use Rattle.syntax_editor.specs.Element.{subtree};
+ghost use Rattle.syntax_editor.specs.Tree.{text};
+ghost use Rattle.syntax_editor.specs.Plan.{Edit, Makes};
+ghost use Rattle.syntax_editor.specs.RewritingLaws.{changed_text};
 ghost use Rattle.list_removal.specs.Removal.{removal};
-ghost use Rattle.syntax_editor.specs.Editor.{Records, new_editor, has_parent};
+ghost use Rattle.syntax_editor.specs.Editor.{Editor, Records, new_editor, has_parent, plan_of};
 ghost use Rattle.example_assist.specs.Rearranged.{calls, after_calls, Rearranges, IsRearranged};
 
 use anyhow::{Result, anyhow};
 use cst_core::{SyntaxElement, SyntaxKind, SyntaxNode, TreeIds};
+use list_removal::laws::removal_is_at_the_depth_of_the_element;
 use list_removal::remove_separated;
 use std::alloc::Global;
+use syntax_editor::laws::{calls_at_one_depth_own_nothing, edit_text_is_filled};
 use syntax_editor::{SyntaxEdit, SyntaxEditor};
 use tree_text::read_tree;
 
@@ -48,10 +54,23 @@ fn rearrange(alloc: Global, editor: &mut SyntaxEditor, root: &SyntaxNode) -> Res
     record(alloc, editor, first, second, third)
 }
 
+// All calls aim at children of the root, so no change is inside another one, and the changes alone tell the new text.
+fn text_is_told()
+    ensures { (editor after : Editor) (number : ℕ) (edit : Edit)
+        → editor.root.path ≡ [] → editor.changes ≡ [] → Rearranges editor.root editor after
+        → Makes (plan_of after) number edit → text edit.new_root.root ≡ changed_text after.changes (subtree after.root) }
+{
+    edit_text_is_filled();
+    calls_at_one_depth_own_nothing();
+    removal_is_at_the_depth_of_the_element();
+}
+
 // The elements to edit are those of the root that `new` returns.
 fn rearranged(alloc: Global, ids: &mut TreeIds, list: SyntaxNode) -> Result<SyntaxEdit>
     ensures { IfOk result (IsRearranged (new_editor ids.old list) (cond (has_parent list) (ids.old + 1) ids.old)) }
 {
+    // A law: the calls alone tell the new text.
+    text_is_told();
     let (mut editor, root) = SyntaxEditor::new(alloc, ids, list)?;
     rearrange(alloc, &mut editor, &root)?;
     Ok(editor.finish(alloc, ids)?)

@@ -7,6 +7,7 @@ ghost use Rattle.example_search_replace.specs.Rewritten.{is_match, wrapper, Repl
 use anyhow::{Context, Result};
 use cst_core::{GreenElement, GreenNode, GreenToken, SyntaxKind, SyntaxNode, TreeIds};
 use std::alloc::Global;
+use syntax_editor::laws::edit_text_is_filled;
 use syntax_editor::{SyntaxEdit, SyntaxEditor, SyntaxMappingBuilder};
 use tree_text::read_tree;
 
@@ -117,6 +118,8 @@ fn rewritten(
 ) -> Result<SyntaxEdit>
     ensures { IfOk result (IsRewritten pattern.now new.now ids.old file) }
 {
+    // A law: where no change is inside another one, the changes alone tell the new text.
+    edit_text_is_filled();
     let (mut editor, root) = SyntaxEditor::new(alloc, ids, file)?;
     let nodes = root.descendants(alloc)?;
     replace_matches(alloc, &mut editor, &nodes, pattern, new)?;
