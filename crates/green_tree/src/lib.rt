@@ -16,4 +16,4 @@ pub use kind::{KIND_NAMES, SyntaxKind};
 pub use shape::have_same_shape;
 pub use start::start_of;
 pub use text::text_of;
-pub use tokens::{FoundToken, first_token, token_before};
+pub use tokens::{FoundToken, first_token, last_token, token_after, token_before};
