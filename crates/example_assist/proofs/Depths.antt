@@ -31,16 +31,25 @@ slot_depth e i n is =
     let longer : length (e.path ++ i ∷ []) ≡ suc (length e.path) = omega (arith, length-append e.path (i ∷ [])) in
     ap (λ (x : Element). length x.path) (sym (node_as (subtree (below e (i ∷ []))) (below e (i ∷ [])) n is)) ∙ longer
 
-child_depth : (e : Element) (is : List ℕ) → AllByRecursion (IsBelow e) (filter_map node_of (map (λ i. syntax_of (below e (i ∷ []))) is))
+abbrev nodes_in : Element → List ℕ → List Element
+nodes_in e is = filter_map node_of (map (λ i. syntax_of (below e (i ∷ []))) is)
+
+one_more : (e : Element) (i : ℕ) (is : List ℕ) → AllByRecursion (IsBelow e) (nodes_in e is) → (o : Option Element) → node_of (syntax_of (below e (i ∷ []))) ≡ o → AllByRecursion (IsBelow e) (cons_option o (nodes_in e is))
+one_more e i is all None there = all
+one_more e i is all (Some n) there = (slot_depth e i n there, all)
+
+child_depth : (e : Element) (is : List ℕ) → AllByRecursion (IsBelow e) (nodes_in e is)
 child_depth e [] = tt
-child_depth e (i ∷ is) = with_slot (node_of (syntax_of (below e (i ∷ [])))) refl
-  where
-    with_slot : (o : Option Element) → node_of (syntax_of (below e (i ∷ []))) ≡ o → AllByRecursion (IsBelow e) (cons_option o (filter_map node_of (map (λ j. syntax_of (below e (j ∷ []))) is)))
-    with_slot None none = child_depth e is
-    with_slot (Some n) there = (slot_depth e i n there, child_depth e is)
+child_depth e (i ∷ is) = one_more e i is (child_depth e is) (node_of (syntax_of (below e (i ∷ [])))) refl
+
+abbrev AtOne : RecordCall → Type 0
+AtOne call = target_depth call ≡ Some 1
 
 pub calls_depth : (root a b c : Element) → root.path ≡ [] → child_nodes root ≡ a ∷ b ∷ c ∷ [] → (target_depth (removal COMMA (Node c)) ≡ Some (length c.path)) → All (λ call. target_depth call ≡ Some 1) (calls a b c)
 calls_depth root a b c top nodes removed =
     let all : AllByRecursion (IsBelow root) (a ∷ b ∷ c ∷ []) = subst (AllByRecursion (IsBelow root)) nodes (child_depth root (counted_from 0 (length (children (subtree root))))) in
     let one : (n : Element) → IsBelow root n → Some (length n.path) ≡ Some 1 = λ n below. ap Some (below ∙ ap (λ p. suc (length p)) top) in
-    All-cons (λ call. target_depth call ≡ Some 1) _ _ (one a all.0) (All-cons (λ call. target_depth call ≡ Some 1) _ _ (one b all.1.0) (All-cons (λ call. target_depth call ≡ Some 1) _ _ (removed ∙ one c all.1.1.0) (All-nil (λ call. target_depth call ≡ Some 1))))
+    let swap = Replacing (Node a) (Node b) in
+    let back = Replacing (Node b) (Node a) in
+    let cut = removal COMMA (Node c) in
+    All-cons AtOne swap (back ∷ cut ∷ []) (one a all.0) (All-cons AtOne back (cut ∷ []) (one b all.1.0) (All-cons AtOne cut [] (removed ∙ one c all.1.1.0) (All-nil AtOne)))
