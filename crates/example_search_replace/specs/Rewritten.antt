@@ -6,8 +6,8 @@
 --     with_block, with_blocks       the next tree number and the changes with the wrapper of a node, of each of some nodes, that is a block
 --     ReplacesMatches, WrapsBlocks  an editor is another one after the replacement of the matches among some nodes, after their blocks were wrapped
 --     rewriting                     the next tree number and the changes once all nodes of a root were looked at, matches first
---     IsRewritten                   an edit is what these changes make of a file, where this is the next tree number; where no change is owned, they tell its text
-use Rattle.std.specs.Prelude.{◌≡◌, ℕ, ◌+◌, Bool, ◌&&◌, ◌==◌, cond, List, [], ◌∷◌, None, All}
+--     IsRewritten                   an edit is what these changes make of a file, where this is the next tree number
+use Rattle.std.specs.Prelude.{◌≡◌, ℕ, ◌+◌, Bool, ◌&&◌, ◌==◌, cond, List, [], ◌∷◌}
 use Rattle.std.specs.List.{fold}
 use Rattle.std.specs.Cmp.Lexicographic.{pointwise}
 use Rattle.syntax_editor.specs.Kinds.{BLOCK_EXPR, TUPLE_EXPR, L_PAREN, R_PAREN}
@@ -17,9 +17,7 @@ use Rattle.syntax_editor.specs.Element.{Element, subtree}
 use Rattle.syntax_editor.specs.SyntaxElement.{descendants_of}
 use Rattle.syntax_editor.specs.ElementForms.TheVariants.{Node}
 use Rattle.syntax_editor.specs.ChangeForms.{Change}
-use Rattle.syntax_editor.specs.Nesting.{owner}
 use Rattle.syntax_editor.specs.Plan.{Plan, Edit, Makes}
-use Rattle.syntax_editor.specs.RewritingLaws.{changed_text}
 use Rattle.syntax_editor.specs.Editor.{Editor, has_parent, edited_root}
 use Rattle.syntax_editor.specs.RecordCall.{Replacing, recorded}
 
@@ -68,4 +66,3 @@ pub record IsRewritten (pattern new : Element) (next : ℕ) (file : Element) (ed
   pub number : ℕ
   pub recorded : (number, plan.changes) ≡ rewriting pattern new (edited_root next file) (cond (has_parent file) (next + 1) next)
   pub makes : Makes plan number edit
-  pub text_is : All (λ c. owner plan.changes c ≡ None) plan.changes → text edit.new_root.root ≡ changed_text plan.changes (subtree plan.root)

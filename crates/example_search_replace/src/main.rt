@@ -1,7 +1,12 @@
 //! Replaces each literal `1` and puts each block into parentheses: `1 {2+1}` becomes `one ({2+one})`.
 #![tactic(auto)]
 
-ghost use Rattle.std.specs.Prelude.{◌≡◌, ◌+◌, [], ◌∷◌, IfOk, OnOk};
+ghost use Rattle.std.specs.Prelude.{◌≡◌, ℕ, ◌+◌, [], ◌∷◌, None, All, IfOk, OnOk};
+ghost use Rattle.syntax_editor.specs.Tree.{text};
+ghost use Rattle.syntax_editor.specs.Element.{Element, subtree};
+ghost use Rattle.syntax_editor.specs.Nesting.{owner};
+ghost use Rattle.syntax_editor.specs.Plan.{Edit};
+ghost use Rattle.syntax_editor.specs.RewritingLaws.{changed_text};
 ghost use Rattle.example_search_replace.specs.Rewritten.{is_match, wrapper, ReplacesMatches, WrapsBlocks, IsRewritten};
 
 use anyhow::{Context, Result};
@@ -109,6 +114,15 @@ fn wrap_blocks(
     Ok(())
 }
 
+// Where no change is inside another one, the changes alone tell the new text.
+fn text_is_told()
+    ensures { (pattern new : Element) (next : ℕ) (file : Element) (edit : Edit)
+        (r : IsRewritten pattern new next file edit) → All (λ c. owner r.plan.changes c ≡ None) r.plan.changes
+        → text edit.new_root.root ≡ changed_text r.plan.changes (subtree r.plan.root) }
+{
+    edit_text_is_filled();
+}
+
 fn rewritten(
     alloc: Global,
     ids: &mut TreeIds,
@@ -118,8 +132,6 @@ fn rewritten(
 ) -> Result<SyntaxEdit>
     ensures { IfOk result (IsRewritten pattern.now new.now ids.old file) }
 {
-    // A law: where no change is inside another one, the changes alone tell the new text.
-    edit_text_is_filled();
     let (mut editor, root) = SyntaxEditor::new(alloc, ids, file)?;
     let nodes = root.descendants(alloc)?;
     replace_matches(alloc, &mut editor, &nodes, pattern, new)?;
