@@ -131,10 +131,7 @@ fn of_element(
             alloc,
             &told("SyntaxElement::to_string", element.to_string(alloc))?,
         ),
-        FactQuestion::Debug => told(
-            "SyntaxElement as {:?}",
-            format!(in alloc; "{element:?}"),
-        ),
+        FactQuestion::Debug => told("SyntaxElement as {:?}", format!(in alloc; "{element:?}")),
         FactQuestion::AsGreen => green_facts(alloc, element.as_green()),
         FactQuestion::Green => green_facts(
             alloc,
@@ -157,10 +154,7 @@ fn of_node(alloc: Global, question: FactQuestion, node: &SyntaxNode) -> Result<S
             alloc,
             &told("SyntaxNode::to_string", node.to_string(alloc))?,
         ),
-        FactQuestion::Debug => told(
-            "SyntaxNode as {:?}",
-            format!(in alloc; "Node({node:?})"),
-        ),
+        FactQuestion::Debug => told("SyntaxNode as {:?}", format!(in alloc; "Node({node:?})")),
         FactQuestion::AsGreen => green_facts(alloc, GreenElementRef::Node(node.as_green())),
         FactQuestion::Green => green_facts(
             alloc,
@@ -187,10 +181,7 @@ fn of_token(
             alloc,
             &told("SyntaxToken::to_string", token.to_string(alloc))?,
         ),
-        FactQuestion::Debug => told(
-            "SyntaxToken as {:?}",
-            format!(in alloc; "Token({token:?})"),
-        ),
+        FactQuestion::Debug => told("SyntaxToken as {:?}", format!(in alloc; "Token({token:?})")),
         FactQuestion::AsGreen => green_facts(alloc, GreenElementRef::Token(token.as_green())),
         FactQuestion::Green => green_facts(
             alloc,
