@@ -4,6 +4,7 @@
 pub mod ast;
 mod ast_node;
 mod direction;
+mod display;
 mod element;
 mod location;
 mod navigation;
