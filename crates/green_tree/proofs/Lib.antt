@@ -8,3 +8,4 @@ pub mod Shapes
 pub mod Parts
 pub mod FoundTokens
 pub mod TextLengths
+pub mod Touching

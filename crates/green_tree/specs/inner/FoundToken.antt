@@ -2,7 +2,8 @@
 --     FindsToken                    the token at this path of the tree, and the slots on the way to it added; or neither, where there is no such path
 --     FindsFirst, FindsLastBefore   that of the first token; of the last one before the element at a path
 --     path_found, IsTokenOf         the path of a token that was found; it leads to that token in the tree
-use Rattle.std.specs.Prelude.{◌≡◌, [], ◌++◌, Option, Some, option_map, unwrap_or}
+--     place_found, places_below     the path of a token that was found, and its tree; paths in a tree that stands at a path, each with what it leads to
+use Rattle.std.specs.Prelude.{◌≡◌, List, [], ◌++◌, map, Option, Some, option_map, unwrap_or}
 use Rattle.green_tree.specs.Path.{Path}
 use Rattle.green_tree.specs.Tree.{SyntaxTree, at}
 use Rattle.green_tree.specs.Order.{first_token, last_token_before}
@@ -24,3 +25,9 @@ path_found found = option_map (λ token. token.path.items) found
 
 abbrev pub IsTokenOf : SyntaxTree → FoundToken → Type 0
 IsTokenOf t token = at t token.path.items ≡ Some (leaf_tree token.green)
+
+abbrev pub place_found : FoundToken → Path × Option SyntaxTree
+place_found token = (token.path.items, Some (leaf_tree token.green))
+
+abbrev pub places_below : Path → SyntaxTree → List Path → List (Path × Option SyntaxTree)
+places_below top t ps = map (λ p. (top ++ p, at t p)) ps
