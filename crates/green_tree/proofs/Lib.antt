@@ -9,3 +9,4 @@ pub mod Parts
 pub mod FoundTokens
 pub mod TextLengths
 pub mod Touching
+pub mod Covering

@@ -1,12 +1,12 @@
 -- Where the texts of elements begin and end, child by child, and the tokens that touch an offset.
-use Rattle.std.proofs.Common.{◌≡◌, ◌⊎◌, ℕ, ◌+◌, ◌-◌, ◌<◌, ◌≤◌, suc, Bool, true, false, List, [], ◌∷◌, ◌++◌, map, length, get_or, Option, Some, None, refl, ap, sym, ◌∙◌, arith, add-one, append_assoc, length-append}
+use Rattle.std.proofs.Common.{◌≡◌, ℕ, ◌+◌, ◌-◌, ◌<◌, ◌≤◌, Bool, true, false, List, [], ◌∷◌, ◌++◌, map, length, get_or, Option, Some, None, refl, ap, sym, ◌∙◌, arith, add-one, append_assoc}
 use Rattle.std.specs.Prelude.{◌&&◌, nat_lt, nat_le, filter}
 use Rattle.std.specs.Option.{option_map_or}
 use Rattle.std.proofs.lemmas.List.{append-nil, map-append}
 use Rattle.std.proofs.lemmas.List.Elements.{filter-append}
 use Rattle.std.proofs.lemmas.Bool.Decides.{nat_tests}
 use Rattle.green_tree.specs.Path.{Path}
-use Rattle.green_tree.specs.Tree.{Tree, SyntaxTree, at, forest, trees, text, text_length}
+use Rattle.green_tree.specs.Tree.{Tree, SyntaxTree, at, forest, text, text_length}
 use Rattle.green_tree.specs.Order.{token_paths, tokens_before, start}
 use Rattle.green_tree.specs.Offsets.{length_at, touches, tokens_touching}
 use Rattle.green_tree.specs.Green.{Leaf, leaf_tree, Branch, branch_tree, length_limit, capped_length}
@@ -16,7 +16,8 @@ use Rattle.green_tree.specs.declared.green.GreenElement.{GreenElement}
 use Rattle.green_tree.proofs.Parts.{filter-map}
 use Rattle.green_tree.proofs.Slots.{slice_get-child}
 use Rattle.green_tree.proofs.Starts.{start-top, start-le, start-below, start-next, start-child-le}
-use Rattle.green_tree.proofs.TextLengths.{start-text_length-le}
+use Rattle.green_tree.proofs.TextLengths.{start-text_length-le, start-append}
+use Rattle.green_tree.proofs.Lookup.{at-append}
 use Rattle.green_tree.proofs.TokenPaths.{filter-none}
 use Rattle.green_tree.proofs.FoundTokens.{IsChildAt, tokens_before-none, tokens_before-all}
 
@@ -148,3 +149,12 @@ found_token_in b offset top i l old now new child span h long within found more 
 
 pub found_all : (b : Branch) (es : List GreenElement) (offset : ℕ) (top : Path) (i : ℕ) (old : List (Path × Option SyntaxTree)) {now : List (Path × Option SyntaxTree)} → element_trees es ≡ b.children → length es ≤ i → FoundUpTo b offset top i old now → now ≡ old ++ places_below top (branch_tree b) (tokens_touching (branch_tree b) offset)
 found_all b es offset top i old same h found = found ∙ ap (λ ps. old ++ places_below top (branch_tree b) (filter (touches (branch_tree b) offset) ps)) (tokens_before-all b es i same h)
+
+-- ---- below an element of a larger tree
+pub touches-below : (t : SyntaxTree) (p : Path) (c : SyntaxTree) (offset : ℕ) (q : Path) → at t p ≡ Some c → start t p ≤ offset → touches t offset (p ++ q) ≡ touches c (offset - start t p) q
+touches-below t p c offset q there h =
+    let long : length_at t (p ++ q) ≡ length_at c q = rw (at-append t p q, there) refl in
+    rw (start-append t p q c there, long) (touched-inside (start t p) (start c q) (length_at c q) offset h)
+
+pub touches-outside : (t : SyntaxTree) (p : Path) (c : SyntaxTree) (offset : ℕ) (q : Path) → at t p ≡ Some c → offset < start t p → touches t offset (p ++ q) ≡ false
+touches-outside t p c offset q there h = rw (start-append t p q c there) (touched-before (start t p) (start c q) (length_at t (p ++ q)) offset h)

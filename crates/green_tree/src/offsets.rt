@@ -79,12 +79,13 @@ fn push_covering(
     let mut from = node.length();
     for slot in (0..children.len()).rev() {
         let to = from;
-        from -= children[slot].length();
+        let child = &children[slot];
+        from -= child.length();
         if start < from || to < end {
             continue;
         }
         path.push(slot)?;
-        return match &children[slot] {
+        return match child {
             GreenElement::Node(below) => push_covering(below, start - from, end - from, path),
             GreenElement::Token(_) => Ok(()),
         };

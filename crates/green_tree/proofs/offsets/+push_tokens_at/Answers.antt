@@ -8,7 +8,6 @@ use Rattle.green_tree.specs.Offsets.{touches, tokens_touching}
 use Rattle.green_tree.specs.Green.{branch_tree, leaf_tree}
 use Rattle.green_tree.specs.GreenElement.{element_tree}
 use Rattle.green_tree.specs.inner.FoundToken.{place_found, places_below}
-use Rattle.green_tree.specs.declared.green.GreenElement.TheVariants.{Node, Token}
 use Rattle.green_tree.proofs.Slots.{size_at}
 use Rattle.green_tree.proofs.Starts.{start-slot}
 use Rattle.green_tree.proofs.FoundTokens.{child_at}
@@ -69,8 +68,7 @@ loop-slot-preserved t c =
     let turn : (c.match-child.path.items ≡ c.push.new.self.items) × (map place_found c.match-child.found.items ≡ map place_found c.args.found.now.items ++ places_below c.args.path.now.items (branch_tree c.args.node.now) (filter (touches (branch_tree c.args.node.now) c.args.offset) (tokens_before (branch_tree c.args.node.now) ((c.loop-slot.slot + 1) ∷ [])))) =
     elim c.match-child.branch [
       | in-Node+in_ok-push_tokens_at-in-Node w ↦
-          let below : places_below c.push.new.self.items (branch_tree w.in-Node.below) (tokens_touching (branch_tree w.in-Node.below) (c.args.offset - c.loop-slot.end)) ≡ places_below (c.args.path.now.items ++ c.loop-slot.slot ∷ []) (element_tree c.child-item.result) (tokens_touching (element_tree c.child-item.result) (c.args.offset - start (branch_tree c.args.node.now) (c.loop-slot.slot ∷ []))) = rw (w.in-Node.is, pushed, c.loop-slot.invariant.start) refl in
-          (
+          let below : places_below c.push.new.self.items (branch_tree w.in-Node.below) (tokens_touching (branch_tree w.in-Node.below) (c.args.offset - c.loop-slot.end)) ≡ places_below (c.args.path.now.items ++ c.loop-slot.slot ∷ []) (element_tree c.child-item.result) (tokens_touching (element_tree c.child-item.result) (c.args.offset - start (branch_tree c.args.node.now) (c.loop-slot.slot ∷ []))) = rw (w.in-Node.is, pushed, c.loop-slot.invariant.start) refl in (
             ap (λ v. v.items) w.path-is ∙ w.in_ok-push_tokens_at-in-Node.ensures.path,
             found_in c.args.node.now c.args.offset c.args.path.now.items c.loop-slot.slot (element_tree c.child-item.result) (map place_found c.args.found.now.items) (map place_found c.loop-slot.found.items) (map place_found c.match-child.found.items) child span begins c.loop-slot.invariant.found (ap (λ v. map place_found v.items) w.found-is ∙ w.in_ok-push_tokens_at-in-Node.ensures.found ∙ ap (λ ps. map place_found c.loop-slot.found.items ++ ps) below),
           )
@@ -80,8 +78,7 @@ loop-slot-preserved t c =
           let long_token : 0 < length w.in-Token.token.text = rw w.in-Token.is at long_enough in
           let ends_token : c.args.offset ≤ start (branch_tree c.args.node.now) (c.loop-slot.slot ∷ []) + length w.in-Token.token.text = rw w.in-Token.is at ends in
           let copied : w.in_ok-from_slice-in-Token.field-0.items ≡ c.args.path.now.items ++ c.loop-slot.slot ∷ [] = w.in_ok-from_slice-in-Token.ensures.items ∙ w.deref.ensures.value ∙ pushed in
-          let more : map place_found w.push-in-Token.new.self.items ≡ map place_found c.loop-slot.found.items ++ (c.args.path.now.items ++ c.loop-slot.slot ∷ [], Some (leaf_tree w.in-Token.token)) ∷ [] = ap (map place_found) w.in_ok-push-in-Token.ensures.items ∙ map-append place_found c.loop-slot.found.items _ ∙ rw (copied, w.in_ok-share-in-Token.ensures) refl in
-          (
+          let more : map place_found w.push-in-Token.new.self.items ≡ map place_found c.loop-slot.found.items ++ (c.args.path.now.items ++ c.loop-slot.slot ∷ [], Some (leaf_tree w.in-Token.token)) ∷ [] = ap (map place_found) w.in_ok-push-in-Token.ensures.items ∙ map-append place_found c.loop-slot.found.items _ ∙ rw (copied, w.in_ok-share-in-Token.ensures) refl in (
             ap (λ v. v.items) w.path-is,
             found_token_in c.args.node.now c.args.offset c.args.path.now.items c.loop-slot.slot w.in-Token.token (map place_found c.args.found.now.items) (map place_found c.loop-slot.found.items) (map place_found c.match-child.found.items) child_token span_token begins long_token ends_token c.loop-slot.invariant.found (ap (λ v. map place_found v.items) w.found-is ∙ more),
           )
