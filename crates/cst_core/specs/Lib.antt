@@ -13,3 +13,4 @@ pub mod Element
 pub mod Placed
 pub mod SyntaxElement
 pub mod Navigation
+pub mod Offsets
