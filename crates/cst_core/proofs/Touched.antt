@@ -1,8 +1,8 @@
 -- The tokens that touch an offset, and the last element that contains a range, from those of the element's own tree.
-use Rattle.std.proofs.Common.{◌≡◌, ℕ, ◌-◌, ◌<◌, ◌≤◌, suc, Bool, false, List, [], ◌∷◌, ◌++◌, length, map, get_or, Option, Some, None, refl, ap, sym, ◌∙◌, arith}
-use Rattle.std.specs.Prelude.{filter, option_map}
+use Rattle.std.proofs.Common.{◌≡◌, ℕ, ◌-◌, ◌<◌, ◌≤◌, suc, Bool, true, false, cond, List, [], ◌∷◌, ◌++◌, length, map, drop, get_or, subst, Option, Some, None, refl, ap, sym, ◌∙◌, arith}
+use Rattle.std.specs.Prelude.{filter, option_map, option_and_then, IsSome}
 use Rattle.green_tree.specs.Path.{Path, last_item}
-use Rattle.green_tree.specs.Tree.{SyntaxTree, at, paths}
+use Rattle.green_tree.specs.Tree.{SyntaxTree, Forest, at, children, trees, paths, paths_from}
 use Rattle.green_tree.specs.Tree as tree
 use Rattle.green_tree.specs.Order.{start, token_paths}
 use Rattle.green_tree.specs.Offsets as green
@@ -17,7 +17,7 @@ use Rattle.cst_core.specs.Offsets.{tokens_touching, first_two, token_at, coverin
 use Rattle.cst_core.specs.declared.element.SyntaxElement.{SyntaxElement}
 use Rattle.cst_core.specs.declared.offsets.TokenAtOffset.{TokenAtOffset}
 use Rattle.cst_core.specs.declared.offsets.TokenAtOffset.TheVariants as tokens
-use Rattle.green_tree.proofs.Parts.{filter-map}
+use Rattle.green_tree.proofs.Parts.{filter-map, slice_get-drop, drop-rest}
 use Rattle.green_tree.proofs.TokenPaths.{filter-none}
 use Rattle.green_tree.proofs.Touching.{touches-below, touches-outside}
 use Rattle.green_tree.proofs.Covering.{covers-below, covers-outside, covers-back}
@@ -104,3 +104,56 @@ covering_before e t from to there h = none_contains e from to (λ q. covers-outs
 
 pub covering_back : (e : Element) (from to : ℕ) → to < from → None ≡ covering_of e from to
 covering_back e from to h = none_contains e from to (λ q. covers-back e.root from to (e.path ++ q) h)
+
+-- ---- what holds of each item of a list, by recursion on it
+abbrev Each : {X : Type 0} → (X → Type 0) → List X → Type 0
+Each P [] = Unit {0}
+Each P (x ∷ xs) = P x × Each P xs
+
+each-append : {X : Type 0} (P : X → Type 0) (xs ys : List X) → Each P xs → Each P ys → Each P (xs ++ ys)
+each-append P [] ys h k = k
+each-append P (x ∷ xs) ys h k = (h.0, each-append P xs ys h.1 k)
+
+each-map : {X Y : Type 0} (P : Y → Type 0) (f : X → Y) (xs : List X) → Each (λ x. P (f x)) xs → Each P (map f xs)
+each-map P f [] h = tt
+each-map P f (x ∷ xs) h = (h.0, each-map P f xs h.1)
+
+each-filter : {X : Type 0} (P : X → Type 0) (q : X → Bool) (xs : List X) → Each P xs → Each P (filter q xs)
+each-filter P q [] h = tt
+each-filter P q (x ∷ xs) h = elim (q x) as (λ b. Each P (cond b (x ∷ filter q xs) (filter q xs))) [ true ↦ (h.0, each-filter P q xs h.1) | false ↦ each-filter P q xs h.1 ]
+
+each-last : {X : Type 0} (P : X → Type 0) (xs : List X) (x : X) → Each P xs → last_item xs ≡ Some x → P x
+each-last P [] x h is = absurd (cc)
+each-last P (y ∷ []) x h is =
+    let same : y ≡ x = cc in
+    subst P same h.0
+each-last P (y ∷ z ∷ xs) x h is = each-last P (z ∷ xs) x h.1 is
+
+-- every path of a tree leads to something
+mutual
+  paths-lead : (t : SyntaxTree) → Each (λ p. IsSome (at t p)) (paths t)
+  paths-lead (tree.Token k s) = (tt, tt)
+  paths-lead (tree.Node k f) = (tt, paths_from-lead (tree.Node k f) 0 f refl)
+
+  paths_from-lead : (t : SyntaxTree) (i : ℕ) (f : Forest ℕ) → drop i (children t) ≡ trees f → Each (λ p. IsSome (at t p)) (paths_from i f)
+  paths_from-lead t i tree.end h = tt
+  paths_from-lead t i (tree.more c f) h =
+      let there = slice_get-drop (children t) (trees f) i c h in
+      let below : Each (λ p. IsSome (at t (i ∷ p))) (paths c) = subst (λ o. Each (λ p. IsSome (option_and_then (λ d. at d p) o)) (paths c)) (sym there) (paths-lead c) in
+      each-append (λ p. IsSome (at t p)) (map (λ p. i ∷ p) (paths c)) (paths_from (suc i) f) (each-map (λ p. IsSome (at t p)) (λ p. i ∷ p) (paths c) below) (paths_from-lead t (suc i) f (drop-rest (children t) (trees f) i c h))
+
+covering-there : (t : SyntaxTree) (from to : ℕ) (p : Path) → covering t from to ≡ Some p → IsSome (at t p)
+covering-there t from to p is = each-last (λ q. IsSome (at t q)) (filter (covers t from to) (paths t)) p (each-filter (λ q. IsSome (at t q)) (covers t from to) (paths t) (paths-lead t)) is
+
+syntax_there : (e : Element) (p : Path) (o : Option SyntaxTree) → at e.root (e.path ++ p) ≡ o → IsSome o → syntax_at e (e.path ++ p) ≡ Some (syntax_of (below e p))
+syntax_there e p None is there = absurd (cc (there))
+syntax_there e p (Some c) is there = ap (option_map (λ d. syntax_as d (below e p))) is ∙ ap (λ d. Some (syntax_as d (below e p))) (sym (subtree_there (below e p) c is))
+
+pub syntax_covering : (e : Element) (t : SyntaxTree) (from to : ℕ) (p : Path) → at e.root e.path ≡ Some t → start e.root e.path ≤ from → from ≤ to → Some p ≡ covering t (from - start e.root e.path) (to - start e.root e.path) → syntax_at e (e.path ++ p) ≡ covering_of e from to
+syntax_covering e t from to p there h k is =
+    syntax_there e p (at t p) (at_below e t p there) (covering-there t (from - start e.root e.path) (to - start e.root e.path) p (sym is))
+    ∙ ap (option_map (λ q. syntax_of (below e q))) is
+    ∙ sym (covering_below e t from to there h k)
+
+pub covering_nowhere : (e : Element) (t : SyntaxTree) (from to : ℕ) → at e.root e.path ≡ Some t → start e.root e.path ≤ from → from ≤ to → None ≡ covering t (from - start e.root e.path) (to - start e.root e.path) → None ≡ covering_of e from to
+covering_nowhere e t from to there h k is = ap (option_map (λ q. syntax_of (below e q))) is ∙ sym (covering_below e t from to there h k)

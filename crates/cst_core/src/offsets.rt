@@ -24,6 +24,8 @@ impl SyntaxNode {
         requires { at (subtree self.now) found.now.path.items ≡ Some (leaf_tree found.now.green) }
         ensures { IfOk result (λ token. token ≡ below self.now found.now.path.items) }
     {
+        // A node stands at the path of `self`.
+        let _ = &self.green;
         let mut path = Vec::from_slice(alloc, self.slots())?;
         path.extend_from_slice(&found.path)?;
         Ok(SyntaxToken {
@@ -37,6 +39,8 @@ impl SyntaxNode {
     pub fn token_at_offset(&self, alloc: Global, offset: u64) -> Result<TokenAtOffset, AllocError>
         ensures { IfOk result (λ r. r ≡ token_at self.now offset) }
     {
+        // A node stands at the path of `self`.
+        let _ = &self.green;
         let base = self.text_start();
         if offset < base {
             return Ok(TokenAtOffset::None);
@@ -63,6 +67,8 @@ impl SyntaxNode {
     ) -> Result<Option<SyntaxElement>, AllocError>
         ensures { IfOk result (λ r. r ≡ covering_of self.now start end) }
     {
+        // A node stands at the path of `self`.
+        let _ = &self.green;
         let base = self.text_start();
         if start < base || end < start {
             return Ok(None);
