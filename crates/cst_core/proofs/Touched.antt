@@ -1,5 +1,5 @@
 -- The tokens that touch an offset, and the last element that contains a range, from those of the element's own tree.
-use Rattle.std.proofs.Common.{◌≡◌, ℕ, ◌-◌, ◌<◌, ◌≤◌, suc, Bool, true, false, cond, List, [], ◌∷◌, ◌++◌, length, map, drop, get_or, subst, Option, Some, None, refl, ap, sym, ◌∙◌, arith}
+use Rattle.std.proofs.Common.{◌≡◌, ℕ, ◌-◌, ◌<◌, ◌≤◌, zero, suc, Bool, true, false, cond, List, [], ◌∷◌, ◌++◌, length, map, drop, get_or, subst, Option, Some, None, refl, ap, sym, ◌∙◌, arith}
 use Rattle.std.specs.Prelude.{filter, option_map, option_and_then, IsSome}
 use Rattle.green_tree.specs.Path.{Path, last_item}
 use Rattle.green_tree.specs.Tree.{SyntaxTree, Forest, at, children, trees, paths, paths_from}
@@ -38,12 +38,16 @@ touching_none e t offset there h =
 abbrev pub tokens_found : Element → List FoundToken → List Element
 tokens_found e found = map (λ token. below e token.path.items) found
 
+abbrev head_of : List (Path × Option SyntaxTree) → Path × Option SyntaxTree
+head_of [] = ([], None)
+head_of (f ∷ fs) = f
+
 found_places : (e : Element) (t : SyntaxTree) (found : List FoundToken) (ps : List Path) → map place_found found ≡ places_below [] t ps → map (below e) ps ≡ tokens_found e found
 found_places e t [] [] h = refl
 found_places e t [] (p ∷ ps) h = absurd (cc)
 found_places e t (x ∷ found) [] h = absurd (cc)
 found_places e t (x ∷ found) (p ∷ ps) h =
-    let path : x.path.items ≡ p = cc in
+    let path : x.path.items ≡ p = ap (λ fs. (head_of fs).0) h in
     let rest : map place_found found ≡ places_below [] t ps = cc in
     rw (path, found_places e t found ps rest) refl
 
@@ -54,7 +58,11 @@ token_at-found e t offset found there h places = ap first_two (touching_below e 
 pub is_found : (t : SyntaxTree) (found : List FoundToken) (ps : List Path) (i : ℕ) (x : FoundToken) → map place_found found ≡ places_below [] t ps → i < length found → x ≡ get_or found i x → at t x.path.items ≡ Some (leaf_tree x.green)
 is_found t [] ps i x h inside is = absurd (omega arith)
 is_found t (y ∷ found) [] i x h inside is = absurd (cc)
-is_found t (y ∷ found) (p ∷ ps) 0 x h inside is = cc
+is_found t (y ∷ found) (p ∷ ps) zero x h inside is =
+    let path : y.path.items ≡ p = ap (λ fs. (head_of fs).0) h in
+    let leaf : Some (leaf_tree y.green) ≡ at t p = ap (λ fs. (head_of fs).1) h in
+    let first : x ≡ y = is in
+    rw first (ap (at t) path ∙ sym leaf)
 is_found t (y ∷ found) (p ∷ ps) (suc i) x h inside is =
     let rest : map place_found found ≡ places_below [] t ps = cc in
     is_found t found ps i x rest (omega arith) is
@@ -132,8 +140,8 @@ each-last P (y ∷ z ∷ xs) x h is = each-last P (z ∷ xs) x h.1 is
 -- every path of a tree leads to something
 mutual
   paths-lead : (t : SyntaxTree) → Each (λ p. IsSome (at t p)) (paths t)
-  paths-lead (tree.Token k s) = (tt, tt)
-  paths-lead (tree.Node k f) = (tt, paths_from-lead (tree.Node k f) 0 f refl)
+  paths-lead (tree.Token k s) = (refl, tt)
+  paths-lead (tree.Node k f) = (refl, paths_from-lead (tree.Node k f) 0 f refl)
 
   paths_from-lead : (t : SyntaxTree) (i : ℕ) (f : Forest ℕ) → drop i (children t) ≡ trees f → Each (λ p. IsSome (at t p)) (paths_from i f)
   paths_from-lead t i tree.end h = tt

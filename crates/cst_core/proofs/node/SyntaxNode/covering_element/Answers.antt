@@ -1,4 +1,4 @@
-use Rattle.std.proofs.Common.{◌≡◌, ◌-◌, ◌<◌, ◌≤◌, ◌++◌, Some, None, arith, ap, subst, ◌∙◌}
+use Rattle.std.proofs.Common.{◌≡◌, ◌-◌, ◌<◌, ◌≤◌, ◌++◌, Some, None, arith, ap, sym, subst, ◌∙◌}
 use Rattle.std.specs.Prelude.{IfOk, option_map}
 use Rattle.green_tree.specs.Tree.{at, text_length}
 use Rattle.green_tree.specs.Order.{start}
@@ -30,7 +30,7 @@ returns-in-Some c =
     let there : at c.args.self.now.root c.args.self.now.path ≡ Some (branch_tree c.self.inside.green) = rw (← c.self.view_is) c.self.invariant.there in
     let behind : start c.args.self.now.root c.args.self.now.path ≤ c.args.start = omega (arith, c.text_start-base.ensures, c.if-start-base.false) in
     let ordered : c.args.start ≤ c.args.end = omega (arith, c.if-end-start.false) in
-    let way : Some c.in-Some.path.items ≡ covering (branch_tree c.self.inside.green) (c.args.start - start c.args.self.now.root c.args.self.now.path) (c.args.end - start c.args.self.now.root c.args.self.now.path) = rw (← c.text_start-base.ensures) (rw c.in-Some.is at c.in_ok-path.ensures) in
+    let way : Some c.in-Some.path.items ≡ covering (branch_tree c.self.inside.green) (c.args.start - start c.args.self.now.root c.args.self.now.path) (c.args.end - start c.args.self.now.root c.args.self.now.path) = ap (option_map (λ path. path.items)) (sym c.in-Some.is) ∙ c.in_ok-path.ensures ∙ ap (λ n. covering (branch_tree c.self.inside.green) (c.args.start - n) (c.args.end - n)) c.text_start-base.ensures in
     let same : syntax_at c.args.self.now (c.args.self.now.path ++ c.deref.result.now) ≡ covering_of c.args.self.now c.args.start c.args.end = rw c.deref.ensures.value (syntax_covering c.args.self.now (branch_tree c.self.inside.green) c.args.start c.args.end c.in-Some.path.items there behind ordered way) in
     subst (λ x. IfOk c.element_at.result (λ r. r ≡ x)) same c.element_at.ensures
 
@@ -39,5 +39,5 @@ returns-in-None c =
     let there : at c.args.self.now.root c.args.self.now.path ≡ Some (branch_tree c.self.inside.green) = rw (← c.self.view_is) c.self.invariant.there in
     let behind : start c.args.self.now.root c.args.self.now.path ≤ c.args.start = omega (arith, c.text_start-base.ensures, c.if-start-base.false) in
     let ordered : c.args.start ≤ c.args.end = omega (arith, c.if-end-start.false) in
-    let nowhere : None ≡ covering (branch_tree c.self.inside.green) (c.args.start - start c.args.self.now.root c.args.self.now.path) (c.args.end - start c.args.self.now.root c.args.self.now.path) = rw (← c.text_start-base.ensures) (rw c.in-None.is at c.in_ok-path.ensures) in
+    let nowhere : None ≡ covering (branch_tree c.self.inside.green) (c.args.start - start c.args.self.now.root c.args.self.now.path) (c.args.end - start c.args.self.now.root c.args.self.now.path) = ap (option_map (λ path. path.items)) (sym c.in-None.is) ∙ c.in_ok-path.ensures ∙ ap (λ n. covering (branch_tree c.self.inside.green) (c.args.start - n) (c.args.end - n)) c.text_start-base.ensures in
     covering_nowhere c.args.self.now (branch_tree c.self.inside.green) c.args.start c.args.end there behind ordered nowhere

@@ -4,6 +4,7 @@ use Rattle.green_tree.specs.Order.{start}
 use Rattle.green_tree.specs.Offsets.{tokens_touching}
 use Rattle.green_tree.specs.Green.{branch_tree, length_limit}
 use Rattle.green_tree.specs.inner.FoundToken.{place_found, places_below}
+use Rattle.cst_core.specs.Element.{below}
 use Rattle.cst_core.specs.declared.offsets.TokenAtOffset.TheVariants as tokens
 use Rattle.green_tree.proofs.TextLengths.{text_length-part}
 use Rattle.cst_core.proofs.Children.{subtree_there}
@@ -76,4 +77,4 @@ returns c =
     let two : 2 ≤ length c.in_ok-found.found.items = rw (← c.as_slice.ensures.value) c.in-len2-up.len_at_least in
     let left : c.left-item.result ≡ get_or c.in_ok-found.found.items 0 c.left-item.result = rw (← c.as_slice.ensures.value) c.left-item.is in
     let right : c.right-item.result ≡ get_or c.in_ok-found.found.items 1 c.right-item.result = rw (← c.as_slice.ensures.value) c.right-item.is in
-    ap (λ e. tokens.Between e c.in_ok-token_below-in-len2-up.field-0) c.in_ok-left-in-len2-up.ensures ∙ ap (λ e. tokens.Between _ e) c.in_ok-token_below-in-len2-up.ensures ∙ sym (whole ∙ first_two-both c.args.self.now c.in_ok-found.found.items c.left-item.result c.right-item.result two left right)
+    ap (λ e. tokens.Between e c.in_ok-token_below-in-len2-up.field-0) c.in_ok-left-in-len2-up.ensures ∙ ap (λ e. tokens.Between (below c.args.self.now c.left-item.result.path.items) e) c.in_ok-token_below-in-len2-up.ensures ∙ sym (whole ∙ first_two-both c.args.self.now c.in_ok-found.found.items c.left-item.result c.right-item.result two left right)
