@@ -14,3 +14,4 @@ pub mod Placed
 pub mod SyntaxElement
 pub mod Navigation
 pub mod Debug
+pub mod Offsets

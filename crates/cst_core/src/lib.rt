@@ -9,6 +9,7 @@ mod element;
 mod location;
 mod navigation;
 mod node;
+mod offsets;
 mod shape;
 mod token;
 mod tree_ids;
@@ -21,6 +22,7 @@ pub use green_tree::{
     TreeError, laws,
 };
 pub use node::SyntaxNode;
+pub use offsets::TokenAtOffset;
 pub use shape::same_shape;
 pub use token::SyntaxToken;
 pub use tree_ids::TreeIds;

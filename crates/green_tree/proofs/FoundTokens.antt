@@ -72,13 +72,13 @@ first_item-map : {X Y : Type 0} (f : X → Y) (xs : List X) (ys : List Y) (x : X
 first_item-map f [] ys x h = absurd (cc)
 first_item-map f (z ∷ xs) ys x h = cc
 
-last_item-append : {X : Type 0} (xs ys : List X) (y : X) → last_item ys ≡ Some y → last_item (xs ++ ys) ≡ Some y
+pub last_item-append : {X : Type 0} (xs ys : List X) (y : X) → last_item ys ≡ Some y → last_item (xs ++ ys) ≡ Some y
 last_item-append [] ys y h = h
 last_item-append (x ∷ []) [] y h = absurd (cc)
 last_item-append (x ∷ []) (z ∷ ys) y h = h
 last_item-append (x ∷ w ∷ xs) ys y h = last_item-append (w ∷ xs) ys y h
 
-last_item-map : {X Y : Type 0} (f : X → Y) (xs : List X) (x : X) → last_item xs ≡ Some x → last_item (map f xs) ≡ Some (f x)
+pub last_item-map : {X Y : Type 0} (f : X → Y) (xs : List X) (x : X) → last_item xs ≡ Some x → last_item (map f xs) ≡ Some (f x)
 last_item-map f [] x h = absurd (cc)
 last_item-map f (z ∷ []) x h = cc
 last_item-map f (z ∷ w ∷ xs) x h = last_item-map f (w ∷ xs) x h

@@ -9,3 +9,5 @@ pub mod Parts
 pub mod FoundTokens
 pub mod TextLengths
 pub mod Written
+pub mod Touching
+pub mod Covering

@@ -15,7 +15,7 @@ filter-all : {X : Type 0} (p : X → Bool) (xs : List X) → ((x : X) → p x �
 filter-all p [] h = refl
 filter-all p (x ∷ xs) h = rw (h x, filter-all p xs h)
 
-filter-none : {X : Type 0} (p : X → Bool) (xs : List X) → ((x : X) → p x ≡ false) → filter p xs ≡ []
+pub filter-none : {X : Type 0} (p : X → Bool) (xs : List X) → ((x : X) → p x ≡ false) → filter p xs ≡ []
 filter-none p [] h = refl
 filter-none p (x ∷ xs) h = rw (h x, filter-none p xs h)
 

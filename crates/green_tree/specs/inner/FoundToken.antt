@@ -3,7 +3,8 @@
 --     FindsLastBefore, FindsFirstAfter      that of the last token before the element at a path; of the first one after it
 --     tokens_from, FindsFirstFrom   the paths of the tokens that do not stand before the element at a path; that of the first of them
 --     path_found, IsTokenOf         the path of a token that was found; it leads to that token in the tree
-use Rattle.std.specs.Prelude.{◌≡◌, not, List, [], ◌++◌, filter, Option, Some, option_map, unwrap_or}
+--     place_found, places_below     the path of a token that was found, and its tree; paths in a tree that stands at a path, each with what it leads to
+use Rattle.std.specs.Prelude.{◌≡◌, not, List, [], ◌++◌, map, filter, Option, Some, option_map, unwrap_or}
 use Rattle.green_tree.specs.Path.{Path, precedes, first_item}
 use Rattle.green_tree.specs.Tree.{Tree, SyntaxTree, at}
 use Rattle.green_tree.specs.Order.{token_paths, last_token_before, first_token_after}
@@ -31,3 +32,9 @@ path_found found = option_map (λ token. token.path.items) found
 
 abbrev pub IsTokenOf : SyntaxTree → FoundToken → Type 0
 IsTokenOf t token = at t token.path.items ≡ Some (leaf_tree token.green)
+
+abbrev pub place_found : FoundToken → Path × Option SyntaxTree
+place_found token = (token.path.items, Some (leaf_tree token.green))
+
+abbrev pub places_below : Path → SyntaxTree → List Path → List (Path × Option SyntaxTree)
+places_below top t ps = map (λ p. (top ++ p, at t p)) ps
