@@ -12,10 +12,8 @@ use Rattle.green_tree.specs.inner.FoundToken.{place_found, places_below}
 use Rattle.green_tree.specs.declared.tokens.FoundToken.{FoundToken}
 use Rattle.cst_core.specs.Element.{Element, subtree, below}
 use Rattle.cst_core.specs.SyntaxElement.{syntax_as, syntax_of, syntax_at, element_of}
-use Rattle.cst_core.specs.Navigation.{elements_of}
-use Rattle.cst_core.specs.Offsets.{tokens_touching, first_two, token_at, covering_of}
+use Rattle.cst_core.specs.AtOffset.{tokens_touching, first_two, token_at, covering_of}
 use Rattle.cst_core.specs.declared.element.SyntaxElement.{SyntaxElement}
-use Rattle.cst_core.specs.declared.offsets.TokenAtOffset.{TokenAtOffset}
 use Rattle.cst_core.specs.declared.offsets.TokenAtOffset.TheVariants as tokens
 use Rattle.green_tree.proofs.Parts.{filter-map, slice_get-drop, drop-rest}
 use Rattle.green_tree.proofs.TokenPaths.{filter-none}

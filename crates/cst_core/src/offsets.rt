@@ -2,7 +2,7 @@ ghost use Rattle.std.specs.Prelude.{◌≡◌, IfOk, Some};
 ghost use Rattle.green_tree.specs.Tree.{at};
 ghost use Rattle.green_tree.specs.Green.{leaf_tree};
 ghost use Rattle.cst_core.specs.Element.{subtree, below};
-ghost use Rattle.cst_core.specs.Offsets.{token_at, covering_of};
+ghost use Rattle.cst_core.specs.AtOffset.{token_at, covering_of};
 
 use crate::element::SyntaxElement;
 use crate::node::SyntaxNode;

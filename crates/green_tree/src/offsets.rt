@@ -1,8 +1,8 @@
-ghost use Rattle.std.specs.Prelude.{◌≡◌, ◌<◌, ◌≤◌, ◌++◌, [], map, IfOk, OnOk, Some, option_map};
+ghost use Rattle.std.specs.Prelude.{◌≡◌, ◌<◌, ◌≤◌, ◌++◌, [], IfOk, OnOk, Some, option_map};
 ghost use Rattle.green_tree.specs.Tree.{text_length};
-ghost use Rattle.green_tree.specs.Offsets.{tokens_touching, covering};
+ghost use Rattle.green_tree.specs.Offsets.{covering};
 ghost use Rattle.green_tree.specs.Green.{branch_tree, length_limit};
-ghost use Rattle.green_tree.specs.inner.FoundToken.{place_found, places_below};
+ghost use Rattle.green_tree.specs.inner.FoundToken.{FindsTouching};
 
 use crate::green::{GreenElement, GreenNode};
 use crate::tokens::FoundToken;
@@ -20,8 +20,8 @@ fn push_tokens_at(
 ) -> Result<(), AllocError>
     requires fits { text_length (branch_tree node.now) < length_limit }
     ensures path { OnOk result (path.new.items ≡ path.old.items) }
-    ensures found { let below = places_below path.old.items (branch_tree node.now) (tokens_touching (branch_tree node.now) offset) in
-        OnOk result (map place_found found.new.items ≡ map place_found found.old.items ++ below) }
+    ensures found { let finds = FindsTouching (branch_tree node.now) offset path.old.items in
+        OnOk result (finds found.old.items found.new.items) }
 {
     let mut end = 0;
     for (slot, child) in node.children().iter().enumerate() {
@@ -51,8 +51,7 @@ pub fn tokens_at(
     offset: u64,
 ) -> Result<Vec<FoundToken>, AllocError>
     requires fits { text_length (branch_tree node.now) < length_limit }
-    ensures { let touching = places_below [] (branch_tree node.now) (tokens_touching (branch_tree node.now) offset) in
-        IfOk result (λ found. map place_found found.items ≡ touching) }
+    ensures { IfOk result (λ found. FindsTouching (branch_tree node.now) offset [] [] found.items) }
 {
     let mut path = Vec::new(alloc);
     let mut found = Vec::new(alloc);

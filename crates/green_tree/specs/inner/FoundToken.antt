@@ -4,10 +4,12 @@
 --     tokens_from, FindsFirstFrom   the paths of the tokens that do not stand before the element at a path; that of the first of them
 --     path_found, IsTokenOf         the path of a token that was found; it leads to that token in the tree
 --     place_found, places_below     the path of a token that was found, and its tree; paths in a tree that stands at a path, each with what it leads to
-use Rattle.std.specs.Prelude.{◌≡◌, not, List, [], ◌++◌, map, filter, Option, Some, option_map, unwrap_or}
+--     FindsTouching                 behind those that were found before, the tokens of a tree at a path that touch an offset
+use Rattle.std.specs.Prelude.{◌≡◌, ℕ, not, List, [], ◌++◌, map, filter, Option, Some, option_map, unwrap_or}
 use Rattle.green_tree.specs.Path.{Path, precedes, first_item}
 use Rattle.green_tree.specs.Tree.{Tree, SyntaxTree, at}
 use Rattle.green_tree.specs.Order.{token_paths, last_token_before, first_token_after}
+use Rattle.green_tree.specs.Offsets.{tokens_touching}
 use Rattle.green_tree.specs.Green.{Leaf, leaf_tree}
 use Rattle.green_tree.specs.declared.tokens.FoundToken.{FoundToken}
 
@@ -38,3 +40,6 @@ place_found token = (token.path.items, Some (leaf_tree token.green))
 
 abbrev pub places_below : Path → SyntaxTree → List Path → List (Path × Option SyntaxTree)
 places_below top t ps = map (λ p. (top ++ p, at t p)) ps
+
+abbrev pub FindsTouching : SyntaxTree → ℕ → Path → List FoundToken → List FoundToken → Type 0
+FindsTouching t offset top old new = map place_found new ≡ map place_found old ++ places_below top t (tokens_touching t offset)

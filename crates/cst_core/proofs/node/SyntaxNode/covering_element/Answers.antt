@@ -5,7 +5,7 @@ use Rattle.green_tree.specs.Order.{start}
 use Rattle.green_tree.specs.Offsets.{covering}
 use Rattle.green_tree.specs.Green.{branch_tree, length_limit}
 use Rattle.cst_core.specs.SyntaxElement.{syntax_at}
-use Rattle.cst_core.specs.Offsets.{covering_of}
+use Rattle.cst_core.specs.AtOffset.{covering_of}
 use Rattle.green_tree.proofs.TextLengths.{text_length-part}
 use Rattle.cst_core.proofs.Touched.{covering_before, covering_back, syntax_covering, covering_nowhere}
 use Rattle.cst_core.proofs.node.SyntaxNode.covering_element.Goals as goal

@@ -1,6 +1,6 @@
 -- Elements by where their texts stand, in bytes from the tree's start.
 --     tokens_touching             of the tokens at or below an element, those whose text is not empty, begins at an offset or before it, and ends there or after it
---     token_at                    none of these, the only one, or the first two
+--     first_two, token_at         of a list of tokens none, the only one, or the first two; that of these tokens
 --     covering_of                 of the elements at or below one, the last whose text contains a range of bytes
 use Rattle.std.specs.Prelude.{ℕ, List, [], ◌∷◌, map, filter, Option}
 use Rattle.green_tree.specs.Path.{last_item}
