@@ -19,10 +19,6 @@ subtree_there e t h = ap (λ o. unwrap_or o (Token 0 [])) h
 pub at_below : (e : Element) (t : SyntaxTree) (p : Path) → at e.root e.path ≡ Some t → at e.root (e.path ++ p) ≡ at t p
 at_below e t p h = at-append e.root e.path p ∙ ap (option_and_then (λ c. at c p)) h
 
--- what a path leads to from the element on
-pub there_below : (e : Element) (t d : SyntaxTree) (p : Path) → at e.root e.path ≡ Some t → at (subtree e) p ≡ Some d → at e.root (e.path ++ p) ≡ Some d
-there_below e t d p h found = at_below e t p h ∙ ap (λ s. at s p) (sym (subtree_there e t h)) ∙ found
-
 -- where a path from the element on leads nowhere
 pub below_none : (e : Element) (t : SyntaxTree) (p : Path) → at e.root e.path ≡ Some t → None ≡ at t p → None ≡ syntax_at e (e.path ++ p)
 below_none e t p h none = ap (option_map (λ d. syntax_as d (below e p))) (none ∙ sym (at_below e t p h))

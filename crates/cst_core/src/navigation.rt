@@ -152,7 +152,7 @@ impl SyntaxNode {
         let Some(found) = first_token(alloc, &self.green)? else {
             return Ok(None);
         };
-        Ok(Some(self.token_below(alloc, found)?))
+        Ok(Some(self.token_below(alloc, &found)?))
     }
 
     /// The last token at or below the node in document order; `None` where there is no token below it.
@@ -162,19 +162,25 @@ impl SyntaxNode {
         let Some(found) = last_token(alloc, &self.green)? else {
             return Ok(None);
         };
-        Ok(Some(self.token_below(alloc, found)?))
+        Ok(Some(self.token_below(alloc, &found)?))
     }
 
     // The token that a walk from this node found.
-    fn token_below(&self, alloc: Global, found: FoundToken) -> Result<SyntaxToken, AllocError>
-        requires { IsTokenOf (subtree self.now) found }
-        ensures { IfOk result (λ t. t ≡ below self.now found.path.items) }
+    pub(crate) fn token_below(
+        &self,
+        alloc: Global,
+        found: &FoundToken,
+    ) -> Result<SyntaxToken, AllocError>
+        requires { IsTokenOf (subtree self.now) found.now }
+        ensures { IfOk result (λ t. t ≡ below self.now found.now.path.items) }
     {
+        // A node stands at the path of `self`.
+        let _ = &self.green;
         let mut path = Vec::from_slice(alloc, self.slots())?;
         path.extend_from_slice(&found.path)?;
         Ok(SyntaxToken {
             location: self.location.with_path(alloc, path)?,
-            green: found.green,
+            green: found.green.share(alloc)?,
         })
     }
 

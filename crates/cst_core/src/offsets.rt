@@ -1,13 +1,10 @@
-ghost use Rattle.std.specs.Prelude.{◌≡◌, IfOk, Some};
-ghost use Rattle.green_tree.specs.Tree.{at};
-ghost use Rattle.green_tree.specs.Green.{leaf_tree};
-ghost use Rattle.cst_core.specs.Element.{subtree, below};
+ghost use Rattle.std.specs.Prelude.{◌≡◌, IfOk};
 ghost use Rattle.cst_core.specs.AtOffset.{token_at, covering_of};
 
 use crate::element::SyntaxElement;
 use crate::node::SyntaxNode;
 use crate::token::SyntaxToken;
-use green_tree::{FoundToken, covering_path, tokens_at};
+use green_tree::{covering_path, tokens_at};
 use std::alloc::{AllocError, Global};
 
 /// The tokens at an offset: none, the one that it is inside of or at an end of, or the two that it is between.
@@ -19,21 +16,6 @@ pub enum TokenAtOffset {
 }
 
 impl SyntaxNode {
-    // The token that was found below the node.
-    fn lent_token_below(&self, alloc: Global, found: &FoundToken) -> Result<SyntaxToken, AllocError>
-        requires { at (subtree self.now) found.now.path.items ≡ Some (leaf_tree found.now.green) }
-        ensures { IfOk result (λ token. token ≡ below self.now found.now.path.items) }
-    {
-        // A node stands at the path of `self`.
-        let _ = &self.green;
-        let mut path = Vec::from_slice(alloc, self.slots())?;
-        path.extend_from_slice(&found.path)?;
-        Ok(SyntaxToken {
-            location: self.location.with_path(alloc, path)?,
-            green: found.green.share(alloc)?,
-        })
-    }
-
     /// The tokens at or below the node that touch an offset in the text of the whole tree, counted in bytes: tokens that
     /// begin there or before and end there or after. Tokens without text are passed over. It visits the way to them alone.
     pub fn token_at_offset(&self, alloc: Global, offset: u64) -> Result<TokenAtOffset, AllocError>
@@ -48,10 +30,10 @@ impl SyntaxNode {
         let found = tokens_at(alloc, &self.green, offset - base)?;
         match found.as_slice() {
             [] => Ok(TokenAtOffset::None),
-            [token] => Ok(TokenAtOffset::Single(self.lent_token_below(alloc, token)?)),
+            [token] => Ok(TokenAtOffset::Single(self.token_below(alloc, token)?)),
             [left, right, ..] => {
-                let left = self.lent_token_below(alloc, left)?;
-                Ok(TokenAtOffset::Between(left, self.lent_token_below(alloc, right)?))
+                let left = self.token_below(alloc, left)?;
+                Ok(TokenAtOffset::Between(left, self.token_below(alloc, right)?))
             }
         }
     }

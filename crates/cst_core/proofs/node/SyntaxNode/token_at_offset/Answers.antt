@@ -31,8 +31,8 @@ returns-in-empty c =
     let none : length c.in_ok-found.found.items ≡ 0 = rw (← c.as_slice.ensures.value) (omega (arith, c.in-empty.len_below)) in
     sym (whole ∙ first_two-none c.args.self.now c.in_ok-found.found.items none)
 
-pub lent_token_below-requires : goal.lent_token_below-requires
-lent_token_below-requires c =
+pub token_below-requires : goal.token_below-requires
+token_below-requires c =
     let there : at c.args.self.now.root c.args.self.now.path ≡ Some (branch_tree c.self.inside.green) = rw (← c.self.view_is) c.self.invariant.there in
     let behind : start c.args.self.now.root c.args.self.now.path ≤ c.args.offset = omega (arith, c.text_start-base.ensures, c.if-offset-base.false) in
     let places : map place_found c.in_ok-found.found.items ≡ places_below [] (branch_tree c.self.inside.green) (tokens_touching (branch_tree c.self.inside.green) (c.args.offset - start c.args.self.now.root c.args.self.now.path)) = rw (← c.text_start-base.ensures) c.in_ok-found.ensures in
@@ -48,10 +48,10 @@ returns-in-len1 c =
     let whole = token_at-found c.args.self.now (branch_tree c.self.inside.green) c.args.offset c.in_ok-found.found.items there behind places in
     let one : length c.in_ok-found.found.items ≡ 1 = rw (← c.as_slice.ensures.value) (omega (arith, c.in-len1.len_at_least, c.in-len1.len_below)) in
     let item : c.token-item.result ≡ get_or c.in_ok-found.found.items 0 c.token-item.result = rw (← c.as_slice.ensures.value) c.token-item.is in
-    ap (λ e. tokens.Single e) c.in_ok-lent_token_below-in-len1.ensures ∙ sym (whole ∙ first_two-one c.args.self.now c.in_ok-found.found.items c.token-item.result one item)
+    ap (λ e. tokens.Single e) c.in_ok-token_below-in-len1.ensures ∙ sym (whole ∙ first_two-one c.args.self.now c.in_ok-found.found.items c.token-item.result one item)
 
-pub lent_token_below-requires-in-len2-up : goal.lent_token_below-requires-in-len2-up
-lent_token_below-requires-in-len2-up c =
+pub token_below-requires-in-len2-up : goal.token_below-requires-in-len2-up
+token_below-requires-in-len2-up c =
     let there : at c.args.self.now.root c.args.self.now.path ≡ Some (branch_tree c.self.inside.green) = rw (← c.self.view_is) c.self.invariant.there in
     let behind : start c.args.self.now.root c.args.self.now.path ≤ c.args.offset = omega (arith, c.text_start-base.ensures, c.if-offset-base.false) in
     let places : map place_found c.in_ok-found.found.items ≡ places_below [] (branch_tree c.self.inside.green) (tokens_touching (branch_tree c.self.inside.green) (c.args.offset - start c.args.self.now.root c.args.self.now.path)) = rw (← c.text_start-base.ensures) c.in_ok-found.ensures in
@@ -59,8 +59,8 @@ lent_token_below-requires-in-len2-up c =
     let item : c.left-item.result ≡ get_or c.in_ok-found.found.items 0 c.left-item.result = rw (← c.as_slice.ensures.value) c.left-item.is in
     ap (λ t. at t c.left-item.result.path.items) (subtree_there c.args.self.now (branch_tree c.self.inside.green) there) ∙ is_found (branch_tree c.self.inside.green) c.in_ok-found.found.items (tokens_touching (branch_tree c.self.inside.green) (c.args.offset - start c.args.self.now.root c.args.self.now.path)) 0 c.left-item.result places inside item
 
-pub lent_token_below-requires-in-len2-up-2 : goal.lent_token_below-requires-in-len2-up-2
-lent_token_below-requires-in-len2-up-2 c =
+pub token_below-requires-in-len2-up-2 : goal.token_below-requires-in-len2-up-2
+token_below-requires-in-len2-up-2 c =
     let there : at c.args.self.now.root c.args.self.now.path ≡ Some (branch_tree c.self.inside.green) = rw (← c.self.view_is) c.self.invariant.there in
     let behind : start c.args.self.now.root c.args.self.now.path ≤ c.args.offset = omega (arith, c.text_start-base.ensures, c.if-offset-base.false) in
     let places : map place_found c.in_ok-found.found.items ≡ places_below [] (branch_tree c.self.inside.green) (tokens_touching (branch_tree c.self.inside.green) (c.args.offset - start c.args.self.now.root c.args.self.now.path)) = rw (← c.text_start-base.ensures) c.in_ok-found.ensures in
@@ -77,4 +77,4 @@ returns c =
     let two : 2 ≤ length c.in_ok-found.found.items = rw (← c.as_slice.ensures.value) c.in-len2-up.len_at_least in
     let left : c.left-item.result ≡ get_or c.in_ok-found.found.items 0 c.left-item.result = rw (← c.as_slice.ensures.value) c.left-item.is in
     let right : c.right-item.result ≡ get_or c.in_ok-found.found.items 1 c.right-item.result = rw (← c.as_slice.ensures.value) c.right-item.is in
-    ap (λ e. tokens.Between e c.in_ok-lent_token_below-in-len2-up.field-0) c.in_ok-left-in-len2-up.ensures ∙ ap (λ e. tokens.Between (below c.args.self.now c.left-item.result.path.items) e) c.in_ok-lent_token_below-in-len2-up.ensures ∙ sym (whole ∙ first_two-both c.args.self.now c.in_ok-found.found.items c.left-item.result c.right-item.result two left right)
+    ap (λ e. tokens.Between e c.in_ok-token_below-in-len2-up.field-0) c.in_ok-left-in-len2-up.ensures ∙ ap (λ e. tokens.Between (below c.args.self.now c.left-item.result.path.items) e) c.in_ok-token_below-in-len2-up.ensures ∙ sym (whole ∙ first_two-both c.args.self.now c.in_ok-found.found.items c.left-item.result c.right-item.result two left right)
