@@ -36,7 +36,7 @@ use crate::ask_values::ValueQuestion;
 use std::alloc::Global;
 use test_trees::{NoAnswer, Trees, Words};
 
-/// The answer to a question, which is a name and arguments. Where the call that it is about is refused for want of memory, it may be
+/// The answer to a question, which is a name and arguments. Where the call that it is about is refused because memory ran out, it may be
 /// asked again.
 pub fn answer(alloc: Global, trees: &Trees, question: &str) -> Result<String, NoAnswer> {
     let mut words = Words::of(question);

@@ -4,7 +4,7 @@
 --     tokens_from, FindsFirstFrom   the paths of the tokens that do not stand before the element at a path; that of the first of them
 --     path_found, IsTokenOf         the path of a token that was found; it leads to that token in the tree
 --     place_found, places_below     the path of a token that was found, and its tree; paths in a tree that stands at a path, each with what it leads to
---     FindsTouching                 behind those that were found before, the tokens of a tree at a path that touch an offset
+--     FindsTouching                 after those that were found before, the tokens of a tree at a path that touch an offset
 use Rattle.std.specs.Prelude.{◌≡◌, ℕ, not, List, [], ◌++◌, map, filter, Option, Some, option_map, unwrap_or}
 use Rattle.green_tree.specs.Path.{Path, precedes, first_item}
 use Rattle.green_tree.specs.Tree.{Tree, SyntaxTree, at}
