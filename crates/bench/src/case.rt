@@ -13,7 +13,7 @@ use std::alloc::Global;
 pub(crate) enum Subject {
     /// Literals below one node, some of which are replaced.
     Literals,
-    /// Statements below one node, behind some of which another one is inserted.
+    /// Statements below one node, after some of which another one is inserted.
     Statements,
     /// A tree of nodes with eight children each, of which the leaves are replaced.
     Leaves,
@@ -22,7 +22,7 @@ pub(crate) enum Subject {
 /// An edit.
 #[derive(Clone, Copy)]
 pub(crate) enum Case {
-    /// A change at one in so many parts of a tree of this size.
+    /// A change at one in n parts of a tree of this size.
     Spread {
         subject: Subject,
         size: usize,

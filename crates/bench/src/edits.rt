@@ -17,7 +17,7 @@ pub(crate) fn leaf(alloc: Global) -> Result<GreenNode> {
     Ok(GreenNode::new(alloc, SyntaxKind::LITERAL, children)?)
 }
 
-/// So many literals below one node.
+/// n literals below one node.
 pub(crate) fn flat(alloc: Global, size: usize) -> Result<GreenNode> {
     let mut children = Vec::new(alloc);
     for _ in 0..size {
@@ -26,7 +26,7 @@ pub(crate) fn flat(alloc: Global, size: usize) -> Result<GreenNode> {
     Ok(GreenNode::new(alloc, SyntaxKind::STMT_LIST, children)?)
 }
 
-// The nodes in order, so many below one.
+// The nodes in order, n below one.
 fn grouped(alloc: Global, nodes: Vec<GreenNode>) -> Result<Vec<GreenNode>> {
     let mut parents = Vec::new(alloc);
     let mut children = Vec::new(alloc);
@@ -58,7 +58,7 @@ fn leaves(alloc: Global, size: usize) -> Result<GreenNode> {
     Ok(GreenNode::new(alloc, SyntaxKind::SOURCE_FILE, children)?)
 }
 
-// The tree of a subject with so many literals, statements or leaves.
+// The tree of a subject with n literals, statements or leaves.
 fn tree(alloc: Global, subject: Subject, size: usize) -> Result<GreenNode> {
     match subject {
         Subject::Literals => flat(alloc, size),
@@ -67,7 +67,7 @@ fn tree(alloc: Global, subject: Subject, size: usize) -> Result<GreenNode> {
     }
 }
 
-// One in so many of the nodes that a subject's changes aim at.
+// One in n of the nodes that a subject's changes aim at.
 fn targets(alloc: Global, root: &SyntaxNode, step: usize) -> Result<Vec<SyntaxNode>> {
     let mut targets = Vec::new(alloc);
     let mut passed = 0usize;
@@ -101,7 +101,7 @@ fn call(
     }
 }
 
-/// A change at one in so many of the literals, statements or leaves.
+/// A change at one in n of the literals, statements or leaves.
 pub(crate) fn prepared(
     alloc: Global,
     ids: &mut TreeIds,

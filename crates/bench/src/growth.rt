@@ -34,13 +34,13 @@ const BLOCKS: usize = 1024;
 enum Growth {
     /// The changes, of one tree.
     Changes(Subject),
-    /// The tree, with so many changes.
+    /// The tree, with n changes.
     Size(Subject),
     /// Both, with a change at each part.
     Both(Subject),
     /// The chains of blocks, each of sixteen.
     Chains,
-    /// The payload of each of so many blocks.
+    /// The payload of each of n blocks.
     Payloads,
     /// The blocks of a chain, with as many fewer chains.
     Depth,

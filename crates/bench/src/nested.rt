@@ -7,7 +7,7 @@ use edit_map::{SyntaxMapping, SyntaxMappingBuilder};
 use std::alloc::Global;
 use syntax_editor::Position;
 
-/// Chains of so many blocks each, which stand side by side.
+/// Chains of n blocks each, which stand side by side.
 #[derive(Clone, Copy)]
 pub(crate) struct Nest {
     pub(crate) chains: usize,
@@ -16,7 +16,7 @@ pub(crate) struct Nest {
     pub(crate) wraps: usize,
 }
 
-// Something in so many blocks.
+// Something in n blocks.
 fn wrapped(alloc: Global, inner: GreenNode, times: usize) -> Result<GreenNode> {
     let mut node = inner;
     for _ in 0..times {
@@ -41,7 +41,7 @@ fn tree(alloc: Global, nest: Nest) -> Result<GreenNode> {
     Ok(GreenNode::new(alloc, SyntaxKind::SOURCE_FILE, children)?)
 }
 
-// What stands in so many blocks from this one on.
+// What stands in n blocks from this one on.
 fn inside(alloc: Global, block: &SyntaxNode, times: usize) -> Result<SyntaxNode> {
     let mut path = Vec::new(alloc);
     for _ in 0..times {
@@ -52,7 +52,7 @@ fn inside(alloc: Global, block: &SyntaxNode, times: usize) -> Result<SyntaxNode>
     inner.into_node().context("no node")
 }
 
-// Tells the mapping of a block's copy, in so many blocks of a payload.
+// Tells the mapping of a block's copy, in n blocks of a payload.
 fn map_copy(
     alloc: Global,
     block: &SyntaxNode,
@@ -82,7 +82,7 @@ fn payload(
     Ok(payload)
 }
 
-// An insert behind what stands in a block.
+// An insert after what stands in a block.
 fn insert(alloc: Global, ids: &mut TreeIds, block: &SyntaxNode) -> Result<Call> {
     let position = Position::after(alloc, inside(alloc, block, 1)?)?.context("no parent")?;
     let new = SyntaxNode::new_root(alloc, ids, leaf(alloc)?)?;

@@ -10,9 +10,9 @@ use syntax_editor::{Annotations, Position};
 /// Which literals are registered, and what is edited.
 #[derive(Clone, Copy)]
 pub(crate) enum Noted {
-    /// So many literals below one node, behind each of which another one is inserted.
+    /// n literals below one node, after each of which another one is inserted.
     List(usize),
-    /// So many literals of a payload, which is inserted so many times.
+    /// n literals of a payload, which is inserted n times.
     Payload { notes: usize, times: usize },
 }
 
@@ -26,13 +26,13 @@ fn annotate(alloc: Global, root: &SyntaxNode, calls: &mut Vec<Call>) -> Result<(
     Ok(())
 }
 
-// An insert of a payload behind a child.
+// An insert of a payload after a child.
 fn insert(alloc: Global, child: SyntaxNode, payload: SyntaxNode) -> Result<Call> {
     let position = Position::after(alloc, child)?.context("no parent")?;
     Ok(Call::Insert(position, payload))
 }
 
-// An insert of another literal behind each child of a root.
+// An insert of another literal after each child of a root.
 fn insert_leaves(
     alloc: Global,
     ids: &mut TreeIds,
@@ -46,7 +46,7 @@ fn insert_leaves(
     Ok(())
 }
 
-// An insert of a payload behind each child of a root.
+// An insert of a payload after each child of a root.
 fn insert_payload(
     alloc: Global,
     root: &SyntaxNode,
@@ -60,7 +60,7 @@ fn insert_payload(
     Ok(())
 }
 
-// Each child of a root registered, and an insert behind it.
+// Each child of a root registered, and an insert after it.
 fn calls_of_list(alloc: Global, ids: &mut TreeIds, root: &SyntaxNode) -> Result<Vec<Call>> {
     let mut calls = Vec::new(alloc);
     annotate(alloc, root, &mut calls)?;
@@ -68,7 +68,7 @@ fn calls_of_list(alloc: Global, ids: &mut TreeIds, root: &SyntaxNode) -> Result<
     Ok(calls)
 }
 
-// Each child of a payload registered, and the payload inserted behind each child of a root.
+// Each child of a payload registered, and the payload inserted after each child of a root.
 fn calls_of_payload(alloc: Global, root: &SyntaxNode, payload: &SyntaxNode) -> Result<Vec<Call>> {
     let mut calls = Vec::new(alloc);
     annotate(alloc, payload, &mut calls)?;

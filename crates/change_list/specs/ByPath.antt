@@ -1,6 +1,6 @@
 -- Changes of one tree, told apart by paths.
 --     is_replace                           the change replaces one element by one or by none
---     replacement_at, replacements_at      what a Replace of the element at a path brings; what each of a list brings
+--     replacement_at, replacements_at      the payload of a Replace of the element at a path; the payload of each of a list
 --     is_replace_at                        the change is such a Replace
 --     replace_at, delete_at                the list after the element is replaced or deleted, its first Replace told by its path
 --     delete_each_at                       the list after these are deleted, one after the other

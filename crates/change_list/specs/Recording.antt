@@ -1,13 +1,13 @@
 -- The list of changes after each call that records one.
 --     are_one                         two values are of one element
---     replacement_of                  what a Replace of this element brings, which is nothing in a deletion; no answer for any other change
+--     replacement_of                  the payload of a Replace of this element, which is nothing in a deletion; no answer for any other change
 --     is_replace_of                   the change is a Replace of this element
---     replacements_of                 what each Replace of an element brings, in the order of the list
---     is_deleted                      some Replace of the element brings nothing
+--     replacements_of                 the payload of each Replace of an element, in the order of the list
+--     is_deleted                      some Replace of the element has no payload
 --     with_replacement, taken_up      a Replace that brings what a function makes of what it brought; the first Replace of an element taken up so, or a new one at the end
 --     delete, replace                 the first Replace of the element takes it up, and a deletion stays one; where there is none, a new one stands at the end
 --     insert, insert_all, replace_with_many, delete_all, replace_all      one more at the end; a range of one element is deleted or replaced as that element
---     merged                          one list behind the other
+--     merged                          one list after the other
 use Rattle.std.specs.Prelude.{Bool, cond, List, [], ◌∷◌, ◌++◌, find, filter_map, Option, Some, None, option_map, is_some, is_none}
 use Rattle.std.specs.List.{list_any, before_first, after_first}
 use Rattle.std.specs.Option.{option_map_or}

@@ -249,7 +249,7 @@ fn delete_target(changes: &mut Vec<Change>, replaced: &mut ReplaceIndex, target:
     );
 }
 
-// The index of two lists, the second behind the first.
+// The index of two lists, the second after the first.
 fn index_of(alloc: Global, own: &[Change], other: &[Change]) -> Result<ReplaceIndex, AllocError>
     requires { length own.now + length other.now < 2 ^ 64 }
     ensures { IfOk result (λ x. Agrees x (own.now ++ other.now)) }
@@ -260,7 +260,7 @@ fn index_of(alloc: Global, own: &[Change], other: &[Change]) -> Result<ReplaceIn
     Ok(index)
 }
 
-// Tells the index of a list of more changes at its end, where the list has so many.
+// Tells the index of a list of more changes at its end, where the list has n.
 fn note_all(
     alloc: Global,
     index: &mut ReplaceIndex,

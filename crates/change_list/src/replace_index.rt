@@ -45,7 +45,7 @@ impl ReplaceIndex {
         Ok(())
     }
 
-    /// Makes room for so many more elements. It says of each path what it said before, also without memory for them.
+    /// Makes room for n more elements. It says of each path what it said before, also without memory for them.
     pub(crate) fn reserve(&mut self, additional: usize) -> Result<(), AllocError>
         ensures found { (p : Path) → entry_at self.new p ≡ entry_at self.old p }
         ensures ok { OnOk result (additional ≤ room self.new) }

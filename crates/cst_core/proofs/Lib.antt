@@ -6,3 +6,4 @@ pub mod ChildSlots
 pub mod Ancestors
 pub mod Elements
 pub mod Families
+pub mod Touched

@@ -4,6 +4,7 @@ pub use Rattle.green_tree.specs.declared.error.TreeError
 pub use Rattle.green_tree.specs.Path
 pub use Rattle.green_tree.specs.Tree
 pub use Rattle.green_tree.specs.Order
+pub use Rattle.green_tree.specs.Offsets
 pub use Rattle.green_tree.specs.Kind
 pub use Rattle.green_tree.specs.Green
 pub use Rattle.green_tree.specs.GreenElement
@@ -13,3 +14,5 @@ pub mod Element
 pub mod Placed
 pub mod SyntaxElement
 pub mod Navigation
+pub mod Debug
+pub mod AtOffset

@@ -6,13 +6,13 @@
 --     child_elements, child_nodes      the children, and those that are nodes, in order
 --     next_sibling, previous_sibling   the sibling one slot on, one slot back, if there is one
 --     descendants_of                   the nodes at or below an element, in document order
---     first_token_of                   the first token at or below it, in document order
---     token_before                     the last token that stands before it in its tree
+--     first_token_of, last_token_of    the first token at or below it, in document order; the last one
+--     token_before, token_after        the last token that stands before it in its tree; the first one that stands after it
 use Rattle.std.specs.Prelude.{List, [], ◌∷◌, length, map, filter_map, Option, Some, None, option_map, option_and_then}
 use Rattle.green_tree.specs.Path.{Path, next_path, previous_path, counted_from, first_item, last_item}
 use Rattle.green_tree.specs.Tree as tree
 use Rattle.green_tree.specs.Tree.{SyntaxTree, at, children}
-use Rattle.green_tree.specs.Order.{node_paths, token_paths, tokens_before}
+use Rattle.green_tree.specs.Order.{node_paths, token_paths, tokens_before, tokens_after}
 use Rattle.cst_core.specs.Element.{Element, subtree, element_at, below}
 use Rattle.cst_core.specs.declared.element.SyntaxElement.{SyntaxElement}
 use Rattle.cst_core.specs.declared.element.SyntaxElement.TheVariants.{Node, Token}
@@ -57,5 +57,11 @@ descendants_of e = map (below e) (node_paths (subtree e))
 abbrev pub first_token_of : Element → Option Element
 first_token_of e = option_map (below e) (first_item (token_paths (subtree e)))
 
+abbrev pub last_token_of : Element → Option Element
+last_token_of e = option_map (below e) (last_item (token_paths (subtree e)))
+
 abbrev pub token_before : Element → Option Element
 token_before e = option_map (element_at e) (last_item (tokens_before e.root e.path))
+
+abbrev pub token_after : Element → Option Element
+token_after e = option_map (element_at e) (first_item (tokens_after e.root e.path))

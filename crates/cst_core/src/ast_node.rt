@@ -26,7 +26,7 @@ pub trait AstNode: Drop {
         ensures castable { IsSome result ↔ IsTrue (is_kind (label (subtree syntax))) }
         ensures node { IfSome result (λ n. syntax_node n ≡ syntax) };
 
-    /// The node behind the view.
+    /// The node of the view.
     fn syntax(&self) -> &SyntaxNode
         ensures { result.now ≡ syntax_node self.now };
 

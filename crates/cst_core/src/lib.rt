@@ -4,10 +4,12 @@
 pub mod ast;
 mod ast_node;
 mod direction;
+mod display;
 mod element;
 mod location;
 mod navigation;
 mod node;
+mod offsets;
 mod shape;
 mod token;
 mod tree_ids;
@@ -20,6 +22,7 @@ pub use green_tree::{
     TreeError, laws,
 };
 pub use node::SyntaxNode;
+pub use offsets::TokenAtOffset;
 pub use shape::same_shape;
 pub use token::SyntaxToken;
 pub use tree_ids::TreeIds;

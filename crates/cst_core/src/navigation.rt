@@ -1,15 +1,16 @@
 ghost use Rattle.std.specs.Prelude.{◌≡◌, ◌≤◌, [], ◌∷◌, ◌++◌, length, filter_map, take, drop, option_and_then, IfOk, OnOk};
 ghost use Rattle.green_tree.specs.Path.{first_item, last_item};
 ghost use Rattle.green_tree.specs.Tree.{children};
-ghost use Rattle.cst_core.specs.Element.{subtree, parent_of, root_of};
-ghost use Rattle.cst_core.specs.SyntaxElement.{node_of, syntax_at, child_elements, child_nodes, next_sibling, previous_sibling, descendants_of, first_token_of};
+ghost use Rattle.green_tree.specs.inner.FoundToken.{IsTokenOf};
+ghost use Rattle.cst_core.specs.Element.{subtree, below, parent_of, root_of};
+ghost use Rattle.cst_core.specs.SyntaxElement.{node_of, syntax_at, child_elements, child_nodes, next_sibling, previous_sibling, descendants_of, first_token_of, last_token_of};
 ghost use Rattle.cst_core.specs.Navigation.{next_node, previous_node, siblings_on, ancestors_of, elements_of};
 
 use crate::direction::Direction;
 use crate::element::SyntaxElement;
 use crate::node::SyntaxNode;
 use crate::token::SyntaxToken;
-use green_tree::first_token;
+use green_tree::{FoundToken, first_token, last_token};
 use std::alloc::{AllocError, Global};
 
 impl SyntaxNode {
@@ -151,12 +152,36 @@ impl SyntaxNode {
         let Some(found) = first_token(alloc, &self.green)? else {
             return Ok(None);
         };
+        Ok(Some(self.token_below(alloc, &found)?))
+    }
+
+    /// The last token at or below the node in document order; `None` where there is no token below it.
+    pub fn last_token(&self, alloc: Global) -> Result<Option<SyntaxToken>, AllocError>
+        ensures { IfOk result (λ r. r ≡ last_token_of self.now) }
+    {
+        let Some(found) = last_token(alloc, &self.green)? else {
+            return Ok(None);
+        };
+        Ok(Some(self.token_below(alloc, &found)?))
+    }
+
+    // The token that a walk from this node found.
+    pub(crate) fn token_below(
+        &self,
+        alloc: Global,
+        found: &FoundToken,
+    ) -> Result<SyntaxToken, AllocError>
+        requires { IsTokenOf (subtree self.now) found.now }
+        ensures { IfOk result (λ t. t ≡ below self.now found.now.path.items) }
+    {
+        // A node stands at the path of `self`.
+        let _ = &self.green;
         let mut path = Vec::from_slice(alloc, self.slots())?;
         path.extend_from_slice(&found.path)?;
-        Ok(Some(SyntaxToken {
+        Ok(SyntaxToken {
             location: self.location.with_path(alloc, path)?,
-            green: found.green,
-        }))
+            green: found.green.share(alloc)?,
+        })
     }
 
     /// The nodes at or below this one in document order, this one first.

@@ -9,14 +9,14 @@ ghost use Rattle.green_tree.specs.Tree.{at, label, text, text_length};
 ghost use Rattle.green_tree.specs.Order.{start};
 ghost use Rattle.green_tree.specs.Green.{branch_tree, leaf_tree, length_limit};
 ghost use Rattle.cst_core.specs.Element.{subtree, parent_of, root_of, IsNode, IsToken};
-ghost use Rattle.cst_core.specs.SyntaxElement.{next_sibling, previous_sibling, token_before};
+ghost use Rattle.cst_core.specs.SyntaxElement.{next_sibling, previous_sibling, token_before, token_after};
 ghost use Rattle.cst_core.specs.Navigation.{siblings_on, nodes_above};
 
 use crate::direction::Direction;
 use crate::element::SyntaxElement;
 use crate::location::Location;
 use crate::node::SyntaxNode;
-use green_tree::{GreenNode, GreenToken, SyntaxKind, token_before};
+use green_tree::{GreenNode, GreenToken, SyntaxKind, token_after, token_before};
 use std::alloc::{AllocError, Global};
 use std::hash::{Hash, Hasher};
 use std::marker::Model;
@@ -187,6 +187,20 @@ impl SyntaxToken {
         ensures { IfOk result (λ r. r ≡ token_before self.now) }
     {
         let Some(found) = token_before(alloc, &self.location.root, self.slots())? else {
+            return Ok(None);
+        };
+        Ok(Some(SyntaxToken {
+            location: self.location.with_path(alloc, found.path)?,
+            green: found.green,
+        }))
+    }
+
+    /// The token after this one in document order; `None` for the last token of the tree. Nodes without tokens are
+    /// passed over.
+    pub fn next_token(&self, alloc: Global) -> Result<Option<SyntaxToken>, AllocError>
+        ensures { IfOk result (λ r. r ≡ token_after self.now) }
+    {
+        let Some(found) = token_after(alloc, &self.location.root, self.slots())? else {
             return Ok(None);
         };
         Ok(Some(SyntaxToken {

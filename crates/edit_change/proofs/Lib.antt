@@ -10,5 +10,4 @@ pub mod Walk
 pub mod Counted
 pub mod Aiming
 pub mod RootTargets
-pub mod Written
 pub mod Slots

@@ -1,6 +1,6 @@
--- Changes of a tree: what each brings and what it replaces.
---     payload                       the elements that a change brings
---     elements                      all that it holds: its anchor or targets, and what it brings
+-- Changes of a tree: the payload of each and what it replaces.
+--     payload                       the elements of a change's payload
+--     elements                      all that it holds: its anchor or targets, and its payload
 --     targets                       the paths that a replacement replaces, in order
 --     shared_targets                two replacements have a target in common
 use Rattle.std.specs.Prelude.{Bool, List, [], ◌∷◌, map, Some, None}

@@ -1,5 +1,5 @@
 -- Which changes clash, and which lie inside what another one replaces.
---     pairs_with, pairs             the numbers of a change and of each one before it; of each two of so many changes
+--     pairs_with, pairs             the numbers of a change and of each one before it; of each two of n changes
 --     clashes                       two changes share a target
 --     first_clash                   the first two that share a target, by the second and then by the first
 --     region, region_of_one         the targets of a replacement with all that is below them: a replaced token alone is no region; that of one target

@@ -1,8 +1,8 @@
--- Positions: the gap before the first child of a node, or the gap behind an element.
+-- Positions: the gap before the first child of a node, or the gap after an element.
 --     anchor              that node or element
 --     first_of            the node, of the first form
 --     after_of            the element, of the second
---     after, before       the gap behind an element, and the one before it: none beside a root
+--     after, before       the gap after an element, and the one before it: none beside a root
 --     last_child_of       the last gap of a node
 use Rattle.std.specs.Prelude.{Option, Some, None, option_map}
 use Rattle.std.specs.Option.{option_map_or}
@@ -28,7 +28,7 @@ after_of (After e) = Some e
 abbrev pub after : SyntaxElement → Option Position
 after e = option_map (λ parent. After e) (parent_of (element_of e))
 
--- a gap has one form: behind the previous sibling where there is one
+-- a gap has one form: after the previous sibling where there is one
 abbrev pub before : SyntaxElement → Option Position
 before e = option_map (λ parent. option_map_or After (previous_sibling (element_of e)) (FirstChild parent)) (parent_of (element_of e))
 

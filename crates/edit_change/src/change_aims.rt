@@ -22,7 +22,7 @@ use std::alloc::{AllocError, Global};
 use std::slice;
 
 impl Position {
-    // Whether it is the gap behind the element at a path.
+    // Whether it is the gap after the element at a path.
     fn is_behind(&self, path: &[usize]) -> bool
         ensures { IsTrue result ↔ (position_aim self.now ≡ Behind path.now) }
     {
@@ -121,7 +121,7 @@ impl Change {
         }
     }
 
-    /// The node that is brought in the place of a root.
+    /// The node that takes the place of a root.
     pub fn node_for_root(&self) -> &SyntaxNode
         requires fits { (root : Element) × Fits root self.now }
         requires root { has_path (targets self.now) [] ≡ true }

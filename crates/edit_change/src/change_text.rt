@@ -1,9 +1,7 @@
 ghost use Rattle.std.specs.Prelude.{◌≡◌, ◌++◌, ◌∷◌, [], take, drop, IfOk, string_bytes};
 ghost use Rattle.std.specs.Fmt.{WritesOnOk};
-ghost use Rattle.cst_core.specs.Tree.{text};
-ghost use Rattle.cst_core.specs.Green.{branch_tree, texts};
+ghost use Rattle.cst_core.specs.Green.{texts};
 ghost use Rattle.cst_core.specs.GreenElement.{element_trees};
-ghost use Rattle.cst_core.specs.GreenElementRef.{ref_tree};
 ghost use Rattle.edit_change.specs.Display.{put_in, taken_away, reset, element_texts, siblings_of};
 ghost use Rattle.edit_change.specs.Display.{exchanged, with_insert, with_range, at_position, change_text};
 
@@ -11,9 +9,10 @@ use crate::change::Change;
 use crate::change_aims::slot_after;
 use crate::position::Position;
 use crate::targets::parent;
-use cst_core::{GreenElement, GreenElementRef, GreenNode, SyntaxElement};
+use cst_core::{GreenElement, GreenElementRef, SyntaxElement};
 use std::alloc::{AllocError, Global};
-use std::{fmt, slice};
+use std::fmt::{self, Display};
+use std::slice;
 
 // Escape sequences: green from here on, red from here on, and no colour any more, up to the line's end.
 const PUT_IN: &str = "\x1b[42m";
@@ -201,7 +200,7 @@ fn write_elements<W: fmt::Write>(
     ensures { WritesOnOk W.write_str_gives f.old result (element_texts elements.now) f.new }
 {
     for element in elements {
-        write_element(element.as_green(), f)?;
+        element.fmt(f)?;
     }
     Ok(())
 }
@@ -210,31 +209,7 @@ fn write_shared<W: fmt::Write>(elements: &[GreenElement], f: &mut fmt::Formatter
     ensures { WritesOnOk W.write_str_gives f.old result (texts (element_trees elements.now)) f.new }
 {
     for element in elements {
-        write_element(element.as_ref(), f)?;
-    }
-    Ok(())
-}
-
-fn write_element<W: fmt::Write>(
-    element: GreenElementRef<'_>,
-    f: &mut fmt::Formatter<W>,
-) -> fmt::Result
-    ensures { WritesOnOk W.write_str_gives f.old result (text (ref_tree element.entry)) f.new }
-{
-    match element {
-        GreenElementRef::Node(node) => write_node(node, f),
-        GreenElementRef::Token(token) => f.write_str(token.text()),
-    }
-}
-
-fn write_node<W: fmt::Write>(node: &GreenNode, f: &mut fmt::Formatter<W>) -> fmt::Result
-    ensures { WritesOnOk W.write_str_gives f.old result (text (branch_tree node.now)) f.new }
-{
-    for child in node.children() {
-        match child {
-            GreenElement::Node(below) => write_node(below, f)?,
-            GreenElement::Token(token) => f.write_str(token.text())?,
-        }
+        element.fmt(f)?;
     }
     Ok(())
 }

@@ -1,4 +1,4 @@
-//! Changes of a tree: where each aims, what it brings and replaces, and which lie inside which.
+//! Changes of a tree: where each aims, its payload and what it replaces, and which lie inside which.
 #![tactic(auto)]
 
 mod change;

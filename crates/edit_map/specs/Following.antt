@@ -4,7 +4,7 @@
 --     syntax_step                    the nearest mapped one of these exchanged for its copy, if there is one and the path below leads on in it
 --     LeadsTo                        an element is followed to this one, where equal tree numbers have equal trees
 --     IsNearest                      the copy of the nearest mapped one of a node and those above it, and how many slots lead to that one
---     SyntaxSteps, IsReached         so many of these steps lead from one element to another; some do, and no further one is possible
+--     SyntaxSteps, IsReached         n of these steps lead from one element to another; some do, and no further one is possible
 use Rattle.std.specs.Prelude.{◌≡◌, ℕ, zero, suc, List, ◌∷◌, ◌++◌, drop, filter_map, Option, None, option_map, option_and_then, IsSomeAnd}
 use Rattle.cst_core.specs.Path.{Path, above, up_to, last_item}
 use Rattle.cst_core.specs.Element.{Element, NumbersTell}
@@ -34,7 +34,7 @@ pub record IsReached (m : Mapping) (e f : SyntaxElement) : Type 0 where
 abbrev pub LeadsTo : Mapping → SyntaxElement → SyntaxElement → Type 0
 LeadsTo m e f = NumbersTell (element_of e ∷ mapped_elements m) → element_of f ≡ followed m (element_of e)
 
--- what such a copy and so many slots make of any element at the node or below it is the step of that element among these
+-- what such a copy and n slots make of any element at the node or below it is the step of that element among these
 abbrev pub IsNearest : Mapping → Element → Option (Element × ℕ) → Type 0
 IsNearest m node nearest =
     (e : Element) → e.number ≡ node.number → step_among m e (up_to node.path) ≡ option_map (λ f. record f.0 { path = f.0.path ++ drop f.1 e.path }) nearest

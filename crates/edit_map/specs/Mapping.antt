@@ -1,5 +1,5 @@
 -- Which element of a younger tree is the copy of which one.
---     Mapping                        pairs of an element and its copy, the newest first: the newest pair of an address stands
+--     Mapping                        pairs of an element and its copy, the newest first: the newest pair of an address wins
 --     copy, copied                   the copy of an address, if it has one; the copy's address, or the address itself
 --     mapped_elements                the elements of all pairs
 --     Rises, IsRising                a copy has a greater tree number and the same shape; each copy does
@@ -9,8 +9,8 @@
 --     IsPlace                        the place of a target in a payload, or that there is none
 --     below_copy                     an element with one of its ancestors exchanged for a copy
 --     step                           the nearest mapped ancestor-or-self of an element exchanged for its copy, if there is one
---     Steps, IsFollowed              so many steps lead from one element to another; they do, and no further step is possible
---     followed, followed_within      the element that is reached where no step is possible; after at most so many steps
+--     Steps, IsFollowed              n steps lead from one element to another; they do, and no further step is possible
+--     followed, followed_within      the element that is reached where no step is possible; after at most n steps
 use Rattle.std.specs.Prelude.{◌≡◌, ℕ, zero, suc, ◌<◌, List, [], ◌∷◌, ◌++◌, map, length, drop, find, filter_map, Option, None, option_map, MatchOption, IsSomeAnd, All, Vec}
 use Rattle.std.specs.Global.{Global}
 use Rattle.std.specs.Option.{option_map_or}

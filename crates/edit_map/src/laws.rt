@@ -18,7 +18,7 @@ pub fn each_pair_stands()
     ensures { (m : Mapping) → AreDistinct m → All (λ pair. copy m (address pair.0) ≡ Some pair.1) m }
 {}
 
-/// Of what two lists of pairs both map, the copy of the newer list stands in what is made of both.
+/// Of what two lists of pairs both map, the copy of the newer list wins in what is made of both.
 pub fn newer_copies_stand()
     ensures { (newer older m : Mapping) (x : Address)
         → IsMadeOf (newer ++ older) m → copy m x ≡ option_or (copy newer x) (copy older x) }

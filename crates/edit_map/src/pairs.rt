@@ -8,7 +8,7 @@ use cst_core::SyntaxNode;
 use std::alloc::{AllocError, Global};
 use std::collections::HashMap;
 
-// Puts clones of two nodes behind the pairs of a list.
+// Puts clones of two nodes after the pairs of a list.
 pub(crate) fn push_clones(
     alloc: Global,
     pairs: &mut Vec<(SyntaxNode, SyntaxNode)>,

@@ -31,7 +31,7 @@ IsPlaceIn m (InsertAll gap es) place = ⊥
 IsPlaceIn m (ReplaceWithMany t es) place = ⊥
 IsPlaceIn m (ReplaceAll first last es) place = ⊥
 
--- An insert behind the target itself has no gap where the payload stands in the target's place whole.
+-- An insert after the target itself has no gap where the payload stands in the target's place whole.
 abbrev pub HasPlace : Mapping → Change → Change → Path → Type 0
 HasPlace m o c place = IsPlaceIn m o place × (place ≡ [] → aim c ≢ Behind (aim_path o))
 

@@ -2,7 +2,7 @@
 --     StandsThere                   what stands at this path of a payload is there for a target; at the empty path for no insert after the target
 --     IsUntouched                   no change aims at a gap of the node at this path or of one below, or over an element below
 --     is_at_depth                   what is around a change is above this depth, and what it replaces is not
---     brought_text                  the text of what a change brings
+--     brought_text                  the text of a change's payload
 --     filled_text, text_filled      the old text, in which each gap and each replaced range gives a text for each change that aims there;
 --                                   the same where the top may be replaced
 --     filled_text_from              that of the children from a slot on

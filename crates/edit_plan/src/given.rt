@@ -73,7 +73,7 @@ fn rewritten_each<'a>(
     })
 }
 
-// What a change brings, with its marks. Where nothing is registered, nothing is looked for.
+// A change's payload, with its marks. Where nothing is registered, nothing is looked for.
 fn marked_payload<'a>(
     alloc: Global,
     change: &'a Change,
@@ -97,7 +97,7 @@ fn marked_payload<'a>(
     rewritten_each(alloc, change.payload(), &[], index, &nothing, &mut builds)
 }
 
-// What each change brings, by its number.
+// The payload of each change, by its number.
 fn payloads<'a>(
     alloc: Global,
     changes: &'a [Change],

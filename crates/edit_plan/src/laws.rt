@@ -77,7 +77,7 @@ pub fn inserts_stand_in_order()
 {}
 
 /// Where no change is owned, the new text is the old one, in which the gaps and the replaced ranges of the changes that
-/// are not dropped give the texts of what these bring.
+/// are not dropped give the texts of the payloads of these.
 pub fn text_is_filled()
     ensures { (changes : List Change) (places : ℕ → Path) (root : Element)
         → All (λ c. owner changes c ≡ None) changes

@@ -1,4 +1,4 @@
-//! What changes bring, as shared trees: each payload on its own, and as it stands where changes that it owns are carried out.
+//! The payloads of changes, as shared trees: each payload on its own, and as it stands where changes that it owns are carried out.
 
 ghost use Rattle.std.specs.Prelude.{◌≡◌, [], ◌∷◌, map, IfOk};
 ghost use Rattle.green_tree.specs.GreenElement.{element_tree, element_trees};
@@ -64,7 +64,7 @@ fn shared(alloc: Global, given: Given) -> Result<Vec<GreenElement>, AllocError>
     }
 }
 
-/// What a change gives: its payload as it stands, or, where no change can be carried out in that, what it brings.
+/// What a change gives: its payload as it stands now, or, where no change can be carried out in that, as it was recorded.
 pub(crate) fn given(
     alloc: Global,
     change: &Change,

@@ -11,8 +11,8 @@ ghost use Rattle.example_search_replace.specs.Rewritten.{is_match, wrapper, Repl
 
 use anyhow::{Context, Result};
 use cst_core::{GreenElement, GreenNode, GreenToken, SyntaxKind, SyntaxNode, TreeIds};
-use edit_plan::laws::edit_text_is_filled;
 use std::alloc::Global;
+use syntax_editor::laws::edit_text_is_filled;
 use syntax_editor::{SyntaxEdit, SyntaxEditor, SyntaxMappingBuilder};
 use tree_text::read_tree;
 

@@ -5,15 +5,15 @@ use Rattle.std.proofs.lemmas.List.{append-nil, length-map}
 use Rattle.std.proofs.Math.ListN.{drop_of_length-le}
 use Rattle.green_tree.specs.Path.{Path, first_item, last_item}
 use Rattle.green_tree.specs.Tree.{SyntaxTree, at, trees, forest}
-use Rattle.green_tree.specs.Order.{token_paths, tokens_before}
+use Rattle.green_tree.specs.Order.{token_paths, tokens_before, tokens_after}
 use Rattle.green_tree.specs.Green.{Leaf, leaf_tree, Branch, branch_tree}
-use Rattle.green_tree.specs.inner.FoundToken.{FindsToken}
+use Rattle.green_tree.specs.inner.FoundToken.{FindsToken, tokens_from}
 use Rattle.green_tree.specs.GreenElement.{element_trees, element_tree}
 use Rattle.green_tree.specs.declared.green.GreenElement.{GreenElement}
 use Rattle.green_tree.specs.declared.green.GreenElement.TheVariants as element
 use Rattle.green_tree.proofs.Lookup.{trees-forest}
 use Rattle.green_tree.proofs.Slots.{slice_get-child}
-use Rattle.green_tree.proofs.TokenPaths.{token_paths_from, tokens_before-top, tokens_before-first, tokens_before-next, tokens_before-below, token_paths-split}
+use Rattle.green_tree.proofs.TokenPaths.{token_paths_from, tokens_before-top, tokens_before-first, tokens_before-next, tokens_before-below, token_paths-split, tokens_from-slot, tokens_from-first, tokens_from-next, tokens_after-below, tokens_after-top}
 
 -- where there is no such path nothing is found, and the slots are as before
 pub found_none : {t : SyntaxTree} {o : Option Path} {slots : Path} → o ≡ None → FindsToken t o slots slots None
@@ -47,6 +47,13 @@ no_path t (Some r) h = absurd (cc)
 pub none_found : {t : SyntaxTree} {o : Option Path} {old new : Path} → FindsToken t o old new None → o ≡ None
 none_found {t} {o} found = no_path t o found.token
 
+-- from no slots on, what is added is the path that was found
+pub way_found : {t : SyntaxTree} {o p : Option Path} {old new : Path} {l : Leaf} → o ≡ p → old ≡ [] → FindsToken t o old new (Some l) → Some new ≡ p
+way_found {t} {o} {p} {old} {new} {l} same none found =
+    let way = some_path t o l found.token in
+    let added : new ≡ way.0 = found.slots ∙ ap (λ q. old ++ unwrap_or q []) way.1 ∙ ap (λ s. s ++ way.0) none in
+    ap Some added ∙ sym way.1 ∙ same
+
 pub same_slots : {t : SyntaxTree} {o : Option Path} {old new : Path} → FindsToken t o old new None → new ≡ old
 same_slots {old} found = found.slots ∙ ap (λ q. old ++ unwrap_or q []) (none_found found) ∙ append-nil old
 
@@ -65,13 +72,13 @@ first_item-map : {X Y : Type 0} (f : X → Y) (xs : List X) (ys : List Y) (x : X
 first_item-map f [] ys x h = absurd (cc)
 first_item-map f (z ∷ xs) ys x h = cc
 
-last_item-append : {X : Type 0} (xs ys : List X) (y : X) → last_item ys ≡ Some y → last_item (xs ++ ys) ≡ Some y
+pub last_item-append : {X : Type 0} (xs ys : List X) (y : X) → last_item ys ≡ Some y → last_item (xs ++ ys) ≡ Some y
 last_item-append [] ys y h = h
 last_item-append (x ∷ []) [] y h = absurd (cc)
 last_item-append (x ∷ []) (z ∷ ys) y h = h
 last_item-append (x ∷ w ∷ xs) ys y h = last_item-append (w ∷ xs) ys y h
 
-last_item-map : {X Y : Type 0} (f : X → Y) (xs : List X) (x : X) → last_item xs ≡ Some x → last_item (map f xs) ≡ Some (f x)
+pub last_item-map : {X Y : Type 0} (f : X → Y) (xs : List X) (x : X) → last_item xs ≡ Some x → last_item (map f xs) ≡ Some (f x)
 last_item-map f [] x h = absurd (cc)
 last_item-map f (z ∷ []) x h = cc
 last_item-map f (z ∷ w ∷ xs) x h = last_item-map f (w ∷ xs) x h
@@ -80,9 +87,9 @@ last_item-map f (z ∷ w ∷ xs) x h = last_item-map f (w ∷ xs) x h
 pub record IsChildAt (b : Branch) (i : ℕ) (c : SyntaxTree) : Type 0 where
   pub below : (p : Path) → at (branch_tree b) (i ∷ p) ≡ at c p
   pub next : tokens_before (branch_tree b) ((i + 1) ∷ []) ≡ tokens_before (branch_tree b) (i ∷ []) ++ map (λ q. i ∷ q) (token_paths c)
-  pub later : List Path
-  pub all : token_paths (branch_tree b) ≡ tokens_before (branch_tree b) ((i + 1) ∷ []) ++ later
   pub within : (p : Path) → tokens_before (branch_tree b) (i ∷ p) ≡ tokens_before (branch_tree b) (i ∷ []) ++ map (λ q. i ∷ q) (tokens_before c p)
+  pub here_on : tokens_from (branch_tree b) (i ∷ []) ≡ map (λ q. i ∷ q) (token_paths c) ++ tokens_from (branch_tree b) ((i + 1) ∷ [])
+  pub after : (p : Path) → tokens_after (branch_tree b) (i ∷ p) ≡ map (λ q. i ∷ q) (tokens_after c p) ++ tokens_from (branch_tree b) ((i + 1) ∷ [])
 
 pub child_at : (b : Branch) (es : List GreenElement) (i : ℕ) (e : GreenElement) → element_trees es ≡ b.children → i < length es → e ≡ get_or es i e → IsChildAt b i (element_tree e)
 child_at b es i e same h is =
@@ -90,15 +97,18 @@ child_at b es i e same h is =
     record {
       below = λ p. rw there;
       next = rw add-one (tokens_before-next b.kind (forest b.children) i (element_tree e) there);
-      later = token_paths_from (i + 1) (forest (drop (i + 1) (trees (forest b.children))));
-      all = token_paths-split b.kind (forest b.children) (i + 1);
       within = λ p. tokens_before-below b.kind (forest b.children) i (element_tree e) p there;
+      here_on = rw add-one (tokens_from-next b.kind (forest b.children) i (element_tree e) there);
+      after = λ p. rw add-one (tokens_after-below b.kind (forest b.children) i (element_tree e) p there);
     }
 
-first_in_child : (b : Branch) (i : ℕ) (c : SyntaxTree) → IsChildAt b i c → tokens_before (branch_tree b) (i ∷ []) ≡ [] → (r : Path) → first_item (token_paths c) ≡ Some r → first_item (token_paths (branch_tree b)) ≡ Some (i ∷ r)
-first_in_child b i c child none r h =
-    let before = child.next ∙ ap (λ ps. ps ++ map (λ q. i ∷ q) (token_paths c)) none in
-    ap first_item (child.all ∙ ap (λ ps. ps ++ child.later) before) ∙ first_item-map (λ q. i ∷ q) (token_paths c) child.later r h
+first_in_child : (b : Branch) (i n : ℕ) (c : SyntaxTree) → IsChildAt b i c → tokens_from (branch_tree b) (n ∷ []) ≡ tokens_from (branch_tree b) (i ∷ []) → (r : Path) → first_item (token_paths c) ≡ Some r → first_item (tokens_from (branch_tree b) (n ∷ [])) ≡ Some (i ∷ r)
+first_in_child b i n c child none r h =
+    ap first_item (none ∙ child.here_on) ∙ first_item-map (λ q. i ∷ q) (token_paths c) (tokens_from (branch_tree b) ((i + 1) ∷ [])) r h
+
+first_after_child : (b : Branch) (i : ℕ) (p : Path) (c : SyntaxTree) → IsChildAt b i c → (r : Path) → first_item (tokens_after c p) ≡ Some r → first_item (tokens_after (branch_tree b) (i ∷ p)) ≡ Some (i ∷ r)
+first_after_child b i p c child r h =
+    ap first_item (child.after p) ∙ first_item-map (λ q. i ∷ q) (tokens_after c p) (tokens_from (branch_tree b) ((i + 1) ∷ [])) r h
 
 last_in_child : (b : Branch) (i n : ℕ) (c : SyntaxTree) → IsChildAt b i c → tokens_before (branch_tree b) (n ∷ []) ≡ tokens_before (branch_tree b) ((i + 1) ∷ []) → (r : Path) → last_item (token_paths c) ≡ Some r → last_item (tokens_before (branch_tree b) (n ∷ [])) ≡ Some (i ∷ r)
 last_in_child b i n c child none r h =
@@ -117,18 +127,32 @@ tokens_before-all b es n same h =
     let past : drop n (trees (forest b.children)) ≡ [] = rw (trees-forest, ← same) (drop_of_length-le (element_trees es) (rw length-map h)) in
     sym (token_paths-split b.kind (forest b.children) n ∙ ap (λ ts. tokens_before (branch_tree b) (n ∷ []) ++ token_paths_from n (forest ts)) past ∙ append-nil (tokens_before (branch_tree b) (n ∷ [])))
 
+-- from the first slot on stand all, and none from the slot after the last child on
+pub tokens_from-all : (b : Branch) → tokens_from (branch_tree b) (0 ∷ []) ≡ token_paths (branch_tree b)
+tokens_from-all b = tokens_from-first b.kind (forest b.children)
+
+pub tokens_from-none : (b : Branch) (es : List GreenElement) (n : ℕ) → element_trees es ≡ b.children → length es ≤ n → tokens_from (branch_tree b) (n ∷ []) ≡ []
+tokens_from-none b es n same h =
+    let past : drop n (trees (forest b.children)) ≡ [] = rw (trees-forest, ← same) (drop_of_length-le (element_trees es) (rw length-map h)) in
+    tokens_from-slot b.kind (forest b.children) n ∙ ap (λ ts. token_paths_from n (forest ts)) past
+
+-- all tokens of a node are after it
+pub tokens_after-all : (b : Branch) → tokens_after (branch_tree b) [] ≡ tokens_from (branch_tree b) (0 ∷ [])
+tokens_after-all b = tokens_after-top b.kind (forest b.children) ∙ sym (tokens_from-all b)
+
 pushed_on : (old now pushed : Path) (i : ℕ) → now ≡ old → pushed ≡ now ++ i ∷ [] → pushed ≡ old ++ i ∷ []
 pushed_on old now pushed i kept push = rw (← kept) push
 
--- ---- the first token: no token stands before the child in this slot
-pub first_found : {b : Branch} {i : ℕ} {c : SyntaxTree} {old now pushed new : Path} {l : Leaf} → IsChildAt b i c → tokens_before (branch_tree b) (i ∷ []) ≡ [] → now ≡ old → pushed ≡ now ++ i ∷ [] → FindsToken c (first_item (token_paths c)) pushed new (Some l) →
-    FindsToken (branch_tree b) (first_item (token_paths (branch_tree b))) old new (Some l)
-first_found {b} {i} {c} {old} {now} {pushed} {new} {l} child none kept push found =
-    found_below (branch_tree b) c i (first_item (token_paths c)) (first_item (token_paths (branch_tree b))) old pushed new l found (pushed_on old now pushed i kept push) child.below (first_in_child b i c child none)
+-- ---- the first token from slot n on: no token stands between it and the child in slot i
+pub first_found : (n : ℕ) {b : Branch} {i : ℕ} {c : SyntaxTree} {o : Option Path} {old now pushed new : Path} {l : Leaf} → IsChildAt b i c → tokens_from (branch_tree b) (n ∷ []) ≡ tokens_from (branch_tree b) (i ∷ []) → now ≡ old → pushed ≡ now ++ i ∷ [] → o ≡ first_item (token_paths c) → FindsToken c o pushed new (Some l) →
+    FindsToken (branch_tree b) (first_item (tokens_from (branch_tree b) (n ∷ []))) old new (Some l)
+first_found n {b} {i} {c} {o} {old} {now} {pushed} {new} {l} child none kept push all found =
+    found_below (branch_tree b) c i o (first_item (tokens_from (branch_tree b) (n ∷ []))) old pushed new l found (pushed_on old now pushed i kept push) child.below (λ r own. first_in_child b i n c child none r (sym all ∙ own))
 
-pub first_passed : {b : Branch} {i : ℕ} {c : SyntaxTree} {pushed new : Path} → IsChildAt b i c → tokens_before (branch_tree b) (i ∷ []) ≡ [] → FindsToken c (first_item (token_paths c)) pushed new None → tokens_before (branch_tree b) ((i + 1) ∷ []) ≡ []
-first_passed {b} {i} {c} child none found =
-    child.next ∙ ap (λ ps. ps ++ map (λ q. i ∷ q) (token_paths c)) none ∙ ap (λ ps. map (λ q. i ∷ q) ps) (first_item-none (token_paths c) (none_found found))
+pub first_passed : (n : ℕ) {b : Branch} {i : ℕ} {c : SyntaxTree} {o : Option Path} {pushed new : Path} → IsChildAt b i c → tokens_from (branch_tree b) (n ∷ []) ≡ tokens_from (branch_tree b) (i ∷ []) → o ≡ first_item (token_paths c) → FindsToken c o pushed new None →
+    tokens_from (branch_tree b) (n ∷ []) ≡ tokens_from (branch_tree b) ((i + 1) ∷ [])
+first_passed n {b} {i} {c} child none all found =
+    none ∙ child.here_on ∙ ap (λ ps. map (λ q. i ∷ q) ps ++ tokens_from (branch_tree b) ((i + 1) ∷ [])) (first_item-none (token_paths c) (sym all ∙ none_found found))
 
 -- ---- the last token before a slot: no token stands between it and the child in the slot before j
 pub last_found : (n : ℕ) {b : Branch} {j i : ℕ} {c : SyntaxTree} {o : Option Path} {old now pushed new : Path} {l : Leaf} → IsChildAt b i c → j ≡ i + 1 → tokens_before (branch_tree b) (n ∷ []) ≡ tokens_before (branch_tree b) (j ∷ []) → now ≡ old → pushed ≡ now ++ i ∷ [] → o ≡ last_item (token_paths c) → FindsToken c o pushed new (Some l) →
@@ -152,8 +176,23 @@ pub before_passed : {b : Branch} {i : ℕ} {p rest : Path} {c : SyntaxTree} → 
 before_passed {b} {i} {p} {rest} {c} child split none =
     rw split (child.within rest ∙ ap (λ ps. tokens_before (branch_tree b) (i ∷ []) ++ map (λ q. i ∷ q) ps) (last_item-none (tokens_before c rest) none) ∙ append-nil (tokens_before (branch_tree b) (i ∷ [])))
 
+-- ---- the first token after an element, in the same way
+pub after_found : {b : Branch} {i : ℕ} {p rest : Path} {c : SyntaxTree} {old pushed new : Path} {l : Leaf} → IsChildAt b i c → p ≡ i ∷ rest → pushed ≡ old ++ i ∷ [] → FindsToken c (first_item (tokens_after c rest)) pushed new (Some l) →
+    FindsToken (branch_tree b) (first_item (tokens_after (branch_tree b) p)) old new (Some l)
+after_found {b} {i} {p} {rest} {c} {old} {pushed} {new} {l} child split push found =
+    rw split (found_below (branch_tree b) c i (first_item (tokens_after c rest)) (first_item (tokens_after (branch_tree b) (i ∷ rest))) old pushed new l found push child.below (first_after_child b i rest c child))
+
+pub after_passed : {b : Branch} {i : ℕ} {p rest : Path} {c : SyntaxTree} → IsChildAt b i c → p ≡ i ∷ rest → first_item (tokens_after c rest) ≡ None → tokens_after (branch_tree b) p ≡ tokens_from (branch_tree b) ((i + 1) ∷ [])
+after_passed {b} {i} {p} {rest} {c} child split none =
+    rw split (child.after rest ∙ ap (λ ps. map (λ q. i ∷ q) ps ++ tokens_from (branch_tree b) ((i + 1) ∷ [])) (first_item-none (tokens_after c rest) none))
+
 -- nothing is below an element that is no node
 pub before_no_node : (e : GreenElement) (p : Path) → ((b : Branch) → e ≡ element.Node b → ⊥) → IsSome (at (element_tree e) p) → last_item (tokens_before (element_tree e) p) ≡ None
 before_no_node (element.Node b) p differs there = absurd (differs b refl)
 before_no_node (element.Token l) [] differs there = ap last_item (tokens_before-top (leaf_tree l))
 before_no_node (element.Token l) (i ∷ p) differs there = absurd (cc)
+
+pub after_no_node : (e : GreenElement) (p : Path) → ((b : Branch) → e ≡ element.Node b → ⊥) → IsSome (at (element_tree e) p) → first_item (tokens_after (element_tree e) p) ≡ None
+after_no_node (element.Node b) p differs there = absurd (differs b refl)
+after_no_node (element.Token l) [] differs there = refl
+after_no_node (element.Token l) (i ∷ p) differs there = absurd (cc)

@@ -8,3 +8,6 @@ pub mod Shapes
 pub mod Parts
 pub mod FoundTokens
 pub mod TextLengths
+pub mod Written
+pub mod Touching
+pub mod Covering

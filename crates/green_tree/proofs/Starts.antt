@@ -65,11 +65,26 @@ sum_by-filter-le f test (x ∷ xs) =
 pub start-le : {L : Type 0} (t : Tree L) (p : Path) → start t p ≤ text_length t
 start-le t p = rw (← sum-token_paths t) (sum_by-filter-le (length_at t) (λ q. precedes q p) (token_paths t))
 
+length-to_next : {L : Type 0} (f : Forest L) (j : ℕ) (c : Tree L) → slice_get (trees f) j ≡ Some c → length (forest_text (forest (take (suc j) (trees f)))) ≡ length (forest_text (forest (take j (trees f)))) + text_length c
+length-to_next end j c there = absurd (cc)
+length-to_next (more t f) zero c there =
+    let same : t ≡ c = cc in
+    rw same (omega (arith, length-append (text c) []))
+length-to_next (more t f) (suc j) c there =
+    omega (arith, length-append (text t) (forest_text (forest (take (suc j) (trees f)))), length-append (text t) (forest_text (forest (take j (trees f)))), length-to_next f j c there)
+
 -- where the child in a slot starts
 pub start-slot : (b : Branch) (es : List GreenElement) (i : ℕ) → element_trees es ≡ b.children → start (branch_tree b) (i ∷ []) ≡ length (texts (element_trees (take i es)))
 start-slot b es i same =
     let none = elim (slice_get (trees (forest b.children)) i) as (λ o. option_map_or (λ c. start c []) o 0 ≡ 0) [ None ↦ refl | Some c ↦ start-top c ] in
     rw (start-node b.kind (forest b.children) i [], none, trees-forest, ← same, take-trees) (omega arith)
+
+-- the next child starts where this one ends
+pub start-next : {L : Type 0} (l : L) (f : Forest L) (j : ℕ) (c : Tree L) → slice_get (trees f) j ≡ Some c → start (Node l f) (suc j ∷ []) ≡ start (Node l f) (j ∷ []) + text_length c
+start-next l f j c there =
+    let none = λ (i : ℕ). elim (slice_get (trees f) i) as (λ o. option_map_or (λ d. start d []) o 0 ≡ 0) [ None ↦ refl | Some d ↦ start-top d ] in
+    let sum = length-to_next f j c there in
+    omega (arith, start-node l f j [], start-node l f (suc j) [], none j, none (suc j), sum)
 
 -- an element starts as far into its tree as the child that it is in, and as far into that
 pub start-below : {L : Type 0} (l : L) (f : Forest L) (j : ℕ) (p : Path) (c : Tree L) → slice_get (trees f) j ≡ Some c → start (Node l f) (j ∷ p) ≡ start (Node l f) (j ∷ []) + start c p

@@ -2,7 +2,8 @@
 --     named_kinds    each kind that has a name, beside that name
 --     kind_names     the names, in the order of the kinds' numbers
 --     name_of        the name at a number
-use Rattle.std.specs.Prelude.{ℕ, List, [], ◌∷◌, Option, map, slice_get, codes}
+--     kind_text      the name, or how a kind without one is shown
+use Rattle.std.specs.Prelude.{ℕ, List, [], ◌∷◌, ◌++◌, Option, map, slice_get, unwrap_or, codes, decimal}
 use Rattle.green_tree.specs.declared.kind.SyntaxKind.{SyntaxKind}
 use Rattle.green_tree.specs.declared.kind.TheConstants.SyntaxKind as Kinds
 
@@ -83,3 +84,7 @@ kind_names = map (λ (kind, name). name) named_kinds
 -- the name at a number, if there is one
 abbrev pub name_of : ℕ → Option (List ℕ)
 name_of k = slice_get kind_names k
+
+-- the name, or how a kind without one is shown
+abbrev pub kind_text : ℕ → List ℕ
+kind_text k = unwrap_or (name_of k) (codes "SyntaxKind(" ++ decimal k ++ codes ")")

@@ -1,6 +1,7 @@
 pub mod Path
 pub mod Tree
 pub mod Order
+pub mod Offsets
 pub mod Kind
 pub mod Green
 pub mod GreenElement

@@ -5,7 +5,7 @@
 --     parent_path, last_slot      the path of the parent, and the slot in it (the empty path and 0 at the top)
 --     next_path, previous_path    the path of the sibling one slot on, one slot back
 --     up_to, above                the paths on the way to an element, from the top down: with the element itself, and without it
---     counted_from                the numbers from one on, so many
+--     counted_from                the numbers from one on, n of them
 --     siblings                    the paths from the first sibling to the last
 --     first_item, last_item       the first and the last item of a list
 use Rattle.std.specs.Prelude.{ℕ, zero, suc, ◌-◌, ◌&&◌, ◌||◌, Bool, true, false, List, [], ◌∷◌, ◌++◌, map, nat_eq, nat_lt, Option, Some, None}

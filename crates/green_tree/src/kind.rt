@@ -2,6 +2,8 @@ ghost use Rattle.std.specs.Prelude.{ℕ, ◌≡◌, ◌↔◌, option_map, map, 
 ghost use Rattle.std.specs.Cmp.Lexicographic.{pointwise};
 ghost use Rattle.green_tree.specs.Kind.{kind_names, name_of};
 
+use std::fmt;
+
 /// The name of each kind, at its number.
 pub const KIND_NAMES: [&str; 65] = [
     "WHITESPACE",
@@ -72,7 +74,7 @@ pub const KIND_NAMES: [&str; 65] = [
 ];
 
 /// The kind of a token or a node, as a number. A number past the named ones is a kind without a name.
-#[derive(Debug, Clone, Copy, PartialEq, Eq)]
+#[derive(Clone, Copy, PartialEq, Eq)]
 pub struct SyntaxKind(pub u16);
 
 // The table as a slice.
@@ -233,5 +235,23 @@ impl SyntaxKind {
     {
         let number = place_of(kind_names(), name)?;
         Some(SyntaxKind(number as u16))
+    }
+}
+
+/// Prints the kind's name, and a kind without one as `SyntaxKind(NUMBER)`.
+impl fmt::Debug for SyntaxKind {
+    ghost use Rattle.std.specs.Prelude.{Some};
+    ghost use Rattle.green_tree.specs.Kind.{kind_text};
+
+    ghost debug_output = { λ k. Some (kind_text k.0) };
+
+    fn fmt<W: fmt::Write>(&self, f: &mut fmt::Formatter<W>) -> fmt::Result {
+        match self.name() {
+            Some(name) => f.write_str(name),
+            None => {
+                let number = self.0;
+                write!(f, "SyntaxKind({number})")
+            }
+        }
     }
 }

@@ -1,18 +1,20 @@
-ghost use Rattle.std.specs.Prelude.{◌≡◌, ◌++◌, IfOk, OnOk, string_bytes};
+ghost use Rattle.std.specs.Prelude.{◌≡◌, IfOk, string_bytes};
+ghost use Rattle.std.specs.Fmt.{WritesOnOk};
 ghost use Rattle.green_tree.specs.Tree.{text};
 ghost use Rattle.green_tree.specs.Green.{branch_tree};
 
-use crate::green::{GreenElement, GreenNode};
+use crate::green::{GreenElement, GreenElementRef, GreenNode, GreenToken};
 use std::alloc::{AllocError, Global};
+use std::fmt::{self, Display};
 
-// The node's text goes to the end of `out`. An `Err` leaves a beginning of it there.
-fn push_text(node: &GreenNode, out: &mut String) -> Result<(), AllocError>
-    ensures { OnOk result (string_bytes out.new ≡ string_bytes out.old ++ text (branch_tree node.now)) }
+// The texts of the node's tokens, one after another. It takes no memory.
+fn write_text<W: fmt::Write>(node: &GreenNode, f: &mut fmt::Formatter<W>) -> fmt::Result
+    ensures { WritesOnOk W.write_str_gives f.old result (text (branch_tree node.now)) f.new }
 {
     for child in node.children() {
         match child {
-            GreenElement::Node(below) => push_text(below, out)?,
-            GreenElement::Token(token) => out.push_str(token.text())?,
+            GreenElement::Node(below) => write_text(below, f)?,
+            GreenElement::Token(token) => f.write_str(token.text())?,
         }
     }
     Ok(())
@@ -22,7 +24,61 @@ fn push_text(node: &GreenNode, out: &mut String) -> Result<(), AllocError>
 pub fn text_of(alloc: Global, node: &GreenNode) -> Result<String, AllocError>
     ensures { IfOk result (λ s. string_bytes s ≡ text (branch_tree node.now)) }
 {
-    let mut out = String::new(alloc);
-    push_text(node, &mut out)?;
-    Ok(out)
+    node.to_string(alloc)
+}
+
+/// Prints the node's text, as `text_of` gives it. Options of a format, as a width, change nothing.
+impl fmt::Display for GreenNode {
+    ghost use Rattle.std.specs.Prelude.{Some};
+    ghost use Rattle.green_tree.specs.Tree.{text};
+    ghost use Rattle.green_tree.specs.Green.{branch_tree};
+
+    ghost output = { λ n. Some (text (branch_tree n)) };
+
+    fn fmt<W: fmt::Write>(&self, f: &mut fmt::Formatter<W>) -> fmt::Result {
+        write_text(self, f)
+    }
+}
+
+/// Prints the token's text. Options of a format, as a width, change nothing.
+impl fmt::Display for GreenToken {
+    ghost use Rattle.std.specs.Prelude.{Some};
+
+    ghost output = { λ t. Some t.text };
+
+    fn fmt<W: fmt::Write>(&self, f: &mut fmt::Formatter<W>) -> fmt::Result {
+        f.write_str(self.text())
+    }
+}
+
+/// Prints the element's text, as the node or token does that it is.
+impl fmt::Display for GreenElement {
+    ghost use Rattle.std.specs.Prelude.{Some};
+    ghost use Rattle.green_tree.specs.Tree.{text};
+    ghost use Rattle.green_tree.specs.GreenElement.{element_tree};
+
+    ghost output = { λ e. Some (text (element_tree e)) };
+
+    fn fmt<W: fmt::Write>(&self, f: &mut fmt::Formatter<W>) -> fmt::Result {
+        match self {
+            GreenElement::Node(node) => node.fmt(f),
+            GreenElement::Token(token) => token.fmt(f),
+        }
+    }
+}
+
+/// Prints the element's text, as the node or token does that is lent.
+impl<'a> fmt::Display for GreenElementRef<'a> {
+    ghost use Rattle.std.specs.Prelude.{Some};
+    ghost use Rattle.green_tree.specs.Tree.{text};
+    ghost use Rattle.green_tree.specs.GreenElementRef.{ref_tree};
+
+    ghost output = { λ e. Some (text (ref_tree e)) };
+
+    fn fmt<W: fmt::Write>(&self, f: &mut fmt::Formatter<W>) -> fmt::Result {
+        match self {
+            GreenElementRef::Node(node) => node.fmt(f),
+            GreenElementRef::Token(token) => token.fmt(f),
+        }
+    }
 }

@@ -1,8 +1,8 @@
 ghost use Rattle.std.specs.Prelude.{◌≡◌, ◌≤◌, [], ◌∷◌, length, IfOk, IfSome, IsSome};
 ghost use Rattle.green_tree.specs.Tree.{at};
-ghost use Rattle.green_tree.specs.Order.{first_token, last_token_before};
+ghost use Rattle.green_tree.specs.Order.{first_token, last_token, last_token_before, first_token_after};
 ghost use Rattle.green_tree.specs.Green.{branch_tree};
-ghost use Rattle.green_tree.specs.inner.FoundToken.{FindsFirst, FindsLastBefore, IsTokenOf, path_found};
+ghost use Rattle.green_tree.specs.inner.FoundToken.{FindsFirstFrom, FindsFirstAfter, FindsLastBefore, IsTokenOf, path_found};
 
 use crate::green::{GreenElement, GreenNode, GreenToken};
 use std::alloc::{AllocError, Global};
@@ -14,22 +14,24 @@ pub struct FoundToken {
     pub green: GreenToken,
 }
 
-// The slots on the way from the node to its first token go to the end of `path`, if it has one. An `Err` may leave other
-// slots there.
+// The first token at or below the children in the slots from `start` on. The slots on the way from the node to it go to
+// the end of `path`, if there is one. An `Err` may leave other slots there.
 fn push_first_token(
     alloc: Global,
     node: &GreenNode,
+    start: usize,
     path: &mut Vec<usize>,
 ) -> Result<Option<GreenToken>, AllocError>
-    ensures { IfOk result (FindsFirst (branch_tree node.now) path.old.items path.new.items) }
+    ensures { IfOk result (FindsFirstFrom (branch_tree node.now) (start ∷ []) path.old.items path.new.items) }
 {
-    for (slot, child) in node.children().iter().enumerate() {
+    let children = node.children();
+    for slot in start..children.len() {
         path.push(slot)?;
-        let below = match child {
+        let below = match &children[slot] {
             GreenElement::Token(token) => return Ok(Some(token.share(alloc)?)),
             GreenElement::Node(below) => below,
         };
-        if let Some(token) = push_first_token(alloc, below, path)? {
+        if let Some(token) = push_first_token(alloc, below, 0, path)? {
             return Ok(Some(token));
         }
         path.pop();
@@ -43,7 +45,7 @@ pub fn first_token(alloc: Global, node: &GreenNode) -> Result<Option<FoundToken>
     ensures token { IfOk result (λ found. IfSome found (IsTokenOf (branch_tree node.now))) }
 {
     let mut path = Vec::new(alloc);
-    let Some(green) = push_first_token(alloc, node, &mut path)? else {
+    let Some(green) = push_first_token(alloc, node, 0, &mut path)? else {
         return Ok(None);
     };
     Ok(Some(FoundToken { path, green }))
@@ -72,6 +74,18 @@ fn push_last_token(
         path.pop();
     }
     Ok(None)
+}
+
+/// The last token below a node. The path is counted from the node.
+pub fn last_token(alloc: Global, node: &GreenNode) -> Result<Option<FoundToken>, AllocError>
+    ensures path { IfOk result (λ found. path_found found ≡ last_token (branch_tree node.now)) }
+    ensures token { IfOk result (λ found. IfSome found (IsTokenOf (branch_tree node.now))) }
+{
+    let mut path = Vec::new(alloc);
+    let Some(green) = push_last_token(alloc, node, node.children().len(), &mut path)? else {
+        return Ok(None);
+    };
+    Ok(Some(FoundToken { path, green }))
 }
 
 // The same for the last token before the element at `path`, counted from the node: below the child that the path goes
@@ -111,6 +125,49 @@ pub fn token_before(
 {
     let mut way = Vec::new(alloc);
     let Some(green) = push_token_before(alloc, root, path, &mut way)? else {
+        return Ok(None);
+    };
+    Ok(Some(FoundToken { path: way, green }))
+}
+
+// The same for the first token after the element at `path`: below the child that the path goes through first, and then
+// in the slots after it. What is below the element is after it.
+fn push_token_after(
+    alloc: Global,
+    node: &GreenNode,
+    path: &[usize],
+    way: &mut Vec<usize>,
+) -> Result<Option<GreenToken>, AllocError>
+    requires { IsSome (at (branch_tree node.now) path.now) }
+    ensures { IfOk result (FindsFirstAfter (branch_tree node.now) path.now way.old.items way.new.items) }
+{
+    let [slot, rest @ ..] = path else {
+        return push_first_token(alloc, node, 0, way);
+    };
+    let children = node.children();
+    if let GreenElement::Node(below) = &children[*slot] {
+        way.push(*slot)?;
+        if let Some(token) = push_token_after(alloc, below, rest, way)? {
+            return Ok(Some(token));
+        }
+        way.pop();
+    }
+    push_first_token(alloc, node, *slot + 1, way)
+}
+
+/// The first token that stands after the element at `path` in document order, so the first one below it where that is a
+/// node with tokens. It visits the way and what is between, not the tree.
+pub fn token_after(
+    alloc: Global,
+    root: &GreenNode,
+    path: &[usize],
+) -> Result<Option<FoundToken>, AllocError>
+    requires { IsSome (at (branch_tree root.now) path.now) }
+    ensures path { IfOk result (λ found. path_found found ≡ first_token_after (branch_tree root.now) path.now) }
+    ensures token { IfOk result (λ found. IfSome found (IsTokenOf (branch_tree root.now))) }
+{
+    let mut way = Vec::new(alloc);
+    let Some(green) = push_token_after(alloc, root, path, &mut way)? else {
         return Ok(None);
     };
     Ok(Some(FoundToken { path: way, green }))

@@ -1,7 +1,7 @@
 -- Trees indented and dedented: the text of each whitespace token changes, and nothing else.
---     lines, dedented_line            the parts of a text between its newlines; a line without so many spaces at its start, where it has them
+--     lines, dedented_line            the parts of a text between its newlines; a line without n spaces at its start, where it has them
 --     dedented_lines                  lines of which each but the first is such a line
---     indented_text                   spaces behind a text that holds a newline
+--     indented_text                   spaces after a text that holds a newline
 --     dedented_text                   each line but the first dedented
 --     with_texts, in_whitespace       a tree with other texts of its tokens; of its whitespace tokens
 --     forest_with_texts               trees side by side with other texts

@@ -40,7 +40,7 @@ breaks_line token = (label (subtree token) == WHITESPACE.0) && has_newline (text
 abbrev pub tokens_up_to : Element → List Element
 tokens_up_to token = map (element_at token) (tokens_before token.root token.path ++ token.path ∷ [])
 
--- the characters behind the last newline, of which each four are a level
+-- the characters after the last newline, of which each four are a level
 abbrev pub level_behind : List ℕ → ℕ
 level_behind s = length (chars (after_last is_newline s)) / 4
 

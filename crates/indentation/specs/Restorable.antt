@@ -1,6 +1,6 @@
 -- Texts and trees that dedenting restores after they were indented.
 --     lines_between           the lines between two newlines of a text
---     IsRestorable            a text from which so many spaces can be taken away again after they were added
+--     IsRestorable            a text from which n spaces can be taken away again after they were added
 --     HasRestorableTexts      each whitespace token of a tree that holds a newline has such a text
 use Rattle.std.specs.Prelude.{◌≡◌, ℕ, ◌-◌, ◌==◌, false, nat_eq, List, drop, take, length, All, IsTrue}
 use Rattle.std.specs.List.{list_all, after_last, starts_with}

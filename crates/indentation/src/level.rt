@@ -154,7 +154,7 @@ fn breaks_line(token: &SyntaxToken) -> bool
     token.kind() == SyntaxKind::WHITESPACE && last_line(token.text()).is_some()
 }
 
-// What stands behind the last newline of a text, if it holds one.
+// What stands after the last newline of a text, if it holds one.
 pub(crate) fn last_line(text: &str) -> Option<&str>
     ensures { option_map (λ line. line.now) result ≡ last_line text.now }
 {
@@ -171,7 +171,7 @@ fn count_chars(text: &str) -> usize
     text.chars().count()
 }
 
-// The level of what stands behind a text that holds a newline.
+// The level of what stands after a text that holds a newline.
 fn level_behind(text: &str) -> Result<IndentLevel, IndentError>
     requires { has_newline text.now ≡ true }
     ensures { ReadsLevel (level_behind text.now) result }

@@ -58,7 +58,7 @@ fn dedented_text(alloc: Global, level: IndentLevel, text: &str) -> Result<String
     Ok(out)
 }
 
-// A text that holds a newline, with the spaces of a level behind it.
+// A text that holds a newline, with the spaces of a level after it.
 fn indented_text(alloc: Global, level: IndentLevel, text: &str) -> Result<String, AllocError>
     requires { has_newline text.now ≡ true }
     ensures { IfOk result (λ s. string_bytes s ≡ indented_text level.0 text.now) }
@@ -131,7 +131,7 @@ fn shifted_element(
     Ok(Some(with_rest(alloc, node, built)?))
 }
 
-// Puts a changed child at the end of a list that begins the new children, behind those before it that stay.
+// Puts a changed child at the end of a list that begins the new children, after those before it that stay.
 fn push_changed(
     alloc: Global,
     built: &mut Vec<GreenElement>,
@@ -146,7 +146,7 @@ fn push_changed(
     Ok(built.push(new)?)
 }
 
-// The node with a list that begins the new children, and those behind it that stay.
+// The node with a list that begins the new children, and those after it that stay.
 fn with_rest(
     alloc: Global,
     node: &GreenNode,

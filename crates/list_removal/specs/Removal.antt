@@ -5,7 +5,7 @@
 --     with_whitespace_after                 the whitespace token directly after an element, or the element itself where there is none
 --     removed_run                           the first and the last of the siblings that go
 --     removal                               the one call that deletes them
---     RemovalRefuses                        why it is refused, want of memory among it
+--     RemovalRefuses                        why it is refused, that memory ran out among it
 use Rattle.std.specs.Prelude.{◌≡◌, Bool, false, ◌==◌, cond, Option, Some, None, option_and_then, unwrap_or}
 use Rattle.cst_core.specs.Tree.{label}
 use Rattle.cst_core.specs.Element.{Element, subtree}

@@ -1,6 +1,6 @@
--- Where something aims in a tree, by paths alone: all that the place of what it brings hangs on.
---     Gap                           a node and an index from 0 to its number of children: before its child i, the last behind its last child
---     Aim                           before the first child of a node, behind an element, or over some elements
+-- Where something aims in a tree, by paths alone: all that the place of its payload hangs on.
+--     Gap                           a node and an index from 0 to its number of children: before its child i, the last after its last child
+--     Aim                           before the first child of a node, after an element, or over some elements
 --     gap_of, aims_at_gap           the gap that an insert fills; it is this one
 --     same_gap                      two inserts fill one gap: a gap has one form, so they have the same
 --     starts_at, replaces           a replacement replaces from this path on; it replaces this path
@@ -19,7 +19,7 @@ pub data Aim : Type 0 where
   Over : (replaced : List Path) → Aim
 
 -- ---- inserts
--- behind the top there is no gap
+-- after the top there is no gap
 abbrev gap_behind : Path → Option Gap
 gap_behind [] = None
 gap_behind (i ∷ p) = Some (record { node = parent_path (i ∷ p); index = suc (last_slot (i ∷ p)) })

@@ -6,7 +6,7 @@
 --     built_from                    those of children from a slot on
 --     nodes_built_whole             the same where the top may be replaced
 --     IsBuilt, AreBuilt             a node of the tree that no aim replaces, nor what it is in; such is each node whose children an aim alters
---     counted                       a count after so many more: at the greatest number it stays
+--     counted                       a count after n more: at the greatest number it stays
 use Rattle.std.specs.Prelude.{◌≡◌, ℕ, suc, ◌+◌, ◌-◌, ◌^◌, min, nat_eq, true, false, not, cond, List, [], ◌∷◌, ◌++◌, flat_map, All}
 use Rattle.std.specs.Option.{option_map_or}
 use Rattle.green_tree.specs.Path.{Path}

@@ -59,7 +59,7 @@ pub fn aims_below<'a>(
     Ok(out)
 }
 
-// The aim goes to the end of so many groups, from one on, as far as there are groups.
+// The aim goes to the end of n groups, from one on, as far as there are groups.
 fn push_into<'a>(
     alloc: Global,
     groups: &mut Vec<Group<'a>>,
@@ -79,7 +79,7 @@ fn push_into<'a>(
     Ok(())
 }
 
-// For each child of the top, so many of them, the aims that matter for it and for the gap behind it, in their order.
+// For each child of the top, n of them, the aims that matter for it and for the gap after it, in their order.
 pub fn aims_by_child<'a>(
     alloc: Global,
     aims: &[Aimed<'a>],

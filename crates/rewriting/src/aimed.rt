@@ -10,11 +10,11 @@ pub enum AimForm {
     FirstIn,
     /// After the element there, among its siblings.
     Behind,
-    /// Over the element there and the siblings after it, so many of them with the first.
+    /// Over the element there and the siblings after it, `count` of them with the first.
     Over(usize),
 }
 
-/// A change by its number, and where it aims: first in a node, behind an element, or over some siblings. Paths are borrowed.
+/// A change by its number, and where it aims: first in a node, after an element, or over some siblings. Paths are borrowed.
 #[derive(Clone, Copy)]
 pub struct Aimed<'a> {
     /// The number of the change.
@@ -37,7 +37,7 @@ impl<'a> Aimed<'a> {
         }
     }
 
-    /// Inserts behind the element at this path. Behind the top there is no gap, so nothing comes of that.
+    /// Inserts after the element at this path. After the top there is no gap, so nothing comes of that.
     pub fn behind(change: usize, element: &'a [usize]) -> Aimed<'a>
         ensures { numbered result ≡ (change, Behind element.now) }
     {
@@ -48,7 +48,7 @@ impl<'a> Aimed<'a> {
         }
     }
 
-    /// Replaces the element at this path and the siblings behind it, `count` of them with the first. The top has no siblings.
+    /// Replaces the element at this path and the siblings after it, `count` of them with the first. The top has no siblings.
     pub fn over(change: usize, first: &'a [usize], count: usize) -> Aimed<'a>
         ensures { numbered result ≡ (change, Over (siblings_from first.now count)) }
     {
@@ -66,7 +66,7 @@ impl<'a> Aimed<'a> {
         self.change
     }
 
-    // Whether it alters the children of a node. A replaced top, the gap behind the top and no siblings at all alter none.
+    // Whether it alters the children of a node. A replaced top, the gap after the top and no siblings at all alter none.
     pub(crate) fn has_parent(&self) -> bool
         ensures { result ≡ has_parent (numbered self.now) }
     {
@@ -141,7 +141,7 @@ impl<'a> Aimed<'a> {
     }
 
     // The first child of the top that it matters for, and how many there are: those that it replaces, or the one that it
-    // is behind or below.
+    // is after or below.
     pub(crate) fn reach(&self) -> (usize, usize)
         ensures inside { (k : ℕ) → result.0 ≤ k → k < result.0 + result.1 → concerns k self.now ≡ true }
         ensures before { (k : ℕ) → k < result.0 → concerns k self.now ≡ false }

@@ -5,7 +5,7 @@ ghost use Rattle.rewriting.specs.Lists.{AreEmpty};
 
 use std::alloc::{AllocError, Global};
 
-/// So many empty lists.
+/// n empty lists.
 pub fn empty_lists<T: Drop>(alloc: Global, count: usize) -> Result<Vec<Vec<T>>, AllocError>
     ensures size { IfOk result (λ v. length v.items ≡ count) }
     ensures empty { IfOk result (λ v. AreEmpty v.items) }

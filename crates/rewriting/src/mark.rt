@@ -74,7 +74,7 @@ fn deal<'a>(lists: &mut Vec<Vec<Sought<'a>>>, mark: Sought<'a>) -> Result<(), Al
     Ok(())
 }
 
-// For each child of the top, so many of them, what is sought at the child or below it, as it is seen from the child. Where
+// For each child of the top, n of them, what is sought at the child or below it, as it is seen from the child. Where
 // nothing is sought there are no lists.
 pub fn marks_by_child<'a>(
     alloc: Global,

@@ -16,7 +16,7 @@ use crate::marked_given::{GivenTable, MarkedGiven};
 use green_tree::{GreenElement, GreenNode, SyntaxKind};
 use std::alloc::{AllocError, Global};
 
-// What a change gives goes behind the children that the node at this path has so far, with its marks.
+// What a change gives goes after the children that the node at this path has so far, with its marks.
 fn push_given(
     alloc: Global,
     out: &mut Vec<GreenElement>,

@@ -3,7 +3,7 @@
 --     document_path                 of a change: this path, or that of the first element that it replaces
 --     fills_gap                     the change is an insert
 --     stands_ahead                  document order of changes: a gap stands before its slot
---     default_first                 the first change comes before the second: it stands behind it, or both fill one gap and it stands last there
+--     default_first                 the first change comes before the second: it stands after it, or both fill one gap and it stands last there
 --     IsDefaultOrder                an order of each undropped change that goes by `default_first`
 use Rattle.std.specs.Prelude.{ℕ, suc, Bool, true, false, not, ◌&&◌, ◌||◌, List, [], ◌∷◌, ◌++◌, IsTrue}
 use Rattle.cst_core.specs.Path.{Path, same_path, precedes, parent_path, last_slot}
@@ -15,7 +15,7 @@ use Rattle.edit_change.specs.declared.change.Change.{Change}
 use Rattle.edit_change.specs.declared.change.Change.TheVariants.{Insert, InsertAll, Replace, ReplaceWithMany, ReplaceAll}
 use Rattle.schedule.specs.Schedule.{Numbered, ListsEachOnce, respects, stands_last}
 
--- the gap behind an element is that before the next slot
+-- the gap after an element is that before the next slot
 abbrev pub gap_path : Position → Path
 gap_path (FirstChild n) = n.path ++ 0 ∷ []
 gap_path (After e) = parent_path (element_of e).path ++ suc (last_slot (element_of e).path) ∷ []

@@ -1,5 +1,5 @@
 -- Why an order is refused.
---     OrderRefuses                  the first part of an allowed order that it is not; or want of memory
+--     OrderRefuses                  the first part of an allowed order that it is not; or that memory ran out
 use Rattle.std.specs.Prelude.{◌≡◌, ℕ, false, List, IsTrue}
 use Rattle.edit_change.specs.declared.change.Change.{Change}
 use Rattle.schedule.specs.Schedule.{ListsEachOnce, respects, owned_first, gap_first, token_first}

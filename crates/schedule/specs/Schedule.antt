@@ -1,9 +1,9 @@
 -- In which orders the changes may be carried out one at a time.
 --     Numbered, undropped           a change with its number; the changes that are not dropped, with their numbers
 --     owned_first, gap_first, token_first      the first change has to be carried out before the second: it is owned by it;
---                                   it inserts into the same gap and stands last there; it inserts behind a token that the other replaces
+--                                   it inserts into the same gap and stands last there; it inserts after a token that the other replaces
 --     last_in_gap, stands_last      of two inserts of one gap, the one that stands last; the first one is that
---     token_before, anchor_token    the token that a position is behind; that an insert stands behind
+--     token_before, anchor_token    the token that a position is after; that an insert stands after
 --     comes_first                   one of these
 --     index_in                      where a number stands in the order, or the length of the order
 --     stands_before                 in the order, the one number stands before the other
@@ -51,7 +51,7 @@ token_before (FirstChild n) = None
 token_before (After (Node n)) = None
 token_before (After (Token t)) = Some t.path
 
--- the token that an insert stands behind
+-- the token that an insert stands after
 abbrev pub anchor_token : Change → Option Path
 anchor_token (Insert at e) = token_before at
 anchor_token (InsertAll at es) = token_before at

@@ -40,7 +40,7 @@ fn gap_path(alloc: Global, position: &Position) -> Result<Vec<usize>, AllocError
     Ok(path)
 }
 
-// The path of the slot where a change begins: the first one that it replaces, or the one behind its gap.
+// The path of the slot where a change begins: the first one that it replaces, or the one after its gap.
 fn document_path(alloc: Global, change: &Change) -> Result<Vec<usize>, AllocError>
     ensures { IfOk result (λ v. v.items ≡ document_path change.now) }
 {

@@ -18,11 +18,11 @@ pub(crate) struct Followers {
     pub(crate) owner: Vec<Option<usize>>,
     /// The insert before it in the same gap.
     pub(crate) next_in_gap: Vec<Option<usize>>,
-    /// What replaces the token that it stands behind.
+    /// What replaces the token that it stands after.
     pub(crate) replacement: Vec<Option<usize>>,
 }
 
-// The token that a position is behind.
+// The token that a position is after.
 fn token_before(position: &Position) -> Option<&[usize]>
     ensures { option_map (λ p. p.now) result ≡ token_before position.now }
 {
@@ -33,7 +33,7 @@ fn token_before(position: &Position) -> Option<&[usize]>
     }
 }
 
-// The token that an insert stands behind.
+// The token that an insert stands after.
 fn anchor_token(change: &Change) -> Option<&[usize]>
     ensures { option_map (λ p. p.now) result ≡ anchor_token change.now }
 {
@@ -76,7 +76,7 @@ fn next_in_gaps(
     Ok(links)
 }
 
-// What replaces the token that a change stands behind.
+// What replaces the token that a change stands after.
 fn replacement(index: &TargetIndex, change: &Change) -> Option<usize>
     ensures { result ≡ option_and_then (number_at index.now) (anchor_token change.now) }
 {

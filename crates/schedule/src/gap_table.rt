@@ -12,7 +12,7 @@ use std::collections::HashMap;
 pub(crate) struct GapTable {
     // By the path of the node whose first gap it is.
     first: HashMap<Vec<usize>, usize>,
-    // By the path of the element that it is behind.
+    // By the path of the element that it is after.
     behind: HashMap<Vec<usize>, usize>,
 }
 

@@ -78,7 +78,7 @@ fn keeps(indices: &[usize], links: &[Option<usize>]) -> bool
 
 /// Whether changes may be carried out in this order, one at a time: it has each change that is not dropped exactly once
 /// and nothing else, a change before its owner, inserts of one gap from the last recorded to the first, and an insert
-/// behind a token before what replaces the token.
+/// after a token before what replaces the token.
 ///
 /// Each refusal but `Memory`, which may come at any time, is given exactly where its clause does not hold, and all those
 /// before it do. `fates` has what becomes of each change. Takes time near linear in the order and in the paths of the

@@ -25,7 +25,7 @@ enum Standing {
 #[derive(Drop)]
 pub struct Waiting {
     standings: Vec<Standing>,
-    // Each change waits for what it owns, for the insert after it in its gap, and for the inserts behind the token that it
+    // Each change waits for what it owns, for the insert after it in its gap, and for the inserts after the token that it
     // replaces.
     owners: Waits,
     gaps: Waits,

@@ -3,10 +3,10 @@
 --     Neighbor, neighbor           what it goes by: an element's kind and its level
 --     is_statement, opens_list     a neighbor is a statement; a new element is an import or a statement, first in the braces of its list
 --     between                      the whitespace between two neighbors: the first line of the table that fits
---     space_before, space_after    the whitespace at a position before the first new element, and behind the last
+--     space_before, space_after    the whitespace at a position before the first new element, and after the last
 --     space_behind                 that after an element, where the parent and the first new element are these
 --     space_following              that after an element, before a first new one
---     next_of                      the element that stands behind a position
+--     next_of                      the element that stands after a position
 --     is_deep                      a new line at a level past the greatest one
 --     space_text                   whitespace as a text
 --     whitespace_tree, whitespace  the tree of a whitespace token alone; the token, in such a tree with this number
@@ -89,7 +89,7 @@ abbrev pub space_before : Position → Element → Space
 space_before (FirstChild n) first = NoSpace
 space_before (After e) first = space_following (element_of e) first
 
--- ---- behind the last new element
+-- ---- after the last new element
 abbrev pub next_of : Position → Option SyntaxElement
 next_of (FirstChild n) = first_item (child_elements n)
 next_of (After e) = next_sibling (element_of e)

@@ -99,7 +99,7 @@ fn line_below(alloc: Global, parent: &SyntaxNode) -> Result<Space, SpaceError>
     Ok(Space::NewLine(level + 1))
 }
 
-// The whitespace between an anchor and the first new element behind it.
+// The whitespace between an anchor and the first new element after it.
 fn space_behind(
     alloc: Global,
     anchor: &SyntaxElement,
@@ -126,7 +126,7 @@ fn space_before(alloc: Global, at: &Position, first: &SyntaxElement) -> Result<S
     }
 }
 
-// The element that stands behind a position.
+// The element that stands after a position.
 fn next_of(alloc: Global, at: &Position) -> Result<Option<SyntaxElement>, AllocError>
     ensures { IfOk result (λ r. r ≡ next_of at.now) }
 {
@@ -139,7 +139,7 @@ fn next_of(alloc: Global, at: &Position) -> Result<Option<SyntaxElement>, AllocE
     }
 }
 
-// The whitespace at a position behind the last new element.
+// The whitespace at a position after the last new element.
 fn space_after(alloc: Global, at: &Position, last: &SyntaxElement) -> Result<Space, SpaceError>
     ensures { FindsSpace (space_after at.now (element_of last.now)) result }
 {
@@ -163,7 +163,7 @@ pub(crate) fn space_in_front(
     }
 }
 
-/// The whitespace behind new elements: none where there are none.
+/// The whitespace after new elements: none where there are none.
 pub(crate) fn space_at_end(
     alloc: Global,
     at: &Position,

@@ -55,7 +55,7 @@ fn push_space(
     }
 }
 
-// New elements between the whitespace before them and the whitespace behind them.
+// New elements between the whitespace before them and the whitespace after them.
 fn with_spaces(
     alloc: Global,
     ids: &mut TreeIds,

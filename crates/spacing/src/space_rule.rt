@@ -38,7 +38,7 @@ pub(crate) fn space_rule(left: SyntaxKind, right: SyntaxKind) -> SpaceRule
     }
 }
 
-/// Whether what is behind an opening brace is on a line of its own: an import or a statement that comes first in the braces
+/// Whether what is after an opening brace is on a line of its own: an import or a statement that comes first in the braces
 /// of its list.
 pub(crate) fn opens_list(parent: SyntaxKind, anchor: SyntaxKind, first: SyntaxKind) -> bool
     ensures { (p a f : ℕ) → result ≡ opens_list (neighbor_of parent p) (neighbor_of anchor a) (neighbor_of first f) }

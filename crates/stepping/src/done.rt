@@ -6,7 +6,7 @@ ghost use Rattle.stepping.specs.inner.CurrentPaths.{index_of, count_of, is_befor
 pub(crate) enum Among {
     /// In the gap before the child in this slot, or, past the last child, after it.
     Gap(usize),
-    /// From the child in the first of these slots on, so many children.
+    /// How many children, from the child in the first of these slots on.
     Slots { first: usize, count: usize },
 }
 

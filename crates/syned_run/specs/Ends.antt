@@ -1,8 +1,8 @@
 -- What a read adds to what was read before, and how much of a reader reads take.
---     IsFrontOf                   these are the first bytes of a reader, where those are known: so many, or all where they are fewer
---     TakesFront                  of a reader's bytes, where these are known, the first were taken and no more: so many, or all where they are fewer
---     TakesAtMost                 of a reader's bytes, where these are known, a front of at most so many as the limit was taken
---     ReadsOn                     n bytes of a reader, at most so many as the limit, went to the end of what was there; none only at the reader's end
+--     IsFrontOf                   these are the first bytes of a reader, where those are known: n, or all where they are fewer
+--     TakesFront                  of a reader's bytes, where these are known, the first were taken and no more: n, or all where they are fewer
+--     TakesAtMost                 of a reader's bytes, where these are known, a front of at most n as the limit was taken
+--     ReadsOn                     n bytes of a reader, at most n as the limit, went to the end of what was there; none only at the reader's end
 --     ReadsFrom                   the same of a reader, where this tells its bytes
 use Rattle.std.specs.Prelude.{◌≡◌, ℕ, ◌≤◌, List, ◌++◌, length, take, Option, IfSome}
 use Rattle.std.specs.Io.KnownBytes.{Consumes, IsAtEnd}

@@ -13,7 +13,7 @@ pub const SCRIPT_LIMIT: usize = 1_048_576;
 // How many bytes are asked for at once.
 const BLOCK: usize = 4096;
 
-/// An end that failed, or want of memory.
+/// An end that failed, or that memory ran out.
 #[derive(Debug, Drop)]
 pub(crate) struct EndFailed;
 

@@ -71,7 +71,7 @@ pub(crate) enum Line<'a> {
 pub(crate) enum Place<'a> {
     /// Before the first child of a node.
     First(Reference<'a>),
-    /// Behind the last child of a node.
+    /// After the last child of a node.
     Last(Reference<'a>),
     Before(Reference<'a>),
     After(Reference<'a>),

@@ -9,7 +9,7 @@ use tree_text::ExpressionError;
 pub(crate) enum Stop {
     /// The line is bad.
     Bad,
-    /// Its call was refused, and not for want of memory.
+    /// Its call was refused, and not because memory ran out.
     Refused(Refusal),
     /// Memory was refused.
     Memory,

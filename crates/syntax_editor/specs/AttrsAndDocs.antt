@@ -1,7 +1,7 @@
--- The attributes and comments of a node, each with the whitespace directly behind it.
+-- The attributes and comments of a node, each with the whitespace directly after it.
 --     is_attr_or_doc            the child in a slot is an attribute or a comment
 --     is_whitespace             the child in a slot is of the kind WHITESPACE
---     is_removed                it is one, or is of the kind WHITESPACE directly behind one
+--     is_removed                it is one, or is of the kind WHITESPACE directly after one
 --     removed_slots             the slots of these
 --     removed_children          the children there
 --     remove_attrs_and_docs     the list of changes after their deletion, in order

@@ -9,7 +9,7 @@
 --     Takes, RecordRefuses          nothing speaks against a call; why it is refused
 --     MemoryLast                    where all that a call is given is owned, memory runs out only after each reason was looked for
 --     HasPairs, Maps                a factory with these pairs, whose copies win over those that it had; an editor whose factory took them up
---     with_registrations, registrations_of         an editor with more registrations, behind those before; each of so many elements with an annotation
+--     with_registrations, registrations_of         an editor with more registrations, after those before; each of n elements with an annotation
 --     registered_with, Registers    an editor in which these elements are registered with an annotation, too; a call makes one of it
 --     plan_of, FinishRefuses        the plan of an editor; why its changes are not carried out
 use Rattle.std.specs.Prelude.{◌≡◌, ℕ, Bool, true, false, cond, List, [], ◌++◌, map, Option, None, Some, unwrap_or, Result, Err, All, IsTrue, refl}
@@ -75,7 +75,7 @@ Records call before after = after ≡ after_call call before
 abbrev pub Takes : Editor → RecordCall → Type 0
 Takes e call = refusal e.root call ≡ None
 
--- A call is refused for its first reason, or for want of memory: what it is given may ask for some before any reason is looked for.
+-- A call is refused for its first reason, or because memory ran out: what it is given may ask for some before any reason is looked for.
 abbrev pub RecordRefuses : RecordCall → Editor → RecordError → Type 0
 RecordRefuses call e record_error.Foreign = refusal e.root call ≡ Some record_error.Foreign
 RecordRefuses call e record_error.BadRange = refusal e.root call ≡ Some record_error.BadRange

@@ -1,6 +1,6 @@
 -- What the laws of an editor speak of.
 --     asked_for               what a call asks for in the place of an element, which is nothing where it deletes it; no answer where it asks for nothing
---     all_asked_for           what each of so many calls asks for, in their order
+--     all_asked_for           what each of n calls asks for, in their order
 --     target_depth            how many elements are above what a call replaces or deletes; no answer of an insert
 --     copy_by                 the copy of an address by an editor's mappings, none where its factory keeps none
 use Rattle.std.specs.Prelude.{ℕ, ◌&&◌, cond, List, [], length, filter_map, Option, Some, None, unwrap_or}

@@ -1,7 +1,7 @@
 -- Merging one editor into another.
 --     AreMergeable                  the roots are one element, and each change of the other editor fits the own root
---     taken_over                    an editor with the other's changes and registrations behind the own ones
---     IsMerged                      the other's changes and registrations behind the own ones; of what both map, the other's copy stands
+--     taken_over                    an editor with the other's changes and registrations after the own ones
+--     IsMerged                      the other's changes and registrations after the own ones; of what both map, the other's copy wins
 --     MergeRefuses                  why an editor is not merged
 use Rattle.std.specs.Prelude.{◌≡◌, true, [], ◌++◌, Some, unwrap_or, All}
 use Rattle.cst_core.specs.Element.{same_element}

@@ -1,6 +1,6 @@
 -- Calls that record a change, each with what it is given.
 --     RecordCall                 such a call
---     recorded, all_recorded     the list of changes after it; the list of a new editor after so many, the first one first
+--     recorded, all_recorded     the list of changes after it; the list of a new editor after n, the first one first
 --     refusal                    why a call is refused, if it is: the first of its reasons, in the order of the lines
 use Rattle.std.specs.Prelude.{Bool, ◌&&◌, ◌||◌, not, List, [], ◌∷◌, Option}
 use Rattle.std.specs.List.{fold}

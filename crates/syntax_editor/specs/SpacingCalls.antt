@@ -2,7 +2,7 @@
 --     insert_all_with_whitespace  the list of changes after such a call
 --     spaced_insert               the insert that it records
 --     spacing_refusal             why it is refused, if it is: the first of its reasons, in the order of the lines
---     SpacingRefuses              why it is refused, want of memory among it
+--     SpacingRefuses              why it is refused, that memory ran out among it
 use Rattle.std.specs.Prelude.{◌≡◌, ◌+◌, ℕ, not, nat_lt, List, [], ◌∷◌, Option, Some}
 use Rattle.cst_core.specs.Element.{Element}
 use Rattle.cst_core.specs.declared.element.SyntaxElement.{SyntaxElement}

@@ -61,7 +61,7 @@ fn has_foreign(root: &SyntaxNode, elements: &[SyntaxElement]) -> bool
     elements.iter().any(|element| !is_native(root, element))
 }
 
-// The children of a node that are attributes or comments, or are of the kind WHITESPACE directly behind one.
+// The children of a node that are attributes or comments, or are of the kind WHITESPACE directly after one.
 fn removed_children(alloc: Global, node: &SyntaxNode) -> Result<Vec<SyntaxElement>, AllocError>
     ensures { IfOk result (λ all. all.items ≡ removed_children node.now) }
 {

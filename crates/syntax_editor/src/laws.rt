@@ -17,6 +17,7 @@ ghost use Rattle.syntax_editor.specs.EditorLaws.{target_depth, all_asked_for, co
 
 use edit_map::laws::newer_copies_stand;
 use edit_plan::laws::changes_of_one_depth_own_nothing;
+pub use edit_plan::laws::edit_text_is_filled;
 pub use indentation::laws::dedent_restores;
 
 /// Before any merge a list holds one Replace of an element at most. It is a deletion where a call deleted the element, and

@@ -8,7 +8,7 @@ use syntax_editor::{Change, Position};
 pub enum Aim {
     /// The gap before the first child of a node.
     First(Vec<usize>),
-    /// The gap behind an element.
+    /// The gap after an element.
     After(Vec<usize>),
     /// The elements that are replaced, in order.
     Targets(Vec<Vec<usize>>),
@@ -123,7 +123,7 @@ impl Aim {
         }
     }
 
-    /// The same aim below `place`, in place of below a target with so many slots. There is no gap behind the root of what it
+    /// The same aim below `place`, in place of below a target with n slots. There is no gap after the root of what it
     /// moves into.
     pub fn moved(&self, alloc: Global, slots: usize, place: &[usize]) -> Result<Option<Aim>> {
         match self {

@@ -12,9 +12,9 @@ pub enum Fate {
     Dropped,
     /// It is carried out where it aims.
     Stays,
-    /// It is carried out in what its owner brings.
+    /// It is carried out in its owner's payload.
     Moves { owner: usize, aim: Aim },
-    /// It has no place in what its owner brings.
+    /// It has no place in its owner's payload.
     Lost { owner: usize },
 }
 
@@ -37,7 +37,7 @@ fn owner(planned: &[Planned], path: &[usize]) -> Option<usize> {
     owner
 }
 
-// Where the target of an owner stands in what the owner brings.
+// Where the target of an owner stands in the owner's payload.
 fn place(alloc: Global, owner: &Planned, mapping: &SyntaxMapping) -> Result<Option<Vec<usize>>> {
     match owner.change {
         Change::Replace(SyntaxElement::Node(target), Some(SyntaxElement::Node(payload))) => {

@@ -1,4 +1,4 @@
-//! What each change brings, with what moved into it.
+//! The payload of each change, with what moved into it.
 
 use crate::fate::Fate;
 use crate::piece::{Piece, share_pieces};
@@ -34,7 +34,7 @@ fn listed(
     Ok(out)
 }
 
-// What a change brings, rewritten by what moves into it.
+// A change's payload, rewritten by what moves into it.
 fn payload(
     alloc: Global,
     change: &Change,
@@ -56,7 +56,7 @@ fn payload(
     }
 }
 
-/// What the changes without an owner bring.
+/// The payloads of the changes without an owner.
 pub fn staying<'a>(
     alloc: Global,
     planned: &'a [Planned<'a>],
@@ -75,7 +75,7 @@ pub fn staying<'a>(
     Ok(all)
 }
 
-// What the changes of one owner bring.
+// The payloads of the changes of one owner.
 fn moving<'a>(
     alloc: Global,
     number: usize,
@@ -95,7 +95,7 @@ fn moving<'a>(
     Ok(all)
 }
 
-// What one change brings, where what moves into it is as in `given`.
+// The payload of one change, where what moves into it is as in `given`.
 fn next_of(
     alloc: Global,
     number: usize,
@@ -121,7 +121,7 @@ fn next_given(
     Ok(next)
 }
 
-/// What each change brings. A change that moves is deeper than its owner, so what the first round makes of the deepest changes is
+/// The payload of each change. A change that moves is deeper than its owner, so what the first round makes of the deepest changes is
 /// final, and each further round settles one more level.
 pub fn given(alloc: Global, planned: &[Planned], fates: &[Fate]) -> Result<Given, AllocError> {
     let mut given = Vec::new(alloc);

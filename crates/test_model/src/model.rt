@@ -12,7 +12,7 @@ use cst_core::{GreenElementRef, SyntaxNode};
 use std::alloc::{AllocError, Global};
 use syntax_editor::{Change, SyntaxMapping};
 
-/// The tree that is made of the old one by what its changes bring.
+/// The tree that is made of the old one by its changes.
 pub fn tree_of(
     alloc: Global,
     root: &SyntaxNode,

@@ -58,7 +58,7 @@ fn fill_one_gap(first: &Planned, second: &Planned) -> bool {
     }
 }
 
-// Whether the first of two changes is an insert behind a token that the second one replaces.
+// Whether the first of two changes is an insert after a token that the second one replaces.
 fn stands_behind_replaced(first: &Planned, second: &Planned) -> bool {
     let replaces_token = match second.change {
         Change::Replace(SyntaxElement::Token(_), _) => true,

@@ -43,7 +43,7 @@ impl Piece {
     }
 }
 
-/// Puts the same pieces again behind others.
+/// Puts the same pieces again after others.
 pub fn share_pieces(
     alloc: Global,
     out: &mut Vec<Piece>,

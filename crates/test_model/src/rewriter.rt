@@ -3,15 +3,15 @@ use crate::piece::{Piece, share_pieces};
 use cst_core::{GreenElement, GreenElementRef, GreenNode, GreenToken};
 use std::alloc::{AllocError, Global};
 
-/// What a change brings, and where it aims in the tree that is rewritten.
+/// A change's payload, and where it aims in the tree that is rewritten.
 #[derive(Clone, Copy)]
 pub struct Brought<'a> {
     pub aim: &'a Aim,
     pub pieces: &'a [Piece],
 }
 
-/// Rewrites a tree by what changes bring, listed as they were recorded. Each list of children is written anew: the first gap, the
-/// slot 0, the gap behind it, and so on to the last gap.
+/// Rewrites a tree by the payloads of changes, listed as they were recorded. Each list of children is written anew: the first gap, the
+/// slot 0, the gap after it, and so on to the last gap.
 #[derive(Drop)]
 struct Rewriter<'a> {
     alloc: Global,
@@ -44,7 +44,7 @@ impl<'a> Rewriter<'a> {
         Ok(())
     }
 
-    // The gap behind the element at the path.
+    // The gap after the element at the path.
     fn push_gap_behind(&mut self) -> Result<(), AllocError> {
         for brought in self.brought {
             if brought.aim.is_after(self.path.as_slice()) {
@@ -108,7 +108,7 @@ impl<'a> Rewriter<'a> {
     }
 }
 
-/// The pieces of the tree that what changes bring makes of a tree.
+/// The pieces of the tree that changes make of a tree.
 pub fn rewritten(
     alloc: Global,
     element: GreenElementRef<'_>,

@@ -13,7 +13,7 @@ use std::alloc::{AllocError, Global};
 #[derive(Drop)]
 pub struct Stage {
     pub tree: String,
-    /// Of each change what it brings.
+    /// The payload of each change.
     pub payloads: Vec<String>,
 }
 

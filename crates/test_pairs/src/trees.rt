@@ -33,7 +33,7 @@ impl Source {
     }
 }
 
-/// What a change brings where it brings a token, or a node.
+/// A change's payload where it brings a token, or a node.
 #[derive(Drop)]
 pub struct Payload {
     pub token: SyntaxElement,

@@ -16,11 +16,13 @@ pub enum FactQuestion {
     TextStart,
     TextLen,
     Text,
+    Display,
+    Debug,
     AsGreen,
     Green,
 }
 
-const NAMES: [(&str, FactQuestion); 10] = [
+const NAMES: [(&str, FactQuestion); 12] = [
     ("kind", FactQuestion::Kind),
     ("tree_number", FactQuestion::Tree),
     ("slots", FactQuestion::Slots),
@@ -29,6 +31,8 @@ const NAMES: [(&str, FactQuestion); 10] = [
     ("text_start", FactQuestion::TextStart),
     ("text_len", FactQuestion::TextLen),
     ("text", FactQuestion::Text),
+    ("display", FactQuestion::Display),
+    ("debug", FactQuestion::Debug),
     ("as_green", FactQuestion::AsGreen),
     ("green", FactQuestion::Green),
 ];
@@ -123,6 +127,11 @@ fn of_element(
         FactQuestion::TextStart => number(alloc, element.text_start()),
         FactQuestion::TextLen => number(alloc, element.text_len()),
         FactQuestion::Text => quoted(alloc, &told("SyntaxElement::text", element.text(alloc))?),
+        FactQuestion::Display => quoted(
+            alloc,
+            &told("SyntaxElement::to_string", element.to_string(alloc))?,
+        ),
+        FactQuestion::Debug => told("SyntaxElement as {:?}", format!(in alloc; "{element:?}")),
         FactQuestion::AsGreen => green_facts(alloc, element.as_green()),
         FactQuestion::Green => green_facts(
             alloc,
@@ -141,6 +150,11 @@ fn of_node(alloc: Global, question: FactQuestion, node: &SyntaxNode) -> Result<S
         FactQuestion::TextStart => number(alloc, node.text_start()),
         FactQuestion::TextLen => number(alloc, node.text_len()),
         FactQuestion::Text => quoted(alloc, &told("SyntaxNode::text", node.text(alloc))?),
+        FactQuestion::Display => quoted(
+            alloc,
+            &told("SyntaxNode::to_string", node.to_string(alloc))?,
+        ),
+        FactQuestion::Debug => told("SyntaxNode as {:?}", format!(in alloc; "Node({node:?})")),
         FactQuestion::AsGreen => green_facts(alloc, GreenElementRef::Node(node.as_green())),
         FactQuestion::Green => green_facts(
             alloc,
@@ -163,6 +177,11 @@ fn of_token(
         FactQuestion::TextStart => number(alloc, token.text_start()),
         FactQuestion::TextLen => number(alloc, token.text_len()),
         FactQuestion::Text => quoted(alloc, token.text()),
+        FactQuestion::Display => quoted(
+            alloc,
+            &told("SyntaxToken::to_string", token.to_string(alloc))?,
+        ),
+        FactQuestion::Debug => told("SyntaxToken as {:?}", format!(in alloc; "Token({token:?})")),
         FactQuestion::AsGreen => green_facts(alloc, GreenElementRef::Token(token.as_green())),
         FactQuestion::Green => green_facts(
             alloc,

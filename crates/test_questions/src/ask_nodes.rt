@@ -13,16 +13,18 @@ pub enum NodeQuestion {
     FirstChildOrToken,
     LastChildOrToken,
     FirstToken,
+    LastToken,
     Descendants,
     CloneSubtree,
 }
 
-const NAMES: [(&str, NodeQuestion); 7] = [
+const NAMES: [(&str, NodeQuestion); 8] = [
     ("children_with_tokens", NodeQuestion::ChildrenWithTokens),
     ("children", NodeQuestion::Children),
     ("first_child_or_token", NodeQuestion::FirstChildOrToken),
     ("last_child_or_token", NodeQuestion::LastChildOrToken),
     ("first_token", NodeQuestion::FirstToken),
+    ("last_token", NodeQuestion::LastToken),
     ("descendants", NodeQuestion::Descendants),
     ("clone_subtree", NodeQuestion::CloneSubtree),
 ];
@@ -89,18 +91,35 @@ fn of_node(alloc: Global, question: NodeQuestion, node: &SyntaxNode) -> Result<S
                 node.last_child_or_token(alloc),
             )?,
         ),
-        NodeQuestion::FirstToken => token_place(
-            alloc,
-            tree,
-            told("SyntaxNode::first_token", node.first_token(alloc))?,
-        ),
-        NodeQuestion::Descendants => node_places(
-            alloc,
-            tree,
-            &told("SyntaxNode::descendants", node.descendants(alloc))?,
-        ),
+        NodeQuestion::FirstToken => first_token(alloc, node),
+        NodeQuestion::LastToken => last_token(alloc, node),
+        NodeQuestion::Descendants => descendants(alloc, node),
         NodeQuestion::CloneSubtree => clone_subtree(alloc, node),
     }
+}
+
+fn first_token(alloc: Global, node: &SyntaxNode) -> Result<String, NoAnswer> {
+    token_place(
+        alloc,
+        node.tree(),
+        told("SyntaxNode::first_token", node.first_token(alloc))?,
+    )
+}
+
+fn last_token(alloc: Global, node: &SyntaxNode) -> Result<String, NoAnswer> {
+    token_place(
+        alloc,
+        node.tree(),
+        told("SyntaxNode::last_token", node.last_token(alloc))?,
+    )
+}
+
+fn descendants(alloc: Global, node: &SyntaxNode) -> Result<String, NoAnswer> {
+    node_places(
+        alloc,
+        node.tree(),
+        &told("SyntaxNode::descendants", node.descendants(alloc))?,
+    )
 }
 
 // The copy's number is drawn from a source that begins at 40.

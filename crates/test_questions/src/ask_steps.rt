@@ -1,4 +1,4 @@
-//! Where a path leads on from a node, and the token before a token.
+//! Where a path leads on from a node, and the tokens before and after a token.
 
 use crate::memory::told;
 use crate::shown::{place, token_place};
@@ -11,12 +11,14 @@ pub enum StepQuestion {
     ElementAt,
     ElementOfTree,
     PrevToken,
+    NextToken,
 }
 
-const NAMES: [(&str, StepQuestion); 3] = [
+const NAMES: [(&str, StepQuestion); 4] = [
     ("element_at", StepQuestion::ElementAt),
     ("element_of_tree", StepQuestion::ElementOfTree),
     ("prev_token", StepQuestion::PrevToken),
+    ("next_token", StepQuestion::NextToken),
 ];
 
 impl StepQuestion {
@@ -25,7 +27,7 @@ impl StepQuestion {
     }
 }
 
-/// `element_at NODE PATH`, `element_of_tree NODE PATH` or `prev_token TOKEN`
+/// `element_at NODE PATH`, `element_of_tree NODE PATH`, `prev_token TOKEN` or `next_token TOKEN`
 pub fn answer(
     alloc: Global,
     trees: &Trees,
@@ -36,6 +38,7 @@ pub fn answer(
         StepQuestion::ElementAt => element_at(alloc, trees, arguments),
         StepQuestion::ElementOfTree => element_of_tree(alloc, trees, arguments),
         StepQuestion::PrevToken => prev_token(alloc, &trees.token(alloc, arguments)?),
+        StepQuestion::NextToken => next_token(alloc, &trees.token(alloc, arguments)?),
     }
 }
 
@@ -65,5 +68,13 @@ fn prev_token(alloc: Global, token: &SyntaxToken) -> Result<String, NoAnswer> {
         alloc,
         token.tree(),
         told("SyntaxToken::prev_token", token.prev_token(alloc))?,
+    )
+}
+
+fn next_token(alloc: Global, token: &SyntaxToken) -> Result<String, NoAnswer> {
+    token_place(
+        alloc,
+        token.tree(),
+        told("SyntaxToken::next_token", token.next_token(alloc))?,
     )
 }

@@ -13,6 +13,7 @@ mod ask_lengths;
 mod ask_lists;
 mod ask_nodes;
 mod ask_numbers;
+mod ask_offsets;
 mod ask_steps;
 mod ask_values;
 mod ask_views;
@@ -29,12 +30,13 @@ use crate::ask_lengths::LengthQuestion;
 use crate::ask_lists::ListQuestion;
 use crate::ask_nodes::NodeQuestion;
 use crate::ask_numbers::NumberQuestion;
+use crate::ask_offsets::OffsetQuestion;
 use crate::ask_steps::StepQuestion;
 use crate::ask_values::ValueQuestion;
 use std::alloc::Global;
 use test_trees::{NoAnswer, Trees, Words};
 
-/// The answer to a question, which is a name and arguments. Where the call that it is about is refused for want of memory, it may be
+/// The answer to a question, which is a name and arguments. Where the call that it is about is refused because memory ran out, it may be
 /// asked again.
 pub fn answer(alloc: Global, trees: &Trees, question: &str) -> Result<String, NoAnswer> {
     let mut words = Words::of(question);
@@ -75,6 +77,9 @@ fn other_answer(
     name: &str,
     arguments: &str,
 ) -> Result<String, NoAnswer> {
+    if let Some(question) = OffsetQuestion::from_name(name) {
+        return ask_offsets::answer(alloc, trees, question, arguments);
+    }
     if let Some(question) = KinQuestion::from_name(name) {
         return ask_kin::answer(alloc, trees, question, arguments);
     }

@@ -1,4 +1,4 @@
-//! Calls that are refused for want of memory, and what they must leave as it was.
+//! Calls that are refused because memory ran out, and what they must leave as it was.
 
 use cst_core::{SyntaxElement, SyntaxNode, TreeError};
 use std::alloc::AllocError;
@@ -35,7 +35,7 @@ pub fn drawn(
     }
 }
 
-/// A call that was refused for want of memory, and whether that kept what it works on.
+/// A call that was refused because memory ran out, and whether that kept what it works on.
 pub fn refused(call: &'static str, is_kept: bool) -> NoAnswer {
     if is_kept {
         NoAnswer::Refused(call)

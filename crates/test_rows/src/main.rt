@@ -67,7 +67,7 @@ fn take_line<R: Print>(
     }
 }
 
-// Whether a line of the table was not read for want of memory.
+// Whether a line of the table was not read because memory ran out.
 fn is_memory(line: &io::Result<String>) -> bool {
     match line {
         Ok(_) => false,

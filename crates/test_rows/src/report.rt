@@ -5,10 +5,10 @@ use std::process::ExitCode;
 use test_steps::{OWED, Owed};
 use test_trees::NoAnswer;
 
-/// The exit status where each row is answered as expected, but for one that ended for want of memory.
+/// The exit status where each row is answered as expected, but for one that ended because memory ran out.
 pub const REFUSED: u8 = 3;
 
-/// How many rows there were, how many of them answered as expected or ended for want of memory, and of the pairs of a call and its
+/// How many rows there were, how many of them answered as expected or ended because memory ran out, and of the pairs of a call and its
 /// answer that are owed a row, how many have one.
 #[derive(Drop)]
 pub struct Report {
@@ -33,7 +33,7 @@ impl Report {
         }
     }
 
-    /// Whether a row or a tree ended for want of memory, so that the rows after it may lack a tree.
+    /// Whether a row or a tree ended because memory ran out, so that the rows after it may lack a tree.
     pub fn is_cut(&self) -> bool {
         self.refused != 0
     }
@@ -54,7 +54,7 @@ impl Report {
         Ok(())
     }
 
-    /// Counts a row, or a tree, that ended for want of memory, or for another reason, which goes wrong.
+    /// Counts a row, or a tree, that ended because memory ran out, or for another reason, which goes wrong.
     pub fn note_end<R: Print>(&mut self, rt: &R, line: &str, reason: NoAnswer) -> io::Result<()> {
         if !reason.is_memory() {
             return self.note_wrong(rt, line, reason);
@@ -64,7 +64,7 @@ impl Report {
         Ok(())
     }
 
-    /// Prints the name of a call that was refused for want of memory.
+    /// Prints the name of a call that was refused because memory ran out.
     pub fn note_refusal<R: Print>(&self, rt: &R, refused: Option<&'static str>) -> io::Result<()> {
         match refused {
             Some(call) => println!(rt; "Memory: {call}"),

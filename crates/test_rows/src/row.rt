@@ -23,7 +23,7 @@ pub fn ask_question(
     Ok(session.push_answer(&answer)?)
 }
 
-/// Takes the steps in their order. The last one and each behind `?` is asked about; what these answer stands in the session then.
+/// Takes the steps in their order. The last one and each after `?` is asked about; what these answer stands in the session then.
 pub fn take_steps(
     alloc: Global,
     table: &mut Table,
@@ -104,7 +104,7 @@ fn push_changed(answer: &mut String, before: &Standing, after: &Standing) -> Res
     Ok(())
 }
 
-// Where the call is refused for want of memory it is made once more, if all is there that it works on. So what is asked
+// Where the call is refused because memory ran out it is made once more, if all is there that it works on. So what is asked
 // after it shows that the refusal left all as it was.
 fn repeated_answer(
     alloc: Global,

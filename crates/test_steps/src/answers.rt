@@ -8,7 +8,7 @@ use test_trees::{NoAnswer, push_path, push_quoted, word};
 // Texts up to this length are shown.
 const SHOWN: u64 = 60;
 
-/// The answer of a call that is refused for want of memory.
+/// The answer of a call that is refused because memory ran out.
 pub const MEMORY: &str = "Memory";
 
 pub fn ok(alloc: Global) -> Result<String, NoAnswer> {
@@ -28,7 +28,7 @@ pub fn refused<E: Display + Drop>(alloc: Global, refusal: E) -> Result<String, N
     Ok(refusal.to_string(alloc)?)
 }
 
-/// The answer of a call that is refused for want of memory, and for nothing else.
+/// The answer of a call that is refused because memory ran out, and for nothing else.
 pub fn memory(alloc: Global) -> Result<String, NoAnswer> {
     word(alloc, MEMORY)
 }
@@ -116,7 +116,7 @@ pub fn paths_of(alloc: Global, elements: &[SyntaxElement]) -> Result<String, NoA
     some_or_none(alloc, paths)
 }
 
-/// One more path of a list, behind a space.
+/// One more path of a list, after a space.
 pub fn push_item(paths: &mut String, path: &[usize]) -> Result<(), AllocError> {
     if !paths.is_empty() {
         paths.push(' ')?;

@@ -31,7 +31,7 @@ pub use standing::Standing;
 use std::alloc::Global;
 use test_trees::{NoAnswer, Words};
 
-/// Takes a step, which is a name and arguments, and gives what it answers. Where its call is refused for want of memory, that is no answer
+/// Takes a step, which is a name and arguments, and gives what it answers. Where its call is refused because memory ran out, that is no answer
 /// but the call's name.
 pub fn answer(alloc: Global, session: &mut Session, step: &str) -> Result<String, NoAnswer> {
     let mut words = Words::of(step);

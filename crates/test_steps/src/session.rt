@@ -23,7 +23,7 @@ pub struct Session {
     pub edits: Vec<SyntaxEdit>,
     /// What the steps answer that are asked about.
     pub answers: String,
-    /// The name of the call that was refused for want of memory.
+    /// The name of the call that was refused because memory ran out.
     pub refused: Option<&'static str>,
 }
 
@@ -56,7 +56,7 @@ impl Session {
         }
     }
 
-    /// Notes that a call was refused for want of memory, where all is as it was and is there to call it again.
+    /// Notes that a call was refused because memory ran out, where all is as it was and is there to call it again.
     pub fn note_refusal(&mut self, call: &'static str, before: &Standing) -> Result<(), NoAnswer> {
         self.refused = Some(call);
         let after = self.standing();
@@ -69,7 +69,7 @@ impl Session {
         Ok(())
     }
 
-    /// One more answer, behind those before.
+    /// One more answer, after those before.
     pub fn push_answer(&mut self, answer: &str) -> Result<(), AllocError> {
         if !self.answers.is_empty() {
             self.answers.push_str(" ; ")?;

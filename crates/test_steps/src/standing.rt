@@ -22,7 +22,7 @@ impl Group {
         }
     }
 
-    // One more value, behind the others.
+    // One more value, after the others.
     fn add(&mut self, value: u64) {
         self.count = self.count.saturating_add(1);
         self.before_last = self.all;
@@ -125,7 +125,7 @@ fn changes_standing(changes: &[Change]) -> u64 {
     group.all
 }
 
-// Its form, its gap or what it replaces, and what it brings.
+// Its form, its gap or what it replaces, and its payload.
 fn change_standing(change: &Change) -> u64 {
     match change {
         Change::Insert(at, new) => both(1, both(gap_standing(at), hash_of(new))),
@@ -172,7 +172,7 @@ fn elements_standing(elements: &[SyntaxElement]) -> u64 {
     group.all
 }
 
-/// A run of a plan with so many changes: which may be the next ones, the tree and the payloads, each by the lengths of its children,
+/// A run of a plan with n changes: which may be the next ones, the tree and the payloads, each by the lengths of its children,
 /// and how many nodes were built.
 pub fn run_standing(run: &EditRun, count: usize) -> u64
     requires { count ≤ length run.now.plan.changes }

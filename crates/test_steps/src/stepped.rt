@@ -24,7 +24,7 @@ pub struct Stepped<'a> {
     // How many changes the plan has.
     count: usize,
     answer: String,
-    // The call that was refused for want of memory, and then done.
+    // The call that was refused because memory ran out, and then done.
     refused: Option<RunCall>,
     ghost counted: { count ≡ length run.plan.changes },
 }
@@ -165,7 +165,7 @@ impl<'a> Stepped<'a> {
         Ok(ready)
     }
 
-    /// The name in the sources of the call that was refused for want of memory, and then done.
+    /// The name in the sources of the call that was refused because memory ran out, and then done.
     pub fn refused(&self) -> Option<&'static str> {
         match self.refused {
             Some(RunCall::New) => Some("EditRun::new"),

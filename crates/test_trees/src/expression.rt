@@ -75,7 +75,7 @@ fn row_of<'a>(rows: &'a [Row], name: &str) -> Result<&'a Row, RowError> {
 enum Place {
     Outside,
     Text,
-    // Behind a backslash of a text.
+    // After a backslash of a text.
     Escape,
     RowName,
 }
@@ -108,7 +108,7 @@ pub(crate) fn expand(alloc: Global, rows: &[Row], expression: &str) -> Result<St
     Ok(expanded)
 }
 
-// Where the character behind this one is, outside of names.
+// Where the character after this one is, outside of names.
 fn behind(place: Place, c: char) -> Place {
     match (place, c) {
         (Place::Outside, '"') => Place::Text,

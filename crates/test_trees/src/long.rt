@@ -7,7 +7,7 @@ use std::alloc::Global;
 // No token of letters is longer.
 const LONGEST: u64 = 65_536;
 
-/// The node with letters after its children, so that its text has so many bytes.
+/// The node with letters after its children, so that its text has n bytes.
 pub fn filled(alloc: Global, node: &GreenNode, bytes: u64) -> Result<GreenNode, NoAnswer> {
     let missing = bytes.checked_sub(node.length()).ok_or(NoAnswer::Arguments)?;
     let end = node.children().len();
@@ -15,7 +15,7 @@ pub fn filled(alloc: Global, node: &GreenNode, bytes: u64) -> Result<GreenNode, 
     Ok(node.splice_children(alloc, end, end, letters)?)
 }
 
-// Elements with so many letters in all, of the powers of two that the number is the sum of.
+// Elements with n letters in all, of the powers of two that the number is the sum of.
 fn letters(alloc: Global, count: u64) -> Result<Vec<GreenElement>, NoAnswer> {
     let mut all = Vec::new(alloc);
     let mut power = token(alloc, "a")?;
@@ -65,14 +65,14 @@ pub fn at_level(alloc: Global, node: GreenNode, level: u64) -> Result<GreenNode,
     Ok(GreenNode::new(alloc, SyntaxKind::SOURCE_FILE, children)?)
 }
 
-/// A list of statements with one token of whitespace, a newline and so many spaces.
+/// A list of statements with one token of whitespace, a newline and n spaces.
 pub fn blank(alloc: Global, spaces: u64) -> Result<GreenNode, NoAnswer> {
     let mut children = Vec::new(alloc);
     children.push(line_of(alloc, spaces, " ")?)?;
     Ok(GreenNode::new(alloc, SyntaxKind::STMT_LIST, children)?)
 }
 
-// A newline and a text so many times.
+// A newline and a text n times.
 fn line_of(alloc: Global, count: u64, part: &str) -> Result<GreenElement, NoAnswer> {
     let mut text = String::from_str(alloc, "\n")?;
     for _ in 0..count {
@@ -82,7 +82,7 @@ fn line_of(alloc: Global, count: u64, part: &str) -> Result<GreenElement, NoAnsw
     Ok(GreenElement::Token(token))
 }
 
-/// A file with so many of the node.
+/// A file with n of the node.
 pub fn many(alloc: Global, node: &GreenNode, count: u64) -> Result<GreenNode, NoAnswer> {
     let mut children = Vec::new(alloc);
     for _ in 0..count {

@@ -24,7 +24,7 @@ pub enum NoAnswer {
     /// A step that is not asked about was refused.
     #[error("a step that is not asked about is refused")]
     NotDone,
-    /// The call of this name that is asked about was refused for want of memory.
+    /// The call of this name that is asked about was refused because memory ran out.
     #[error("{0} is refused for want of memory")]
     Refused(&'static str),
     /// It was refused so, and left something else than before.

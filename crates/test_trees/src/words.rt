@@ -72,7 +72,7 @@ impl<'a> Words<'a> {
     }
 }
 
-/// The first word, and what stands behind the space after it.
+/// The first word, and what stands after the space after it.
 pub fn first_word(text: &str) -> (&str, &str) {
     text.split_once(' ').unwrap_or((text, ""))
 }

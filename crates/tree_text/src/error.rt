@@ -16,7 +16,7 @@ pub enum ExpressionError {
     /// More parentheses than `DEPTH_LIMIT` are open at once.
     #[error("TooDeep")]
     TooDeep,
-    /// The tree cannot be made, and not for want of memory.
+    /// The tree cannot be made, and not because memory ran out.
     #[error("{0}")]
     Tree(TreeError),
     /// Memory was refused.

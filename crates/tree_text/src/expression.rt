@@ -41,7 +41,7 @@ enum Place {
     NodeKind,
     TokenKind,
     Text(SyntaxKind),
-    // Behind a backslash of a text.
+    // After a backslash of a text.
     Escape(SyntaxKind),
 }
 

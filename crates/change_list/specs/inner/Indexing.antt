@@ -6,7 +6,7 @@
 --     SaysAt, SaysDeleted                  an index says this of a path now, and what it said of any other; that it is deleted, if it said something of it
 --     room                                 how many more elements it takes without growing
 --     Agrees                               the index says that of each path
---     Notes, NotesReplace                  an index that agreed with a list of so many changes agrees with it and these behind it; where that is a Replace of an element, by nothing or not
+--     Notes, NotesReplace                  an index that agreed with a list of n changes agrees with it and these after it; where that is a Replace of an element, by nothing or not
 use Rattle.std.specs.Prelude.{◌≡◌, ℕ, Bool, true, cond, List, [], ◌∷◌, ◌++◌, length, position, Option, Some, None, option_map, is_none, Result, OnOk}
 use Rattle.std.specs.List.{list_any}
 use Rattle.std.specs.HashMap.{get_by, spare}

@@ -8,7 +8,7 @@
 --     path_lists                    lists of paths in code
 --     numbered_paths                each number with each path of its list
 --     AreMarksFrom                  a table has the marks of what changes of this depth or more give, and of those that own nothing
---     ArePathsOf                    so many lists have the paths of these marks, each those of its number
+--     ArePathsOf                    n lists have the paths of these marks, each those of its number
 --     HasPathMore, PathsStay        a list has one path more at its end; the others are as they were
 --     IsDealtOut                    the path of one mark went to the list of its number, if there is one
 --     HasPathsMore                  a list has one path more if the mark is of this number

@@ -1,6 +1,6 @@
 -- Registered elements, as they are sought in the trees that are rewritten. The mark of a registration is its number.
 --     spot                          the address that a key of the table stands for
---     path_below                    what is left of a path behind another one, if it begins with that
+--     path_below                    what is left of a path after another one, if it begins with that
 --     sought_one                    a registered element, if it is at an address or below it, with the path from there
 --     sought_from                   of these registered elements, numbered from here on, all that are
 --     addresses                     the addresses of elements in code

@@ -1,11 +1,15 @@
 -- Tokens that a walk finds.
 --     FindsToken                    the token at this path of the tree, and the slots on the way to it added; or neither, where there is no such path
---     FindsFirst, FindsLastBefore   that of the first token; of the last one before the element at a path
+--     FindsLastBefore, FindsFirstAfter      that of the last token before the element at a path; of the first one after it
+--     tokens_from, FindsFirstFrom   the paths of the tokens that do not stand before the element at a path; that of the first of them
 --     path_found, IsTokenOf         the path of a token that was found; it leads to that token in the tree
-use Rattle.std.specs.Prelude.{◌≡◌, [], ◌++◌, Option, Some, option_map, unwrap_or}
-use Rattle.green_tree.specs.Path.{Path}
-use Rattle.green_tree.specs.Tree.{SyntaxTree, at}
-use Rattle.green_tree.specs.Order.{first_token, last_token_before}
+--     place_found, places_below     the path of a token that was found, and its tree; paths in a tree that stands at a path, each with what it leads to
+--     FindsTouching                 after those that were found before, the tokens of a tree at a path that touch an offset
+use Rattle.std.specs.Prelude.{◌≡◌, ℕ, not, List, [], ◌++◌, map, filter, Option, Some, option_map, unwrap_or}
+use Rattle.green_tree.specs.Path.{Path, precedes, first_item}
+use Rattle.green_tree.specs.Tree.{Tree, SyntaxTree, at}
+use Rattle.green_tree.specs.Order.{token_paths, last_token_before, first_token_after}
+use Rattle.green_tree.specs.Offsets.{tokens_touching}
 use Rattle.green_tree.specs.Green.{Leaf, leaf_tree}
 use Rattle.green_tree.specs.declared.tokens.FoundToken.{FoundToken}
 
@@ -13,14 +17,29 @@ pub record FindsToken (t : SyntaxTree) (way : Option Path) (old new : Path) (fou
   pub slots : new ≡ old ++ unwrap_or way []
   pub token : option_map (λ l. Some (leaf_tree l)) found ≡ option_map (at t) way
 
-abbrev pub FindsFirst : SyntaxTree → Path → Path → Option Leaf → Type 0
-FindsFirst t old new = FindsToken t (first_token t) old new
-
 abbrev pub FindsLastBefore : SyntaxTree → Path → Path → Path → Option Leaf → Type 0
 FindsLastBefore t p old new = FindsToken t (last_token_before t p) old new
+
+abbrev pub FindsFirstAfter : SyntaxTree → Path → Path → Path → Option Leaf → Type 0
+FindsFirstAfter t p old new = FindsToken t (first_token_after t p) old new
+
+abbrev pub tokens_from : {L : Type 0} → Tree L → Path → List Path
+tokens_from t p = filter (λ q. not (precedes q p)) (token_paths t)
+
+abbrev pub FindsFirstFrom : SyntaxTree → Path → Path → Path → Option Leaf → Type 0
+FindsFirstFrom t p old new = FindsToken t (first_item (tokens_from t p)) old new
 
 abbrev pub path_found : Option FoundToken → Option Path
 path_found found = option_map (λ token. token.path.items) found
 
 abbrev pub IsTokenOf : SyntaxTree → FoundToken → Type 0
 IsTokenOf t token = at t token.path.items ≡ Some (leaf_tree token.green)
+
+abbrev pub place_found : FoundToken → Path × Option SyntaxTree
+place_found token = (token.path.items, Some (leaf_tree token.green))
+
+abbrev pub places_below : Path → SyntaxTree → List Path → List (Path × Option SyntaxTree)
+places_below top t ps = map (λ p. (top ++ p, at t p)) ps
+
+abbrev pub FindsTouching : SyntaxTree → ℕ → Path → List FoundToken → List FoundToken → Type 0
+FindsTouching t offset top old new = map place_found new ≡ map place_found old ++ places_below top t (tokens_touching t offset)

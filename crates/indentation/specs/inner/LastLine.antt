@@ -1,5 +1,5 @@
 -- The last line of a text.
---     last_line                    what stands behind its last newline, if it holds one
+--     last_line                    what stands after its last newline, if it holds one
 use Rattle.std.specs.Prelude.{ℕ, cond, List, Option, Some, None}
 use Rattle.std.specs.List.{after_last}
 use Rattle.indentation.specs.Level.{is_newline, has_newline}

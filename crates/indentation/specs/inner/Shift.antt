@@ -1,8 +1,8 @@
 -- Indenting and dedenting as one.
 --     shifted_text, shifted        a whitespace token's text and a tree, indented or dedented by a level
 --     IsShifted                    a tree is so, where there is no answer as it stands
---     with_changed, with_rest      trees of the first new children, behind them those that stay up to here, and a changed one; a node of these, and of its own children behind them
---     ShiftRefuses                 why a shared tree is not made, of which the new text has so many bytes
+--     with_changed, with_rest      trees of the first new children, after them those that stay up to here, and a changed one; a node of these, and of its own children after them
+--     ShiftRefuses                 why a shared tree is not made, of which the new text has n bytes
 use Rattle.std.specs.Prelude.{◌≡◌, ℕ, ◌≤◌, List, [], ◌∷◌, ◌++◌, length, drop, map, Option, unwrap_or}
 use Rattle.cst_core.specs.Tree.{SyntaxTree, node}
 use Rattle.cst_core.specs.Green.{Branch, length_limit}

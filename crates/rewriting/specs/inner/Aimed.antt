@@ -1,5 +1,5 @@
 -- What aims in code stand for.
---     siblings_from                 the paths of an element and of the siblings behind it, so many with the first; the top has none
+--     siblings_from                 the paths of an element and of the siblings after it, n with the first; the top has none
 --     aim_in                        an aim from the element at a path
 --     Placed, placed                the number of a change, a path, and the form in which it aims from there
 --     option_placed, of_placed      the same of an aim that may not be there; the numbered aim that it stands for

@@ -1,8 +1,8 @@
--- Which aims matter for a child of the top and for the gap behind it.
+-- Which aims matter for a child of the top and for the gap after it.
 --     reaches, concerns             its path leads to this child or below, or it replaces the child
---     GrowsInside                   so many groups, from one on, have one aim more at their ends
+--     GrowsInside                   n groups, from one on, have one aim more at their ends
 --     StaysBefore, StaysBehind      the groups before these, and those behind them, are as they were
---     AreGrouped                    groups have the aims that matter for each child, so many of them
+--     AreGrouped                    groups have the aims that matter for each child, n of them
 use Rattle.std.specs.Prelude.{◌≡◌, ◌<◌, ◌≤◌, ◌+◌, ℕ, Bool, false, nat_eq, ◌||◌, List, [], ◌∷◌, ◌++◌, map, filter, length, get_or}
 use Rattle.green_tree.specs.Path.{Path, has_path, counted_from}
 use Rattle.rewriting.specs.declared.aimed.AimForm.{AimForm}

@@ -11,7 +11,7 @@
 --     seen_below, sought_below      a sought mark in a child slot or below, with that slot dropped; of these marks those that there are
 --     HasOneMore, StaysElsewhere    a list has one sought mark more at its end; the others are as they were
 --     IsDealt                       one mark went to the list of the child that it is in
---     sought_for, AreDealt          what is sought in a child, from its list, if there is one; lists have what is sought in each child, so many of them
+--     sought_for, AreDealt          what is sought in a child, from its list, if there is one; lists have what is sought in each child, n of them
 use Rattle.std.specs.Prelude.{◌≡◌, ◌≢◌, ◌<◌, ℕ, suc, cond, nat_eq, List, [], ◌∷◌, ◌++◌, map, filter, flat_map, length, get_or, slice_get, Vec}
 use Rattle.std.specs.Global.{Global}
 use Rattle.std.specs.Option.{option_map_or}

@@ -9,7 +9,7 @@
 --     slot_changes, top_changes     what replaces from a child of the top on; what replaces the top
 --     topped                        a tree with one mark more at its top
 --     marks_at_path                 the marks of the given element at an index, which stands at a path
---     Puts                          trees that are put behind others
+--     Puts                          trees that are put after others
 --     FindsGiven, FindsChange, FindsAll          where the marks of what is put next are found: of an entry, of a change, of several
 --     TouchesAtMost, CountsBuilt, CountsBuiltWhole      how a count of built nodes rises
 --     CountsTouched                 how it rises where all that is touched is built

@@ -1,10 +1,10 @@
 -- Tables of which change has to wait for which.
 --     link                          the change that has to wait for this one, if there is one
---     steps                         so many links on
+--     steps                         n links on
 --     earlier                       the changes before a number that are not dropped, from the last to the first
 --     next_in_gap                   the last one before a number that fills the gap of this aim
 --     owner_link, gap_link, token_link      the change that has to wait for this one: its owner; the insert before it in its gap;
---                                   what replaces the token that it stands behind
+--                                   what replaces the token that it stands after
 --     IsLinked                      a table has such a link for each change
 --     AreFollowers                  three tables have all three
 --     AreIndices                     a table has where each number below a count stands in an order

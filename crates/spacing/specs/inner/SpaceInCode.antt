@@ -4,7 +4,7 @@
 --     FindsSpace                  whitespace that is found, or why it is not
 --     IsRound, RoundRefuses       the whitespace on both sides, where no level is too deep; why it is not found
 --     with_spaces                 new elements between two whitespaces
---     numbers_of, NumbersRefuse   how many numbers whitespace needs; so many are not there
+--     numbers_of, NumbersRefuse   how many numbers whitespace needs; n are not there
 use Rattle.std.specs.Prelude.{◌≡◌, ◌<◌, ◌+◌, ℕ, true, false, List, ◌++◌, length, Result, Ok, Err}
 use Rattle.cst_core.specs.declared.element.SyntaxElement.{SyntaxElement}
 use Rattle.edit_change.specs.declared.position.Position.{Position}
@@ -21,7 +21,7 @@ space_of code_space.Nothing = NoSpace
 space_of code_space.OneSpace = OneSpace
 space_of (code_space.NewLine level) = NewLine level.0
 
--- only want of memory and a level that is too deep keep it from being found
+-- it is found unless memory runs out or the level is too deep
 abbrev pub DeepOrMemory : Type 0 → SpaceError → Type 0
 DeepOrMemory deep LevelTooLarge = deep
 DeepOrMemory deep NoTreeNumber = ⊥
@@ -52,7 +52,7 @@ with_spaces number front es end =
 abbrev pub numbers_of : Space → ℕ
 numbers_of space = length (space_elements 0 space)
 
--- so many numbers are not there
+-- n numbers are not there
 abbrev pub NumbersRefuse : ℕ → ℕ → SpaceError → Type 0
 NumbersRefuse number needed LevelTooLarge = ⊥
 NumbersRefuse number needed NoTreeNumber = 18446744073709551615 < number + needed

@@ -1,7 +1,7 @@
 -- Elements put where a change aims in the old tree, in the tree as it stands after these changes.
 --     CanPut                         what it aims at is there, and no more was replaced before it than there was
 --     put                            the tree with these put there
---     CanPutFrom, IsPutFrom          the same in code, from an element that so many slots of a target's path lead to
+--     CanPutFrom, IsPutFrom          the same in code, from an element that n slots of a target's path lead to
 use Rattle.std.specs.Prelude.{◌≡◌, ◌≤◌, ℕ, List, ◌∷◌, ◌++◌, take, drop}
 use Rattle.green_tree.specs.Path.{Path}
 use Rattle.green_tree.specs.Tree.{SyntaxTree}

@@ -1,5 +1,5 @@
 -- A node's children spliced, in a tree.
---     spliced_list, spliced          a list, and a node, with these in the place of so many items from one on
+--     spliced_list, spliced          a list, and a node, with these in the place of n items from one on
 --     updated_at                     a tree where the element at a path is exchanged
 --     CanSplice                      a path leads to a node that has these children
 use Rattle.std.specs.Prelude.{◌≡◌, ◌≤◌, ◌+◌, ℕ, List, [], ◌∷◌, ◌++◌, take, drop, length, slice_get, Some}

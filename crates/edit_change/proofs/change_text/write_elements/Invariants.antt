@@ -3,7 +3,7 @@ use Rattle.cst_core.specs.Tree.{text}
 use Rattle.cst_core.specs.Element.{subtree}
 use Rattle.cst_core.specs.SyntaxElement.{element_of}
 use Rattle.edit_change.specs.Display.{element_texts}
-use Rattle.edit_change.proofs.Written.{IsWrittenUpTo}
+use Rattle.green_tree.proofs.Written.{IsWrittenUpTo}
 use Rattle.edit_change.proofs.change_text.write_elements.Given as goal
 
 abbrev pub invariant-loop-element : goal.invariant-loop-element

@@ -2,7 +2,7 @@ use Rattle.std.specs.Fmt.{IsPlainFormatter}
 use Rattle.cst_core.specs.Tree.{text}
 use Rattle.cst_core.specs.Green.{texts}
 use Rattle.cst_core.specs.GreenElement.{element_tree, element_trees}
-use Rattle.edit_change.proofs.Written.{IsWrittenUpTo}
+use Rattle.green_tree.proofs.Written.{IsWrittenUpTo}
 use Rattle.edit_change.proofs.change_text.write_shared.Given as goal
 
 abbrev pub invariant-loop-element : goal.invariant-loop-element

@@ -1,0 +1,11 @@
+use Rattle.std.proofs.Common.{◌≡◌, Some}
+use Rattle.green_tree.specs.Tree.{at}
+use Rattle.green_tree.specs.Green.{branch_tree}
+use Rattle.cst_core.proofs.Children.{subtree_there}
+use Rattle.cst_core.proofs.node.SyntaxNode.last_token.Goals as goal
+
+pub token_below-requires : goal.token_below-requires
+token_below-requires c =
+    let placed : at c.args.self.now.root c.args.self.now.path ≡ Some (branch_tree c.self.inside.green) = rw (← c.self.view_is) c.self.invariant.there in
+    let token = rw c.in-Some.is at c.in_ok-found.ensures.token in
+    rw (subtree_there c.args.self.now (branch_tree c.self.inside.green) placed) token

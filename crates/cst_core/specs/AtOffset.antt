@@ -1,0 +1,28 @@
+-- Elements by where their texts stand, in bytes from the tree's start.
+--     tokens_touching             of the tokens at or below an element, those whose text is not empty, begins at an offset or before it, and ends there or after it
+--     first_two, token_at         of a list of tokens none, the only one, or the first two; that of these tokens
+--     covering_of                 of the elements at or below one, the last whose text contains a range of bytes
+use Rattle.std.specs.Prelude.{ℕ, List, [], ◌∷◌, map, filter, Option}
+use Rattle.green_tree.specs.Path.{last_item}
+use Rattle.green_tree.specs.Order.{token_paths}
+use Rattle.green_tree.specs.Offsets.{touches, covers}
+use Rattle.cst_core.specs.Element.{Element, subtree, below}
+use Rattle.cst_core.specs.SyntaxElement.{element_of}
+use Rattle.cst_core.specs.Navigation.{elements_of}
+use Rattle.cst_core.specs.declared.element.SyntaxElement.{SyntaxElement}
+use Rattle.cst_core.specs.declared.offsets.TokenAtOffset.{TokenAtOffset}
+use Rattle.cst_core.specs.declared.offsets.TokenAtOffset.TheVariants.{None, Single, Between}
+
+abbrev pub tokens_touching : Element → ℕ → List Element
+tokens_touching e offset = filter (λ token. touches token.root offset token.path) (map (below e) (token_paths (subtree e)))
+
+abbrev pub first_two : List Element → TokenAtOffset
+first_two [] = None
+first_two (token ∷ []) = Single token
+first_two (left ∷ right ∷ others) = Between left right
+
+abbrev pub token_at : Element → ℕ → TokenAtOffset
+token_at e offset = first_two (tokens_touching e offset)
+
+abbrev pub covering_of : Element → ℕ → ℕ → Option SyntaxElement
+covering_of e from to = last_item (filter (λ x. covers (element_of x).root from to (element_of x).path) (elements_of e))

@@ -1,0 +1,160 @@
+-- Where the texts of elements begin and end, child by child, and the tokens that touch an offset.
+use Rattle.std.proofs.Common.{◌≡◌, ℕ, ◌+◌, ◌-◌, ◌<◌, ◌≤◌, Bool, true, false, List, [], ◌∷◌, ◌++◌, map, length, get_or, Option, Some, None, refl, ap, sym, ◌∙◌, arith, add-one, append_assoc}
+use Rattle.std.specs.Prelude.{◌&&◌, nat_lt, nat_le, filter}
+use Rattle.std.specs.Option.{option_map_or}
+use Rattle.std.proofs.lemmas.List.{append-nil, map-append}
+use Rattle.std.proofs.lemmas.List.Elements.{filter-append}
+use Rattle.std.proofs.lemmas.Bool.Decides.{nat_tests}
+use Rattle.green_tree.specs.Path.{Path}
+use Rattle.green_tree.specs.Tree.{Tree, SyntaxTree, at, forest, text, text_length}
+use Rattle.green_tree.specs.Order.{token_paths, tokens_before, start}
+use Rattle.green_tree.specs.Offsets.{length_at, touches, tokens_touching}
+use Rattle.green_tree.specs.Green.{Leaf, leaf_tree, Branch, branch_tree, length_limit, capped_length}
+use Rattle.green_tree.specs.GreenElement.{element_trees, element_tree}
+use Rattle.green_tree.specs.inner.FoundToken.{places_below}
+use Rattle.green_tree.specs.declared.green.GreenElement.{GreenElement}
+use Rattle.green_tree.proofs.Parts.{filter-map}
+use Rattle.green_tree.proofs.Slots.{slice_get-child}
+use Rattle.green_tree.proofs.Starts.{start-top, start-le, start-below, start-next, start-child-le}
+use Rattle.green_tree.proofs.TextLengths.{start-text_length-le, start-append}
+use Rattle.green_tree.proofs.Lookup.{at-append}
+use Rattle.green_tree.proofs.TokenPaths.{filter-none}
+use Rattle.green_tree.proofs.FoundTokens.{IsChildAt, tokens_before-none, tokens_before-all}
+
+-- no element ends past the end of the text
+pub end-le : {L : Type 0} (t : Tree L) (p : Path) → start t p + length_at t p ≤ text_length t
+end-le t p =
+    elim (at t p) as (λ o. at t p ≡ o → start t p + option_map_or text_length o 0 ≤ text_length t) [
+      | None ↦ λ h. omega (arith, start-le t p)
+      | Some c ↦ λ h. start-text_length-le t p c h
+    ] refl
+
+-- where the texts of the child in a slot, and of what is below it, stand in the node's
+pub record IsSpanAt (b : Branch) (i : ℕ) (c : SyntaxTree) : Type 0 where
+  pub below : (p : Path) → start (branch_tree b) (i ∷ p) ≡ start (branch_tree b) (i ∷ []) + start c p
+  pub long : (p : Path) → length_at (branch_tree b) (i ∷ p) ≡ length_at c p
+  pub next : start (branch_tree b) ((i + 1) ∷ []) ≡ start (branch_tree b) (i ∷ []) + text_length c
+  pub within : start (branch_tree b) (i ∷ []) + text_length c ≤ text_length (branch_tree b)
+
+pub span_at : (b : Branch) (es : List GreenElement) (i : ℕ) (e : GreenElement) → element_trees es ≡ b.children → i < length es → e ≡ get_or es i e → IsSpanAt b i (element_tree e)
+span_at b es i e same h is =
+    let there = slice_get-child b es i e same h is in
+    record {
+      below = λ p. start-below b.kind (forest b.children) i p (element_tree e) there;
+      long = λ p. rw there;
+      next = rw add-one (start-next b.kind (forest b.children) i (element_tree e) there);
+      within = start-child-le b.kind (forest b.children) i (element_tree e) there;
+    }
+
+-- the length of a child is not capped where its node's is not
+pub span_length : (b : Branch) (i : ℕ) (c : SyntaxTree) (n : ℕ) → IsSpanAt b i c → text_length (branch_tree b) < length_limit → n ≡ capped_length (text c) → n ≡ text_length c
+span_length b i c n span fits is = omega (arith, is, fits, span.within)
+
+-- ---- whether a text of this start and length touches an offset
+abbrev is_touched : ℕ → ℕ → ℕ → Bool
+is_touched s n offset = nat_lt 0 n && nat_le s offset && nat_le offset (s + n)
+
+touched-inside : (a s n offset : ℕ) → a ≤ offset → is_touched (a + s) n offset ≡ is_touched s n (offset - a)
+touched-inside a s n offset h = grind (arith, nat_tests)
+
+touched-before : (a s n offset : ℕ) → offset < a → is_touched (a + s) n offset ≡ false
+touched-before a s n offset h = grind (arith, nat_tests)
+
+touched-after : (a s n whole offset : ℕ) → s + n ≤ whole → a + whole < offset → is_touched (a + s) n offset ≡ false
+touched-after a s n whole offset within h = grind (arith, nat_tests)
+
+touched-empty : (a s n whole offset : ℕ) → s + n ≤ whole → whole ≡ 0 → is_touched (a + s) n offset ≡ false
+touched-empty a s n whole offset within h = grind (arith, nat_tests)
+
+touched-whole : (n offset : ℕ) → 0 < n → offset ≤ n → is_touched 0 n offset ≡ true
+touched-whole n offset h k = grind (arith, nat_tests)
+
+-- ---- the tokens that touch it, up to the next slot
+touches-child : (b : Branch) (i : ℕ) (c : SyntaxTree) (offset : ℕ) (p : Path) → IsSpanAt b i c → touches (branch_tree b) offset (i ∷ p) ≡ is_touched (start (branch_tree b) (i ∷ []) + start c p) (length_at c p) offset
+touches-child b i c offset p span = rw (span.below p, span.long p)
+
+pub touching_in : (b : Branch) (i : ℕ) (c : SyntaxTree) (offset : ℕ) → IsChildAt b i c → IsSpanAt b i c → start (branch_tree b) (i ∷ []) ≤ offset →
+    filter (touches (branch_tree b) offset) (tokens_before (branch_tree b) ((i + 1) ∷ [])) ≡ filter (touches (branch_tree b) offset) (tokens_before (branch_tree b) (i ∷ [])) ++ map (λ p. i ∷ p) (tokens_touching c (offset - start (branch_tree b) (i ∷ [])))
+touching_in b i c offset child span h =
+    let own = filter-map (touches (branch_tree b) offset) (touches c (offset - start (branch_tree b) (i ∷ []))) (λ p. i ∷ p) (token_paths c) (λ p. touches-child b i c offset p span ∙ touched-inside (start (branch_tree b) (i ∷ [])) (start c p) (length_at c p) offset h) in
+    ap (filter (touches (branch_tree b) offset)) child.next
+    ∙ filter-append (touches (branch_tree b) offset) (tokens_before (branch_tree b) (i ∷ [])) (map (λ p. i ∷ p) (token_paths c))
+    ∙ ap (λ ps. filter (touches (branch_tree b) offset) (tokens_before (branch_tree b) (i ∷ [])) ++ ps) own
+
+touching_out : (b : Branch) (i : ℕ) (c : SyntaxTree) (offset : ℕ) → IsChildAt b i c → ((p : Path) → touches (branch_tree b) offset (i ∷ p) ≡ false) →
+    filter (touches (branch_tree b) offset) (tokens_before (branch_tree b) ((i + 1) ∷ [])) ≡ filter (touches (branch_tree b) offset) (tokens_before (branch_tree b) (i ∷ []))
+touching_out b i c offset child none =
+    let own = filter-map (touches (branch_tree b) offset) (λ p. false) (λ p. i ∷ p) (token_paths c) none ∙ ap (λ ps. map (λ p. i ∷ p) ps) (filter-none (λ p. false) (token_paths c) (λ p. refl)) in
+    ap (filter (touches (branch_tree b) offset)) child.next
+    ∙ filter-append (touches (branch_tree b) offset) (tokens_before (branch_tree b) (i ∷ [])) (map (λ p. i ∷ p) (token_paths c))
+    ∙ ap (λ ps. filter (touches (branch_tree b) offset) (tokens_before (branch_tree b) (i ∷ [])) ++ ps) own
+    ∙ append-nil (filter (touches (branch_tree b) offset) (tokens_before (branch_tree b) (i ∷ [])))
+
+pub touching_out-empty : (b : Branch) (i : ℕ) (c : SyntaxTree) (offset : ℕ) → IsChildAt b i c → IsSpanAt b i c → text_length c ≡ 0 →
+    filter (touches (branch_tree b) offset) (tokens_before (branch_tree b) ((i + 1) ∷ [])) ≡ filter (touches (branch_tree b) offset) (tokens_before (branch_tree b) (i ∷ []))
+touching_out-empty b i c offset child span h =
+    touching_out b i c offset child (λ p. touches-child b i c offset p span ∙ touched-empty (start (branch_tree b) (i ∷ [])) (start c p) (length_at c p) (text_length c) offset (end-le c p) h)
+
+pub touching_out-before : (b : Branch) (i : ℕ) (c : SyntaxTree) (offset : ℕ) → IsChildAt b i c → IsSpanAt b i c → offset < start (branch_tree b) (i ∷ []) →
+    filter (touches (branch_tree b) offset) (tokens_before (branch_tree b) ((i + 1) ∷ [])) ≡ filter (touches (branch_tree b) offset) (tokens_before (branch_tree b) (i ∷ []))
+touching_out-before b i c offset child span h =
+    touching_out b i c offset child (λ p. touches-child b i c offset p span ∙ touched-before (start (branch_tree b) (i ∷ [])) (start c p) (length_at c p) offset h)
+
+pub touching_out-after : (b : Branch) (i : ℕ) (c : SyntaxTree) (offset : ℕ) → IsChildAt b i c → IsSpanAt b i c → start (branch_tree b) (i ∷ []) + text_length c < offset →
+    filter (touches (branch_tree b) offset) (tokens_before (branch_tree b) ((i + 1) ∷ [])) ≡ filter (touches (branch_tree b) offset) (tokens_before (branch_tree b) (i ∷ []))
+touching_out-after b i c offset child span h =
+    touching_out b i c offset child (λ p. touches-child b i c offset p span ∙ touched-after (start (branch_tree b) (i ∷ [])) (start c p) (length_at c p) (text_length c) offset (end-le c p) h)
+
+-- a token itself
+pub touching_token : (l : Leaf) (offset : ℕ) → 0 < length l.text → offset ≤ length l.text → tokens_touching (leaf_tree l) offset ≡ [] ∷ []
+touching_token l offset h k =
+    let test : touches (leaf_tree l) offset [] ≡ true = rw (start-top (leaf_tree l)) (touched-whole (length l.text) offset h k) in
+    rw test
+
+-- ---- the places of what is below a child
+pub places-child : (b : Branch) (i : ℕ) (c : SyntaxTree) (top : Path) (ps : List Path) → IsChildAt b i c → places_below top (branch_tree b) (map (λ p. i ∷ p) ps) ≡ places_below (top ++ i ∷ []) c ps
+places-child b i c top [] child = refl
+places-child b i c top (p ∷ ps) child = rw (child.below p, append_assoc top (i ∷ []) p, places-child b i c top ps child)
+
+-- ---- the turns of the walk over a node's children
+-- what the walk found so far is the tokens of the children in the slots before this one
+abbrev pub FoundUpTo : Branch → ℕ → Path → ℕ → List (Path × Option SyntaxTree) → List (Path × Option SyntaxTree) → Type 0
+FoundUpTo b offset top i old now = now ≡ old ++ places_below top (branch_tree b) (filter (touches (branch_tree b) offset) (tokens_before (branch_tree b) (i ∷ [])))
+
+pub found_none : (b : Branch) (offset : ℕ) (top : Path) (old : List (Path × Option SyntaxTree)) → FoundUpTo b offset top 0 old old
+found_none b offset top old = rw (tokens_before-none b) (sym (append-nil old))
+
+pub found_past : (b : Branch) (offset : ℕ) (top : Path) (i : ℕ) (old : List (Path × Option SyntaxTree)) {now : List (Path × Option SyntaxTree)} →
+    filter (touches (branch_tree b) offset) (tokens_before (branch_tree b) ((i + 1) ∷ [])) ≡ filter (touches (branch_tree b) offset) (tokens_before (branch_tree b) (i ∷ [])) → FoundUpTo b offset top i old now → FoundUpTo b offset top (i + 1) old now
+found_past b offset top i old none found = found ∙ ap (λ ps. old ++ places_below top (branch_tree b) ps) (sym none)
+
+pub found_in : (b : Branch) (offset : ℕ) (top : Path) (i : ℕ) (c : SyntaxTree) (old now new : List (Path × Option SyntaxTree)) → IsChildAt b i c → IsSpanAt b i c → start (branch_tree b) (i ∷ []) ≤ offset → FoundUpTo b offset top i old now →
+    new ≡ now ++ places_below (top ++ i ∷ []) c (tokens_touching c (offset - start (branch_tree b) (i ∷ []))) → FoundUpTo b offset top (i + 1) old new
+found_in b offset top i c old now new child span h found more =
+    let before = filter (touches (branch_tree b) offset) (tokens_before (branch_tree b) (i ∷ [])) in
+    let own = tokens_touching c (offset - start (branch_tree b) (i ∷ [])) in
+    more
+    ∙ ap (λ ps. ps ++ places_below (top ++ i ∷ []) c own) found
+    ∙ append_assoc old (places_below top (branch_tree b) before) (places_below (top ++ i ∷ []) c own)
+    ∙ ap (λ ps. old ++ (places_below top (branch_tree b) before ++ ps)) (sym (places-child b i c top own child))
+    ∙ ap (λ ps. old ++ ps) (sym (map-append (λ p. (top ++ p, at (branch_tree b) p)) before (map (λ p. i ∷ p) own)))
+    ∙ ap (λ ps. old ++ places_below top (branch_tree b) ps) (sym (touching_in b i c offset child span h))
+
+pub found_token_in : (b : Branch) (offset : ℕ) (top : Path) (i : ℕ) (l : Leaf) (old now new : List (Path × Option SyntaxTree)) → IsChildAt b i (leaf_tree l) → IsSpanAt b i (leaf_tree l) → start (branch_tree b) (i ∷ []) ≤ offset → 0 < length l.text → offset ≤ start (branch_tree b) (i ∷ []) + length l.text →
+    FoundUpTo b offset top i old now → new ≡ now ++ (top ++ i ∷ [], Some (leaf_tree l)) ∷ [] → FoundUpTo b offset top (i + 1) old new
+found_token_in b offset top i l old now new child span h long within found more =
+    let own = touching_token l (offset - start (branch_tree b) (i ∷ [])) long (omega arith) in
+    let place : places_below (top ++ i ∷ []) (leaf_tree l) ([] ∷ []) ≡ (top ++ i ∷ [], Some (leaf_tree l)) ∷ [] = ap (λ p. (p, Some (leaf_tree l)) ∷ []) (append-nil (top ++ i ∷ [])) in
+    found_in b offset top i (leaf_tree l) old now new child span h found (more ∙ ap (λ ps. now ++ ps) (sym place) ∙ ap (λ ps. now ++ places_below (top ++ i ∷ []) (leaf_tree l) ps) (sym own))
+
+pub found_all : (b : Branch) (es : List GreenElement) (offset : ℕ) (top : Path) (i : ℕ) (old : List (Path × Option SyntaxTree)) {now : List (Path × Option SyntaxTree)} → element_trees es ≡ b.children → length es ≤ i → FoundUpTo b offset top i old now → now ≡ old ++ places_below top (branch_tree b) (tokens_touching (branch_tree b) offset)
+found_all b es offset top i old same h found = found ∙ ap (λ ps. old ++ places_below top (branch_tree b) (filter (touches (branch_tree b) offset) ps)) (tokens_before-all b es i same h)
+
+-- ---- below an element of a larger tree
+pub touches-below : (t : SyntaxTree) (p : Path) (c : SyntaxTree) (offset : ℕ) (q : Path) → at t p ≡ Some c → start t p ≤ offset → touches t offset (p ++ q) ≡ touches c (offset - start t p) q
+touches-below t p c offset q there h =
+    let long : length_at t (p ++ q) ≡ length_at c q = rw (at-append t p q, there) refl in
+    rw (start-append t p q c there, long) (touched-inside (start t p) (start c q) (length_at c q) offset h)
+
+pub touches-outside : (t : SyntaxTree) (p : Path) (c : SyntaxTree) (offset : ℕ) (q : Path) → at t p ≡ Some c → offset < start t p → touches t offset (p ++ q) ≡ false
+touches-outside t p c offset q there h = rw (start-append t p q c there) (touched-before (start t p) (start c q) (length_at t (p ++ q)) offset h)

@@ -1,9 +1,0 @@
-use Rattle.std.proofs.Common.{arith}
-use Rattle.green_tree.proofs.Slots.{size_at}
-use Rattle.green_tree.proofs.text.+push_text.Goals as goal
-
-pub push_text-requires : goal.push_text-requires
-push_text-requires t c =
-    let below = size_at c.children-child-items.result.now c.loop-child.child-index c.child-item.result c.loop-child-test.true c.child-item.is in
-    let below_node = rw (c.in-Node.is, c.children-child-items.ensures) at below in
-    (omega arith, tt)
