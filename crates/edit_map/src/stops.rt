@@ -3,7 +3,7 @@
 ghost use Rattle.std.specs.Prelude.{◌≡◌, ◌≢◌, ◌≤◌, ◌<◌, ◌++◌, length, take, reverse, false, IfOk, OnOk};
 ghost use Rattle.cst_core.specs.Element.{Address, address, element_at};
 ghost use Rattle.path_table.specs.PathTable.{IsTree};
-ghost use Rattle.edit_map.specs.inner.Climbing.{IsFree, at_depth, IsLastStop, Passes, StopsAll};
+ghost use Rattle.edit_map.specs.inner.Climbing.{IsFree, at_depth, IsStopAbove, StopsAll};
 
 use cst_core::{SyntaxElement, SyntaxNode};
 use path_table::PathTable;
@@ -94,7 +94,7 @@ impl Stops {
     /// How many slots lead to the nearest node above this one that may have a copy or be the payload; `None` where there is none.
     /// Each slot on the way is looked at once.
     pub(crate) fn above(&self, node: &SyntaxNode, payload: &SyntaxNode) -> Option<usize>
-        ensures { IsLastStop (Passes (IsFree self.now) (address payload.now) (address node.now)) (length node.now.path) result }
+        ensures { IsStopAbove self.now node.now payload.now result }
     {
         let mut stop = None;
         let mut place = self.places.below(self.places.top(), node.tree() as usize);

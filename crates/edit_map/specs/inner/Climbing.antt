@@ -3,12 +3,13 @@
 --     Passes                         the address above this one at a depth is free, and is not the payload
 --     IsLastStop                     the greatest number below this one of which something does not hold, or that there is none
 --     stop_path, IsFree              an address as the path in a table; the table has nothing there
+--     IsStopAbove                    how many slots lead to the nearest node above one that a table has or that is the payload
 --     HasNoCopy                      an address has no copy
 --     StopsAll                       a table has all first elements of these pairs
 --     IsKept                         a mapping, and a table that has all that it maps
-use Rattle.std.specs.Prelude.{◌≡◌, ◌≢◌, ℕ, ◌<◌, ◌∷◌, take, Option, None, MatchOption, All}
+use Rattle.std.specs.Prelude.{◌≡◌, ◌≢◌, ℕ, ◌<◌, ◌∷◌, take, length, Option, None, MatchOption, All}
 use Rattle.cst_core.specs.Path.{Path}
-use Rattle.cst_core.specs.Element.{Address, address}
+use Rattle.cst_core.specs.Element.{Address, Element, address}
 use Rattle.path_table.specs.PathTable.{number_by_path, IsTree}
 use Rattle.edit_map.specs.Mapping.{Mapping, copy}
 use Rattle.edit_map.specs.Builder.{IsMapping}
@@ -32,6 +33,10 @@ stop_path x = x.number ∷ x.path
 
 abbrev pub IsFree : Stops → Address → Type 0
 IsFree stops x = number_by_path stops.places (stop_path x) ≡ None
+
+abbrev pub IsStopAbove : Stops → Element → Element → Option ℕ → Type 0
+IsStopAbove stops node payload stop =
+    IsLastStop (Passes (IsFree stops) (address payload) (address node)) (length node.path) stop
 
 abbrev pub HasNoCopy : Mapping → Address → Type 0
 HasNoCopy m x = copy m x ≡ None

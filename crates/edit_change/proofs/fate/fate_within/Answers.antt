@@ -1,4 +1,4 @@
-use Rattle.std.proofs.Common.{◌≡◌, ◌+◌, [], ◌∷◌, take, sym, ◌∙◌, ap, refl}
+use Rattle.std.proofs.Common.{◌≡◌, ◌+◌, Some, [], ◌∷◌, take, sym, ◌∙◌, ap, refl}
 use Rattle.std.proofs.lemmas.List.{take_all}
 use Rattle.cst_core.specs.Path.{up_to}
 use Rattle.path_table.specs.PathTable.{number_in, place_at}
