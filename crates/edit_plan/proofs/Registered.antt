@@ -30,7 +30,15 @@ pushed-nothing [] v empty (suc k) = refl
 pushed-nothing (l ∷ ls) v empty zero = refl
 pushed-nothing (l ∷ ls) v empty (suc k) = pushed-nothing ls v empty k
 
-module _ (old new : List (Vec Sought Global)) (place : ℕ) (s : Sought) (size-same : length new ≡ length old) (within : place < length old) (here : HasOneMore old new place s) (elsewhere : StaysElsewhere old new place) (d : Vec Sought Global) where
+-- one of a list that is not empty
+some-of : {X : Type 0} (xs : List X) (i : ℕ) → i < length xs → X
+some-of [] i within = absurd (omega (arith, within))
+some-of (x ∷ xs) i within = x
+
+module _ (old new : List (Vec Sought Global)) (place : ℕ) (s : Sought) (size-same : length new ≡ length old) (within : place < length old) (here : HasOneMore old new place s) (elsewhere : StaysElsewhere old new place) where
+  abbrev d : Vec Sought Global
+  d = some-of old place within
+
   listed : (ls : List (Vec Sought Global)) (k : ℕ) → k < length ls → sought_for ls k ≡ sought_in (get_or ls k d).items
   listed ls k l = ap (λ o. option_map_or (λ v. sought_in v.items) o []) (slice_get-get_or ls k d l)
 

@@ -62,7 +62,10 @@ impl<'a> SoughtIndex<'a> {
         ensures lists { HasSameLists self.old self.new }
         ensures room { OnOk result (place < length self.new.lists.items) }
     {
-        for _ in self.lists.len()..place + 1 {
+        for _ in self.lists.len()..place {
+            self.lists.push(Vec::new(alloc))?;
+        }
+        if self.lists.len() == place {
             self.lists.push(Vec::new(alloc))?;
         }
         Ok(())
@@ -76,7 +79,8 @@ impl<'a> SoughtIndex<'a> {
         ensures here { OnOk result (HasOneMore self.old.lists.items self.new.lists.items place mark.entry) }
         ensures elsewhere { OnOk result (StaysElsewhere self.old.lists.items self.new.lists.items place) }
     {
-        self.lists[place].push(mark)
+        self.lists[place].push(mark)?;
+        Ok(())
     }
 
     // One more mark at the place below another one, at a slot.
@@ -89,7 +93,7 @@ impl<'a> SoughtIndex<'a> {
     ) -> Result<usize, AllocError>
         requires index { IsIndex self.old }
         requires here { place ≤ size self.old.places }
-        ensures { OnOk result (λ next. IsEntered self.old self.new place slot (sought_as mark.entry) next) }
+        ensures { IfOk result (λ next. IsEntered self.old self.new place slot (sought_as mark.entry) next) }
     {
         let next = self.places.enter(place, slot)?;
         self.make_room(alloc, next)?;

@@ -1,5 +1,5 @@
-use Rattle.std.proofs.Common.{◌≡◌, ◌<◌, ◌+◌, ◌++◌, ℕ, List, [], ◌∷◌, map, drop, length, get_or, arith, ap, sym, ◌∙◌, refl}
-use Rattle.std.proofs.lemmas.List.{append_assoc, append-nil, at_drop_more}
+use Rattle.std.proofs.Common.{◌≡◌, ◌<◌, ◌+◌, ◌++◌, ℕ, List, [], ◌∷◌, map, drop, length, arith, ap, sym, ◌∙◌, refl}
+use Rattle.std.proofs.lemmas.List.{append_assoc, at_drop_more}
 use Rattle.cst_core.specs.Path.{Path}
 use Rattle.rewriting.specs.Topmost.{paths_of}
 use Rattle.edit_plan.specs.Engine.{annotated_path}

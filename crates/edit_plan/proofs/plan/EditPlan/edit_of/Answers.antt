@@ -1,12 +1,10 @@
 use Rattle.std.proofs.Common.{◌≡◌, ◌<◌, [], map, Err, Some, sym, ◌∙◌, ap, subst}
 use Rattle.cst_core.specs.Green.{branch_tree, length_limit}
 use Rattle.cst_core.specs.Tree.{text_length}
-use Rattle.cst_core.specs.SyntaxElement.{syntax_at}
 use Rattle.rewriting.specs.Topmost.{paths_of}
 use Rattle.edit_plan.specs.Plan.{RunRefuses}
-use Rattle.edit_plan.specs.Engine.{annotated_path, IsRewritten}
+use Rattle.edit_plan.specs.Engine.{annotated_path}
 use Rattle.edit_plan.specs.EditRefusal.{of_tree}
-use Rattle.edit_plan.specs.Results.{paths_with}
 use Rattle.edit_plan.proofs.ByAnnotation.{found-in}
 use Rattle.edit_plan.proofs.Carrying.{makes, refuses, err-gives}
 use Rattle.edit_plan.proofs.Leading.{changed-there, annotated-there}

@@ -1,5 +1,4 @@
-use Rattle.std.proofs.Common.{◌≡◌, ℕ, ◌≤◌, length}
-use Rattle.rewriting.specs.inner.Marked.{sought_for}
+use Rattle.std.proofs.Common.{◌≡◌, length}
 use Rattle.edit_plan.specs.inner.Sought.{HasSameLists}
 use Rattle.edit_plan.proofs.sought.SoughtIndex.make_room.Given as goal
 
