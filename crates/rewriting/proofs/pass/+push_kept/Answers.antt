@@ -12,14 +12,10 @@ use Rattle.rewriting.proofs.Children.{tree_at, size_at}
 use Rattle.rewriting.proofs.ChildByChild.{first, step, all_shown}
 use Rattle.rewriting.proofs.Marks.{shown, shown-one, marks-none}
 use Rattle.rewriting.proofs.Marks.{are_shown}
-use Rattle.rewriting.proofs.MarksKept.{marks-below, token_marks, node_marks}
+use Rattle.rewriting.proofs.MarksKept.{marks-below, unsought, token_marks, node_marks}
 use Rattle.rewriting.proofs.SeenBelow.{seen-below}
 use Rattle.rewriting.proofs.Untouched.{untouched}
 use Rattle.rewriting.proofs.pass.+push_kept.Goals as goal
-
-unsought : (path : Path) (found : List Marking) (sought : List Sought) (t : SyntaxTree) → length sought ≡ 0 → found ≡ found ++ map (mark_below path) (marked (rewritten (wanted (sought_in sought)) (λ c. []) [] [] t))
-unsought path found [] t h = sym (append-nil found) ∙ ap (λ ms. found ++ map (mark_below path) ms) (sym (ap marked (untouched (λ k. []) (λ c. []) [] refl [] t) ∙ marks-none t))
-unsought path found (m ∷ ms) t h = absurd (omega (arith, h))
 
 pub returns-then-is_empty-clause-marks : goal.returns-then-is_empty-clause-marks
 returns-then-is_empty-clause-marks t c =
