@@ -2,7 +2,7 @@
 --     alters_nothing                below its slot all the aims say what no aims say
 --     kept-below, marks_kept-below  so it is kept as it is; so are its marks, as they are sought in it
 --     none-built                    and nothing of it is built
-use Rattle.std.specs.Prelude.{◌≡◌, ℕ, true, false, List, [], ◌∷◌, map, refl}
+use Rattle.std.specs.Prelude.{◌≡◌, ℕ, false, List, [], ◌∷◌, map, refl}
 use Rattle.std.proofs.Common.{ap, sym, subst, ◌∙◌}
 use Rattle.green_tree.specs.Path.{Path}
 use Rattle.green_tree.specs.Tree.{SyntaxTree, Token, Node}

@@ -245,9 +245,7 @@ pub fn rebuild(
         } else {
             let inner = aims_below(alloc, group, slot)?;
             path.push(out.len())?;
-            out.push(rebuild(
-                alloc, found, path, child, &inner, to_find, given, builds,
-            )?)?;
+            out.push(rebuild(alloc, found, path, child, &inner, to_find, given, builds)?)?;
             path.pop();
         }
         push_gap(alloc, &mut out, found, path, given, group, slot + 1)?;

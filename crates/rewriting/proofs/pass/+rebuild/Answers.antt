@@ -144,7 +144,7 @@ loop-slot-preserved t c =
                 let nothing_built = slot_counted-kept cs i own (sym replaced ∙ w.if-is_replaced.false) ∙ none-built aims i none own in
                 ap (λ n. counted n (still cs (i + 1) ts)) w.builds-is ∙ ap (counted c.loop-slot.builds) (sym (more ∙ ap (λ n. n + still cs (i + 1) ts) nothing_built ∙ nothing_on)) ∙ c.loop-slot.invariant.count
             | else-is_replaced+else-not-alter_below+in_ok-inner+in_ok-push+in_ok-rebuild+in_ok-push-2 w ↦
-                      let inner = w.in_ok-inner.ensures ∙ group_below in
+                let inner = w.in_ok-inner.ensures ∙ group_below in
                 let below_it = ap (λ xs. nodes_built (aims_of xs) e) w.deref-else-not-alter_below.ensures.value ∙ counted-below aims w.in_ok-inner.inner.items i e inner ∙ ap (λ u. built cs (i ∷ []) u (inside i (parents_of cs))) child ∙ sym (slot_counted-kept cs i own (sym replaced ∙ w.if-is_replaced.false)) in
                 count-step c.loop-slot.builds (in_slot cs i own) _ (still cs (i + 1) ts) _ (w.builds-is ∙ w.in_ok-rebuild.ensures.count ∙ ap (counted c.loop-slot.builds) below_it) (ap (counted c.loop-slot.builds) (sym more) ∙ c.loop-slot.invariant.count)
           ];
@@ -154,7 +154,7 @@ loop-slot-preserved t c =
             | then-is_replaced+in_ok-push_slot w ↦ omega (arith, w.builds-is)
             | else-is_replaced+then-not-alter_below+in_ok-push_child w ↦ omega (arith, w.builds-is)
             | else-is_replaced+else-not-alter_below+in_ok-inner+in_ok-push+in_ok-rebuild+in_ok-push-2 w ↦
-                      let inner = w.in_ok-inner.ensures ∙ group_below in
+                let inner = w.in_ok-inner.ensures ∙ group_below in
                 let below_it = ap (λ xs. touched e (parents_of (aims_of xs))) w.deref-else-not-alter_below.ensures.value ∙ ap (touched e) (parents-below aims w.in_ok-inner.inner.items i inner) ∙ ap (λ u. touched u (inside i (parents_of cs))) child in
                 omega (arith, w.builds-is, w.in_ok-rebuild.ensures.builds)
           ];
@@ -177,7 +177,7 @@ loop-slot-preserved t c =
                 let it = ap (λ ms. rewritten (wanted ms) (λ c. []) [] [] e) below_it ∙ sym (marks_kept-below aims i none sought trees e) ∙ ap (rewritten (wanted sought) trees cs (i ∷ [])) child in
                 ap (λ v. marks_of v.items) w.found-is ∙ w.in_ok-push_child.ensures.marks ∙ ap₂ (λ p u. before ++ shown p (length out) (u ∷ [])) c.loop-slot.invariant.path it ∙ ap (λ us. before ++ shown path (length out) us) (slot-kept (wanted sought) trees cs (i ∷ []) own (sym replaced ∙ w.if-is_replaced.false))
             | else-is_replaced+else-not-alter_below+in_ok-inner+in_ok-push+in_ok-rebuild+in_ok-push-2 w ↦
-                      let inner = w.in_ok-inner.ensures ∙ group_below in
+                let inner = w.in_ok-inner.ensures ∙ group_below in
                 let it = ap₂ (λ xs ms. rewritten (wanted ms) trees (aims_of xs) [] e) w.deref-else-not-alter_below.ensures.value below_it ∙ seen-below (wanted sought) (wanted (sought_below i sought)) trees aims w.in_ok-inner.inner.items i e (λ p k. marks-below sought i p) inner ∙ ap (rewritten (wanted sought) trees cs (i ∷ [])) child in
                 let slot_is : w.len.result ≡ length out = search rules in
                 let there : w.push.new.self.items ≡ path ++ length out ∷ [] = w.in_ok-push.ensures.items ∙ ap₂ (λ p n. p ++ n ∷ []) c.loop-slot.invariant.path slot_is in
