@@ -1,10 +1,11 @@
 //! What each change and level of nested edits costs, beside what it costs at depth 1.
 use crate::figures::{Figures, Phase};
 use anyhow::Result;
+use std::num::nearest_usize_to_f64;
 
 // How often the time for each change and level at a depth holds that at depth 1, where there are as many changes at both.
 fn times_first(figures: Figures, first: Figures, depth: usize, phase: Phase) -> f64 {
-    figures.of(phase) / (first.of(phase) * depth as f64)
+    figures.of(phase) / (first.of(phase) * nearest_usize_to_f64(depth))
 }
 
 fn show_level<R: Print>(rt: &R, depth: usize, figures: Figures, first: Figures) -> Result<()> {

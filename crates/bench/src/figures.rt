@@ -1,4 +1,5 @@
 //! How long an edit took, and how that grows.
+use std::num::nearest_usize_to_f64;
 
 /// How many changes were recorded, how many bytes the new text has, and how many seconds it took to record the changes, to
 /// plan the edit and to carry it out, and the least that carrying it out can take.
@@ -47,7 +48,7 @@ impl Figures {
 /// The power of the number that a time grows with: how steep the straight line is that is nearest, by least squares, to the
 /// times of all sizes, where both are drawn by their logarithms. Sizes are doublings, so they are one apart there.
 pub(crate) fn power(figures: &[Figures], phase: Phase) -> f64 {
-    let mut doublings = figures.len().saturating_sub(1) as f64 / -2.0;
+    let mut doublings = nearest_usize_to_f64(figures.len().saturating_sub(1)) / -2.0;
     let mut rise = 0.0;
     let mut width = 0.0;
     for figures in figures {
