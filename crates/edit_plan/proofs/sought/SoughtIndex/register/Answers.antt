@@ -22,8 +22,8 @@ loop-depth-init c =
       index = entered.index;
       leads = subst (λ n. place_below c.enter.new.self.places 0 n ≡ Some c.in_ok-place.place) c.tree-tree.ensures entered.leads;
       marks = λ a.
-        let start = sought_at c.args.self.now a in
-        one-deeper a r c.args.number 0 c.tree-tree.result [] c.slots-path.result.now start start (sought_at c.enter.new.self a) c.tree-tree.ensures refl c.slots-path.ensures (entered.more [] refl a) (sym (append-nil start));
+          let start = sought_at c.args.self.now a in
+          one-deeper a r c.args.number 0 c.tree-tree.result [] c.slots-path.result.now start start (sought_at c.enter.new.self a) c.tree-tree.ensures refl c.slots-path.ensures (entered.more [] refl a) (sym (append-nil start));
     }
 
 pub loop-depth-preserved : goal.loop-depth-preserved
