@@ -39,9 +39,9 @@ pub(crate) enum Growth {
     Both(Subject),
     /// The chains of blocks, each of sixteen.
     Chains,
-    /// The blocks round each copy in the payload of each of n blocks.
+    /// The blocks round each copy in the payload of a block, of 1,024 blocks.
     Payloads,
-    /// The blocks of a chain, with as many fewer chains.
+    /// The blocks of a chain, of 1,024 blocks in all.
     Depth,
     /// The literals of a list, each with a note and an insert.
     Notes,
