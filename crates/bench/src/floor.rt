@@ -62,20 +62,78 @@ fn ancestors(alloc: Global, edit: &SyntaxEdit) -> Result<HashMap<SyntaxNode, usi
     Ok(noted)
 }
 
-// The touched nodes of the new tree, in document order.
-fn touched_nodes(alloc: Global, edit: &SyntaxEdit, touches: Touches) -> Result<Vec<SyntaxNode>> {
+// The nodes of the new tree that a changed element is in, in document order.
+fn touched_nodes(alloc: Global, edit: &SyntaxEdit) -> Result<Vec<SyntaxNode>> {
     let noted = ancestors(alloc, edit)?;
     let mut nodes = Vec::new(alloc);
     for node in edit.new_root().descendants(alloc)? {
-        let is_touched = match touches {
-            Touches::Ancestors => noted.get(&node).is_some(),
-            Touches::Blocks => node.kind() != SyntaxKind::LITERAL,
-        };
-        if is_touched {
+        if noted.get(&node).is_some() {
             nodes.push(node)?;
         }
     }
     Ok(nodes)
+}
+
+// A child that is a node and no literal.
+fn block(child: &GreenElement) -> Option<&GreenNode> {
+    match child {
+        GreenElement::Node(node) => {
+            if node.kind() == SyntaxKind::LITERAL {
+                None
+            } else {
+                Some(node)
+            }
+        }
+        GreenElement::Token(_) => None,
+    }
+}
+
+// Adds the children of a node that are nodes and no literals, from the last to the first.
+fn add_blocks(alloc: Global, node: &GreenNode, waiting: &mut Vec<GreenNode>) -> Result<()> {
+    for child in node.children().iter().rev() {
+        if let Some(block) = block(child) {
+            waiting.push(block.share(alloc)?)?;
+        }
+    }
+    Ok(())
+}
+
+// A node and those below it but literals, in document order. The paths of nodes many levels down would take more room than they do.
+fn blocks(alloc: Global, root: &GreenNode) -> Result<Vec<GreenNode>> {
+    let mut waiting = Vec::new(alloc);
+    waiting.push(root.share(alloc)?)?;
+    let mut blocks = Vec::new(alloc);
+    for _ in 0..u64::MAX {
+        let Some(node) = waiting.pop() else {
+            break;
+        };
+        add_blocks(alloc, &node, &mut waiting)?;
+        blocks.push(node)?;
+    }
+    Ok(blocks)
+}
+
+// How a node is made, where the last of these numbers are those of the nodes below it, the first child's last. They are taken off.
+fn block_to_make(alloc: Global, node: &GreenNode, numbers: &mut Vec<usize>) -> Result<Touched> {
+    let mut children = Vec::new(alloc);
+    for child in node.children() {
+        let number = match block(child) {
+            Some(_) => numbers.pop(),
+            None => None,
+        };
+        children.push(child_to_make(alloc, child, number)?)?;
+    }
+    Ok(Touched {
+        kind: node.kind(),
+        children,
+    })
+}
+
+fn child_to_make(alloc: Global, child: &GreenElement, number: Option<usize>) -> Result<Child> {
+    Ok(match number {
+        Some(number) => Child::Made(number),
+        None => Child::Shared(child.share(alloc)?),
+    })
 }
 
 // How a node is made, where the nodes below it have these numbers.
@@ -94,10 +152,7 @@ fn to_make(
             SyntaxElement::Node(child) => numbers.get(child).copied(),
             SyntaxElement::Token(_) => None,
         };
-        children.push(match number {
-            Some(number) => Child::Made(number),
-            None => Child::Shared(green.share(alloc)?),
-        })?;
+        children.push(child_to_make(alloc, green, number)?)?;
     }
     Ok(Touched {
         kind: node.kind(),
@@ -129,15 +184,35 @@ fn taken(made: &mut [Option<GreenNode>], number: usize) -> Result<GreenNode> {
 impl Floor {
     /// What there is to make for an edit.
     pub(crate) fn of(alloc: Global, edit: &SyntaxEdit, touches: Touches) -> Result<Floor> {
-        let mut nodes = touched_nodes(alloc, edit, touches)?;
+        match touches {
+            Touches::Ancestors => Floor::of_ancestors(alloc, edit),
+            Touches::Blocks => Floor::of_blocks(alloc, edit.new_root().as_green()),
+        }
+    }
+
+    fn of_ancestors(alloc: Global, edit: &SyntaxEdit) -> Result<Floor> {
+        let mut nodes = touched_nodes(alloc, edit)?;
         nodes.reverse();
         let mut numbers = HashMap::new(alloc);
-        let mut floor = Vec::new(alloc);
+        let mut touched = Vec::new(alloc);
         for node in nodes {
-            floor.push(to_make(alloc, &node, &numbers)?)?;
-            numbers.insert(node, floor.len() - 1)?;
+            touched.push(to_make(alloc, &node, &numbers)?)?;
+            numbers.insert(node, touched.len() - 1)?;
         }
-        Ok(Floor { touched: floor })
+        Ok(Floor { touched })
+    }
+
+    fn of_blocks(alloc: Global, root: &GreenNode) -> Result<Floor> {
+        let mut nodes = blocks(alloc, root)?;
+        nodes.reverse();
+        let mut numbers = Vec::new(alloc);
+        let mut touched = Vec::new(alloc);
+        for node in nodes {
+            let number = touched.len();
+            touched.push(block_to_make(alloc, &node, &mut numbers)?)?;
+            numbers.push(number)?;
+        }
+        Ok(Floor { touched })
     }
 
     /// How many nodes there are to make.

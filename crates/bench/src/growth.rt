@@ -1,21 +1,17 @@
 //! How long edits take, and how that grows.
 use crate::built::Built;
 use crate::case::{Case, Subject};
-use crate::floor::Floor;
+use crate::depth::show_levels;
+use crate::figures::{Figures, Phase, power};
+use crate::measured::{measured, tried};
 use crate::nested::Nest;
 use crate::notes::Noted;
-use crate::prepared::{Call, Prepared};
 use anyhow::Result;
-use cst_core::TreeIds;
 use std::alloc::Global;
 use std::rt::Clock;
-use std::time::Instant;
-use syntax_editor::{EditPlan, OnePassEngine, SyntaxEdit, SyntaxEditor};
 
-/// How often all growths are gone through, and how often each size is measured then, one time after another.
+/// How often all growths are gone through.
 const ROUNDS: usize = 5;
-
-const TRIES: usize = 3;
 
 /// Bytes of the list that is taken and freed before anything is measured.
 const SETTLING: usize = 30 << 20;
@@ -24,14 +20,17 @@ const LEAST: usize = 512;
 
 const MOST: usize = 32_768;
 
-const SIZES: [usize; 7] = [LEAST, 1024, 2048, 4096, 8192, 16_384, MOST];
+pub(crate) const SIZES: [usize; 7] = [LEAST, 1024, 2048, 4096, 8192, 16_384, MOST];
+
+/// Blocks round each copy, or blocks of a chain.
+const DEPTHS: [usize; 9] = [1, 2, 4, 8, 16, 32, 64, 128, 256];
 
 /// Blocks of the edits in which the payloads or the nesting grow.
 const BLOCKS: usize = 1024;
 
 /// What grows from one edit to the next.
 #[derive(Clone, Copy)]
-enum Growth {
+pub(crate) enum Growth {
     /// The changes, of one tree.
     Changes(Subject),
     /// The tree, with n changes.
@@ -40,9 +39,9 @@ enum Growth {
     Both(Subject),
     /// The chains of blocks, each of sixteen.
     Chains,
-    /// The payload of each of n blocks.
+    /// The blocks round each copy in the payload of a block, of 1,024 blocks.
     Payloads,
-    /// The blocks of a chain, with as many fewer chains.
+    /// The blocks of a chain, of 1,024 blocks in all.
     Depth,
     /// The literals of a list, each with a note and an insert.
     Notes,
@@ -70,18 +69,6 @@ const GROWTHS: [Growth; 15] = [
     Growth::Times,
 ];
 
-/// How many changes were recorded, how many bytes the new text has, and how many seconds it took to record the changes, to
-/// plan the edit and to carry it out, and the least that carrying it out can take.
-#[derive(Clone, Copy)]
-struct Figures {
-    changes: usize,
-    bytes: u64,
-    recorded: f64,
-    planned: f64,
-    run: f64,
-    floor: f64,
-}
-
 impl Growth {
     fn name(self) -> &'static str {
         match self {
@@ -97,7 +84,26 @@ impl Growth {
         }
     }
 
-    fn case(self, number: usize) -> Case {
+    // Whether it is by levels of nested blocks.
+    fn is_by_levels(self) -> bool {
+        match self {
+            Growth::Payloads => true,
+            Growth::Depth => true,
+            _ => false,
+        }
+    }
+
+    // The numbers that it grows through, each twice the one before.
+    fn numbers(self, alloc: Global) -> Result<Vec<usize>> {
+        if self.is_by_levels() {
+            Ok(Vec::from_slice(alloc, &DEPTHS)?)
+        } else {
+            Ok(Vec::from_slice(alloc, &SIZES)?)
+        }
+    }
+
+    /// The edit of a number.
+    pub(crate) fn case(self, number: usize) -> Case {
         match self {
             Growth::Changes(subject) => Case::Spread {
                 subject,
@@ -122,16 +128,13 @@ impl Growth {
             Growth::Payloads => Case::Nested(Nest {
                 chains: BLOCKS / 4,
                 depth: 4,
-                wraps: number / LEAST,
+                wraps: number,
             }),
-            Growth::Depth => {
-                let depth = (number / LEAST).max(1);
-                Case::Nested(Nest {
-                    chains: BLOCKS / depth,
-                    depth,
-                    wraps: 1,
-                })
-            }
+            Growth::Depth => Case::Nested(Nest {
+                chains: BLOCKS / number.max(1),
+                depth: number,
+                wraps: 1,
+            }),
             Growth::Notes => Case::Noted(Noted::List(number)),
             Growth::PayloadNotes => Case::Noted(Noted::Payload {
                 notes: number / 8,
@@ -145,121 +148,10 @@ impl Growth {
     }
 }
 
-/// A time of the figures.
-#[derive(Clone, Copy)]
-enum Phase {
-    Recorded,
-    Planned,
-    Run,
-    PlannedAndRun,
-}
-
-impl Figures {
-    // The shorter of each two times.
-    fn best(self, other: Figures) -> Figures {
-        Figures {
-            recorded: self.recorded.min(other.recorded),
-            planned: self.planned.min(other.planned),
-            run: self.run.min(other.run),
-            floor: self.floor.min(other.floor),
-            ..self
-        }
-    }
-
-    fn of(self, phase: Phase) -> f64 {
-        match phase {
-            Phase::Recorded => self.recorded,
-            Phase::Planned => self.planned,
-            Phase::Run => self.run,
-            Phase::PlannedAndRun => self.planned + self.run,
-        }
-    }
-}
-
-// Makes the calls, and says how many seconds that took.
-fn record<R: Clock>(
-    rt: &R,
-    alloc: Global,
-    calls: Vec<Call>,
-    editor: &mut SyntaxEditor,
-) -> Result<f64> {
-    let start = Instant::now(rt)?;
-    for call in calls {
-        call.record(alloc, editor)?;
-    }
-    Ok(start.elapsed(rt)?.as_secs_f64())
-}
-
-// A plan of what an editor has recorded, and how many seconds planning took.
-fn plan<R: Clock>(rt: &R, alloc: Global, editor: SyntaxEditor) -> Result<(EditPlan, f64)> {
-    let start = Instant::now(rt)?;
-    let plan = editor.plan(alloc)?;
-    let seconds = start.elapsed(rt)?.as_secs_f64();
-    Ok((plan, seconds))
-}
-
-// What a plan makes, and how many seconds it took to carry it out.
-fn run<R: Clock>(
-    rt: &R,
-    alloc: Global,
-    ids: &mut TreeIds,
-    plan: &EditPlan,
-) -> Result<(SyntaxEdit, f64)> {
-    let start = Instant::now(rt)?;
-    let edit = plan.run_with(alloc, ids, &mut OnePassEngine::new(alloc))?;
-    let seconds = start.elapsed(rt)?.as_secs_f64();
-    Ok((edit, seconds))
-}
-
-// How many seconds it takes to make what any engine has to make.
-fn floor<R: Clock>(rt: &R, alloc: Global, edit: &SyntaxEdit, case: Case) -> Result<f64> {
-    let floor = Floor::of(alloc, edit, case.touches())?;
-    let start = Instant::now(rt)?;
-    let _tree = floor.make(alloc)?;
-    Ok(start.elapsed(rt)?.as_secs_f64())
-}
-
-/// An editor with the changes of a case recorded, and how many seconds recording took.
-pub(crate) fn recorded<R: Clock>(
-    rt: &R,
-    alloc: Global,
-    ids: &mut TreeIds,
-    case: Case,
-) -> Result<(SyntaxEditor, f64)> {
-    let Prepared { mut editor, calls } = case.prepared(alloc, ids)?;
-    let seconds = record(rt, alloc, calls, &mut editor)?;
-    Ok((editor, seconds))
-}
-
-fn measured<R: Clock>(rt: &R, alloc: Global, case: Case) -> Result<Figures> {
-    let mut ids = TreeIds::new(1);
-    let (editor, recorded) = recorded(rt, alloc, &mut ids, case)?;
-    let changes = editor.changes().len();
-    let (plan, planned) = plan(rt, alloc, editor)?;
-    let (edit, run) = run(rt, alloc, &mut ids, &plan)?;
-    Ok(Figures {
-        changes,
-        bytes: edit.new_root().text_len(),
-        recorded,
-        planned,
-        run,
-        floor: floor(rt, alloc, &edit, case)?,
-    })
-}
-
-// The shortest times of some tries, one after another.
-fn tried<R: Clock>(rt: &R, alloc: Global, case: Case) -> Result<Figures> {
-    let mut best = measured(rt, alloc, case)?;
-    for _ in 1..TRIES {
-        best = best.best(measured(rt, alloc, case)?);
-    }
-    Ok(best)
-}
-
 // The figures of each size.
 fn sizes<R: Clock>(rt: &R, alloc: Global, growth: Growth) -> Result<Vec<Figures>> {
-    let mut figures = Vec::with_capacity(alloc, SIZES.len())?;
-    for number in SIZES {
+    let mut figures = Vec::new(alloc);
+    for number in growth.numbers(alloc)? {
         figures.push(tried(rt, alloc, growth.case(number))?)?;
     }
     Ok(figures)
@@ -307,20 +199,6 @@ fn shortest<R: Clock>(rt: &R, alloc: Global) -> Result<Vec<Vec<Figures>>> {
     Ok(best)
 }
 
-// The power of the number that a time grows with: how steep the straight line is that is nearest, by least squares, to the
-// times of all sizes, where both are drawn by their logarithms. Sizes are doublings, so they are one apart there.
-fn power(figures: &[Figures], phase: Phase) -> f64 {
-    let mut doublings = (SIZES.len() - 1) as f64 / -2.0;
-    let mut rise = 0.0;
-    let mut width = 0.0;
-    for figures in figures {
-        rise += doublings * figures.of(phase).log2();
-        width += doublings * doublings;
-        doublings += 1.0;
-    }
-    rise / width
-}
-
 fn show_times<R: Print>(rt: &R, alloc: Global, case: Case, figures: Figures) -> Result<()> {
     let label = case.label(alloc)?;
     let Built { builds, nodes, .. } = Built::of(alloc, case)?;
@@ -331,11 +209,12 @@ fn show_times<R: Print>(rt: &R, alloc: Global, case: Case, figures: Figures) -> 
     let floor = figures.floor * 1e3;
     let times_planned = figures.planned / figures.floor;
     let times_run = figures.run / figures.floor;
+    let times_recorded = figures.recorded / figures.planned;
     println!(rt;
         "{label}: {changes} changes, {builds} nodes built, {nodes} in the tree, recorded {recorded:.3} ms, planned {planned:.3} ms, run {run:.3} ms"
     )?;
     println!(rt;
-        "    the least {floor:.3} ms: planned {times_planned:.1} times that, run {times_run:.1} times"
+        "    the least {floor:.3} ms: planned {times_planned:.1} times that, run {times_run:.1} times; recorded {times_recorded:.1} times planned"
     )?;
     Ok(())
 }
@@ -353,10 +232,15 @@ fn show_powers<R: Print>(rt: &R, growth: Growth, figures: &[Figures]) -> Result<
 }
 
 fn show_growth<R: Print>(rt: &R, alloc: Global, growth: Growth, figures: &[Figures]) -> Result<()> {
-    for (number, figures) in SIZES.iter().zip(figures.iter()) {
+    let numbers = growth.numbers(alloc)?;
+    for (number, figures) in numbers.iter().zip(figures.iter()) {
         show_times(rt, alloc, growth.case(*number), *figures)?;
     }
-    show_powers(rt, growth, figures)
+    show_powers(rt, growth, figures)?;
+    if growth.is_by_levels() {
+        show_levels(rt, &numbers, figures)?;
+    }
+    Ok(())
 }
 
 // The C library gives a large list back to the system when it is freed, until one that is larger still has been freed; then it

@@ -1,19 +1,26 @@
 //! Builds large trees, walks over them, and edits some. With the argument `time` each line also says how long it took, and the edits
-//! grow.
+//! grow. With the argument `memory` it makes edits with marks round their calls, for a library that counts what they hold.
 #![tactic(auto)]
 
 mod built;
 mod case;
+mod depth;
 mod edits;
+mod figures;
 mod floor;
 mod growth;
+mod measured;
+mod memory;
 mod nested;
 mod notes;
 mod orders;
 mod prepared;
+mod ratios;
 
 use crate::growth::{report_edits, report_growth};
+use crate::memory::report_memory;
 use crate::orders::{report_order_times, report_orders};
+use crate::ratios::report_ratios;
 use anyhow::Result;
 use cst_core::{GreenElement, GreenNode, GreenToken, SyntaxKind, SyntaxNode, TreeIds};
 use std::alloc::Global;
@@ -169,29 +176,49 @@ fn measure_chain<R: Print + Clock>(
     report(rt, timed, start, Work::ChainDescendants, nodes.len())
 }
 
-fn run<R: Print + Clock>(rt: &R, alloc: Global, timed: bool) -> Result<()> {
+fn report_trees<R: Print + Clock>(rt: &R, alloc: Global, timed: bool) -> Result<()> {
     let mut ids = TreeIds::new(1);
     measure_flat(rt, alloc, &mut ids, timed)?;
-    measure_chain(rt, alloc, &mut ids, timed)?;
-    if timed {
-        report_growth(rt, alloc)?;
-        report_order_times(rt, alloc)
-    } else {
-        report_edits(rt, alloc)?;
-        report_orders(rt, alloc)
-    }
+    measure_chain(rt, alloc, &mut ids, timed)
 }
 
-fn is_timed(rt: &(impl Env + Alloc)) -> Result<bool> {
+fn report_all<R: Print + Clock>(rt: &R, alloc: Global) -> Result<()> {
+    report_trees(rt, alloc, false)?;
+    report_edits(rt, alloc)?;
+    report_orders(rt, alloc)
+}
+
+fn report_times<R: Print + Clock>(rt: &R, alloc: Global) -> Result<()> {
+    report_trees(rt, alloc, true)?;
+    report_growth(rt, alloc)?;
+    report_ratios(rt, alloc)?;
+    report_order_times(rt, alloc)
+}
+
+/// What is asked for.
+#[derive(Clone, Copy)]
+enum Mode {
+    Counts,
+    Times,
+    Memory,
+}
+
+fn asked_for(rt: &(impl Env + Alloc)) -> Result<Mode> {
     for argument in env::args(rt)? {
         if argument.as_str() == "time" {
-            return Ok(true);
+            return Ok(Mode::Times);
+        }
+        if argument.as_str() == "memory" {
+            return Ok(Mode::Memory);
         }
     }
-    Ok(false)
+    Ok(Mode::Counts)
 }
 
 fn main(rt: HostRuntime) -> Result<()> {
-    let timed = is_timed(&rt)?;
-    run(&rt, rt.alloc(), timed)
+    match asked_for(&rt)? {
+        Mode::Counts => report_all(&rt, rt.alloc()),
+        Mode::Times => report_times(&rt, rt.alloc()),
+        Mode::Memory => report_memory(&rt, rt.alloc()),
+    }
 }

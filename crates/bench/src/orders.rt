@@ -1,6 +1,6 @@
 //! How long it takes to carry changes out one at a time, in the default order, beside all of them at once.
 use crate::case::{Case, Subject};
-use crate::growth::recorded;
+use crate::measured::recorded;
 use anyhow::Result;
 use cst_core::TreeIds;
 use std::alloc::Global;

@@ -6,19 +6,22 @@
 --     Climbed                        the slots noted so far lead from here to the target
 --     climbed-start, climbed-step    at the target; one step on
 --     climbed-there, climbed-nowhere the payload is met; a root is met instead
+--     climbed-to, climbed-past       on to the last stop; where there is none, nothing stands for the target
 --     way, way-falls                 how long the way can get, at most; less with each step
-use Rattle.std.specs.Prelude.{◌≡◌, ℕ, suc, ◌+◌, ◌*◌, ◌<◌, ◌≤◌, true, false, not, cond, [], ◌∷◌, ◌++◌, length, reverse, find, Some, None, option_map, refl}
+use Rattle.std.specs.Prelude.{◌≡◌, ◌≢◌, ℕ, suc, ◌+◌, ◌*◌, ◌<◌, ◌≤◌, true, false, not, cond, [], ◌∷◌, ◌++◌, length, reverse, take, drop, find, Some, None, option_map, refl}
 use Rattle.std.specs.Option.{option_map_or}
 use Rattle.std.specs.Map.{lookup}
-use Rattle.std.proofs.Common.{ap, sym, subst, ◌∙◌, arith, inl, inr, add-one, append_assoc, append-nil}
+use Rattle.std.proofs.Common.{ap, ap₂, sym, subst, ◌∙◌, arith, inl, inr, add-one, get_or, append_assoc, append-nil}
 use Rattle.std.proofs.Math.Nat.{mul-le-mul_right, suc-mul}
 use Rattle.std.proofs.lemmas.Bool.{true≢false, true_from_ne_false}
 use Rattle.std.proofs.lemmas.Option.{none-some, same_Some}
-use Rattle.std.proofs.lemmas.List.{same_from_push, length_push, reverse-append}
+use Rattle.std.proofs.lemmas.List.{same_from_push, reverse-append, take-append-drop, drop_more, length-append, length-take-le}
+use Rattle.std.proofs.Math.Seq.{take-append-add}
 use Rattle.cst_core.specs.Path.{Path, parent_path, last_slot}
 use Rattle.cst_core.specs.Element.{Address, Element, address, same_address, element_at, parent_of}
 use Rattle.cst_core.proofs.LastSlot.{parent-and-slot}
 use Rattle.edit_map.specs.Mapping.{Mapping, copy, copied, IsRising, child_address, StandsFor}
+use Rattle.edit_map.specs.inner.Climbing.{in_tree, at_depth, Passes, HasNoCopy}
 use Rattle.edit_map.proofs.Copies.{same_addresses, same_address-true, same_address-itself}
 use Rattle.edit_map.proofs.Followed.{counted, copy-falls}
 use Rattle.edit_map.proofs.Places.{StandsFor-push, last_view}
@@ -97,6 +100,45 @@ module _ (m : Mapping) (r target : Address) (slots : Path) (here : Address) (cli
       at_root : (p : Path) × (j : ℕ) × (y : Address) × StandsFor m r p y × (copied m here ≡ child_address y j) → ⊥
       at_root (p, j, y, stands, at) = no-root y.path j (sym (ap (λ (a : Address). a.path) at) ∙ root)
 
+-- ---- several steps, where what is between has no copy and is not the payload
+climbed-far : (m : Mapping) (r target : Address) (slots : Path) (here : Address) → Climbed m r target slots here → here ≢ r → (n : ℕ) (q : Path) (i : ℕ) (s : Path) → copied m here ≡ in_tree n (q ++ i ∷ s)
+    → ((k : ℕ) → 0 < k → k < length (i ∷ s) → HasNoCopy m (in_tree n (q ++ take k (i ∷ s))) × (in_tree n (q ++ take k (i ∷ s)) ≢ r)) → Climbed m r target (slots ++ reverse (i ∷ s)) (in_tree n q)
+climbed-far m r target slots here climbed other n q i [] is between = climbed-step m r target slots here climbed i (in_tree n q) other is
+climbed-far m r target slots here climbed other n q i (j ∷ s) is between =
+    let next = in_tree n (q ++ i ∷ []) in
+    let further : (k : ℕ) → 0 < k → k < length (j ∷ s) → HasNoCopy m (in_tree n ((q ++ i ∷ []) ++ take k (j ∷ s))) × (in_tree n ((q ++ i ∷ []) ++ take k (j ∷ s)) ≢ r) =
+    λ k more below. subst (λ p. HasNoCopy m (in_tree n p) × (in_tree n p ≢ r)) (sym (append_assoc q (i ∷ []) (take k (j ∷ s)))) (between (suc k) (omega (arith, more)) (omega (arith, below))) in
+    let below : Climbed m r target (slots ++ reverse (j ∷ s)) next = climbed-far m r target slots here climbed other n (q ++ i ∷ []) j s (is ∙ ap (in_tree n) (sym (append_assoc q (i ∷ []) (j ∷ s)))) further in
+    let passed : HasNoCopy m next × (next ≢ r) = between 1 (omega arith) (omega arith) in
+    let step = climbed-step m r target (slots ++ reverse (j ∷ s)) next below i (in_tree n q) passed.1 (ap (λ o. option_map_or address o next) passed.0) in
+    subst (λ all. Climbed m r target all (in_tree n q)) (append_assoc slots (reverse (j ∷ s)) (i ∷ []) ∙ ap (λ all. slots ++ all) (sym (reverse-append (i ∷ []) (j ∷ s)))) step
+
+module _ (m : Mapping) (r target : Address) (slots : Path) (here x : Address) (climbed : Climbed m r target slots here) (other : here ≢ r) (is : copied m here ≡ x) where
+  pub climbed-to : (d : ℕ) → d < length x.path → ((k : ℕ) → d < k → k < length x.path → Passes (HasNoCopy m) r x k) → Climbed m r target (slots ++ reverse (drop d x.path)) (at_depth x d)
+  climbed-to d within passes =
+      let q = take d x.path in
+      let i = get_or x.path d 0 in
+      let s = drop (d + 1) x.path in
+      let rest : drop d x.path ≡ i ∷ s = drop_more x.path d 0 within in
+      let split : x.path ≡ q ++ i ∷ s = sym (take-append-drop d x.path) ∙ ap (λ u. q ++ u) rest in
+      let long : length q ≡ d = length-take-le d x.path (omega (arith, within)) in
+      let lengths : length x.path ≡ length q + length (i ∷ s) = ap length split ∙ length-append q (i ∷ s) in
+      let at : (k : ℕ) → at_depth x (d + k) ≡ in_tree x.number (q ++ take k (i ∷ s)) = λ k. ap (in_tree x.number) (ap₂ (λ a p. take (a + k) p) (sym long) split ∙ take-append-add q (i ∷ s) k) in
+      let between : (k : ℕ) → 0 < k → k < length (i ∷ s) → HasNoCopy m (in_tree x.number (q ++ take k (i ∷ s))) × (in_tree x.number (q ++ take k (i ∷ s)) ≢ r) =
+      λ k more below. subst (λ a. HasNoCopy m a × (a ≢ r)) (at k) (passes (d + k) (omega (arith, more)) (omega (arith, below, lengths, long))) in
+      subst (λ u. Climbed m r target (slots ++ reverse u) (in_tree x.number q)) (sym rest) (climbed-far m r target slots here climbed other x.number q i s (is ∙ ap (in_tree x.number) split) between)
+
+  pub climbed-past : ((k : ℕ) → k < length x.path → Passes (HasNoCopy m) r x k) → (p : Path) → StandsFor m r p target → ⊥
+  climbed-past passes p stands = by_path x.path refl
+    where
+      by_path : (q : Path) → x.path ≡ q → ⊥
+      by_path [] none = climbed-nowhere m r target slots here climbed other (ap (λ (a : Address). a.path) is ∙ none) p stands
+      by_path (i ∷ q) some =
+          let within : 0 < length x.path = omega (arith, ap length some) in
+          let top : Climbed m r target (slots ++ reverse (drop 0 x.path)) (at_depth x 0) = climbed-to 0 within (λ k more below. passes k below) in
+          let passed = passes 0 within in
+          climbed-nowhere m r target (slots ++ reverse (drop 0 x.path)) (at_depth x 0) top passed.1 (ap (λ o. (option_map_or address o (at_depth x 0)).path) passed.0) p stands
+
 -- ---- how long it can get
 -- the lengths of the paths of all copies
 abbrev lengths : Mapping → ℕ
@@ -122,17 +164,13 @@ less-way a b l p q less short =
     let one : (a + 1) * suc l ≡ suc a * suc l = ap (λ n. n * suc l) (add-one a) in
     omega (arith, enough, more, one, short)
 
-pub way-falls : (m : Mapping) → IsRising m → (x y : Address) (i : ℕ) → copied m x ≡ child_address y i → way m y < way m x
-way-falls m rising x y i is =
-    (elim (copy m x) as (λ o. copy m x ≡ o → option_map_or address o x ≡ child_address y i → way m y < way m x) [
-      | None ↦ λ _ at. (
-          let number : x.number ≡ y.number = ap (λ (a : Address). a.number) at in
-          let long : length x.path ≡ length y.path + 1 = ap (λ (a : Address). length a.path) at ∙ length_push y.path i in
+pub way-falls : (m : Mapping) → IsRising m → (x y : Address) → (copied m x).number ≡ y.number → length y.path < length (copied m x).path → way m y < way m x
+way-falls m rising x y =
+    (elim (copy m x) as (λ o. copy m x ≡ o → (option_map_or address o x).number ≡ y.number → length y.path < length (option_map_or address o x).path → way m y < way m x) [
+      | None ↦ λ _ number short. (
           let counts : counted y.number m ≡ counted x.number m = ap (λ n. counted n m) (sym number) in
-          rw counts (omega (arith, long)))
-      | Some c ↦ λ of at. (
-          let number : c.number ≡ y.number = ap (λ (a : Address). a.number) at in
-          let long : length c.path ≡ length y.path + 1 = ap (λ (a : Address). length a.path) at ∙ length_push y.path i in
+          rw counts (omega (arith, short)))
+      | Some c ↦ λ of number short. (
           let fewer : counted y.number m < counted x.number m = rw (← number) ((copy-falls m rising x c of).1) in
-          less-way (counted y.number m) (counted x.number m) (lengths m) (length y.path) (length x.path) fewer (omega (arith, long, copy-short m x c of)))
-    ]) refl is
+          less-way (counted y.number m) (counted x.number m) (lengths m) (length y.path) (length x.path) fewer (omega (arith, short, copy-short m x c of)))
+    ]) refl

@@ -12,4 +12,5 @@ pub mod Climbs
 pub mod RowTrees
 pub mod Rows
 mod Upwards
+mod Passing
 mod Reached

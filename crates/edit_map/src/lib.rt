@@ -7,6 +7,7 @@ pub mod laws;
 mod map_error;
 mod mapping;
 mod pairs;
+mod stops;
 
 pub use builder::SyntaxMappingBuilder;
 pub use map_error::MapError;

@@ -2,10 +2,10 @@ ghost use Rattle.std.specs.Prelude.{◌≡◌, length, [], ◌++◌, IfOk, OnOk,
 ghost use Rattle.cst_core.specs.Element.{address};
 ghost use Rattle.edit_map.specs.Mapping.{IsPlace, copied, path_in};
 ghost use Rattle.edit_map.specs.Builder.{IsMadeOf, ArePairs, IsMapping};
-ghost use Rattle.edit_map.specs.inner.Climbing.{IsAbove};
 
 use crate::builder::SyntaxMappingBuilder;
 use crate::pairs::{push_clones, put_all};
+use crate::stops::{Stops, node_above, push_reversed};
 use cst_core::SyntaxNode;
 use std::alloc::{AllocError, Global};
 use std::collections::HashMap;
@@ -18,11 +18,14 @@ use std::marker::Model;
 #[derive(Drop)]
 pub struct SyntaxMapping {
     pub(crate) copies: HashMap<SyntaxNode, SyntaxNode>,
+    // It has each node that has a copy; after a refused call it may have more.
+    pub(crate) stops: Stops,
 }
 
 impl Model for SyntaxMapping {
     ghost use Rattle.edit_map.specs.Mapping.{Mapping};
-    ghost use Rattle.edit_map.specs.Builder.{mapping_code, IsMapping};
+    ghost use Rattle.edit_map.specs.Builder.{mapping_code};
+    ghost use Rattle.edit_map.specs.inner.Climbing.{IsKept};
 
     ghost Value = { Mapping };
 
@@ -30,7 +33,7 @@ impl Model for SyntaxMapping {
 
     ghost view = { λ a. a.copies.entries };
 
-    ghost invariant = { λ a. IsMapping a.copies.entries };
+    ghost invariant = { λ a. IsKept a.copies.entries a.stops };
 }
 
 impl SyntaxMapping {
@@ -41,6 +44,7 @@ impl SyntaxMapping {
     {
         SyntaxMapping {
             copies: HashMap::new(alloc),
+            stops: Stops::new(alloc),
         }
     }
 
@@ -57,14 +61,14 @@ impl SyntaxMapping {
     /// Refused for memory alone. The mapping is unchanged then, and the builder is gone.
     pub fn add_mapping(
         &mut self,
-        _alloc: Global,
+        alloc: Global,
         builder: SyntaxMappingBuilder,
     ) -> Result<(), AllocError>
         ensures ok { OnOk result (IsMadeOf (builder.pairs ++ self.old) self.new) }
         ensures err { OnErr result (self.new ≡ self.old) }
         ensures is_mapping { IsMapping self.new }
     {
-        self.take_in(builder.into_pairs())
+        self.take_in(alloc, builder.into_pairs())
     }
 
     /// Adds the pairs of another mapping. Where both map a node, `other`'s pair wins.
@@ -78,7 +82,7 @@ impl SyntaxMapping {
         // What is true of every mapping.
         let _ = &self.copies;
         let pairs = other.into_pairs(alloc)?;
-        self.take_in(pairs)
+        self.take_in(alloc, pairs)
     }
 
     /// An equal mapping.
@@ -90,7 +94,7 @@ impl SyntaxMapping {
         // What is true of every mapping.
         let _ = &self.copies;
         let mut clone = SyntaxMapping::new(alloc);
-        clone.take_in(self.cloned_pairs(alloc)?)?;
+        clone.take_in(alloc, self.cloned_pairs(alloc)?)?;
         Ok(clone)
     }
 
@@ -114,11 +118,12 @@ impl SyntaxMapping {
         let mut slots = Vec::new(alloc);
         let mut node = target.try_clone(alloc)?;
         'up: while node != *payload {
-            let Some((slot, parent)) = self.above(alloc, &node)? else {
+            let copy = self.copy_or_self(&node);
+            let Some(depth) = self.stops.above(copy, payload) else {
                 return Ok(None);
             };
-            slots.push(slot)?;
-            node = parent;
+            push_reversed(&mut slots, &copy.slots()[depth..])?;
+            node = node_above(alloc, copy, depth)?;
         }
         slots.reverse();
         Ok(Some(slots))
@@ -134,28 +139,18 @@ impl SyntaxMapping {
         }
     }
 
-    // The slot of the copy of a node, or of the node itself where it has none, and its parent; a root has none.
-    fn above(
-        &self,
-        alloc: Global,
-        node: &SyntaxNode,
-    ) -> Result<Option<(usize, SyntaxNode)>, AllocError>
-        ensures { IfOk result (IsAbove self.now (address node.now)) }
-    {
-        let copy = self.copy_or_self(node);
-        match copy.parent(alloc)? {
-            Some(parent) => Ok(Some((copy.index(), parent))),
-            None => Ok(None),
-        }
-    }
-
     // Takes up pairs, one after another.
-    fn take_in(&mut self, pairs: Vec<(SyntaxNode, SyntaxNode)>) -> Result<(), AllocError>
+    fn take_in(
+        &mut self,
+        alloc: Global,
+        pairs: Vec<(SyntaxNode, SyntaxNode)>,
+    ) -> Result<(), AllocError>
         requires { ArePairs pairs.items }
         ensures ok { OnOk result (IsMadeOf (reverse pairs.items ++ self.old) self.new) }
         ensures err { OnErr result (self.new ≡ self.old) }
         ensures is_mapping { IsMapping self.new }
     {
+        self.stops.insert_all(alloc, &pairs)?;
         put_all(&mut self.copies, pairs)
     }
 

@@ -1,13 +1,13 @@
 -- Annotated paths, and the elements that they lead to, by annotation.
---     one-more                      a table with one more element has it for its annotation
+--     one-less                      a table with one more element has it for its annotation, and one path is left less
 --     followed-more                 one more registered element is followed
 --     is_rewritten                  the annotated paths of a plan, from where its registered elements lead to
 --     found-in                      what an edit has for an annotation is what the table has
 use Rattle.std.specs.Prelude.{◌≡◌, All, ℕ, ◌+◌, ◌<◌, true, false, cond, nat_eq, List, [], ◌∷◌, ◌++◌, map, flat_map, filter, take, length, Vec, Some, IsSome, get_or, refl}
 use Rattle.std.specs.Global.{Global}
 use Rattle.std.proofs.Common.{ap, ap₂, sym, subst, ◌∙◌}
-use Rattle.std.proofs.lemmas.List.{take_more, map-append}
-use Rattle.std.proofs.lemmas.List.Elements.{filter-append, All-get_or}
+use Rattle.std.proofs.lemmas.List.{take_more, map-append, append-nil, append_assoc}
+use Rattle.std.proofs.lemmas.List.Elements.{All-get_or}
 use Rattle.cst_core.specs.Path.{Path}
 use Rattle.cst_core.specs.Tree.{SyntaxTree, at}
 use Rattle.cst_core.specs.Element.{Address, Element, NumbersTell, address}
@@ -28,15 +28,14 @@ use Rattle.edit_plan.proofs.Told.{all-told}
 use mathlib.Core.List.{map-map}
 
 -- ---- the paths of one annotation
-with-more : (a : ℕ) (ns : List (ℕ × Path)) (n : ℕ × Path) → paths_with a (ns ++ n ∷ []) ≡ paths_with a ns ++ cond (nat_eq n.0 a) (n.1 ∷ []) []
-with-more a ns n =
-    ap (map (λ m. m.1)) (filter-append (λ m. nat_eq m.0 a) ns (n ∷ [])) ∙ map-append (λ m. m.1) (filter (λ m. nat_eq m.0 a) ns) (filter (λ m. nat_eq m.0 a) (n ∷ [])) ∙ ap (λ ps. paths_with a ns ++ ps) (elim (nat_eq n.0 a) as (λ b. map (λ (m : ℕ × Path). m.1) (cond b (n ∷ []) []) ≡ cond b (n.1 ∷ []) []) [ true ↦ refl | false ↦ refl ])
-
-pub one-more : (root : Element) (ns : List (ℕ × Vec ℕ Global)) (i : ℕ) (n : ℕ × Vec ℕ Global) (e : SyntaxElement) (before after : ℕ → List SyntaxElement) → i < length ns → n ≡ get_or ns i n → Some e ≡ syntax_at root n.1.items → ((a : ℕ) → map Some (before a) ≡ map (syntax_at root) (paths_with a (map annotated_path (take i ns)))) → ((a : ℕ) → after a ≡ before a ++ cond (nat_eq n.0 a) (e ∷ []) []) → (a : ℕ) → map Some (after a) ≡ map (syntax_at root) (paths_with a (map annotated_path (take (i + 1) ns)))
-one-more root ns i n e before after lt is leads were are a =
-    let taken : map annotated_path (take (i + 1) ns) ≡ map annotated_path (take i ns) ++ annotated_path n ∷ [] = ap (map annotated_path) (take_more ns i n lt) ∙ map-append annotated_path (take i ns) (get_or ns i n ∷ []) ∙ ap (λ m. map annotated_path (take i ns) ++ annotated_path m ∷ []) (sym is) in
-    let own : map Some (cond (nat_eq n.0 a) (e ∷ []) []) ≡ map (syntax_at root) (cond (nat_eq n.0 a) (n.1.items ∷ []) []) = elim (nat_eq n.0 a) as (λ b. map (λ x. Some x) (cond b (e ∷ []) []) ≡ map (syntax_at root) (cond b (n.1.items ∷ []) [])) [ true ↦ ap (λ o. o ∷ []) leads | false ↦ refl ] in
-    ap (map (λ x. Some x)) (are a) ∙ map-append (λ x. Some x) (before a) (cond (nat_eq n.0 a) (e ∷ []) []) ∙ ap₂ (λ xs ys. xs ++ ys) (were a) own ∙ sym (map-append (syntax_at root) (paths_with a (map annotated_path (take i ns))) (cond (nat_eq n.0 a) (n.1.items ∷ []) [])) ∙ ap (map (syntax_at root)) (sym (ap (paths_with a) taken ∙ with-more a (map annotated_path (take i ns)) (annotated_path n)))
+-- one of them is found, and the others are left
+pub one-less : (root : Element) (a : ℕ) (n : ℕ × Path) (rest : List (ℕ × Path)) (e : SyntaxElement) (before after : List SyntaxElement) → Some e ≡ syntax_at root n.1 → after ≡ before ++ cond (nat_eq n.0 a) (e ∷ []) [] → map Some after ++ map (syntax_at root) (paths_with a rest) ≡ map Some before ++ map (syntax_at root) (paths_with a (n ∷ rest))
+one-less root a n rest e before after leads are =
+    let others = map (syntax_at root) (paths_with a rest) in
+    ap (λ es. map (λ x. Some x) es ++ others) are ∙ (elim (nat_eq n.0 a) as (λ b. map (λ x. Some x) (before ++ cond b (e ∷ []) []) ++ others ≡ map (λ x. Some x) before ++ map (syntax_at root) (map (λ (m : ℕ × Path). m.1) (cond b (n ∷ filter (λ m. nat_eq m.0 a) rest) (filter (λ m. nat_eq m.0 a) rest)))) [
+      | true ↦ ap (λ os. os ++ others) (map-append (λ x. Some x) before (e ∷ [])) ∙ append_assoc (map (λ x. Some x) before) (Some e ∷ []) others ∙ ap (λ o. map (λ x. Some x) before ++ o ∷ others) leads
+      | false ↦ ap (λ es. map (λ x. Some x) es ++ others) (append-nil before)
+    ])
 
 -- ---- where registered elements are followed to
 abbrev Tells : Mapping → SyntaxElement × ℕ → Type 0

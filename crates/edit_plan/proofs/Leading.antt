@@ -2,7 +2,7 @@
 --     topmost-there                 those of the topmost elements that pass a test
 --     numbered-lead                 those of copies, with annotations
 --     changed-there, annotated-there      those of the changed and of the annotated elements of a plan
---     leads, leads-pair             a path that leads to an element leads to its value; one with an annotation
+--     leads                         a path that leads to an element leads to its value
 use Rattle.std.specs.Prelude.{◌≡◌, ℕ, ◌<◌, ◌&&◌, not, Bool, true, false, List, [], ◌∷◌, ◌++◌, length, map, Vec, Some, None, option_map, is_some, IsSome, All, get_or, refl}
 use Rattle.std.specs.Global.{Global}
 use Rattle.std.specs.List.{AllByRecursion}
@@ -77,10 +77,3 @@ no-value-nowhere e q some none =
 -- where an element stands, its value is found
 pub leads : (e : Element) (q : Path) → IsElement (element_at e q) → syntax_at e q ≡ None → ⊥
 leads = no-value-nowhere
-
--- one of these paths with annotations, each of which leads to an element, leads to a value
-pub leads-pair : (e : Element) (ns : List (ℕ × Vec ℕ Global)) (i : ℕ) (n : ℕ × Vec ℕ Global) (q : Path) → e.path ≡ [] → All (λ m. IsElement (element_at e m.1)) (map annotated_path ns) → i < length ns → n ≡ get_or ns i n → q ≡ n.1.items → syntax_at e (e.path ++ q) ≡ None → ⊥
-leads-pair e ns i n q root there lt is same none =
-    let here : i < length (map annotated_path ns) = subst (λ k. i < k) (sym (length-map ns annotated_path)) lt in
-    let item : get_or (map annotated_path ns) i (annotated_path n) ≡ annotated_path n = get_or-map annotated_path ns i n (annotated_path n) lt ∙ sym (ap annotated_path is) in
-    no-value-nowhere e q (subst (λ p. IsSome (at e.root p)) (ap (λ m. m.1) item ∙ sym same) (there i (annotated_path n) here)) (ap (λ p. syntax_at e (p ++ q)) (sym root) ∙ none)

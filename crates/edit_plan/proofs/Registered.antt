@@ -1,79 +1,112 @@
 -- The table of registered elements.
---     address-true, address-other   addresses that are told to be the same are equal; and the other way round
---     kept                          what a table has after the entry at one address is exchanged
---     without, with-one             where a list was taken out; where it was put in again with more
+--     pushed-nothing, pushed-one    an empty list at the end; one mark more in a list
+--     found-same                    places that are added have no list
+--     leads-further                 the path of the place below another one
+--     entered, entered-unused       one mark more there; what has no place has no list
 --     all-ancestors                 what is put in at each ancestor, all together
 --     sought-more                   one registered element more
-use Rattle.std.specs.Prelude.{◌≡◌, ℕ, zero, suc, ◌+◌, Bool, true, false, ◌&&◌, cond, nat_eq, length, flat_map, List, [], ◌∷◌, ◌++◌, take, drop, Option, Some, None, Vec, refl}
+use Rattle.std.specs.Prelude.{◌≡◌, ◌≢◌, ℕ, zero, suc, ◌+◌, ◌<◌, ◌≤◌, Bool, true, false, ◌&&◌, cond, nat_eq, length, flat_map, List, [], ◌∷◌, ◌++◌, take, drop, get_or, option_and_then, Option, Some, None, Vec, refl}
 use Rattle.std.specs.Global.{Global}
 use Rattle.std.specs.Option.{option_map_or}
-use Rattle.std.proofs.lemmas.List.{append-nil, append_assoc}
-use Rattle.rewriting.specs.declared.mark.Sought.{Sought}
-use Rattle.rewriting.specs.inner.Marked.{Marking, sought_in}
-use Rattle.std.specs.Map.{lookup, KeepsOthers}
+use Rattle.std.proofs.lemmas.List.{append-nil, append_assoc, map-append}
+use Rattle.std.proofs.lemmas.Option.{none-some, same_Some, slice_get_past, slice_get-get_or}
+use Rattle.std.proofs.lemmas.Bool.{cases_Bool, cases_eq, cases_lt, eq-eqb, ne_eqb, true≢false}
 use Rattle.std.proofs.Common.{ap, ap₂, sym, ◌∙◌, arith}
-use Rattle.std.proofs.lemmas.Bool.{cases_Bool, eqb-true, true≢false, eq-eqb}
 use mathlib.Core.Logic.{inl, inr}
+use Rattle.rewriting.specs.declared.mark.Sought.{Sought}
+use Rattle.rewriting.specs.inner.Marked.{Marking, sought_as, sought_in, sought_for, HasOneMore, StaysElsewhere}
 use Rattle.cst_core.specs.Path.{Path, same_path, counted_from}
 use Rattle.cst_core.specs.Element.{Address, same_address}
-use Rattle.edit_plan.specs.inner.Sought.{spot, path_below, sought_one, sought_from}
-use Rattle.edit_plan.specs.declared.sought.Spot.{Spot}
+use Rattle.path_table.specs.PathTable.{place_below, place_at, size, IsTree, IsGrown}
+use Rattle.path_table.specs.declared.table.PathTable.{PathTable}
+use Rattle.path_table.proofs.PathTables.{place-push, path-is}
+use Rattle.edit_plan.specs.inner.Sought.{path_below, sought_one, sought_from}
 use Rattle.edit_change.proofs.Paths.{same_path-true, same_path_from}
 
-first-true : (b c : Bool) → (b && c) ≡ true → b ≡ true
-first-true true c h = refl
-first-true false c h = h
+-- ---- lists by place
+pub pushed-nothing : (ls : List (Vec Sought Global)) (v : Vec Sought Global) → v.items ≡ [] → (k : ℕ) → sought_for (ls ++ v ∷ []) k ≡ sought_for ls k
+pushed-nothing [] v empty zero = ap sought_in empty
+pushed-nothing [] v empty (suc k) = refl
+pushed-nothing (l ∷ ls) v empty zero = refl
+pushed-nothing (l ∷ ls) v empty (suc k) = pushed-nothing ls v empty k
 
-second-true : (b c : Bool) → (b && c) ≡ true → c ≡ true
-second-true true c h = h
-second-true false c h = absurd (true≢false (sym h))
+-- one of a list that is not empty
+some-of : {X : Type 0} (xs : List X) (i : ℕ) → i < length xs → X
+some-of [] i within = absurd (omega (arith, within))
+some-of (x ∷ xs) i within = x
 
-pub address-true : (a b : Address) → same_address a b ≡ true → a ≡ b
-address-true a b h =
-    ap₂ (λ n p. record { number = n; path = p }) (eqb-true a.number b.number (first-true (nat_eq a.number b.number) (same_path a.path b.path) h)) (same_path-true a.path b.path (second-true (nat_eq a.number b.number) (same_path a.path b.path) h))
+module _ (old new : List (Vec Sought Global)) (place : ℕ) (s : Sought) (size-same : length new ≡ length old) (within : place < length old) (here : HasOneMore old new place s) (elsewhere : StaysElsewhere old new place) where
+  abbrev d : Vec Sought Global
+  d = some-of old place within
 
-pub address-itself : (a : Address) → same_address a a ≡ true
-address-itself a = ap₂ (λ b c. b && c) (eq-eqb a.number a.number refl) (same_path_from a.path a.path refl)
+  listed : (ls : List (Vec Sought Global)) (k : ℕ) → k < length ls → sought_for ls k ≡ sought_in (get_or ls k d).items
+  listed ls k l = ap (λ o. option_map_or (λ v. sought_in v.items) o []) (slice_get-get_or ls k d l)
 
-address-turned : (a b : Address) → same_address a b ≡ false → same_address b a ≡ false
-address-turned a b h =
-    elim (cases_Bool (same_address b a)) [
-      | inl same ↦ absurd (true≢false (sym (ap (λ x. same_address a x) (address-true b a same) ∙ address-itself a) ∙ h))
-      | inr other ↦ other
-    ]
+  unlisted : (ls : List (Vec Sought Global)) (k : ℕ) → length ls ≤ k → sought_for ls k ≡ []
+  unlisted ls k l = ap (λ o. option_map_or (λ v. sought_in v.items) o []) (slice_get_past ls k l)
 
-abbrev alike : Spot → Spot → Bool
-alike x y = same_address (spot x) (spot y)
-
-module _ {X : Type 0} where
-  abbrev pub at_spot : List (Spot × X) → Address → Option X
-  at_spot es a = lookup (λ k. same_address a (spot k)) es
-
-  pub kept : (old new : List (Spot × X)) (key : Spot) (w : Option X) → at_spot new (spot key) ≡ w → KeepsOthers alike (alike key) old new → (a : Address) → at_spot new a ≡ cond (same_address (spot key) a) w (at_spot old a)
-  unfolding KeepsOthers
-  kept old new key w here others a =
-      elim (cases_Bool (same_address (spot key) a)) [
-        | inl same ↦ ap (at_spot new) (sym (address-true (spot key) a same)) ∙ here ∙ sym (ap (λ b. cond b w (at_spot old a)) same)
-        | inr other ↦ others (λ k. same_address a (spot k)) (λ x y h. ap (λ b. same_address b (spot y)) (address-true a (spot x) h)) (λ k h. ap (same_address a) (sym (address-true (spot key) (spot k) h)) ∙ address-turned (spot key) a other) ∙ sym (ap (λ b. cond b w (at_spot old a)) other)
+  pub pushed-one : (k : ℕ) → sought_for new k ≡ sought_for old k ++ cond (nat_eq place k) (sought_as s ∷ []) []
+  pushed-one k =
+      elim (cases_eq k place) [
+        | inl same ↦
+            let l : k < length old = omega (arith, same, within) in
+            let m : k < length new = omega (arith, l, size-same) in
+            listed new k m ∙ ap (λ i. sought_in (get_or new i d).items) same ∙ ap sought_in (here d) ∙ map-append sought_as (get_or old place d).items (s ∷ []) ∙ ap (λ i. sought_in (get_or old i d).items ++ sought_as s ∷ []) (sym same) ∙ ap (λ ms. ms ++ sought_as s ∷ []) (sym (listed old k l)) ∙ ap (λ b. sought_for old k ++ cond b (sought_as s ∷ []) []) (sym (eq-eqb place k (sym same)))
+        | inr other ↦ unchanged other ∙ sym (append-nil (sought_for old k)) ∙ ap (λ b. sought_for old k ++ cond b (sought_as s ∷ []) []) (sym (ne_eqb place k (λ e. other (sym e))))
       ]
+    where
+      unchanged : k ≢ place → sought_for new k ≡ sought_for old k
+      unchanged other =
+          elim (cases_lt k (length old)) [
+            | inl is ↦ listed new k (omega (arith, is, size-same)) ∙ ap sought_in (elsewhere k d other) ∙ sym (listed old k (omega (arith, is)))
+            | inr is ↦ unlisted new k (omega (arith, is, size-same)) ∙ sym (unlisted old k (omega (arith, is)))
+          ]
 
--- ---- lists of what is sought
-abbrev pub list_at : List (Spot × Vec Sought Global) → Address → List Marking
-list_at es a = option_map_or (λ v. sought_in v.items) (at_spot es a) []
+-- ---- one mark more at the place below another one
+pub leads-further : (t u : PathTable) → IsGrown t u → (p : Path) (place slot next : ℕ) → place_at t p ≡ Some place → place_below u place slot ≡ Some next → place_at u (p ++ slot ∷ []) ≡ Some next
+leads-further t u grown p place slot next at leads = place-push u (Some 0) p slot ∙ ap (λ o. option_and_then (λ n. place_below u n slot) o) (grown.stay p place at) ∙ leads
 
-pub without : (old new : List (Spot × Vec Sought Global)) (key : Spot) → at_spot new (spot key) ≡ None → KeepsOthers alike (alike key) old new → (a : Address) → list_at new a ≡ cond (same_address (spot key) a) [] (list_at old a)
-without old new key here others a =
-    ap (λ o. option_map_or (λ v. sought_in v.items) o []) (kept old new key None here others a) ∙ elim (same_address (spot key) a) as (λ b. option_map_or (λ (v : Vec Sought Global). sought_in v.items) (cond b None (at_spot old a)) [] ≡ cond b [] (list_at old a)) [ true ↦ refl | false ↦ refl ]
+module _ (t u : PathTable) (old new : ℕ → List Marking) (grown : IsGrown t u) (unused : (k : ℕ) → size t < k → old k ≡ []) where
+  found-same : (q : Path) → option_map_or old (place_at u q) [] ≡ option_map_or old (place_at t q) []
+  found-same q = go (place_at u q) (place_at t q) refl refl
+    where
+      go : (o w : Option ℕ) → place_at u q ≡ o → place_at t q ≡ w → option_map_or old o [] ≡ option_map_or old w []
+      go None None now was = refl
+      go None (Some k) now was = absurd (none-some k (sym now ∙ grown.stay q k was))
+      go (Some m) (Some k) now was = ap old (same_Some m k (sym now ∙ grown.stay q k was))
+      go (Some m) None now was =
+          elim (cases_lt (size t) m) [
+            | inl later ↦ unused m (omega (arith, later))
+            | inr older ↦ absurd (none-some m (sym was ∙ grown.older q m now (omega (arith, older))))
+          ]
 
--- a list taken out, one more put at its end, and the list put in again
-pub with-one : (old between new : List (Spot × Vec Sought Global)) (key : Spot) (list : Vec Sought Global) (ms ns : List Marking) → ms ≡ list_at old (spot key) → ((a : Address) → list_at between a ≡ cond (same_address (spot key) a) [] (list_at old a)) → sought_in list.items ≡ ms ++ ns → at_spot new (spot key) ≡ Some list → KeepsOthers alike (alike key) between new → (a : Address) → list_at new a ≡ list_at old a ++ cond (same_address (spot key) a) ns []
-with-one old between new key list ms ns was out more here others a =
-    ap (λ o. option_map_or (λ v. sought_in v.items) o []) (kept between new key (Some list) here others a) ∙ elim (cases_Bool (same_address (spot key) a)) [
-      | inl same ↦
-          ap (λ b. option_map_or (λ (v : Vec Sought Global). sought_in v.items) (cond b (Some list) (at_spot between a)) []) same ∙ more ∙ ap (λ qs. qs ++ ns) (was ∙ ap (list_at old) (address-true (spot key) a same)) ∙ sym (ap (λ b. list_at old a ++ cond b ns []) same)
-      | inr other ↦
-          ap (λ b. option_map_or (λ (v : Vec Sought Global). sought_in v.items) (cond b (Some list) (at_spot between a)) []) other ∙ out a ∙ ap (λ b. cond b [] (list_at old a)) other ∙ sym (append-nil (list_at old a)) ∙ sym (ap (λ b. list_at old a ++ cond b ns []) other)
-    ]
+  module _ (place slot next : ℕ) (m : Marking) (leads : place_below u place slot ≡ Some next) (more : (k : ℕ) → new k ≡ old k ++ cond (nat_eq next k) (m ∷ []) []) where
+    pub entered-unused : (k : ℕ) → size u < k → new k ≡ []
+    entered-unused k later =
+        let there : next ≤ size u = (grown.tree.steps place slot next leads).1 in
+        let apart : next ≢ k = omega (arith, later, there) in
+        more k ∙ ap₂ (λ ms b. ms ++ cond b (m ∷ []) []) (unused k (omega (arith, later, grown.longer))) (ne_eqb next k apart)
+
+    module _ (p : Path) (at : place_at t p ≡ Some place) where
+      entered-leads : place_at u (p ++ slot ∷ []) ≡ Some next
+      entered-leads = leads-further t u grown p place slot next at leads
+
+      pub entered : (q : Path) → option_map_or new (place_at u q) [] ≡ option_map_or old (place_at t q) [] ++ cond (same_path (p ++ slot ∷ []) q) (m ∷ []) []
+      entered q =
+          elim (cases_Bool (same_path (p ++ slot ∷ []) q)) [
+            | inl same ↦
+                let there : place_at u q ≡ Some next = ap (place_at u) (sym (same_path-true (p ++ slot ∷ []) q same)) ∙ entered-leads in
+                let before : old next ≡ option_map_or old (place_at t q) [] = ap (λ o. option_map_or old o []) (sym there) ∙ found-same q in
+                ap (λ o. option_map_or new o []) there ∙ more next ∙ ap₂ (λ ms b. ms ++ cond b (m ∷ []) []) before (eq-eqb next next refl ∙ sym same)
+            | inr other ↦ go other (place_at u q) refl ∙ found-same q ∙ sym (append-nil (option_map_or old (place_at t q) [])) ∙ ap (λ b. option_map_or old (place_at t q) [] ++ cond b (m ∷ []) []) (sym other)
+          ]
+        where
+          go : same_path (p ++ slot ∷ []) q ≡ false → (o : Option ℕ) → place_at u q ≡ o → option_map_or new (place_at u q) [] ≡ option_map_or old (place_at u q) []
+          go other None is = ap (λ o. option_map_or new o []) is ∙ sym (ap (λ o. option_map_or old o []) is)
+          go other (Some k) is =
+              let same-path : next ≡ k → p ++ slot ∷ [] ≡ q = λ e. sym (path-is u grown.tree (p ++ slot ∷ []) next entered-leads) ∙ ap grown.tree.paths.0 e ∙ path-is u grown.tree q k is in
+              let apart : next ≢ k = λ e. true≢false (sym (same_path_from (p ++ slot ∷ []) q (same-path e)) ∙ other) in
+              ap (λ o. option_map_or new o []) is ∙ more k ∙ ap (λ b. old k ++ cond b (m ∷ []) []) (ne_eqb next k apart) ∙ append-nil (old k) ∙ sym (ap (λ o. option_map_or old o []) is)
 
 -- ---- a registered element, put in at each element above it
 -- what is put in at the ancestor whose path has this length

@@ -1,6 +1,6 @@
 //! The annotations of the new tree, from the copies of registered elements.
 
-ghost use Rattle.std.specs.Prelude.{◌≡◌, [], map, length, All, IfOk, OnOk};
+ghost use Rattle.std.specs.Prelude.{◌≡◌, map, length, All, IfOk, OnOk};
 ghost use Rattle.cst_core.specs.Element.{IsElement, element_at};
 ghost use Rattle.edit_plan.specs.Engine.{annotated_path};
 ghost use Rattle.edit_plan.specs.inner.Marks.{Annotates, AreNumbered, LeadByAnnotation};
@@ -14,15 +14,14 @@ use std::alloc::{AllocError, Global};
 
 // One annotation with each of these paths.
 fn push_annotated(
-    alloc: Global,
     found: &mut Vec<(SyntaxAnnotation, Vec<usize>)>,
     annotation: SyntaxAnnotation,
-    paths: &[Vec<usize>],
+    paths: Vec<Vec<usize>>,
 ) -> Result<(), AllocError>
-    ensures { OnOk result (Annotates found.old found.new annotation paths.now) }
+    ensures { OnOk result (Annotates found.old found.new annotation paths.items) }
 {
     for path in paths {
-        found.push((annotation, Vec::from_slice(alloc, path)?))?;
+        found.push((annotation, path))?;
     }
     Ok(())
 }
@@ -31,14 +30,16 @@ fn push_annotated(
 fn numbered_paths(
     alloc: Global,
     annotations: &[SyntaxAnnotation],
-    copies: &[Vec<Vec<usize>>],
+    copies: Vec<Vec<Vec<usize>>>,
 ) -> Result<Vec<(SyntaxAnnotation, Vec<usize>)>, AllocError>
-    requires { length copies.now ≡ length annotations.now }
-    ensures { IfOk result (AreNumbered annotations.now copies.now) }
+    requires { length copies.items ≡ length annotations.now }
+    ensures { IfOk result (AreNumbered annotations.now copies.items) }
 {
     let mut found = Vec::new(alloc);
-    for number in 0..annotations.len() {
-        push_annotated(alloc, &mut found, annotations[number], &copies[number])?;
+    let mut number = 0;
+    for paths in copies {
+        push_annotated(&mut found, annotations[number], paths)?;
+        number += 1;
     }
     Ok(found)
 }
@@ -56,15 +57,14 @@ fn annotations(
         .collect(alloc)
 }
 
-/// Each registration's annotation with each path of a list for it, by registration. Takes time linear in the paths and their
-/// lengths.
+/// Each registration's annotation with each path of a list for it, by registration. Takes time linear in the paths, which are moved.
 pub(crate) fn annotated_paths(
     alloc: Global,
     registrations: &[(SyntaxElement, SyntaxAnnotation)],
-    copies: &[Vec<Vec<usize>>],
+    copies: Vec<Vec<Vec<usize>>>,
 ) -> Result<Vec<(SyntaxAnnotation, Vec<usize>)>, AllocError>
-    requires { length copies.now ≡ length registrations.now }
-    ensures { IfOk result (AreNumbered (map (λ r. r.1) registrations.now) copies.now) }
+    requires { length copies.items ≡ length registrations.now }
+    ensures { IfOk result (AreNumbered (map (λ r. r.1) registrations.now) copies.items) }
 {
     let annotations = annotations(alloc, registrations)?;
     numbered_paths(alloc, &annotations, copies)
@@ -90,16 +90,15 @@ pub(crate) fn registered_copies(
 pub(crate) fn elements_by_annotation(
     alloc: Global,
     root: &SyntaxNode,
-    annotated: &[(SyntaxAnnotation, Vec<usize>)],
+    annotated: Vec<(SyntaxAnnotation, Vec<usize>)>,
 ) -> Result<AnnotationTable, AllocError>
-    requires is_root { root.now.path ≡ [] }
-    requires there { All (λ n. IsElement (element_at root.now n.1)) (map annotated_path annotated.now) }
-    ensures { IfOk result (LeadByAnnotation root.now annotated.now) }
+    requires { All (λ n. IsElement (element_at root.now n.1)) (map annotated_path annotated.items) }
+    ensures { IfOk result (LeadByAnnotation root.now annotated.items) }
 {
     let mut table = AnnotationTable::new(alloc);
     for (annotation, path) in annotated {
-        match root.element_at(alloc, path)? {
-            Some(element) => table.add(alloc, *annotation, element)?,
+        match root.element_of_tree(alloc, path)? {
+            Some(element) => table.add(alloc, annotation, element)?,
             None => unreachable!(),
         }
     }

@@ -39,9 +39,9 @@ fn rewritten_element(
     ensures marks { OnOk result (FindsElement given.now aims.now index.now element.now found.old found.new) }
 {
     let old = element.green(alloc)?;
-    let sought = index.at(alloc, element)?;
+    let sought = index.at(element);
     let mut path = Vec::new(alloc);
-    let new = rebuild(alloc, found, &mut path, &old, aims, &sought, given, builds)?;
+    let new = rebuild(alloc, found, &mut path, &old, aims, sought, given, builds)?;
     Ok(new)
 }
 

@@ -29,7 +29,7 @@ pub struct EditPlan {
 
 impl Model for EditPlan {
     ghost use Rattle.edit_plan.specs.Plan.{Plan, new_plan, plan_code};
-    ghost use Rattle.edit_plan.specs.inner.PlanRun.{IsPlanned};
+    ghost use Rattle.edit_plan.specs.inner.PlanRun.{IsPlanKept};
 
     ghost Value = { Plan };
 
@@ -37,7 +37,7 @@ impl Model for EditPlan {
 
     ghost view = { λ a. new_plan a.root a.changes a.registrations a.mapping };
 
-    ghost invariant = { λ a. IsPlanned (new_plan a.root a.changes a.registrations a.mapping) a.fates.items a.places.items };
+    ghost invariant = { λ a. IsPlanKept a.root a.changes a.registrations a.mapping a.fates a.places };
 }
 
 impl EditPlan {

@@ -87,7 +87,7 @@ impl EditPlan {
         let mut own = TreeIds::new(next_number(ids));
         let new_root = SyntaxNode::new_root(alloc, &mut own, green)?;
         let changed = elements_at(alloc, &new_root, changed)?;
-        let annotated = elements_by_annotation(alloc, &new_root, &annotated)?;
+        let annotated = elements_by_annotation(alloc, &new_root, annotated)?;
         let old_root = self.root.try_clone(alloc)?;
         ids.next();
         Ok(SyntaxEdit {
@@ -126,7 +126,7 @@ impl EditPlan {
             copies,
             changed,
         } = self.marked_tree(alloc, &registered, builds)?;
-        let annotated = annotated_paths(alloc, &self.registrations, &copies)?;
+        let annotated = annotated_paths(alloc, &self.registrations, copies)?;
         Ok(Rewritten {
             green,
             changed,
@@ -192,8 +192,8 @@ impl EditPlan {
     {
         let root = SyntaxElement::Node(self.root.try_clone(alloc)?);
         let old = root.green(alloc)?;
-        let sought = index.at(alloc, &root)?;
-        let rebuilt = rebuild_whole(alloc, &old, aims, &sought, given, builds)?;
+        let sought = index.at(&root);
+        let rebuilt = rebuild_whole(alloc, &old, aims, sought, given, builds)?;
         Ok(rebuilt)
     }
 

@@ -1,75 +1,35 @@
 //! Registered elements, looked up by what is above them.
 
-ghost use Rattle.std.specs.Prelude.{◌≡◌, true, [], IfOk, OnOk};
+ghost use Rattle.std.specs.Prelude.{◌≡◌, ◌≤◌, ◌<◌, ℕ, true, [], length, OnOk, IfOk};
 ghost use Rattle.cst_core.specs.Element.{Address, address};
 ghost use Rattle.cst_core.specs.SyntaxElement.{element_of};
-ghost use Rattle.rewriting.specs.inner.Marked.{sought_as, sought_in};
-ghost use Rattle.edit_plan.specs.inner.Sought.{addresses, spot, sought_from, sought_at, IsTaken, HasMarkMore, HasRegisteredMore};
+ghost use Rattle.path_table.specs.PathTable.{size};
+ghost use Rattle.rewriting.specs.inner.Marked.{sought_as, sought_in, HasOneMore, StaysElsewhere};
+ghost use Rattle.edit_plan.specs.inner.Sought.{addresses, sought_from, sought_at, IsIndex, HasSameLists};
+ghost use Rattle.edit_plan.specs.inner.Sought.{IsEntered, HasRegisteredMore};
 
 use cst_core::SyntaxElement;
+use path_table::PathTable;
 use rewriting::Sought;
 use std::alloc::{AllocError, Global};
-use std::collections::HashMap;
-use std::hash::{Hash, Hasher};
-
-// Where an element stands: the number of its tree, and its path.
-#[derive(Drop)]
-struct Spot {
-    number: u64,
-    path: Vec<usize>,
-}
-
-impl PartialEq for Spot {
-    ghost use Rattle.std.specs.Prelude.{◌==◌};
-    ghost use Rattle.std.proofs.Common.{rules};
-    ghost use Rattle.std.specs.Cmp.Rules.{comparing};
-    ghost use Rattle.std.specs.Cmp.Lexicographic.{pointwise};
-    ghost use Rattle.std.specs.Ordering.{on, eq_of_both};
-
-    ghost eq = { eq_of_both (on (λ s. s.number) ◌==◌) (on (λ s. s.path.items) (pointwise ◌==◌)) };
-
-    ghost laws = { Prim.search (comparing, rules) };
-
-    fn eq(&self, other: &Spot) -> bool {
-        self.number == other.number && self.path == other.path
-    }
-}
-
-impl Eq for Spot {
-    ghost use Rattle.std.proofs.Common.{rules};
-    ghost use Rattle.std.specs.Cmp.Rules.{comparing};
-
-    ghost laws = { Prim.search (comparing, rules) };
-}
-
-impl Hash for Spot {
-    ghost use Rattle.std.specs.Prelude.{◌++◌};
-    ghost use Rattle.std.proofs.Common.{rules};
-    ghost use Rattle.std.specs.Cmp.Rules.{hashing};
-    ghost use Rattle.std.specs.Hash as fed;
-
-    ghost hash_input = { λ s. fed.u64 s.number ++ fed.slice fed.usize s.path.items };
-
-    ghost respects_eq = { Prim.search (hashing, rules) };
-
-    fn hash<H: Hasher>(&self, state: &mut H) {
-        self.number.hash(state);
-        self.path.hash(state);
-    }
-}
 
 /// The registered elements at an element or below it, by that element. An element is told by its tree number and its path.
 #[derive(Drop)]
 pub(crate) struct SoughtIndex<'a> {
-    lists: HashMap<Spot, Vec<Sought<'a>>>,
+    // The tree's number comes first on the path, and then come the slots.
+    places: PathTable,
+    // By place.
+    lists: Vec<Vec<Sought<'a>>>,
 }
 
 impl<'a> SoughtIndex<'a> {
     fn new(alloc: Global) -> SoughtIndex<'a>
-        ensures { (a : Address) → sought_at result a ≡ [] }
+        ensures index { IsIndex result }
+        ensures empty { (a : Address) → sought_at result a ≡ [] }
     {
         SoughtIndex {
-            lists: HashMap::new(alloc),
+            places: PathTable::new(alloc),
+            lists: Vec::new(alloc),
         }
     }
 
@@ -80,46 +40,65 @@ impl<'a> SoughtIndex<'a> {
         self.lists.is_empty()
     }
 
-    // The list at a spot, which is taken out.
-    fn take(&mut self, alloc: Global, key: &Spot) -> Vec<Sought<'a>>
-        ensures list { sought_in result.items ≡ sought_at self.old (spot key.now) }
-        ensures elsewhere { IsTaken self.old self.new (spot key.now) }
+    /// What is registered at an element or below it, with the paths from there.
+    pub(crate) fn at(&self, element: &SyntaxElement) -> &[Sought<'a>]
+        ensures { sought_in result.now ≡ sought_at self.now (address (element_of element.now)) }
     {
-        match self.lists.remove(key) {
-            Some(list) => list,
-            None => Vec::new(alloc),
+        let tree = self
+            .places
+            .below(self.places.top(), element.tree() as usize);
+        let Some(place) = self.places.descend(tree, element.slots()) else {
+            return &[];
+        };
+        if place >= self.lists.len() {
+            return &[];
         }
+        self.lists[place].as_slice()
     }
 
-    // One more mark at a spot.
-    fn add(&mut self, alloc: Global, key: Spot, mark: Sought<'a>) -> Result<(), AllocError>
-        ensures { OnOk result (HasMarkMore self.old self.new (spot key) (sought_as mark.entry)) }
+    // Lists for the places up to this one.
+    fn make_room(&mut self, alloc: Global, place: usize) -> Result<(), AllocError>
+        ensures places { self.new.places ≡ self.old.places }
+        ensures lists { HasSameLists self.old self.new }
+        ensures room { OnOk result (place < length self.new.lists.items) }
     {
-        let mut list = self.take(alloc, &key);
-        list.push(mark)?;
-        self.lists.insert(key, list)?;
+        for _ in self.lists.len()..place {
+            self.lists.push(Vec::new(alloc))?;
+        }
+        if self.lists.len() == place {
+            self.lists.push(Vec::new(alloc))?;
+        }
         Ok(())
     }
 
-    /// What is registered at an element or below it, with the paths from there.
-    pub(crate) fn at(
-        &self,
-        alloc: Global,
-        element: &SyntaxElement,
-    ) -> Result<Vec<Sought<'a>>, AllocError>
-        ensures { IfOk result (λ v. sought_in v.items ≡ sought_at self.now (address (element_of element.now))) }
+    // One more mark in the list of a place.
+    fn push_at(&mut self, place: usize, mark: Sought<'a>) -> Result<(), AllocError>
+        requires { place < length self.now.lists.items }
+        ensures places { self.new.places ≡ self.old.places }
+        ensures size { length self.new.lists.items ≡ length self.old.lists.items }
+        ensures here { OnOk result (HasOneMore self.old.lists.items self.new.lists.items place mark.entry) }
+        ensures elsewhere { OnOk result (StaysElsewhere self.old.lists.items self.new.lists.items place) }
     {
-        if self.is_empty() {
-            return Ok(Vec::new(alloc));
-        }
-        let key = Spot {
-            number: element.tree(),
-            path: element.path(alloc)?,
-        };
-        match self.lists.get(&key) {
-            Some(list) => Vec::from_slice(alloc, list),
-            None => Ok(Vec::new(alloc)),
-        }
+        self.lists[place].push(mark)?;
+        Ok(())
+    }
+
+    // One more mark at the place below another one, at a slot.
+    fn enter(
+        &mut self,
+        alloc: Global,
+        place: usize,
+        slot: usize,
+        mark: Sought<'a>,
+    ) -> Result<usize, AllocError>
+        requires index { IsIndex self.old }
+        requires here { place ≤ size self.old.places }
+        ensures { IfOk result (λ next. IsEntered self.old self.new place slot (sought_as mark.entry) next) }
+    {
+        let next = self.places.enter(place, slot)?;
+        self.make_room(alloc, next)?;
+        self.push_at(next, mark)?;
+        Ok(next)
     }
 
     // One registered element, at each element above it and at itself.
@@ -129,21 +108,25 @@ impl<'a> SoughtIndex<'a> {
         number: usize,
         element: &'a SyntaxElement,
     ) -> Result<(), AllocError>
-        ensures { OnOk result (HasRegisteredMore self.old self.new number (address (element_of element.now))) }
+        requires { IsIndex self.old }
+        ensures index { OnOk result (IsIndex self.new) }
+        ensures more { OnOk result (HasRegisteredMore self.old self.new number (address (element_of element.now))) }
     {
-        let slots = element.slots();
-        for depth in 0..slots.len() + 1 {
-            let (above, path) = slots.split_at(depth);
-            let key = Spot {
-                number: element.tree(),
-                path: Vec::from_slice(alloc, above)?,
+        let path = element.slots();
+        let tree = element.tree() as usize;
+        let mut place = self.enter(alloc, 0, tree, Sought { number, path })?;
+        for depth in 0..path.len() {
+            let (_, below) = path.split_at(depth + 1);
+            let mark = Sought {
+                number,
+                path: below,
             };
-            self.add(alloc, key, Sought { number, path })?;
+            place = self.enter(alloc, place, path[depth], mark)?;
         }
         Ok(())
     }
 
-    /// The table of these elements, each by its number. Takes for each one time that is quadratic in the length of its path.
+    /// The table of these elements, each by its number. Takes for each one time that is linear in the length of its path.
     pub(crate) fn of(
         alloc: Global,
         elements: &'a [SyntaxElement],

@@ -4,7 +4,8 @@
 --     empty-tree                    a table of nothing
 --     leads-on, enter-more          what a path leads to stays where steps are added; one slot more then
 --     grown                         one place more, below a place that had none at this slot
---     within-at                     a path leads to a place that there is
+--     is-older                      a place that was there is led to as before
+--     within-at, path-is            a path leads to a place that there is, which has this path
 --     entered, entered-tree         a number put at the place of a path
 use Rattle.std.specs.Prelude.{◌≡◌, ◌≢◌, ℕ, ◌+◌, ◌<◌, ◌≤◌, true, false, ◌&&◌, cond, nat_eq, [], ◌∷◌, ◌++◌, length, option_and_then, Option, Some, None, IfSome, refl}
 use Rattle.std.specs.List.{fold}
@@ -17,19 +18,19 @@ use Rattle.std.proofs.lemmas.Option.{none-some, same_Some}
 use mathlib.Core.Logic.{inl, inr}
 use lib.Pointwise.{pointwise_decides}
 use Rattle.green_tree.specs.Path.{Path, same_path}
-use Rattle.path_table.specs.PathTable.{place_below, next_place, place_at, number_in, number_by_path, size, IsTree, IsGrown}
+use Rattle.path_table.specs.PathTable.{place_below, next_place, place_further, place_at, number_in, number_by_path, size, IsTree, IsGrown}
 use Rattle.path_table.specs.declared.table.PathTable.{PathTable}
 
-pub place-push : (t : PathTable) (p : Path) (i : ℕ) → place_at t (p ++ i ∷ []) ≡ next_place t (place_at t p) i
-place-push t p i = fold-append (next_place t) (Some 0) p (i ∷ [])
+pub place-push : (t : PathTable) (o : Option ℕ) (p : Path) (i : ℕ) → place_further t o (p ++ i ∷ []) ≡ next_place t (place_further t o p) i
+place-push t o p i = fold-append (next_place t) o p (i ∷ [])
 
 pub none-below : (t : PathTable) (p : Path) → fold (next_place t) None p ≡ None
 none-below t [] = refl
 none-below t (i ∷ p) = none-below t p
 
-pub place-more : (t : PathTable) (p : Path) (k : ℕ) (o : Option ℕ) → k < length p → o ≡ place_at t (take k p) → next_place t o (get_or p k 0) ≡ place_at t (take (k + 1) p)
-place-more t p k o l is =
-    ap (λ place. next_place t place (get_or p k 0)) is ∙ sym (ap (place_at t) (take_more p k 0 l) ∙ place-push t (take k p) (get_or p k 0))
+pub place-more : (t : PathTable) (from : Option ℕ) (p : Path) (k : ℕ) (o : Option ℕ) → k < length p → o ≡ place_further t from (take k p) → next_place t o (get_or p k 0) ≡ place_further t from (take (k + 1) p)
+place-more t from p k o l is =
+    ap (λ place. next_place t place (get_or p k 0)) is ∙ sym (ap (place_further t from) (take_more p k 0 l) ∙ place-push t from (take k p) (get_or p k 0))
 
 -- ---- a table of nothing
 pub empty-tree : (t : PathTable) → t.steps.entries ≡ [] → t.numbers.entries ≡ [] → IsTree t
@@ -54,7 +55,7 @@ module _ (t u : PathTable) (steps : (n i m : ℕ) → place_below t n i ≡ Some
 
 pub enter-more : (t u : PathTable) (p : Path) (k n m : ℕ) → k < length p → place_at t (take k p) ≡ Some n → IsGrown t u → place_below u n (get_or p k 0) ≡ Some m → place_at u (take (k + 1) p) ≡ Some m
 enter-more t u p k n m l leads grown below =
-    sym (place-more u p k (Some n) l (sym (leads-on t u grown.steps (Some 0) (take k p) n leads))) ∙ below
+    sym (place-more u (Some 0) p k (Some n) l (sym (leads-on t u grown.steps (Some 0) (take k p) n leads))) ∙ below
 
 -- ---- one place more
 module _ (t u : PathTable) (n s : ℕ) (tree : IsTree t) (here : n ≤ size t) (free : place_below t n s ≡ None) (more : size u ≡ size t + 1) (same : u.numbers.entries ≡ t.numbers.entries) (put : (a i : ℕ) → place_below u a i ≡ cond (nat_eq n a && nat_eq s i) (Some (size t + 1)) (place_below t a i)) where
@@ -113,6 +114,20 @@ module _ (t u : PathTable) (n s : ℕ) (tree : IsTree t) (here : n ≤ size t) (
             | inr old ↦ ap (λ o. number_in u (fold (next_place u) o p)) (at-old a i old) ∙ rest
           ]
 
+  -- a place that was there before is led to as before
+  is-older : (o : Option ℕ) (p : Path) (m : ℕ) → place_further u o p ≡ Some m → m ≤ size t → place_further t o p ≡ Some m
+  is-older None p m h l = absurd (none-some m (sym (none-below u p) ∙ h))
+  is-older (Some a) [] m h l = h
+  is-older (Some a) (i ∷ p) m h l =
+      elim (cases_Bool (nat_eq n a && nat_eq s i)) [
+        | inl new ↦ absurd (not-new p (sym (ap (λ o. place_further u o p) (at-new a i new)) ∙ h))
+        | inr old ↦ is-older (place_below t a i) p m (sym (ap (λ o. place_further u o p) (at-old a i old)) ∙ h) l
+      ]
+    where
+      not-new : (p : Path) → place_further u (Some (size t + 1)) p ≡ Some m → ⊥
+      not-new [] h = let is : size t + 1 ≡ m = same_Some (size t + 1) m h in omega (arith, is, l)
+      not-new (j ∷ q) h = none-some m (sym (ap (λ o. place_further u o q) (nothing-below j) ∙ none-below u q) ∙ h)
+
   steps-more : (a i m : ℕ) → place_below u a i ≡ Some m → (a ≤ size u) × (m ≤ size u)
   steps-more a i m h =
       elim (cases_Bool (nat_eq n a && nat_eq s i)) [
@@ -149,6 +164,9 @@ module _ (t u : PathTable) (n s : ℕ) (tree : IsTree t) (here : n ≤ size t) (
   pub grown : IsGrown t u
   grown = record {
     steps = steps-stay;
+    longer = omega (arith, more);
+    stay = leads-on t u steps-stay (Some 0);
+    older = is-older (Some 0);
     numbers = λ p. numbers-stay (Some 0) p;
     tree = record {
       steps = steps-more;
@@ -201,7 +219,7 @@ module _ (t : PathTable) (tree : IsTree t) where
       go (Some k) is rest =
           rest k (ap (λ o. fold (next_place t) o p) (sym is) ∙ h) ∙ ap (λ q. q ++ p) (tree.paths.2 a i k is) ∙ append_assoc (tree.paths.0 a) (i ∷ []) p
 
-  path-is : (p : Path) (m : ℕ) → place_at t p ≡ Some m → tree.paths.0 m ≡ p
+  pub path-is : (p : Path) (m : ℕ) → place_at t p ≡ Some m → tree.paths.0 m ≡ p
   path-is p m h = path-told 0 p m h ∙ ap (λ q. q ++ p) tree.paths.1
 
   -- ---- a number put at the place of a path

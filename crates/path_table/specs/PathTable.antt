@@ -1,12 +1,12 @@
 -- Numbers by path, as a table in code has them.
 --     place_below, next_place       the place below a place, at a slot; below a place that may be missing
---     place_at                      the place that a path leads to from the top, if there is one
+--     place_further, place_at       the place that a path leads to from a place that may be missing; from the top, if there is one
 --     number_in, number_by_path     the number of a place that may be missing; that of the place of a path
 --     SameNumbers, IsPut            two tables have the same number at each path; one path has this number now, and the others what they had
 --     size                          how many places there are below the top
 --     HasPaths                      each place can be told its path, which is that of the place above it with one slot more
 --     IsTree                        such a table, in which no other places are named than there are
---     IsGrown                       with more places, which have no number
+--     IsGrown                       with more places, which have no number, and are counted after the older ones
 use Rattle.std.specs.Prelude.{◌≡◌, ℕ, ◌≤◌, ◌&&◌, cond, nat_eq, [], ◌∷◌, ◌++◌, option_and_then, Option, Some}
 use Rattle.std.specs.List.{fold}
 use Rattle.std.specs.HashMap.{get_by, hash_map_len}
@@ -19,8 +19,11 @@ place_below t n i = get_by (λ k. nat_eq n k.0 && nat_eq i k.1) t.steps
 abbrev pub next_place : PathTable → Option ℕ → ℕ → Option ℕ
 next_place t place i = option_and_then (λ n. place_below t n i) place
 
+abbrev pub place_further : PathTable → Option ℕ → Path → Option ℕ
+place_further t place p = fold (next_place t) place p
+
 abbrev pub place_at : PathTable → Path → Option ℕ
-place_at t p = fold (next_place t) (Some 0) p
+place_at t p = place_further t (Some 0) p
 
 abbrev pub number_in : PathTable → Option ℕ → Option ℕ
 number_in t place = option_and_then (λ n. get_by (nat_eq n) t.numbers) place
@@ -47,5 +50,8 @@ pub record IsTree (t : PathTable) : Type 0 where
 
 pub record IsGrown (before after : PathTable) : Type 0 where
   pub steps : (n i m : ℕ) → place_below before n i ≡ Some m → place_below after n i ≡ Some m
+  pub longer : size before ≤ size after
+  pub stay : (p : Path) (m : ℕ) → place_at before p ≡ Some m → place_at after p ≡ Some m
+  pub older : (p : Path) (m : ℕ) → place_at after p ≡ Some m → m ≤ size before → place_at before p ≡ Some m
   pub numbers : SameNumbers before after
   pub tree : IsTree after

@@ -1,6 +1,7 @@
 ghost use Rattle.std.specs.Prelude.{◌≡◌, ◌≤◌, None, Some, OnOk, OnErr, IfOk};
 ghost use Rattle.green_tree.specs.Path.{Path};
-ghost use Rattle.path_table.specs.PathTable.{place_below, next_place, number_in, number_by_path, SameNumbers, IsPut, size, IsTree, IsGrown};
+ghost use Rattle.path_table.specs.PathTable.{place_below, next_place, place_further, number_in, number_by_path};
+ghost use Rattle.path_table.specs.PathTable.{SameNumbers, IsPut, size, IsTree, IsGrown};
 
 use std::alloc::{AllocError, Global};
 use std::collections::HashMap;
@@ -48,19 +49,28 @@ impl PathTable {
         self.numbers.get(&place?).copied()
     }
 
+    /// The place that a path leads to from a place; `None` from none, and where the table has nothing.
+    pub fn descend(&self, place: Option<usize>, path: &[usize]) -> Option<usize>
+        ensures { result ≡ place_further self.now place path.now }
+    {
+        let mut place = place;
+        for slot in path {
+            place = self.below(place, *slot);
+        }
+        place
+    }
+
     /// The number at a path, if there is one.
     pub fn get(&self, path: &[usize]) -> Option<usize>
         ensures { result ≡ number_by_path self.now path.now }
     {
-        let mut place = self.top();
-        for slot in path {
-            place = self.below(place, *slot);
-        }
-        self.number(place)
+        self.number(self.descend(self.top(), path))
     }
 
-    // The place below a place, at a slot, which is made if there is none.
-    fn enter(&mut self, place: usize, slot: usize) -> Result<usize, AllocError>
+    /// The place below a place, at a slot. Where there is none it is made, has no number, and gets the next place's number.
+    ///
+    /// Refused for memory alone. The places are as they were then.
+    pub fn enter(&mut self, place: usize, slot: usize) -> Result<usize, AllocError>
         requires tree { IsTree self.old }
         requires here { place ≤ size self.old }
         ensures leads { IfOk result (λ m. place_below self.new place slot ≡ Some m) }

@@ -25,7 +25,7 @@ other_way i j =
       | inr other ↦ ne_eqb j i other ∙ sym (ne_eqb i j (λ e. other (sym e)))
     ]
 
-abbrev above : List Placed → List Path
+abbrev pub above : List Placed → List Path
 above xs = parents_of (map of_placed xs)
 
 parent-end : (p : Path) (m : ℕ) → parent_path (p ++ m ∷ []) ≡ p
@@ -79,12 +79,12 @@ and_those-above : (a : Option Placed) (xs : List Placed) → above (and_those a 
 and_those-above None xs = refl
 and_those-above (Some a) xs = ap (λ ps. ps ++ above xs) (append-nil (parents (aim_in a.path a.form)))
 
-above-below : (i : ℕ) (xs : List Placed) → inside i (above xs) ≡ above (placed_below i xs)
+pub above-below : (i : ℕ) (xs : List Placed) → inside i (above xs) ≡ above (placed_below i xs)
 above-below i [] = refl
 above-below i (x ∷ xs) =
     inside-append i (parents (aim_in x.path x.form)) (above xs) ∙ ap₂ (λ ps qs. ps ++ qs) (own i x.change x.path x.form) (above-below i xs) ∙ and_those-above (seen_from i x) (placed_below i xs)
 
-above-placed : (xs : List Aimed) → above (map placed xs) ≡ parents_of (aims_of xs)
+pub above-placed : (xs : List Aimed) → above (map placed xs) ≡ parents_of (aims_of xs)
 above-placed [] = refl
 above-placed (x ∷ xs) = ap (λ ps. parents (aim_in x.path.now x.form) ++ ps) (above-placed xs)
 

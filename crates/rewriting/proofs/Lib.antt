@@ -7,6 +7,7 @@ pub mod Built
 pub mod Counted
 pub mod Touched
 pub mod Untouched
+pub mod BelowSlot
 pub mod ChildByChild
 pub mod Tops
 pub mod Marks

@@ -10,7 +10,8 @@ use Rattle.green_tree.specs.Tree.{SyntaxTree, Token, forest, node}
 use Rattle.rewriting.specs.Rewriting.{NumberedAim, rewritten, rewritten_from}
 use Rattle.rewriting.specs.declared.mark.Sought.{Sought}
 use Rattle.rewriting.specs.inner.Marked.{MarkTree, Marking, marked, mark_below, sought_in, marks_at, wanted, seen_below, sought_below, AreDealt}
-use Rattle.rewriting.proofs.Marks.{shown, marks-parent, marks-token}
+use Rattle.rewriting.proofs.Marks.{shown, marks-parent, marks-token, marks-none}
+use Rattle.rewriting.proofs.Untouched.{untouched}
 
 -- ---- as they are seen from a child
 one_below : (i : ℕ) (p : Path) (n : ℕ) (q : Path) (ms bs : List Marking) → marks_at ms (i ∷ p) ≡ marks_at bs p → marks_at ((n, q) ∷ ms) (i ∷ p) ≡ marks_at (seen_below i n q ++ bs) p
@@ -52,6 +53,11 @@ module _ (path : Path) (sought : List Marking) (trees : ℕ → List MarkTree) (
       let grouped : before ++ here ++ shown path 0 us ≡ before ++ (here ++ shown path 0 us) = append_assoc before here (shown path 0 us) in
       let whole : here ++ shown path 0 us ≡ all_marks (node k ts) = ap (λ ms. ms ++ shown path 0 us) (below_here path ns) ∙ sym (map-append (mark_below path) (map (λ m. (m, [])) ns) _) ∙ ap (map (mark_below path)) (sym (marks-parent ns us)) in
       h ∙ grouped ∙ ap (λ ms. before ++ ms) whole ∙ ap (λ u. before ++ all_marks u) (sym is)
+
+-- ---- where nothing is sought
+pub unsought : (path : Path) (found : List Marking) (sought : List Sought) (t : SyntaxTree) → length sought ≡ 0 → found ≡ found ++ map (mark_below path) (marked (rewritten (wanted (sought_in sought)) (λ c. []) [] [] t))
+unsought path found [] t h = sym (append-nil found) ∙ ap (λ ms. found ++ map (mark_below path) ms) (sym (ap marked (untouched (λ k. []) (λ c. []) [] refl [] t) ∙ marks-none t))
+unsought path found (m ∷ ms) t h = absurd (omega (arith, h))
 
 -- ---- what was dealt out to a child
 list_there : {X : Type 0} (xs : List X) (k : ℕ) → k < length xs → (x : X) × (slice_get xs k ≡ Some x)

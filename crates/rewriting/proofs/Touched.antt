@@ -3,7 +3,7 @@
 --     AllStay                       of the part at a path: each of these paths leads to a node, and no aim replaces it, nor what it is in
 --     all-built                     then all that is touched is built
 --     touched-all, touched-whole    THE SAME OF A TREE; of one whose top may be replaced
-use Rattle.std.specs.Prelude.{◌≡◌, ℕ, zero, suc, ◌+◌, Bool, true, false, not, cond, nat_eq, List, [], ◌∷◌, ◌++◌, slice_get, Option, Some, None, All, OnOk, Result, Ok, Err, option_and_then, refl}
+use Rattle.std.specs.Prelude.{◌≡◌, ℕ, suc, ◌+◌, Bool, true, false, not, cond, nat_eq, List, [], ◌∷◌, ◌++◌, slice_get, Option, Some, None, OnOk, Result, Ok, Err, option_and_then, refl}
 use Rattle.std.specs.List.{AllByRecursion}
 use Rattle.std.proofs.Common.{ap, ap₂, sym, subst, ◌∙◌, arith}
 use Rattle.std.proofs.lemmas.Bool.{or_cases, or_left, or_right, and_from, false≢true, true≢false, eqb-true, eq-eqb}

@@ -1,18 +1,18 @@
 -- Aims that alter no node's children change nothing.
-use Rattle.std.specs.Prelude.{◌≡◌, ℕ, zero, suc, true, false, cond, ◌||◌, List, [], ◌∷◌, ◌++◌, map, filter, flat_map, refl}
+use Rattle.std.specs.Prelude.{◌≡◌, ℕ, zero, suc, Bool, true, false, cond, ◌||◌, List, [], ◌∷◌, ◌++◌, map, filter, flat_map, refl}
 use Rattle.std.specs.List.{list_any}
 use Rattle.std.proofs.Common.{ap, ap₂, sym, ◌∙◌}
 use Rattle.green_tree.specs.Path.{Path, parent_path, last_slot, counted_from}
 use Rattle.green_tree.specs.Tree.{Tree, Forest, Token, Node, end, more, SyntaxTree, forest, relabelled, forest_relabelled}
-use Rattle.rewriting.specs.Aim.{aims_at_gap, replaces}
+use Rattle.rewriting.specs.Aim.{Aim, aims_at_gap, starts_at, replaces}
 use Rattle.rewriting.specs.Rewriting.{NumberedAim, numbers, inserts_at, replacements_at, is_replaced, gap_order, gap, rewritten, rewritten_from}
 use Rattle.rewriting.specs.declared.aimed.AimForm.{AimForm}
 use Rattle.rewriting.specs.declared.aimed.AimForm.TheVariants.{FirstIn, Behind, Over}
 use Rattle.rewriting.specs.declared.aimed.Aimed.{Aimed}
-use Rattle.rewriting.specs.inner.Aimed.{aim_in, numbered, aims_of, has_parent}
+use Rattle.rewriting.specs.inner.Aimed.{Placed, placed, of_placed, aim_in, aims_of, has_parent}
 use Rattle.rewriting.specs.inner.Pass.{kind_only}
 use Rattle.rewriting.proofs.Here.{over_some, first_false, second_false}
-use Rattle.rewriting.proofs.SeenBelow.{no_end}
+use Rattle.rewriting.proofs.SeenBelow.{no_end, aims-placed}
 
 -- ---- one aim
 quiet_gap : (c : ℕ) (q : Path) (w : AimForm) (p : Path) (j : ℕ) → has_parent (c, aim_in q w) ≡ false → aims_at_gap p j (aim_in q w) ≡ false
@@ -32,21 +32,57 @@ quiet_slot c (i ∷ q) (Over (suc n)) p j h =
     let wrong : true ≡ false = sym some ∙ h in
     absurd (cc)
 
--- ---- all of them
-no_inserts : (xs : List Aimed) (p : Path) (j : ℕ) → list_any has_parent (aims_of xs) ≡ false → inserts_at (aims_of xs) p j ≡ []
-no_inserts [] p j h = refl
-no_inserts (a ∷ xs) p j h =
-    let rest = filter (λ (c : NumberedAim). aims_at_gap p j c.1) (aims_of xs) in
-    let one = first_false (has_parent (numbered a)) (list_any has_parent (aims_of xs)) h in
-    let others = second_false (has_parent (numbered a)) (list_any has_parent (aims_of xs)) h in
-    ap (λ b. numbers (cond b (numbered a ∷ rest) rest)) (quiet_gap a.change a.path.now a.form p j one) ∙ no_inserts xs p j others
+quiet_start : (c : ℕ) (q : Path) (w : AimForm) (p : Path) (j : ℕ) → has_parent (c, aim_in q w) ≡ false → starts_at (p ++ j ∷ []) (aim_in q w) ≡ false
+quiet_start c q FirstIn p j h = refl
+quiet_start c q Behind p j h = refl
+quiet_start c [] (Over zero) p j h = refl
+quiet_start c [] (Over (suc n)) p j h = no_end p j
+quiet_start c (i ∷ q) (Over zero) p j h = refl
+quiet_start c (i ∷ q) (Over (suc n)) p j h =
+    let some = over_some c (parent_path (i ∷ q)) (last_slot (i ∷ q)) (map (λ s. parent_path (i ∷ q) ++ s ∷ []) (counted_from (suc (last_slot (i ∷ q))) n)) in
+    let wrong : true ≡ false = sym some ∙ h in
+    absurd (cc)
 
-no_slot : (xs : List Aimed) (p : Path) (j : ℕ) → list_any has_parent (aims_of xs) ≡ false → is_replaced (aims_of xs) (p ++ j ∷ []) ≡ false
-no_slot [] p j h = refl
-no_slot (a ∷ xs) p j h =
-    let one = first_false (has_parent (numbered a)) (list_any has_parent (aims_of xs)) h in
-    let others = second_false (has_parent (numbered a)) (list_any has_parent (aims_of xs)) h in
-    ap (λ b. b || is_replaced (aims_of xs) (p ++ j ∷ [])) (quiet_slot a.change a.path.now a.form p j one) ∙ no_slot xs p j others
+-- ---- all of them
+abbrev pub AlterNothing : List Placed → Type 0
+AlterNothing xs = list_any has_parent (map of_placed xs) ≡ false
+
+module _ (test : Aim → Bool) (quiet : (c : ℕ) (q : Path) (w : AimForm) → has_parent (c, aim_in q w) ≡ false → test (aim_in q w) ≡ false) where
+  none_pass : (xs : List Placed) → AlterNothing xs → numbers (filter (λ c. test c.1) (map of_placed xs)) ≡ []
+  none_pass [] h = refl
+  none_pass (a ∷ xs) h =
+      let rest = filter (λ (c : NumberedAim). test c.1) (map of_placed xs) in
+      let one = first_false (has_parent (of_placed a)) (list_any has_parent (map of_placed xs)) h in
+      let others = second_false (has_parent (of_placed a)) (list_any has_parent (map of_placed xs)) h in
+      ap (λ b. numbers (cond b (of_placed a ∷ rest) rest)) (quiet a.change a.path a.form one) ∙ none_pass xs others
+
+  not_any : (xs : List Placed) → AlterNothing xs → list_any (λ c. test c.1) (map of_placed xs) ≡ false
+  not_any [] h = refl
+  not_any (a ∷ xs) h =
+      let one = first_false (has_parent (of_placed a)) (list_any has_parent (map of_placed xs)) h in
+      let others = second_false (has_parent (of_placed a)) (list_any has_parent (map of_placed xs)) h in
+      ap (λ b. b || list_any (λ (c : NumberedAim). test c.1) (map of_placed xs)) (quiet a.change a.path a.form one) ∙ not_any xs others
+
+module _ (xs : List Placed) (p : Path) (j : ℕ) (h : AlterNothing xs) where
+  pub no_inserts : inserts_at (map of_placed xs) p j ≡ []
+  no_inserts = none_pass (aims_at_gap p j) (λ c q w. quiet_gap c q w p j) xs h
+
+  pub no_replacements : replacements_at (map of_placed xs) (p ++ j ∷ []) ≡ []
+  no_replacements = none_pass (starts_at (p ++ j ∷ [])) (λ c q w. quiet_start c q w p j) xs h
+
+  pub no_slot : is_replaced (map of_placed xs) (p ++ j ∷ []) ≡ false
+  no_slot = not_any (replaces (p ++ j ∷ [])) (λ c q w. quiet_slot c q w p j) xs h
+
+-- ---- the same for aims in code
+module _ (xs : List Aimed) (p : Path) (j : ℕ) (h : list_any has_parent (aims_of xs) ≡ false) where
+  nothing : AlterNothing (map placed xs)
+  nothing = ap (list_any has_parent) (aims-placed xs) ∙ h
+
+  inserts_none : inserts_at (aims_of xs) p j ≡ []
+  inserts_none = ap (λ cs. inserts_at cs p j) (sym (aims-placed xs)) ∙ no_inserts (map placed xs) p j nothing
+
+  slot_stays : is_replaced (aims_of xs) (p ++ j ∷ []) ≡ false
+  slot_stays = ap (λ cs. is_replaced cs (p ++ j ∷ [])) (sym (aims-placed xs)) ∙ no_slot (map placed xs) p j nothing
 
 module _ {L : Type 0} (h : ℕ → L) (given : ℕ → List (Tree L)) (xs : List Aimed) (none : list_any has_parent (aims_of xs) ≡ false) where
   abbrev cs : List NumberedAim
@@ -56,7 +92,7 @@ module _ {L : Type 0} (h : ℕ → L) (given : ℕ → List (Tree L)) (xs : List
   kept q k = h k
 
   quiet-gap : (p : Path) (j : ℕ) → gap kept given cs p j ≡ []
-  quiet-gap p j = ap (λ ns. flat_map given (gap_order ns)) (no_inserts xs p j none)
+  quiet-gap p j = ap (λ ns. flat_map given (gap_order ns)) (inserts_none xs p j none)
 
   mutual
     pub untouched : (p : Path) (t : SyntaxTree) → rewritten kept given cs p t ≡ relabelled h t
@@ -68,7 +104,7 @@ module _ {L : Type 0} (h : ℕ → L) (given : ℕ → List (Tree L)) (xs : List
     untouched_from p i (more t f) =
         let u = rewritten kept given cs (p ++ i ∷ []) t in
         let rest = rewritten_from kept given cs p (suc i) f in
-        ap₂ (λ before b. forest (before ++ cond b (flat_map given (replacements_at cs (p ++ i ∷ []))) (u ∷ []) ++ rest)) (quiet-gap p i) (no_slot xs p i none) ∙ ap₂ more (untouched (p ++ i ∷ []) t) (untouched_from p (suc i) f)
+        ap₂ (λ before b. forest (before ++ cond b (flat_map given (replacements_at cs (p ++ i ∷ []))) (u ∷ []) ++ rest)) (quiet-gap p i) (slot_stays xs p i none) ∙ ap₂ more (untouched (p ++ i ∷ []) t) (untouched_from p (suc i) f)
 
 mutual
   same_labels : (t : SyntaxTree) → relabelled (λ k. k) t ≡ t
@@ -90,8 +126,8 @@ module _ {L : Type 0} (label_at : Path → ℕ → L) (given : ℕ → List (Tre
     unaimed p (Node k f) = ap (λ ts. Node (label_at p k) (forest ts)) (unaimed_from p 0 f)
 
     unaimed_from : (p : Path) (i : ℕ) (f : Forest ℕ) → rewritten_from label_at given (aims_of xs) p i f ≡ rewritten_from label_at (λ c. []) [] p i f
-    unaimed_from p i end = ap (λ ns. flat_map given (gap_order ns)) (no_inserts xs p i none)
+    unaimed_from p i end = ap (λ ns. flat_map given (gap_order ns)) (inserts_none xs p i none)
     unaimed_from p i (more t f) =
         let u = rewritten label_at given (aims_of xs) (p ++ i ∷ []) t in
         let rest = rewritten_from label_at given (aims_of xs) p (suc i) f in
-        ap₂ (λ ns b. flat_map given (gap_order ns) ++ cond b (flat_map given (replacements_at (aims_of xs) (p ++ i ∷ []))) (u ∷ []) ++ rest) (no_inserts xs p i none) (no_slot xs p i none) ∙ ap₂ (λ v vs. v ∷ vs) (unaimed (p ++ i ∷ []) t) (unaimed_from p (suc i) f)
+        ap₂ (λ ns b. flat_map given (gap_order ns) ++ cond b (flat_map given (replacements_at (aims_of xs) (p ++ i ∷ []))) (u ∷ []) ++ rest) (inserts_none xs p i none) (slot_stays xs p i none) ∙ ap₂ (λ v vs. v ∷ vs) (unaimed (p ++ i ∷ []) t) (unaimed_from p (suc i) f)

@@ -1,7 +1,7 @@
 ghost use Rattle.std.specs.Prelude.{◌≡◌, [], ◌∷◌, map, length, IfOk, OnOk};
 ghost use Rattle.std.specs.List.{list_any};
 ghost use Rattle.rewriting.specs.Rewriting.{is_replaced};
-ghost use Rattle.rewriting.specs.inner.Aimed.{aims_of, has_parent, placed, placed_below};
+ghost use Rattle.rewriting.specs.inner.Aimed.{aims_of, has_parent, placed, placed_below, alter_below};
 ghost use Rattle.rewriting.specs.inner.Groups.{GrowsInside, StaysBefore, StaysBehind, AreGrouped};
 
 use crate::aimed::Aimed;
@@ -37,6 +37,20 @@ pub fn top_is_replaced(aims: &[Aimed]) -> bool
     for aim in aims {
         if aim.replaces_top() {
             return true;
+        }
+    }
+    false
+}
+
+// Whether some aim alters the children of a node that is a child of the top, or below it.
+pub fn alter_below(aims: &[Aimed], slot: usize) -> bool
+    ensures { result ≡ alter_below slot (map placed aims.now) }
+{
+    for aim in aims {
+        if let Some(inner) = aim.seen_from(slot) {
+            if inner.has_parent() {
+                return true;
+            }
         }
     }
     false

@@ -1,15 +1,17 @@
-ghost use Rattle.std.specs.Prelude.{◌≡◌, flat_map, IfOk, OnOk};
+ghost use Rattle.std.specs.Prelude.{◌≡◌, [], ◌∷◌, flat_map, IfOk, OnOk};
 ghost use Rattle.green_tree.specs.Tree.{node};
 ghost use Rattle.green_tree.specs.GreenElement.{element_tree, element_trees};
 ghost use Rattle.rewriting.specs.Effort.{counted};
 ghost use Rattle.rewriting.specs.inner.Given.{given_trees};
-ghost use Rattle.rewriting.specs.inner.Pass.{given_in, Puts, FindsGiven, FindsChange, FindsAll, FindsKept};
+ghost use Rattle.rewriting.specs.inner.Pass.{given_in, Puts, FindsGiven, FindsChange, FindsAll, FindsKept, FindsChild};
 ghost use Rattle.rewriting.specs.inner.Pass.{gap_changes, slot_changes, top_changes};
 ghost use Rattle.rewriting.specs.inner.Pass.{TouchesAtMost, CountsBuilt, CountsBuiltWhole, CountsTouched};
 ghost use Rattle.rewriting.specs.inner.Pass.{remade, remade_whole};
 ghost use Rattle.rewriting.specs.inner.Pass.{FindsRebuilt, FindsWhole};
 
-use crate::aim_list::{aims_below, aims_by_child, alter_some, is_replaced, top_is_replaced};
+use crate::aim_list::{
+    aims_below, aims_by_child, alter_below, alter_some, is_replaced, top_is_replaced,
+};
 use crate::aimed::Aimed;
 use crate::mark::{Mark, Sought, marks_by_child, push_here, sought_for};
 use crate::marked_given::{GivenTable, MarkedGiven};
@@ -157,6 +159,29 @@ fn push_kept(
     Ok(())
 }
 
+// A child that nothing alters goes after the children that the node at this path has so far, with the marks sought in it. Where there are
+// none, it is not looked into.
+fn push_child(
+    alloc: Global,
+    out: &mut Vec<GreenElement>,
+    found: &mut Vec<Mark>,
+    path: &mut Vec<usize>,
+    child: &GreenElement,
+    sought: &[Sought],
+) -> Result<(), AllocError>
+    ensures path { OnOk result (path.new.items ≡ path.old.items) }
+    ensures trees { OnOk result (Puts out.old out.new (element_tree child.now ∷ [])) }
+    ensures marks { OnOk result (FindsChild path.old out.old found.old found.new sought.now child.now) }
+{
+    if !sought.is_empty() {
+        path.push(out.len())?;
+        push_kept(alloc, found, path, child, sought)?;
+        path.pop();
+    }
+    out.push(child.share(alloc)?)?;
+    Ok(())
+}
+
 // The one place where a node is made, and counted. At the greatest number the count stays.
 fn build_node(
     alloc: Global,
@@ -211,23 +236,16 @@ pub fn rebuild(
     push_gap(alloc, &mut out, found, path, given, aims, 0)?;
     for slot in 0..children.len() {
         let group = groups[slot].as_slice();
+        let child = &children[slot];
+        let to_find = sought_for(&lists, slot);
         if is_replaced(group, slot) {
             push_slot(alloc, &mut out, found, path, given, group, slot)?;
+        } else if !alter_below(group, slot) {
+            push_child(alloc, &mut out, found, path, child, to_find)?;
         } else {
             let inner = aims_below(alloc, group, slot)?;
-            let inner_sought = sought_for(&lists, slot);
             path.push(out.len())?;
-            let child = &children[slot];
-            out.push(rebuild(
-                alloc,
-                found,
-                path,
-                child,
-                &inner,
-                inner_sought,
-                given,
-                builds,
-            )?)?;
+            out.push(rebuild(alloc, found, path, child, &inner, to_find, given, builds)?)?;
             path.pop();
         }
         push_gap(alloc, &mut out, found, path, given, group, slot + 1)?;

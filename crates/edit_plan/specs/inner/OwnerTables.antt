@@ -19,7 +19,7 @@
 --     replaced_by                   a node exchanged for another one
 --     IsFoundPlace, PlacesStay      a table has the place of an owner's target, or none where there is none; what it had stays
 --     TellsPlace                    an answer tells whether a change has a place, where this is that of its owner's target
-use Rattle.std.specs.Prelude.{◌≡◌, ◌≢◌, ◌↔◌, ◌<◌, ℕ, ◌≤◌, ◌&&◌, ◌==◌, not, Bool, IsTrue, IsSomeAnd, List, [], ◌∷◌, ◌++◌, map, filter, length, slice_get, unwrap_or, Option, Some, option_map, option_and_then, Vec}
+use Rattle.std.specs.Prelude.{◌≡◌, ◌≢◌, ◌↔◌, ◌<◌, ℕ, ◌≤◌, ◌&&◌, ◌==◌, not, Bool, IsTrue, IsSomeAnd, List, [], ◌∷◌, ◌++◌, map, filter, length, slice_get, unwrap_or, Option, Some, option_and_then, Vec}
 use Rattle.std.specs.Global.{Global}
 use Rattle.std.specs.Option.{option_map_or}
 use Rattle.cst_core.specs.Path.{Path, counted_from}

@@ -1,5 +1,5 @@
 -- What a plan keeps beside its changes, and what carrying it out comes to before there is a root.
---     IsPlanned                     what becomes of each change, and the places of owners
+--     IsPlanned, IsPlanKept         what becomes of each change, and the places of owners; the same of what code has
 --     IsNewRoot                     a root whose text is within the limit, as that of every edit is
 --     TellsOf                       equal tree numbers have equal trees, as far as a registered element and the mapping go
 --     IsOneNode, BringsNode         trees that are one node; a change that brings one node
@@ -17,8 +17,8 @@ use Rattle.cst_core.specs.Green.{branch_tree, length_limit}
 use Rattle.cst_core.specs.Element.{Element, IsNode, NumbersTell, address, subtree}
 use Rattle.cst_core.specs.SyntaxElement.{element_of}
 use Rattle.cst_core.specs.declared.element.SyntaxElement.{SyntaxElement}
-use Rattle.edit_map.specs.Mapping.{mapped_elements}
-use Rattle.edit_plan.specs.Plan.{Plan, IsPlan, WouldMake}
+use Rattle.edit_map.specs.Mapping.{Mapping, mapped_elements}
+use Rattle.edit_plan.specs.Plan.{Plan, IsPlan, WouldMake, new_plan}
 use Rattle.edit_change.specs.inner.Fate.{fate}
 use Rattle.edit_plan.specs.inner.Marks.{path_lists}
 use Rattle.edit_plan.specs.inner.Sought.{sought_at}
@@ -48,6 +48,10 @@ pub record IsPlanned (p : Plan) (fates : List Fate) (places : List (Option (Vec 
   pub fates_are : fates ≡ map (fate p.changes) p.changes
   pub long : length places ≡ length p.changes
   pub placed : ArePlaces p.mapping p.changes (places_in places)
+
+-- the same of what code has
+abbrev pub IsPlanKept : Element → Vec Change Global → Vec (SyntaxElement × ℕ) Global → Mapping → Vec Fate Global → Vec (Option (Vec ℕ Global)) Global → Type 0
+IsPlanKept root changes rs m fates places = IsPlanned (new_plan root changes rs m) fates.items places.items
 
 pub record IsNewRoot (e : Element) : Type 0 where
   pub is_root : e.path ≡ []

@@ -1,26 +1,28 @@
 -- Registered elements, as they are sought in the trees that are rewritten. The mark of a registration is its number.
---     spot                          the address that a key of the table stands for
+--     address_path                  an address as the path in a table
 --     path_below                    what is left of a path after another one, if it begins with that
 --     sought_one                    a registered element, if it is at an address or below it, with the path from there
 --     sought_from                   of these registered elements, numbered from here on, all that are
 --     addresses                     the addresses of elements in code
---     sought_at                     what a table has at an address
+--     listed_at, sought_at          what a table lists for a place; what it has at an address
 --     registered_at                 the numbers of the registered elements that are at an address
---     IsTaken, HasMarkMore          nothing is at an address any more; one mark more is there
+--     IsIndex                       such a table, which lists nothing for places that there are not
+--     HasSameLists                  it lists the same for each place
+--     HasMarkMore                   one mark more at the address with this path
+--     IsEntered                     one mark more at the place below another one, at a slot
 --     HasRegisteredMore             one registered element more, at itself and at all that is above it
-use Rattle.std.specs.Prelude.{◌≡◌, ℕ, suc, nat_eq, cond, List, [], ◌∷◌, ◌++◌, map, Option, Some, None}
-use Rattle.std.specs.HashMap.{get_by}
+use Rattle.std.specs.Prelude.{◌≡◌, ◌<◌, ℕ, suc, nat_eq, cond, List, [], ◌∷◌, ◌++◌, map, Option, Some, None}
 use Rattle.std.specs.Option.{option_map_or}
-use Rattle.cst_core.specs.Path.{Path}
-use Rattle.cst_core.specs.Element.{Address, address, same_address}
+use Rattle.cst_core.specs.Path.{Path, same_path}
+use Rattle.cst_core.specs.Element.{Address, address}
 use Rattle.cst_core.specs.SyntaxElement.{element_of}
 use Rattle.cst_core.specs.declared.element.SyntaxElement.{SyntaxElement}
-use Rattle.rewriting.specs.inner.Marked.{Marking, sought_in, marks_at}
-use Rattle.edit_plan.specs.declared.sought.Spot.{Spot}
+use Rattle.path_table.specs.PathTable.{place_below, place_at, size, IsTree, IsGrown}
+use Rattle.rewriting.specs.inner.Marked.{Marking, sought_for, marks_at}
 use Rattle.edit_plan.specs.declared.sought.SoughtIndex.{SoughtIndex}
 
-abbrev pub spot : Spot → Address
-spot s = record { number = s.number; path = s.path.items }
+abbrev pub address_path : Address → Path
+address_path a = a.number ∷ a.path
 
 abbrev pub path_below : Path → Path → Option Path
 path_below [] p = Some p
@@ -37,19 +39,33 @@ sought_from n (r ∷ rs) a = sought_one a n r ++ sought_from (suc n) rs a
 abbrev pub addresses : List SyntaxElement → List Address
 addresses es = map (λ e. address (element_of e)) es
 
+abbrev pub listed_at : SoughtIndex → ℕ → List Marking
+listed_at index place = sought_for index.lists.items place
+
 abbrev pub sought_at : SoughtIndex → Address → List Marking
-sought_at index a = option_map_or (λ v. sought_in v.items) (get_by (λ k. same_address a (spot k)) index.lists) []
+sought_at index a = option_map_or (listed_at index) (place_at index.places (address_path a)) []
 
 abbrev pub registered_at : List Address → Address → List ℕ
 registered_at rs a = marks_at (sought_from 0 rs a) []
 
+pub record IsIndex (index : SoughtIndex) : Type 0 where
+  pub tree : IsTree index.places
+  pub unused : (k : ℕ) → size index.places < k → listed_at index k ≡ []
+
 -- ---- a table before and after
 module _ (before after : SoughtIndex) where
-  abbrev pub IsTaken : Address → Type 0
-  IsTaken at = (a : Address) → sought_at after a ≡ cond (same_address at a) [] (sought_at before a)
+  abbrev pub HasSameLists : Type 0
+  HasSameLists = (k : ℕ) → listed_at after k ≡ listed_at before k
 
-  abbrev pub HasMarkMore : Address → Marking → Type 0
-  HasMarkMore at m = (a : Address) → sought_at after a ≡ sought_at before a ++ cond (same_address at a) (m ∷ []) []
+  abbrev pub HasMarkMore : Path → Marking → Type 0
+  HasMarkMore p m =
+      (a : Address) → sought_at after a ≡ sought_at before a ++ cond (same_path p (address_path a)) (m ∷ []) []
+
+  pub record IsEntered (place slot : ℕ) (m : Marking) (next : ℕ) : Type 0 where
+    pub index : IsIndex after
+    pub grown : IsGrown before.places after.places
+    pub leads : place_below after.places place slot ≡ Some next
+    pub more : (p : Path) → place_at before.places p ≡ Some place → HasMarkMore (p ++ slot ∷ []) m
 
   abbrev pub HasRegisteredMore : ℕ → Address → Type 0
   HasRegisteredMore n r = (a : Address) → sought_at after a ≡ sought_at before a ++ sought_one a n r

@@ -8,9 +8,11 @@
 --     has_parent                    it alters the children of some node
 --     seen_from, placed_below       an aim at a child slot or below, with that slot dropped; of these aims those that there are
 --     and_those                     one more of these, if it is there
+--     alter_below                   some aim, as it is seen from a child slot, alters the children of a node
 use Rattle.std.specs.Prelude.{ℕ, zero, suc, Bool, true, false, cond, nat_eq, List, [], ◌∷◌, ◌++◌, map, Option, Some, None, option_map}
 use Rattle.green_tree.specs.Path.{Path, parent_path, last_slot, counted_from}
 use Rattle.rewriting.specs.Aim.{Aim, FirstIn, Behind, Over, parents}
+use Rattle.std.specs.List.{list_any}
 use Rattle.rewriting.specs.Rewriting.{NumberedAim}
 use Rattle.rewriting.specs.declared.aimed.AimForm.{AimForm}
 use Rattle.rewriting.specs.declared.aimed.AimForm.TheVariants as form
@@ -68,3 +70,6 @@ and_those (Some a) xs = a ∷ xs
 abbrev pub placed_below : ℕ → List Placed → List Placed
 placed_below i [] = []
 placed_below i (a ∷ xs) = and_those (seen_from i a) (placed_below i xs)
+
+abbrev pub alter_below : ℕ → List Placed → Bool
+alter_below i xs = list_any has_parent (map of_placed (placed_below i xs))

@@ -14,7 +14,9 @@
 --     TouchesAtMost, CountsBuilt, CountsBuiltWhole      how a count of built nodes rises
 --     CountsTouched                 how it rises where all that is touched is built
 --     remade, remade_whole          the tree that a pass makes; what stands in the place of an element
---     FindsKept, FindsRebuilt, FindsWhole        where the marks of an untouched element are found; of a rebuilt one; of what stands in its place
+--     kept_marks                    an untouched element, labelled by the marks that are sought in it
+--     FindsKept, FindsChild         where the marks of an untouched element are found; of one that is put next
+--     FindsRebuilt, FindsWhole      where the marks of a rebuilt element are found; of what stands in its place
 use Rattle.std.specs.Prelude.{◌≡◌, ◌<◌, ◌≤◌, ◌+◌, ℕ, List, [], ◌∷◌, ◌++◌, map, flat_map, length, get_or, slice_get, Option, Some, None, Vec}
 use Rattle.std.specs.Global.{Global}
 use Rattle.std.specs.Option.{option_map_or}
@@ -77,6 +79,9 @@ marks_at_path path top g i = map (mark_below path) (marks_there top g i)
 abbrev pub Puts : Vec GreenElement Global → Vec GreenElement Global → List SyntaxTree → Type 0
 Puts before after ts = element_trees after.items ≡ element_trees before.items ++ ts
 
+abbrev pub kept_marks : List Sought → GreenElement → MarkTree
+kept_marks sought e = rewritten (wanted (sought_in sought)) (λ c. []) [] [] (element_tree e)
+
 -- below the node at a path, which has these children so far
 module _ (path : Vec ℕ Global) (out : Vec GreenElement Global) (before after : Vec Mark Global) where
   abbrev stands_from_here : List MarkTree → List Marking
@@ -92,6 +97,9 @@ module _ (path : Vec ℕ Global) (out : Vec GreenElement Global) (before after :
   abbrev pub FindsAll : GivenTable → List ℕ → Type 0
   FindsAll table cs =
       (trees : ℕ → List MarkTree) → AreMarkedIn table trees → Finds before after (stands_from_here (flat_map trees cs))
+
+  abbrev pub FindsChild : List Sought → GreenElement → Type 0
+  FindsChild sought e = Finds before after (stands_from_here (kept_marks sought e ∷ []))
 
 -- ---- what the pass makes of an element
 abbrev pub TouchesAtMost : List Aimed → GreenElement → ℕ → ℕ → Type 0
@@ -115,9 +123,7 @@ remade_whole table aims e = rewritten_whole kind_only (given_in table) (aims_of 
 
 -- ---- where its marks are
 abbrev pub FindsKept : List Sought → GreenElement → Vec ℕ Global → Vec Mark Global → Vec Mark Global → Type 0
-FindsKept sought e path before after =
-    let kept = rewritten (wanted (sought_in sought)) (λ c. []) [] [] (element_tree e) in
-    Finds before after (map (mark_below path.items) (marked kept))
+FindsKept sought e path before after = Finds before after (map (mark_below path.items) (marked (kept_marks sought e)))
 
 module _ (table : GivenTable) (aims : List Aimed) (sought : List Sought) (e : GreenElement) where
   abbrev pub FindsRebuilt : Vec ℕ Global → Vec Mark Global → Vec Mark Global → Type 0

@@ -1,4 +1,4 @@
-use Rattle.std.proofs.Common.{◌≡◌, ◌+◌, [], ◌∷◌, take, sym, ◌∙◌, ap, refl}
+use Rattle.std.proofs.Common.{◌≡◌, ◌+◌, Some, [], ◌∷◌, take, sym, ◌∙◌, ap, refl}
 use Rattle.std.proofs.lemmas.List.{take_all}
 use Rattle.cst_core.specs.Path.{up_to}
 use Rattle.path_table.specs.PathTable.{number_in, place_at}
@@ -21,7 +21,7 @@ fate_below-fate-requires-in-loop-slot-clause-there c =
     let table = c.args.index.now.numbers in
     let path = c.args.innermost.now in
     let k = c.loop-slot.slot-index in
-    let place = c.below-place.ensures ∙ place-more table path k c.loop-slot.place c.loop-slot-test.true c.loop-slot.invariant.place in
+    let place = c.below-place.ensures ∙ place-more table (Some 0) path k c.loop-slot.place c.loop-slot-test.true c.loop-slot.invariant.place in
     (take (k + 1) path, c.number-in-loop-slot.ensures ∙ ap (number_in table) place ∙ c.requires.at_each (take (k + 1) path))
 
 pub loop-slot-preserved : goal.loop-slot-preserved
@@ -30,7 +30,7 @@ loop-slot-preserved c =
     let table = c.args.index.now.numbers in
     let path = c.args.innermost.now in
     let k = c.loop-slot.slot-index in
-    let place = c.below-place.ensures ∙ place-more table path k c.loop-slot.place c.loop-slot-test.true c.loop-slot.invariant.place in
+    let place = c.below-place.ensures ∙ place-more table (Some 0) path k c.loop-slot.place c.loop-slot-test.true c.loop-slot.invariant.place in
     let there = c.number-in-loop-slot.ensures ∙ ap (number_in table) place ∙ c.requires.at_each (take (k + 1) path) in
     record {
       place = place;

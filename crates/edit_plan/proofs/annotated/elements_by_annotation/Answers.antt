@@ -1,16 +1,29 @@
-use Rattle.std.proofs.Common.{◌≡◌, ◌++◌, ◌∙◌, Some, sym, ap}
+use Rattle.std.proofs.Common.{◌≡◌, ◌++◌, ◌∙◌, Some, map, All, sym, ap, subst}
+use Rattle.std.proofs.lemmas.List.Elements.{All-head, All-tail}
+use Rattle.cst_core.specs.Element.{IsElement, element_at}
 use Rattle.cst_core.specs.SyntaxElement.{syntax_at}
 use Rattle.edit_plan.specs.AnnotationTable.{elements_at}
-use Rattle.edit_plan.proofs.ByAnnotation.{one-more}
-use Rattle.edit_plan.proofs.Leading.{leads-pair}
+use Rattle.edit_plan.specs.Engine.{annotated_path}
+use Rattle.edit_plan.specs.Results.{paths_with}
+use Rattle.edit_plan.proofs.ByAnnotation.{one-less}
+use Rattle.edit_plan.proofs.Leading.{leads}
 use Rattle.edit_plan.proofs.annotated.elements_by_annotation.Goals as goal
 
 pub unreachable-requires : goal.unreachable-requires
 unreachable-requires c =
-    leads-pair c.args.root.now c.args.annotated.now c.loop-annotation.annotation-index c.loop-annotation-item.result c.deref.result.now c.requires.is_root c.requires.there c.loop-annotation-test.true c.loop-annotation-item.is c.deref.ensures.value (sym c.in_ok-element.ensures ∙ c.in-None.is)
+    let root = c.args.root.now in
+    let n = annotated_path (c.in-Some.annotation, c.in-Some.path) in
+    let there = subst (λ ns. All (λ m. IsElement (element_at root m.1)) (map annotated_path ns)) c.in-Some.ensures.steps.0 c.loop-annotation.invariant.there in
+    leads root n.1 (All-head (λ m. IsElement (element_at root m.1)) n (map annotated_path c.next.new.self.rest.items) there) (sym c.in_ok-element.ensures ∙ c.in-None-2.is)
 
 pub loop-annotation-preserved : goal.loop-annotation-preserved
 loop-annotation-preserved c =
     let root = c.args.root.now in
-    let leads : Some c.in-Some.element ≡ syntax_at root c.loop-annotation-item.result.1.items = sym c.in-Some.is ∙ c.in_ok-element.ensures ∙ ap (λ p. syntax_at root (p ++ c.deref.result.now)) c.requires.is_root ∙ ap (syntax_at root) c.deref.ensures.value in
-    one-more root c.args.annotated.now c.loop-annotation.annotation-index c.loop-annotation-item.result c.in-Some.element (elements_at c.loop-annotation.table) (elements_at c.add.new.self) c.loop-annotation-test.true c.loop-annotation-item.is leads c.loop-annotation.invariant c.in_ok-add-in-Some.ensures
+    let rest = c.next.new.self.rest.items in
+    let n = annotated_path (c.in-Some.annotation, c.in-Some.path) in
+    let there = subst (λ ns. All (λ m. IsElement (element_at root m.1)) (map annotated_path ns)) c.in-Some.ensures.steps.0 c.loop-annotation.invariant.there in
+    let found : Some c.in-Some-2.element ≡ syntax_at root n.1 = sym c.in-Some-2.is ∙ c.in_ok-element.ensures in
+    record {
+      there = All-tail (λ m. IsElement (element_at root m.1)) n (map annotated_path rest) there;
+      found = λ a. one-less root a n (map annotated_path rest) c.in-Some-2.element (elements_at c.loop-annotation.table a) (elements_at c.add.new.self a) found (c.in_ok-add-in-Some-2.ensures a) ∙ ap (λ ns. map (λ x. Some x) (elements_at c.loop-annotation.table a) ++ map (syntax_at root) (paths_with a (map annotated_path ns))) (sym c.in-Some.ensures.steps.0) ∙ c.loop-annotation.invariant.found a;
+    }

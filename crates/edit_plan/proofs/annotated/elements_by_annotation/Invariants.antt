@@ -1,4 +1,5 @@
-use Rattle.std.proofs.Common.{◌≡◌, ℕ, map, take, Some}
+use Rattle.std.proofs.Common.{◌≡◌, ℕ, ◌++◌, map, All, Some}
+use Rattle.cst_core.specs.Element.{IsElement, element_at}
 use Rattle.cst_core.specs.SyntaxElement.{syntax_at}
 use Rattle.edit_plan.specs.AnnotationTable.{elements_at}
 use Rattle.edit_plan.specs.Engine.{annotated_path}
@@ -6,4 +7,7 @@ use Rattle.edit_plan.specs.Results.{paths_with}
 use Rattle.edit_plan.proofs.annotated.elements_by_annotation.Given as goal
 
 abbrev pub invariant-loop-annotation : goal.invariant-loop-annotation
-invariant-loop-annotation l = (a : ℕ) → map Some (elements_at l.table a) ≡ map (syntax_at l.root) (paths_with a (map annotated_path (take l.annotation-index l.annotated)))
+invariant-loop-annotation l = record {
+  there : All (λ n. IsElement (element_at l.root n.1)) (map annotated_path l.annotation-iterator.rest.items);
+  found : (a : ℕ) → map Some (elements_at l.table a) ++ map (syntax_at l.root) (paths_with a (map annotated_path l.annotation-iterator.rest.items)) ≡ map (syntax_at l.root) (paths_with a (map annotated_path l.fn.annotated.items));
+}

@@ -1,7 +1,7 @@
-use Rattle.std.proofs.Common.{◌≡◌, ◌++◌, map, drop}
+use Rattle.std.proofs.Common.{◌≡◌, ◌++◌, map}
 use Rattle.rewriting.specs.Topmost.{paths_of}
 use Rattle.edit_plan.specs.Engine.{annotated_path}
 use Rattle.edit_plan.proofs.annotated.push_annotated.Given as goal
 
 abbrev pub invariant-loop-path : goal.invariant-loop-path
-invariant-loop-path l = map annotated_path l.found.items ++ map (λ p. (l.annotation, p)) (paths_of (drop l.path-index l.paths)) ≡ map annotated_path l.initial.found.items ++ map (λ p. (l.annotation, p)) (paths_of l.paths)
+invariant-loop-path l = map annotated_path l.found.items ++ map (λ p. (l.annotation, p)) (paths_of l.path-iterator.rest.items) ≡ map annotated_path l.initial.found.items ++ map (λ p. (l.annotation, p)) (paths_of l.fn.paths.items)

@@ -1,4 +1,4 @@
-use Rattle.std.proofs.Common.{◌≡◌, ◌∙◌, None, Some, ap, ap₂, sym}
+use Rattle.std.proofs.Common.{◌∙◌, None, Some, ap, ap₂}
 use Rattle.edit_change.specs.ChangeAim.{aim_path}
 use Rattle.edit_stages.specs.NewTree.{moved_path}
 use Rattle.edit_plan.specs.inner.OwnerTables.{places_in, AimsFrom}

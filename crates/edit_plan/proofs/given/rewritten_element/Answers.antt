@@ -5,7 +5,7 @@ use Rattle.cst_core.specs.GreenElement.{element_tree}
 use Rattle.rewriting.specs.Rewriting.{rewritten}
 use Rattle.rewriting.specs.Effort.{touched, parents_of, nodes_built, AreBuilt}
 use Rattle.rewriting.specs.inner.Aimed.{aims_of}
-use Rattle.rewriting.specs.inner.Marked.{Marking, marked, mark_below, marks_of, sought_in, wanted}
+use Rattle.rewriting.specs.inner.Marked.{Marking, marked, mark_below, marks_of, wanted}
 use Rattle.rewriting.specs.inner.Pass.{kind_only, given_in}
 use Rattle.edit_plan.specs.inner.Marks.{element_sought}
 use Rattle.edit_plan.specs.TouchedNodes.{Raises}
@@ -21,7 +21,7 @@ returns-clause-marks c = λ trees are.
     let e = element_of c.args.element.now in
     let cs = aims_of c.args.aims.now in
     let own : List Marking = marked (element_sought index trees cs e) in
-    let same = ap₂ (λ ms t. marked (rewritten (wanted ms) trees cs [] t)) (ap sought_in c.deref.ensures.value ∙ c.in_ok-sought.ensures) c.in_ok-old.ensures in
+    let same = ap₂ (λ ms t. marked (rewritten (wanted ms) trees cs [] t)) c.at-sought.ensures c.in_ok-old.ensures in
     c.in_ok-new.ensures.marks trees are ∙ ap₂ (λ p ms. marks_of c.args.found.now.items ++ map (mark_below p) ms) c.new-path.ensures.items same ∙ ap (λ ms. marks_of c.args.found.now.items ++ ms) (map-id own)
 
 pub returns-clause-count : goal.returns-clause-count

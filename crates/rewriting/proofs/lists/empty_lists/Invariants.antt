@@ -1,4 +1,4 @@
-use Rattle.std.proofs.Common.{◌≡◌, ℕ, length}
+use Rattle.std.proofs.Common.{◌≡◌, length}
 use Rattle.rewriting.specs.Lists.{AreEmpty}
 use Rattle.rewriting.proofs.lists.empty_lists.Given as goal
 

@@ -6,20 +6,14 @@ use Rattle.green_tree.specs.Tree.{SyntaxTree, Token, node}
 use Rattle.green_tree.specs.Green.{size}
 use Rattle.green_tree.specs.GreenElement.{element_tree, element_trees}
 use Rattle.rewriting.specs.Rewriting.{rewritten}
-use Rattle.rewriting.specs.declared.mark.Sought.{Sought}
 use Rattle.rewriting.specs.inner.Marked.{MarkTree, Marking, marked, mark_below, marks_of, sought_in, marks_at, wanted, sought_below, sought_for}
 use Rattle.rewriting.proofs.Children.{tree_at, size_at}
 use Rattle.rewriting.proofs.ChildByChild.{first, step, all_shown}
-use Rattle.rewriting.proofs.Marks.{shown, shown-one, marks-none}
+use Rattle.rewriting.proofs.Marks.{shown, shown-one}
 use Rattle.rewriting.proofs.Marks.{are_shown}
-use Rattle.rewriting.proofs.MarksKept.{marks-below, token_marks, node_marks}
+use Rattle.rewriting.proofs.MarksKept.{marks-below, unsought, token_marks, node_marks}
 use Rattle.rewriting.proofs.SeenBelow.{seen-below}
-use Rattle.rewriting.proofs.Untouched.{untouched}
 use Rattle.rewriting.proofs.pass.+push_kept.Goals as goal
-
-unsought : (path : Path) (found : List Marking) (sought : List Sought) (t : SyntaxTree) → length sought ≡ 0 → found ≡ found ++ map (mark_below path) (marked (rewritten (wanted (sought_in sought)) (λ c. []) [] [] t))
-unsought path found [] t h = sym (append-nil found) ∙ ap (λ ms. found ++ map (mark_below path) ms) (sym (ap marked (untouched (λ k. []) (λ c. []) [] refl [] t) ∙ marks-none t))
-unsought path found (m ∷ ms) t h = absurd (omega (arith, h))
 
 pub returns-then-is_empty-clause-marks : goal.returns-then-is_empty-clause-marks
 returns-then-is_empty-clause-marks t c =

@@ -1,12 +1,13 @@
 use Rattle.std.proofs.Common.{◌≡◌, ℕ, ◌<◌, ◌≤◌, ◌+◌, List, [], ◌∷◌, ◌++◌, length, get_or, map, flat_map, rules, refl, arith, ap, ap₂, sym, ◌∙◌}
 use Rattle.std.proofs.lemmas.Grind.{common_steps}
 use Rattle.std.proofs.lemmas.List.{map-append, length-map}
+use Rattle.std.specs.List.{list_any}
 use Rattle.green_tree.specs.Path.{Path}
 use Rattle.green_tree.specs.Tree.{SyntaxTree, Token, forest}
 use Rattle.green_tree.specs.Green.{size}
 use Rattle.green_tree.specs.GreenElement.{element_tree, element_trees}
 use Rattle.rewriting.specs.Rewriting.{slot, is_replaced, replacements_at, gap_order, rewritten}
-use Rattle.rewriting.specs.inner.Aimed.{aims_of, placed, placed_below}
+use Rattle.rewriting.specs.inner.Aimed.{aims_of, has_parent, of_placed, placed, placed_below}
 use Rattle.rewriting.specs.inner.Marked.{MarkTree, Marking, marked, mark_below, marks_of, sought_in, marks_at, wanted, sought_below, sought_for}
 use Rattle.rewriting.specs.inner.Pass.{kind_only, given_in, gap_changes}
 use Rattle.rewriting.specs.Effort.{inside, touched, parents_of, built, nodes_built, counted}
@@ -15,6 +16,7 @@ use Rattle.rewriting.proofs.Counted.{still, still-step, still-none, in_slot, cou
 use Rattle.rewriting.proofs.Touched.{on_ok-touched}
 use Rattle.rewriting.proofs.SeenBelow.{aims-below, seen-below}
 use Rattle.rewriting.proofs.Untouched.{nothing_made, unaimed}
+use Rattle.rewriting.proofs.BelowSlot.{kept-below, marks_kept-below, none-built}
 use Rattle.rewriting.proofs.InGroups.{group_is, group-inserted, group-replaced, group-replacements, group-below}
 use Rattle.rewriting.proofs.Children.{left, tree_at, size_at, slot-replaced, slot-kept, gap-slots}
 use Rattle.rewriting.proofs.Children as children
@@ -24,7 +26,7 @@ use Rattle.rewriting.proofs.Marks.{are_shown}
 use Rattle.rewriting.proofs.MarksKept.{marks-below, token_marks, node_marks}
 use Rattle.rewriting.proofs.MarksGiven.{width, all_as_many, slot_as_many}
 use Rattle.rewriting.proofs.pass.+rebuild.Goals as goal
-use Rattle.rewriting.proofs.pass.+rebuild.Goals.{then-is_replaced+in_ok-push_slot, else-is_replaced+in_ok-inner+in_ok-push+in_ok-rebuild+in_ok-push-2}
+use Rattle.rewriting.proofs.pass.+rebuild.Goals.{then-is_replaced+in_ok-push_slot, else-is_replaced+then-not-alter_below+in_ok-push_child, else-is_replaced+else-not-alter_below+in_ok-inner+in_ok-push+in_ok-rebuild+in_ok-push-2}
 
 pub returns-then-not-alter_some-clause-tree : goal.returns-then-not-alter_some-clause-tree
 returns-then-not-alter_some-clause-tree t c =
@@ -102,20 +104,28 @@ loop-slot-preserved t c =
     let replaced = c.is_replaced.ensures ∙ ap (λ g. is_replaced (aims_of g) (i ∷ [])) here ∙ group-replaced i aims in
     let behind = ap gap_order (group-inserted i aims c.as_slice-group.result.now here) in
     let kept : SyntaxTree = rewritten kind_only given cs (i ∷ []) (get_or ts i d) in
+    let e = element_tree c.index-children-slot.result in
+    let child : e ≡ get_or ts i d = tree_at es i c.index-children-slot.result d c.loop-slot-test.true c.index-children-slot.is ∙ ap (λ us. get_or us i d) c.children-children.ensures in
+    let group_below = ap (λ g. placed_below i (map placed g)) here ∙ group-below i aims in
+    let quiet = ap (λ xs. list_any has_parent (map of_placed xs)) (sym group_below) in
     let same_path : c.if-is_replaced.path.items ≡ path =
     elim c.if-is_replaced.branch [
       | then-is_replaced+in_ok-push_slot w ↦ ap (λ v. v.items) w.path-is ∙ w.in_ok-push_slot.ensures.path ∙ c.loop-slot.invariant.path
-      | else-is_replaced+in_ok-inner+in_ok-push+in_ok-rebuild+in_ok-push-2 w ↦ ap (λ v. v.items) w.path-is ∙ grind (arith, common_steps, w.in_ok-push.ensures.items, w.in_ok-rebuild.ensures.path, w.pop.ensures.rest) ∙ c.loop-slot.invariant.path
+      | else-is_replaced+then-not-alter_below+in_ok-push_child w ↦ ap (λ v. v.items) w.path-is ∙ w.in_ok-push_child.ensures.path ∙ c.loop-slot.invariant.path
+      | else-is_replaced+else-not-alter_below+in_ok-inner+in_ok-push+in_ok-rebuild+in_ok-push-2 w ↦ ap (λ v. v.items) w.path-is ∙ grind (arith, common_steps, w.in_ok-push.ensures.items, w.in_ok-rebuild.ensures.path, w.pop.ensures.rest) ∙ c.loop-slot.invariant.path
     ] in
     let middle : element_trees mid ≡ element_trees out ++ slot kind_only given cs (i ∷ []) kept =
     elim c.if-is_replaced.branch [
       | then-is_replaced+in_ok-push_slot w ↦
           let changes = ap (λ g. replacements_at (aims_of g) (i ∷ [])) here ∙ group-replacements i aims in
           ap (λ o. element_trees o.items) w.out-is ∙ w.in_ok-push_slot.ensures.trees ∙ ap (λ ns. element_trees out ++ flat_map given ns) changes ∙ ap (λ us. element_trees out ++ us) (slot-replaced kind_only given cs (i ∷ []) kept (sym replaced ∙ w.if-is_replaced.true))
-      | else-is_replaced+in_ok-inner+in_ok-push+in_ok-rebuild+in_ok-push-2 w ↦
-          let child = tree_at es i w.index-children-slot.result d c.loop-slot-test.true w.index-children-slot.is ∙ ap (λ us. get_or us i d) c.children-children.ensures in
-          let inner = w.in_ok-inner.ensures ∙ ap (λ g. placed_below i (map placed g)) here ∙ group-below i aims in
-          let made = w.in_ok-rebuild.ensures.tree ∙ ap (λ xs. rewritten kind_only given (aims_of xs) [] (element_tree w.index-children-slot.result)) w.deref-else-is_replaced-2.ensures.value ∙ aims-below (λ k. k) given aims w.in_ok-inner.inner.items i (element_tree w.index-children-slot.result) inner ∙ ap (rewritten kind_only given cs (i ∷ [])) child in
+      | else-is_replaced+then-not-alter_below+in_ok-push_child w ↦
+          let none = quiet ∙ sym w.alter_below.ensures ∙ w.if-not-alter_below.true in
+          let stays = child ∙ sym (kept-below aims i none given (get_or ts i d)) in
+          ap (λ o. element_trees o.items) w.out-is ∙ w.in_ok-push_child.ensures.trees ∙ ap (λ u. element_trees out ++ u ∷ []) stays ∙ ap (λ us. element_trees out ++ us) (slot-kept kind_only given cs (i ∷ []) kept (sym replaced ∙ w.if-is_replaced.false))
+      | else-is_replaced+else-not-alter_below+in_ok-inner+in_ok-push+in_ok-rebuild+in_ok-push-2 w ↦
+          let inner = w.in_ok-inner.ensures ∙ group_below in
+          let made = w.in_ok-rebuild.ensures.tree ∙ ap (λ xs. rewritten kind_only given (aims_of xs) [] e) w.deref-else-not-alter_below.ensures.value ∙ aims-below (λ k. k) given aims w.in_ok-inner.inner.items i e inner ∙ ap (rewritten kind_only given cs (i ∷ [])) child in
           ap (λ o. element_trees o.items) w.out-is ∙ ap element_trees w.in_ok-push-2.ensures.items ∙ map-append element_tree out (_ ∷ []) ∙ ap (λ u. element_trees out ++ u ∷ []) made ∙ ap (λ us. element_trees out ++ us) (slot-kept kind_only given cs (i ∷ []) kept (sym replaced ∙ w.if-is_replaced.false))
     ] in
     record {
@@ -128,20 +138,24 @@ loop-slot-preserved t c =
                 let nothing_on : 0 + still cs (i + 1) ts ≡ still cs (i + 1) ts = omega arith in
                 let none = slot_counted-replaced cs i own (sym replaced ∙ w.if-is_replaced.true) in
                 ap (λ n. counted n (still cs (i + 1) ts)) w.builds-is ∙ ap (counted c.loop-slot.builds) (sym (more ∙ ap (λ n. n + still cs (i + 1) ts) none ∙ nothing_on)) ∙ c.loop-slot.invariant.count
-            | else-is_replaced+in_ok-inner+in_ok-push+in_ok-rebuild+in_ok-push-2 w ↦
-                let child = tree_at es i w.index-children-slot.result d c.loop-slot-test.true w.index-children-slot.is ∙ ap (λ us. get_or us i d) c.children-children.ensures in
-                let inner = w.in_ok-inner.ensures ∙ ap (λ g. placed_below i (map placed g)) here ∙ group-below i aims in
-                let below_it = ap (λ xs. nodes_built (aims_of xs) (element_tree w.index-children-slot.result)) w.deref-else-is_replaced-2.ensures.value ∙ counted-below aims w.in_ok-inner.inner.items i (element_tree w.index-children-slot.result) inner ∙ ap (λ u. built cs (i ∷ []) u (inside i (parents_of cs))) child ∙ sym (slot_counted-kept cs i own (sym replaced ∙ w.if-is_replaced.false)) in
+            | else-is_replaced+then-not-alter_below+in_ok-push_child w ↦
+                let none = quiet ∙ sym w.alter_below.ensures ∙ w.if-not-alter_below.true in
+                let nothing_on : 0 + still cs (i + 1) ts ≡ still cs (i + 1) ts = omega arith in
+                let nothing_built = slot_counted-kept cs i own (sym replaced ∙ w.if-is_replaced.false) ∙ none-built aims i none own in
+                ap (λ n. counted n (still cs (i + 1) ts)) w.builds-is ∙ ap (counted c.loop-slot.builds) (sym (more ∙ ap (λ n. n + still cs (i + 1) ts) nothing_built ∙ nothing_on)) ∙ c.loop-slot.invariant.count
+            | else-is_replaced+else-not-alter_below+in_ok-inner+in_ok-push+in_ok-rebuild+in_ok-push-2 w ↦
+                let inner = w.in_ok-inner.ensures ∙ group_below in
+                let below_it = ap (λ xs. nodes_built (aims_of xs) e) w.deref-else-not-alter_below.ensures.value ∙ counted-below aims w.in_ok-inner.inner.items i e inner ∙ ap (λ u. built cs (i ∷ []) u (inside i (parents_of cs))) child ∙ sym (slot_counted-kept cs i own (sym replaced ∙ w.if-is_replaced.false)) in
                 count-step c.loop-slot.builds (in_slot cs i own) _ (still cs (i + 1) ts) _ (w.builds-is ∙ w.in_ok-rebuild.ensures.count ∙ ap (counted c.loop-slot.builds) below_it) (ap (counted c.loop-slot.builds) (sym more) ∙ c.loop-slot.invariant.count)
           ];
       builds =
           let more = to_come-step (parents_of cs) i ts d in_range in
           elim c.if-is_replaced.branch [
             | then-is_replaced+in_ok-push_slot w ↦ omega (arith, w.builds-is)
-            | else-is_replaced+in_ok-inner+in_ok-push+in_ok-rebuild+in_ok-push-2 w ↦
-                let child = tree_at es i w.index-children-slot.result d c.loop-slot-test.true w.index-children-slot.is ∙ ap (λ us. get_or us i d) c.children-children.ensures in
-                let inner = w.in_ok-inner.ensures ∙ ap (λ g. placed_below i (map placed g)) here ∙ group-below i aims in
-                let below_it = ap (λ xs. touched (element_tree w.index-children-slot.result) (parents_of (aims_of xs))) w.deref-else-is_replaced-2.ensures.value ∙ ap (touched (element_tree w.index-children-slot.result)) (parents-below aims w.in_ok-inner.inner.items i inner) ∙ ap (λ u. touched u (inside i (parents_of cs))) child in
+            | else-is_replaced+then-not-alter_below+in_ok-push_child w ↦ omega (arith, w.builds-is)
+            | else-is_replaced+else-not-alter_below+in_ok-inner+in_ok-push+in_ok-rebuild+in_ok-push-2 w ↦
+                let inner = w.in_ok-inner.ensures ∙ group_below in
+                let below_it = ap (λ xs. touched e (parents_of (aims_of xs))) w.deref-else-not-alter_below.ensures.value ∙ ap (touched e) (parents-below aims w.in_ok-inner.inner.items i inner) ∙ ap (λ u. touched u (inside i (parents_of cs))) child in
                 omega (arith, w.builds-is, w.in_ok-rebuild.ensures.builds)
           ];
       tree =
@@ -152,18 +166,19 @@ loop-slot-preserved t c =
           let between : List Marking = marks_of c.if-is_replaced.found.items in
           let own : MarkTree = rewritten (wanted sought) trees cs (i ∷ []) (get_or ts i d) in
           let s : List MarkTree = slot (wanted sought) trees cs (i ∷ []) own in
+          let below_it = c.sought_for-to_find.ensures ∙ ap (λ ls. sought_for ls i) c.deref-in-loop-slot.ensures.value ∙ c.in_ok-lists.ensures i c.loop-slot-test.true in
           let shown_there : between ≡ before ++ shown path (length out) s =
           elim c.if-is_replaced.branch [
             | then-is_replaced+in_ok-push_slot w ↦
                 let changes = ap (λ g. replacements_at (aims_of g) (i ∷ [])) here ∙ group-replacements i aims in
                 ap (λ v. marks_of v.items) w.found-is ∙ w.in_ok-push_slot.ensures.marks trees are ∙ ap₂ (λ p ns. before ++ shown p (length out) (flat_map trees ns)) c.loop-slot.invariant.path changes ∙ ap (λ us. before ++ shown path (length out) us) (slot-replaced (wanted sought) trees cs (i ∷ []) own (sym replaced ∙ w.if-is_replaced.true))
-            | else-is_replaced+in_ok-inner+in_ok-push+in_ok-rebuild+in_ok-push-2 w ↦
-                let child = tree_at es i w.index-children-slot.result d c.loop-slot-test.true w.index-children-slot.is ∙ ap (λ us. get_or us i d) c.children-children.ensures in
-                let inner = w.in_ok-inner.ensures ∙ ap (λ g. placed_below i (map placed g)) here ∙ group-below i aims in
-                let inner_sought = w.sought_for-inner_sought.result.now in
-                let below_it = w.sought_for-inner_sought.ensures ∙ ap (λ ls. sought_for ls i) w.deref-else-is_replaced.ensures.value ∙ c.in_ok-lists.ensures i c.loop-slot-test.true in
-                let e = element_tree w.index-children-slot.result in
-                let it = ap₂ (λ xs ms. rewritten (wanted ms) trees (aims_of xs) [] e) w.deref-else-is_replaced-2.ensures.value below_it ∙ seen-below (wanted sought) (wanted (sought_below i sought)) trees aims w.in_ok-inner.inner.items i e (λ p k. marks-below sought i p) inner ∙ ap (rewritten (wanted sought) trees cs (i ∷ [])) child in
+            | else-is_replaced+then-not-alter_below+in_ok-push_child w ↦
+                let none = quiet ∙ sym w.alter_below.ensures ∙ w.if-not-alter_below.true in
+                let it = ap (λ ms. rewritten (wanted ms) (λ c. []) [] [] e) below_it ∙ sym (marks_kept-below aims i none sought trees e) ∙ ap (rewritten (wanted sought) trees cs (i ∷ [])) child in
+                ap (λ v. marks_of v.items) w.found-is ∙ w.in_ok-push_child.ensures.marks ∙ ap₂ (λ p u. before ++ shown p (length out) (u ∷ [])) c.loop-slot.invariant.path it ∙ ap (λ us. before ++ shown path (length out) us) (slot-kept (wanted sought) trees cs (i ∷ []) own (sym replaced ∙ w.if-is_replaced.false))
+            | else-is_replaced+else-not-alter_below+in_ok-inner+in_ok-push+in_ok-rebuild+in_ok-push-2 w ↦
+                let inner = w.in_ok-inner.ensures ∙ group_below in
+                let it = ap₂ (λ xs ms. rewritten (wanted ms) trees (aims_of xs) [] e) w.deref-else-not-alter_below.ensures.value below_it ∙ seen-below (wanted sought) (wanted (sought_below i sought)) trees aims w.in_ok-inner.inner.items i e (λ p k. marks-below sought i p) inner ∙ ap (rewritten (wanted sought) trees cs (i ∷ [])) child in
                 let slot_is : w.len.result ≡ length out = search rules in
                 let there : w.push.new.self.items ≡ path ++ length out ∷ [] = w.in_ok-push.ensures.items ∙ ap₂ (λ p n. p ++ n ∷ []) c.loop-slot.invariant.path slot_is in
                 ap (λ v. marks_of v.items) w.found-is ∙ w.in_ok-rebuild.ensures.marks trees are ∙ ap₂ (λ p u. before ++ map (mark_below p) (marked u)) there it ∙ ap (λ ms. before ++ ms) (sym (shown-one path (length out) own)) ∙ ap (λ us. before ++ shown path (length out) us) (slot-kept (wanted sought) trees cs (i ∷ []) own (sym replaced ∙ w.if-is_replaced.false))

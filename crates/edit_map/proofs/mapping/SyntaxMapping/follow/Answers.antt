@@ -18,13 +18,13 @@ steps-init c =
 
 pub steps-smaller : goal.steps-smaller
 steps-smaller c =
-    let pairs : ArePairs c.args.self.now = rw (← c.self.view_is) c.self.invariant.pairs in
+    let pairs : ArePairs c.args.self.now = rw (← c.self.view_is) c.self.invariant.mapping.pairs in
     let step = rw c.in-Some.is at c.in_ok-next.ensures in
     syntax-falls c.args.self.now (pairs-rise c.args.self.now pairs) c.steps.here c.in-Some.next (sym step)
 
 pub steps-preserved : goal.steps-preserved
 steps-preserved c =
-    let pairs : ArePairs c.args.self.now = rw (← c.self.view_is) c.self.invariant.pairs in
+    let pairs : ArePairs c.args.self.now = rw (← c.self.view_is) c.self.invariant.mapping.pairs in
     let step = rw c.in-Some.is at c.in_ok-next.ensures in
     record {
       standing = standing-next c.args.self.now c.steps.here c.in-Some.next (sym step);
@@ -35,7 +35,7 @@ steps-preserved c =
 
 pub returns-clause-followed : goal.returns-clause-followed
 returns-clause-followed c = λ tell.
-    let pairs : ArePairs c.args.self.now = rw (← c.self.view_is) c.self.invariant.pairs in
+    let pairs : ArePairs c.args.self.now = rw (← c.self.view_is) c.self.invariant.mapping.pairs in
     let none = rw c.in_default.is at c.in_ok-next.ensures in
     let ends = no_step-told c.args.self.now (element_of c.args.element.now) pairs tell c.steps.here c.steps.invariant.standing (c.steps.invariant.told tell) (sym none) in
     followed_unique c.args.self.now (pairs-rise c.args.self.now pairs) (element_of c.args.element.now) (element_of c.steps.here) (c.steps.invariant.followed tell (element_of c.steps.here) (followed-there c.args.self.now (element_of c.steps.here) ends))

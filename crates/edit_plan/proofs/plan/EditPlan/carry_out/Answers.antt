@@ -1,4 +1,4 @@
-use Rattle.std.proofs.Common.{◌≡◌, ◌<◌, ◌∙◌, length, subst, sym, ap, arith}
+use Rattle.std.proofs.Common.{◌<◌, length, subst, sym, ap, arith}
 use Rattle.edit_change.specs.Fits.{Fits}
 use Rattle.std.specs.Prelude.{All}
 use Rattle.edit_plan.specs.inner.OwnerTables.{places_in}

@@ -1,12 +1,10 @@
 use Rattle.std.proofs.Common.{◌≡◌, ◌<◌, [], map, Err, Some, sym, ◌∙◌, ap, subst}
 use Rattle.cst_core.specs.Green.{branch_tree, length_limit}
 use Rattle.cst_core.specs.Tree.{text_length}
-use Rattle.cst_core.specs.SyntaxElement.{syntax_at}
 use Rattle.rewriting.specs.Topmost.{paths_of}
 use Rattle.edit_plan.specs.Plan.{RunRefuses}
-use Rattle.edit_plan.specs.Engine.{annotated_path, IsRewritten}
+use Rattle.edit_plan.specs.Engine.{annotated_path}
 use Rattle.edit_plan.specs.EditRefusal.{of_tree}
-use Rattle.edit_plan.specs.Results.{paths_with}
 use Rattle.edit_plan.proofs.ByAnnotation.{found-in}
 use Rattle.edit_plan.proofs.Carrying.{makes, refuses, err-gives}
 use Rattle.edit_plan.proofs.Leading.{changed-there, annotated-there}
@@ -20,10 +18,7 @@ elements_at-requires c =
 pub elements_by_annotation-requires : goal.elements_by_annotation-requires
 elements_by_annotation-requires c =
     let rewritten = c.args.rewritten in
-    record {
-      is_root = ap (λ x. x.path) c.in_ok-new_root.ensures.ok;
-      there = annotated-there c.args.self.now (branch_tree rewritten.green) (paths_of rewritten.changed.items) (map annotated_path c.deref.result.now) (subst (λ ns. IsRewritten c.args.self.now (branch_tree rewritten.green) (paths_of rewritten.changed.items) (map annotated_path ns)) (sym c.deref.ensures.value) c.requires.rewritten) c.in_ok-new_root.new_root (ap (λ x. x.root) c.in_ok-new_root.ensures.ok);
-    }
+    annotated-there c.args.self.now (branch_tree rewritten.green) (paths_of rewritten.changed.items) (map annotated_path rewritten.annotated.items) c.requires.rewritten c.in_ok-new_root.new_root (ap (λ x. x.root) c.in_ok-new_root.ensures.ok)
 
 pub returns-in_err-new_root-clause-refused : goal.returns-in_err-new_root-clause-refused
 returns-in_err-new_root-clause-refused c =
@@ -37,7 +32,7 @@ returns-clause-ok c =
     let rewritten = c.args.rewritten in
     let root = c.in_ok-new_root.new_root in
     let own : c.new-own.result ≡ c.args.ids.now = c.new-own.ensures ∙ c.next_number.ensures in
-    makes c.args.self.now rewritten.green (paths_of rewritten.changed.items) (map annotated_path rewritten.annotated.items) c.requires.rewritten c.args.ids.now _ (c.in_ok-old_root.ensures ∙ ap (λ x. x.root) c.self.view_is) (c.in_ok-new_root.ensures.ok ∙ ap (λ n. record { number = n; root = branch_tree rewritten.green; path = [] }) own) c.in_ok-changed.ensures (λ a. ap (map (λ x. Some x)) (found-in c.in_ok-annotated.annotated.lists.entries a) ∙ c.in_ok-annotated.ensures a ∙ ap (λ ns. map (syntax_at root) (paths_with a (map annotated_path ns))) c.deref.ensures.value)
+    makes c.args.self.now rewritten.green (paths_of rewritten.changed.items) (map annotated_path rewritten.annotated.items) c.requires.rewritten c.args.ids.now _ (c.in_ok-old_root.ensures ∙ ap (λ x. x.root) c.self.view_is) (c.in_ok-new_root.ensures.ok ∙ ap (λ n. record { number = n; root = branch_tree rewritten.green; path = [] }) own) c.in_ok-changed.ensures (λ a. ap (map (λ x. Some x)) (found-in c.in_ok-annotated.annotated.lists.entries a) ∙ c.in_ok-annotated.ensures a)
 
 pub returns-clause-short : goal.returns-clause-short
 returns-clause-short c = subst (λ e. text_length e.root < length_limit) c.new_root-2.view_is c.new_root-2.invariant.fits

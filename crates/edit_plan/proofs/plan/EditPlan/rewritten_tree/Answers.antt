@@ -1,4 +1,4 @@
-use Rattle.std.proofs.Common.{◌≡◌, ◌∷◌, map, ap, ap₂, subst, ◌∙◌}
+use Rattle.std.proofs.Common.{◌≡◌, ◌∷◌, map, ap, ap₂, subst, ◌∙◌, refl}
 use Rattle.std.specs.Prelude.{All}
 use Rattle.cst_core.specs.Green.{branch_tree}
 use Rattle.cst_core.specs.Element.{NumbersTell}
@@ -22,4 +22,4 @@ returns-clause-made c =
     let copies = path_lists new.copies.items in
     let paths = paths_of new.changed.items in
     let reached = subst (λ rs. All (λ r. NumbersTell (element_of r.0 ∷ mapped_elements m)) rs → map element_of fs ≡ map (λ r. followed m (element_of r.0)) rs) c.deref.ensures.value c.in_ok-registered.ensures.followed in
-    is_rewritten p fs tree copies paths (map annotated_path c.in_ok-annotated.annotated.items) (subst (λ es. IsMade p es tree copies paths) c.deref-2.ensures.value c.in_ok-green.ensures.made) (subst (λ (q : Plan). All (λ r. NumbersTell (element_of r.0 ∷ mapped_elements q.mapping)) q.registrations → map element_of fs ≡ map (λ r. followed q.mapping (element_of r.0)) q.registrations) c.self.view_is reached) (c.in_ok-annotated.ensures ∙ ap₂ (λ rs ls. numbered_paths (map (λ r. r.1) rs) (path_lists ls)) (c.deref-3.ensures.value ∙ ap (λ x. x.registrations) c.self.view_is) c.deref-4.ensures.value)
+    is_rewritten p fs tree copies paths (map annotated_path c.in_ok-annotated.annotated.items) (subst (λ es. IsMade p es tree copies paths) c.deref-2.ensures.value c.in_ok-green.ensures.made) (subst (λ (q : Plan). All (λ r. NumbersTell (element_of r.0 ∷ mapped_elements q.mapping)) q.registrations → map element_of fs ≡ map (λ r. followed q.mapping (element_of r.0)) q.registrations) c.self.view_is reached) (c.in_ok-annotated.ensures ∙ ap₂ (λ rs ls. numbered_paths (map (λ r. r.1) rs) (path_lists ls)) (c.deref-3.ensures.value ∙ ap (λ x. x.registrations) c.self.view_is) refl)

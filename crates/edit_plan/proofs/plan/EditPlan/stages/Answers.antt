@@ -1,4 +1,4 @@
-use Rattle.std.proofs.Common.{sym, subst, ◌≡◌, map, false}
+use Rattle.std.proofs.Common.{subst, ◌≡◌, map, false}
 use Rattle.std.specs.Prelude.{IfOk}
 use Rattle.cst_core.specs.Element.{subtree}
 use Rattle.edit_stages.specs.inner.Stages.{Begins, done_in}

@@ -1,0 +1,187 @@
+//! What notes cost: beside the same edit without them, and beside copies of as many paths as come out.
+use crate::case::{Case, Subject};
+use crate::figures::{Figures, Phase};
+use crate::growth::SIZES;
+use crate::measured::{measured, recorded};
+use crate::notes::Noted;
+use anyhow::{Context, Result};
+use cst_core::TreeIds;
+use std::alloc::Global;
+use std::rt::Clock;
+use std::time::Instant;
+use syntax_editor::{Annotations, SyntaxEdit};
+
+/// How often each edit is measured. The two that are compared take turns.
+const TRIES: usize = 15;
+
+/// Notes of the payload.
+const NOTES: usize = 4096;
+
+/// How often the payload is brought.
+const TIMES: [usize; 2] = [16, 64];
+
+/// The figures of an edit with notes, and of the same without.
+#[derive(Clone, Copy)]
+struct Pair {
+    noted: Figures,
+    plain: Figures,
+}
+
+/// How many paths come out of an edit, how many seconds it took to finish it, and how many to make as many copies of a path.
+#[derive(Clone, Copy)]
+struct Brought {
+    paths: usize,
+    finished: f64,
+    copied: f64,
+}
+
+impl Pair {
+    // Of n statements, after each of which another one is inserted.
+    fn measured<R: Clock>(rt: &R, alloc: Global, size: usize) -> Result<Pair> {
+        let noted = Case::Noted(Noted::List(size));
+        let plain = Case::Spread {
+            subject: Subject::Statements,
+            size,
+            step: 1,
+        };
+        Ok(Pair {
+            noted: measured(rt, alloc, noted)?,
+            plain: measured(rt, alloc, plain)?,
+        })
+    }
+
+    // The shortest times of some tries.
+    fn tried<R: Clock>(rt: &R, alloc: Global, size: usize) -> Result<Pair> {
+        let mut best = Pair::measured(rt, alloc, size)?;
+        for _ in 1..TRIES {
+            let Pair { noted, plain } = Pair::measured(rt, alloc, size)?;
+            best = Pair {
+                noted: best.noted.best(noted),
+                plain: best.plain.best(plain),
+            };
+        }
+        Ok(best)
+    }
+
+    fn show<R: Print>(self, rt: &R, size: usize) -> Result<()> {
+        let noted = self.noted.of(Phase::PlannedAndRun);
+        let plain = self.plain.of(Phase::PlannedAndRun);
+        let times = noted / plain;
+        let times_recorded = (noted + self.noted.recorded) / (plain + self.plain.recorded);
+        println!(rt;
+            "notes on {size} statements: finished {:.3} ms, without notes {:.3} ms: {times:.2} times, with recording {times_recorded:.2} times",
+            noted * 1e3,
+            plain * 1e3
+        )?;
+        Ok(())
+    }
+}
+
+// How many elements of the new tree were copied from the literals of a payload with this many notes.
+fn found(edit: &SyntaxEdit, notes: usize) -> Result<usize> {
+    let mut annotations = Annotations::new(1);
+    let mut found = 0usize;
+    for _ in 0..notes {
+        let annotation = annotations.next().context("no annotation")?;
+        found = found.saturating_add(edit.find_annotation(annotation).len());
+    }
+    Ok(found)
+}
+
+// The path of one of these elements.
+fn path_of_one(alloc: Global, edit: &SyntaxEdit) -> Result<Vec<usize>> {
+    let annotation = Annotations::new(1).next().context("no annotation")?;
+    let element = edit
+        .find_annotation(annotation)
+        .last()
+        .context("no element")?;
+    Ok(element.path(alloc)?)
+}
+
+// So many copies of a path.
+fn copies(alloc: Global, path: &[usize], number: usize) -> Result<Vec<Vec<usize>>> {
+    let mut copies = Vec::with_capacity(alloc, number)?;
+    for _ in 0..number {
+        copies.push(Vec::from_slice(alloc, path)?)?;
+    }
+    Ok(copies)
+}
+
+// How many seconds it takes to make so many copies of a path.
+fn time_of_copies<R: Clock>(rt: &R, alloc: Global, path: &[usize], number: usize) -> Result<f64> {
+    let start = Instant::now(rt)?;
+    let _copies = copies(alloc, path, number)?;
+    Ok(start.elapsed(rt)?.as_secs_f64())
+}
+
+// A payload with notes brought so many times, and how many seconds it took to finish that.
+fn finished<R: Clock>(rt: &R, alloc: Global, times: usize) -> Result<(SyntaxEdit, f64)> {
+    let mut ids = TreeIds::new(1);
+    let case = Case::Noted(Noted::Payload {
+        notes: NOTES,
+        times,
+    });
+    let (editor, _) = recorded(rt, alloc, &mut ids, case)?;
+    let start = Instant::now(rt)?;
+    let edit = editor.finish(alloc, &mut ids)?;
+    let seconds = start.elapsed(rt)?.as_secs_f64();
+    Ok((edit, seconds))
+}
+
+impl Brought {
+    fn measured<R: Clock>(rt: &R, alloc: Global, times: usize) -> Result<Brought> {
+        let (edit, finished) = finished(rt, alloc, times)?;
+        let paths = found(&edit, NOTES)?;
+        let path = path_of_one(alloc, &edit)?;
+        Ok(Brought {
+            paths,
+            finished,
+            copied: time_of_copies(rt, alloc, &path, paths)?,
+        })
+    }
+
+    // The shortest times of some tries.
+    fn tried<R: Clock>(rt: &R, alloc: Global, times: usize) -> Result<Brought> {
+        let mut best = Brought::measured(rt, alloc, times)?;
+        for _ in 1..TRIES {
+            let other = Brought::measured(rt, alloc, times)?;
+            best = Brought {
+                finished: best.finished.min(other.finished),
+                copied: best.copied.min(other.copied),
+                ..best
+            };
+        }
+        Ok(best)
+    }
+
+    fn show<R: Print>(self, rt: &R, times: usize) -> Result<()> {
+        let Brought { paths, .. } = self;
+        let finished = self.finished * 1e3;
+        let copied = self.copied * 1e3;
+        let ratio = self.finished / self.copied;
+        println!(rt;
+            "a payload of {NOTES} notes, brought {times} times: finished {finished:.3} ms, {paths} paths copied {copied:.3} ms: {ratio:.2} times"
+        )?;
+        Ok(())
+    }
+}
+
+fn report_notes<R: Print + Clock>(rt: &R, alloc: Global) -> Result<()> {
+    for size in SIZES {
+        Pair::tried(rt, alloc, size)?.show(rt, size)?;
+    }
+    Ok(())
+}
+
+fn report_payloads<R: Print + Clock>(rt: &R, alloc: Global) -> Result<()> {
+    for times in TIMES {
+        Brought::tried(rt, alloc, times)?.show(rt, times)?;
+    }
+    Ok(())
+}
+
+/// Edits with notes, beside the same without and beside copies of paths.
+pub(crate) fn report_ratios<R: Print + Clock>(rt: &R, alloc: Global) -> Result<()> {
+    report_notes(rt, alloc)?;
+    report_payloads(rt, alloc)
+}

@@ -1,0 +1,28 @@
+use Rattle.std.proofs.Common.{◌≡◌, ℕ, ◌++◌, [], ◌∷◌, cond, Some, sym, subst, ◌∙◌, ap}
+use Rattle.std.specs.Prelude.{nat_eq}
+use Rattle.path_table.specs.PathTable.{place_below, IsGrown}
+use Rattle.rewriting.specs.inner.Marked.{sought_as}
+use Rattle.edit_plan.specs.inner.Sought.{address_path, listed_at}
+use Rattle.edit_plan.proofs.Registered.{pushed-one, entered, entered-unused}
+use Rattle.edit_plan.proofs.sought.SoughtIndex.enter.Goals as goal
+
+pub returns : goal.returns
+returns c =
+    let before = c.args.self.now in
+    let after = c.push_at.new.self in
+    let next : ℕ = c.in_ok-next.next in
+    let m = sought_as c.args.mark in
+    let same : after.places ≡ c.enter.new.self = c.push_at.ensures.places ∙ c.make_room.ensures.places in
+    let grown : IsGrown before.places after.places = subst (IsGrown before.places) (sym same) c.in_ok-next.ensures.grown in
+    let leads : place_below after.places c.args.place c.args.slot ≡ Some next = subst (λ t. place_below t c.args.place c.args.slot ≡ Some next) (sym same) c.in_ok-next.ensures.leads in
+    let more : (k : ℕ) → listed_at after k ≡ listed_at before k ++ cond (nat_eq next k) (m ∷ []) [] = λ k.
+    pushed-one c.make_room.new.self.lists.items after.lists.items next c.args.mark c.push_at.ensures.size c.in_ok-make_room.ensures.room c.in_ok-push_at.ensures.here c.in_ok-push_at.ensures.elsewhere k ∙ ap (λ ms. ms ++ cond (nat_eq next k) (m ∷ []) []) (c.make_room.ensures.lists k) in
+    record {
+      index = record {
+        tree = grown.tree;
+        unused = entered-unused before.places after.places (listed_at before) (listed_at after) grown c.requires.index.unused c.args.place c.args.slot next m leads more;
+      };
+      grown = grown;
+      leads = leads;
+      more = λ p at a. entered before.places after.places (listed_at before) (listed_at after) grown c.requires.index.unused c.args.place c.args.slot next m leads more p at (address_path a);
+    }

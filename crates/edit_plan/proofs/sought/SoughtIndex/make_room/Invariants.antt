@@ -1,0 +1,10 @@
+use Rattle.std.proofs.Common.{◌≡◌, length}
+use Rattle.edit_plan.specs.inner.Sought.{HasSameLists}
+use Rattle.edit_plan.proofs.sought.SoughtIndex.make_room.Given as goal
+
+abbrev pub invariant-loop : goal.invariant-loop
+invariant-loop l = record {
+  places : l.self.places ≡ l.fn.self.places;
+  lists : HasSameLists l.fn.self l.self;
+  room : length l.self.lists.items ≡ l.counter;
+}
