@@ -58,7 +58,8 @@ fn rearrange(alloc: Global, editor: &mut SyntaxEditor, root: &SyntaxNode) -> Res
 fn text_is_told()
     ensures { (editor after : Editor) (number : ℕ) (edit : Edit)
         → editor.root.path ≡ [] → editor.changes ≡ [] → Rearranges editor.root editor after
-        → Makes (plan_of after) number edit → text edit.new_root.root ≡ changed_text after.changes (subtree after.root) }
+        → Makes (plan_of after) number edit
+        → text edit.new_root.root ≡ changed_text after.changes (subtree after.root) }
 {
     edit_text_is_filled();
     calls_at_one_depth_own_nothing();
