@@ -2,6 +2,7 @@
 --     Address                          a tree's number and a path in it
 --     Element                          a value that stands for an element: the number, the whole tree, the path
 --     address, subtree                 its address, and the tree that it stands for
+--     address_path                     an address as the path in a table of trees: the number first, then the slots
 --     same_address, same_element       equal numbers and paths
 --     IsElement, IsNode, IsToken       the path leads to an element; to a node; to a token
 --     IsChild                          the second is a child of the first
@@ -25,6 +26,9 @@ pub record Element : Type 0 where
 
 abbrev pub address : Element → Address
 address e = record { number = e.number; path = e.path }
+
+abbrev pub address_path : Address → Path
+address_path a = a.number ∷ a.path
 
 abbrev pub same_address : Address → Address → Bool
 same_address a b = nat_eq a.number b.number && same_path a.path b.path

@@ -2,14 +2,14 @@
 --     in_tree, at_depth              the address at a path of a tree; that to which the first slots of an address lead
 --     Passes                         the address above this one at a depth is free, and is not the payload
 --     IsLastStop                     the greatest number below this one of which something does not hold, or that there is none
---     stop_path, IsFree              an address as the path in a table; the table has nothing there
+--     IsFree                         the table has nothing at an address
 --     IsStopAbove                    how many slots lead to the nearest node above one that a table has or that is the payload
 --     HasNoCopy                      an address has no copy
 --     StopsAll                       a table has all first elements of these pairs
 --     IsKept                         a mapping, and a table that has all that it maps
 use Rattle.std.specs.Prelude.{◌≡◌, ◌≢◌, ℕ, ◌<◌, ◌∷◌, take, length, Option, None, MatchOption, All}
 use Rattle.cst_core.specs.Path.{Path}
-use Rattle.cst_core.specs.Element.{Address, Element, address}
+use Rattle.cst_core.specs.Element.{Address, Element, address, address_path}
 use Rattle.path_table.specs.PathTable.{number_by_path, IsTree}
 use Rattle.edit_map.specs.Mapping.{Mapping, copy}
 use Rattle.edit_map.specs.Builder.{IsMapping}
@@ -28,11 +28,8 @@ abbrev pub IsLastStop : (ℕ → Type 0) → ℕ → Option ℕ → Type 0
 IsLastStop passes n stop =
     MatchOption stop ((k : ℕ) → k < n → passes k) (λ d. (d < n) × ((k : ℕ) → d < k → k < n → passes k))
 
-abbrev pub stop_path : Address → Path
-stop_path x = x.number ∷ x.path
-
 abbrev pub IsFree : Stops → Address → Type 0
-IsFree stops x = number_by_path stops.places (stop_path x) ≡ None
+IsFree stops x = number_by_path stops.places (address_path x) ≡ None
 
 abbrev pub IsStopAbove : Stops → Element → Element → Option ℕ → Type 0
 IsStopAbove stops node payload stop =

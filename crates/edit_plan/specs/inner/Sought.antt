@@ -1,5 +1,4 @@
 -- Registered elements, as they are sought in the trees that are rewritten. The mark of a registration is its number.
---     address_path                  an address as the path in a table
 --     path_below                    what is left of a path after another one, if it begins with that
 --     sought_one                    a registered element, if it is at an address or below it, with the path from there
 --     sought_from                   of these registered elements, numbered from here on, all that are
@@ -14,15 +13,12 @@
 use Rattle.std.specs.Prelude.{◌≡◌, ◌<◌, ℕ, suc, nat_eq, cond, List, [], ◌∷◌, ◌++◌, map, Option, Some, None}
 use Rattle.std.specs.Option.{option_map_or}
 use Rattle.cst_core.specs.Path.{Path, same_path}
-use Rattle.cst_core.specs.Element.{Address, address}
+use Rattle.cst_core.specs.Element.{Address, address, address_path}
 use Rattle.cst_core.specs.SyntaxElement.{element_of}
 use Rattle.cst_core.specs.declared.element.SyntaxElement.{SyntaxElement}
 use Rattle.path_table.specs.PathTable.{place_below, place_at, size, IsTree, IsGrown}
 use Rattle.rewriting.specs.inner.Marked.{Marking, sought_for, marks_at}
 use Rattle.edit_plan.specs.declared.sought.SoughtIndex.{SoughtIndex}
-
-abbrev pub address_path : Address → Path
-address_path a = a.number ∷ a.path
 
 abbrev pub path_below : Path → Path → Option Path
 path_below [] p = Some p

@@ -2,7 +2,8 @@ use Rattle.std.proofs.Common.{◌≡◌, ℕ, ◌++◌, [], ◌∷◌, cond, Som
 use Rattle.std.specs.Prelude.{nat_eq}
 use Rattle.path_table.specs.PathTable.{place_below, IsGrown}
 use Rattle.rewriting.specs.inner.Marked.{sought_as}
-use Rattle.edit_plan.specs.inner.Sought.{address_path, listed_at}
+use Rattle.edit_plan.specs.inner.Sought.{listed_at}
+use Rattle.cst_core.specs.Element.{address_path}
 use Rattle.edit_plan.proofs.Registered.{pushed-one, entered, entered-unused}
 use Rattle.edit_plan.proofs.sought.SoughtIndex.enter.Goals as goal
 
