@@ -51,6 +51,15 @@ pub(crate) enum Growth {
     Times,
 }
 
+/// One growth for each form of edit in which every part of the tree has its change.
+pub(crate) const ONE_OF_EACH: [Growth; 5] = [
+    Growth::Both(Subject::Literals),
+    Growth::Both(Subject::Statements),
+    Growth::Both(Subject::Leaves),
+    Growth::Chains,
+    Growth::Notes,
+];
+
 const GROWTHS: [Growth; 15] = [
     Growth::Changes(Subject::Literals),
     Growth::Size(Subject::Literals),
@@ -279,15 +288,9 @@ fn report_edit<R: Print + Clock>(rt: &R, alloc: Global, case: Case) -> Result<()
 
 /// One small edit of each kind, and one with few changes in a large tree, without a time.
 pub(crate) fn report_edits<R: Print + Clock>(rt: &R, alloc: Global) -> Result<()> {
-    for growth in [
-        Growth::Both(Subject::Literals),
-        Growth::Both(Subject::Statements),
-        Growth::Both(Subject::Leaves),
-        Growth::Chains,
-        Growth::Notes,
-        Growth::PayloadNotes,
-    ] {
+    for growth in ONE_OF_EACH {
         report_edit(rt, alloc, growth.case(LEAST))?;
     }
+    report_edit(rt, alloc, Growth::PayloadNotes.case(LEAST))?;
     report_edit(rt, alloc, Growth::Size(Subject::Leaves).case(MOST))
 }

@@ -1,8 +1,8 @@
 //! Edits whose memory is counted from outside. Right before each call that is counted, and right after it, a list of an unusual
 //! length is taken and freed, which a library that stands before the C library takes for a mark.
-use crate::case::{Case, Subject};
+use crate::case::Case;
 use crate::floor::Floor;
-use crate::growth::Growth;
+use crate::growth::ONE_OF_EACH;
 use crate::measured::recorded;
 use anyhow::Result;
 use cst_core::TreeIds;
@@ -112,13 +112,7 @@ fn report_calls<R: Print + Clock>(rt: &R, alloc: Global, case: Case) -> Result<(
 
 /// Edits with marks round their calls, and a line for each two marks.
 pub(crate) fn report_memory<R: Print + Clock>(rt: &R, alloc: Global) -> Result<()> {
-    for growth in [
-        Growth::Both(Subject::Literals),
-        Growth::Both(Subject::Statements),
-        Growth::Both(Subject::Leaves),
-        Growth::Chains,
-        Growth::Notes,
-    ] {
+    for growth in ONE_OF_EACH {
         report_calls(rt, alloc, growth.case(SIZE))?;
     }
     Ok(())
