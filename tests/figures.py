@@ -1,0 +1,157 @@
+#!/usr/bin/env python3
+"""Runs the program `bench` with times and prints the tables of docs/GATE.md; it is no test, and nothing in it can fail.
+
+    figures.py [RUNS]     so many runs in a row (1 if it is not said), with nothing beside them
+
+A time is the least of all runs, in milliseconds. A multiple or a power is given from the least to the greatest of the runs.
+"""
+import os
+import re
+import subprocess
+import sys
+
+os.chdir(os.path.join(os.path.dirname(os.path.abspath(__file__)), ".."))
+
+# The edits that are shown: what is edited, and how many changes there are.
+SHOWN = [
+    ("literals, replaced, 8192 parts", 8192),
+    ("literals, replaced, 32768 parts", 512),
+    ("literals, replaced, 32768 parts", 32768),
+    ("statements, inserts, 8192 parts", 8192),
+    ("statements, inserts, 32768 parts", 512),
+    ("statements, inserts, 32768 parts", 32768),
+    ("leaves of eight a node, replaced, 8192 parts", 8192),
+    ("leaves of eight a node, replaced, 32768 parts", 512),
+    ("leaves of eight a node, replaced, 32768 parts", 32768),
+    ("blocks, wrapped 1 times, 16 chains of 16", 512),
+    ("blocks, wrapped 1 times, 128 chains of 16", 4096),
+    ("blocks, wrapped 1 times, 1024 chains of 16", 32768),
+    ("blocks, wrapped 1 times, 256 chains of 4", 2048),
+    ("blocks, wrapped 8 times, 256 chains of 4", 2048),
+    ("blocks, wrapped 64 times, 256 chains of 4", 2048),
+    ("blocks, wrapped 256 times, 256 chains of 4", 2048),
+    ("blocks, wrapped 1 times, 1024 chains of 1", 2048),
+    ("blocks, wrapped 1 times, 128 chains of 8", 2048),
+    ("blocks, wrapped 1 times, 16 chains of 64", 2048),
+    ("blocks, wrapped 1 times, 4 chains of 256", 2048),
+    ("notes, inserts, 8192 parts", 8192),
+    ("payload of 4096 notes, brought 16 times", 16),
+    ("payload of 4096 notes, brought 64 times", 64),
+]
+
+NUMBER = r"([\d.]+)"
+EDIT = re.compile(
+    rf"(.*): (\d+) changes, (\d+) nodes built, (\d+) in the tree, recorded {NUMBER} ms, planned {NUMBER} ms, run {NUMBER} ms"
+)
+LEAST = re.compile(rf"    the least {NUMBER} ms: planned {NUMBER} times that, run {NUMBER} times; recorded {NUMBER} times planned")
+POWER = re.compile(rf"grows with (.*): recorded {NUMBER}, planned {NUMBER}, run {NUMBER}, the last two together {NUMBER}")
+NOTES = re.compile(rf"notes on (\d+) statements: finished {NUMBER} ms, without notes {NUMBER} ms: {NUMBER} times, with recording {NUMBER} times")
+PAYLOAD = re.compile(rf"(a payload of .*): finished {NUMBER} ms, (\d+) paths copied {NUMBER} ms: {NUMBER} times")
+LEVEL = re.compile(rf"    depth (\d+), each change and level, .*: recorded {NUMBER}, planned {NUMBER}, run {NUMBER}, the last two together {NUMBER}")
+ORDER = re.compile(rf"(.*): (\d+) changes, finished {NUMBER} ms, by the default order {NUMBER} ms")
+TREE = re.compile(r"(.*): (\d+) elements, (\d+) ns")
+
+
+class Figures:
+    """What the runs printed, by what it is of; of each the numbers of all runs."""
+
+    def __init__(self):
+        self.edits, self.powers, self.notes, self.payloads = {}, {}, {}, {}
+        self.levels, self.orders, self.trees = {}, {}, {}
+
+    def read(self, lines):
+        """Takes in what one run printed. Of what is printed twice in a run the first counts."""
+        new = Figures()
+        edit, levels, growth = None, [], 0
+        for line in lines:
+            if found := EDIT.fullmatch(line):
+                edit = (found[1], int(found[2]))
+                new.edits.setdefault(edit, [int(found[3]), int(found[4]), *map(float, found.groups()[4:])])
+            elif (found := LEAST.fullmatch(line)) and len(new.edits[edit]) == 5:
+                new.edits[edit] += map(float, found.groups())
+            elif found := LEVEL.fullmatch(line):
+                levels.append((int(found[1]), [float(found[2]), float(found[5])]))
+            elif found := POWER.fullmatch(line):
+                growth += 1
+                new.powers[growth, found[1]] = [float(found[2]), float(found[5])]
+                new.levels.update({(growth, found[1], depth): them for depth, them in levels})
+                levels = []
+            elif found := NOTES.fullmatch(line):
+                new.notes[found[1]] = list(map(float, found.groups()[1:]))
+            elif found := PAYLOAD.fullmatch(line):
+                new.payloads[found[1]] = [float(found[2]), float(found[4]), float(found[5])]
+            elif found := ORDER.fullmatch(line):
+                new.orders[found[1]] = [int(found[2]), float(found[3]), float(found[4])]
+            elif found := TREE.fullmatch(line):
+                new.trees[found[1]] = [int(found[2]), int(found[3]) / 1e6]
+        for mine, theirs in zip(vars(self).values(), vars(new).values()):
+            for key, numbers in theirs.items():
+                mine.setdefault(key, []).append(numbers)
+
+
+def spread(numbers, digits=1):
+    """From the least to the greatest."""
+    least, most = f"{min(numbers):.{digits}f}", f"{max(numbers):.{digits}f}"
+    return least if least == most else f"{least} to {most}"
+
+
+def table(heads, rows):
+    print("| " + " | ".join(heads) + " |")
+    print("|" + "---|" * len(heads))
+    for row in rows:
+        print("| " + " | ".join(map(str, row)) + " |")
+    print()
+
+
+def milliseconds(number):
+    """With two digits that count."""
+    return f"{number:.2g}" if number < 100 else f"{number:.0f}"
+
+
+def edit_row(key, runs):
+    nodes_built, nodes = runs[0][:2]
+    columns = list(zip(*runs))
+    times = [milliseconds(min(it)) for it in columns[2:5]]
+    ratios = [milliseconds(min(columns[5])), *map(spread, columns[6:9])] if len(columns) > 5 else ["", "", "", ""]
+    return [key[0], f"{key[1]:,}", *times, *ratios, f"{nodes_built:,} of {nodes:,}"]
+
+
+def show(figures):
+    heads = ["edit", "changes", "recorded", "planned", "carried out", "the least", "planned, times that", "carried out, times that"]
+    shown = [key for key in SHOWN if key in figures.edits]
+    table([*heads, "recorded, times planned", "nodes built"], [edit_row(key, figures.edits[key]) for key in shown])
+    powers = [
+        [name, spread([it[1] for it in runs], 2), spread([it[0] for it in runs], 2)] for (_, name), runs in figures.powers.items()
+    ]
+    table(["what grows", "planned and carried out", "recorded"], powers)
+    levels = [
+        [name, depth, spread([it[1] for it in runs], 2), spread([it[0] for it in runs], 2)]
+        for (_, name, depth), runs in figures.levels.items()
+    ]
+    table(["what grows", "depth", "planned and carried out, each change and level, times that at depth 1", "recorded"], levels)
+    notes = [
+        [f"{int(size):,}", *(milliseconds(min(it[at] for it in runs)) for at in (0, 1)), *(spread([it[at] for it in runs]) for at in (2, 3))]
+        for size, runs in figures.notes.items()
+    ]
+    table(["notes and inserts", "finished", "the same without notes", "times that", "with recording, times that"], notes)
+    payloads = [
+        [label, *(milliseconds(min(it[at] for it in runs)) for at in (0, 1)), spread([it[2] for it in runs])]
+        for label, runs in figures.payloads.items()
+    ]
+    table(["payload", "finished", "as many paths copied", "times that"], payloads)
+    orders = [
+        [label, f"{runs[0][0]:,}", *(milliseconds(min(it[at] for it in runs)) for at in (1, 2))] for label, runs in figures.orders.items()
+    ]
+    table(["edit", "changes", "finished", "by the default order"], orders)
+    table(["what", "elements", "milliseconds"], [[label, f"{runs[0][0]:,}", f"{min(it[1] for it in runs):.2f}"] for label, runs in figures.trees.items()])
+
+
+def main():
+    program = subprocess.run(["bash", "tests/program.sh", "bench"], capture_output=True, text=True, check=True).stdout.strip()
+    figures = Figures()
+    for _ in range(int(sys.argv[1]) if len(sys.argv) > 1 else 1):
+        figures.read(subprocess.run([program, "time"], capture_output=True, text=True, check=True).stdout.splitlines())
+    show(figures)
+
+
+main()
