@@ -5,9 +5,10 @@
 --     leads-on, enter-more          what a path leads to stays where steps are added; one slot more then
 --     grown                         one place more, below a place that had none at this slot
 --     is-older                      a place that was there is led to as before
---     grown-on, grown-none          more places, and more again; none more
+--     grown-on                      more places, and more again
+--     grown-same                    the same steps and numbers
 --     step-entered, grown-as        a step that was there, or is there now; with another name for the table
---     places-same, tree-same        the same places, with other numbers
+--     tree-same                     the same places, with other numbers
 --     within-at, path-is            a path leads to a place that there is, which has this path
 --     number-read, number-set, put-number      a list of numbers, at a place; a table's, after one was put there
 --     put-tree, entered             a number put at a place; at the place of a path
@@ -217,9 +218,6 @@ module _ (t u : PathTable) (tree : IsTree t) (below : (n i : ℕ) → place_belo
     };
   }
 
-pub grown-none : (t : PathTable) → IsTree t → IsGrown t t
-grown-none t tree = grown-same t t tree (λ n i. refl) refl refl
-
 -- ---- a step that was there, or is there now
 pub step-entered : (t u : PathTable) (n s : ℕ) (o : Option ℕ) → IsTree t → n ≤ size t → o ≡ place_below t n s → size u ≡ size t + (if is_some o then 0 else 1) → u.numbers.items ≡ t.numbers.items → ((a i : ℕ) → place_below u a i ≡ cond (nat_eq n a && nat_eq s i) (Some (unwrap_or o (size t + 1))) (place_below t a i)) → IsGrown t u
 step-entered t u n s None tree here is long same put = grown t u n s tree here (sym is) long same put
@@ -237,7 +235,7 @@ grown-as {t} is grown = subst (IsGrown t) (sym is) grown
 
 -- ---- no place more
 module _ (t u : PathTable) (tree : IsTree t) (steps : u.steps.entries ≡ t.steps.entries) where
-  pub places-same : (q : Path) → place_at u q ≡ place_at t q
+  places-same : (q : Path) → place_at u q ≡ place_at t q
   places-same q = ap (λ es. fold (λ o i. option_and_then (λ n. lookup (λ k. nat_eq n k.0 && nat_eq i k.1) es) o) (Some 0) q) steps
 
   below-same : (n i : ℕ) → place_below u n i ≡ place_below t n i
