@@ -1,4 +1,4 @@
-use Rattle.std.proofs.Common.{◌≡◌, ◌≤◌, ◌+◌, suc, Some, cond, sym, ◌∙◌, ap, arith}
+use Rattle.std.proofs.Common.{◌≡◌, ◌≤◌, ◌+◌, suc, Some, cond, ◌∙◌, ap, arith}
 use Rattle.cst_core.specs.Path.{has_path, parent_path, last_slot, siblings}
 use Rattle.path_table.proofs.PathTables.{within-at}
 use Rattle.edit_change.specs.inner.TargetIndex.{number_at, least}
