@@ -12,13 +12,12 @@ use Rattle.std.specs.Map.{lookup, KeepsOthers}
 use Rattle.std.specs.Option.{option_or}
 use Rattle.std.proofs.Common.{ap, ap₂, sym, subst, ◌∙◌, arith, get_or}
 use Rattle.std.proofs.lemmas.Bool.{cases_Bool, true≢false}
-use Rattle.std.proofs.lemmas.List.{length-take-le, map-append}
+use Rattle.std.proofs.lemmas.List.{length-take-le}
 use Rattle.std.proofs.lemmas.List.Folds.{list_any-append}
 use Rattle.std.proofs.lemmas.Option.{none-some}
 use mathlib.Core.Logic.{inl, inr}
 use mathlib.Core.Path.{fun_ext}
 use Rattle.cst_core.specs.Path.{Path, same_path, has_path, counted_from}
-use Rattle.rewriting.specs.Topmost.{paths_of}
 use Rattle.edit_change.specs.Change.{targets, shared_targets}
 use Rattle.edit_change.specs.Nesting.{pairs, pairs_with, first_clash}
 use Rattle.edit_change.specs.inner.TargetIndex.{lesser, least, number_at, target_at, IsApart, IsIndex}
@@ -76,12 +75,11 @@ put old new k n here others p =
     apart : (x : Vec ℕ Global) → key k.items x ≡ true → same_path p k.items ≡ false → key p x ≡ false
     apart x h other = ap (same_path p) (sym (same_path-true k.items x.items h)) ∙ other
 
-pub put-more : (ys : List (Vec ℕ Global)) (k : Vec ℕ Global) (n : ℕ) (o : Option ℕ) (p : Path) → cond (same_path p k.items) (Some n) (cond (has_path (paths_of ys) p) (Some n) o) ≡ cond (has_path (paths_of (ys ++ k ∷ [])) p) (Some n) o
-put-more ys k n o p =
-    let more : has_path (paths_of (ys ++ k ∷ [])) p ≡ (has_path (paths_of ys) p || (same_path p k.items || false)) = ap (λ ps. has_path ps p) (map-append (λ v. v.items) ys (k ∷ [])) ∙ list_any-append (same_path p) (paths_of ys) (k.items ∷ []) in
-    either (same_path p k.items) (has_path (paths_of ys) p) ∙ ap (λ b. cond b (Some n) o) (sym more)
+pub put-more : (ps : List Path) (q p : Path) (n : ℕ) (o : Option ℕ) → cond (has_path (q ∷ []) p) (Some n) (cond (has_path ps p) (Some n) o) ≡ cond (has_path (ps ++ q ∷ []) p) (Some n) o
+put-more ps q p n o =
+    either (has_path (q ∷ []) p) (has_path ps p) ∙ ap (λ b. cond b (Some n) o) (sym (list_any-append (same_path p) ps (q ∷ [])))
   where
-    either : (a b : Bool) → cond a (Some n) (cond b (Some n) o) ≡ cond (b || (a || false)) (Some n) o
+    either : (a b : Bool) → cond a (Some n) (cond b (Some n) o) ≡ cond (b || a) (Some n) o
     either true true = refl
     either true false = refl
     either false true = refl
@@ -135,27 +133,27 @@ module _ (cs : List Change) (k : ℕ) (c : Change) (l : k < length cs) (is : c �
       let e : (i : ℕ) → 0 + i ≡ i = λ i. omega arith in
       ap (λ n. find (clash cs) (map (λ i. (i, k)) (counted_from 0 n))) (sym long) ∙ counted cs k c (at-index cs k c l is) 0 (take k cs) (λ i x s. ap (λ n. slice_get cs n) (e i) ∙ taken k cs i x s) ∙ ap (λ f. option_map f (position (λ d. shared_targets d c) (take k cs))) (fun_ext (λ i. ap (λ n. (n, k)) (e i)))
 
-  module _ (index : TargetIndex) (paths : List Path) (are : paths ≡ targets c) (indexed : IsIndex (take k cs) index) where
-    least-here : least (number_at index) paths ≡ least (target_at (take k cs)) (targets c)
-    least-here = least-agrees (number_at index) (target_at (take k cs)) paths indexed.at_each ∙ ap (least (target_at (take k cs))) are
+  module _ (index : TargetIndex) (indexed : IsIndex (take k cs) index) where
+    least-here : least (number_at index) (targets c) ≡ least (target_at (take k cs)) (targets c)
+    least-here = least-agrees (number_at index) (target_at (take k cs)) (targets c) indexed.at_each
 
-    first-is : find (clash cs) (pairs_with k) ≡ option_map (λ i. (i, k)) (least (number_at index) paths)
+    first-is : find (clash cs) (pairs_with k) ≡ option_map (λ i. (i, k)) (least (number_at index) (targets c))
     first-is = first-of-pairs ∙ ap (λ o. option_map (λ i. (i, k)) o) (sym (least-here ∙ least-is (take k cs) (targets c)))
 
-    pub clash-found : (first : ℕ) → find (clash cs) (pairs k) ≡ None → least (number_at index) paths ≡ Some first → first_clash cs ≡ Some (first, k)
+    pub clash-found : (first : ℕ) → find (clash cs) (pairs k) ≡ None → least (number_at index) (targets c) ≡ Some first → first_clash cs ≡ Some (first, k)
     clash-found first before found =
         first-found (clash cs) pairs_with k (length cs) (first, k) l before (first-is ∙ ap (λ o. option_map (λ i. (i, k)) o) found)
 
-    pub none-found : find (clash cs) (pairs k) ≡ None → least (number_at index) paths ≡ None → find (clash cs) (pairs (k + 1)) ≡ None
+    pub none-found : find (clash cs) (pairs k) ≡ None → least (number_at index) (targets c) ≡ None → find (clash cs) (pairs (k + 1)) ≡ None
     none-found before none =
         none-more (clash cs) pairs_with k before (first-is ∙ ap (λ o. option_map (λ i. (i, k)) o) none)
 
-    pub indexed-more : (new : TargetIndex) → least (number_at index) paths ≡ None → ((p : Path) → number_at new p ≡ cond (has_path paths p) (Some k) (number_at index p)) → IsIndex (take (k + 1) cs) new
+    pub indexed-more : (new : TargetIndex) → least (number_at index) (targets c) ≡ None → ((p : Path) → number_at new p ≡ cond (has_path (targets c) p) (Some k) (number_at index p)) → IsIndex (take (k + 1) cs) new
     indexed-more new none put =
         let more : take (k + 1) cs ≡ take k cs ++ c ∷ [] = push-of-take k cs c l is in
         let long : length (take k cs) ≡ k = length-take-le k cs (omega arith) in
         let free : least (target_at (take k cs)) (targets c) ≡ None = sym least-here ∙ none in
         record {
-          at_each = λ p. put p ∙ ap₂ (λ ps o. cond (has_path ps p) (Some k) o) are (indexed.at_each p) ∙ ap (λ n. cond (has_path (targets c) p) (Some n) (target_at (take k cs) p)) (sym long) ∙ sym (target-more (take k cs) c free p) ∙ ap (λ ds. target_at ds p) (sym more);
+          at_each = λ p. put p ∙ ap (cond (has_path (targets c) p) (Some k)) (indexed.at_each p) ∙ ap (λ n. cond (has_path (targets c) p) (Some n) (target_at (take k cs) p)) (sym long) ∙ sym (target-more (take k cs) c free p) ∙ ap (λ ds. target_at ds p) (sym more);
           apart = subst IsApart (sym more) (apart-more (take k cs) c free indexed.apart);
         }

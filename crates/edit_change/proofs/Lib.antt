@@ -5,6 +5,7 @@ pub mod Positions
 pub mod Around
 pub mod Owners
 pub mod Indexed
+pub mod Entering
 pub mod Regions
 pub mod Walk
 pub mod Counted

@@ -1,5 +1,5 @@
 -- Facts of all elements of a list, and filters.
-use Rattle.std.specs.Prelude.{◌≡◌, ◌≢◌, ◌<◌, ℕ, zero, suc, ◌+◌, length, Bool, true, cond, List, [], ◌∷◌, ◌++◌, filter, flat_map, slice_get, Some, Result, Ok, Err, IfOk, refl}
+use Rattle.std.specs.Prelude.{◌≡◌, ◌≢◌, ◌<◌, ℕ, zero, suc, ◌+◌, length, Bool, true, cond, List, [], ◌∷◌, ◌++◌, filter, flat_map, slice_get, Some, Result, Ok, Err, OnOk, IfOk, refl}
 use Rattle.std.specs.List.{AllByRecursion, enumerate_from}
 use Rattle.std.proofs.Common.{ap, ap₂, sym, subst, ◌∙◌, arith}
 use Rattle.std.proofs.lemmas.Bool.{cases_Bool}
@@ -61,3 +61,7 @@ slice_get-set_other (y ∷ xs) (suc i) (suc j) x other = slice_get-set_other xs 
 pub if-ok-weaker : {T E : Type 0} (P Q : T → Type 0) → ((t : T) → P t → Q t) → (r : Result T E) → IfOk r P → IfOk r Q
 if-ok-weaker P Q h (Ok t) a = h t a
 if-ok-weaker P Q h (Err e) a = tt
+
+pub on-ok-weaker : {T E : Type 0} {A B : Type 0} (r : Result T E) → (A → B) → OnOk r A → OnOk r B
+on-ok-weaker (Ok t) h a = h a
+on-ok-weaker (Err e) h a = tt

@@ -20,7 +20,7 @@ use Rattle.edit_change.specs.declared.change.Change.{Change}
 use Rattle.edit_change.specs.declared.fate.Fate.{Fate}
 use Rattle.edit_change.specs.declared.fate.Fate.TheVariants.{Dropped, Owned}
 use Rattle.edit_change.proofs.Clashes.{at-index}
-use Rattle.edit_change.proofs.Regions.{region-here, region-none}
+use Rattle.edit_change.proofs.Regions.{region-here}
 
 -- ---- the way down
 above-push : (p : Path) (i : ℕ) → above (p ++ i ∷ []) ≡ up_to p

@@ -1,5 +1,4 @@
-ghost use Rattle.std.specs.Prelude.{◌≡◌, [], cond, IfOk};
-ghost use Rattle.rewriting.specs.Topmost.{paths_of};
+ghost use Rattle.std.specs.Prelude.{◌≡◌, [], cond};
 ghost use Rattle.std.specs.Option.{option_map_or};
 ghost use Rattle.cst_core.specs.Path.{above, up_to};
 ghost use Rattle.edit_change.specs.Change.{targets};
@@ -9,7 +8,6 @@ ghost use Rattle.edit_change.specs.inner.Targets.{paths_in};
 use crate::change::Change;
 use crate::targets::{Targets, parent};
 use cst_core::SyntaxElement;
-use std::alloc::{AllocError, Global};
 
 // The path of the parent; a root has none.
 fn above(path: &[usize]) -> Option<&[usize]>
@@ -24,7 +22,7 @@ fn above(path: &[usize]) -> Option<&[usize]>
 
 impl Change {
     /// What a replacement replaces; nothing for an insert.
-    fn targets(&self) -> Option<Targets<'_>>
+    pub(crate) fn targets(&self) -> Option<Targets<'_>>
         ensures { option_map_or paths_in result [] ≡ targets self.now }
     {
         match self {
@@ -36,16 +34,6 @@ impl Change {
                 first: first.slots(),
                 last: last.slots(),
             }),
-        }
-    }
-
-    /// The path of each element that it replaces.
-    pub(crate) fn target_paths(&self, alloc: Global) -> Result<Vec<Vec<usize>>, AllocError>
-        ensures { IfOk result (λ v. paths_of v.items ≡ targets self.now) }
-    {
-        match self.targets() {
-            Some(targets) => targets.paths(alloc),
-            None => Ok(Vec::new(alloc)),
         }
     }
 

@@ -121,7 +121,7 @@ pub fn fates(
     requires { IsIndex changes.now index.now }
     ensures { IfOk result (λ v. v.items ≡ map (fate changes.now) changes.now) }
 {
-    let mut fates = Vec::new(alloc);
+    let mut fates = Vec::with_capacity(alloc, changes.len())?;
     for change in changes {
         fates.push(fate_of(index, changes, change))?;
     }

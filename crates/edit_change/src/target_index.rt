@@ -1,13 +1,14 @@
-ghost use Rattle.std.specs.Prelude.{◌≡◌, cond, Some, None, OnOk, IfOk, IfErr};
-ghost use Rattle.cst_core.specs.Path.{Path, has_path};
-ghost use Rattle.rewriting.specs.Topmost.{paths_of};
+ghost use Rattle.std.specs.Prelude.{◌≡◌, ◌≤◌, ◌++◌, ◌∷◌, [], Some, None, OnOk, IfOk, IfErr};
+ghost use Rattle.cst_core.specs.Path.{Path, siblings};
+ghost use Rattle.path_table.specs.PathTable.{place_at, size, IsTree};
+ghost use Rattle.edit_change.specs.Change.{targets};
 ghost use Rattle.edit_change.specs.inner.TargetIndex.{number_at, IsEntered, lesser, least, IsIndex};
-ghost use Rattle.path_table.specs.PathTable.{IsTree};
 ghost use Rattle.edit_change.specs.Nesting.{first_clash};
 ghost use Rattle.edit_change.specs.Clash.{ClashRefuses};
 
 use crate::change::Change;
 use crate::clash_error::ClashError;
+use crate::targets::{Targets, parent, slot};
 use path_table::PathTable;
 use std::alloc::{AllocError, Global};
 
@@ -28,13 +29,13 @@ fn lesser(one: Option<usize>, other: Option<usize>) -> Option<usize>
 }
 
 impl TargetIndex {
-    fn new(alloc: Global) -> TargetIndex
-        ensures empty { (p : Path) → number_at result p ≡ None }
-        ensures tree { IsTree result.numbers }
+    fn with_capacity(alloc: Global, capacity: usize) -> Result<TargetIndex, AllocError>
+        ensures empty { IfOk result (λ t. (p : Path) → number_at t p ≡ None) }
+        ensures tree { IfOk result (λ t. IsTree t.numbers) }
     {
-        TargetIndex {
-            numbers: PathTable::new(alloc),
-        }
+        Ok(TargetIndex {
+            numbers: PathTable::with_capacity(alloc, capacity)?,
+        })
     }
 
     /// The number at a path, if the index has one there.
@@ -44,46 +45,87 @@ impl TargetIndex {
         self.numbers.get(path)
     }
 
-    /// The least number at any of these paths.
-    fn least_at(&self, paths: &[Vec<usize>]) -> Option<usize>
-        ensures { result ≡ least (number_at self.now) (paths_of paths.now) }
-    {
-        let mut least_so_far = None;
-        for path in paths {
-            least_so_far = lesser(least_so_far, self.get(path));
-        }
-        least_so_far
-    }
-
     /// The index of these changes: at the path of each element that one of them replaces it has the number of that one.
     ///
     /// `Intersecting` comes exactly where two changes have a target in common, and names the first two, by the second and then by
-    /// the first; `Memory` may come at any time. Takes time near linear in the paths of all elements that are replaced.
+    /// the first; `Memory` may come at any time. Takes time near linear in the paths of all elements that are replaced: each slot on
+    /// the way to a change's targets is looked at once, and then that of each target.
     pub fn of(alloc: Global, changes: &[Change]) -> Result<TargetIndex, ClashError>
         ensures indexed { IfOk result (IsIndex changes.now) }
         ensures apart { OnOk result (first_clash changes.now ≡ None) }
         ensures refused { IfErr result (ClashRefuses changes.now) }
     {
-        let mut index = TargetIndex::new(alloc);
+        let mut index = TargetIndex::with_capacity(alloc, changes.len())?;
         for (second, change) in changes.iter().enumerate() {
-            let paths = change.target_paths(alloc)?;
-            if let Some(first) = index.least_at(&paths) {
+            if let Some(first) = index.enter(change, second)? {
                 return Err(ClashError::Intersecting { first, second });
             }
-            index.insert_all(&paths, second)?;
         }
         Ok(index)
     }
 
-    /// Puts a number at each of these paths.
-    fn insert_all(&mut self, paths: &[Vec<usize>], number: usize) -> Result<(), AllocError>
+    // Puts a number at the path of each element that a change replaces, and gives the least one that was at any of them.
+    fn enter(&mut self, change: &Change, number: usize) -> Result<Option<usize>, AllocError>
         requires { IsTree self.old.numbers }
-        ensures entered { OnOk result (IsEntered self.old self.new (paths_of paths.now) number) }
+        ensures before { IfOk result (λ o. o ≡ least (number_at self.old) (targets change.now)) }
+        ensures entered { OnOk result (IsEntered self.old self.new (targets change.now) number) }
         ensures tree { OnOk result (IsTree self.new.numbers) }
     {
-        for path in paths {
-            self.numbers.insert(path, number)?;
+        match change.targets() {
+            Some(Targets::One(path)) => self.enter_one(path, number),
+            Some(Targets::Range { first, last }) => self.enter_siblings(first, last, number),
+            None => Ok(None),
         }
-        Ok(())
+    }
+
+    // Puts a number at a path, and gives the one that was there.
+    fn enter_one(&mut self, path: &[usize], number: usize) -> Result<Option<usize>, AllocError>
+        requires { IsTree self.old.numbers }
+        ensures before { IfOk result (λ o. o ≡ number_at self.old path.now) }
+        ensures entered { OnOk result (IsEntered self.old self.new (path.now ∷ []) number) }
+        ensures tree { OnOk result (IsTree self.new.numbers) }
+    {
+        let place = self.numbers.enter_path(path)?;
+        self.numbers.put(place, number)
+    }
+
+    // Puts a number at the path of each sibling from the first to the last, and gives the least one that was at any of them.
+    fn enter_siblings(
+        &mut self,
+        first: &[usize],
+        last: &[usize],
+        number: usize,
+    ) -> Result<Option<usize>, AllocError>
+        requires { IsTree self.old.numbers }
+        ensures before { IfOk result (λ o. o ≡ least (number_at self.old) (siblings first.now last.now)) }
+        ensures entered { OnOk result (IsEntered self.old self.new (siblings first.now last.now) number) }
+        ensures tree { OnOk result (IsTree self.new.numbers) }
+    {
+        let parent = self.numbers.enter_path(parent(first))?;
+        let mut least_so_far = None;
+        for slot in slot(first)..=slot(last) {
+            least_so_far = lesser(least_so_far, self.enter_below(parent, slot, number)?);
+        }
+        Ok(least_so_far)
+    }
+
+    // Puts a number at the place below another one, at a slot, and gives the one that was there.
+    fn enter_below(
+        &mut self,
+        place: usize,
+        slot: usize,
+        number: usize,
+    ) -> Result<Option<usize>, AllocError>
+        requires tree { IsTree self.old.numbers }
+        requires here { place ≤ size self.old.numbers }
+        ensures before { IfOk result (λ o. (p : Path) → place_at self.old.numbers p ≡ Some place
+            → o ≡ number_at self.old (p ++ slot ∷ [])) }
+        ensures entered { OnOk result ((p : Path) → place_at self.old.numbers p ≡ Some place
+            → IsEntered self.old self.new ((p ++ slot ∷ []) ∷ []) number) }
+        ensures stays { (p : Path) → place_at self.old.numbers p ≡ Some place → place_at self.new.numbers p ≡ Some place }
+        ensures new_tree { OnOk result (IsTree self.new.numbers) }
+    {
+        let below = self.numbers.enter(place, slot)?;
+        self.numbers.put(below, number)
     }
 }

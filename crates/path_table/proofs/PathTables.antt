@@ -5,16 +5,23 @@
 --     leads-on, enter-more          what a path leads to stays where steps are added; one slot more then
 --     grown                         one place more, below a place that had none at this slot
 --     is-older                      a place that was there is led to as before
+--     grown-on                      more places, and more again
+--     grown-same                    the same steps and numbers
+--     step-entered, grown-as        a step that was there, or is there now; with another name for the table
+--     tree-same                     the same places, with other numbers
 --     within-at, path-is            a path leads to a place that there is, which has this path
---     entered, entered-tree         a number put at the place of a path
-use Rattle.std.specs.Prelude.{◌≡◌, ◌≢◌, ℕ, ◌+◌, ◌<◌, ◌≤◌, true, false, ◌&&◌, cond, nat_eq, [], ◌∷◌, ◌++◌, length, option_and_then, Option, Some, None, IfSome, refl}
+--     number-read, number-set, put-number      a list of numbers, at a place; a table's, after one was put there
+--     put-tree, entered             a number put at a place; at the place of a path
+use Rattle.std.specs.Prelude.{◌≡◌, ◌≢◌, ℕ, zero, suc, ◌+◌, ◌<◌, ◌≤◌, true, false, ◌&&◌, cond, nat_eq, [], ◌∷◌, ◌++◌, length, List, slice_get, slice_set, option_and_then, unwrap_or, is_some, if◌then◌else◌, Option, Some, None, IfSome, refl}
 use Rattle.std.specs.List.{fold}
 use Rattle.std.specs.Map.{lookup}
-use Rattle.std.proofs.Common.{ap, sym, ◌∙◌, arith, take, get_or, append_assoc, append-nil}
+use Rattle.std.specs.Option.{option_flatten}
+use Rattle.std.specs.Vec.{with_item}
+use Rattle.std.proofs.Common.{ap, sym, subst, ◌∙◌, arith, take, get_or, append_assoc, append-nil}
 use Rattle.std.proofs.lemmas.Bool.{cases_Bool, and_parts, and_left, eqb-true, eq-eqb, ne_eqb, true≢false}
 use Rattle.std.proofs.lemmas.List.{take_more}
 use Rattle.std.proofs.lemmas.List.Sums.{fold-append}
-use Rattle.std.proofs.lemmas.Option.{none-some, same_Some}
+use Rattle.std.proofs.lemmas.Option.{none-some, same_Some, slice_get-get_or}
 use mathlib.Core.Logic.{inl, inr}
 use lib.Pointwise.{pointwise_decides}
 use Rattle.green_tree.specs.Path.{Path, same_path}
@@ -33,12 +40,12 @@ place-more t from p k o l is =
     ap (λ place. next_place t place (get_or p k 0)) is ∙ sym (ap (place_further t from) (take_more p k 0 l) ∙ place-push t from (take k p) (get_or p k 0))
 
 -- ---- a table of nothing
-pub empty-tree : (t : PathTable) → t.steps.entries ≡ [] → t.numbers.entries ≡ [] → IsTree t
+pub empty-tree : (t : PathTable) → t.steps.entries ≡ [] → t.numbers.items ≡ [] → IsTree t
 empty-tree t no_steps no_numbers =
     let nothing : (n i m : ℕ) → place_below t n i ≡ Some m → ⊥ = λ n i m h. none-some m (sym (ap (lookup (λ k. nat_eq n k.0 && nat_eq i k.1)) no_steps) ∙ h) in
     record {
       steps = λ n i m h. absurd (nothing n i m h);
-      numbers = λ n x h. absurd (none-some x (sym (ap (lookup (nat_eq n)) no_numbers) ∙ h));
+      numbers = λ n x h. absurd (none-some x (sym (ap (λ xs. option_flatten (slice_get xs n)) no_numbers) ∙ h));
       paths = (λ k. [], refl, λ n i m h. absurd (nothing n i m h));
     }
 
@@ -58,7 +65,7 @@ enter-more t u p k n m l leads grown below =
     sym (place-more u (Some 0) p k (Some n) l (sym (leads-on t u grown.steps (Some 0) (take k p) n leads))) ∙ below
 
 -- ---- one place more
-module _ (t u : PathTable) (n s : ℕ) (tree : IsTree t) (here : n ≤ size t) (free : place_below t n s ≡ None) (more : size u ≡ size t + 1) (same : u.numbers.entries ≡ t.numbers.entries) (put : (a i : ℕ) → place_below u a i ≡ cond (nat_eq n a && nat_eq s i) (Some (size t + 1)) (place_below t a i)) where
+module _ (t u : PathTable) (n s : ℕ) (tree : IsTree t) (here : n ≤ size t) (free : place_below t n s ≡ None) (more : size u ≡ size t + 1) (same : u.numbers.items ≡ t.numbers.items) (put : (a i : ℕ) → place_below u a i ≡ cond (nat_eq n a && nat_eq s i) (Some (size t + 1)) (place_below t a i)) where
   at-new : (a i : ℕ) → (nat_eq n a && nat_eq s i) ≡ true → place_below u a i ≡ Some (size t + 1)
   at-new a i new = put a i ∙ ap (λ b. cond b (Some (size t + 1)) (place_below t a i)) new
 
@@ -79,7 +86,7 @@ module _ (t u : PathTable) (n s : ℕ) (tree : IsTree t) (here : n ≤ size t) (
 
   number-same : (o : Option ℕ) → number_in u o ≡ number_in t o
   number-same None = refl
-  number-same (Some a) = ap (lookup (nat_eq a)) same
+  number-same (Some a) = ap (λ xs. option_flatten (slice_get xs a)) same
 
   -- the new place has no number, and nothing below it
   nothing-below : (i : ℕ) → place_below u (size t + 1) i ≡ None
@@ -175,6 +182,57 @@ module _ (t u : PathTable) (n s : ℕ) (tree : IsTree t) (here : n ≤ size t) (
     };
   }
 
+-- ---- more and more places
+pub grown-on : (t u v : PathTable) → IsGrown t u → IsGrown u v → IsGrown t v
+grown-on t u v first second = record {
+  steps = λ n i m h. second.steps n i m (first.steps n i m h);
+  longer = omega (arith, first.longer, second.longer);
+  stay = λ p m h. second.stay p m (first.stay p m h);
+  older = λ p m h l. first.older p m (second.older p m h (omega (arith, l, first.longer))) l;
+  numbers = λ p. second.numbers p ∙ first.numbers p;
+  tree = second.tree;
+}
+
+-- ---- the same places and numbers
+module _ (t u : PathTable) (tree : IsTree t) (below : (n i : ℕ) → place_below u n i ≡ place_below t n i) (long : size u ≡ size t) (same : u.numbers.items ≡ t.numbers.items) where
+  number-kept : (o : Option ℕ) → number_in u o ≡ number_in t o
+  number-kept None = refl
+  number-kept (Some a) = ap (λ xs. option_flatten (slice_get xs a)) same
+
+  place-kept : (o : Option ℕ) (p : Path) → place_further u o p ≡ place_further t o p
+  place-kept o [] = refl
+  place-kept None (i ∷ p) = place-kept None p
+  place-kept (Some a) (i ∷ p) = ap (λ o. place_further u o p) (below a i) ∙ place-kept (place_below t a i) p
+
+  pub grown-same : IsGrown t u
+  grown-same = record {
+    steps = λ n i m h. below n i ∙ h;
+    longer = omega (arith, long);
+    stay = λ p m h. place-kept (Some 0) p ∙ h;
+    older = λ p m h l. sym (place-kept (Some 0) p) ∙ h;
+    numbers = λ p. number-kept (place_at u p) ∙ ap (number_in t) (place-kept (Some 0) p);
+    tree = record {
+      steps = λ n i m h. let before = tree.steps n i m (sym (below n i) ∙ h) in (omega (arith, before.0, long), omega (arith, before.1, long));
+      numbers = λ n x h. let before : n ≤ size t = tree.numbers n x (sym (number-kept (Some n)) ∙ h) in omega (arith, before, long);
+      paths = (tree.paths.0, tree.paths.1, λ n i m h. tree.paths.2 n i m (sym (below n i) ∙ h));
+    };
+  }
+
+-- ---- a step that was there, or is there now
+pub step-entered : (t u : PathTable) (n s : ℕ) (o : Option ℕ) → IsTree t → n ≤ size t → o ≡ place_below t n s → size u ≡ size t + (if is_some o then 0 else 1) → u.numbers.items ≡ t.numbers.items → ((a i : ℕ) → place_below u a i ≡ cond (nat_eq n a && nat_eq s i) (Some (unwrap_or o (size t + 1))) (place_below t a i)) → IsGrown t u
+step-entered t u n s None tree here is long same put = grown t u n s tree here (sym is) long same put
+step-entered t u n s (Some m) tree here is long same put = grown-same t u tree kept (omega (arith, long)) same
+  where
+    kept : (a i : ℕ) → place_below u a i ≡ place_below t a i
+    kept a i =
+        elim (cases_Bool (nat_eq n a && nat_eq s i)) [
+          | inl at ↦ (let parts = and_parts (nat_eq n a) (nat_eq s i) at in put a i ∙ ap (λ b. cond b (Some m) (place_below t a i)) at ∙ is ∙ ap (λ b. place_below t b s) (eqb-true n a parts.0) ∙ ap (place_below t a) (eqb-true s i parts.1))
+          | inr other ↦ put a i ∙ ap (λ b. cond b (Some m) (place_below t a i)) other
+        ]
+
+pub grown-as : {t u v : PathTable} → v ≡ u → IsGrown t u → IsGrown t v
+grown-as {t} is grown = subst (IsGrown t) (sym is) grown
+
 -- ---- no place more
 module _ (t u : PathTable) (tree : IsTree t) (steps : u.steps.entries ≡ t.steps.entries) where
   places-same : (q : Path) → place_at u q ≡ place_at t q
@@ -184,7 +242,7 @@ module _ (t u : PathTable) (tree : IsTree t) (steps : u.steps.entries ≡ t.step
   below-same n i = ap (lookup (λ k. nat_eq n k.0 && nat_eq i k.1)) steps
 
   -- whatever numbers there are, at places that there are
-  tree-same : ((n x : ℕ) → number_in u (Some n) ≡ Some x → n ≤ size t) → IsTree u
+  pub tree-same : ((n x : ℕ) → number_in u (Some n) ≡ Some x → n ≤ size t) → IsTree u
   tree-same numbers =
       let long : size u ≡ size t = ap length steps in
       record {
@@ -192,6 +250,33 @@ module _ (t u : PathTable) (tree : IsTree t) (steps : u.steps.entries ≡ t.step
         numbers = λ n x h. let before = numbers n x h in omega (arith, before, long);
         paths = (tree.paths.0, tree.paths.1, λ n i m h. tree.paths.2 n i m (sym (below-same n i) ∙ h));
       }
+
+-- ---- a number put in a list of numbers
+pub number-read : (xs : List (Option ℕ)) (n : ℕ) (x : Option ℕ) → n < length xs → x ≡ get_or xs n x → x ≡ option_flatten (slice_get xs n)
+number-read xs n x l is = sym (ap option_flatten (slice_get-get_or xs n x l ∙ ap (λ o. Some o) (sym is)))
+
+pub number-set : (xs : List (Option ℕ)) (n k x : ℕ) → n < length xs → option_flatten (slice_get (slice_set xs n (Some x)) k) ≡ cond (nat_eq n k) (Some x) (option_flatten (slice_get xs k))
+number-set xs n k x l =
+    elim (cases_Bool (nat_eq n k)) [
+      | inl here ↦ ap (λ i. option_flatten (slice_get (slice_set xs n (Some x)) i)) (sym (eqb-true n k here)) ∙ ap option_flatten (set-same xs n l) ∙ sym (ap (λ b. cond b (Some x) (option_flatten (slice_get xs k))) here)
+      | inr other ↦ ap option_flatten (set-other xs n k (λ e. true≢false (sym (eq-eqb n k (sym e)) ∙ other))) ∙ sym (ap (λ b. cond b (Some x) (option_flatten (slice_get xs k))) other)
+    ]
+  where
+    set-same : (ys : List (Option ℕ)) (i : ℕ) → i < length ys → slice_get (slice_set ys i (Some x)) i ≡ Some (Some x)
+    set-same [] i l = absurd (omega (arith, l))
+    set-same (y ∷ ys) zero l = refl
+    set-same (y ∷ ys) (suc i) l = set-same ys i (omega (arith, l))
+
+    set-other : (ys : List (Option ℕ)) (i j : ℕ) → j ≢ i → slice_get (slice_set ys i (Some x)) j ≡ slice_get ys j
+    set-other [] i j d = refl
+    set-other (y ∷ ys) zero zero d = absurd (d refl)
+    set-other (y ∷ ys) zero (suc j) d = refl
+    set-other (y ∷ ys) (suc i) zero d = refl
+    set-other (y ∷ ys) (suc i) (suc j) d = set-other ys i j (λ e. d (ap suc e))
+
+pub put-number : (t r : PathTable) (n x : ℕ) (o : Option ℕ) → n < length r.numbers.items → ((place : Option ℕ) → number_in r place ≡ number_in t place) → o ≡ Some x → (k : ℕ) → number_in (record { steps = r.steps; numbers = with_item r.numbers n o }) (Some k) ≡ cond (nat_eq n k) (Some x) (number_in t (Some k))
+put-number t r n x o within same is k =
+    ap (λ o. option_flatten (slice_get (slice_set r.numbers.items n o) k)) is ∙ number-set r.numbers.items n k x within ∙ ap (cond (nat_eq n k) (Some x)) (same (Some k))
 
 -- ---- where paths lead
 decides : (p q : Path) → (same_path p q ≡ true → p ≡ q) × (p ≡ q → same_path p q ≡ true)
@@ -222,7 +307,18 @@ module _ (t : PathTable) (tree : IsTree t) where
   pub path-is : (p : Path) (m : ℕ) → place_at t p ≡ Some m → tree.paths.0 m ≡ p
   path-is p m h = path-told 0 p m h ∙ ap (λ q. q ++ p) tree.paths.1
 
-  -- ---- a number put at the place of a path
+  -- ---- a number put at a place
+  pub put-tree : (u : PathTable) (m x : ℕ) → m ≤ size t → u.steps.entries ≡ t.steps.entries → ((n : ℕ) → number_in u (Some n) ≡ cond (nat_eq m n) (Some x) (number_in t (Some n))) → IsTree u
+  put-tree u m x here steps put = tree-same t u tree steps numbered
+    where
+      numbered : (n y : ℕ) → number_in u (Some n) ≡ Some y → n ≤ size t
+      numbered n y h =
+          elim (cases_Bool (nat_eq m n)) [
+            | inl at ↦ (let is : m ≡ n = eqb-true m n at in omega (arith, is, here))
+            | inr other ↦ tree.numbers n y (sym (put n ∙ ap (λ b. cond b (Some x) (number_in t (Some n))) other) ∙ h)
+          ]
+
+  -- ---- at the place of a path
   module _ (u : PathTable) (p : Path) (m x : ℕ) (leads : place_at t p ≡ Some m) (steps : u.steps.entries ≡ t.steps.entries) (put : (n : ℕ) → number_in u (Some n) ≡ cond (nat_eq m n) (Some x) (number_in t (Some n))) where
     at-other : (q : Path) → same_path q p ≡ false → number_in u (place_at t q) ≡ number_in t (place_at t q)
     at-other q other = go (place_at t q) refl
@@ -239,13 +335,3 @@ module _ (t : PathTable) (tree : IsTree t) where
           | inl here ↦ ap (number_in u) (ap (place_at t) ((decides q p).0 here) ∙ leads) ∙ put m ∙ ap (λ b. cond b (Some x) (number_in t (Some m))) (eq-eqb m m refl) ∙ sym (ap (λ b. cond b (Some x) (number_by_path t q)) here)
           | inr other ↦ at-other q other ∙ sym (ap (λ b. cond b (Some x) (number_by_path t q)) other)
         ])
-
-    pub entered-tree : IsTree u
-    entered-tree = tree-same t u tree steps numbered
-      where
-        numbered : (n y : ℕ) → number_in u (Some n) ≡ Some y → n ≤ size t
-        numbered n y h =
-            elim (cases_Bool (nat_eq m n)) [
-              | inl here ↦ (let is : m ≡ n = eqb-true m n here in let there = within-at p m leads in omega (arith, is, there))
-              | inr other ↦ tree.numbers n y (sym (put n ∙ ap (λ b. cond b (Some x) (number_in t (Some n))) other) ∙ h)
-            ]

@@ -2,13 +2,15 @@
 --     place_below, next_place       the place below a place, at a slot; below a place that may be missing
 --     place_further, place_at       the place that a path leads to from a place that may be missing; from the top, if there is one
 --     number_in, number_by_path     the number of a place that may be missing; that of the place of a path
---     SameNumbers, IsPut            two tables have the same number at each path; one path has this number now, and the others what they had
+--     SamePlaces, SameNumbers       two tables lead each path to the same place; they have the same number at each path
+--     IsPut                         one path has this number now, and the others what they had
 --     size                          how many places there are below the top
 --     HasPaths                      each place can be told its path, which is that of the place above it with one slot more
 --     IsTree                        such a table, in which no other places are named than there are
 --     IsGrown                       with more places, which have no number, and are counted after the older ones
-use Rattle.std.specs.Prelude.{◌≡◌, ℕ, ◌≤◌, ◌&&◌, cond, nat_eq, [], ◌∷◌, ◌++◌, option_and_then, Option, Some}
+use Rattle.std.specs.Prelude.{◌≡◌, ℕ, ◌≤◌, ◌&&◌, cond, nat_eq, [], ◌∷◌, ◌++◌, slice_get, option_and_then, Option, Some}
 use Rattle.std.specs.List.{fold}
+use Rattle.std.specs.Option.{option_flatten}
 use Rattle.std.specs.HashMap.{get_by, hash_map_len}
 use Rattle.green_tree.specs.Path.{Path, same_path}
 use Rattle.path_table.specs.declared.table.PathTable.{PathTable}
@@ -26,10 +28,13 @@ abbrev pub place_at : PathTable → Path → Option ℕ
 place_at t p = place_further t (Some 0) p
 
 abbrev pub number_in : PathTable → Option ℕ → Option ℕ
-number_in t place = option_and_then (λ n. get_by (nat_eq n) t.numbers) place
+number_in t place = option_and_then (λ n. option_flatten (slice_get t.numbers.items n)) place
 
 abbrev pub number_by_path : PathTable → Path → Option ℕ
 number_by_path t p = number_in t (place_at t p)
+
+abbrev pub SamePlaces : PathTable → PathTable → Type 0
+SamePlaces before after = (p : Path) → place_at after p ≡ place_at before p
 
 abbrev pub SameNumbers : PathTable → PathTable → Type 0
 SameNumbers before after = (p : Path) → number_by_path after p ≡ number_by_path before p

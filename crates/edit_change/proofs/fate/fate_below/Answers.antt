@@ -1,6 +1,4 @@
-use Rattle.std.proofs.Common.{◌≡◌, [], true, false, cond, sym, ◌∙◌, ap}
-use Rattle.std.proofs.lemmas.List.Quantifiers.{position-Some}
-use Rattle.cst_core.specs.Path.{has_path}
+use Rattle.std.proofs.Common.{[], true, false, cond, sym, ◌∙◌, ap}
 use Rattle.edit_change.specs.Change.{targets}
 use Rattle.edit_change.specs.inner.Fate.{is_dropped_in}
 use Rattle.edit_change.specs.declared.fate.Fate.TheVariants.{Dropped, Owned}

@@ -1,10 +1,9 @@
-use Rattle.std.proofs.Common.{◌≡◌, ◌+◌, Some, [], ◌∷◌, take, sym, ◌∙◌, ap, refl}
+use Rattle.std.proofs.Common.{◌+◌, Some, [], take, sym, ◌∙◌, ap, refl}
 use Rattle.std.proofs.lemmas.List.{take_all}
 use Rattle.cst_core.specs.Path.{up_to}
-use Rattle.path_table.specs.PathTable.{number_in, place_at}
+use Rattle.path_table.specs.PathTable.{number_in}
 use Rattle.path_table.proofs.PathTables.{place-more}
 use Rattle.edit_change.specs.inner.Fate.{fate_within}
-use Rattle.edit_change.specs.inner.TargetIndex.{target_at}
 use Rattle.edit_change.proofs.Walk.{up_to-more}
 use Rattle.edit_change.proofs.fate.fate_within.Goals as goal
 

@@ -1,7 +1,8 @@
-use Rattle.std.proofs.Common.{◌≡◌, ◌+◌, None, Some, cond, sym, ◌∙◌, ap, refl}
-use Rattle.std.specs.Prelude.{nat_eq, ◌&&◌, is_some}
-use Rattle.path_table.specs.PathTable.{place_below, size}
-use Rattle.path_table.proofs.PathTables.{grown}
+use Rattle.std.proofs.Common.{◌+◌, Some, cond, ◌∙◌, ap, refl, rules}
+use Rattle.std.specs.Prelude.{nat_eq, ◌&&◌, unwrap_or}
+use Rattle.std.specs.HashMap.Entry.{map_with_value, entry_value}
+use Rattle.path_table.specs.PathTable.{place_below}
+use Rattle.path_table.proofs.PathTables.{step-entered, grown-as}
 use Rattle.path_table.proofs.table.PathTable.enter.Goals as goal
 
 pub returns-clause-grown : goal.returns-clause-grown
@@ -9,6 +10,9 @@ returns-clause-grown c =
     let t = c.args.self.now in
     let n = c.args.place in
     let s = c.args.slot in
-    let free : place_below t n s ≡ None = sym c.below.ensures ∙ c.in_default.is in
-    let inserted = c.in_ok-insert.ensures in
-    grown t (record { steps = c.insert.new.self; numbers = t.numbers }) n s c.requires.tree c.requires.here free (inserted.len ∙ ap (λ o. size t + cond (is_some o) 0 1) (inserted.old ∙ free)) refl (λ a i. inserted.updates.0 (a, i) ∙ ap (λ k. cond (nat_eq n a && nat_eq s i) (Some (k + 1)) (place_below t a i)) c.len-next.ensures.len)
+    let e = c.in_ok-self.field-0 in
+    let m = c.or_insert.result.now in
+    let found = c.in_ok-self.ensures in
+    let is = c.or_insert.ensures.value ∙ ap (λ k. unwrap_or (entry_value e) (k + 1)) c.len-next.ensures.len in
+    let made = step-entered t (record { steps = map_with_value e m; numbers = t.numbers }) n s (entry_value e) c.requires.tree c.requires.here found.value (found.len m) refl (λ a i. (found.update.0 m).0 (a, i) ∙ ap (λ k. cond (nat_eq n a && nat_eq s i) (Some k) (place_below t a i)) is) in
+    grown-as (search rules) made

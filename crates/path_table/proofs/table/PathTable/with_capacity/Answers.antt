@@ -1,0 +1,18 @@
+use Rattle.std.proofs.Common.{refl, ◌∙◌}
+use Rattle.path_table.specs.declared.table.PathTable.{PathTable}
+use Rattle.path_table.proofs.PathTables.{grown-same}
+use Rattle.path_table.proofs.table.PathTable.with_capacity.Goals as goal
+
+pub returns-clause-empty : goal.returns-clause-empty
+returns-clause-empty c = λ p.
+    let t = c.new-table.result in
+    let u : PathTable = record { steps = c.reserve.new.self; numbers = t.numbers } in
+    let kept = c.in_ok-reserve.ensures.entries in
+    (grown-same t u c.new-table.ensures.tree (λ n i. kept.2 (n, i)) kept.1 refl).numbers p ∙ c.new-table.ensures.empty p
+
+pub returns-clause-tree : goal.returns-clause-tree
+returns-clause-tree c =
+    let t = c.new-table.result in
+    let u : PathTable = record { steps = c.reserve.new.self; numbers = t.numbers } in
+    let kept = c.in_ok-reserve.ensures.entries in
+    (grown-same t u c.new-table.ensures.tree (λ n i. kept.2 (n, i)) kept.1 refl).tree
