@@ -235,7 +235,7 @@ pub fn rebuild(
     let mut out = Vec::with_capacity(alloc, children.len())?;
     push_gap(alloc, &mut out, found, path, given, aims, 0)?;
     for slot in 0..children.len() {
-        let group = groups[slot].as_slice();
+        let group = groups.at(slot);
         let child = &children[slot];
         let to_find = sought_for(&lists, slot);
         if is_replaced(group, slot) {

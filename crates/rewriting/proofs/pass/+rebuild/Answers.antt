@@ -100,9 +100,9 @@ loop-slot-preserved t c =
     let mid = c.if-is_replaced.out.items in
     let new = c.push_gap-in-loop-slot.new.out.items in
     let in_range : i < length ts = rw (← c.children-children.ensures, length-map) c.loop-slot-test.true in
-    let here = group_is c.in_ok-groups.groups.items aims (length es) i c.index.result.now c.as_slice-group.result.now c.in_ok-groups.ensures.groups c.loop-slot-test.true c.index.ensures c.as_slice-group.ensures in
+    let here = group_is c.in_ok-groups.groups aims (length es) i c.at-group.result.now c.in_ok-groups.ensures.groups c.loop-slot-test.true c.at-group.ensures in
     let replaced = c.is_replaced.ensures ∙ ap (λ g. is_replaced (aims_of g) (i ∷ [])) here ∙ group-replaced i aims in
-    let behind = ap gap_order (group-inserted i aims c.as_slice-group.result.now here) in
+    let behind = ap gap_order (group-inserted i aims c.at-group.result.now here) in
     let kept : SyntaxTree = rewritten kind_only given cs (i ∷ []) (get_or ts i d) in
     let e = element_tree c.index-children-slot.result in
     let child : e ≡ get_or ts i d = tree_at es i c.index-children-slot.result d c.loop-slot-test.true c.index-children-slot.is ∙ ap (λ us. get_or us i d) c.children-children.ensures in
@@ -184,7 +184,7 @@ loop-slot-preserved t c =
                 ap (λ v. marks_of v.items) w.found-is ∙ w.in_ok-rebuild.ensures.marks trees are ∙ ap₂ (λ p u. before ++ map (mark_below p) (marked u)) there it ∙ ap (λ ms. before ++ ms) (sym (shown-one path (length out) own)) ∙ ap (λ us. before ++ shown path (length out) us) (slot-kept (wanted sought) trees cs (i ∷ []) own (sym replaced ∙ w.if-is_replaced.false))
           ] in
           let wider : length mid ≡ length out + length s = width out mid (slot kind_only given cs (i ∷ []) kept) s middle (slot_as_many table trees are (wanted sought) cs (i ∷ []) own kept) in
-          let ns : List ℕ = gap_changes c.as_slice-group.result.now (i + 1) in
+          let ns : List ℕ = gap_changes c.at-group.result.now (i + 1) in
           let after = c.in_ok-push_gap-2.ensures.marks trees are ∙ ap₂ (λ p ms. between ++ shown p (length mid) (flat_map trees ms)) same_path behind in
           let wider_still = width mid new (flat_map given ns) (flat_map trees ns) c.in_ok-push_gap-2.ensures.trees (all_as_many table trees are ns) ∙ ap (λ ms. length mid + length (flat_map trees ms)) behind in
           step (shown path) (are_shown path) (wanted sought) trees cs before between (marks_of c.push_gap-in-loop-slot.new.found.items) _ (length out) (length mid) (length new) s i ts d in_range refl shown_there wider after wider_still (c.loop-slot.invariant.marks trees are);
