@@ -238,6 +238,10 @@ pub fn rebuild(
         let group = groups.at(slot);
         let child = &children[slot];
         let to_find = sought_for(&lists, slot);
+        if group.is_empty() {
+            push_child(alloc, &mut out, found, path, child, to_find)?;
+            continue;
+        }
         if is_replaced(group, slot) {
             push_slot(alloc, &mut out, found, path, given, group, slot)?;
         } else if !alter_below(group, slot) {
