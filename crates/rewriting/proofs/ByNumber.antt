@@ -39,7 +39,7 @@ some_number gs (suc n) l =
     let before : suc n - 1 ≡ n = omega arith in
     ap (λ i. get_or gs i []) (sym before)
 
--- the groups so far, with a new one behind them
+-- the groups so far, with a new one after them
 kept : (gs : List (List Aimed)) (g : List Aimed) (n : ℕ) → n ≤ length gs → group_by_number (gs ++ g ∷ []) n ≡ group_by_number gs n
 kept gs g zero l = refl
 kept gs g (suc n) l = get_or-append gs (g ∷ []) [] n (omega arith)

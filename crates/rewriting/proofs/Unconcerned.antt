@@ -4,7 +4,7 @@ use Rattle.std.specs.List.{list_any}
 use Rattle.std.proofs.Common.{ap, sym, ◌∙◌, arith}
 use Rattle.rewriting.specs.Rewriting.{inserts_at, is_replaced}
 use Rattle.rewriting.specs.declared.aimed.Aimed.{Aimed}
-use Rattle.rewriting.specs.inner.Aimed.{aims_of, has_parent, of_placed, placed, placed_below, alter_below}
+use Rattle.rewriting.specs.inner.Aimed.{aims_of, has_parent, of_placed, placed, alter_below}
 use Rattle.rewriting.specs.inner.Groups.{concerns}
 use Rattle.rewriting.proofs.InGroups.{group-inserted, group-replaced, group-below}
 

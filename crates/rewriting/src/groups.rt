@@ -49,7 +49,12 @@ impl<'a> Groups<'a> {
     }
 
     // One more aim at the end of those of a child.
-    pub(crate) fn push(&mut self, alloc: Global, slot: usize, aim: Aimed<'a>) -> Result<(), AllocError>
+    pub(crate) fn push(
+        &mut self,
+        alloc: Global,
+        slot: usize,
+        aim: Aimed<'a>,
+    ) -> Result<(), AllocError>
         requires { slot < length self.old }
         ensures size { length self.new ≡ length self.old }
         ensures here { OnOk result (HasOneMore self.old self.new slot aim.entry) }

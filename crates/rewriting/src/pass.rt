@@ -238,6 +238,7 @@ pub fn rebuild(
         let group = groups.at(slot);
         let child = &children[slot];
         let to_find = sought_for(&lists, slot);
+        // No aim concerns most children of a wide node.
         if group.is_empty() {
             push_child(alloc, &mut out, found, path, child, to_find)?;
             continue;
