@@ -119,8 +119,8 @@ grow k old new xs ys a f n e o inside before behind on under past_it =
     ]
 
 -- ---- a group by its index
-pub group_is : (groups : List (List Aimed)) (aims : List Aimed) (n i : ℕ) (v : List Aimed) (xs : List Aimed) → ((k : ℕ) (d : List Aimed) → k < n → get_or groups k d ≡ filter (concerns k) aims) → i < n → v ≡ get_or groups i v → xs ≡ v → xs ≡ filter (concerns i) aims
-group_is groups aims n i v xs all l is e = e ∙ is ∙ all i v l
+pub group_is : (groups : List (List Aimed)) (aims : List Aimed) (n i : ℕ) (group : List Aimed) → ((k : ℕ) (d : List Aimed) → k < n → get_or groups k d ≡ filter (concerns k) aims) → i < n → group ≡ get_or groups i group → group ≡ filter (concerns i) aims
+group_is groups aims n i group all l is = is ∙ all i group l
 
 pub group-gap : {L : Type 0} (label_at : Path → ℕ → L) (given : ℕ → List (Tree L)) (xs group : List Aimed) (i : ℕ) → group ≡ filter (concerns i) xs → gap label_at given (aims_of group) [] (i + 1) ≡ gap label_at given (aims_of xs) [] (i + 1)
 group-gap label_at given xs group i e =

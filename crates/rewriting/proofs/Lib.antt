@@ -1,6 +1,8 @@
 pub mod Here
 pub mod SeenBelow
 pub mod InGroups
+pub mod ByNumber
+pub mod Unconcerned
 pub mod Passing
 pub mod Children
 pub mod Built

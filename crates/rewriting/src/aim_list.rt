@@ -5,7 +5,7 @@ ghost use Rattle.rewriting.specs.inner.Aimed.{aims_of, has_parent, placed, place
 ghost use Rattle.rewriting.specs.inner.Groups.{GrowsInside, StaysBefore, StaysBehind, AreGrouped};
 
 use crate::aimed::Aimed;
-use crate::group::Group;
+use crate::groups::Groups;
 use std::alloc::{AllocError, Global};
 
 // Whether some aim alters the children of a node.
@@ -76,19 +76,19 @@ pub fn aims_below<'a>(
 // The aim goes to the end of n groups, from one on, as far as there are groups.
 fn push_into<'a>(
     alloc: Global,
-    groups: &mut Vec<Group<'a>>,
+    groups: &mut Groups<'a>,
     aim: Aimed<'a>,
     first: usize,
     count: usize,
 ) -> Result<(), AllocError>
-    ensures size { length groups.new.items ≡ length groups.old.items }
-    ensures inside { OnOk result (GrowsInside groups.old.items groups.new.items first count aim.entry) }
-    ensures before { OnOk result (StaysBefore groups.old.items groups.new.items first count) }
-    ensures behind { OnOk result (StaysBehind groups.old.items groups.new.items first count) }
+    ensures size { length groups.new ≡ length groups.old }
+    ensures inside { OnOk result (GrowsInside groups.old groups.new first count aim.entry) }
+    ensures before { OnOk result (StaysBefore groups.old groups.new first count) }
+    ensures behind { OnOk result (StaysBehind groups.old groups.new first count) }
 {
     let end = first.saturating_add(count).min(groups.len());
-    for index in first..end {
-        groups[index].push(alloc, aim)?;
+    for slot in first..end {
+        groups.push(alloc, slot, aim)?;
     }
     Ok(())
 }
@@ -98,14 +98,11 @@ pub fn aims_by_child<'a>(
     alloc: Global,
     aims: &[Aimed<'a>],
     count: usize,
-) -> Result<Vec<Group<'a>>, AllocError>
-    ensures size { IfOk result (λ v. length v.items ≡ count) }
-    ensures groups { IfOk result (λ v. AreGrouped aims.now count v.items) }
+) -> Result<Groups<'a>, AllocError>
+    ensures size { IfOk result (λ g. length g ≡ count) }
+    ensures groups { IfOk result (λ g. AreGrouped aims.now count g) }
 {
-    let mut groups = Vec::with_capacity(alloc, count)?;
-    for _ in 0..count {
-        groups.push(Group::new())?;
-    }
+    let mut groups = Groups::with_capacity(alloc, count, aims.len().min(count))?;
     for aim in aims {
         let (first, reach) = aim.reach();
         push_into(alloc, &mut groups, *aim, first, reach)?;

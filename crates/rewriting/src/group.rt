@@ -6,7 +6,7 @@ use crate::lone::lone_aim;
 use std::alloc::{AllocError, Global};
 use std::marker::Model;
 
-/// A list of aims, which takes no memory of its own as long as there is one at most.
+/// A list of aims, one at least, which takes no memory of its own as long as there is no other.
 #[derive(Drop)]
 pub(crate) struct Group<'a> {
     few: Few<'a>,
@@ -37,11 +37,13 @@ fn both<'a>(
 }
 
 impl<'a> Group<'a> {
-    // No aims.
-    pub(crate) fn new() -> Group<'a>
-        ensures { result ≡ [] }
+    // One aim.
+    pub(crate) fn one(aim: Aimed<'a>) -> Group<'a>
+        ensures { result ≡ aim.entry ∷ [] }
     {
-        Group { few: Few::Empty }
+        Group {
+            few: Few::One(lone_aim(aim)),
+        }
     }
 
     // One more aim at the end.
@@ -49,7 +51,6 @@ impl<'a> Group<'a> {
         ensures { OnOk result (self.new ≡ self.old ++ aim.entry ∷ []) }
     {
         match &mut self.few {
-            Few::Empty => self.few = Few::One(lone_aim(aim)),
             Few::One(one) => {
                 let first = one.only();
                 self.few = Few::Many(both(alloc, first, aim)?);
@@ -64,7 +65,6 @@ impl<'a> Group<'a> {
         ensures { result.now ≡ self.now }
     {
         match &self.few {
-            Few::Empty => &[],
             Few::One(one) => one.as_slice(),
             Few::Many(aims) => aims.as_slice(),
         }

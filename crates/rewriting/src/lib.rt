@@ -6,6 +6,7 @@ mod aimed;
 mod few;
 mod given;
 mod group;
+mod groups;
 mod lists;
 mod lone;
 mod mark;

@@ -235,9 +235,14 @@ pub fn rebuild(
     let mut out = Vec::with_capacity(alloc, children.len())?;
     push_gap(alloc, &mut out, found, path, given, aims, 0)?;
     for slot in 0..children.len() {
-        let group = groups[slot].as_slice();
+        let group = groups.at(slot);
         let child = &children[slot];
         let to_find = sought_for(&lists, slot);
+        // No aim concerns most children of a wide node.
+        if group.is_empty() {
+            push_child(alloc, &mut out, found, path, child, to_find)?;
+            continue;
+        }
         if is_replaced(group, slot) {
             push_slot(alloc, &mut out, found, path, given, group, slot)?;
         } else if !alter_below(group, slot) {

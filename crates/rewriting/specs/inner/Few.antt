@@ -1,11 +1,10 @@
 -- The aims in a group.
---     aims_in                       none, one or several
-use Rattle.std.specs.Prelude.{List, []}
+--     aims_in                       one or several
+use Rattle.std.specs.Prelude.{List}
 use Rattle.rewriting.specs.declared.aimed.Aimed.{Aimed}
 use Rattle.rewriting.specs.declared.few.Few.{Few}
-use Rattle.rewriting.specs.declared.few.Few.TheVariants.{Empty, One, Many}
+use Rattle.rewriting.specs.declared.few.Few.TheVariants.{One, Many}
 
 abbrev pub aims_in : Few → List Aimed
-aims_in Empty = []
 aims_in (One a) = a
 aims_in (Many v) = v.items

@@ -3,18 +3,12 @@ use Rattle.std.proofs.lemmas.List.{take_more}
 use Rattle.rewriting.proofs.InGroups.{grow}
 use Rattle.rewriting.proofs.aim_list.aims_by_child.Goals as goal
 
-pub loop-aim-init : goal.loop-aim-init
-loop-aim-init c = record {
-  size = omega (arith, c.loop.invariant.size, c.loop-test.false, c.loop.auto.counter-end);
-  groups = λ k d l. c.loop.invariant.empty k d (omega (arith, c.loop-test.false));
-}
-
 pub loop-aim-preserved : goal.loop-aim-preserved
 loop-aim-preserved c = record {
   size = c.in_ok-push_into.ensures.size ∙ c.loop-aim.invariant.size;
   groups = λ k d l.
-      let inside : k < length c.loop-aim.groups.items = omega (arith, c.loop-aim.invariant.size) in
-      grow k (get_or c.loop-aim.groups.items k d) (get_or c.push_into.new.groups.items k d) (take c.loop-aim.aim-index c.args.aims.now) (take (c.loop-aim.aim-index + 1) c.args.aims.now) _ _ _
+      let inside : k < length c.loop-aim.groups = omega (arith, c.loop-aim.invariant.size) in
+      grow k (get_or c.loop-aim.groups k d) (get_or c.push_into.new.groups k d) (take c.loop-aim.aim-index c.args.aims.now) (take (c.loop-aim.aim-index + 1) c.args.aims.now) _ _ _
       (take_more c.args.aims.now c.loop-aim.aim-index _ c.loop-aim-test.true)
       (c.loop-aim.invariant.groups k d l)
       (λ u v. c.in_ok-push_into.ensures.inside k d inside u v)

@@ -1,17 +1,11 @@
-use Rattle.std.proofs.Common.{List, ◌≡◌, ℕ, ◌<◌, [], length, get_or, take}
+use Rattle.std.proofs.Common.{List, ◌≡◌, ℕ, ◌<◌, length, get_or, take}
 use Rattle.std.specs.List.{filter}
 use Rattle.rewriting.specs.declared.aimed.Aimed.{Aimed}
 use Rattle.rewriting.specs.inner.Groups.{concerns}
 use Rattle.rewriting.proofs.aim_list.aims_by_child.Given as goal
 
-abbrev pub invariant-loop : goal.invariant-loop
-invariant-loop l = record {
-  size : length l.groups.items ≡ l.counter;
-  empty : (k : ℕ) (d : List Aimed) → k < l.counter → get_or l.groups.items k d ≡ [];
-}
-
 abbrev pub invariant-loop-aim : goal.invariant-loop-aim
 invariant-loop-aim l = record {
-  size : length l.groups.items ≡ l.count;
-  groups : (k : ℕ) (d : List Aimed) → k < l.count → get_or l.groups.items k d ≡ filter (concerns k) (take l.aim-index l.aims);
+  size : length l.groups ≡ l.count;
+  groups : (k : ℕ) (d : List Aimed) → k < l.count → get_or l.groups k d ≡ filter (concerns k) (take l.aim-index l.aims);
 }
