@@ -23,7 +23,7 @@ use mathlib.Core.Logic.{inl, inr}
 use Rattle.edit_plan.specs.AnnotationTable.{entries_of, found_for}
 use Rattle.edit_plan.specs.Plan.{Plan, registered_elements}
 use Rattle.edit_stages.specs.NewTree.{OriginTree}
-use Rattle.edit_plan.specs.Engine.{annotated_path, IsRewritten}
+use Rattle.edit_plan.specs.Engine.{IsRewritten}
 use Rattle.edit_plan.specs.inner.Marks.{numbered_paths}
 use Rattle.edit_plan.specs.inner.PlanRun.{IsMade}
 use Rattle.edit_plan.specs.Results.{annotated, copies_of, paths_with}

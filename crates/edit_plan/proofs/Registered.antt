@@ -17,7 +17,7 @@ use Rattle.rewriting.specs.declared.mark.Sought.{Sought}
 use Rattle.rewriting.specs.inner.Marked.{Marking, sought_as, sought_in, sought_for, HasOneMore, StaysElsewhere}
 use Rattle.cst_core.specs.Path.{Path, same_path, counted_from}
 use Rattle.cst_core.specs.Element.{Address, same_address}
-use Rattle.path_table.specs.PathTable.{place_below, place_at, size, IsTree, IsGrown}
+use Rattle.path_table.specs.PathTable.{place_below, place_at, size, IsGrown}
 use Rattle.path_table.specs.declared.table.PathTable.{PathTable}
 use Rattle.path_table.proofs.PathTables.{place-push, path-is}
 use Rattle.edit_plan.specs.inner.Sought.{path_below, sought_one, sought_from}
