@@ -1,9 +1,10 @@
 -- Annotated paths, and the elements that they lead to, by annotation.
+--     added                         a table with one element more for an annotation
 --     one-less                      a table with one more element has it for its annotation, and one path is left less
 --     followed-more                 one more registered element is followed
 --     is_rewritten                  the annotated paths of a plan, from where its registered elements lead to
 --     found-in                      what an edit has for an annotation is what the table has
-use Rattle.std.specs.Prelude.{◌≡◌, All, ℕ, ◌+◌, ◌<◌, true, false, cond, nat_eq, List, [], ◌∷◌, ◌++◌, map, flat_map, filter, take, length, Vec, Some, IsSome, get_or, refl}
+use Rattle.std.specs.Prelude.{◌≡◌, All, ℕ, ◌+◌, ◌<◌, true, false, cond, nat_eq, List, [], ◌∷◌, ◌++◌, map, flat_map, filter, take, length, Vec, Option, Some, IsSome, get_or, refl}
 use Rattle.std.specs.Global.{Global}
 use Rattle.std.proofs.Common.{ap, ap₂, sym, subst, ◌∙◌}
 use Rattle.std.proofs.lemmas.List.{take_more, map-append, append-nil, append_assoc}
@@ -16,16 +17,33 @@ use Rattle.edit_map.specs.Mapping.{Mapping, followed, mapped_elements}
 use Rattle.cst_core.specs.declared.element.SyntaxElement.{SyntaxElement}
 use Rattle.std.specs.Map.{lookup}
 use Rattle.std.specs.Option.{option_map_or}
+use Rattle.std.specs.HashMap.{HashMap, get, get_by, Updates}
+use Rattle.std.proofs.lemmas.Bool.{cases_Bool, eqb-true}
+use mathlib.Core.Logic.{inl, inr}
 use Rattle.edit_plan.specs.AnnotationTable.{entries_of, found_for}
 use Rattle.edit_plan.specs.Plan.{Plan, registered_elements}
 use Rattle.edit_stages.specs.NewTree.{OriginTree}
-use Rattle.edit_plan.specs.Engine.{annotated_path, IsRewritten}
+use Rattle.edit_plan.specs.Engine.{IsRewritten}
 use Rattle.edit_plan.specs.inner.Marks.{numbered_paths}
 use Rattle.edit_plan.specs.inner.PlanRun.{IsMade}
 use Rattle.edit_plan.specs.Results.{annotated, copies_of, paths_with}
 use Rattle.edit_plan.proofs.Leading.{numbered-lead}
 use Rattle.edit_plan.proofs.Told.{all-told}
 use mathlib.Core.List.{map-map}
+
+-- ---- a table with one element more
+module _ {X : Type 0} where
+  abbrev pub items_of : Option (Vec X Global) → List X
+  items_of o = option_map_or (λ v. v.items) o []
+
+  -- where the key k gets w, which has one more than the key had
+  pub added : {S : Type 0} (m n : HashMap ℕ (Vec X Global) S) (k : ℕ) (x : X) (w : Vec X Global) → Updates nat_eq m n k (Some w) → w.items ≡ items_of (get nat_eq m k) ++ x ∷ [] → (a : ℕ) → items_of (get_by (nat_eq a) n) ≡ items_of (get_by (nat_eq a) m) ++ cond (nat_eq k a) (x ∷ []) []
+  added m n k x w put more a =
+      let before = items_of (get nat_eq m a) in
+      ap items_of (put.0 a) ∙ elim (cases_Bool (nat_eq k a)) [
+        | inl same ↦ ap (λ b. items_of (cond b (Some w) (get nat_eq m a))) same ∙ more ∙ ap (λ q. items_of (get nat_eq m q) ++ x ∷ []) (eqb-true k a same) ∙ ap (λ b. before ++ cond b (x ∷ []) []) (sym same)
+        | inr other ↦ ap (λ b. items_of (cond b (Some w) (get nat_eq m a))) other ∙ sym (append-nil before) ∙ ap (λ b. before ++ cond b (x ∷ []) []) (sym other)
+      ]
 
 -- ---- the paths of one annotation
 -- one of them is found, and the others are left

@@ -1,5 +1,5 @@
 -- The table of registered elements.
---     pushed-nothing, pushed-one    an empty list at the end; one mark more in a list
+--     pushed-nothing, pushed-list, pushed-one    an empty list at the end; a list of one mark there; one mark more in a list
 --     found-same                    places that are added have no list
 --     leads-further                 the path of the place below another one
 --     entered, entered-unused       one mark more there; what has no place has no list
@@ -17,7 +17,7 @@ use Rattle.rewriting.specs.declared.mark.Sought.{Sought}
 use Rattle.rewriting.specs.inner.Marked.{Marking, sought_as, sought_in, sought_for, HasOneMore, StaysElsewhere}
 use Rattle.cst_core.specs.Path.{Path, same_path, counted_from}
 use Rattle.cst_core.specs.Element.{Address, same_address}
-use Rattle.path_table.specs.PathTable.{place_below, place_at, size, IsTree, IsGrown}
+use Rattle.path_table.specs.PathTable.{place_below, place_at, size, IsGrown}
 use Rattle.path_table.specs.declared.table.PathTable.{PathTable}
 use Rattle.path_table.proofs.PathTables.{place-push, path-is}
 use Rattle.edit_plan.specs.inner.Sought.{path_below, sought_one, sought_from}
@@ -29,6 +29,15 @@ pushed-nothing [] v empty zero = ap sought_in empty
 pushed-nothing [] v empty (suc k) = refl
 pushed-nothing (l ∷ ls) v empty zero = refl
 pushed-nothing (l ∷ ls) v empty (suc k) = pushed-nothing ls v empty k
+
+eq_suc : (a b : ℕ) → nat_eq (suc a) (suc b) ≡ nat_eq a b
+eq_suc a b = elim (cases_eq a b) [ inl same ↦ eq-eqb (suc a) (suc b) (ap suc same) ∙ sym (eq-eqb a b same) | inr other ↦ ne_eqb (suc a) (suc b) (omega (arith, other)) ∙ sym (ne_eqb a b other) ]
+
+pub pushed-list : (ls : List (Vec Sought Global)) (v : Vec Sought Global) (s : Sought) → v.items ≡ s ∷ [] → (k : ℕ) → sought_for (ls ++ v ∷ []) k ≡ sought_for ls k ++ cond (nat_eq (length ls) k) (sought_as s ∷ []) []
+pushed-list [] v s one zero = ap sought_in one
+pushed-list [] v s one (suc k) = ap (λ b. cond b (sought_as s ∷ []) []) (sym (ne_eqb 0 (suc k) (omega arith)))
+pushed-list (l ∷ ls) v s one zero = sym (append-nil (sought_in l.items)) ∙ ap (λ b. sought_in l.items ++ cond b (sought_as s ∷ []) []) (sym (ne_eqb (suc (length ls)) 0 (omega arith)))
+pushed-list (l ∷ ls) v s one (suc k) = pushed-list ls v s one k ∙ ap (λ b. sought_for ls k ++ cond b (sought_as s ∷ []) []) (sym (eq_suc (length ls) k))
 
 -- one of a list that is not empty
 some-of : {X : Type 0} (xs : List X) (i : ℕ) → i < length xs → X

@@ -1,6 +1,6 @@
 //! The elements of the new tree that are found for each annotation.
 
-ghost use Rattle.std.specs.Prelude.{ℕ, ◌≡◌, nat_eq, cond, [], OnOk};
+ghost use Rattle.std.specs.Prelude.{ℕ, ◌≡◌, [], IfOk, OnOk};
 ghost use Rattle.edit_plan.specs.AnnotationTable.{elements_at};
 ghost use Rattle.edit_plan.specs.inner.Marks.{HasElementMore};
 
@@ -8,6 +8,7 @@ use crate::annotation::SyntaxAnnotation;
 use cst_core::SyntaxElement;
 use std::alloc::{AllocError, Global};
 use std::collections::HashMap;
+use std::collections::hash_map::Entry;
 
 /// Elements by annotation, those of one annotation in the order in which they came.
 #[derive(Drop)]
@@ -16,23 +17,15 @@ pub(crate) struct AnnotationTable {
 }
 
 impl AnnotationTable {
-    pub(crate) fn new(alloc: Global) -> AnnotationTable
-        ensures { (a : ℕ) → elements_at result a ≡ [] }
+    /// A table of nothing, with room for so many annotations.
+    pub(crate) fn with_capacity(
+        alloc: Global,
+        annotations: usize,
+    ) -> Result<AnnotationTable, AllocError>
+        ensures { IfOk result (λ t. (a : ℕ) → elements_at t a ≡ []) }
     {
-        AnnotationTable {
-            lists: HashMap::new(alloc),
-        }
-    }
-
-    // The list of an annotation, which is taken out.
-    fn take(&mut self, alloc: Global, annotation: SyntaxAnnotation) -> Vec<SyntaxElement>
-        ensures list { result.items ≡ elements_at self.old annotation }
-        ensures elsewhere { (a : ℕ) → elements_at self.new a ≡ cond (nat_eq annotation a) [] (elements_at self.old a) }
-    {
-        match self.lists.remove(&annotation) {
-            Some(list) => list,
-            None => Vec::new(alloc),
-        }
+        let lists = HashMap::with_capacity(alloc, annotations)?;
+        Ok(AnnotationTable { lists })
     }
 
     /// One more element for an annotation, after those that it has.
@@ -44,9 +37,13 @@ impl AnnotationTable {
     ) -> Result<(), AllocError>
         ensures { OnOk result (HasElementMore self.old self.new annotation element) }
     {
-        let mut list = self.take(alloc, annotation);
-        list.push(element)?;
-        self.lists.insert(annotation, list)?;
+        match self.lists.entry(annotation)? {
+            Entry::Occupied(entry) => entry.into_mut().push(element)?,
+            Entry::Vacant(entry) => {
+                let list = vec![in alloc; element]?;
+                entry.insert(list);
+            }
+        }
         Ok(())
     }
 }

@@ -87,7 +87,8 @@ impl EditPlan {
         let mut own = TreeIds::new(next_number(ids));
         let new_root = SyntaxNode::new_root(alloc, &mut own, green)?;
         let changed = elements_at(alloc, &new_root, changed)?;
-        let annotated = elements_by_annotation(alloc, &new_root, annotated)?;
+        let count = self.registrations.len();
+        let annotated = elements_by_annotation(alloc, &new_root, count, annotated)?;
         let old_root = self.root.try_clone(alloc)?;
         ids.next();
         Ok(SyntaxEdit {
@@ -143,7 +144,6 @@ impl EditPlan {
         builds: &mut u64,
     ) -> Result<Made, AllocError>
         ensures count { OnOk result (CountsTouched self.now builds.old builds.new) }
-        ensures long { IfOk result (λ m. length m.copies.items ≡ length registered.now) }
         ensures made { IfOk result (HasMade self.now registered.now) }
     {
         let aims = self.aims(alloc)?;

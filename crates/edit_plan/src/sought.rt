@@ -5,8 +5,8 @@ ghost use Rattle.cst_core.specs.Element.{Address, address};
 ghost use Rattle.cst_core.specs.SyntaxElement.{element_of};
 ghost use Rattle.path_table.specs.PathTable.{size};
 ghost use Rattle.rewriting.specs.inner.Marked.{sought_as, sought_in, HasOneMore, StaysElsewhere};
-ghost use Rattle.edit_plan.specs.inner.Sought.{addresses, sought_from, sought_at, IsIndex, HasSameLists};
-ghost use Rattle.edit_plan.specs.inner.Sought.{IsEntered, HasRegisteredMore};
+ghost use Rattle.edit_plan.specs.inner.Sought.{addresses, sought_from, sought_at, IsSoughtIndex};
+ghost use Rattle.edit_plan.specs.inner.Sought.{HasSameLists, HasListedMore, IsMarkEntered, HasRegisteredMore};
 
 use cst_core::SyntaxElement;
 use path_table::PathTable;
@@ -23,14 +23,16 @@ pub(crate) struct SoughtIndex<'a> {
 }
 
 impl<'a> SoughtIndex<'a> {
-    fn new(alloc: Global) -> SoughtIndex<'a>
-        ensures index { IsIndex result }
-        ensures empty { (a : Address) → sought_at result a ≡ [] }
+    // A table of nothing, with room for the lists of so many places.
+    fn with_capacity(alloc: Global, places: usize) -> Result<SoughtIndex<'a>, AllocError>
+        ensures index { IfOk result IsSoughtIndex }
+        ensures empty { IfOk result (λ x. (a : Address) → sought_at x a ≡ []) }
     {
-        SoughtIndex {
+        let lists = Vec::with_capacity(alloc, places)?;
+        Ok(SoughtIndex {
             places: PathTable::new(alloc),
-            lists: Vec::new(alloc),
-        }
+            lists,
+        })
     }
 
     /// Whether nothing is registered. Where this says no, an element may still have none.
@@ -56,23 +58,20 @@ impl<'a> SoughtIndex<'a> {
         self.lists[place].as_slice()
     }
 
-    // Lists for the places up to this one.
+    // Lists for the places before this one.
     fn make_room(&mut self, alloc: Global, place: usize) -> Result<(), AllocError>
         ensures places { self.new.places ≡ self.old.places }
         ensures lists { HasSameLists self.old self.new }
-        ensures room { OnOk result (place < length self.new.lists.items) }
+        ensures room { OnOk result (place ≤ length self.new.lists.items) }
     {
         for _ in self.lists.len()..place {
-            self.lists.push(Vec::new(alloc))?;
-        }
-        if self.lists.len() == place {
             self.lists.push(Vec::new(alloc))?;
         }
         Ok(())
     }
 
-    // One more mark in the list of a place.
-    fn push_at(&mut self, place: usize, mark: Sought<'a>) -> Result<(), AllocError>
+    // One more mark in the list of a place that has one.
+    fn push_in(&mut self, place: usize, mark: Sought<'a>) -> Result<(), AllocError>
         requires { place < length self.now.lists.items }
         ensures places { self.new.places ≡ self.old.places }
         ensures size { length self.new.lists.items ≡ length self.old.lists.items }
@@ -80,6 +79,21 @@ impl<'a> SoughtIndex<'a> {
         ensures elsewhere { OnOk result (StaysElsewhere self.old.lists.items self.new.lists.items place) }
     {
         self.lists[place].push(mark)?;
+        Ok(())
+    }
+
+    // One more mark in the list of a place, which is made where there is none.
+    fn push_at(&mut self, alloc: Global, place: usize, mark: Sought<'a>) -> Result<(), AllocError>
+        ensures places { self.new.places ≡ self.old.places }
+        ensures more { OnOk result (HasListedMore self.old self.new place (sought_as mark.entry)) }
+    {
+        self.make_room(alloc, place)?;
+        if place < self.lists.len() {
+            self.push_in(place, mark)?;
+            return Ok(());
+        }
+        let list = vec![in alloc; mark]?;
+        self.lists.push(list)?;
         Ok(())
     }
 
@@ -91,13 +105,12 @@ impl<'a> SoughtIndex<'a> {
         slot: usize,
         mark: Sought<'a>,
     ) -> Result<usize, AllocError>
-        requires index { IsIndex self.old }
+        requires index { IsSoughtIndex self.old }
         requires here { place ≤ size self.old.places }
-        ensures { IfOk result (λ next. IsEntered self.old self.new place slot (sought_as mark.entry) next) }
+        ensures { IfOk result (λ next. IsMarkEntered self.old self.new place slot (sought_as mark.entry) next) }
     {
         let next = self.places.enter(place, slot)?;
-        self.make_room(alloc, next)?;
-        self.push_at(next, mark)?;
+        self.push_at(alloc, next, mark)?;
         Ok(next)
     }
 
@@ -108,8 +121,8 @@ impl<'a> SoughtIndex<'a> {
         number: usize,
         element: &'a SyntaxElement,
     ) -> Result<(), AllocError>
-        requires { IsIndex self.old }
-        ensures index { OnOk result (IsIndex self.new) }
+        requires { IsSoughtIndex self.old }
+        ensures index { OnOk result (IsSoughtIndex self.new) }
         ensures more { OnOk result (HasRegisteredMore self.old self.new number (address (element_of element.now))) }
     {
         let path = element.slots();
@@ -133,7 +146,7 @@ impl<'a> SoughtIndex<'a> {
     ) -> Result<SoughtIndex<'a>, AllocError>
         ensures { IfOk result (λ x. (a : Address) → sought_at x a ≡ sought_from 0 (addresses elements.now) a) }
     {
-        let mut index = SoughtIndex::new(alloc);
+        let mut index = SoughtIndex::with_capacity(alloc, elements.len())?;
         for number in 0..elements.len() {
             index.register(alloc, number, &elements[number])?;
         }

@@ -5,10 +5,11 @@
 --     addresses                     the addresses of elements in code
 --     listed_at, sought_at          what a table lists for a place; what it has at an address
 --     registered_at                 the numbers of the registered elements that are at an address
---     IsIndex                       such a table, which lists nothing for places that there are not
+--     IsSoughtIndex                       such a table, which lists nothing for places that there are not
 --     HasSameLists                  it lists the same for each place
+--     HasListedMore                 one mark more in the list of a place
 --     HasMarkMore                   one mark more at the address with this path
---     IsEntered                     one mark more at the place below another one, at a slot
+--     IsMarkEntered                     one mark more at the place below another one, at a slot
 --     HasRegisteredMore             one registered element more, at itself and at all that is above it
 use Rattle.std.specs.Prelude.{◌≡◌, ◌<◌, ℕ, suc, nat_eq, cond, List, [], ◌∷◌, ◌++◌, map, Option, Some, None}
 use Rattle.std.specs.Option.{option_map_or}
@@ -44,7 +45,7 @@ sought_at index a = option_map_or (listed_at index) (place_at index.places (addr
 abbrev pub registered_at : List Address → Address → List ℕ
 registered_at rs a = marks_at (sought_from 0 rs a) []
 
-pub record IsIndex (index : SoughtIndex) : Type 0 where
+pub record IsSoughtIndex (index : SoughtIndex) : Type 0 where
   pub tree : IsTree index.places
   pub unused : (k : ℕ) → size index.places < k → listed_at index k ≡ []
 
@@ -53,12 +54,15 @@ module _ (before after : SoughtIndex) where
   abbrev pub HasSameLists : Type 0
   HasSameLists = (k : ℕ) → listed_at after k ≡ listed_at before k
 
+  abbrev pub HasListedMore : ℕ → Marking → Type 0
+  HasListedMore place m = (k : ℕ) → listed_at after k ≡ listed_at before k ++ cond (nat_eq place k) (m ∷ []) []
+
   abbrev pub HasMarkMore : Path → Marking → Type 0
   HasMarkMore p m =
       (a : Address) → sought_at after a ≡ sought_at before a ++ cond (same_path p (address_path a)) (m ∷ []) []
 
-  pub record IsEntered (place slot : ℕ) (m : Marking) (next : ℕ) : Type 0 where
-    pub index : IsIndex after
+  pub record IsMarkEntered (place slot : ℕ) (m : Marking) (next : ℕ) : Type 0 where
+    pub index : IsSoughtIndex after
     pub grown : IsGrown before.places after.places
     pub leads : place_below after.places place slot ≡ Some next
     pub more : (p : Path) → place_at before.places p ≡ Some place → HasMarkMore (p ++ slot ∷ []) m

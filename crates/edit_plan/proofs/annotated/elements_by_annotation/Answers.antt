@@ -1,4 +1,5 @@
-use Rattle.std.proofs.Common.{◌≡◌, ◌++◌, ◌∙◌, Some, map, All, sym, ap, subst}
+use Rattle.std.proofs.Common.{◌≡◌, ◌++◌, ◌∙◌, Some, map, All, sym, ap, subst, append-nil}
+use Rattle.std.proofs.lemmas.List.{nil_from_length}
 use Rattle.std.proofs.lemmas.List.Elements.{All-head, All-tail}
 use Rattle.cst_core.specs.Element.{IsElement, element_at}
 use Rattle.cst_core.specs.SyntaxElement.{syntax_at}
@@ -27,3 +28,11 @@ loop-annotation-preserved c =
       there = All-tail (λ m. IsElement (element_at root m.1)) n (map annotated_path rest) there;
       found = λ a. one-less root a n (map annotated_path rest) c.in-Some-2.element (elements_at c.loop-annotation.table a) (elements_at c.add.new.self a) found (c.in_ok-add-in-Some-2.ensures a) ∙ ap (λ ns. map (λ x. Some x) (elements_at c.loop-annotation.table a) ++ map (syntax_at root) (paths_with a (map annotated_path ns))) (sym c.in-Some.ensures.steps.0) ∙ c.loop-annotation.invariant.found a;
     }
+
+pub returns : goal.returns
+returns c = λ a.
+    let root = c.args.root.now in
+    let found = map (λ x. Some x) (elements_at c.loop-annotation.table a) in
+    let last = c.loop-annotation.annotation-iterator.rest in
+    let none = nil_from_length last.items (sym last.ok.0 ∙ c.in-None.ensures.steps.0) in
+    sym (append-nil found) ∙ ap (λ ns. found ++ map (syntax_at root) (paths_with a (map annotated_path ns))) (sym none) ∙ c.loop-annotation.invariant.found a

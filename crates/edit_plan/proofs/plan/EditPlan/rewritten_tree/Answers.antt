@@ -21,5 +21,5 @@ returns-clause-made c =
     let tree = branch_tree new.green in
     let copies = path_lists new.copies.items in
     let paths = paths_of new.changed.items in
-    let reached = subst (λ rs. All (λ r. NumbersTell (element_of r.0 ∷ mapped_elements m)) rs → map element_of fs ≡ map (λ r. followed m (element_of r.0)) rs) c.deref.ensures.value c.in_ok-registered.ensures.followed in
+    let reached = subst (λ rs. All (λ r. NumbersTell (element_of r.0 ∷ mapped_elements m)) rs → map element_of fs ≡ map (λ r. followed m (element_of r.0)) rs) c.deref.ensures.value c.in_ok-registered.ensures in
     is_rewritten p fs tree copies paths (map annotated_path c.in_ok-annotated.annotated.items) (subst (λ es. IsMade p es tree copies paths) c.deref-2.ensures.value c.in_ok-green.ensures.made) (subst (λ (q : Plan). All (λ r. NumbersTell (element_of r.0 ∷ mapped_elements q.mapping)) q.registrations → map element_of fs ≡ map (λ r. followed q.mapping (element_of r.0)) q.registrations) c.self.view_is reached) (c.in_ok-annotated.ensures ∙ ap₂ (λ rs ls. numbered_paths (map (λ r. r.1) rs) (path_lists ls)) (c.deref-3.ensures.value ∙ ap (λ x. x.registrations) c.self.view_is) refl)

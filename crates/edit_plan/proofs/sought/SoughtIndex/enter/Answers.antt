@@ -1,10 +1,10 @@
-use Rattle.std.proofs.Common.{◌≡◌, ℕ, ◌++◌, [], ◌∷◌, cond, Some, sym, subst, ◌∙◌, ap}
+use Rattle.std.proofs.Common.{◌≡◌, ℕ, ◌++◌, [], ◌∷◌, cond, Some, sym, subst}
 use Rattle.std.specs.Prelude.{nat_eq}
 use Rattle.path_table.specs.PathTable.{place_below, IsGrown}
 use Rattle.rewriting.specs.inner.Marked.{sought_as}
 use Rattle.edit_plan.specs.inner.Sought.{listed_at}
 use Rattle.cst_core.specs.Element.{address_path}
-use Rattle.edit_plan.proofs.Registered.{pushed-one, entered, entered-unused}
+use Rattle.edit_plan.proofs.Registered.{entered, entered-unused}
 use Rattle.edit_plan.proofs.sought.SoughtIndex.enter.Goals as goal
 
 pub returns : goal.returns
@@ -13,11 +13,10 @@ returns c =
     let after = c.push_at.new.self in
     let next : ℕ = c.in_ok-next.next in
     let m = sought_as c.args.mark in
-    let same : after.places ≡ c.enter.new.self = c.push_at.ensures.places ∙ c.make_room.ensures.places in
+    let same : after.places ≡ c.enter.new.self = c.push_at.ensures.places in
     let grown : IsGrown before.places after.places = subst (IsGrown before.places) (sym same) c.in_ok-next.ensures.grown in
     let leads : place_below after.places c.args.place c.args.slot ≡ Some next = subst (λ t. place_below t c.args.place c.args.slot ≡ Some next) (sym same) c.in_ok-next.ensures.leads in
-    let more : (k : ℕ) → listed_at after k ≡ listed_at before k ++ cond (nat_eq next k) (m ∷ []) [] = λ k.
-    pushed-one c.make_room.new.self.lists.items after.lists.items next c.args.mark c.push_at.ensures.size c.in_ok-make_room.ensures.room c.in_ok-push_at.ensures.here c.in_ok-push_at.ensures.elsewhere k ∙ ap (λ ms. ms ++ cond (nat_eq next k) (m ∷ []) []) (c.make_room.ensures.lists k) in
+    let more : (k : ℕ) → listed_at after k ≡ listed_at before k ++ cond (nat_eq next k) (m ∷ []) [] = c.in_ok-push_at.ensures.more in
     record {
       index = record {
         tree = grown.tree;
