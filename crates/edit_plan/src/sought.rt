@@ -29,10 +29,8 @@ impl<'a> SoughtIndex<'a> {
         ensures empty { IfOk result (λ x. (a : Address) → sought_at x a ≡ []) }
     {
         let lists = Vec::with_capacity(alloc, places)?;
-        Ok(SoughtIndex {
-            places: PathTable::new(alloc),
-            lists,
-        })
+        let places = PathTable::with_capacity(alloc, places)?;
+        Ok(SoughtIndex { places, lists })
     }
 
     /// Whether nothing is registered. Where this says no, an element may still have none.

@@ -5,11 +5,11 @@
 --     addresses                     the addresses of elements in code
 --     listed_at, sought_at          what a table lists for a place; what it has at an address
 --     registered_at                 the numbers of the registered elements that are at an address
---     IsSoughtIndex                       such a table, which lists nothing for places that there are not
+--     IsSoughtIndex                 such a table, which lists nothing for places that there are not
 --     HasSameLists                  it lists the same for each place
 --     HasListedMore                 one mark more in the list of a place
 --     HasMarkMore                   one mark more at the address with this path
---     IsMarkEntered                     one mark more at the place below another one, at a slot
+--     IsMarkEntered                 one mark more at the place below another one, at a slot
 --     HasRegisteredMore             one registered element more, at itself and at all that is above it
 use Rattle.std.specs.Prelude.{◌≡◌, ◌<◌, ℕ, suc, nat_eq, cond, List, [], ◌∷◌, ◌++◌, map, Option, Some, None}
 use Rattle.std.specs.Option.{option_map_or}
