@@ -1,4 +1,4 @@
-use Rattle.std.proofs.Common.{◌≡◌, sym}
+use Rattle.std.proofs.Common.{◌≡◌, zero, sym, refl}
 use Rattle.cst_core.specs.SyntaxElement.{element_of}
 use Rattle.edit_map.specs.Builder.{ArePairs}
 use Rattle.edit_map.proofs.Making.{pairs-rise}
@@ -32,6 +32,11 @@ steps-preserved c =
       told = λ tell. (step-told c.args.self.now (element_of c.args.element.now) pairs tell c.steps.here c.in-Some.next c.steps.invariant.standing (c.steps.invariant.told tell) (sym step)).1;
       followed = λ tell f there. c.steps.invariant.followed tell f (followed-back c.args.self.now (element_of c.steps.here) (element_of c.in-Some.next) f (step-told c.args.self.now (element_of c.args.element.now) pairs tell c.steps.here c.in-Some.next c.steps.invariant.standing (c.steps.invariant.told tell) (sym step)).0 there);
     }
+
+pub returns-clause-reached : goal.returns-clause-reached
+returns-clause-reached c =
+    let none = rw c.in_default.is at c.in_ok-next.ensures in
+    c.steps.invariant.reached c.steps.here (record { reached = (zero, refl); ends = sym none })
 
 pub returns-clause-followed : goal.returns-clause-followed
 returns-clause-followed c = λ tell.
