@@ -39,6 +39,25 @@ SHOWN = [
     ("payload of 4096 notes, brought 64 times", 64),
 ]
 
+# What grows, in the order in which `bench` goes through it.
+GROWTHS = [
+    "literals: the changes, of a tree of 32,768",
+    "literals: the tree, with 512 changes",
+    "literals: both",
+    "statements: the changes, of a tree of 32,768",
+    "statements: the tree, with 512 changes",
+    "statements: both",
+    "leaves: the changes, of a tree of 32,768",
+    "leaves: the tree, with 512 changes",
+    "leaves: both",
+    "chains of 16 blocks, 16 to 1,024",
+    "blocks round each copy, 1 to 256, of 256 chains of 4",
+    "blocks of a chain, 1 to 256, of 1,024 in all",
+    "literals with a note each",
+    "notes of a payload that is brought 16 times, 64 to 4,096",
+    "the times that a payload of 4,096 notes is brought, 1 to 64",
+]
+
 NUMBER = r"([\d.]+)"
 EDIT = re.compile(
     rf"(.*): (\d+) changes, (\d+) nodes built, (\d+) in the tree, recorded {NUMBER} ms, planned {NUMBER} ms, run {NUMBER} ms"
@@ -62,20 +81,18 @@ class Figures:
     def read(self, lines):
         """Takes in what one run printed. Of what is printed twice in a run the first counts."""
         new = Figures()
-        edit, levels, growth = None, [], 0
+        edit, growth = None, ""
         for line in lines:
             if found := EDIT.fullmatch(line):
                 edit = (found[1], int(found[2]))
                 new.edits.setdefault(edit, [int(found[3]), int(found[4]), *map(float, found.groups()[4:])])
-            elif (found := LEAST.fullmatch(line)) and len(new.edits[edit]) == 5:
+            elif (found := LEAST.fullmatch(line)) and edit and len(new.edits[edit]) == 5:
                 new.edits[edit] += map(float, found.groups())
-            elif found := LEVEL.fullmatch(line):
-                levels.append((int(found[1]), [float(found[2]), float(found[5])]))
             elif found := POWER.fullmatch(line):
-                growth += 1
-                new.powers[growth, found[1]] = [float(found[2]), float(found[5])]
-                new.levels.update({(growth, found[1], depth): them for depth, them in levels})
-                levels = []
+                growth = GROWTHS[len(new.powers)]
+                new.powers[growth] = [float(found[2]), float(found[5])]
+            elif found := LEVEL.fullmatch(line):
+                new.levels[growth, int(found[1])] = [float(found[2]), float(found[5])]
             elif found := NOTES.fullmatch(line):
                 new.notes[found[1]] = list(map(float, found.groups()[1:]))
             elif found := PAYLOAD.fullmatch(line):
@@ -112,21 +129,22 @@ def edit_row(key, runs):
     nodes_built, nodes = runs[0][:2]
     columns = list(zip(*runs))
     times = [milliseconds(min(it)) for it in columns[2:5]]
-    ratios = [milliseconds(min(columns[5])), *map(spread, columns[6:9])] if len(columns) > 5 else ["", "", "", ""]
-    return [key[0], f"{key[1]:,}", *times, *ratios, f"{nodes_built:,} of {nodes:,}"]
+    least, *ratios = [milliseconds(min(columns[5])), *map(spread, columns[6:9])]
+    if key[0].startswith(("notes", "payload")):
+        # What is looked for is no part of the least, so a multiple of that says nothing.
+        ratios[:2] = ["", ""]
+    return [key[0], f"{key[1]:,}", *times, least, *ratios, f"{nodes_built:,} of {nodes:,}"]
 
 
 def show(figures):
     heads = ["edit", "changes", "recorded", "planned", "carried out", "the least", "planned, times that", "carried out, times that"]
     shown = [key for key in SHOWN if key in figures.edits]
     table([*heads, "recorded, times planned", "nodes built"], [edit_row(key, figures.edits[key]) for key in shown])
-    powers = [
-        [name, spread([it[1] for it in runs], 2), spread([it[0] for it in runs], 2)] for (_, name), runs in figures.powers.items()
-    ]
+    powers = [[name, spread([it[1] for it in runs], 2), spread([it[0] for it in runs], 2)] for name, runs in figures.powers.items()]
     table(["what grows", "planned and carried out", "recorded"], powers)
     levels = [
         [name, depth, spread([it[1] for it in runs], 2), spread([it[0] for it in runs], 2)]
-        for (_, name, depth), runs in figures.levels.items()
+        for (name, depth), runs in figures.levels.items()
     ]
     table(["what grows", "depth", "planned and carried out, each change and level, times that at depth 1", "recorded"], levels)
     notes = [
