@@ -122,7 +122,7 @@ def table(heads, rows):
 
 def milliseconds(number):
     """With two digits that count."""
-    return f"{number:.2g}" if number < 100 else f"{number:.0f}"
+    return f"{number:.2g}" if number < 99.5 else f"{number:.0f}"
 
 
 def edit_row(key, runs):
