@@ -40,13 +40,22 @@ fn begin_line(
 }
 
 // The block is taken from the root that the editor edits.
-fn formatted(alloc: Global, ids: &mut TreeIds, root: SyntaxNode) -> Result<SyntaxEdit> {
-    let (mut editor, root) = SyntaxEditor::new(alloc, ids, root)?;
-    let block = block_of(alloc, &root)?;
+fn format_block(
+    alloc: Global,
+    ids: &mut TreeIds,
+    editor: &mut SyntaxEditor,
+    root: &SyntaxNode,
+) -> Result<()> {
+    let block = block_of(alloc, root)?;
     let level = IndentLevel::from(1);
     let indented = at_level(alloc, ids, &block, level)?;
     editor.replace(alloc, block.syntax(), indented.syntax())?;
-    begin_line(alloc, ids, &mut editor, block.syntax(), level)?;
+    begin_line(alloc, ids, editor, block.syntax(), level)
+}
+
+fn formatted(alloc: Global, ids: &mut TreeIds, root: SyntaxNode) -> Result<SyntaxEdit> {
+    let (mut editor, root) = SyntaxEditor::new(alloc, ids, root)?;
+    format_block(alloc, ids, &mut editor, &root)?;
     Ok(editor.finish(alloc, ids)?)
 }
 

@@ -43,6 +43,20 @@ fn insert_line_after(
 }
 
 // The placeholder is registered in the payload's own tree.
+fn insert_statement(
+    alloc: Global,
+    ids: &mut TreeIds,
+    editor: &mut SyntaxEditor,
+    block: &SyntaxNode,
+    statement: SyntaxNode,
+    placeholder: SyntaxAnnotation,
+) -> Result<()> {
+    let name = first_of_kind(alloc, &statement, SyntaxKind::NAME)?;
+    editor.add_annotation(alloc, name, placeholder)?;
+    let last = first_of_kind(alloc, block, SyntaxKind::LET_STMT)?;
+    insert_line_after(alloc, ids, editor, &last, statement)
+}
+
 fn generated(
     alloc: Global,
     ids: &mut TreeIds,
@@ -51,10 +65,7 @@ fn generated(
     placeholder: SyntaxAnnotation,
 ) -> Result<SyntaxEdit> {
     let (mut editor, block) = SyntaxEditor::new(alloc, ids, block)?;
-    let name = first_of_kind(alloc, &statement, SyntaxKind::NAME)?;
-    editor.add_annotation(alloc, name, placeholder)?;
-    let last = first_of_kind(alloc, &block, SyntaxKind::LET_STMT)?;
-    insert_line_after(alloc, ids, &mut editor, &last, statement)?;
+    insert_statement(alloc, ids, &mut editor, &block, statement, placeholder)?;
     Ok(editor.finish(alloc, ids)?)
 }
 
