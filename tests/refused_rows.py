@@ -14,7 +14,7 @@ import sys
 import tempfile
 
 # The crates that users name. They give some names of others again; what those have besides is below the surface.
-SURFACE = ["cst_core", "edit_map", "edit_plan", "syntax_editor", "list_removal", "tree_text", "syned_run"]
+SURFACE = ["cst_core", "edit_map", "edit_plan", "syntax_editor", "list_removal", "tree_text", "syned_script", "syned_run"]
 
 TABLE = "crates/test_rows/stdin"
 
@@ -44,7 +44,8 @@ EXCEPT = {
     "Change::green_payload": "gives a type that no user of edit_plan can name; EditPlan::run_with calls it, and has rows",
     "read_tree": "each row reads its trees by it, and ends where that is refused",
     "run": "is the whole of the program `syned`, which tests/refuse_growths.sh runs with each growth refused",
-    "record_script": "is for tests alone; it records by the calls that `run` makes",
+    "carry_out": "is what `run` carries a script out by",
+    "record_script": "is for tests alone; it records by the calls that `carry_out` makes",
 }
 
 

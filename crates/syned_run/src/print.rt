@@ -3,9 +3,9 @@ ghost use Rattle.std.specs.Prelude.{◌≡◌, ◌++◌, IfOk, OnOk, string_byte
 ghost use Rattle.syned_run.specs.Answer.{Note, note_text, path_text, paths_text};
 ghost use Rattle.syned_run.specs.inner.Printing.{PrintsEdit, paths_of};
 
-use crate::words::Word;
 use cst_core::SyntaxElement;
 use std::alloc::{AllocError, Global};
+use syned_script::Word;
 use syntax_editor::SyntaxEdit;
 use tree_text::push_escaped;
 

@@ -6,7 +6,7 @@ use anyhow::Result;
 use std::alloc::Global;
 use std::io::read_to_string;
 use std::process::ExitCode;
-use syned_run::{Recorded, record_script};
+use syned_script::{Recorded, record_script};
 use test_model::{Answers, answers_to, engines_answers, ordered_answers, stepped_answers};
 
 // What both answer, where the script comes to its end.

@@ -1,0 +1,107 @@
+//! A script's lines in order: what they record, and the edit that is made of it.
+ghost use Rattle.std.specs.Prelude.{◌<◌, ◌^◌, IfOk};
+
+use crate::line::{Line, is_blank, read_line};
+use crate::session::{Editing, Session};
+use crate::stop::{Stop, Stopped};
+use crate::words::Words;
+use cst_core::{SyntaxNode, TreeIds};
+use std::alloc::{AllocError, Global};
+use syntax_editor::{SyntaxEdit, SyntaxEditor};
+
+/// What a script makes that is carried out to its end.
+#[derive(Drop)]
+pub struct CarriedOut {
+    /// The edit that `finish` makes.
+    pub edit: SyntaxEdit,
+    /// The annotation words of the script.
+    pub words: Words,
+}
+
+/// What a script has recorded where it comes to `finish`.
+#[derive(Drop)]
+pub struct Recorded {
+    /// The root that is edited.
+    pub root: SyntaxNode,
+    /// The editor, with its changes and mappings.
+    pub editor: SyntaxEditor,
+    /// The order in which the changes are to be carried out, where the script says one.
+    pub order: Option<Vec<usize>>,
+    /// The source of the script's tree numbers.
+    pub ids: TreeIds,
+}
+
+/// Carries a script out to its end, or says at which line it ends, and why.
+pub fn carry_out(alloc: Global, script: &str) -> Result<CarriedOut, Stopped> {
+    let lines = lines(alloc, script).map_err(|_| Stop::Memory.at(0))?;
+    let (session, number) = record(alloc, &lines)?;
+    end(alloc, session, &lines, number)
+}
+
+/// What a script records, for another engine that is to carry it out; `None` where a line up to `finish` is bad, or its call
+/// refused, or memory is.
+pub fn record_script(alloc: Global, script: &str) -> Option<Recorded> {
+    let lines = lines(alloc, script).ok()?;
+    let (session, _) = record(alloc, &lines).ok()?;
+    let (
+        Editing {
+            editor,
+            root,
+            order,
+        },
+        ids,
+        _,
+    ) = session.into_editing().ok()?;
+    Some(Recorded {
+        root,
+        editor,
+        order,
+        ids,
+    })
+}
+
+fn lines<'a>(alloc: Global, script: &'a str) -> Result<Vec<&'a str>, AllocError> {
+    script.split_terminator('\n').collect(alloc)
+}
+
+// Carries out the lines before `finish`, and tells the number of that one.
+fn record(alloc: Global, lines: &[&str]) -> Result<(Session, usize), Stopped>
+    ensures { IfOk result (λ r. r.1 < 2 ^ 63) }
+{
+    let mut session = Session::new(alloc);
+    for (index, text) in lines.iter().enumerate() {
+        let number = index + 1;
+        let line = read_line(alloc, text).map_err(|stop| stop.at(number))?;
+        if let Line::Finish = line {
+            return Ok((session, number));
+        }
+        session.carry_out(line).map_err(|stop| stop.at(number))?;
+    }
+    Err(Stop::Bad.at(lines.len() + 1))
+}
+
+// Carries out `finish`, which is the line of this number. Only blank lines may follow.
+fn end(
+    alloc: Global,
+    session: Session,
+    lines: &[&str],
+    number: usize,
+) -> Result<CarriedOut, Stopped>
+    requires { number < 2 ^ 63 }
+{
+    if !session.is_editing() {
+        return Err(Stop::Bad.at(number));
+    }
+    for (index, text) in lines.iter().enumerate().skip(number) {
+        if !is_blank(text) {
+            return Err(Stop::Bad.at(index + 1));
+        }
+    }
+    finish(alloc, session).map_err(|stop| stop.at(number))
+}
+
+fn finish(alloc: Global, session: Session) -> Result<CarriedOut, Stop> {
+    let (editing, mut ids, words) = session.into_editing()?;
+    let edit = editing.finish(alloc, &mut ids)?;
+    Ok(CarriedOut { edit, words })
+}

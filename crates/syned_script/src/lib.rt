@@ -1,0 +1,15 @@
+//! Scripts of edits: their lines are read, and carried out one after the other.
+#![tactic(auto)]
+
+mod carried_out;
+mod line;
+mod name;
+mod reference;
+mod roots;
+mod session;
+mod stop;
+mod words;
+
+pub use carried_out::{CarriedOut, Recorded, carry_out, record_script};
+pub use stop::{Refusal, Stop, Stopped};
+pub use words::{Word, Words};

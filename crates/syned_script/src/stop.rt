@@ -1,0 +1,112 @@
+use cst_core::TreeError;
+use std::alloc::{AllocError, AllocFailed};
+use syntax_editor::{EditError, ExecuteError, MapError, RecordError};
+use thiserror::Error;
+use tree_text::ExpressionError;
+
+/// Why a script ends at a line.
+#[derive(Debug, Drop)]
+pub enum Stop {
+    /// The line is bad.
+    Bad,
+    /// Its call was refused, and not because memory ran out.
+    Refused(Refusal),
+    /// Memory was refused.
+    Memory,
+}
+
+/// The line at which a script ends, counted from 1, and why.
+#[derive(Debug, Drop)]
+pub struct Stopped {
+    pub line: usize,
+    pub stop: Stop,
+}
+
+impl Stop {
+    pub(crate) fn at(self, line: usize) -> Stopped {
+        Stopped { line, stop: self }
+    }
+}
+
+/// A refusal of a call, which prints its name.
+#[derive(Debug, Drop, Error)]
+pub enum Refusal {
+    #[error("{0}")]
+    Tree(TreeError),
+    #[error("{0}")]
+    Map(MapError),
+    #[error("{0}")]
+    Record(RecordError),
+    #[error("{0}")]
+    Edit(EditError),
+    #[error("{0}")]
+    Order(ExecuteError),
+}
+
+impl From<AllocError> for Stop {
+    fn from(_: AllocError) -> Stop {
+        Stop::Memory
+    }
+}
+
+impl<T: Drop> From<AllocFailed<T>> for Stop {
+    fn from(_: AllocFailed<T>) -> Stop {
+        Stop::Memory
+    }
+}
+
+impl From<TreeError> for Stop {
+    fn from(error: TreeError) -> Stop {
+        match error {
+            TreeError::Memory => Stop::Memory,
+            error => Stop::Refused(Refusal::Tree(error)),
+        }
+    }
+}
+
+impl From<ExpressionError> for Stop {
+    fn from(error: ExpressionError) -> Stop {
+        match error {
+            ExpressionError::Malformed | ExpressionError::UnknownKind | ExpressionError::TooDeep =>
+                Stop::Bad,
+            ExpressionError::Tree(error) => Stop::from(error),
+            ExpressionError::Memory => Stop::Memory,
+        }
+    }
+}
+
+impl From<MapError> for Stop {
+    fn from(error: MapError) -> Stop {
+        match error {
+            MapError::Memory => Stop::Memory,
+            error => Stop::Refused(Refusal::Map(error)),
+        }
+    }
+}
+
+impl From<RecordError> for Stop {
+    fn from(error: RecordError) -> Stop {
+        match error {
+            RecordError::Memory => Stop::Memory,
+            error => Stop::Refused(Refusal::Record(error)),
+        }
+    }
+}
+
+impl From<EditError> for Stop {
+    fn from(error: EditError) -> Stop {
+        match error {
+            EditError::Memory => Stop::Memory,
+            error => Stop::Refused(Refusal::Edit(error)),
+        }
+    }
+}
+
+impl From<ExecuteError> for Stop {
+    fn from(error: ExecuteError) -> Stop {
+        match error {
+            ExecuteError::Edit(error) => Stop::from(error),
+            error => Stop::Refused(Refusal::Order(error)),
+        }
+    }
+}
