@@ -113,11 +113,12 @@ def shown_code(text):
 
 
 def compare_examples():
-    """A heading of docs/CALLING.md names the example whose code it shows; README.md shows code of any."""
-    sources = {file.parent.parent.name: file.read_text() for file in ROOT.glob("crates/example_*/src/main.rt")}
+    """A heading of docs/CALLING.md names the file of `callers` whose code it shows; README.md shows code of any."""
+    files = (ROOT / "crates/callers/src").glob("*.rt")
+    sources = {file.name: file.read_text() for file in files if file.stem not in ("main", "tree")}
     shown = set()
     for section in re.split(r"^## ", (ROOT / "docs/CALLING.md").read_text(), flags=re.M):
-        named = re.search(r"`(example_\w+)`", section.split("\n")[0])
+        named = re.search(r"`(\w+\.rt)`", section.split("\n")[0])
         if named:
             shown.add(named.group(1))
             for code in shown_code(section):

@@ -1,0 +1,69 @@
+//! Gives a block the indentation that its place wants, whatever it had.
+
+use crate::tree::{new_text, root_of};
+use anyhow::{Context, Result};
+use cst_core::ast::BlockExpr;
+use cst_core::{AstNode, SyntaxNode, TreeIds};
+use std::alloc::Global;
+use syntax_editor::{AstNodeEdit, IndentLevel, SyntaxEdit, SyntaxEditor};
+
+fn block_of(alloc: Global, root: &SyntaxNode) -> Result<BlockExpr> {
+    let mut nodes = root.descendants(alloc)?.into_iter();
+    nodes.find_map(BlockExpr::cast).context("a block is wanted")
+}
+
+// `reset_indent` is `dedent` by the level that the block has.
+fn at_level(
+    alloc: Global,
+    ids: &mut TreeIds,
+    block: &BlockExpr,
+    level: IndentLevel,
+) -> Result<BlockExpr> {
+    let reset = block.reset_indent(alloc, ids)?;
+    Ok(reset.indent(alloc, ids, level)?)
+}
+
+// The whitespace before a node becomes a newline with the spaces of a level.
+fn begin_line(
+    alloc: Global,
+    ids: &mut TreeIds,
+    editor: &mut SyntaxEditor,
+    node: &SyntaxNode,
+    level: IndentLevel,
+) -> Result<()> {
+    let text = format!(in alloc; "\n{level}")?;
+    let line_break = editor.make().whitespace(alloc, ids, &text)?;
+    let before = node.prev_sibling_or_token(alloc)?;
+    editor.replace(alloc, before.context("whitespace is wanted")?, line_break)?;
+    Ok(())
+}
+
+// The block is taken from the root that the editor edits.
+fn format_block(
+    alloc: Global,
+    ids: &mut TreeIds,
+    editor: &mut SyntaxEditor,
+    root: &SyntaxNode,
+) -> Result<()> {
+    let block = block_of(alloc, root)?;
+    let level = IndentLevel::from(1);
+    let indented = at_level(alloc, ids, &block, level)?;
+    editor.replace(alloc, block.syntax(), indented.syntax())?;
+    begin_line(alloc, ids, editor, block.syntax(), level)
+}
+
+fn formatted(alloc: Global, ids: &mut TreeIds, root: SyntaxNode) -> Result<SyntaxEdit> {
+    let (mut editor, root) = SyntaxEditor::new(alloc, ids, root)?;
+    format_block(alloc, ids, &mut editor, &root)?;
+    Ok(editor.finish(alloc, ids)?)
+}
+
+const STATEMENTS: &str =
+    r#"(STMT_LIST L_CURLY"{" WHITESPACE"\n            " (BLOCK_EXPR L_CURLY"{" WHITESPACE"\n                " (EXPR_STMT IDENT"a" SEMICOLON";") WHITESPACE"\n            " R_CURLY"}") WHITESPACE"\n" R_CURLY"}")"#;
+
+/// The new text of the statements.
+pub(crate) fn example(alloc: Global) -> Result<String> {
+    let mut ids = TreeIds::new(1);
+    let root = root_of(alloc, &mut ids, STATEMENTS)?;
+    new_text(alloc, &formatted(alloc, &mut ids, root)?)
+}

@@ -1,0 +1,67 @@
+//! Renames a `let` and every use of it: `{let a = b; a+a;}` becomes `{let total = b; total+total;}`.
+
+use crate::tree::{new_text, root_of};
+use anyhow::{Context, Result};
+use cst_core::{SyntaxKind, SyntaxNode, SyntaxToken, TreeIds};
+use std::alloc::Global;
+use syntax_editor::{SyntaxEdit, SyntaxEditor};
+
+// A definition is a NAME, a use a NAME_REF.
+fn is_called(alloc: Global, node: &SyntaxNode, name: &str) -> Result<bool> {
+    let is_name = node.kind() == SyntaxKind::NAME || node.kind() == SyntaxKind::NAME_REF;
+    Ok(is_name && node.text(alloc)?.as_str() == name)
+}
+
+fn identifier_of(alloc: Global, name: &SyntaxNode) -> Result<SyntaxToken> {
+    let token = name.first_token(alloc)?;
+    token.context("a name has an identifier")
+}
+
+// The identifier alone is exchanged, so a NAME stays a NAME.
+fn rename(
+    alloc: Global,
+    editor: &mut SyntaxEditor,
+    nodes: &[SyntaxNode],
+    old: &str,
+    new: &SyntaxToken,
+) -> Result<()> {
+    for node in nodes {
+        if is_called(alloc, node, old)? {
+            let identifier = identifier_of(alloc, node)?;
+            editor.replace(alloc, identifier, new)?;
+        }
+    }
+    Ok(())
+}
+
+fn renamed(
+    alloc: Global,
+    ids: &mut TreeIds,
+    block: SyntaxNode,
+    new: &SyntaxToken,
+) -> Result<SyntaxEdit> {
+    let (mut editor, root) = SyntaxEditor::new(alloc, ids, block)?;
+    let nodes = root.descendants(alloc)?;
+    rename(alloc, &mut editor, &nodes, "a", new)?;
+    Ok(editor.finish(alloc, ids)?)
+}
+
+const BLOCK: &str =
+    r#"(BLOCK_EXPR L_CURLY"{" (LET_STMT LET_KW"let" WHITESPACE" " (NAME IDENT"a") WHITESPACE" " EQ"=" WHITESPACE" " (NAME_REF IDENT"b") SEMICOLON";") WHITESPACE" " (EXPR_STMT (BIN_EXPR (NAME_REF IDENT"a") PLUS"+" (NAME_REF IDENT"a")) SEMICOLON";") R_CURLY"}")"#;
+
+fn new_name(alloc: Global, ids: &mut TreeIds) -> Result<SyntaxToken> {
+    let name = root_of(alloc, ids, r#"(NAME IDENT"total")"#)?;
+    identifier_of(alloc, &name)
+}
+
+fn example_edit(alloc: Global) -> Result<SyntaxEdit> {
+    let mut ids = TreeIds::new(1);
+    let new = new_name(alloc, &mut ids)?;
+    let block = root_of(alloc, &mut ids, BLOCK)?;
+    renamed(alloc, &mut ids, block, &new)
+}
+
+/// The new text of the block.
+pub(crate) fn example(alloc: Global) -> Result<String> {
+    new_text(alloc, &example_edit(alloc)?)
+}

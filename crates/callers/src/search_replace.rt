@@ -1,0 +1,159 @@
+//! Replaces each literal `1` and puts each block into parentheses: `1 {2+1}` becomes `one ({2+one})`.
+
+ghost use Rattle.std.specs.Prelude.{◌≡◌, ℕ, ◌+◌, [], ◌∷◌, None, All, IfOk, OnOk};
+ghost use Rattle.syntax_editor.specs.Tree.{text};
+ghost use Rattle.syntax_editor.specs.Element.{Element, subtree};
+ghost use Rattle.syntax_editor.specs.Nesting.{owner};
+ghost use Rattle.syntax_editor.specs.Plan.{Edit};
+ghost use Rattle.syntax_editor.specs.RewritingLaws.{changed_text};
+ghost use Rattle.callers.specs.Rewritten.{is_match, wrapper, ReplacesMatches, WrapsBlocks, IsRewritten};
+
+use crate::tree::{new_text, root_of};
+use anyhow::{Context, Result};
+use cst_core::{GreenElement, GreenNode, GreenToken, SyntaxKind, SyntaxNode, TreeIds};
+use std::alloc::Global;
+use syntax_editor::laws::edit_text_is_filled;
+use syntax_editor::{SyntaxEdit, SyntaxEditor, SyntaxMappingBuilder};
+
+// A match has the pattern's kind and its text.
+fn is_match(alloc: Global, node: &SyntaxNode, pattern: &SyntaxNode) -> Result<bool>
+    ensures { IfOk result (λ b. b ≡ is_match pattern.now node.now) }
+{
+    Ok(node.kind() == pattern.kind() && node.text(alloc)? == pattern.text(alloc)?)
+}
+
+fn replace_match(
+    alloc: Global,
+    editor: &mut SyntaxEditor,
+    node: &SyntaxNode,
+    pattern: &SyntaxNode,
+    new: &SyntaxNode,
+) -> Result<()>
+    ensures { OnOk result (ReplacesMatches pattern.now new.now (node.now ∷ []) editor.old editor.new) }
+{
+    if is_match(alloc, node, pattern)? {
+        editor.replace(alloc, node, new)?;
+    }
+    Ok(())
+}
+
+fn replace_matches(
+    alloc: Global,
+    editor: &mut SyntaxEditor,
+    nodes: &[SyntaxNode],
+    pattern: &SyntaxNode,
+    new: &SyntaxNode,
+) -> Result<()>
+    ensures { OnOk result (ReplacesMatches pattern.now new.now nodes.now editor.old editor.new) }
+{
+    for node in nodes {
+        replace_match(alloc, editor, node, pattern, new)?;
+    }
+    Ok(())
+}
+
+// `(COPY)`, the root of a tree of its own.
+fn wrapper_of(alloc: Global, ids: &mut TreeIds, node: &SyntaxNode) -> Result<SyntaxNode>
+    ensures ok { IfOk result (λ w. w ≡ wrapper ids.old node.now) }
+    ensures drawn { OnOk result (ids.new ≡ ids.old + 1) }
+{
+    let copy = GreenElement::Node(node.green(alloc)?);
+    let children = vec![in alloc;
+        GreenElement::Token(GreenToken::new(alloc, SyntaxKind::L_PAREN, "(")?),
+        copy,
+        GreenElement::Token(GreenToken::new(alloc, SyntaxKind::R_PAREN, ")")?),
+    ]?;
+    let wrapper = GreenNode::new(alloc, SyntaxKind::TUPLE_EXPR, children)?;
+    Ok(SyntaxNode::new_root(alloc, ids, wrapper)?)
+}
+
+// A block is mapped to its copy in the wrapper, so that changes inside the block move there.
+fn map_to_copy(
+    alloc: Global,
+    editor: &mut SyntaxEditor,
+    node: &SyntaxNode,
+    wrapper: &SyntaxNode,
+) -> Result<()>
+    ensures { OnOk result (editor.new ≡ record editor.old { factory = editor.new.factory }) }
+{
+    let copies = wrapper.children(alloc)?;
+    let copy = copies.first().context("the wrapper has one child node")?;
+    let mut builder = SyntaxMappingBuilder::new(alloc, wrapper.try_clone(alloc)?);
+    builder.map_node(alloc, node.try_clone(alloc)?, copy.try_clone(alloc)?)?;
+    Ok(editor.add_mapping(alloc, builder)?)
+}
+
+fn wrap_block(
+    alloc: Global,
+    ids: &mut TreeIds,
+    editor: &mut SyntaxEditor,
+    node: &SyntaxNode,
+) -> Result<()>
+    ensures { OnOk result (WrapsBlocks (node.now ∷ []) ids.old ids.new editor.old editor.new) }
+{
+    if node.kind() == SyntaxKind::BLOCK_EXPR {
+        let wrapper = wrapper_of(alloc, ids, node)?;
+        map_to_copy(alloc, editor, node, &wrapper)?;
+        editor.replace(alloc, node, wrapper)?;
+    }
+    Ok(())
+}
+
+fn wrap_blocks(
+    alloc: Global,
+    ids: &mut TreeIds,
+    editor: &mut SyntaxEditor,
+    nodes: &[SyntaxNode],
+) -> Result<()>
+    ensures { OnOk result (WrapsBlocks nodes.now ids.old ids.new editor.old editor.new) }
+{
+    for node in nodes {
+        wrap_block(alloc, ids, editor, node)?;
+    }
+    Ok(())
+}
+
+// Where no change is inside another one, the changes alone tell the new text.
+fn text_is_told()
+    ensures { (pattern new : Element) (next : ℕ) (file : Element) (edit : Edit)
+        (r : IsRewritten pattern new next file edit) → All (λ c. owner r.plan.changes c ≡ None) r.plan.changes
+        → text edit.new_root.root ≡ changed_text r.plan.changes (subtree r.plan.root) }
+{
+    edit_text_is_filled();
+}
+
+fn rewritten(
+    alloc: Global,
+    ids: &mut TreeIds,
+    file: SyntaxNode,
+    pattern: &SyntaxNode,
+    new: &SyntaxNode,
+) -> Result<SyntaxEdit>
+    ensures { IfOk result (IsRewritten pattern.now new.now ids.old file) }
+{
+    let (mut editor, root) = SyntaxEditor::new(alloc, ids, file)?;
+    let nodes = root.descendants(alloc)?;
+    replace_matches(alloc, &mut editor, &nodes, pattern, new)?;
+    wrap_blocks(alloc, ids, &mut editor, &nodes)?;
+    Ok(editor.finish(alloc, ids)?)
+}
+
+const FILE: &str =
+    r#"(SOURCE_FILE (LITERAL INT_NUMBER"1") WHITESPACE" " (BLOCK_EXPR L_CURLY"{" (LITERAL INT_NUMBER"2") PLUS"+" (LITERAL INT_NUMBER"1") R_CURLY"}"))"#;
+
+const PATTERN: &str = r#"(LITERAL INT_NUMBER"1")"#;
+
+const REPLACEMENT: &str = r#"(NAME_REF IDENT"one")"#;
+
+fn example_edit(alloc: Global) -> Result<SyntaxEdit> {
+    let mut ids = TreeIds::new(1);
+    let pattern = root_of(alloc, &mut ids, PATTERN)?;
+    let new = root_of(alloc, &mut ids, REPLACEMENT)?;
+    let file = root_of(alloc, &mut ids, FILE)?;
+    rewritten(alloc, &mut ids, file, &pattern, &new)
+}
+
+/// The new text of the file.
+pub(crate) fn example(alloc: Global) -> Result<String> {
+    new_text(alloc, &example_edit(alloc)?)
+}

@@ -1,7 +1,0 @@
-use Rattle.std.proofs.Common.{◌≡◌, drop}
-use Rattle.example_search_replace.specs.Rewritten.{with_matches}
-use Rattle.example_search_replace.proofs.replace_matches.Given as goal
-
-abbrev pub invariant-loop-node : goal.invariant-loop-node
-invariant-loop-node l =
-    record l.editor { changes = with_matches l.pattern l.new (drop l.node-index l.nodes) l.editor.changes } ≡ record l.initial.editor { changes = with_matches l.pattern l.new l.nodes l.initial.editor.changes }
