@@ -87,6 +87,11 @@ module _ (root : Element) where
   range_fits first last es native range two =
       and_from _ _ (and_from _ _ (and_from _ _ native.0 native.1) range) (not_from_false _ (apart root first last native.0 native.1 two))
 
+  pub deleted_native : (first last : SyntaxElement) → refusal root (DeletingAll first last) ≡ None → is_native root first ≡ true
+  deleted_native first last taken =
+      let meets = three_lines (not (is_native root first) || not (is_native root last)) (not (is_range first last)) (is_root first) Foreign BadRange DeletesRoot taken in
+      (both_native first last meets.0).0
+
   pub recorded_fits : (call : RecordCall) (cs : List Change) → refusal root call ≡ None → All (Fits root) cs → All (Fits root) (recorded call cs)
   recorded_fits (Inserting at e) cs accepted all =
       All-push (Fits root) cs (Insert at e) all (not-false (is_native_position root at) (one_line (not (is_native_position root at)) Foreign accepted))

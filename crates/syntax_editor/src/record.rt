@@ -237,15 +237,7 @@ impl SyntaxEditor {
         ensures memory_last { MemoryLast true (DeletingAll first last) self.old result }
         ensures unchanged { OnErr result (self.new ≡ self.old) }
     {
-        if is_foreign_range(&self.root, &first, &last) {
-            return Err(RecordError::Foreign);
-        }
-        if !is_range(&first, &last) {
-            return Err(RecordError::BadRange);
-        }
-        if is_root(&first) {
-            return Err(RecordError::DeletesRoot);
-        }
+        self.test_deleting_all(&first, &last)?;
         if first == last {
             return Ok(self.changes.delete(alloc, first)?);
         }
@@ -265,19 +257,56 @@ impl SyntaxEditor {
         ensures memory_last { MemoryLast true (ReplacingAll first last new.items) self.old result }
         ensures unchanged { OnErr result (self.new ≡ self.old) }
     {
-        if is_foreign_range(&self.root, &first, &last) {
-            return Err(RecordError::Foreign);
-        }
-        if !is_range(&first, &last) {
-            return Err(RecordError::BadRange);
-        }
-        if is_misplaced(&first, &new) {
-            return Err(RecordError::RootReplacement);
-        }
+        self.test_replacing_all(&first, &last, &new)?;
         if first == last {
             return Ok(self.record(Change::ReplaceWithMany(first, new.into()))?);
         }
         Ok(self.record(Change::ReplaceAll(first, last, new.into()))?)
+    }
+
+    // Whether a deletion of siblings is taken. It borrows them, so that a refusal has nothing to let go.
+    fn test_deleting_all(
+        &self,
+        first: &SyntaxElement,
+        last: &SyntaxElement,
+    ) -> Result<(), RecordError>
+        ensures taken { OnOk result (Takes self.now (DeletingAll first.now last.now)) }
+        ensures refused { IfErr result (RecordRefuses (DeletingAll first.now last.now) self.now) }
+        ensures memory_last { MemoryLast true (DeletingAll first.now last.now) self.now result }
+    {
+        if is_foreign_range(&self.root, first, last) {
+            return Err(RecordError::Foreign);
+        }
+        if !is_range(first, last) {
+            return Err(RecordError::BadRange);
+        }
+        if is_root(first) {
+            return Err(RecordError::DeletesRoot);
+        }
+        Ok(())
+    }
+
+    // The same of a replacement of siblings.
+    fn test_replacing_all(
+        &self,
+        first: &SyntaxElement,
+        last: &SyntaxElement,
+        new: &[SyntaxElement],
+    ) -> Result<(), RecordError>
+        ensures taken { OnOk result (Takes self.now (ReplacingAll first.now last.now new.now)) }
+        ensures refused { IfErr result (RecordRefuses (ReplacingAll first.now last.now new.now) self.now) }
+        ensures memory_last { MemoryLast true (ReplacingAll first.now last.now new.now) self.now result }
+    {
+        if is_foreign_range(&self.root, first, last) {
+            return Err(RecordError::Foreign);
+        }
+        if !is_range(first, last) {
+            return Err(RecordError::BadRange);
+        }
+        if is_misplaced(first, new) {
+            return Err(RecordError::RootReplacement);
+        }
+        Ok(())
     }
 }
 
