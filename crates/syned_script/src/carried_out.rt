@@ -71,13 +71,22 @@ fn record(alloc: Global, lines: &[&str]) -> Result<(Session, usize), Stopped>
     let mut session = Session::new(alloc);
     for (index, text) in lines.iter().enumerate() {
         let number = index + 1;
-        let line = read_line(alloc, text).map_err(|stop| stop.at(number))?;
-        if let Line::Finish = line {
+        if is_finish(alloc, &mut session, text).map_err(|stop| stop.at(number))? {
             return Ok((session, number));
         }
-        session.carry_out(line).map_err(|stop| stop.at(number))?;
     }
     Err(Stop::Bad.at(lines.len() + 1))
+}
+
+// Whether the line is `finish`. Any other one is carried out.
+fn is_finish(alloc: Global, session: &mut Session, text: &str) -> Result<bool, Stop> {
+    match read_line(alloc, text)? {
+        Line::Finish => Ok(true),
+        line => {
+            session.carry_out(line)?;
+            Ok(false)
+        }
+    }
 }
 
 // Carries out `finish`, which is the line of this number. Only blank lines may follow.

@@ -83,22 +83,20 @@ pub(crate) fn read_line<'a>(alloc: Global, text: &'a str) -> Result<Line<'a>, St
     let Some(word) = fields.word() else {
         return Ok(Line::Blank);
     };
-    let line = match word {
-        "tree" => tree_line(alloc, &mut fields)?,
-        "edit" => edit_line(alloc, &mut fields)?,
-        "map" => map_line(alloc, &mut fields)?,
-        "insert" => insert_line(alloc, &mut fields)?,
-        "delete" => delete_line(alloc, &mut fields)?,
-        "replace" => replace_line(alloc, &mut fields)?,
-        "range" => range_line(alloc, &mut fields)?,
-        "note" => note_line(alloc, &mut fields)?,
-        "remove" => remove_line(alloc, &mut fields)?,
-        "order" => order_line(alloc, &mut fields)?,
-        "finish" => Line::Finish,
-        _ => return Err(Stop::Bad),
-    };
-    fields.end()?;
-    Ok(line)
+    match word {
+        "tree" => tree_line(alloc, &mut fields),
+        "edit" => edit_line(alloc, &mut fields),
+        "map" => map_line(alloc, &mut fields),
+        "insert" => insert_line(alloc, &mut fields),
+        "delete" => delete_line(alloc, &mut fields),
+        "replace" => replace_line(alloc, &mut fields),
+        "range" => range_line(alloc, &mut fields),
+        "note" => note_line(alloc, &mut fields),
+        "remove" => remove_line(alloc, &mut fields),
+        "order" => order_line(alloc, &mut fields),
+        "finish" => finish_line(&fields),
+        _ => Err(Stop::Bad),
+    }
 }
 
 /// Whether the line does nothing.
@@ -114,14 +112,14 @@ fn tree_line<'a>(alloc: Global, fields: &mut Fields<'a>) -> Result<Line<'a>, Sto
 
 fn edit_line<'a>(alloc: Global, fields: &mut Fields<'a>) -> Result<Line<'a>, Stop> {
     let name = fields.name()?;
-    let node = fields.reference(alloc)?;
+    let node = fields.last_reference(alloc)?;
     Ok(Line::Edit { name, node })
 }
 
 fn map_line<'a>(alloc: Global, fields: &mut Fields<'a>) -> Result<Line<'a>, Stop> {
     let parent = fields.reference(alloc)?;
     let input = fields.reference(alloc)?;
-    let output = fields.reference(alloc)?;
+    let output = fields.last_reference(alloc)?;
     Ok(Line::Map {
         parent,
         input,
@@ -148,7 +146,7 @@ fn read_place<'a>(alloc: Global, fields: &mut Fields<'a>) -> Result<Place<'a>, S
 }
 
 fn delete_line<'a>(alloc: Global, fields: &mut Fields<'a>) -> Result<Line<'a>, Stop> {
-    let target = fields.reference(alloc)?;
+    let target = fields.last_reference(alloc)?;
     Ok(Line::Delete { target })
 }
 
@@ -171,19 +169,24 @@ fn range_line<'a>(alloc: Global, fields: &mut Fields<'a>) -> Result<Line<'a>, St
 
 fn note_line<'a>(alloc: Global, fields: &mut Fields<'a>) -> Result<Line<'a>, Stop> {
     let word = fields.name()?;
-    let element = fields.reference(alloc)?;
+    let element = fields.last_reference(alloc)?;
     Ok(Line::Note { word, element })
 }
 
 fn remove_line<'a>(alloc: Global, fields: &mut Fields<'a>) -> Result<Line<'a>, Stop> {
     let element = fields.reference(alloc)?;
-    let separator = fields.kind()?;
+    let separator = fields.last_kind()?;
     Ok(Line::Remove { element, separator })
 }
 
 fn order_line<'a>(alloc: Global, fields: &mut Fields<'a>) -> Result<Line<'a>, Stop> {
     let order = fields.numbers(alloc)?;
     Ok(Line::Order { order })
+}
+
+fn finish_line<'a>(fields: &Fields<'a>) -> Result<Line<'a>, Stop> {
+    fields.end()?;
+    Ok(Line::Finish)
 }
 
 // What is left of a line, without spaces at its ends. Spaces stand between its fields.
@@ -213,18 +216,32 @@ impl<'a> Fields<'a> {
         Some(field)
     }
 
+    // The next field, after which nothing may be left.
+    fn last(&mut self) -> Result<&'a str, Stop> {
+        let field = self.next().ok_or(Stop::Bad)?;
+        self.end()?;
+        Ok(field)
+    }
+
     fn name(&mut self) -> Result<Name<'a>, Stop> {
         let field = self.next().ok_or(Stop::Bad)?;
         Name::new(field).ok_or(Stop::Bad)
     }
 
-    fn kind(&mut self) -> Result<SyntaxKind, Stop> {
-        let field = self.next().ok_or(Stop::Bad)?;
+    // A kind, after which nothing is left.
+    fn last_kind(&mut self) -> Result<SyntaxKind, Stop> {
+        let field = self.last()?;
         SyntaxKind::from_name(field).ok_or(Stop::Bad)
     }
 
     fn reference(&mut self, alloc: Global) -> Result<Reference<'a>, Stop> {
         let field = self.next().ok_or(Stop::Bad)?;
+        Reference::read(alloc, field)?.ok_or(Stop::Bad)
+    }
+
+    // A reference, after which nothing is left.
+    fn last_reference(&mut self, alloc: Global) -> Result<Reference<'a>, Stop> {
+        let field = self.last()?;
         Reference::read(alloc, field)?.ok_or(Stop::Bad)
     }
 

@@ -50,13 +50,6 @@ fn execute(
     Ok(plan.execute(alloc, ids, order)?)
 }
 
-// The new elements of a line: one of them, or else none or several.
-#[derive(Drop)]
-enum Payload {
-    One(SyntaxElement),
-    Many(Vec<SyntaxElement>),
-}
-
 impl Session {
     pub(crate) fn new(alloc: Global) -> Session {
         Session {
@@ -110,6 +103,21 @@ impl Session {
         Ok((editing.ok_or(Stop::Bad)?, ids, words))
     }
 
+    fn test_editing(&self) -> Result<(), Stop> {
+        if self.is_editing() {
+            Ok(())
+        } else {
+            Err(Stop::Bad)
+        }
+    }
+
+    fn editor(&mut self) -> Result<&mut SyntaxEditor, Stop> {
+        match &mut self.editing {
+            Some(editing) => Ok(&mut editing.editor),
+            None => Err(Stop::Bad),
+        }
+    }
+
     fn add_tree(&mut self, name: Name<'_>, root: GreenNode) -> Result<(), Stop> {
         if self.roots.is_taken(name) {
             return Err(Stop::Bad);
@@ -139,44 +147,88 @@ impl Session {
         input: &Reference<'_>,
         output: &Reference<'_>,
     ) -> Result<(), Stop> {
-        let parent = self.node(parent)?;
+        self.test_editing()?;
+        let alloc = self.alloc;
+        let mut builder = SyntaxMappingBuilder::new(alloc, self.node(parent)?);
+        self.map_node(&mut builder, input, output)?;
+        if let Some(mapping) = self.editor()?.make_mut().mappings() {
+            builder.finish(alloc, mapping)?;
+        }
+        Ok(())
+    }
+
+    fn map_node(
+        &self,
+        builder: &mut SyntaxMappingBuilder,
+        input: &Reference<'_>,
+        output: &Reference<'_>,
+    ) -> Result<(), Stop> {
         let input = self.node(input)?;
         let output = self.node(output)?;
-        let Editing { editor, .. } = self.editing.as_mut().ok_or(Stop::Bad)?;
-        let mut builder = SyntaxMappingBuilder::new(self.alloc, parent);
         builder.map_node(self.alloc, input, output)?;
-        if let Some(mapping) = editor.make_mut().mappings() {
-            builder.finish(self.alloc, mapping)?;
-        }
         Ok(())
     }
 
     fn insert(&mut self, place: &Place<'_>, payload: &[Reference<'_>]) -> Result<(), Stop> {
-        let at = self.position(place)?;
-        let payload = self.payload(payload)?;
-        let Editing { editor, .. } = self.editing.as_mut().ok_or(Stop::Bad)?;
+        self.test_editing()?;
         match payload {
-            Payload::One(element) => editor.insert(self.alloc, at, element)?,
-            Payload::Many(elements) => editor.insert_all(self.alloc, at, elements)?,
+            [one] => self.insert_one(place, one),
+            _ => self.insert_all(place, payload),
         }
+    }
+
+    fn insert_one(&mut self, place: &Place<'_>, payload: &Reference<'_>) -> Result<(), Stop> {
+        let alloc = self.alloc;
+        let at = self.position(place)?;
+        let element = self.element(payload)?;
+        self.editor()?.insert(alloc, at, element)?;
+        Ok(())
+    }
+
+    fn insert_all(&mut self, place: &Place<'_>, payload: &[Reference<'_>]) -> Result<(), Stop> {
+        let alloc = self.alloc;
+        let at = self.position(place)?;
+        let elements = self.elements(payload)?;
+        self.editor()?.insert_all(alloc, at, elements)?;
         Ok(())
     }
 
     fn delete(&mut self, target: &Reference<'_>) -> Result<(), Stop> {
+        let alloc = self.alloc;
         let target = self.element(target)?;
-        let Editing { editor, .. } = self.editing.as_mut().ok_or(Stop::Bad)?;
-        editor.delete(self.alloc, target)?;
+        self.editor()?.delete(alloc, target)?;
         Ok(())
     }
 
     fn replace(&mut self, target: &Reference<'_>, payload: &[Reference<'_>]) -> Result<(), Stop> {
-        let target = self.element(target)?;
-        let payload = self.payload(payload)?;
-        let Editing { editor, .. } = self.editing.as_mut().ok_or(Stop::Bad)?;
+        self.test_editing()?;
         match payload {
-            Payload::One(element) => editor.replace(self.alloc, target, element)?,
-            Payload::Many(elements) => editor.replace_with_many(self.alloc, target, elements)?,
+            [one] => self.replace_by_one(target, one),
+            _ => self.replace_with_many(target, payload),
         }
+    }
+
+    fn replace_by_one(
+        &mut self,
+        target: &Reference<'_>,
+        payload: &Reference<'_>,
+    ) -> Result<(), Stop> {
+        let alloc = self.alloc;
+        let target = self.element(target)?;
+        let element = self.element(payload)?;
+        self.editor()?.replace(alloc, target, element)?;
+        Ok(())
+    }
+
+    fn replace_with_many(
+        &mut self,
+        target: &Reference<'_>,
+        payload: &[Reference<'_>],
+    ) -> Result<(), Stop> {
+        let alloc = self.alloc;
+        let target = self.element(target)?;
+        let elements = self.elements(payload)?;
+        self.editor()?.replace_with_many(alloc, target, elements)?;
         Ok(())
     }
 
@@ -186,15 +238,33 @@ impl Session {
         last: &Reference<'_>,
         payload: &[Reference<'_>],
     ) -> Result<(), Stop> {
+        self.test_editing()?;
+        if payload.is_empty() {
+            self.delete_all(first, last)
+        } else {
+            self.replace_all(first, last, payload)
+        }
+    }
+
+    fn delete_all(&mut self, first: &Reference<'_>, last: &Reference<'_>) -> Result<(), Stop> {
+        let alloc = self.alloc;
         let first = self.element(first)?;
         let last = self.element(last)?;
-        let payload = self.elements(payload)?;
-        let Editing { editor, .. } = self.editing.as_mut().ok_or(Stop::Bad)?;
-        if payload.is_empty() {
-            editor.delete_all(self.alloc, first, last)?;
-        } else {
-            editor.replace_all(self.alloc, first, last, payload)?;
-        }
+        self.editor()?.delete_all(alloc, first, last)?;
+        Ok(())
+    }
+
+    fn replace_all(
+        &mut self,
+        first: &Reference<'_>,
+        last: &Reference<'_>,
+        payload: &[Reference<'_>],
+    ) -> Result<(), Stop> {
+        let alloc = self.alloc;
+        let elements = self.elements(payload)?;
+        let first = self.element(first)?;
+        let last = self.element(last)?;
+        self.editor()?.replace_all(alloc, first, last, elements)?;
         Ok(())
     }
 
@@ -232,13 +302,6 @@ impl Session {
             Place::After(element) => {
                 Position::after(self.alloc, self.element(element)?)?.ok_or(Stop::Bad)
             }
-        }
-    }
-
-    fn payload(&self, references: &[Reference<'_>]) -> Result<Payload, Stop> {
-        match references {
-            [one] => Ok(Payload::One(self.element(one)?)),
-            _ => Ok(Payload::Many(self.elements(references)?)),
         }
     }
 
