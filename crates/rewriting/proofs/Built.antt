@@ -1,9 +1,9 @@
 -- Counting the nodes that are made.
-use Rattle.std.specs.Prelude.{◌≡◌, ℕ, zero, suc, true, false, cond, ◌||◌, nat_eq, List, [], ◌∷◌, ◌++◌, map, refl, Option, Some, None, OnOk}
+use Rattle.std.specs.Prelude.{◌≡◌, ℕ, zero, suc, ◌-◌, true, false, cond, ◌||◌, nat_eq, List, [], ◌∷◌, ◌++◌, map, length, take, refl, Option, Some, None, OnOk, IfOk}
 use Rattle.std.specs.List.{list_any}
 use Rattle.std.specs.Prelude.{Result, Ok, Err}
-use Rattle.std.proofs.Common.{ap, ap₂, sym, ◌∙◌}
-use Rattle.std.proofs.lemmas.List.{append-nil}
+use Rattle.std.proofs.Common.{ap, ap₂, sym, arith, ◌∙◌}
+use Rattle.std.proofs.lemmas.List.{append-nil, length-append, take-append-le, take_all}
 use Rattle.std.proofs.lemmas.Bool.{cases_eq, eq-eqb, ne_eqb}
 use mathlib.Core.Logic.{inl, inr}
 use Rattle.green_tree.specs.Path.{Path, parent_path, last_slot, counted_from}
@@ -104,3 +104,13 @@ on_ok (Err e) h = tt
 pub on_ok-map : {T E P Q : Type 0} (r : Result T E) → (P → Q) → OnOk r P → OnOk r Q
 on_ok-map (Ok x) f h = f h
 on_ok-map (Err e) f h = tt
+
+pub if_ok-map : {T E : Type 0} (P Q : T → Type 0) (r : Result T E) → ((x : T) → P x → Q x) → IfOk r P → IfOk r Q
+if_ok-map P Q (Ok x) f h = f x h
+if_ok-map P Q (Err e) f h = tt
+
+-- ---- a path, after its last slot is taken off
+pub without_last : (p q : Path) (m n : ℕ) → m ≡ length p → p ≡ q ++ n ∷ [] → take (m - 1) p ≡ q
+without_last p q m n long e =
+    let shorter : m - 1 ≡ length q = omega (arith, long, ap length e ∙ length-append q (n ∷ [])) in
+    ap₂ take shorter e ∙ take-append-le (length q) q (n ∷ []) (omega arith) ∙ take_all (length q) q (omega arith)

@@ -7,8 +7,8 @@ use Rattle.rewriting.specs.Effort.{counted, nodes_built}
 use Rattle.rewriting.specs.Rewriting.{slot, gap_order, rewritten}
 use Rattle.rewriting.specs.inner.Aimed.{aims_of}
 use Rattle.rewriting.specs.inner.Marked.{MarkTree, Marking, marked, mark_below, marks_of, sought_in, marks_at, wanted, sought_for}
-use Rattle.rewriting.specs.inner.Pass.{kind_only, given_in, gap_changes, child_made, slot_made, children_made, child_built, slot_built, children_built}
-use Rattle.rewriting.proofs.Built.{on_ok, on_ok-map}
+use Rattle.rewriting.specs.inner.Pass.{kind_only, given_in, remade, gap_changes, child_made, slot_made, children_made, child_built, slot_built, children_built}
+use Rattle.rewriting.proofs.Built.{on_ok, on_ok-map, if_ok-map, without_last}
 use Rattle.rewriting.proofs.Counted.{still, still-step, still-none, counted-own, counted-none, count-nothing, count-step, count-on, count-all, count-one, counts-at_most}
 use Rattle.rewriting.proofs.Touched.{on_ok-touched}
 use Rattle.rewriting.proofs.Untouched.{nothing_made, unaimed}
@@ -50,7 +50,19 @@ push_altered-returns-clause-marks t c = λ trees are.
     let there : c.push.new.self.items ≡ path ++ next ∷ [] = c.in_ok-push.ensures.items ∙ ap (λ n. path ++ n ∷ []) slot_is in
     c.in_ok-rebuild.ensures.marks trees are ∙ ap₂ (λ p cs. before ++ map (mark_below p) (marked (rewritten (wanted sought) trees cs [] e))) there inside ∙ ap (λ ms. before ++ ms) (sym (shown-one path next (child_made (wanted sought) trees c.args.group.now c.args.slot c.args.child.now)))
 
+pub push_altered-returns-clause-path : goal.push_altered-returns-clause-path
+push_altered-returns-clause-path t c =
+    let path = c.args.path.now.items in
+    let there : c.rebuild.new.path.items ≡ path ++ c.len-next.result ∷ [] = c.in_ok-rebuild.ensures.path ∙ c.in_ok-push.ensures.items in
+    c.pop.ensures.rest ∙ without_last c.rebuild.new.path.items path _ c.len-next.result c.rebuild.new.path.ok.0 there
+
+pub push_altered-rebuild-requires : goal.push_altered-rebuild-requires
+push_altered-rebuild-requires t c = (omega arith, tt)
+
 -- ---- the children, one after another
+pub push_children-returns-clause-path : goal.push_children-returns-clause-path
+push_children-returns-clause-path t c = c.loop-slot.invariant.path
+
 pub push_children-push_in_slot-requires : goal.push_children-push_in_slot-requires
 push_children-push_in_slot-requires t c =
     let below = size_at c.args.children.now c.loop-slot.slot c.index-children-slot.result c.loop-slot-test.true c.index-children-slot.is in
@@ -209,7 +221,48 @@ push_in_slot-returns-clause-marks t c =
     let stays = sym c.is_replaced.ensures ∙ c.if-is_replaced.false in
     on_ok-map c.push_altered.result (λ h trees are. h trees are ∙ ap (λ ts. marks_of c.args.found.now.items ++ shown c.args.path.now.items (length c.args.out.now.items) ts) (slot-kept label_at trees (aims_of c.args.group.now) (c.args.slot ∷ []) (child_made label_at trees c.args.group.now c.args.slot c.args.child.now) stays)) c.push_altered.ensures.marks
 
+pub push_in_slot-push_altered-requires : goal.push_in_slot-push_altered-requires
+push_in_slot-push_altered-requires t c = (omega arith, tt)
+
+pub push_in_slot-returns-then-is_empty-clause-path : goal.push_in_slot-returns-then-is_empty-clause-path
+push_in_slot-returns-then-is_empty-clause-path t c = c.push_child.ensures.path
+
+pub push_in_slot-returns-then-is_replaced-clause-path : goal.push_in_slot-returns-then-is_replaced-clause-path
+push_in_slot-returns-then-is_replaced-clause-path t c = c.push_slot.ensures.path
+
+pub push_in_slot-returns-then-not-alter_below-clause-path : goal.push_in_slot-returns-then-not-alter_below-clause-path
+push_in_slot-returns-then-not-alter_below-clause-path t c = c.push_child-then-not-alter_below.ensures.path
+
+pub push_in_slot-returns-clause-path : goal.push_in_slot-returns-clause-path
+push_in_slot-returns-clause-path t c = c.push_altered.ensures.path
+
 -- ---- the element itself
+pub rebuild-returns-clause-path : goal.rebuild-returns-clause-path
+rebuild-returns-clause-path t c = on_ok c.build_node.result c.in_ok-push_children.ensures.path
+
+pub rebuild-returns-then-not-alter_some-clause-path : goal.rebuild-returns-then-not-alter_some-clause-path
+rebuild-returns-then-not-alter_some-clause-path t c = on_ok c.share.result c.in_ok-push_kept.ensures.path
+
+pub rebuild-returns-in_default-clause-path : goal.rebuild-returns-in_default-clause-path
+rebuild-returns-in_default-clause-path t c = on_ok c.share-in_default.result refl
+
+pub rebuild-returns-in_default-clause-tree : goal.rebuild-returns-in_default-clause-tree
+rebuild-returns-in_default-clause-tree t c =
+    let own = element_tree c.args.element.now in
+    let same : own ≡ remade c.args.given.now c.args.aims.now c.args.element.now = ap element_tree c.in_default.is ∙ ap (λ e. remade c.args.given.now c.args.aims.now e) (sym c.in_default.is) in
+    if_ok-map (λ e. e ≡ c.args.element.now) (λ e. element_tree e ≡ remade c.args.given.now c.args.aims.now c.args.element.now) c.share-in_default.result (λ e is. ap element_tree is ∙ same) c.share-in_default.ensures
+
+pub rebuild-returns-clause-tree : goal.rebuild-returns-clause-tree
+rebuild-returns-clause-tree t c =
+    let table = c.args.given.now in
+    let aims = c.args.aims.now in
+    let es = c.children-children.result.now in
+    let k = c.kind.result.0 in
+    let trees = c.in_ok-push_children.ensures.trees ∙ ap (λ xs. element_trees xs ++ children_made kind_only (given_in table) aims es) c.in_ok-out.ensures.items in
+    let node_is = ap element_tree c.in-Node.is ∙ ap (λ us. node c.in-Node.node.kind us) (sym c.children-children.ensures) in
+    let whole = ap₂ node c.kind.ensures trees ∙ ap (rewritten kind_only (given_in table) (aims_of aims) []) (sym node_is) in
+    if_ok-map (λ e. element_tree e ≡ node k (element_trees c.push_children.new.out.items)) (λ e. element_tree e ≡ remade table aims c.args.element.now) c.build_node.result (λ e is. is ∙ whole) c.build_node.ensures.tree
+
 pub rebuild-returns-then-not-alter_some-clause-tree : goal.rebuild-returns-then-not-alter_some-clause-tree
 rebuild-returns-then-not-alter_some-clause-tree t c =
     let none = sym c.alter_some.ensures ∙ c.if-not-alter_some.true in
@@ -219,6 +272,10 @@ pub rebuild-returns-then-not-alter_some-clause-count : goal.rebuild-returns-then
 rebuild-returns-then-not-alter_some-clause-count t c =
     let none = sym c.alter_some.ensures ∙ c.if-not-alter_some.true in
     rw (counted-none (aims_of c.args.aims.now) (element_tree c.args.element.now) none) (on_ok c.share.result (omega arith))
+
+pub rebuild-returns-then-not-alter_some-clause-builds : goal.rebuild-returns-then-not-alter_some-clause-builds
+rebuild-returns-then-not-alter_some-clause-builds t c =
+    on_ok-map c.share.result (counts-at_most c.args.aims.now c.args.element.now c.args.builds.now c.args.builds.now) (rebuild-returns-then-not-alter_some-clause-count t c)
 
 pub rebuild-returns-then-not-alter_some-clause-whole : goal.rebuild-returns-then-not-alter_some-clause-whole
 rebuild-returns-then-not-alter_some-clause-whole t c =
@@ -230,10 +287,18 @@ rebuild-returns-then-not-alter_some-clause-marks t c =
     on_ok c.share.result (λ trees are. c.in_ok-push_kept.ensures.marks ∙ ap (λ u. marks_of c.args.found.now.items ++ map (mark_below c.args.path.now.items) (marked u)) (sym (unaimed (wanted (sought_in c.args.sought.now)) trees c.args.aims.now none [] (element_tree c.args.element.now))))
 
 -- a token is not built
+pub rebuild-returns-in_default-clause-count : goal.rebuild-returns-in_default-clause-count
+rebuild-returns-in_default-clause-count t c =
+    let token : nodes_built (aims_of c.args.aims.now) (element_tree c.args.element.now) ≡ 0 = ap (λ e. nodes_built (aims_of c.args.aims.now) (element_tree e)) c.in_default.is in
+    on_ok c.share-in_default.result (omega (arith, token))
+
+pub rebuild-returns-in_default-clause-builds : goal.rebuild-returns-in_default-clause-builds
+rebuild-returns-in_default-clause-builds t c =
+    on_ok-map c.share-in_default.result (counts-at_most c.args.aims.now c.args.element.now c.args.builds.now c.args.builds.now) (rebuild-returns-in_default-clause-count t c)
+
 pub rebuild-returns-in_default-clause-whole : goal.rebuild-returns-in_default-clause-whole
 rebuild-returns-in_default-clause-whole t c =
-    let token : nodes_built (aims_of c.args.aims.now) (element_tree c.args.element.now) ≡ 0 = ap (λ e. nodes_built (aims_of c.args.aims.now) (element_tree e)) c.in_default.is in
-    on_ok-touched c.share-in_default.result c.args.aims.now c.args.element.now c.args.builds.now c.args.builds.now (on_ok c.share-in_default.result (omega (arith, token)))
+    on_ok-touched c.share-in_default.result c.args.aims.now c.args.element.now c.args.builds.now c.args.builds.now (rebuild-returns-in_default-clause-count t c)
 
 pub rebuild-returns-in_default-clause-marks : goal.rebuild-returns-in_default-clause-marks
 rebuild-returns-in_default-clause-marks t c =
