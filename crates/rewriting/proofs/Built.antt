@@ -1,13 +1,12 @@
 -- Counting the nodes that are made.
-use Rattle.std.specs.Prelude.{◌≡◌, ℕ, zero, suc, ◌+◌, ◌<◌, true, false, cond, ◌||◌, nat_eq, List, [], ◌∷◌, ◌++◌, map, length, drop, refl, Option, Some, None, OnOk}
+use Rattle.std.specs.Prelude.{◌≡◌, ℕ, zero, suc, ◌-◌, true, false, cond, ◌||◌, nat_eq, List, [], ◌∷◌, ◌++◌, map, length, take, refl, Option, Some, None, OnOk, IfOk}
 use Rattle.std.specs.List.{list_any}
 use Rattle.std.specs.Prelude.{Result, Ok, Err}
-use Rattle.std.proofs.Common.{ap, ap₂, sym, ◌∙◌, get_or, arith}
-use Rattle.std.proofs.lemmas.List.{at_drop_more, append-nil}
+use Rattle.std.proofs.Common.{ap, ap₂, sym, arith, ◌∙◌}
+use Rattle.std.proofs.lemmas.List.{append-nil, length-append, take-append-le, take_all}
 use Rattle.std.proofs.lemmas.Bool.{cases_eq, eq-eqb, ne_eqb}
 use mathlib.Core.Logic.{inl, inr}
 use Rattle.green_tree.specs.Path.{Path, parent_path, last_slot, counted_from}
-use Rattle.green_tree.specs.Tree.{SyntaxTree, forest, node}
 use Rattle.rewriting.specs.Aim as aim
 use Rattle.rewriting.specs.Aim.{parents}
 use Rattle.rewriting.specs.Rewriting.{NumberedAim}
@@ -15,7 +14,7 @@ use Rattle.rewriting.specs.declared.aimed.Aimed.{Aimed}
 use Rattle.rewriting.specs.declared.aimed.AimForm.{AimForm}
 use Rattle.rewriting.specs.declared.aimed.AimForm.TheVariants.{FirstIn, Behind, Over}
 use Rattle.rewriting.specs.inner.Aimed.{Placed, placed, aim_in, of_placed, aims_of, some_path, has_parent, seen_from, and_those, placed_below}
-use Rattle.rewriting.specs.Effort.{inside, touched, touched_from, parents_of}
+use Rattle.rewriting.specs.Effort.{inside, parents_of}
 
 -- ---- the parents of aims that are seen from a child
 other_way : (i j : ℕ) → nat_eq j i ≡ nat_eq i j
@@ -88,20 +87,7 @@ pub above-placed : (xs : List Aimed) → above (map placed xs) ≡ parents_of (a
 above-placed [] = refl
 above-placed (x ∷ xs) = ap (λ ps. parents (aim_in x.path.now x.form) ++ ps) (above-placed xs)
 
-pub parents-below : (xs ys : List Aimed) (i : ℕ) → map placed ys ≡ placed_below i (map placed xs) → parents_of (aims_of ys) ≡ inside i (parents_of (aims_of xs))
-parents-below xs ys i h =
-    sym (above-placed ys) ∙ ap above h ∙ sym (above-below i (map placed xs)) ∙ ap (inside i) (above-placed xs)
-
--- ---- what is still to come from slot i on
-abbrev pub to_come : List Path → ℕ → List SyntaxTree → ℕ
-to_come ps i ts = touched_from i (forest (drop i ts)) ps
-
-pub to_come-step : (ps : List Path) (i : ℕ) (ts : List SyntaxTree) (d : SyntaxTree) → i < length ts → to_come ps i ts ≡ touched (get_or ts i d) (inside i ps) + to_come ps (i + 1) ts
-to_come-step ps i ts d l =
-    let next : suc i ≡ i + 1 = omega arith in
-    at_drop_more (λ us. touched_from i (forest us) ps) ts i d l ∙ ap (λ j. touched (get_or ts i d) (inside i ps) + touched_from j (forest (drop (i + 1) ts)) ps) next
-
--- ---- the node itself
+-- ---- whether there is any
 some-append : (ps qs : List Path) → some_path (ps ++ qs) ≡ (some_path ps || some_path qs)
 some-append [] qs = refl
 some-append (p ∷ ps) qs = refl
@@ -110,14 +96,21 @@ pub some-parents : (cs : List NumberedAim) → some_path (parents_of cs) ≡ lis
 some-parents [] = refl
 some-parents (c ∷ cs) = some-append (parents c.1) (parents_of cs) ∙ ap (λ b. has_parent c || b) (some-parents cs)
 
-own_paths : (ps : List Path) (k : ℕ) (ts : List SyntaxTree) → some_path ps ≡ true → touched (node k ts) ps ≡ 1 + to_come ps 0 ts
-own_paths [] k ts h = absurd (cc)
-own_paths (p ∷ ps) k ts h = refl
-
-pub own_node : (cs : List NumberedAim) (k : ℕ) (ts : List SyntaxTree) → list_any has_parent cs ≡ true → touched (node k ts) (parents_of cs) ≡ 1 + to_come (parents_of cs) 0 ts
-own_node cs k ts h = own_paths (parents_of cs) k ts (some-parents cs ∙ h)
-
 -- ---- a fact that holds anyway holds where there is a result
 pub on_ok : {T E P : Type 0} (r : Result T E) → P → OnOk r P
 on_ok (Ok x) h = h
 on_ok (Err e) h = tt
+
+pub on_ok-map : {T E P Q : Type 0} (r : Result T E) → (P → Q) → OnOk r P → OnOk r Q
+on_ok-map (Ok x) f h = f h
+on_ok-map (Err e) f h = tt
+
+pub if_ok-map : {T E : Type 0} (P Q : T → Type 0) (r : Result T E) → ((x : T) → P x → Q x) → IfOk r P → IfOk r Q
+if_ok-map P Q (Ok x) f h = f x h
+if_ok-map P Q (Err e) f h = tt
+
+-- ---- a path, after its last slot is taken off
+pub without_last : (p q : Path) (m n : ℕ) → m ≡ length p → p ≡ q ++ n ∷ [] → take (m - 1) p ≡ q
+without_last p q m n long e =
+    let shorter : m - 1 ≡ length q = omega (arith, long, ap length e ∙ length-append q (n ∷ [])) in
+    ap₂ take shorter e ∙ take-append-le (length q) q (n ∷ []) (omega arith) ∙ take_all (length q) q (omega arith)

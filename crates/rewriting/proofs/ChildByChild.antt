@@ -21,12 +21,11 @@ module _ {L X : Type 0} (shown : ℕ → List (Tree L) → List X) (is_shown : I
   to_come i ts = left label_at given cs i ts
 
   -- gap 0, and then what is left from slot 0 on
-  pub first : (before after : List X) (next : ℕ) (ts : List SyntaxTree) → after ≡ before ++ shown 0 (in_gap 0) → next ≡ 0 + length (in_gap 0) → after ++ shown next (to_come 0 ts) ≡ before ++ shown 0 (rewritten_from label_at given cs [] 0 (forest ts))
-  first before after next ts a x =
+  pub first : (before after : List X) (start next : ℕ) (ts : List SyntaxTree) → after ≡ before ++ shown start (in_gap 0) → next ≡ start + length (in_gap 0) → after ++ shown next (to_come 0 ts) ≡ before ++ shown start (rewritten_from label_at given cs [] 0 (forest ts))
+  first before after start next ts a x =
       let g = in_gap 0 in
       let rest = to_come 0 ts in
-      let grouped : before ++ (shown 0 g ++ shown next rest) ≡ before ++ shown 0 g ++ shown next rest = simp append_assoc in
-      ap (λ ps. ps ++ shown next rest) a ∙ sym grouped ∙ ap (λ k. before ++ (shown 0 g ++ shown k rest)) x ∙ ap (λ ps. before ++ ps) (sym (is_shown.append 0 g rest)) ∙ ap (λ us. before ++ shown 0 us) (gap-slots label_at given cs 0 (forest ts))
+      ap₂ (λ ps k. ps ++ shown k rest) a x ∙ append_assoc before (shown start g) (shown (start + length g) rest) ∙ ap (λ ps. before ++ ps) (sym (is_shown.append start g rest)) ∙ ap (λ us. before ++ shown start us) (gap-slots label_at given cs 0 (forest ts))
 
   -- a slot and the gap behind it
   pub step : (before middle after all : List X) (next between behind : ℕ) (s : List (Tree L)) (i : ℕ) (ts : List SyntaxTree) (d : SyntaxTree) → i < length ts → s ≡ slot label_at given cs (i ∷ []) (rewritten label_at given cs (i ∷ []) (get_or ts i d)) → middle ≡ before ++ shown next s → between ≡ next + length s → after ≡ middle ++ shown between (in_gap (i + 1)) → behind ≡ between + length (in_gap (i + 1)) → before ++ shown next (to_come i ts) ≡ all → after ++ shown behind (to_come (i + 1) ts) ≡ all

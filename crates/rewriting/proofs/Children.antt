@@ -63,6 +63,6 @@ module _ {L : Type 0} (label_at : Path → ℕ → L) (given : ℕ → List (Tre
   slot-kept p t h = ap (λ b. cond b (flat_map given (replacements_at cs p)) (t ∷ [])) (sym h)
 
   -- nothing is left behind the last gap
-  pub all_made : (done : List (Tree L)) (i : ℕ) (ts : List SyntaxTree) → length ts ≤ i → done ++ left i ts ≡ rewritten_from label_at given cs [] 0 (forest ts) → done ≡ rewritten_from label_at given cs [] 0 (forest ts)
-  all_made done i ts l h =
+  pub all_made : (done all : List (Tree L)) (i : ℕ) (ts : List SyntaxTree) → length ts ≤ i → done ++ left i ts ≡ all → done ≡ all
+  all_made done all i ts l h =
       sym (append-nil done) ∙ ap (λ xs. done ++ xs) (sym (at_drop_all (λ us. slots_from i (forest us)) ts i l)) ∙ h

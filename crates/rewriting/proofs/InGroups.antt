@@ -1,5 +1,5 @@
 -- The aims that matter for a child and for the gap behind it say the same of them as all the aims.
-use Rattle.std.specs.Prelude.{◌≡◌, ℕ, zero, suc, ◌+◌, ◌<◌, ◌≤◌, Bool, true, false, cond, ◌&&◌, ◌||◌, nat_eq, List, [], ◌∷◌, ◌++◌, map, filter, flat_map, refl, Some, None}
+use Rattle.std.specs.Prelude.{◌≡◌, ℕ, zero, suc, ◌+◌, ◌<◌, ◌≤◌, Bool, true, false, cond, ◌&&◌, ◌||◌, nat_eq, List, [], ◌∷◌, ◌++◌, map, filter, refl, Some, None}
 use Rattle.std.specs.List.{list_any}
 use Rattle.std.proofs.Common.{ap, sym, ◌∙◌, arith, get_or}
 use mathlib.Core.Logic.{inl, inr}
@@ -7,9 +7,8 @@ use Rattle.std.proofs.lemmas.List.{append-nil}
 use Rattle.std.proofs.lemmas.List.Elements.{filter-append}
 use Rattle.std.proofs.lemmas.Bool.{cases_lt, ne_eqb, eqb-false}
 use Rattle.green_tree.specs.Path.{Path, parent_path, last_slot}
-use Rattle.green_tree.specs.Tree.{Tree}
 use Rattle.rewriting.specs.Aim.{Aim, aims_at_gap, starts_at, replaces}
-use Rattle.rewriting.specs.Rewriting.{gap, gap_order, numbers, inserts_at, replacements_at, is_replaced}
+use Rattle.rewriting.specs.Rewriting.{numbers, inserts_at, replacements_at, is_replaced}
 use Rattle.rewriting.specs.declared.aimed.AimForm.{AimForm}
 use Rattle.rewriting.specs.declared.aimed.AimForm.TheVariants.{FirstIn, Behind, Over}
 use Rattle.rewriting.specs.declared.aimed.Aimed.{Aimed}
@@ -121,11 +120,6 @@ grow k old new xs ys a f n e o inside before behind on under past_it =
 -- ---- a group by its index
 pub group_is : (groups : List (List Aimed)) (aims : List Aimed) (n i : ℕ) (group : List Aimed) → ((k : ℕ) (d : List Aimed) → k < n → get_or groups k d ≡ filter (concerns k) aims) → i < n → group ≡ get_or groups i group → group ≡ filter (concerns i) aims
 group_is groups aims n i group all l is = is ∙ all i group l
-
-pub group-gap : {L : Type 0} (label_at : Path → ℕ → L) (given : ℕ → List (Tree L)) (xs group : List Aimed) (i : ℕ) → group ≡ filter (concerns i) xs → gap label_at given (aims_of group) [] (i + 1) ≡ gap label_at given (aims_of xs) [] (i + 1)
-group-gap label_at given xs group i e =
-    let next : i + 1 ≡ suc i = omega arith in
-    ap (λ j. gap label_at given (aims_of group) [] j) next ∙ ap (λ g. gap label_at given (aims_of g) [] (suc i)) e ∙ ap (λ ns. flat_map given (gap_order ns)) (group-inserts i xs) ∙ ap (λ j. gap label_at given (aims_of xs) [] j) (sym next)
 
 pub group-inserted : (i : ℕ) (xs group : List Aimed) → group ≡ filter (concerns i) xs → inserts_at (aims_of group) [] (i + 1) ≡ inserts_at (aims_of xs) [] (i + 1)
 group-inserted i xs group e =

@@ -2,7 +2,6 @@ pub mod Here
 pub mod SeenBelow
 pub mod InGroups
 pub mod ByNumber
-pub mod Unconcerned
 pub mod Passing
 pub mod Children
 pub mod Built
@@ -10,6 +9,7 @@ pub mod Counted
 pub mod Touched
 pub mod Untouched
 pub mod BelowSlot
+pub mod InSlot
 pub mod ChildByChild
 pub mod Tops
 pub mod Marks

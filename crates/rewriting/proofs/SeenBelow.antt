@@ -146,7 +146,3 @@ aims-placed (x ∷ xs) = ap (λ cs. of_placed (placed x) ∷ cs) (aims-placed xs
 pub seen-below : {L : Type 0} (above inner : Path → ℕ → L) (given : ℕ → List (Tree L)) (xs ys : List Aimed) (i : ℕ) (t : SyntaxTree) → ((p : Path) (k : ℕ) → above (i ∷ p) k ≡ inner p k) → map placed ys ≡ placed_below i (map placed xs) → rewritten inner given (aims_of ys) [] t ≡ rewritten above given (aims_of xs) (i ∷ []) t
 seen-below above inner given xs ys i t labels e =
     ap (λ cs. rewritten inner given cs [] t) (sym (aims-placed ys) ∙ ap (map of_placed) e) ∙ sym (rewritten-shifted above inner given (map of_placed (map placed xs)) (map of_placed (placed_below i (map placed xs))) i labels (below_shifted (map placed xs) i) [] t) ∙ ap (λ cs. rewritten above given cs (i ∷ []) t) (aims-placed xs)
-
--- where the labels hang on kinds alone
-pub aims-below : {L : Type 0} (h : ℕ → L) (given : ℕ → List (Tree L)) (xs ys : List Aimed) (i : ℕ) (t : SyntaxTree) → map placed ys ≡ placed_below i (map placed xs) → rewritten (λ q k. h k) given (aims_of ys) [] t ≡ rewritten (λ q k. h k) given (aims_of xs) (i ∷ []) t
-aims-below h given xs ys i t e = seen-below (λ q k. h k) (λ q k. h k) given xs ys i t (λ p k. refl) e

@@ -6,6 +6,8 @@ ghost use Rattle.rewriting.specs.inner.Given.{given_trees};
 ghost use Rattle.rewriting.specs.inner.Pass.{given_in, Puts, FindsGiven, FindsChange, FindsAll, FindsKept, FindsChild};
 ghost use Rattle.rewriting.specs.inner.Pass.{gap_changes, slot_changes, top_changes};
 ghost use Rattle.rewriting.specs.inner.Pass.{TouchesAtMost, CountsBuilt, CountsBuiltWhole, CountsTouched};
+ghost use Rattle.rewriting.specs.inner.Pass.{CountsOn, child_built, slot_built, children_built};
+ghost use Rattle.rewriting.specs.inner.Pass.{PutsAltered, PutsSlot, PutsChildren, FindsAltered, FindsSlot, FindsChildren};
 ghost use Rattle.rewriting.specs.inner.Pass.{remade, remade_whole};
 ghost use Rattle.rewriting.specs.inner.Pass.{FindsRebuilt, FindsWhole};
 
@@ -203,6 +205,7 @@ fn build_node(
 /// Only the nodes above an aim are built, and what no aim is in or below is shared; `builds` counts the nodes, exactly, up to its greatest
 /// number. An aim over the top itself is passed over: see `rebuild_whole`. Takes time linear in the aims times their depth, the children of
 /// the nodes that are built or above a sought mark, the children that are replaced, and the lengths of the marks' paths.
+#[cycle(rebuild)]
 pub fn rebuild(
     alloc: Global,
     found: &mut Vec<Mark>,
@@ -230,32 +233,116 @@ pub fn rebuild(
         return element.share(alloc);
     };
     let children = node.children();
+    let mut out = Vec::with_capacity(alloc, children.len())?;
+    push_children(
+        alloc, &mut out, found, path, children, aims, sought, given, builds,
+    )?;
+    build_node(alloc, node.kind(), out, builds)
+}
+
+// What is made of the children of a node goes after the children that the new node, which is at this path, has so far.
+#[cycle(rebuild)]
+fn push_children(
+    alloc: Global,
+    out: &mut Vec<GreenElement>,
+    found: &mut Vec<Mark>,
+    path: &mut Vec<usize>,
+    children: &[GreenElement],
+    aims: &[Aimed],
+    sought: &[Sought],
+    given: &GivenTable,
+    builds: &mut u64,
+) -> Result<(), AllocError>
+    ensures path { OnOk result (path.new.items ≡ path.old.items) }
+    ensures count { OnOk result (CountsOn builds.old builds.new (children_built aims.now children.now)) }
+    ensures trees { OnOk result (PutsChildren out.old out.new given.now aims.now children.now) }
+    ensures marks { OnOk result (FindsChildren path.old out.old found.old found.new
+        given.now aims.now sought.now children.now) }
+{
     let groups = aims_by_child(alloc, aims, children.len())?;
     let lists = marks_by_child(alloc, sought, children.len())?;
-    let mut out = Vec::with_capacity(alloc, children.len())?;
-    push_gap(alloc, &mut out, found, path, given, aims, 0)?;
+    push_gap(alloc, out, found, path, given, aims, 0)?;
     for slot in 0..children.len() {
         let group = groups.at(slot);
-        let child = &children[slot];
         let to_find = sought_for(&lists, slot);
-        // No aim concerns most children of a wide node.
-        if group.is_empty() {
-            push_child(alloc, &mut out, found, path, child, to_find)?;
-            continue;
-        }
-        if is_replaced(group, slot) {
-            push_slot(alloc, &mut out, found, path, given, group, slot)?;
-        } else if !alter_below(group, slot) {
-            push_child(alloc, &mut out, found, path, child, to_find)?;
-        } else {
-            let inner = aims_below(alloc, group, slot)?;
-            path.push(out.len())?;
-            out.push(rebuild(alloc, found, path, child, &inner, to_find, given, builds)?)?;
-            path.pop();
-        }
-        push_gap(alloc, &mut out, found, path, given, group, slot + 1)?;
+        push_in_slot(
+            alloc,
+            out,
+            found,
+            path,
+            &children[slot],
+            group,
+            slot,
+            to_find,
+            given,
+            builds,
+        )?;
+        push_gap(alloc, out, found, path, given, group, slot + 1)?;
     }
-    build_node(alloc, node.kind(), out, builds)
+    Ok(())
+}
+
+// What stands in the slot of a child, by the aims that concern it.
+#[cycle(rebuild)]
+fn push_in_slot(
+    alloc: Global,
+    out: &mut Vec<GreenElement>,
+    found: &mut Vec<Mark>,
+    path: &mut Vec<usize>,
+    child: &GreenElement,
+    group: &[Aimed],
+    slot: usize,
+    sought: &[Sought],
+    given: &GivenTable,
+    builds: &mut u64,
+) -> Result<(), AllocError>
+    ensures path { OnOk result (path.new.items ≡ path.old.items) }
+    ensures count { OnOk result (CountsOn builds.old builds.new (slot_built group.now slot child.now)) }
+    ensures trees { OnOk result (PutsSlot out.old out.new given.now group.now slot child.now) }
+    ensures marks { OnOk result (FindsSlot path.old out.old found.old found.new
+        given.now group.now slot sought.now child.now) }
+{
+    // No aim concerns most children of a wide node.
+    if group.is_empty() {
+        return push_child(alloc, out, found, path, child, sought);
+    }
+    if is_replaced(group, slot) {
+        return push_slot(alloc, out, found, path, given, group, slot);
+    }
+    if !alter_below(group, slot) {
+        return push_child(alloc, out, found, path, child, sought);
+    }
+    push_altered(
+        alloc, out, found, path, child, group, slot, sought, given, builds,
+    )
+}
+
+// A child, made anew by those of these aims that are at it or below it.
+#[cycle(rebuild)]
+fn push_altered(
+    alloc: Global,
+    out: &mut Vec<GreenElement>,
+    found: &mut Vec<Mark>,
+    path: &mut Vec<usize>,
+    child: &GreenElement,
+    group: &[Aimed],
+    slot: usize,
+    sought: &[Sought],
+    given: &GivenTable,
+    builds: &mut u64,
+) -> Result<(), AllocError>
+    ensures path { OnOk result (path.new.items ≡ path.old.items) }
+    ensures count { OnOk result (CountsOn builds.old builds.new (child_built group.now slot child.now)) }
+    ensures trees { OnOk result (PutsAltered out.old out.new given.now group.now slot child.now) }
+    ensures marks { OnOk result (FindsAltered path.old out.old found.old found.new
+        given.now group.now slot sought.now child.now) }
+{
+    let inner = aims_below(alloc, group, slot)?;
+    let next = out.len();
+    path.push(next)?;
+    out.push(rebuild(alloc, found, path, child, &inner, sought, given, builds)?)?;
+    path.pop();
+    Ok(())
 }
 
 /// Elements that stand in the place of one, and the marks of them: the first slot of each path is the element's index.

@@ -16,18 +16,25 @@
 --     remade, remade_whole          the tree that a pass makes; what stands in the place of an element
 --     kept_marks                    an untouched element, labelled by the marks that are sought in it
 --     FindsKept, FindsChild         where the marks of an untouched element are found; of one that is put next
+--     aims_inside                   the aims at a child slot or below, as they are seen from the child
+--     child_made, slot_made         what is made of a child; what stands in its slot
+--     children_made                 what is made of all children
+--     PutsAltered, PutsSlot, PutsChildren        that is put after others
+--     CountsOn                      a count rose by so many nodes, whatever is counted after
+--     child_built, slot_built, children_built    how many nodes are built of a child that is kept; in a slot; of all children
+--     FindsAltered, FindsSlot, FindsChildren     where the marks of a child made anew are found; in a slot; of all children
 --     FindsRebuilt, FindsWhole      where the marks of a rebuilt element are found; of what stands in its place
-use Rattle.std.specs.Prelude.{◌≡◌, ◌<◌, ◌≤◌, ◌+◌, ℕ, List, [], ◌∷◌, ◌++◌, map, flat_map, length, get_or, slice_get, Option, Some, None, Vec}
+use Rattle.std.specs.Prelude.{◌≡◌, ◌<◌, ◌≤◌, ◌+◌, ℕ, cond, List, [], ◌∷◌, ◌++◌, map, flat_map, length, get_or, slice_get, Option, Some, None, Vec}
 use Rattle.std.specs.Global.{Global}
 use Rattle.std.specs.Option.{option_map_or}
 use Rattle.green_tree.specs.Path.{Path}
-use Rattle.green_tree.specs.Tree.{Token, Node, SyntaxTree}
+use Rattle.green_tree.specs.Tree.{Tree, Token, Node, SyntaxTree, forest}
 use Rattle.rewriting.specs.inner.Given.{given_trees}
 use Rattle.green_tree.specs.GreenElement.{element_tree, element_trees}
 use Rattle.green_tree.specs.declared.green.GreenElement.{GreenElement}
-use Rattle.rewriting.specs.Effort.{touched, parents_of, nodes_built, nodes_built_whole, AreBuilt, counted}
-use Rattle.rewriting.specs.Rewriting.{inserts_at, replacements_at, gap_order, rewritten, rewritten_whole}
-use Rattle.rewriting.specs.inner.Aimed.{aims_of}
+use Rattle.rewriting.specs.Effort.{touched, parents_of, built_from, nodes_built, nodes_built_whole, AreBuilt, counted}
+use Rattle.rewriting.specs.Rewriting.{NumberedAim, inserts_at, replacements_at, is_replaced, gap_order, slot, rewritten, rewritten_from, rewritten_whole}
+use Rattle.rewriting.specs.inner.Aimed.{placed, of_placed, aims_of, placed_below}
 use Rattle.rewriting.specs.inner.Marked.{MarkTree, Marking, marked, marked_from, mark_below, marks_of, sought_in, wanted, Finds}
 use Rattle.rewriting.specs.declared.aimed.Aimed.{Aimed}
 use Rattle.rewriting.specs.declared.mark.Mark.{Mark}
@@ -100,6 +107,59 @@ module _ (path : Vec ℕ Global) (out : Vec GreenElement Global) (before after :
 
   abbrev pub FindsChild : List Sought → GreenElement → Type 0
   FindsChild sought e = Finds before after (stands_from_here (kept_marks sought e ∷ []))
+
+-- ---- what the pass makes of the children of a node, each by the aims that concern it
+abbrev pub aims_inside : List Aimed → ℕ → List NumberedAim
+aims_inside aims i = map of_placed (placed_below i (map placed aims))
+
+module _ {L : Type 0} (label_at : Path → ℕ → L) (given : ℕ → List (Tree L)) (aims : List Aimed) where
+  abbrev pub child_made : ℕ → GreenElement → Tree L
+  child_made i e = rewritten label_at given (aims_inside aims i) [] (element_tree e)
+
+  abbrev pub slot_made : ℕ → GreenElement → List (Tree L)
+  slot_made i e = slot label_at given (aims_of aims) (i ∷ []) (child_made i e)
+
+  abbrev pub children_made : List GreenElement → List (Tree L)
+  children_made es = rewritten_from label_at given (aims_of aims) [] 0 (forest (element_trees es))
+
+module _ (before after : Vec GreenElement Global) (table : GivenTable) (aims : List Aimed) where
+  abbrev pub PutsAltered : ℕ → GreenElement → Type 0
+  PutsAltered i e = Puts before after (child_made kind_only (given_in table) aims i e ∷ [])
+
+  abbrev pub PutsSlot : ℕ → GreenElement → Type 0
+  PutsSlot i e = Puts before after (slot_made kind_only (given_in table) aims i e)
+
+  abbrev pub PutsChildren : List GreenElement → Type 0
+  PutsChildren es = Puts before after (children_made kind_only (given_in table) aims es)
+
+-- whatever is counted after, from before it is n more
+abbrev pub CountsOn : ℕ → ℕ → ℕ → Type 0
+CountsOn before after n = (further : ℕ) → counted after further ≡ counted before (n + further)
+
+module _ (aims : List Aimed) where
+  abbrev pub child_built : ℕ → GreenElement → ℕ
+  child_built i e = nodes_built (aims_inside aims i) (element_tree e)
+
+  abbrev pub slot_built : ℕ → GreenElement → ℕ
+  slot_built i e = cond (is_replaced (aims_of aims) (i ∷ [])) 0 (child_built i e)
+
+  abbrev pub children_built : List GreenElement → ℕ
+  children_built es = built_from (aims_of aims) [] 0 (forest (element_trees es)) (parents_of (aims_of aims))
+
+module _ (path : Vec ℕ Global) (out : Vec GreenElement Global) (before after : Vec Mark Global) (table : GivenTable) (aims : List Aimed) where
+  -- where what stands here depends on what the changes give
+  abbrev FindsHere : ((ℕ → List MarkTree) → List MarkTree) → Type 0
+  FindsHere made =
+      (trees : ℕ → List MarkTree) → AreMarkedIn table trees → Finds before after (map (mark_below path.items) (marked_from (length out.items) (made trees)))
+
+  abbrev pub FindsAltered : ℕ → List Sought → GreenElement → Type 0
+  FindsAltered i sought e = FindsHere (λ trees. child_made (wanted (sought_in sought)) trees aims i e ∷ [])
+
+  abbrev pub FindsSlot : ℕ → List Sought → GreenElement → Type 0
+  FindsSlot i sought e = FindsHere (λ trees. slot_made (wanted (sought_in sought)) trees aims i e)
+
+  abbrev pub FindsChildren : List Sought → List GreenElement → Type 0
+  FindsChildren sought es = FindsHere (λ trees. children_made (wanted (sought_in sought)) trees aims es)
 
 -- ---- what the pass makes of an element
 abbrev pub TouchesAtMost : List Aimed → GreenElement → ℕ → ℕ → Type 0

@@ -40,7 +40,7 @@ loop-slot-init t c =
     let here : found ≡ before = c.in_ok-push_here.ensures ∙ ap (λ p. marks_of c.args.found.now.items ++ map (λ n. (n, p)) (marks_at sought [])) c.deref.ensures.value in
     record {
       path = refl;
-      marks = first (shown path) (are_shown path) (wanted sought) (λ c. []) [] before found 0 (element_trees c.children-children.result.now) (here ∙ sym (append-nil before)) refl;
+      marks = first (shown path) (are_shown path) (wanted sought) (λ c. []) [] before found 0 0 (element_trees c.children-children.result.now) (here ∙ sym (append-nil before)) refl;
     }
 
 pub loop-slot-preserved : goal.loop-slot-preserved
