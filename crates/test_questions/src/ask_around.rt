@@ -1,7 +1,8 @@
 //! The elements around one: asked of it, and of the node or token that it is.
 
-use crate::memory::{Standing, told};
-use crate::shown::{agreed, node_place, place};
+use crate::memory::Standing;
+use crate::shown::agreed;
+use crate::told::{told_node, told_node_place, told_place};
 use cst_core::{SyntaxElement, SyntaxNode, SyntaxToken};
 use std::alloc::Global;
 use test_trees::{NoAnswer, Trees, find_named};
@@ -47,11 +48,18 @@ fn of_all(
     element: &SyntaxElement,
 ) -> Result<String, NoAnswer> {
     let own = of_element(alloc, question, element)?;
-    let by_form = match element {
-        SyntaxElement::Node(node) => of_node(alloc, question, node)?,
-        SyntaxElement::Token(token) => of_token(alloc, question, token)?,
-    };
-    agreed(alloc, own, by_form)
+    agreed(alloc, own, by_form(alloc, question, element)?)
+}
+
+fn by_form(
+    alloc: Global,
+    question: AroundQuestion,
+    element: &SyntaxElement,
+) -> Result<String, NoAnswer> {
+    match element {
+        SyntaxElement::Node(node) => of_node(alloc, question, node),
+        SyntaxElement::Token(token) => of_token(alloc, question, token),
+    }
 }
 
 fn of_element(
@@ -61,35 +69,29 @@ fn of_element(
 ) -> Result<String, NoAnswer> {
     let tree = element.tree();
     match question {
-        AroundQuestion::Parent => node_place(
+        AroundQuestion::Parent => told_node_place(
             alloc,
             tree,
-            told("SyntaxElement::parent", element.parent(alloc))?,
+            "SyntaxElement::parent",
+            element.parent(alloc),
         ),
-        AroundQuestion::PrevSiblingOrToken => {
-            place(
-                alloc,
-                tree,
-                told(
-                    "SyntaxElement::prev_sibling_or_token",
-                    element.prev_sibling_or_token(alloc),
-                )?,
-            )
-        }
-        AroundQuestion::NextSiblingOrToken => {
-            place(
-                alloc,
-                tree,
-                told(
-                    "SyntaxElement::next_sibling_or_token",
-                    element.next_sibling_or_token(alloc),
-                )?,
-            )
-        }
-        AroundQuestion::TreeTop => node_place(
+        AroundQuestion::PrevSiblingOrToken => told_place(
             alloc,
             tree,
-            Some(told("SyntaxElement::tree_top", element.tree_top(alloc))?),
+            "SyntaxElement::prev_sibling_or_token",
+            element.prev_sibling_or_token(alloc),
+        ),
+        AroundQuestion::NextSiblingOrToken => told_place(
+            alloc,
+            tree,
+            "SyntaxElement::next_sibling_or_token",
+            element.next_sibling_or_token(alloc),
+        ),
+        AroundQuestion::TreeTop => told_node(
+            alloc,
+            tree,
+            "SyntaxElement::tree_top",
+            element.tree_top(alloc),
         ),
     }
 }
@@ -97,35 +99,29 @@ fn of_element(
 fn of_node(alloc: Global, question: AroundQuestion, node: &SyntaxNode) -> Result<String, NoAnswer> {
     let tree = node.tree();
     match question {
-        AroundQuestion::Parent => node_place(
+        AroundQuestion::Parent => told_node_place(
             alloc,
             tree,
-            told("SyntaxNode::parent", node.parent(alloc))?,
+            "SyntaxNode::parent",
+            node.parent(alloc),
         ),
-        AroundQuestion::PrevSiblingOrToken => {
-            place(
-                alloc,
-                tree,
-                told(
-                    "SyntaxNode::prev_sibling_or_token",
-                    node.prev_sibling_or_token(alloc),
-                )?,
-            )
-        }
-        AroundQuestion::NextSiblingOrToken => {
-            place(
-                alloc,
-                tree,
-                told(
-                    "SyntaxNode::next_sibling_or_token",
-                    node.next_sibling_or_token(alloc),
-                )?,
-            )
-        }
-        AroundQuestion::TreeTop => node_place(
+        AroundQuestion::PrevSiblingOrToken => told_place(
             alloc,
             tree,
-            Some(told("SyntaxNode::tree_top", node.tree_top(alloc))?),
+            "SyntaxNode::prev_sibling_or_token",
+            node.prev_sibling_or_token(alloc),
+        ),
+        AroundQuestion::NextSiblingOrToken => told_place(
+            alloc,
+            tree,
+            "SyntaxNode::next_sibling_or_token",
+            node.next_sibling_or_token(alloc),
+        ),
+        AroundQuestion::TreeTop => told_node(
+            alloc,
+            tree,
+            "SyntaxNode::tree_top",
+            node.tree_top(alloc),
         ),
     }
 }
@@ -137,35 +133,29 @@ fn of_token(
 ) -> Result<String, NoAnswer> {
     let tree = token.tree();
     match question {
-        AroundQuestion::Parent => node_place(
+        AroundQuestion::Parent => told_node_place(
             alloc,
             tree,
-            told("SyntaxToken::parent", token.parent(alloc))?,
+            "SyntaxToken::parent",
+            token.parent(alloc),
         ),
-        AroundQuestion::PrevSiblingOrToken => {
-            place(
-                alloc,
-                tree,
-                told(
-                    "SyntaxToken::prev_sibling_or_token",
-                    token.prev_sibling_or_token(alloc),
-                )?,
-            )
-        }
-        AroundQuestion::NextSiblingOrToken => {
-            place(
-                alloc,
-                tree,
-                told(
-                    "SyntaxToken::next_sibling_or_token",
-                    token.next_sibling_or_token(alloc),
-                )?,
-            )
-        }
-        AroundQuestion::TreeTop => node_place(
+        AroundQuestion::PrevSiblingOrToken => told_place(
             alloc,
             tree,
-            Some(told("SyntaxToken::tree_top", token.tree_top(alloc))?),
+            "SyntaxToken::prev_sibling_or_token",
+            token.prev_sibling_or_token(alloc),
+        ),
+        AroundQuestion::NextSiblingOrToken => told_place(
+            alloc,
+            tree,
+            "SyntaxToken::next_sibling_or_token",
+            token.next_sibling_or_token(alloc),
+        ),
+        AroundQuestion::TreeTop => told_node(
+            alloc,
+            tree,
+            "SyntaxToken::tree_top",
+            token.tree_top(alloc),
         ),
     }
 }

@@ -25,8 +25,8 @@ const ROW_ERRORS: [(&str, RowError); 5] = [
     ("Malformed", RowError::Malformed),
     ("UnknownKind", RowError::UnknownKind),
     ("UnknownRow", RowError::UnknownRow),
-    ("Tree(TooLong)", RowError::Tree(TreeError::TooLong)),
-    ("Memory", RowError::Memory(AllocError)),
+    ("Tree(TooLong)", RowError::TooLong),
+    ("Memory", RowError::Memory),
 ];
 
 impl ErrorQuestion {

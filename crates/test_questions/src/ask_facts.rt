@@ -1,8 +1,9 @@
 //! Facts of an element: asked of it, of a copy, and of a copy of the node or token that it is.
 
 use crate::memory::{Standing, told};
-use crate::shown::{agreed, green_facts, kind_name, path};
-use cst_core::{GreenElementRef, SyntaxElement, SyntaxNode, SyntaxToken};
+use crate::shown::{agreed, green_facts, kind_name, node_facts, path, token_facts};
+use crate::told::{told_green, told_path, told_text};
+use cst_core::{SyntaxElement, SyntaxNode, SyntaxToken};
 use std::alloc::Global;
 use test_trees::{NoAnswer, Trees, find_named, number, quoted, word};
 
@@ -122,21 +123,19 @@ fn of_element(
         FactQuestion::Kind => word(alloc, kind_name(element.kind())),
         FactQuestion::Tree => number(alloc, element.tree()),
         FactQuestion::Slots => path(alloc, element.slots()),
-        FactQuestion::Path => path(alloc, &told("SyntaxElement::path", element.path(alloc))?),
+        FactQuestion::Path => told_path(alloc, "SyntaxElement::path", element.path(alloc)),
         FactQuestion::Index => number(alloc, element.index() as u64),
         FactQuestion::TextStart => number(alloc, element.text_start()),
         FactQuestion::TextLen => number(alloc, element.text_len()),
-        FactQuestion::Text => quoted(alloc, &told("SyntaxElement::text", element.text(alloc))?),
-        FactQuestion::Display => quoted(
+        FactQuestion::Text => told_text(alloc, "SyntaxElement::text", element.text(alloc)),
+        FactQuestion::Display => told_text(
             alloc,
-            &told("SyntaxElement::to_string", element.to_string(alloc))?,
+            "SyntaxElement::to_string",
+            element.to_string(alloc),
         ),
         FactQuestion::Debug => told("SyntaxElement as {:?}", format!(in alloc; "{element:?}")),
         FactQuestion::AsGreen => green_facts(alloc, element.as_green()),
-        FactQuestion::Green => green_facts(
-            alloc,
-            told("SyntaxElement::green", element.green(alloc))?.as_ref(),
-        ),
+        FactQuestion::Green => shared_element(alloc, element),
     }
 }
 
@@ -145,21 +144,15 @@ fn of_node(alloc: Global, question: FactQuestion, node: &SyntaxNode) -> Result<S
         FactQuestion::Kind => word(alloc, kind_name(node.kind())),
         FactQuestion::Tree => number(alloc, node.tree()),
         FactQuestion::Slots => path(alloc, node.slots()),
-        FactQuestion::Path => path(alloc, &told("SyntaxNode::path", node.path(alloc))?),
+        FactQuestion::Path => told_path(alloc, "SyntaxNode::path", node.path(alloc)),
         FactQuestion::Index => number(alloc, node.index() as u64),
         FactQuestion::TextStart => number(alloc, node.text_start()),
         FactQuestion::TextLen => number(alloc, node.text_len()),
-        FactQuestion::Text => quoted(alloc, &told("SyntaxNode::text", node.text(alloc))?),
-        FactQuestion::Display => quoted(
-            alloc,
-            &told("SyntaxNode::to_string", node.to_string(alloc))?,
-        ),
+        FactQuestion::Text => told_text(alloc, "SyntaxNode::text", node.text(alloc)),
+        FactQuestion::Display => told_text(alloc, "SyntaxNode::to_string", node.to_string(alloc)),
         FactQuestion::Debug => told("SyntaxNode as {:?}", format!(in alloc; "Node({node:?})")),
-        FactQuestion::AsGreen => green_facts(alloc, GreenElementRef::Node(node.as_green())),
-        FactQuestion::Green => green_facts(
-            alloc,
-            GreenElementRef::Node(&told("SyntaxNode::green", node.green(alloc))?),
-        ),
+        FactQuestion::AsGreen => node_facts(alloc, node.as_green()),
+        FactQuestion::Green => told_green(alloc, "SyntaxNode::green", node.green(alloc)),
     }
 }
 
@@ -172,20 +165,24 @@ fn of_token(
         FactQuestion::Kind => word(alloc, kind_name(token.kind())),
         FactQuestion::Tree => number(alloc, token.tree()),
         FactQuestion::Slots => path(alloc, token.slots()),
-        FactQuestion::Path => path(alloc, &told("SyntaxToken::path", token.path(alloc))?),
+        FactQuestion::Path => told_path(alloc, "SyntaxToken::path", token.path(alloc)),
         FactQuestion::Index => number(alloc, token.index() as u64),
         FactQuestion::TextStart => number(alloc, token.text_start()),
         FactQuestion::TextLen => number(alloc, token.text_len()),
         FactQuestion::Text => quoted(alloc, token.text()),
-        FactQuestion::Display => quoted(
-            alloc,
-            &told("SyntaxToken::to_string", token.to_string(alloc))?,
-        ),
+        FactQuestion::Display => told_text(alloc, "SyntaxToken::to_string", token.to_string(alloc)),
         FactQuestion::Debug => told("SyntaxToken as {:?}", format!(in alloc; "Token({token:?})")),
-        FactQuestion::AsGreen => green_facts(alloc, GreenElementRef::Token(token.as_green())),
-        FactQuestion::Green => green_facts(
-            alloc,
-            GreenElementRef::Token(&told("SyntaxToken::green", token.green(alloc))?),
-        ),
+        FactQuestion::AsGreen => token_facts(alloc, token.as_green()),
+        FactQuestion::Green => shared_token(alloc, token),
     }
+}
+
+fn shared_element(alloc: Global, element: &SyntaxElement) -> Result<String, NoAnswer> {
+    let shared = told("SyntaxElement::green", element.green(alloc))?;
+    green_facts(alloc, shared.as_ref())
+}
+
+fn shared_token(alloc: Global, token: &SyntaxToken) -> Result<String, NoAnswer> {
+    let shared = told("SyntaxToken::green", token.green(alloc))?;
+    token_facts(alloc, &shared)
 }

@@ -2,7 +2,8 @@
 
 use crate::ask_kinds::kind_of;
 use crate::memory::{told, told_tree};
-use crate::shown::{agreed, green_facts, row_refusal, text_of, unquoted};
+use crate::shown::{agreed, green_facts, node_facts, row_refusal, text_of, token_facts, unquoted};
+use crate::told::told_green;
 use cst_core::{GreenElement, GreenElementRef, GreenNode, GreenToken, SyntaxKind};
 use std::alloc::Global;
 use test_trees::{
@@ -48,46 +49,56 @@ pub fn answer(
 ) -> Result<String, NoAnswer> {
     match question {
         GreenQuestion::Token => token(alloc, arguments),
-        GreenQuestion::Node => node(alloc, &unquoted(alloc, arguments)?),
+        GreenQuestion::Node => node(alloc, arguments),
         GreenQuestion::Splice => splice(alloc, arguments),
         GreenQuestion::Get => get(alloc, trees, arguments),
-        GreenQuestion::Text => {
-            let tree = trees.tree(alloc, arguments)?;
-            quoted(alloc, &text_of(alloc, &tree)?)
-        }
-        GreenQuestion::ChildCount => {
-            let tree = trees.tree(alloc, arguments)?;
-            number(alloc, tree.children().len() as u64)
-        }
-        GreenQuestion::Read => {
-            let expression = unquoted(alloc, arguments)?;
-            refusal(alloc, green(alloc, &expression))
-        }
-        GreenQuestion::Row => refusal(alloc, row(alloc, arguments)),
+        GreenQuestion::Text => text(alloc, &trees.tree(alloc, arguments)?),
+        GreenQuestion::ChildCount => child_count(alloc, &trees.tree(alloc, arguments)?),
+        GreenQuestion::Read => read(alloc, &unquoted(alloc, arguments)?),
+        GreenQuestion::Row => tree_or_refusal(alloc, row(alloc, arguments)),
     }
 }
 
-fn refusal(alloc: Global, tree: Result<GreenNode, RowError>) -> Result<String, NoAnswer> {
+fn text(alloc: Global, tree: &GreenNode) -> Result<String, NoAnswer> {
+    quoted(alloc, &text_of(alloc, tree)?)
+}
+
+fn child_count(alloc: Global, tree: &GreenNode) -> Result<String, NoAnswer> {
+    number(alloc, tree.children().len() as u64)
+}
+
+fn read(alloc: Global, expression: &str) -> Result<String, NoAnswer> {
+    tree_or_refusal(alloc, green(alloc, expression))
+}
+
+fn tree_or_refusal(alloc: Global, tree: Result<GreenNode, RowError>) -> Result<String, NoAnswer> {
     match tree {
-        Ok(tree) => green_facts(alloc, GreenElementRef::Node(&tree)),
+        Ok(tree) => node_facts(alloc, &tree),
         Err(error) => row_refusal(alloc, error),
     }
 }
 
-// A token of a kind by its number, and that token shared.
 fn token(alloc: Global, arguments: &str) -> Result<String, NoAnswer> {
     let mut words = Words::of(arguments);
     let kind = kind_of(words.word()?)?;
-    let text = unquoted(alloc, words.take_rest())?;
-    let token = told_tree("GreenToken::new", GreenToken::new(alloc, kind, &text))?;
-    let own = token_facts(alloc, &token)?;
-    let shared = told("GreenToken::share", token.share(alloc))?;
-    agreed(alloc, own, token_facts(alloc, &shared)?)
+    token_of(alloc, kind, &unquoted(alloc, words.take_rest())?)
 }
 
-fn token_facts(alloc: Global, token: &GreenToken) -> Result<String, NoAnswer> {
+// A token of a kind by its number, and that token shared.
+fn token_of(alloc: Global, kind: SyntaxKind, text: &str) -> Result<String, NoAnswer> {
+    let token = told_tree("GreenToken::new", GreenToken::new(alloc, kind, text))?;
+    let own = numbered_facts(alloc, &token)?;
+    agreed(alloc, own, shared_token(alloc, &token)?)
+}
+
+fn shared_token(alloc: Global, token: &GreenToken) -> Result<String, NoAnswer> {
+    let shared = told("GreenToken::share", token.share(alloc))?;
+    numbered_facts(alloc, &shared)
+}
+
+fn numbered_facts(alloc: Global, token: &GreenToken) -> Result<String, NoAnswer> {
     let number = token.kind().0;
-    let facts = green_facts(alloc, GreenElementRef::Token(token))?;
+    let facts = token_facts(alloc, token)?;
     Ok(format!(in alloc; "{number} {facts}")?)
 }
 
@@ -110,19 +121,20 @@ fn name_node(alloc: Global, letters: Vec<GreenElement>) -> Result<GreenNode, NoA
 }
 
 // A node of a token of each letter, made by `new` and by `capped`.
-fn node(alloc: Global, text: &str) -> Result<String, NoAnswer> {
-    let checked = GreenElement::Node(name_node(alloc, letters(alloc, text)?)?);
-    let own = green_facts(alloc, checked.as_ref())?;
-    let letters = letters(alloc, text)?;
-    let capped = told(
-        "GreenNode::capped",
-        GreenNode::capped(alloc, SyntaxKind::NAME, letters),
-    )?;
-    agreed(
-        alloc,
-        own,
-        green_facts(alloc, GreenElementRef::Node(&capped))?,
-    )
+fn node(alloc: Global, arguments: &str) -> Result<String, NoAnswer> {
+    let text = unquoted(alloc, arguments)?;
+    let own = new_node(alloc, letters(alloc, &text)?)?;
+    agreed(alloc, own, capped_node(alloc, letters(alloc, &text)?)?)
+}
+
+fn new_node(alloc: Global, letters: Vec<GreenElement>) -> Result<String, NoAnswer> {
+    let node = GreenElement::Node(name_node(alloc, letters)?);
+    green_facts(alloc, node.as_ref())
+}
+
+fn capped_node(alloc: Global, letters: Vec<GreenElement>) -> Result<String, NoAnswer> {
+    let called = GreenNode::capped(alloc, SyntaxKind::NAME, letters);
+    told_green(alloc, "GreenNode::capped", called)
 }
 
 fn splice(alloc: Global, arguments: &str) -> Result<String, NoAnswer> {
@@ -149,7 +161,7 @@ fn spliced(
         node.splice_children(alloc, start, end, new),
     )?;
     if is_abc(alloc, &node)? {
-        green_facts(alloc, GreenElementRef::Node(&spliced))
+        node_facts(alloc, &spliced)
     } else {
         word(alloc, "the old node changed")
     }
@@ -164,8 +176,12 @@ fn get(alloc: Global, trees: &Trees, arguments: &str) -> Result<String, NoAnswer
     let mut words = Words::of(arguments);
     let tree = trees.tree(alloc, words.word()?)?;
     let slots = slots_of(alloc, words.word()?)?;
-    let own = facts_at(alloc, &tree, &slots)?;
-    agreed(alloc, own, shared_facts_at(alloc, &tree, &slots)?)
+    get_at(alloc, &tree, &slots)
+}
+
+fn get_at(alloc: Global, tree: &GreenNode, slots: &[usize]) -> Result<String, NoAnswer> {
+    let own = facts_at(alloc, tree, slots)?;
+    agreed(alloc, own, shared_facts_at(alloc, tree, slots)?)
 }
 
 fn facts_at(alloc: Global, tree: &GreenNode, slots: &[usize]) -> Result<String, NoAnswer> {
@@ -178,15 +194,17 @@ fn facts_at(alloc: Global, tree: &GreenNode, slots: &[usize]) -> Result<String, 
 fn shared_facts_at(alloc: Global, tree: &GreenNode, slots: &[usize]) -> Result<String, NoAnswer> {
     let tree = told("GreenNode::share", tree.share(alloc))?;
     match tree.get(slots) {
-        Some(element) => {
-            let shared = told("GreenElementRef::share", element.share(alloc))?;
-            shared_facts(alloc, &shared)
-        }
+        Some(element) => shared_once(alloc, element),
         None => word(alloc, "none"),
     }
 }
 
-fn shared_facts(alloc: Global, element: &GreenElement) -> Result<String, NoAnswer> {
+fn shared_once(alloc: Global, element: GreenElementRef<'_>) -> Result<String, NoAnswer> {
+    let shared = told("GreenElementRef::share", element.share(alloc))?;
+    shared_twice(alloc, &shared)
+}
+
+fn shared_twice(alloc: Global, element: &GreenElement) -> Result<String, NoAnswer> {
     let shared = told("GreenElement::share", element.share(alloc))?;
     green_facts(alloc, shared.as_ref())
 }

@@ -1,7 +1,7 @@
 //! The nearest nodes below a node and beside it.
 
-use crate::memory::{Standing, told};
-use crate::shown::node_place;
+use crate::memory::Standing;
+use crate::told::told_node_place;
 use cst_core::{SyntaxElement, SyntaxNode};
 use std::alloc::Global;
 use test_trees::{NoAnswer, Trees, find_named};
@@ -46,22 +46,45 @@ fn of_element(
     element: &SyntaxElement,
 ) -> Result<String, NoAnswer> {
     match element {
-        SyntaxElement::Node(node) => {
-            node_place(alloc, node.tree(), found(alloc, question, node)?)
-        }
+        SyntaxElement::Node(node) => of_node(alloc, question, node),
         SyntaxElement::Token(_) => Err(NoAnswer::Form),
     }
 }
 
-fn found(
-    alloc: Global,
-    question: KinQuestion,
-    node: &SyntaxNode,
-) -> Result<Option<SyntaxNode>, NoAnswer> {
+fn of_node(alloc: Global, question: KinQuestion, node: &SyntaxNode) -> Result<String, NoAnswer> {
+    let tree = node.tree();
     match question {
-        KinQuestion::FirstChild => told("SyntaxNode::first_child", node.first_child(alloc)),
-        KinQuestion::LastChild => told("SyntaxNode::last_child", node.last_child(alloc)),
-        KinQuestion::NextSibling => told("SyntaxNode::next_sibling", node.next_sibling(alloc)),
-        KinQuestion::PrevSibling => told("SyntaxNode::prev_sibling", node.prev_sibling(alloc)),
+        KinQuestion::FirstChild => {
+            told_node_place(
+                alloc,
+                tree,
+                "SyntaxNode::first_child",
+                node.first_child(alloc),
+            )
+        }
+        KinQuestion::LastChild => {
+            told_node_place(
+                alloc,
+                tree,
+                "SyntaxNode::last_child",
+                node.last_child(alloc),
+            )
+        }
+        KinQuestion::NextSibling => {
+            told_node_place(
+                alloc,
+                tree,
+                "SyntaxNode::next_sibling",
+                node.next_sibling(alloc),
+            )
+        }
+        KinQuestion::PrevSibling => {
+            told_node_place(
+                alloc,
+                tree,
+                "SyntaxNode::prev_sibling",
+                node.prev_sibling(alloc),
+            )
+        }
     }
 }

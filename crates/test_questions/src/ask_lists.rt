@@ -1,8 +1,9 @@
 //! Whole lists: the nodes above an element, its siblings in one direction, and the elements below a node.
 
-use crate::memory::{Standing, told};
-use crate::shown::{agreed, node_places, places};
-use cst_core::{Direction, SyntaxElement, SyntaxNode, SyntaxToken};
+use crate::memory::Standing;
+use crate::shown::agreed;
+use crate::told::{told_node_places, told_places};
+use cst_core::{Direction, SyntaxElement};
 use std::alloc::Global;
 use test_trees::{NoAnswer, Trees, find_named};
 
@@ -48,24 +49,24 @@ pub fn answer(
 
 // Of the element, and of the node or token that it is.
 fn ancestors(alloc: Global, element: &SyntaxElement) -> Result<String, NoAnswer> {
-    let above = told("SyntaxElement::ancestors", element.ancestors(alloc))?;
-    let own = node_places(alloc, element.tree(), &above)?;
-    let by_form = match element {
-        SyntaxElement::Node(node) => ancestors_of_node(alloc, node)?,
-        SyntaxElement::Token(token) => ancestors_of_token(alloc, token)?,
-    };
-    agreed(alloc, own, by_form)
+    let called = element.ancestors(alloc);
+    let own = told_node_places(alloc, element.tree(), "SyntaxElement::ancestors", called)?;
+    agreed(alloc, own, ancestors_by_form(alloc, element)?)
 }
 
-fn ancestors_of_node(alloc: Global, node: &SyntaxNode) -> Result<String, NoAnswer> {
-    let above = told("SyntaxNode::ancestors", node.ancestors(alloc))?;
-    node_places(alloc, node.tree(), &above)
-}
-
-fn ancestors_of_token(alloc: Global, token: &SyntaxToken) -> Result<String, NoAnswer> {
-    let called = token.parent_ancestors(alloc);
-    let above = told("SyntaxToken::parent_ancestors", called)?;
-    node_places(alloc, token.tree(), &above)
+fn ancestors_by_form(alloc: Global, element: &SyntaxElement) -> Result<String, NoAnswer> {
+    let tree = element.tree();
+    match element {
+        SyntaxElement::Node(node) => {
+            told_node_places(alloc, tree, "SyntaxNode::ancestors", node.ancestors(alloc))
+        }
+        SyntaxElement::Token(token) => told_node_places(
+            alloc,
+            tree,
+            "SyntaxToken::parent_ancestors",
+            token.parent_ancestors(alloc),
+        ),
+    }
 }
 
 // The same of siblings.
@@ -75,40 +76,45 @@ fn siblings(
     element: &SyntaxElement,
 ) -> Result<String, NoAnswer> {
     let called = element.siblings_with_tokens(alloc, direction);
-    let all = told("SyntaxElement::siblings_with_tokens", called)?;
-    let own = places(alloc, element.tree(), &all)?;
-    let by_form = match element {
-        SyntaxElement::Node(node) => siblings_of_node(alloc, direction, node)?,
-        SyntaxElement::Token(token) => siblings_of_token(alloc, direction, token)?,
-    };
-    agreed(alloc, own, by_form)
+    let own = told_places(
+        alloc,
+        element.tree(),
+        "SyntaxElement::siblings_with_tokens",
+        called,
+    )?;
+    agreed(alloc, own, siblings_by_form(alloc, direction, element)?)
 }
 
-fn siblings_of_node(
+fn siblings_by_form(
     alloc: Global,
     direction: Direction,
-    node: &SyntaxNode,
+    element: &SyntaxElement,
 ) -> Result<String, NoAnswer> {
-    let called = node.siblings_with_tokens(alloc, direction);
-    let all = told("SyntaxNode::siblings_with_tokens", called)?;
-    places(alloc, node.tree(), &all)
-}
-
-fn siblings_of_token(
-    alloc: Global,
-    direction: Direction,
-    token: &SyntaxToken,
-) -> Result<String, NoAnswer> {
-    let called = token.siblings_with_tokens(alloc, direction);
-    let all = told("SyntaxToken::siblings_with_tokens", called)?;
-    places(alloc, token.tree(), &all)
+    let tree = element.tree();
+    match element {
+        SyntaxElement::Node(node) => told_places(
+            alloc,
+            tree,
+            "SyntaxNode::siblings_with_tokens",
+            node.siblings_with_tokens(alloc, direction),
+        ),
+        SyntaxElement::Token(token) => told_places(
+            alloc,
+            tree,
+            "SyntaxToken::siblings_with_tokens",
+            token.siblings_with_tokens(alloc, direction),
+        ),
+    }
 }
 
 fn descendants(alloc: Global, element: &SyntaxElement) -> Result<String, NoAnswer> {
     let SyntaxElement::Node(node) = element else {
         return Err(NoAnswer::Form);
     };
-    let called = node.descendants_with_tokens(alloc);
-    let all = told("SyntaxNode::descendants_with_tokens", called)?;
-    places(alloc, node.tree(), &all)
+    told_places(
+        alloc,
+        node.tree(),
+        "SyntaxNode::descendants_with_tokens",
+        node.descendants_with_tokens(alloc),
+    )
 }

@@ -1,10 +1,11 @@
 //! What is in a node and below it, and its copy.
 
 use crate::memory::{Standing, drawn, told};
-use crate::shown::{extent, kind_name, node_places, path, place, places, token_place};
+use crate::shown::{kind_name, push_extent};
+use crate::told::{told_node_places, told_place, told_places, told_token_place};
 use cst_core::{SyntaxElement, SyntaxNode, TreeIds};
-use std::alloc::Global;
-use test_trees::{NoAnswer, Trees, find_named};
+use std::alloc::{AllocError, Global};
+use test_trees::{NoAnswer, Trees, find_named, number, push_path};
 
 #[derive(Clone, Copy)]
 pub enum NodeQuestion {
@@ -62,64 +63,53 @@ fn of_element(
 fn of_node(alloc: Global, question: NodeQuestion, node: &SyntaxNode) -> Result<String, NoAnswer> {
     let tree = node.tree();
     match question {
-        NodeQuestion::ChildrenWithTokens => places(
+        NodeQuestion::ChildrenWithTokens => told_places(
             alloc,
             tree,
-            &told(
-                "SyntaxNode::children_with_tokens",
-                node.children_with_tokens(alloc),
-            )?,
+            "SyntaxNode::children_with_tokens",
+            node.children_with_tokens(alloc),
         ),
-        NodeQuestion::Children => node_places(
+        NodeQuestion::Children => {
+            told_node_places(alloc, tree, "SyntaxNode::children", node.children(alloc))
+        }
+        NodeQuestion::FirstChildOrToken => told_place(
             alloc,
             tree,
-            &told("SyntaxNode::children", node.children(alloc))?,
+            "SyntaxNode::first_child_or_token",
+            node.first_child_or_token(alloc),
         ),
-        NodeQuestion::FirstChildOrToken => place(
+        NodeQuestion::LastChildOrToken => told_place(
             alloc,
             tree,
-            told(
-                "SyntaxNode::first_child_or_token",
-                node.first_child_or_token(alloc),
-            )?,
+            "SyntaxNode::last_child_or_token",
+            node.last_child_or_token(alloc),
         ),
-        NodeQuestion::LastChildOrToken => place(
-            alloc,
-            tree,
-            told(
-                "SyntaxNode::last_child_or_token",
-                node.last_child_or_token(alloc),
-            )?,
-        ),
-        NodeQuestion::FirstToken => first_token(alloc, node),
-        NodeQuestion::LastToken => last_token(alloc, node),
-        NodeQuestion::Descendants => descendants(alloc, node),
+        NodeQuestion::FirstToken => {
+            told_token_place(
+                alloc,
+                tree,
+                "SyntaxNode::first_token",
+                node.first_token(alloc),
+            )
+        }
+        NodeQuestion::LastToken => {
+            told_token_place(
+                alloc,
+                tree,
+                "SyntaxNode::last_token",
+                node.last_token(alloc),
+            )
+        }
+        NodeQuestion::Descendants => {
+            told_node_places(
+                alloc,
+                tree,
+                "SyntaxNode::descendants",
+                node.descendants(alloc),
+            )
+        }
         NodeQuestion::CloneSubtree => clone_subtree(alloc, node),
     }
-}
-
-fn first_token(alloc: Global, node: &SyntaxNode) -> Result<String, NoAnswer> {
-    token_place(
-        alloc,
-        node.tree(),
-        told("SyntaxNode::first_token", node.first_token(alloc))?,
-    )
-}
-
-fn last_token(alloc: Global, node: &SyntaxNode) -> Result<String, NoAnswer> {
-    token_place(
-        alloc,
-        node.tree(),
-        told("SyntaxNode::last_token", node.last_token(alloc))?,
-    )
-}
-
-fn descendants(alloc: Global, node: &SyntaxNode) -> Result<String, NoAnswer> {
-    node_places(
-        alloc,
-        node.tree(),
-        &told("SyntaxNode::descendants", node.descendants(alloc))?,
-    )
 }
 
 // The copy's number is drawn from a source that begins at 40.
@@ -132,20 +122,21 @@ fn clone_subtree(alloc: Global, node: &SyntaxNode) -> Result<String, NoAnswer> {
 
 // Number, path, kind, slot, start, length and text.
 fn root_facts(alloc: Global, root: &SyntaxNode) -> Result<String, NoAnswer> {
-    let number = root.tree();
-    let path = path(alloc, root.slots())?;
-    let facts = facts(alloc, root)?;
-    Ok(format!(in alloc; "{number} {path} {facts}")?)
+    let mut facts = number(alloc, root.tree())?;
+    push_place(&mut facts, root)?;
+    push_extent(&mut facts, root.text_len(), &text_of_root(alloc, root)?)?;
+    Ok(facts)
 }
 
-fn facts(alloc: Global, root: &SyntaxNode) -> Result<String, NoAnswer> {
+fn push_place(facts: &mut String, root: &SyntaxNode) -> Result<(), AllocError> {
+    facts.push(' ')?;
+    push_path(facts, root.slots())?;
     let kind = kind_name(root.kind());
     let slot = root.index();
     let start = root.text_start();
-    let extent = extent(
-        alloc,
-        root.text_len(),
-        &told("SyntaxNode::text", root.text(alloc))?,
-    )?;
-    Ok(format!(in alloc; "{kind} in slot {slot}, from {start}, {extent}")?)
+    write!(facts, " {kind} in slot {slot}, from {start}, ")
+}
+
+fn text_of_root(alloc: Global, root: &SyntaxNode) -> Result<String, NoAnswer> {
+    told("SyntaxNode::text", root.text(alloc))
 }

@@ -1,10 +1,11 @@
 //! What stands at an offset of a tree's text, and what covers a range of it.
 
 use crate::memory::told;
-use crate::shown::{place, places};
-use cst_core::{SyntaxElement, TokenAtOffset};
+use crate::shown::{place_of_token, push_item};
+use crate::told::told_place;
+use cst_core::{SyntaxNode, SyntaxToken, TokenAtOffset};
 use std::alloc::Global;
-use test_trees::{NoAnswer, Trees, Words, find_named};
+use test_trees::{NoAnswer, Trees, Words, find_named, word};
 
 #[derive(Clone, Copy)]
 pub enum OffsetQuestion {
@@ -36,32 +37,54 @@ pub fn answer(
     }
 }
 
-// Two tokens have a comma between them.
 fn token_at_offset(alloc: Global, trees: &Trees, arguments: &str) -> Result<String, NoAnswer> {
     let mut words = Words::of(arguments);
     let node = trees.node(alloc, words.word()?)?;
-    let offset = words.number()?;
+    tokens_at(alloc, &node, words.number()?)
+}
+
+fn tokens_at(alloc: Global, node: &SyntaxNode, offset: u64) -> Result<String, NoAnswer> {
     let called = node.token_at_offset(alloc, offset);
-    let mut found = Vec::new(alloc);
-    match told("SyntaxNode::token_at_offset", called)? {
-        TokenAtOffset::None => {}
-        TokenAtOffset::Single(token) => found.push(SyntaxElement::Token(token))?,
-        TokenAtOffset::Between(left, right) => {
-            found.push(SyntaxElement::Token(left))?;
-            found.push(SyntaxElement::Token(right))?;
-        }
+    token_places(
+        alloc,
+        node.tree(),
+        &told("SyntaxNode::token_at_offset", called)?,
+    )
+}
+
+fn token_places(alloc: Global, tree: u64, found: &TokenAtOffset) -> Result<String, NoAnswer> {
+    match found {
+        TokenAtOffset::None => word(alloc, "none"),
+        TokenAtOffset::Single(token) => place_of_token(alloc, tree, token),
+        TokenAtOffset::Between(left, right) => both_places(alloc, tree, left, right),
     }
-    places(alloc, node.tree(), &found)
+}
+
+// With a comma between them.
+fn both_places(
+    alloc: Global,
+    tree: u64,
+    left: &SyntaxToken,
+    right: &SyntaxToken,
+) -> Result<String, NoAnswer> {
+    let mut both = place_of_token(alloc, tree, left)?;
+    push_item(&mut both, &place_of_token(alloc, tree, right)?)?;
+    Ok(both)
 }
 
 fn covering_element(alloc: Global, trees: &Trees, arguments: &str) -> Result<String, NoAnswer> {
     let mut words = Words::of(arguments);
     let node = trees.node(alloc, words.word()?)?;
+    covering(alloc, &node, &mut words)
+}
+
+fn covering(alloc: Global, node: &SyntaxNode, words: &mut Words) -> Result<String, NoAnswer> {
     let start = words.number()?;
     let end = words.number()?;
-    let found = told(
+    told_place(
+        alloc,
+        node.tree(),
         "SyntaxNode::covering_element",
         node.covering_element(alloc, start, end),
-    )?;
-    place(alloc, node.tree(), found)
+    )
 }

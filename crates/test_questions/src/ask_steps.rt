@@ -1,8 +1,7 @@
 //! Where a path leads on from a node, and the tokens before and after a token.
 
-use crate::memory::told;
-use crate::shown::{place, token_place};
-use cst_core::SyntaxToken;
+use crate::told::{told_place, told_token_place};
+use cst_core::{SyntaxNode, SyntaxToken};
 use std::alloc::Global;
 use test_trees::{NoAnswer, Trees, Words, find_named, slots_of};
 
@@ -42,39 +41,37 @@ pub fn answer(
     }
 }
 
-// The path is counted from the node.
 fn element_at(alloc: Global, trees: &Trees, arguments: &str) -> Result<String, NoAnswer> {
     let mut words = Words::of(arguments);
     let node = trees.node(alloc, words.word()?)?;
-    let slots = slots_of(alloc, words.word()?)?;
-    let found = told("SyntaxNode::element_at", node.element_at(alloc, &slots))?;
-    place(alloc, node.tree(), found)
+    below_node(alloc, &node, words.word()?)
 }
 
-// The path is counted from the root of the node's tree.
+// The path is counted from the node.
+fn below_node(alloc: Global, node: &SyntaxNode, path: &str) -> Result<String, NoAnswer> {
+    let slots = slots_of(alloc, path)?;
+    let called = node.element_at(alloc, &slots);
+    told_place(alloc, node.tree(), "SyntaxNode::element_at", called)
+}
+
 fn element_of_tree(alloc: Global, trees: &Trees, arguments: &str) -> Result<String, NoAnswer> {
     let mut words = Words::of(arguments);
     let node = trees.node(alloc, words.word()?)?;
-    let slots = slots_of(alloc, words.word()?)?;
-    let found = told(
-        "SyntaxNode::element_of_tree",
-        node.element_of_tree(alloc, slots),
-    )?;
-    place(alloc, node.tree(), found)
+    below_root(alloc, &node, words.word()?)
+}
+
+// The path is counted from the root of the node's tree.
+fn below_root(alloc: Global, node: &SyntaxNode, path: &str) -> Result<String, NoAnswer> {
+    let called = node.element_of_tree(alloc, slots_of(alloc, path)?);
+    told_place(alloc, node.tree(), "SyntaxNode::element_of_tree", called)
 }
 
 fn prev_token(alloc: Global, token: &SyntaxToken) -> Result<String, NoAnswer> {
-    token_place(
-        alloc,
-        token.tree(),
-        told("SyntaxToken::prev_token", token.prev_token(alloc))?,
-    )
+    let called = token.prev_token(alloc);
+    told_token_place(alloc, token.tree(), "SyntaxToken::prev_token", called)
 }
 
 fn next_token(alloc: Global, token: &SyntaxToken) -> Result<String, NoAnswer> {
-    token_place(
-        alloc,
-        token.tree(),
-        told("SyntaxToken::next_token", token.next_token(alloc))?,
-    )
+    let called = token.next_token(alloc);
+    told_token_place(alloc, token.tree(), "SyntaxToken::next_token", called)
 }

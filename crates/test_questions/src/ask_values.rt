@@ -85,11 +85,19 @@ fn equality_to(
 }
 
 fn form(alloc: Global, trees: &Trees, place: &str) -> Result<String, NoAnswer> {
-    let element = trees.element(alloc, place)?;
-    let is_node = is_node(alloc, &element)?;
-    let is_token = is_token(alloc, &element)?;
-    let own = word(alloc, form_name(is_node, is_token))?;
-    agreed(alloc, own, word(alloc, lent_form(&element))?)
+    form_of(alloc, &trees.element(alloc, place)?)
+}
+
+fn form_of(alloc: Global, element: &SyntaxElement) -> Result<String, NoAnswer> {
+    let own = word(alloc, taken_form(alloc, element)?)?;
+    agreed(alloc, own, word(alloc, lent_form(element))?)
+}
+
+// By the node or token that is taken.
+fn taken_form(alloc: Global, element: &SyntaxElement) -> Result<&'static str, NoAnswer> {
+    let is_node = is_node(alloc, element)?;
+    let is_token = is_token(alloc, element)?;
+    Ok(form_name(is_node, is_token))
 }
 
 // By the node or token that is lent.

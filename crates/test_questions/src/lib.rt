@@ -19,6 +19,7 @@ mod ask_values;
 mod ask_views;
 mod memory;
 mod shown;
+mod told;
 
 use crate::ask_around::AroundQuestion;
 use crate::ask_errors::ErrorQuestion;

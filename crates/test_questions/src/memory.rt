@@ -18,7 +18,7 @@ pub fn told_tree<T>(call: &'static str, called: Result<T, TreeError>) -> Result<
     match called {
         Ok(given) => Ok(given),
         Err(TreeError::Memory) => Err(NoAnswer::Refused(call)),
-        Err(error) => Err(NoAnswer::Tree(error)),
+        Err(error) => Err(NoAnswer::from(error)),
     }
 }
 
@@ -31,7 +31,7 @@ pub fn drawn(
     match called {
         Ok(given) => Ok(given),
         Err(TreeError::Memory) => Err(refused(call, is_kept)),
-        Err(error) => Err(NoAnswer::Tree(error)),
+        Err(error) => Err(NoAnswer::from(error)),
     }
 }
 

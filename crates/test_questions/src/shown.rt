@@ -10,8 +10,7 @@ use test_trees::{NoAnswer, RowError, number, push_path, push_quoted, word};
 
 /// What an argument between quotes stands for: `\n`, `\r`, `\t`, `\"` and `\\` are escapes.
 pub fn unquoted(alloc: Global, quoted: &str) -> Result<String, NoAnswer> {
-    let inner = quoted.strip_prefix('"').ok_or(NoAnswer::Arguments)?;
-    let inner = inner.strip_suffix('"').ok_or(NoAnswer::Arguments)?;
+    let inner = inside_quotes(quoted).ok_or(NoAnswer::Arguments)?;
     let mut text = String::new(alloc);
     let mut is_escaped = false;
     for c in inner.chars() {
@@ -25,6 +24,10 @@ pub fn unquoted(alloc: Global, quoted: &str) -> Result<String, NoAnswer> {
         }
     }
     Ok(text)
+}
+
+fn inside_quotes(quoted: &str) -> Option<&str> {
+    quoted.strip_prefix('"')?.strip_suffix('"')
 }
 
 fn escaped(c: char) -> Result<char, NoAnswer> {
@@ -49,50 +52,24 @@ pub fn path(alloc: Global, slots: &[usize]) -> Result<String, NoAnswer> {
     Ok(text)
 }
 
-/// Path and kind of an element of the tree with this number; `none` of none.
-pub fn place(alloc: Global, tree: u64, element: Option<SyntaxElement>) -> Result<String, NoAnswer> {
-    match element {
-        Some(SyntaxElement::Node(node)) => place_of_node(alloc, tree, &node),
-        Some(SyntaxElement::Token(token)) => place_of_token(alloc, tree, &token),
-        None => word(alloc, "none"),
-    }
-}
-
-/// The same of a node.
-pub fn node_place(alloc: Global, tree: u64, node: Option<SyntaxNode>) -> Result<String, NoAnswer> {
-    match node {
-        Some(node) => place_of_node(alloc, tree, &node),
-        None => word(alloc, "none"),
-    }
-}
-
-/// The same of a token.
-pub fn token_place(
-    alloc: Global,
-    tree: u64,
-    token: Option<SyntaxToken>,
-) -> Result<String, NoAnswer> {
-    match token {
-        Some(token) => place_of_token(alloc, tree, &token),
-        None => word(alloc, "none"),
-    }
-}
-
-fn place_of(alloc: Global, tree: u64, element: &SyntaxElement) -> Result<String, NoAnswer> {
+/// Path and kind of an element of the tree with this number.
+pub fn place_of(alloc: Global, tree: u64, element: &SyntaxElement) -> Result<String, NoAnswer> {
     match element {
         SyntaxElement::Node(node) => place_of_node(alloc, tree, node),
         SyntaxElement::Token(token) => place_of_token(alloc, tree, token),
     }
 }
 
-fn place_of_node(alloc: Global, tree: u64, node: &SyntaxNode) -> Result<String, NoAnswer> {
+/// The same of a node.
+pub fn place_of_node(alloc: Global, tree: u64, node: &SyntaxNode) -> Result<String, NoAnswer> {
     if node.tree() != tree {
         return Err(NoAnswer::OtherTree);
     }
     path_and_kind(alloc, node.slots(), node.kind())
 }
 
-fn place_of_token(alloc: Global, tree: u64, token: &SyntaxToken) -> Result<String, NoAnswer> {
+/// The same of a token.
+pub fn place_of_token(alloc: Global, tree: u64, token: &SyntaxToken) -> Result<String, NoAnswer> {
     if token.tree() != tree {
         return Err(NoAnswer::OtherTree);
     }
@@ -100,9 +77,10 @@ fn place_of_token(alloc: Global, tree: u64, token: &SyntaxToken) -> Result<Strin
 }
 
 fn path_and_kind(alloc: Global, slots: &[usize], kind: SyntaxKind) -> Result<String, NoAnswer> {
-    let path = path(alloc, slots)?;
-    let kind = kind_name(kind);
-    Ok(format!(in alloc; "{path} {kind}")?)
+    let mut shown = path(alloc, slots)?;
+    shown.push(' ')?;
+    shown.push_str(kind_name(kind))?;
+    Ok(shown)
 }
 
 /// Paths and kinds of elements of the tree with this number, with commas between; `none` of none.
@@ -129,7 +107,8 @@ pub fn node_places(alloc: Global, tree: u64, nodes: &[SyntaxNode]) -> Result<Str
     Ok(all)
 }
 
-fn push_item(all: &mut String, item: &str) -> Result<(), AllocError> {
+/// One more item of a list, after a comma.
+pub fn push_item(all: &mut String, item: &str) -> Result<(), AllocError> {
     if !all.is_empty() {
         all.push_str(", ")?;
     }
@@ -171,24 +150,27 @@ pub fn green_facts(alloc: Global, element: GreenElementRef<'_>) -> Result<String
     }
 }
 
-fn node_facts(alloc: Global, node: &GreenNode) -> Result<String, NoAnswer> {
+/// The same of a node.
+pub fn node_facts(alloc: Global, node: &GreenNode) -> Result<String, NoAnswer> {
     let kind = kind_name(node.kind());
     let count = node.children().len();
-    let extent = extent(alloc, node.length(), &text_of(alloc, node)?)?;
-    Ok(format!(in alloc; "{kind} of {count}, {extent}")?)
+    let mut facts = format!(in alloc; "{kind} of {count}, ")?;
+    push_extent(&mut facts, node.length(), &text_of(alloc, node)?)?;
+    Ok(facts)
 }
 
-fn token_facts(alloc: Global, token: &GreenToken) -> Result<String, NoAnswer> {
+/// The same of a token.
+pub fn token_facts(alloc: Global, token: &GreenToken) -> Result<String, NoAnswer> {
     let kind = kind_name(token.kind());
-    let extent = extent(alloc, token.length(), token.text())?;
-    Ok(format!(in alloc; "{kind}, {extent}")?)
+    let mut facts = format!(in alloc; "{kind}, ")?;
+    push_extent(&mut facts, token.length(), token.text())?;
+    Ok(facts)
 }
 
 /// A length in bytes and a text.
-pub fn extent(alloc: Global, length: u64, text: &str) -> Result<String, NoAnswer> {
-    let mut extent = format!(in alloc; "{length} bytes ")?;
-    push_quoted(&mut extent, text)?;
-    Ok(extent)
+pub fn push_extent(facts: &mut String, length: u64, text: &str) -> Result<(), AllocError> {
+    write!(facts, "{length} bytes ")?;
+    push_quoted(facts, text)
 }
 
 /// The number of a tree that was made, or why there is none. Want of memory must have kept the source of numbers.
@@ -208,9 +190,9 @@ pub fn number_or_error(
 /// Why a row tree cannot be read or made. Want of memory is none of these.
 pub fn row_refusal(alloc: Global, error: RowError) -> Result<String, NoAnswer> {
     if error.is_memory() {
-        return Err(NoAnswer::Row(error));
+        return Err(NoAnswer::from(error));
     }
-    Ok(error.to_string(alloc)?)
+    word(alloc, error.name())
 }
 
 /// A number; `none` of none.

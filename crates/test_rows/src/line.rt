@@ -1,6 +1,16 @@
 use test_trees::first_word;
 
+/// What a row asks.
+#[derive(Clone, Copy)]
+pub enum Row<'a> {
+    /// `? QUESTION`: a question about a value that stands by itself.
+    Question(&'a str),
+    /// `WORDS: STEP ; STEP ; ..`: what is asked, in words, and the steps.
+    Steps(&'a str),
+}
+
 /// A line of the table.
+#[derive(Clone, Copy)]
 pub enum Line<'a> {
     /// Nothing, or a comment.
     Blank,
@@ -8,10 +18,8 @@ pub enum Line<'a> {
     Refused,
     /// `tree NAME TREE`: a tree that the questions after it name.
     Tree { name: &'a str, text: &'a str },
-    /// `? QUESTION = ANSWER`: a question about a value that stands by itself, and its expected answer.
-    Question { question: &'a str, wanted: &'a str },
-    /// `WORDS: STEP ; STEP ; .. = ANSWER`: what is asked, in words; the steps, and the expected answers of those that are asked about.
-    Steps { steps: &'a str, wanted: &'a str },
+    /// `ROW = ANSWER`: a row and its expected answer, or those of its steps that are asked about.
+    Row { row: Row<'a>, wanted: &'a str },
     Malformed,
 }
 
@@ -36,7 +44,10 @@ impl<'a> Line<'a> {
 
     fn read_question(row: &'a str) -> Line<'a> {
         match row.split_once(" = ") {
-            Some((question, wanted)) => Line::Question { question, wanted },
+            Some((question, wanted)) => Line::Row {
+                row: Row::Question(question),
+                wanted,
+            },
             None => Line::Malformed,
         }
     }
@@ -46,7 +57,10 @@ impl<'a> Line<'a> {
             return Line::Malformed;
         };
         match row.split_once(" = ") {
-            Some((steps, wanted)) => Line::Steps { steps, wanted },
+            Some((steps, wanted)) => Line::Row {
+                row: Row::Steps(steps),
+                wanted,
+            },
             None => Line::Malformed,
         }
     }

@@ -10,9 +10,9 @@ mod report;
 mod row;
 mod table;
 
-use crate::line::Line;
+use crate::line::{Line, Row};
 use crate::report::{REFUSED, Report};
-use crate::row::{ask_question, take_steps};
+use crate::row::take_row;
 use crate::table::Table;
 use std::alloc::Global;
 use std::io;
@@ -20,6 +20,21 @@ use std::io::ErrorKind;
 use std::process::ExitCode;
 use test_steps::Session;
 use test_trees::NoAnswer;
+
+// Takes a row in a session of its own.
+fn answer_row<R: Print>(
+    rt: &R,
+    alloc: Global,
+    table: &mut Table,
+    report: &mut Report,
+    line: &str,
+    row: Row,
+    wanted: &str,
+) -> io::Result<()> {
+    let mut session = Session::new(alloc);
+    let taken = take_row(alloc, table, &mut session, row);
+    note_row(rt, report, line, taken, &session, wanted)
+}
 
 // What came of a row: the answers in the session, or why there are none.
 fn note_row<R: Print>(
@@ -44,7 +59,6 @@ fn take_line<R: Print>(
     report: &mut Report,
     line: &str,
 ) -> io::Result<()> {
-    let mut session = Session::new(alloc);
     match Line::read(line) {
         Line::Blank => Ok(()),
         Line::Refused => {
@@ -55,14 +69,7 @@ fn take_line<R: Print>(
             Ok(()) => Ok(()),
             Err(reason) => report.note_end(rt, line, reason),
         },
-        Line::Question { question, wanted } => {
-            let taken = ask_question(alloc, table, &mut session, question);
-            note_row(rt, report, line, taken, &session, wanted)
-        }
-        Line::Steps { steps, wanted } => {
-            let taken = take_steps(alloc, table, &mut session, steps);
-            note_row(rt, report, line, taken, &session, wanted)
-        }
+        Line::Row { row, wanted } => answer_row(rt, alloc, table, report, line, row, wanted),
         Line::Malformed => report.note_wrong(rt, line, "the line is malformed"),
     }
 }

@@ -1,5 +1,6 @@
 //! What is asked in a row: a question, or steps in their order.
 
+use crate::line::Row;
 use crate::table::Table;
 use std::alloc::Global;
 use test_steps::{Session, Standing};
@@ -12,8 +13,20 @@ enum Call<'a> {
     Step(&'a str),
 }
 
-/// Asks a question. Its answer stands in the session then.
-pub fn ask_question(
+/// Takes a row. What it answers stands in the session then.
+pub fn take_row(
+    alloc: Global,
+    table: &mut Table,
+    session: &mut Session,
+    row: Row,
+) -> Result<(), NoAnswer> {
+    match row {
+        Row::Question(question) => ask_question(alloc, table, session, question),
+        Row::Steps(steps) => take_steps(alloc, table, session, steps),
+    }
+}
+
+fn ask_question(
     alloc: Global,
     table: &Table,
     session: &mut Session,
@@ -23,8 +36,8 @@ pub fn ask_question(
     Ok(session.push_answer(&answer)?)
 }
 
-/// Takes the steps in their order. The last one and each after `?` is asked about; what these answer stands in the session then.
-pub fn take_steps(
+// The steps in their order. The last one and each after `?` is asked about.
+fn take_steps(
     alloc: Global,
     table: &mut Table,
     session: &mut Session,

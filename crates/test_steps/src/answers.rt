@@ -70,9 +70,14 @@ pub fn counted_or_none(alloc: Global, number: Option<u64>) -> Result<String, NoA
 /// The answer of a call that gives a node: its text, or the length of a long one, and the number of its tree.
 pub fn given(alloc: Global, node: &SyntaxNode) -> Result<String, NoAnswer> {
     let mut answer = String::from_str(alloc, "ok ")?;
-    push_short_text(alloc, &mut answer, node)?;
-    write!(answer, " of {}", node.tree())?;
+    push_root(alloc, &mut answer, node)?;
     Ok(answer)
+}
+
+fn push_root(alloc: Global, out: &mut String, node: &SyntaxNode) -> Result<(), AllocError> {
+    push_short_text(alloc, out, node)?;
+    let number = node.tree();
+    write!(out, " of {number}")
 }
 
 fn push_short_text(alloc: Global, out: &mut String, node: &SyntaxNode) -> Result<(), AllocError> {

@@ -5,9 +5,9 @@ use crate::edits::keep_edit;
 use crate::session::{Session, last};
 use crate::shifts::factory;
 use cst_core::ast::BlockExpr;
-use cst_core::{AstNode, SyntaxNode};
+use cst_core::{AstNode, SyntaxNode, TreeError};
 use std::alloc::Global;
-use syntax_editor::SyntaxEditor;
+use syntax_editor::{MergeError, SyntaxEditor};
 use test_trees::{NoAnswer, Words};
 
 /// What the step of this name answers, if it is one of these.
@@ -54,7 +54,16 @@ fn with_ast_node(
 ) -> Result<String, NoAnswer> {
     let node = session.trees.node(alloc, words.word()?)?;
     let block = BlockExpr::cast(node).ok_or(NoAnswer::Missing("no block"))?;
-    match SyntaxEditor::with_ast_node(alloc, &mut session.ids, &block) {
+    let called = SyntaxEditor::with_ast_node(alloc, &mut session.ids, &block);
+    keep_typed(alloc, session, called)
+}
+
+fn keep_typed(
+    alloc: Global,
+    session: &mut Session,
+    called: Result<(SyntaxEditor, BlockExpr), TreeError>,
+) -> Result<String, NoAnswer> {
+    match called {
         Ok((editor, root)) => keep(alloc, session, editor, root.syntax()),
         Err(refusal) => refused(alloc, refusal),
     }
@@ -73,11 +82,18 @@ fn merge(alloc: Global, session: &mut Session) -> Result<String, NoAnswer> {
     let other = take_last(session)?;
     match last(&mut session.editors)?.merge(alloc, other) {
         Ok(()) => ok(alloc),
-        Err((refusal, other)) => {
-            session.editors.push(other)?;
-            refused(alloc, refusal)
-        }
+        Err((refusal, other)) => not_merged(alloc, session, refusal, other),
     }
+}
+
+fn not_merged(
+    alloc: Global,
+    session: &mut Session,
+    refusal: MergeError,
+    other: SyntaxEditor,
+) -> Result<String, NoAnswer> {
+    session.editors.push(other)?;
+    refused(alloc, refusal)
 }
 
 // The last editor gets another factory.

@@ -4,7 +4,7 @@ use crate::answers::{given, memory, none, paths_of, refused, text_of};
 use crate::making::annotation;
 use crate::session::Session;
 use cst_core::SyntaxNode;
-use std::alloc::Global;
+use std::alloc::{AllocError, Global};
 use std::fmt::Display;
 use syntax_editor::SyntaxEdit;
 use test_trees::{NoAnswer, Words, push_path};
@@ -42,9 +42,8 @@ pub fn keep_edit<E: Display + Drop>(
 ) -> Result<String, NoAnswer> {
     match edit {
         Ok(edit) => {
-            let answer = given(alloc, edit.new_root())?;
             session.edits.push(edit)?;
-            Ok(answer)
+            given(alloc, last(session)?.new_root())
         }
         Err(refusal) => refused(alloc, refusal),
     }
@@ -76,7 +75,14 @@ fn find_element(
     words: &mut Words,
 ) -> Result<String, NoAnswer> {
     let old = session.trees.node(alloc, words.word()?)?;
-    match last(session)?.find_element(alloc, &old) {
+    found(alloc, last(session)?.find_element(alloc, &old))
+}
+
+fn found(
+    alloc: Global,
+    called: Result<Option<SyntaxNode>, AllocError>,
+) -> Result<String, NoAnswer> {
+    match called {
         Ok(Some(node)) => with_path(alloc, &node),
         Ok(None) => none(alloc),
         Err(_) => memory(alloc),

@@ -81,27 +81,31 @@ fn made_by_both(
     engine: &mut OnePassEngine,
 ) -> Result<Made, NoAnswer> {
     let before = engine.builds();
-    let one_pass = engine.run(alloc, plan);
-    if one_pass.is_err() && engine.builds() != before {
-        return Err(NoAnswer::Changed);
+    match engine.run(alloc, plan) {
+        Ok(one) => spliced_as(alloc, plan, &one),
+        Err(_) if engine.builds() != before => Err(NoAnswer::Changed),
+        Err(EngineError::Memory) => Ok(Made::Refused(EngineError::Memory)),
+        Err(EngineError::TooLong) => Ok(spliced_too_long(alloc, plan)),
     }
-    let spliced = SpliceEngine::new(alloc).run(alloc, plan);
-    compared(alloc, one_pass, spliced)
 }
 
-fn compared(
-    alloc: Global,
-    one_pass: Result<Rewritten, EngineError>,
-    spliced: Result<Rewritten, EngineError>,
-) -> Result<Made, NoAnswer> {
-    match (one_pass, spliced) {
-        (Ok(one), Ok(other)) => Ok(Made::of(are_same(alloc, &one, &other)?)),
-        (Err(EngineError::Memory), _) => Ok(Made::Refused(EngineError::Memory)),
-        (_, Err(EngineError::Memory)) => Ok(Made::Refused(EngineError::Memory)),
-        (Err(EngineError::TooLong), Err(EngineError::TooLong)) => {
-            Ok(Made::Refused(EngineError::TooLong))
-        }
-        _ => Ok(Made::Other),
+fn spliced(alloc: Global, plan: &EditPlan) -> Result<Rewritten, EngineError> {
+    SpliceEngine::new(alloc).run(alloc, plan)
+}
+
+fn spliced_as(alloc: Global, plan: &EditPlan, one: &Rewritten) -> Result<Made, NoAnswer> {
+    match spliced(alloc, plan) {
+        Ok(other) => Ok(Made::of(are_same(alloc, one, &other)?)),
+        Err(EngineError::Memory) => Ok(Made::Refused(EngineError::Memory)),
+        Err(EngineError::TooLong) => Ok(Made::Other),
+    }
+}
+
+// Where the other engine's tree is too long.
+fn spliced_too_long(alloc: Global, plan: &EditPlan) -> Made {
+    match spliced(alloc, plan) {
+        Ok(_) => Made::Other,
+        Err(refusal) => Made::Refused(refusal),
     }
 }
 
@@ -116,8 +120,21 @@ fn are_same_trees(alloc: Global, one: &GreenNode, other: &GreenNode) -> Result<b
         return Ok(one.length() == other.length());
     }
     let one = root_of(alloc, one)?;
+    is_same_root(alloc, &one, other)
+}
+
+fn is_same_root(alloc: Global, one: &SyntaxNode, other: &GreenNode) -> Result<bool, NoAnswer> {
     let other = root_of(alloc, other)?;
-    Ok(same_shape(&one, &other) && one.text(alloc)? == other.text(alloc)?)
+    Ok(same_shape(one, &other) && have_same_text(alloc, one, &other)?)
+}
+
+fn have_same_text(alloc: Global, one: &SyntaxNode, other: &SyntaxNode) -> Result<bool, AllocError> {
+    let text = one.text(alloc)?;
+    is_text_of(alloc, &text, other)
+}
+
+fn is_text_of(alloc: Global, text: &str, node: &SyntaxNode) -> Result<bool, AllocError> {
+    Ok(node.text(alloc)?.as_str() == text)
 }
 
 // A root of this tree, in a numbering of its own.

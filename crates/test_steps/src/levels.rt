@@ -55,13 +55,10 @@ fn text_of_tree(alloc: Global, text: &str) -> Result<String, NoAnswer> {
 
 // The token's kind, its text, the number of its tree, and what it stands below.
 fn token_answer(alloc: Global, token: &SyntaxToken) -> Result<String, NoAnswer> {
+    let parent = token.parent(alloc)?.ok_or(NoAnswer::Missing("no parent"))?;
     let mut answer = String::from_str(alloc, "ok ")?;
     push_token(&mut answer, token)?;
-    push_below(
-        alloc,
-        &mut answer,
-        &token.parent(alloc)?.ok_or(NoAnswer::Missing("no parent"))?,
-    )?;
+    push_below(alloc, &mut answer, &parent)?;
     Ok(answer)
 }
 

@@ -5,6 +5,7 @@
 #![tactic(auto)]
 
 mod answers;
+mod arguments;
 mod calls;
 mod editors;
 mod edits;

@@ -193,7 +193,14 @@ fn syntax_element(
     words: &mut Words,
 ) -> Result<String, NoAnswer> {
     let element = session.trees.element(alloc, words.word()?)?;
-    match made_of(alloc, &element) {
+    text_of_made(alloc, made_of(alloc, &element))
+}
+
+fn text_of_made(
+    alloc: Global,
+    called: Result<SyntaxElement, AllocError>,
+) -> Result<String, NoAnswer> {
+    match called {
         Ok(made) => text_answer(alloc, &made),
         Err(_) => memory(alloc),
     }
@@ -206,9 +213,9 @@ fn typed_element(
     words: &mut Words,
 ) -> Result<String, NoAnswer> {
     let node = session.trees.node(alloc, words.word()?)?;
-    match made_of_typed(alloc, node).ok_or(NoAnswer::Missing("no typed node"))? {
-        Ok(made) => text_answer(alloc, &made),
-        Err(_) => memory(alloc),
+    match made_of_typed(alloc, node) {
+        Some(called) => text_of_made(alloc, called),
+        None => Err(NoAnswer::Missing("no typed node")),
     }
 }
 

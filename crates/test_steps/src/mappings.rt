@@ -2,8 +2,8 @@
 
 use crate::answers::{grown, memory, none, ok};
 use crate::session::Session;
-use cst_core::SyntaxElement;
-use std::alloc::Global;
+use cst_core::{SyntaxElement, SyntaxNode};
+use std::alloc::{AllocError, Global};
 use syntax_editor::SyntaxMapping;
 use test_trees::{NoAnswer, Words, push_path, push_quoted};
 
@@ -83,8 +83,24 @@ fn drop_mapping(alloc: Global, session: &mut Session) -> Result<String, NoAnswer
 
 fn place(alloc: Global, session: &mut Session, words: &mut Words) -> Result<String, NoAnswer> {
     let target = session.trees.node(alloc, words.word()?)?;
-    let payload = session.trees.node(alloc, words.word()?)?;
-    match last(session)?.place(alloc, &target, &payload) {
+    place_in(alloc, session, &target, words.word()?)
+}
+
+fn place_in(
+    alloc: Global,
+    session: &mut Session,
+    target: &SyntaxNode,
+    payload: &str,
+) -> Result<String, NoAnswer> {
+    let payload = session.trees.node(alloc, payload)?;
+    placed(alloc, last(session)?.place(alloc, target, &payload))
+}
+
+fn placed(
+    alloc: Global,
+    called: Result<Option<Vec<usize>>, AllocError>,
+) -> Result<String, NoAnswer> {
+    match called {
         Ok(Some(path)) => path_answer(alloc, &path),
         Ok(None) => none(alloc),
         Err(_) => memory(alloc),
@@ -99,7 +115,19 @@ fn path_answer(alloc: Global, path: &[usize]) -> Result<String, NoAnswer> {
 
 fn follow(alloc: Global, session: &mut Session, words: &mut Words) -> Result<String, NoAnswer> {
     let element = session.trees.element(alloc, words.word()?)?;
-    match last(session)?.follow(alloc, &element) {
+    follow_from(alloc, session, &element)
+}
+
+fn follow_from(
+    alloc: Global,
+    session: &mut Session,
+    element: &SyntaxElement,
+) -> Result<String, NoAnswer> {
+    followed(alloc, last(session)?.follow(alloc, element))
+}
+
+fn followed(alloc: Global, called: Result<SyntaxElement, AllocError>) -> Result<String, NoAnswer> {
+    match called {
         Ok(end) => element_answer(alloc, &end),
         Err(_) => memory(alloc),
     }

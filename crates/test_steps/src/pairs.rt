@@ -81,14 +81,31 @@ fn map_children(
 fn map(alloc: Global, session: &mut Session, words: &mut Words) -> Result<String, NoAnswer> {
     let input = words.word()?;
     let output = words.word()?;
-    let copy = session.trees.node(alloc, output)?;
-    let parent = copy.parent(alloc)?.ok_or(NoAnswer::Missing("no parent"))?;
-    let mut builder = SyntaxMappingBuilder::new(alloc, parent);
+    let mut builder = parent_builder(alloc, &session.trees, output)?;
     let answer = pair(alloc, &session.trees, &mut builder, input, output)?;
-    if answer.as_str() != MEMORY {
+    keep_unless_refused(session, builder, &answer)?;
+    Ok(answer)
+}
+
+fn parent_builder(
+    alloc: Global,
+    trees: &Roots,
+    copy: &str,
+) -> Result<SyntaxMappingBuilder, NoAnswer> {
+    let copy = trees.node(alloc, copy)?;
+    let parent = copy.parent(alloc)?.ok_or(NoAnswer::Missing("no parent"))?;
+    Ok(SyntaxMappingBuilder::new(alloc, parent))
+}
+
+fn keep_unless_refused(
+    session: &mut Session,
+    builder: SyntaxMappingBuilder,
+    answer: &str,
+) -> Result<(), NoAnswer> {
+    if answer != MEMORY {
         session.builders.push(builder)?;
     }
-    Ok(answer)
+    Ok(())
 }
 
 fn last_builder(session: &mut Session) -> Result<SyntaxMappingBuilder, NoAnswer> {

@@ -3,9 +3,11 @@ ghost use Rattle.std.specs.Prelude.{◌≡◌, ◌↔◌, ◌<◌, [], length, I
 ghost use Rattle.edit_plan.specs.Fits.{Fits};
 
 use crate::answers::{counted, counted_or_none, ok, refused, truth};
+use crate::arguments::{insertion, insertions, range_replacements, replacements, two_elements};
 use crate::editors::take_last;
 use crate::making::annotation;
-use crate::session::{Session, position};
+use crate::roots::Roots;
+use crate::session::Session;
 use cst_core::SyntaxNode;
 use std::alloc::Global;
 use std::mem::replace;
@@ -55,66 +57,61 @@ fn keep_plan(
 
 // One more change of the plan that is built.
 fn change(alloc: Global, session: &mut Session, words: &mut Words) -> Result<String, NoAnswer> {
-    let change = match words.word()? {
-        "insert" => insert(alloc, session, words)?,
-        "insert_all" => insert_all(alloc, session, words)?,
-        "delete" => delete(alloc, session, words)?,
-        "replace" => replacement(alloc, session, words)?,
-        "replace_with_many" => replace_with_many(alloc, session, words)?,
-        "replace_all" => replace_all(alloc, session, words)?,
-        _ => return Err(NoAnswer::Arguments),
-    };
-    session.changes.push(change)?;
+    session
+        .changes
+        .push(next_change(alloc, &session.trees, words)?)?;
     ok(alloc)
 }
 
-fn insert(alloc: Global, session: &Session, words: &mut Words) -> Result<Change, NoAnswer> {
-    let at = position(alloc, &session.trees, words)?;
-    let new = session.trees.element(alloc, words.word()?)?;
+fn next_change(alloc: Global, trees: &Roots, words: &mut Words) -> Result<Change, NoAnswer> {
+    match words.word()? {
+        "insert" => insert(alloc, trees, words),
+        "insert_all" => insert_all(alloc, trees, words),
+        "delete" => delete(alloc, trees, words),
+        "replace" => replacement(alloc, trees, words),
+        "replace_with_many" => replace_with_many(alloc, trees, words),
+        "replace_all" => replace_all(alloc, trees, words),
+        _ => Err(NoAnswer::Arguments),
+    }
+}
+
+fn insert(alloc: Global, trees: &Roots, words: &mut Words) -> Result<Change, NoAnswer> {
+    let (at, new) = insertion(alloc, trees, words)?;
     Ok(Change::Insert(at, new))
 }
 
-fn insert_all(alloc: Global, session: &Session, words: &mut Words) -> Result<Change, NoAnswer> {
-    let at = position(alloc, &session.trees, words)?;
-    let new = session.trees.elements(alloc, words)?;
+fn insert_all(alloc: Global, trees: &Roots, words: &mut Words) -> Result<Change, NoAnswer> {
+    let (at, new) = insertions(alloc, trees, words)?;
     Ok(Change::InsertAll(at, ElementList::from(new)))
 }
 
-fn delete(alloc: Global, session: &Session, words: &mut Words) -> Result<Change, NoAnswer> {
-    let target = session.trees.element(alloc, words.word()?)?;
+fn delete(alloc: Global, trees: &Roots, words: &mut Words) -> Result<Change, NoAnswer> {
+    let target = trees.element(alloc, words.word()?)?;
     Ok(Change::Replace(target, None))
 }
 
-fn replacement(alloc: Global, session: &Session, words: &mut Words) -> Result<Change, NoAnswer> {
-    let target = session.trees.element(alloc, words.word()?)?;
-    let new = session.trees.element(alloc, words.word()?)?;
+fn replacement(alloc: Global, trees: &Roots, words: &mut Words) -> Result<Change, NoAnswer> {
+    let (target, new) = two_elements(alloc, trees, words)?;
     Ok(Change::Replace(target, Some(new)))
 }
 
-fn replace_with_many(
-    alloc: Global,
-    session: &Session,
-    words: &mut Words,
-) -> Result<Change, NoAnswer> {
-    let target = session.trees.element(alloc, words.word()?)?;
-    let new = session.trees.elements(alloc, words)?;
+fn replace_with_many(alloc: Global, trees: &Roots, words: &mut Words) -> Result<Change, NoAnswer> {
+    let (target, new) = replacements(alloc, trees, words)?;
     Ok(Change::ReplaceWithMany(target, ElementList::from(new)))
 }
 
-fn replace_all(alloc: Global, session: &Session, words: &mut Words) -> Result<Change, NoAnswer> {
-    let first = session.trees.element(alloc, words.word()?)?;
-    let end = session.trees.element(alloc, words.word()?)?;
-    let new = session.trees.elements(alloc, words)?;
+fn replace_all(alloc: Global, trees: &Roots, words: &mut Words) -> Result<Change, NoAnswer> {
+    let ((first, end), new) = range_replacements(alloc, trees, words)?;
     Ok(Change::ReplaceAll(first, end, ElementList::from(new)))
 }
 
 // One more registered element of the plan that is built.
 fn register(alloc: Global, session: &mut Session, words: &mut Words) -> Result<String, NoAnswer> {
-    let element = session.trees.element(alloc, words.word()?)?;
+    let element = words.word()?;
     let Some(annotation) = annotation(words.next().unwrap_or("1")) else {
         return Err(NoAnswer::Arguments);
     };
-    let registration = (element, annotation);
+    let registration = (session.trees.element(alloc, element)?, annotation);
     session.registrations.push(registration)?;
     ok(alloc)
 }

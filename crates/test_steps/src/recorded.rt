@@ -35,8 +35,12 @@ fn changes(alloc: Global, session: &mut Session) -> Result<String, NoAnswer> {
 fn deleted(alloc: Global, session: &mut Session, words: &mut Words) -> Result<String, NoAnswer> {
     let editor = last(&mut session.editors)?;
     let element = session.trees.element(alloc, words.word()?)?;
-    match editor.deleted(alloc, &element) {
-        Ok(is_deleted) => truth(alloc, is_deleted),
+    held(alloc, editor.deleted(alloc, &element))
+}
+
+fn held(alloc: Global, called: Result<bool, AllocError>) -> Result<String, NoAnswer> {
+    match called {
+        Ok(holds) => truth(alloc, holds),
         Err(_) => memory(alloc),
     }
 }

@@ -1,8 +1,9 @@
 //! The calls that record.
 
 use crate::answers::done;
+use crate::arguments::{insertion, insertions, range_replacements, replacements, two_elements};
 use crate::making::annotation;
-use crate::session::{Session, last, position};
+use crate::session::{Session, last};
 use cst_core::ast::{Fn, LetStmt};
 use cst_core::{AstNode, HasAttrs, SyntaxKind, SyntaxNode};
 use list_removal::remove_separated;
@@ -38,15 +39,13 @@ pub fn answer(
 
 fn insert(alloc: Global, session: &mut Session, words: &mut Words) -> Result<String, NoAnswer> {
     let editor = last(&mut session.editors)?;
-    let at = position(alloc, &session.trees, words)?;
-    let new = session.trees.element(alloc, words.word()?)?;
+    let (at, new) = insertion(alloc, &session.trees, words)?;
     done(alloc, editor.insert(alloc, at, new))
 }
 
 fn insert_all(alloc: Global, session: &mut Session, words: &mut Words) -> Result<String, NoAnswer> {
     let editor = last(&mut session.editors)?;
-    let at = position(alloc, &session.trees, words)?;
-    let new = session.trees.elements(alloc, words)?;
+    let (at, new) = insertions(alloc, &session.trees, words)?;
     done(alloc, editor.insert_all(alloc, at, new))
 }
 
@@ -56,8 +55,7 @@ fn insert_with_whitespace(
     words: &mut Words,
 ) -> Result<String, NoAnswer> {
     let editor = last(&mut session.editors)?;
-    let at = position(alloc, &session.trees, words)?;
-    let new = session.trees.element(alloc, words.word()?)?;
+    let (at, new) = insertion(alloc, &session.trees, words)?;
     done(
         alloc,
         editor.insert_with_whitespace(alloc, &mut session.ids, at, new),
@@ -70,8 +68,7 @@ fn insert_all_with_whitespace(
     words: &mut Words,
 ) -> Result<String, NoAnswer> {
     let editor = last(&mut session.editors)?;
-    let at = position(alloc, &session.trees, words)?;
-    let new = session.trees.elements(alloc, words)?;
+    let (at, new) = insertions(alloc, &session.trees, words)?;
     done(
         alloc,
         editor.insert_all_with_whitespace(alloc, &mut session.ids, at, new),
@@ -86,15 +83,13 @@ fn delete(alloc: Global, session: &mut Session, words: &mut Words) -> Result<Str
 
 fn delete_all(alloc: Global, session: &mut Session, words: &mut Words) -> Result<String, NoAnswer> {
     let editor = last(&mut session.editors)?;
-    let first = session.trees.element(alloc, words.word()?)?;
-    let end = session.trees.element(alloc, words.word()?)?;
+    let (first, end) = two_elements(alloc, &session.trees, words)?;
     done(alloc, editor.delete_all(alloc, first, end))
 }
 
 fn replace(alloc: Global, session: &mut Session, words: &mut Words) -> Result<String, NoAnswer> {
     let editor = last(&mut session.editors)?;
-    let target = session.trees.element(alloc, words.word()?)?;
-    let new = session.trees.element(alloc, words.word()?)?;
+    let (target, new) = two_elements(alloc, &session.trees, words)?;
     done(alloc, editor.replace(alloc, target, new))
 }
 
@@ -104,8 +99,7 @@ fn replace_with_many(
     words: &mut Words,
 ) -> Result<String, NoAnswer> {
     let editor = last(&mut session.editors)?;
-    let target = session.trees.element(alloc, words.word()?)?;
-    let new = session.trees.elements(alloc, words)?;
+    let (target, new) = replacements(alloc, &session.trees, words)?;
     done(alloc, editor.replace_with_many(alloc, target, new))
 }
 
@@ -115,9 +109,7 @@ fn replace_all(
     words: &mut Words,
 ) -> Result<String, NoAnswer> {
     let editor = last(&mut session.editors)?;
-    let first = session.trees.element(alloc, words.word()?)?;
-    let end = session.trees.element(alloc, words.word()?)?;
-    let new = session.trees.elements(alloc, words)?;
+    let ((first, end), new) = range_replacements(alloc, &session.trees, words)?;
     done(alloc, editor.replace_all(alloc, first, end, new))
 }
 
@@ -128,10 +120,11 @@ fn add_annotation(
     words: &mut Words,
 ) -> Result<String, NoAnswer> {
     let editor = last(&mut session.editors)?;
-    let element = session.trees.element(alloc, words.word()?)?;
+    let element = words.word()?;
     let Some(annotation) = annotation(words.next().unwrap_or("1")) else {
         return Err(NoAnswer::Arguments);
     };
+    let element = session.trees.element(alloc, element)?;
     done(alloc, editor.add_annotation(alloc, element, annotation))
 }
 
@@ -141,10 +134,10 @@ fn add_annotation_all(
     words: &mut Words,
 ) -> Result<String, NoAnswer> {
     let editor = last(&mut session.editors)?;
-    let elements = session.trees.elements(alloc, words)?;
     let Some(annotation) = annotation("1") else {
         return Err(NoAnswer::Arguments);
     };
+    let elements = session.trees.elements(alloc, words)?;
     done(
         alloc,
         editor.add_annotation_all(alloc, elements, annotation),
@@ -181,9 +174,10 @@ fn removed_with_separator(
     words: &mut Words,
 ) -> Result<String, NoAnswer> {
     let editor = last(&mut session.editors)?;
-    let element = session.trees.element(alloc, words.word()?)?;
+    let element = words.word()?;
     let Some(separator) = SyntaxKind::from_name(words.word()?) else {
         return Err(NoAnswer::Arguments);
     };
+    let element = session.trees.element(alloc, element)?;
     done(alloc, remove_separated(editor, alloc, &element, separator))
 }

@@ -3,10 +3,10 @@ use crate::standing::{Standing, editors_standing, mappings_standing, plans_stand
 use cst_core::{SyntaxElement, SyntaxNode, TreeIds};
 use std::alloc::{AllocError, Global};
 use syntax_editor::{
-    Change, EditPlan, Position, SyntaxAnnotation, SyntaxEdit, SyntaxEditor, SyntaxMapping,
+    Change, EditPlan, SyntaxAnnotation, SyntaxEdit, SyntaxEditor, SyntaxMapping,
     SyntaxMappingBuilder,
 };
-use test_trees::{NoAnswer, Words};
+use test_trees::NoAnswer;
 
 /// What the steps of a row work on. A step on an editor, a plan, an edit, a mapping or a builder is one on the last that was made.
 #[derive(Drop)]
@@ -64,7 +64,7 @@ impl Session {
             return Err(NoAnswer::Changed);
         }
         if before.lost(&after) {
-            return Err(NoAnswer::Memory(AllocError));
+            return Err(NoAnswer::from(AllocError));
         }
         Ok(())
     }
@@ -89,29 +89,4 @@ pub fn last(editors: &mut Vec<SyntaxEditor>) -> Result<&mut SyntaxEditor, NoAnsw
     editors
         .last_mut()
         .ok_or(NoAnswer::Missing("no editor was made"))
-}
-
-/// The position that the next two words say: `first NODE`, `last NODE`, `before REF` or `after REF`.
-pub fn position(alloc: Global, trees: &Roots, words: &mut Words) -> Result<Position, NoAnswer> {
-    let side = words.word()?;
-    let beside = words.word()?;
-    match side {
-        "first" => {
-            let node = trees.node(alloc, beside)?;
-            Ok(Position::first_child_of(alloc, &node)?)
-        }
-        "last" => {
-            let node = trees.node(alloc, beside)?;
-            Ok(Position::last_child_of(alloc, &node)?)
-        }
-        "before" => {
-            let gap = Position::before(alloc, trees.element(alloc, beside)?)?;
-            gap.ok_or(NoAnswer::Missing("no gap there"))
-        }
-        "after" => {
-            let gap = Position::after(alloc, trees.element(alloc, beside)?)?;
-            gap.ok_or(NoAnswer::Missing("no gap there"))
-        }
-        _ => Err(NoAnswer::Arguments),
-    }
 }

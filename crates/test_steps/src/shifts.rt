@@ -122,9 +122,26 @@ fn indent_by(
     if let Err(IndentError::Memory) = &called {
         return unmapped(alloc, &mut factory);
     }
-    if let Some(mapping) = factory.mappings() {
-        mappings::keep(session, mapping.try_clone(alloc)?)?;
+    keep_mapping(alloc, session, &mut factory)?;
+    kept_or_refused(alloc, session, called)
+}
+
+fn keep_mapping(
+    alloc: Global,
+    session: &mut Session,
+    factory: &mut SyntaxFactory,
+) -> Result<(), NoAnswer> {
+    match factory.mappings() {
+        Some(mapping) => mappings::keep(session, mapping.try_clone(alloc)?),
+        None => Ok(()),
     }
+}
+
+fn kept_or_refused(
+    alloc: Global,
+    session: &mut Session,
+    called: Result<BlockExpr, IndentError>,
+) -> Result<String, NoAnswer> {
     match called {
         Ok(block) => kept(alloc, session, block.syntax()),
         Err(refusal) => refused(alloc, refusal),

@@ -1,15 +1,15 @@
 //! Trees that hold one tree many times, so that a short list of nodes has a long text.
 
-use crate::expression::RowError;
+use crate::row_error::RowError;
 use cst_core::{GreenElement, GreenNode, GreenToken, SyntaxKind};
-use std::alloc::Global;
+use std::alloc::{AllocError, Global};
 
 /// The tree P_k, of `2^k` bytes: P_0 is the token `a`, and each next one a LITERAL that holds the one before it twice.
 /// `TooLong` from 32 on.
 pub fn p(alloc: Global, k: usize) -> Result<GreenElement, RowError> {
     let mut tree = GreenElement::Token(GreenToken::new(alloc, SyntaxKind::IDENT, "a")?);
     for _ in 0..k {
-        tree = twice(alloc, tree)?;
+        tree = twice(alloc, &tree)?;
     }
     Ok(tree)
 }
@@ -23,11 +23,17 @@ pub fn p_file(alloc: Global) -> Result<GreenNode, RowError> {
     Ok(GreenNode::new(alloc, SyntaxKind::SOURCE_FILE, children)?)
 }
 
-fn twice(alloc: Global, tree: GreenElement) -> Result<GreenElement, RowError> {
+fn twice(alloc: Global, tree: &GreenElement) -> Result<GreenElement, RowError> {
+    let children = pair(alloc, tree)?;
+    Ok(GreenElement::Node(GreenNode::new(alloc, SyntaxKind::LITERAL, children)?))
+}
+
+/// The tree two times, as children.
+pub fn pair(alloc: Global, tree: &GreenElement) -> Result<Vec<GreenElement>, AllocError> {
     let mut children = Vec::new(alloc);
     children.push(tree.share(alloc)?)?;
-    children.push(tree)?;
-    Ok(GreenElement::Node(GreenNode::new(alloc, SyntaxKind::LITERAL, children)?))
+    children.push(tree.share(alloc)?)?;
+    Ok(children)
 }
 
 /// P_31 this many times.

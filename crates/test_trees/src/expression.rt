@@ -1,55 +1,9 @@
 //! Tree expressions in which `[NAME]` stands for the expression of the tree of that name.
 
-use cst_core::{GreenNode, TreeError};
-use std::alloc::{AllocError, Global};
-use thiserror::Error;
-use tree_text::{ExpressionError, read_tree};
-
-/// Why there is no tree.
-#[derive(Debug, PartialEq, Eq, Drop, Error)]
-pub enum RowError {
-    /// The text is no tree expression.
-    #[error("Malformed")]
-    Malformed,
-    /// No kind has this name.
-    #[error("UnknownKind")]
-    UnknownKind,
-    /// Too many parentheses are open at once.
-    #[error("TooDeep")]
-    TooDeep,
-    /// No tree has this name.
-    #[error("UnknownRow")]
-    UnknownRow,
-    /// The tree cannot be made.
-    #[error("{0}")]
-    Tree(#[from] TreeError),
-    /// Memory was refused.
-    #[error("Memory")]
-    Memory(#[from(alloc)] AllocError),
-}
-
-impl RowError {
-    /// Whether memory was refused.
-    pub fn is_memory(&self) -> bool {
-        match self {
-            RowError::Memory(_) => true,
-            RowError::Tree(error) => *error == TreeError::Memory,
-            _ => false,
-        }
-    }
-}
-
-impl From<ExpressionError> for RowError {
-    fn from(error: ExpressionError) -> RowError {
-        match error {
-            ExpressionError::Malformed => RowError::Malformed,
-            ExpressionError::UnknownKind => RowError::UnknownKind,
-            ExpressionError::TooDeep => RowError::TooDeep,
-            ExpressionError::Tree(error) => RowError::Tree(error),
-            ExpressionError::Memory => RowError::Memory(AllocError),
-        }
-    }
-}
+use crate::row_error::RowError;
+use cst_core::GreenNode;
+use std::alloc::Global;
+use tree_text::read_tree;
 
 // A tree that has a name.
 #[derive(Drop)]

@@ -7,14 +7,15 @@ mod doubling;
 mod expression;
 mod long;
 mod no_answer;
+mod row_error;
 mod rows;
 mod shown;
 mod trees;
 mod words;
 
 pub use doubling::{halves, p};
-pub use expression::RowError;
 pub use no_answer::NoAnswer;
+pub use row_error::RowError;
 pub use rows::{green, row};
 pub use shown::{number, push_path, push_quoted, quoted, word};
 pub use trees::{Trees, element_below, read_tree};

@@ -1,5 +1,6 @@
 //! Trees with long texts of few elements, trees with deep levels, and wide trees.
 
+use crate::doubling::pair;
 use crate::no_answer::NoAnswer;
 use cst_core::{GreenElement, GreenNode, GreenToken, SyntaxKind};
 use std::alloc::Global;
@@ -18,6 +19,11 @@ pub fn filled(alloc: Global, node: &GreenNode, bytes: u64) -> Result<GreenNode, 
 // Elements with n letters in all, of the powers of two that the number is the sum of.
 fn letters(alloc: Global, count: u64) -> Result<Vec<GreenElement>, NoAnswer> {
     let mut all = Vec::new(alloc);
+    push_letters(alloc, &mut all, count)?;
+    Ok(all)
+}
+
+fn push_letters(alloc: Global, all: &mut Vec<GreenElement>, count: u64) -> Result<(), NoAnswer> {
     let mut power = token(alloc, "a")?;
     let mut rest = count;
     for _ in 0..40 {
@@ -25,14 +31,14 @@ fn letters(alloc: Global, count: u64) -> Result<Vec<GreenElement>, NoAnswer> {
             all.push(power.share(alloc)?)?;
         }
         rest /= 2;
-        power = doubled(alloc, power)?;
+        power = doubled(alloc, &power)?;
     }
-    Ok(all)
+    Ok(())
 }
 
 // An element with twice the text: a token, or a node that holds the element two times.
-fn doubled(alloc: Global, element: GreenElement) -> Result<GreenElement, NoAnswer> {
-    match &element {
+fn doubled(alloc: Global, element: &GreenElement) -> Result<GreenElement, NoAnswer> {
+    match element {
         GreenElement::Token(short) if short.length() < LONGEST => token_twice(alloc, short),
         _ => twice(alloc, element),
     }
@@ -49,10 +55,8 @@ fn token(alloc: Global, text: &str) -> Result<GreenElement, NoAnswer> {
     Ok(GreenElement::Token(token))
 }
 
-fn twice(alloc: Global, element: GreenElement) -> Result<GreenElement, NoAnswer> {
-    let mut children = Vec::new(alloc);
-    children.push(element.share(alloc)?)?;
-    children.push(element)?;
+fn twice(alloc: Global, element: &GreenElement) -> Result<GreenElement, NoAnswer> {
+    let children = pair(alloc, element)?;
     let node = GreenNode::capped(alloc, SyntaxKind::LITERAL, children)?;
     Ok(GreenElement::Node(node))
 }

@@ -1,12 +1,13 @@
 //! The trees that rows of tests share, by name.
 
-use crate::expression::{Row, RowError, expand, find_row};
+use crate::expression::{Row, expand, find_row};
+use crate::row_error::RowError;
 use cst_core::GreenNode;
 use std::alloc::Global;
 use tree_text::read_tree;
 
 // The names, each with an expression that may name the trees before it.
-const ROWS: [(&str, &str); 25] = [
+const ROWS: &[(&str, &str)] = &[
     (
         "L",
         r#"(ARG_LIST L_PAREN"(" (LITERAL INT_NUMBER"1") COMMA"," WHITESPACE" " (LITERAL INT_NUMBER"2") R_PAREN")")"#,

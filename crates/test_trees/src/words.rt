@@ -12,7 +12,7 @@ pub struct Words<'a> {
 impl<'a> Words<'a> {
     pub fn of(text: &'a str) -> Words<'a> {
         Words {
-            rest: text.trim_matches(' '),
+            rest: text.trim_start_matches(' '),
         }
     }
 
