@@ -5,7 +5,7 @@ use anyhow::Result;
 use cst_core::{GreenElementRef, GreenNode, SyntaxElement, TreeIds};
 use std::alloc::{AllocError, Global};
 use std::fmt::{self, Display, Formatter, Write};
-use syntax_editor::{EditError, ExecuteError, Rewritten, SyntaxEdit, SyntaxEditor};
+use syntax_editor::{EditError, EditPlan, ExecuteError, Rewritten, SyntaxEdit, SyntaxEditor};
 
 /// What comes of changes: a refusal, or the new tree with the changed paths, as they are printed.
 #[derive(PartialEq, Eq, Drop)]
@@ -124,6 +124,18 @@ fn not_allowed(refusal: ExecuteError) -> Result<Answer> {
     }
 }
 
+fn executed_answer(
+    alloc: Global,
+    ids: &mut TreeIds,
+    plan: EditPlan,
+    order: &[usize],
+) -> Result<Answer> {
+    match plan.execute(alloc, ids, order) {
+        Ok(edit) => Ok(Answer::of_edit(alloc, &edit)?),
+        Err(refusal) => not_allowed(refusal),
+    }
+}
+
 /// What the editor answers where its changes are carried out in an order.
 pub fn ordered_answer(
     alloc: Global,
@@ -131,12 +143,8 @@ pub fn ordered_answer(
     editor: SyntaxEditor,
     order: &[usize],
 ) -> Result<Answer> {
-    let plan = match editor.plan(alloc) {
-        Ok(plan) => plan,
-        Err(refusal) => return answer_of_refusal(refusal),
-    };
-    match plan.execute(alloc, ids, order) {
-        Ok(edit) => Ok(Answer::of_edit(alloc, &edit)?),
-        Err(refusal) => not_allowed(refusal),
+    match editor.plan(alloc) {
+        Ok(plan) => executed_answer(alloc, ids, plan, order),
+        Err(refusal) => answer_of_refusal(refusal),
     }
 }

@@ -2,6 +2,7 @@
 
 use crate::aim::Aim;
 use crate::fate::Fate;
+use crate::fated::Fated;
 use crate::planned::Planned;
 use cst_core::SyntaxElement;
 use std::fmt::{self, Display, Formatter, Write};
@@ -71,13 +72,6 @@ fn stands_behind_replaced(first: &Planned, second: &Planned) -> bool {
     }
 }
 
-/// Changes, each with what becomes of it.
-#[derive(Clone, Copy)]
-pub struct Fated<'a> {
-    pub planned: &'a [Planned<'a>],
-    pub fates: &'a [Fate],
-}
-
 impl Fated<'_> {
     // Whether a clause wants the first of two changes before the second one. It wants nothing of dropped ones.
     fn wants(&self, clause: Clause, first: usize, second: usize) -> bool {
@@ -112,7 +106,7 @@ impl Fated<'_> {
 
     /// Why this order is not allowed, if it is not.
     pub fn broken(&self, order: &[usize]) -> Option<Clause> {
-        if !has_each_once(self.fates, order) {
+        if !has_each_once(&self.fates, order) {
             return Some(Clause::NotEachOnce);
         }
         ONE_BEFORE_ANOTHER

@@ -3,7 +3,7 @@ ghost use Rattle.std.specs.Prelude.{◌≡◌, length};
 
 use crate::choice::Choice;
 use crate::fate::Fate;
-use crate::order::{Fated, is_done};
+use crate::fated::Fated;
 use crate::stage::{Stage, printed_green};
 use anyhow::{Result, anyhow};
 use cst_core::{GreenNode, SyntaxNode, TreeIds};
@@ -19,7 +19,7 @@ pub struct Stepper<'a> {
     count: usize,
     done: Vec<bool>,
     root: &'a SyntaxNode,
-    fated: Fated<'a>,
+    fated: &'a Fated<'a>,
     ghost counted: { count ≡ length run.plan.changes },
 }
 
@@ -28,7 +28,7 @@ impl<'a> Stepper<'a> {
         alloc: Global,
         plan: &'a EditPlan,
         root: &'a SyntaxNode,
-        fated: Fated<'a>,
+        fated: &'a Fated<'a>,
     ) -> Result<Stepper<'a>, AllocError> {
         Ok(Stepper {
             alloc,
