@@ -5,7 +5,7 @@ use anyhow::Result;
 use cst_core::{GreenElementRef, GreenNode, SyntaxElement, TreeIds};
 use std::alloc::{AllocError, Global};
 use std::fmt::{self, Display, Formatter, Write};
-use syntax_editor::{EditError, EditPlan, ExecuteError, Rewritten, SyntaxEdit, SyntaxEditor};
+use syntax_editor::{EditError, ExecuteError, Rewritten, SyntaxEdit, SyntaxEditor};
 
 /// What comes of changes: a refusal, or the new tree with the changed paths, as they are printed.
 #[derive(PartialEq, Eq, Drop)]
@@ -55,9 +55,9 @@ impl Answer {
     }
 
     // What was made by the editor.
-    fn of_edit(alloc: Global, edit: &SyntaxEdit) -> Result<Answer, AllocError> {
+    fn of_edit(alloc: Global, edit: &SyntaxEdit) -> Result<Answer> {
         let changed = paths_of(alloc, edit.changed_elements())?;
-        Answer::of_tree(alloc, edit.new_root().as_green(), &changed)
+        Ok(Answer::of_tree(alloc, edit.new_root().as_green(), &changed)?)
     }
 
     /// What was made by an engine.
@@ -82,10 +82,10 @@ impl Display for Answer {
                 f,
                 "MissingMapping {change} {owner}"
             ),
-            Answer::NotAllowed(clause) => write!(f, "{clause}"),
-            Answer::OtherStage(difference) => write!(f, "{difference}"),
-            Answer::EnginesDiffer => write!(f, "the engines differ"),
-            Answer::Made(text) => write!(f, "{text}"),
+            Answer::NotAllowed(clause) => f.write_str(clause.name()),
+            Answer::OtherStage(difference) => f.write_str(difference),
+            Answer::EnginesDiffer => f.write_str("the engines differ"),
+            Answer::Made(text) => f.write_str(text),
         }
     }
 }
@@ -98,7 +98,7 @@ pub fn editor_answer(alloc: Global, ids: &mut TreeIds, editor: SyntaxEditor) -> 
 /// What a call answered that makes an edit.
 pub fn answer_of(alloc: Global, made: Result<SyntaxEdit, EditError>) -> Result<Answer> {
     match made {
-        Ok(edit) => Ok(Answer::of_edit(alloc, &edit)?),
+        Ok(edit) => Answer::of_edit(alloc, &edit),
         Err(refusal) => answer_of_refusal(refusal),
     }
 }
@@ -124,14 +124,10 @@ fn not_allowed(refusal: ExecuteError) -> Result<Answer> {
     }
 }
 
-fn executed_answer(
-    alloc: Global,
-    ids: &mut TreeIds,
-    plan: EditPlan,
-    order: &[usize],
-) -> Result<Answer> {
-    match plan.execute(alloc, ids, order) {
-        Ok(edit) => Ok(Answer::of_edit(alloc, &edit)?),
+// What a call answered that carries changes out in an order.
+fn answer_of_executed(alloc: Global, executed: Result<SyntaxEdit, ExecuteError>) -> Result<Answer> {
+    match executed {
+        Ok(edit) => Answer::of_edit(alloc, &edit),
         Err(refusal) => not_allowed(refusal),
     }
 }
@@ -144,7 +140,7 @@ pub fn ordered_answer(
     order: &[usize],
 ) -> Result<Answer> {
     match editor.plan(alloc) {
-        Ok(plan) => executed_answer(alloc, ids, plan, order),
+        Ok(plan) => answer_of_executed(alloc, plan.execute(alloc, ids, order)),
         Err(refusal) => answer_of_refusal(refusal),
     }
 }

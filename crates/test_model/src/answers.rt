@@ -97,9 +97,13 @@ fn stepped_plan_answer(
 ) -> Result<Answer> {
     let mut choice = Choice::new(ids.peek().unwrap_or(0));
     let mut stepper = Stepper::new(alloc, plan, root, fated)?;
-    if let Some(difference) = stepper.step_on(&mut choice)? {
-        return Ok(Answer::OtherStage(difference));
+    match stepper.step_on(&mut choice)? {
+        Some(difference) => Ok(Answer::OtherStage(difference)),
+        None => finished_answer(alloc, ids, stepper),
     }
+}
+
+fn finished_answer(alloc: Global, ids: &mut TreeIds, stepper: Stepper<'_>) -> Result<Answer> {
     match stepper.finish(ids) {
         Some(made) => answer_of(alloc, made),
         None => Ok(Answer::OtherStage(String::from_str(alloc, "no change is ready")?)),
@@ -119,6 +123,18 @@ fn stepped_answer(
     }
 }
 
+fn stepped_answers_to(
+    alloc: Global,
+    ids: &mut TreeIds,
+    root: &SyntaxNode,
+    fated: &Fated<'_>,
+    editor: SyntaxEditor,
+) -> Result<Answers> {
+    let model = fated.answer(alloc, root)?;
+    let editor = stepped_answer(alloc, ids, root, fated, editor)?;
+    Ok(Answers { editor, model })
+}
+
 /// The same where the changes are carried out one at a time, and each stage is compared. `same` has recorded what `editor` has.
 pub fn stepped_answers(
     alloc: Global,
@@ -128,7 +144,5 @@ pub fn stepped_answers(
     same: SyntaxEditor,
 ) -> Result<Answers> {
     let fated = fated(alloc, &mut editor)?;
-    let model = fated.answer(alloc, root)?;
-    let editor = stepped_answer(alloc, ids, root, &fated, same)?;
-    Ok(Answers { editor, model })
+    stepped_answers_to(alloc, ids, root, &fated, same)
 }
