@@ -4,7 +4,7 @@ use crate::floor::Floor;
 use anyhow::Result;
 use cst_core::TreeIds;
 use std::alloc::Global;
-use syntax_editor::{OnePassEngine, SyntaxEdit};
+use syntax_editor::{EditPlan, OnePassEngine, SyntaxEdit};
 
 /// How many nodes the pass builds, those in payloads with changes of their own among them; how many any engine has to build; and how
 /// many the old tree has.
@@ -26,12 +26,16 @@ impl Built {
         })
     }
 
+    fn of_plan(alloc: Global, case: Case, ids: &mut TreeIds, plan: &EditPlan) -> Result<Built> {
+        let mut engine = OnePassEngine::new(alloc);
+        let edit = plan.run_with(alloc, ids, &mut engine)?;
+        Built::of_edit(alloc, case, &edit, engine.builds())
+    }
+
     /// Of an edit that is carried out once.
     pub(crate) fn of(alloc: Global, case: Case) -> Result<Built> {
         let mut ids = TreeIds::new(1);
         let plan = case.planned(alloc, &mut ids)?;
-        let mut engine = OnePassEngine::new(alloc);
-        let edit = plan.run_with(alloc, &mut ids, &mut engine)?;
-        Built::of_edit(alloc, case, &edit, engine.builds())
+        Built::of_plan(alloc, case, &mut ids, &plan)
     }
 }

@@ -2,7 +2,7 @@
 use crate::case::Case;
 use crate::figures::Figures;
 use crate::floor::Floor;
-use crate::prepared::{Prepared, record_all};
+use crate::prepared::{Call, Prepared, record_all};
 use anyhow::Result;
 use cst_core::TreeIds;
 use std::alloc::Global;
@@ -17,6 +17,21 @@ pub(crate) fn seconds_since<R: Clock>(rt: &R, start: Instant) -> Result<f64> {
     Ok(start.elapsed(rt)?.as_secs_f64())
 }
 
+/// What a case makes, all at once. How many seconds that took is put into the last argument.
+pub(crate) fn finished<R: Clock>(
+    rt: &R,
+    alloc: Global,
+    case: Case,
+    seconds: &mut f64,
+) -> Result<SyntaxEdit> {
+    let mut ids = TreeIds::new(1);
+    let editor = case.recorded(alloc, &mut ids)?;
+    let start = Instant::now(rt)?;
+    let edit = editor.finish(alloc, &mut ids)?;
+    *seconds = seconds_since(rt, start)?;
+    Ok(edit)
+}
+
 // A try of an edit, with its figures so far.
 #[derive(Drop)]
 struct Try<'a, R: Clock> {
@@ -29,12 +44,17 @@ struct Try<'a, R: Clock> {
 
 impl<R: Clock> Try<'_, R> {
     // Makes the calls.
-    fn record(&mut self) -> Result<SyntaxEditor> {
-        let Prepared { mut editor, calls } = self.case.prepared(self.alloc, &mut self.ids)?;
+    fn make_calls(&mut self, calls: Vec<Call>, editor: &mut SyntaxEditor) -> Result<()> {
         let start = Instant::now(self.rt)?;
-        record_all(self.alloc, calls, &mut editor)?;
+        record_all(self.alloc, calls, editor)?;
         self.figures.recorded = seconds_since(self.rt, start)?;
         self.figures.changes = editor.changes().len();
+        Ok(())
+    }
+
+    fn record(&mut self) -> Result<SyntaxEditor> {
+        let Prepared { mut editor, calls } = self.case.prepared(self.alloc, &mut self.ids)?;
+        self.make_calls(calls, &mut editor)?;
         Ok(editor)
     }
 
@@ -47,9 +67,8 @@ impl<R: Clock> Try<'_, R> {
         Ok(plan)
     }
 
-    // Carries the plan out.
-    fn run(&mut self) -> Result<SyntaxEdit> {
-        let plan = self.plan()?;
+    // Carries a plan out.
+    fn run(&mut self, plan: &EditPlan) -> Result<SyntaxEdit> {
         let start = Instant::now(self.rt)?;
         let edit = plan.run_with(
             self.alloc,
@@ -70,9 +89,14 @@ impl<R: Clock> Try<'_, R> {
         Ok(())
     }
 
-    fn measure(&mut self) -> Result<()> {
-        let edit = self.run()?;
+    fn measure_plan(&mut self, plan: &EditPlan) -> Result<()> {
+        let edit = self.run(plan)?;
         self.make_floor(&edit)
+    }
+
+    fn measure(&mut self) -> Result<()> {
+        let plan = self.plan()?;
+        self.measure_plan(&plan)
     }
 }
 

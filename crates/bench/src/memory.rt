@@ -6,7 +6,7 @@ use crate::growth::ONE_OF_EACH;
 use anyhow::Result;
 use cst_core::TreeIds;
 use std::alloc::Global;
-use syntax_editor::OnePassEngine;
+use syntax_editor::{EditPlan, OnePassEngine, SyntaxEdit};
 
 /// Bytes of the list that is a mark. No other list is as long.
 const MARK: usize = 7_654_321;
@@ -50,23 +50,30 @@ fn mark(alloc: Global) -> Result<()> {
     Ok(())
 }
 
-// What was made is still there at the second mark, since its text is asked for after that.
+// The second mark. What was made is still there, since its text is asked for after that.
+fn mark_again(alloc: Global, edit: &SyntaxEdit) -> Result<u64> {
+    mark(alloc)?;
+    Ok(edit.new_root().text_len())
+}
+
 fn finish(alloc: Global, case: Case) -> Result<u64> {
     let mut ids = TreeIds::new(1);
     let editor = case.recorded(alloc, &mut ids)?;
     mark(alloc)?;
     let edit = editor.finish(alloc, &mut ids)?;
+    mark_again(alloc, &edit)
+}
+
+fn run_plan(alloc: Global, ids: &mut TreeIds, plan: &EditPlan) -> Result<u64> {
     mark(alloc)?;
-    Ok(edit.new_root().text_len())
+    let edit = plan.run_with(alloc, ids, &mut OnePassEngine::new(alloc))?;
+    mark_again(alloc, &edit)
 }
 
 fn run(alloc: Global, case: Case) -> Result<u64> {
     let mut ids = TreeIds::new(1);
     let plan = case.planned(alloc, &mut ids)?;
-    mark(alloc)?;
-    let edit = plan.run_with(alloc, &mut ids, &mut OnePassEngine::new(alloc))?;
-    mark(alloc)?;
-    Ok(edit.new_root().text_len())
+    run_plan(alloc, &mut ids, &plan)
 }
 
 fn make_nodes(alloc: Global, case: Case) -> Result<u64> {

@@ -111,7 +111,21 @@ fn replace(
     Ok(Call::Replace(block, payload))
 }
 
-// For each block below a root an insert into it, and its replacement by one that wraps it.
+// An insert into a block, and its replacement by one that wraps it.
+fn push_calls(
+    alloc: Global,
+    ids: &mut TreeIds,
+    block: SyntaxNode,
+    wraps: usize,
+    mapping: &mut SyntaxMapping,
+    calls: &mut Vec<Call>,
+) -> Result<()> {
+    calls.push(insert(alloc, ids, &block)?)?;
+    calls.push(replace(alloc, ids, block, wraps, mapping)?)?;
+    Ok(())
+}
+
+// The calls for each block below a root.
 fn calls(
     alloc: Global,
     ids: &mut TreeIds,
@@ -122,8 +136,7 @@ fn calls(
     let mut calls = Vec::new(alloc);
     for block in root.descendants(alloc)? {
         if block.kind() == SyntaxKind::BLOCK_EXPR {
-            calls.push(insert(alloc, ids, &block)?)?;
-            calls.push(replace(alloc, ids, block, wraps, mapping)?)?;
+            push_calls(alloc, ids, block, wraps, mapping, &mut calls)?;
         }
     }
     Ok(calls)

@@ -1,6 +1,6 @@
 //! How long it takes to carry changes out one at a time, in the default order, beside all of them at once.
 use crate::case::{Case, Subject};
-use crate::measured::seconds_since;
+use crate::measured::{finished, seconds_since};
 use anyhow::Result;
 use cst_core::TreeIds;
 use std::alloc::Global;
@@ -53,13 +53,16 @@ fn execute(alloc: Global, ids: &mut TreeIds, editor: SyntaxEditor) -> Result<Syn
     Ok(plan.execute(alloc, ids, &order)?)
 }
 
-// What comes of a case in the default order, without the time at once.
-fn executed<R: Clock>(rt: &R, alloc: Global, case: Case) -> Result<Figures> {
-    let mut ids = TreeIds::new(1);
-    let editor = case.recorded(alloc, &mut ids)?;
+// What comes of changes in the default order, without the time at once.
+fn executed_by<R: Clock>(
+    rt: &R,
+    alloc: Global,
+    ids: &mut TreeIds,
+    editor: SyntaxEditor,
+) -> Result<Figures> {
     let changes = editor.changes().len();
     let start = Instant::now(rt)?;
-    let edit = execute(alloc, &mut ids, editor)?;
+    let edit = execute(alloc, ids, editor)?;
     Ok(Figures {
         changes,
         bytes: edit.new_root().text_len(),
@@ -68,20 +71,18 @@ fn executed<R: Clock>(rt: &R, alloc: Global, case: Case) -> Result<Figures> {
     })
 }
 
-// How many seconds it takes at once.
-fn finished<R: Clock>(rt: &R, alloc: Global, case: Case) -> Result<f64> {
+fn executed<R: Clock>(rt: &R, alloc: Global, case: Case) -> Result<Figures> {
     let mut ids = TreeIds::new(1);
     let editor = case.recorded(alloc, &mut ids)?;
-    let start = Instant::now(rt)?;
-    let _edit = editor.finish(alloc, &mut ids)?;
-    seconds_since(rt, start)
+    executed_by(rt, alloc, &mut ids, editor)
 }
 
 fn measured<R: Clock>(rt: &R, alloc: Global, case: Case) -> Result<Figures> {
-    let finished = finished(rt, alloc, case)?;
+    let mut seconds = 0.0;
+    finished(rt, alloc, case, &mut seconds)?;
     let executed = executed(rt, alloc, case)?;
     Ok(Figures {
-        finished,
+        finished: seconds,
         ..executed
     })
 }

@@ -2,10 +2,9 @@
 use crate::case::{Case, Subject};
 use crate::figures::{Figures, Phase};
 use crate::growth::SIZES;
-use crate::measured::{measured, seconds_since};
+use crate::measured::{finished, measured, seconds_since};
 use crate::notes::Noted;
 use anyhow::{Context, Result};
-use cst_core::TreeIds;
 use std::alloc::Global;
 use std::rt::Clock;
 use std::time::Instant;
@@ -128,17 +127,14 @@ impl Brought {
 
     // Of a payload with notes that is brought so many times.
     fn measured<R: Clock>(rt: &R, alloc: Global, times: usize) -> Result<Brought> {
-        let mut ids = TreeIds::new(1);
         let case = Case::Noted(Noted::Payload {
             notes: NOTES,
             times,
         });
-        let editor = case.recorded(alloc, &mut ids)?;
-        let start = Instant::now(rt)?;
-        let edit = editor.finish(alloc, &mut ids)?;
-        let finished = seconds_since(rt, start)?;
+        let mut seconds = 0.0;
+        let edit = finished(rt, alloc, case, &mut seconds)?;
         Ok(Brought {
-            finished,
+            finished: seconds,
             ..Brought::of_edit(rt, alloc, &edit)?
         })
     }
