@@ -7,6 +7,7 @@ use crate::prepared::Prepared;
 use anyhow::Result;
 use cst_core::TreeIds;
 use std::alloc::Global;
+use syntax_editor::{EditPlan, SyntaxEdit, SyntaxEditor};
 
 /// Parts of a tree, at some of which there is a change.
 #[derive(Clone, Copy)]
@@ -56,6 +57,21 @@ impl Case {
             Case::Nested(nest) => nested::prepared(alloc, ids, nest),
             Case::Noted(noted) => notes::prepared(alloc, ids, noted),
         }
+    }
+
+    /// An editor with its changes recorded.
+    pub(crate) fn recorded(self, alloc: Global, ids: &mut TreeIds) -> Result<SyntaxEditor> {
+        self.prepared(alloc, ids)?.recorded(alloc)
+    }
+
+    /// A plan of its changes.
+    pub(crate) fn planned(self, alloc: Global, ids: &mut TreeIds) -> Result<EditPlan> {
+        Ok(self.recorded(alloc, ids)?.plan(alloc)?)
+    }
+
+    /// What it makes.
+    pub(crate) fn finished(self, alloc: Global, ids: &mut TreeIds) -> Result<SyntaxEdit> {
+        Ok(self.recorded(alloc, ids)?.finish(alloc, ids)?)
     }
 
     /// Which nodes of the new tree its changes touch.

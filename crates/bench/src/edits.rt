@@ -1,11 +1,9 @@
 //! Trees of many equal parts, and a change at some of them.
 use crate::case::Subject;
-use crate::prepared::{Call, Prepared, editor_with};
+use crate::prepared::{Call, Prepared, insert_after};
 use anyhow::Result;
 use cst_core::{GreenElement, GreenNode, GreenToken, SyntaxKind, SyntaxNode, TreeIds};
-use edit_map::SyntaxMapping;
 use std::alloc::Global;
-use syntax_editor::Position;
 
 const CHILDREN: usize = 8;
 
@@ -17,6 +15,11 @@ pub(crate) fn leaf(alloc: Global) -> Result<GreenNode> {
     Ok(GreenNode::new(alloc, SyntaxKind::LITERAL, children)?)
 }
 
+/// A literal in a tree of its own.
+pub(crate) fn new_leaf(alloc: Global, ids: &mut TreeIds) -> Result<SyntaxNode> {
+    Ok(SyntaxNode::new_root(alloc, ids, leaf(alloc)?)?)
+}
+
 /// n literals below one node.
 pub(crate) fn flat(alloc: Global, size: usize) -> Result<GreenNode> {
     let mut children = Vec::new(alloc);
@@ -26,6 +29,15 @@ pub(crate) fn flat(alloc: Global, size: usize) -> Result<GreenNode> {
     Ok(GreenNode::new(alloc, SyntaxKind::STMT_LIST, children)?)
 }
 
+fn push_parent(
+    alloc: Global,
+    parents: &mut Vec<GreenNode>,
+    children: Vec<GreenElement>,
+) -> Result<()> {
+    parents.push(GreenNode::new(alloc, SyntaxKind::STMT_LIST, children)?)?;
+    Ok(())
+}
+
 // The nodes in order, n below one.
 fn grouped(alloc: Global, nodes: Vec<GreenNode>) -> Result<Vec<GreenNode>> {
     let mut parents = Vec::new(alloc);
@@ -33,26 +45,36 @@ fn grouped(alloc: Global, nodes: Vec<GreenNode>) -> Result<Vec<GreenNode>> {
     for node in nodes {
         children.push(GreenElement::Node(node))?;
         if children.len() == CHILDREN {
-            parents.push(GreenNode::new(alloc, SyntaxKind::STMT_LIST, children)?)?;
+            push_parent(alloc, &mut parents, children)?;
             children = Vec::new(alloc);
         }
     }
     Ok(parents)
 }
 
-fn leaves(alloc: Global, size: usize) -> Result<GreenNode> {
+fn all_leaves(alloc: Global, size: usize) -> Result<Vec<GreenNode>> {
     let mut nodes = Vec::new(alloc);
     for _ in 0..size {
         nodes.push(leaf(alloc)?)?;
     }
+    Ok(nodes)
+}
+
+// The topmost nodes, fewer than have a parent.
+fn topmost(alloc: Global, leaves: Vec<GreenNode>) -> Result<Vec<GreenNode>> {
+    let mut nodes = leaves;
     for _ in 0..64 {
         if nodes.len() < CHILDREN {
             break;
         }
         nodes = grouped(alloc, nodes)?;
     }
+    Ok(nodes)
+}
+
+fn leaves(alloc: Global, size: usize) -> Result<GreenNode> {
     let mut children = Vec::new(alloc);
-    for node in nodes {
+    for node in topmost(alloc, all_leaves(alloc, size)?)? {
         children.push(GreenElement::Node(node))?;
     }
     Ok(GreenNode::new(alloc, SyntaxKind::SOURCE_FILE, children)?)
@@ -84,21 +106,36 @@ fn targets(alloc: Global, root: &SyntaxNode, step: usize) -> Result<Vec<SyntaxNo
 }
 
 // The change at a target.
-fn call(
+fn call(alloc: Global, subject: Subject, target: SyntaxNode, new: SyntaxNode) -> Result<Call> {
+    match subject {
+        Subject::Statements => insert_after(alloc, target, new),
+        _ => Ok(Call::Replace(target, new)),
+    }
+}
+
+fn push_call(
     alloc: Global,
     ids: &mut TreeIds,
     subject: Subject,
     target: SyntaxNode,
-) -> Result<Option<Call>> {
-    let new = SyntaxNode::new_root(alloc, ids, leaf(alloc)?)?;
-    match subject {
-        Subject::Statements => match Position::after(alloc, target)? {
-            Some(position) => Ok(Some(Call::Insert(position, new))),
-            None => Ok(None),
-        },
-        Subject::Literals => Ok(Some(Call::Replace(target, new))),
-        Subject::Leaves => Ok(Some(Call::Replace(target, new))),
+    calls: &mut Vec<Call>,
+) -> Result<()> {
+    let new = new_leaf(alloc, ids)?;
+    calls.push(call(alloc, subject, target, new)?)?;
+    Ok(())
+}
+
+fn calls(
+    alloc: Global,
+    ids: &mut TreeIds,
+    subject: Subject,
+    targets: Vec<SyntaxNode>,
+) -> Result<Vec<Call>> {
+    let mut calls = Vec::new(alloc);
+    for target in targets {
+        push_call(alloc, ids, subject, target, &mut calls)?;
     }
+    Ok(calls)
 }
 
 /// A change at one in n of the literals, statements or leaves.
@@ -110,12 +147,6 @@ pub(crate) fn prepared(
     step: usize,
 ) -> Result<Prepared> {
     let root = SyntaxNode::new_root(alloc, ids, tree(alloc, subject, size)?)?;
-    let mut calls = Vec::new(alloc);
-    for target in targets(alloc, &root, step)? {
-        if let Some(call) = call(alloc, ids, subject, target)? {
-            calls.push(call)?;
-        }
-    }
-    let editor = editor_with(alloc, ids, root, SyntaxMapping::new(alloc))?;
-    Ok(Prepared { editor, calls })
+    let calls = calls(alloc, ids, subject, targets(alloc, &root, step)?)?;
+    Prepared::new(alloc, ids, root, calls)
 }

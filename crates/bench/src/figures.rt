@@ -23,6 +23,18 @@ pub(crate) enum Phase {
 }
 
 impl Figures {
+    /// Those of nothing yet.
+    pub(crate) fn none() -> Figures {
+        Figures {
+            changes: 0,
+            bytes: 0,
+            recorded: 0.0,
+            planned: 0.0,
+            run: 0.0,
+            floor: 0.0,
+        }
+    }
+
     /// The shorter of each two times.
     pub(crate) fn best(self, other: Figures) -> Figures {
         Figures {

@@ -103,12 +103,8 @@ impl Growth {
     }
 
     // The numbers that it grows through, each twice the one before.
-    fn numbers(self, alloc: Global) -> Result<Vec<usize>> {
-        if self.is_by_levels() {
-            Ok(Vec::from_slice(alloc, &DEPTHS)?)
-        } else {
-            Ok(Vec::from_slice(alloc, &SIZES)?)
-        }
+    fn numbers(self) -> &'static [usize] {
+        if self.is_by_levels() { &DEPTHS } else { &SIZES }
     }
 
     /// The edit of a number.
@@ -160,8 +156,8 @@ impl Growth {
 // The figures of each size.
 fn sizes<R: Clock>(rt: &R, alloc: Global, growth: Growth) -> Result<Vec<Figures>> {
     let mut figures = Vec::new(alloc);
-    for number in growth.numbers(alloc)? {
-        figures.push(tried(rt, alloc, growth.case(number))?)?;
+    for number in growth.numbers() {
+        figures.push(tried(rt, alloc, growth.case(*number))?)?;
     }
     Ok(figures)
 }
@@ -175,26 +171,18 @@ fn round<R: Clock>(rt: &R, alloc: Global) -> Result<Vec<Vec<Figures>>> {
     Ok(round)
 }
 
-// The shorter times of each size.
-fn shorter(alloc: Global, one: &[Figures], other: &[Figures]) -> Result<Vec<Figures>> {
-    let mut best = Vec::with_capacity(alloc, one.len())?;
-    for (one, other) in one.iter().zip(other.iter()) {
-        best.push(one.best(*other))?;
+// Keeps the shorter times of each size.
+fn keep_shorter(best: &mut [Figures], other: &[Figures]) {
+    for (best, other) in best.iter_mut().zip(other.iter()) {
+        *best = best.best(*other);
     }
-    Ok(best)
 }
 
-// The shorter times of each size of each growth.
-fn shorter_of_each(
-    alloc: Global,
-    one: &[Vec<Figures>],
-    other: &[Vec<Figures>],
-) -> Result<Vec<Vec<Figures>>> {
-    let mut best = Vec::with_capacity(alloc, one.len())?;
-    for (one, other) in one.iter().zip(other.iter()) {
-        best.push(shorter(alloc, one, other)?)?;
+// Keeps the shorter times of each size of each growth.
+fn keep_shorter_of_each(best: &mut [Vec<Figures>], other: &[Vec<Figures>]) {
+    for (best, other) in best.iter_mut().zip(other.iter()) {
+        keep_shorter(best.as_mut_slice(), other.as_slice());
     }
-    Ok(best)
 }
 
 // The shortest times of each size of each growth. A while in which the machine is slow does not fall on one growth alone, since each
@@ -202,30 +190,38 @@ fn shorter_of_each(
 fn shortest<R: Clock>(rt: &R, alloc: Global) -> Result<Vec<Vec<Figures>>> {
     let mut best = round(rt, alloc)?;
     for _ in 1..ROUNDS {
-        let figures = round(rt, alloc)?;
-        best = shorter_of_each(alloc, &best, &figures)?;
+        keep_shorter_of_each(&mut best, &round(rt, alloc)?);
     }
     Ok(best)
 }
 
-fn show_times<R: Print>(rt: &R, alloc: Global, case: Case, figures: Figures) -> Result<()> {
-    let label = case.label(alloc)?;
-    let Built { builds, nodes, .. } = Built::of(alloc, case)?;
+fn show_times<R: Print>(rt: &R, label: &str, built: Built, figures: Figures) -> Result<()> {
+    let Built { builds, nodes, .. } = built;
     let Figures { changes, .. } = figures;
     let recorded = figures.recorded * 1e3;
     let planned = figures.planned * 1e3;
     let run = figures.run * 1e3;
+    println!(rt;
+        "{label}: {changes} changes, {builds} nodes built, {nodes} in the tree, recorded {recorded:.3} ms, planned {planned:.3} ms, run {run:.3} ms"
+    )?;
+    Ok(())
+}
+
+fn show_multiples<R: Print>(rt: &R, figures: Figures) -> Result<()> {
     let floor = figures.floor * 1e3;
     let times_planned = figures.planned / figures.floor;
     let times_run = figures.run / figures.floor;
     let times_recorded = figures.recorded / figures.planned;
     println!(rt;
-        "{label}: {changes} changes, {builds} nodes built, {nodes} in the tree, recorded {recorded:.3} ms, planned {planned:.3} ms, run {run:.3} ms"
-    )?;
-    println!(rt;
         "    the least {floor:.3} ms: planned {times_planned:.1} times that, run {times_run:.1} times; recorded {times_recorded:.1} times planned"
     )?;
     Ok(())
+}
+
+fn show_case<R: Print>(rt: &R, alloc: Global, case: Case, figures: Figures) -> Result<()> {
+    let built = Built::of(alloc, case)?;
+    show_times(rt, &case.label(alloc)?, built, figures)?;
+    show_multiples(rt, figures)
 }
 
 fn show_powers<R: Print>(rt: &R, growth: Growth, figures: &[Figures]) -> Result<()> {
@@ -240,14 +236,25 @@ fn show_powers<R: Print>(rt: &R, growth: Growth, figures: &[Figures]) -> Result<
     Ok(())
 }
 
-fn show_growth<R: Print>(rt: &R, alloc: Global, growth: Growth, figures: &[Figures]) -> Result<()> {
-    let numbers = growth.numbers(alloc)?;
+fn show_numbers<R: Print>(
+    rt: &R,
+    alloc: Global,
+    growth: Growth,
+    numbers: &[usize],
+    figures: &[Figures],
+) -> Result<()> {
     for (number, figures) in numbers.iter().zip(figures.iter()) {
-        show_times(rt, alloc, growth.case(*number), *figures)?;
+        show_case(rt, alloc, growth.case(*number), *figures)?;
     }
+    Ok(())
+}
+
+fn show_growth<R: Print>(rt: &R, alloc: Global, growth: Growth, figures: &[Figures]) -> Result<()> {
+    let numbers = growth.numbers();
+    show_numbers(rt, alloc, growth, numbers, figures)?;
     show_powers(rt, growth, figures)?;
     if growth.is_by_levels() {
-        show_levels(rt, &numbers, figures)?;
+        show_levels(rt, numbers, figures)?;
     }
     Ok(())
 }
@@ -272,7 +279,7 @@ pub(crate) fn report_growth<R: Print + Clock>(rt: &R, alloc: Global) -> Result<(
 
 // An edit without its times.
 fn report_edit<R: Print + Clock>(rt: &R, alloc: Global, case: Case) -> Result<()> {
-    let figures = measured(rt, alloc, case)?;
+    let Figures { changes, bytes, .. } = measured(rt, alloc, case)?;
     let Built {
         builds,
         least,
@@ -280,8 +287,7 @@ fn report_edit<R: Print + Clock>(rt: &R, alloc: Global, case: Case) -> Result<()
     } = Built::of(alloc, case)?;
     let label = case.label(alloc)?;
     println!(rt;
-        "{label}: {} changes, {} bytes, {builds} nodes built of {least} at least, {nodes} in the tree",
-        figures.changes, figures.bytes
+        "{label}: {changes} changes, {bytes} bytes, {builds} nodes built of {least} at least, {nodes} in the tree"
     )?;
     Ok(())
 }

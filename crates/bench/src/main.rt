@@ -161,16 +161,25 @@ fn measure_flat<R: Print + Clock>(
     report(rt, timed, start, Work::FlatTokens, tokens)
 }
 
+fn chain_root<R: Print + Clock>(
+    rt: &R,
+    alloc: Global,
+    ids: &mut TreeIds,
+    timed: bool,
+) -> Result<SyntaxNode> {
+    let start = Instant::now(rt)?;
+    let root = SyntaxNode::new_root(alloc, ids, chain(alloc)?)?;
+    report(rt, timed, start, Work::ChainBuilt, CHAIN_NODES)?;
+    Ok(root)
+}
+
 fn measure_chain<R: Print + Clock>(
     rt: &R,
     alloc: Global,
     ids: &mut TreeIds,
     timed: bool,
 ) -> Result<()> {
-    let start = Instant::now(rt)?;
-    let root = SyntaxNode::new_root(alloc, ids, chain(alloc)?)?;
-    report(rt, timed, start, Work::ChainBuilt, CHAIN_NODES)?;
-
+    let root = chain_root(rt, alloc, ids, timed)?;
     let start = Instant::now(rt)?;
     let nodes = root.descendants(alloc)?;
     report(rt, timed, start, Work::ChainDescendants, nodes.len())

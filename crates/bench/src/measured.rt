@@ -2,7 +2,7 @@
 use crate::case::Case;
 use crate::figures::Figures;
 use crate::floor::Floor;
-use crate::prepared::{Call, Prepared};
+use crate::prepared::{Call, Prepared, record_all};
 use anyhow::Result;
 use cst_core::TreeIds;
 use std::alloc::Global;
@@ -12,76 +12,105 @@ use syntax_editor::{EditPlan, OnePassEngine, SyntaxEdit, SyntaxEditor};
 
 const TRIES: usize = 3;
 
-// Makes the calls, and says how many seconds that took.
-fn record<R: Clock>(
-    rt: &R,
-    alloc: Global,
-    calls: Vec<Call>,
-    editor: &mut SyntaxEditor,
-) -> Result<f64> {
-    let start = Instant::now(rt)?;
-    for call in calls {
-        call.record(alloc, editor)?;
-    }
+/// How many seconds have gone by.
+pub(crate) fn seconds_since<R: Clock>(rt: &R, start: Instant) -> Result<f64> {
     Ok(start.elapsed(rt)?.as_secs_f64())
 }
 
-// A plan of what an editor has recorded, and how many seconds planning took.
-fn plan<R: Clock>(rt: &R, alloc: Global, editor: SyntaxEditor) -> Result<(EditPlan, f64)> {
-    let start = Instant::now(rt)?;
-    let plan = editor.plan(alloc)?;
-    let seconds = start.elapsed(rt)?.as_secs_f64();
-    Ok((plan, seconds))
-}
-
-// What a plan makes, and how many seconds it took to carry it out.
-fn run<R: Clock>(
+/// What a case makes, all at once. How many seconds that took is put into the last argument.
+pub(crate) fn finished<R: Clock>(
     rt: &R,
     alloc: Global,
-    ids: &mut TreeIds,
-    plan: &EditPlan,
-) -> Result<(SyntaxEdit, f64)> {
-    let start = Instant::now(rt)?;
-    let edit = plan.run_with(alloc, ids, &mut OnePassEngine::new(alloc))?;
-    let seconds = start.elapsed(rt)?.as_secs_f64();
-    Ok((edit, seconds))
-}
-
-// How many seconds it takes to make what any engine has to make.
-fn floor<R: Clock>(rt: &R, alloc: Global, edit: &SyntaxEdit, case: Case) -> Result<f64> {
-    let floor = Floor::of(alloc, edit, case.touches())?;
-    let start = Instant::now(rt)?;
-    let _tree = floor.make(alloc)?;
-    Ok(start.elapsed(rt)?.as_secs_f64())
-}
-
-/// An editor with the changes of a case recorded, and how many seconds recording took.
-pub(crate) fn recorded<R: Clock>(
-    rt: &R,
-    alloc: Global,
-    ids: &mut TreeIds,
     case: Case,
-) -> Result<(SyntaxEditor, f64)> {
-    let Prepared { mut editor, calls } = case.prepared(alloc, ids)?;
-    let seconds = record(rt, alloc, calls, &mut editor)?;
-    Ok((editor, seconds))
+    seconds: &mut f64,
+) -> Result<SyntaxEdit> {
+    let mut ids = TreeIds::new(1);
+    let editor = case.recorded(alloc, &mut ids)?;
+    let start = Instant::now(rt)?;
+    let edit = editor.finish(alloc, &mut ids)?;
+    *seconds = seconds_since(rt, start)?;
+    Ok(edit)
+}
+
+// A try of an edit, with its figures so far.
+#[derive(Drop)]
+struct Try<'a, R: Clock> {
+    rt: &'a R,
+    alloc: Global,
+    case: Case,
+    ids: TreeIds,
+    figures: Figures,
+}
+
+impl<R: Clock> Try<'_, R> {
+    // Makes the calls.
+    fn make_calls(&mut self, calls: Vec<Call>, editor: &mut SyntaxEditor) -> Result<()> {
+        let start = Instant::now(self.rt)?;
+        record_all(self.alloc, calls, editor)?;
+        self.figures.recorded = seconds_since(self.rt, start)?;
+        self.figures.changes = editor.changes().len();
+        Ok(())
+    }
+
+    fn record(&mut self) -> Result<SyntaxEditor> {
+        let Prepared { mut editor, calls } = self.case.prepared(self.alloc, &mut self.ids)?;
+        self.make_calls(calls, &mut editor)?;
+        Ok(editor)
+    }
+
+    // Plans what was recorded.
+    fn plan(&mut self) -> Result<EditPlan> {
+        let editor = self.record()?;
+        let start = Instant::now(self.rt)?;
+        let plan = editor.plan(self.alloc)?;
+        self.figures.planned = seconds_since(self.rt, start)?;
+        Ok(plan)
+    }
+
+    // Carries a plan out.
+    fn run(&mut self, plan: &EditPlan) -> Result<SyntaxEdit> {
+        let start = Instant::now(self.rt)?;
+        let edit = plan.run_with(
+            self.alloc,
+            &mut self.ids,
+            &mut OnePassEngine::new(self.alloc),
+        )?;
+        self.figures.run = seconds_since(self.rt, start)?;
+        self.figures.bytes = edit.new_root().text_len();
+        Ok(edit)
+    }
+
+    // Makes what any engine has to make for an edit.
+    fn make_floor(&mut self, edit: &SyntaxEdit) -> Result<()> {
+        let floor = Floor::of(self.alloc, edit, self.case.touches())?;
+        let start = Instant::now(self.rt)?;
+        let _tree = floor.make(self.alloc)?;
+        self.figures.floor = seconds_since(self.rt, start)?;
+        Ok(())
+    }
+
+    fn measure_plan(&mut self, plan: &EditPlan) -> Result<()> {
+        let edit = self.run(plan)?;
+        self.make_floor(&edit)
+    }
+
+    fn measure(&mut self) -> Result<()> {
+        let plan = self.plan()?;
+        self.measure_plan(&plan)
+    }
 }
 
 /// The figures of one try.
 pub(crate) fn measured<R: Clock>(rt: &R, alloc: Global, case: Case) -> Result<Figures> {
-    let mut ids = TreeIds::new(1);
-    let (editor, recorded) = recorded(rt, alloc, &mut ids, case)?;
-    let changes = editor.changes().len();
-    let (plan, planned) = plan(rt, alloc, editor)?;
-    let (edit, run) = run(rt, alloc, &mut ids, &plan)?;
-    Ok(Figures {
-        changes,
-        bytes: edit.new_root().text_len(),
-        recorded,
-        planned,
-        run,
-        floor: floor(rt, alloc, &edit, case)?,
-    })
+    let mut one = Try {
+        rt,
+        alloc,
+        case,
+        ids: TreeIds::new(1),
+        figures: Figures::none(),
+    };
+    one.measure()?;
+    Ok(one.figures)
 }
 
 /// The shortest times of some tries, one after another.

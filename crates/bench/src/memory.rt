@@ -3,12 +3,10 @@
 use crate::case::Case;
 use crate::floor::Floor;
 use crate::growth::ONE_OF_EACH;
-use crate::measured::recorded;
 use anyhow::Result;
 use cst_core::TreeIds;
 use std::alloc::Global;
-use std::rt::Clock;
-use syntax_editor::{OnePassEngine, SyntaxEdit};
+use syntax_editor::{EditPlan, OnePassEngine, SyntaxEdit};
 
 /// Bytes of the list that is a mark. No other list is as long.
 const MARK: usize = 7_654_321;
@@ -37,11 +35,11 @@ impl Counted {
     }
 
     // Makes the call between two marks, and says how many bytes the new text has.
-    fn call<R: Clock>(self, rt: &R, alloc: Global, case: Case) -> Result<u64> {
+    fn call(self, alloc: Global, case: Case) -> Result<u64> {
         match self {
-            Counted::Finish => finish(rt, alloc, case),
-            Counted::Run => run(rt, alloc, case),
-            Counted::Nodes => make_nodes(rt, alloc, case),
+            Counted::Finish => finish(alloc, case),
+            Counted::Run => run(alloc, case),
+            Counted::Nodes => make_nodes(alloc, case),
         }
     }
 }
@@ -52,35 +50,38 @@ fn mark(alloc: Global) -> Result<()> {
     Ok(())
 }
 
-// What was made is still there at the second mark, since its text is asked for after that.
-fn finish<R: Clock>(rt: &R, alloc: Global, case: Case) -> Result<u64> {
+// The second mark. What was made is still there, since its text is asked for after that.
+fn mark_again(alloc: Global, edit: &SyntaxEdit) -> Result<u64> {
+    mark(alloc)?;
+    Ok(edit.new_root().text_len())
+}
+
+fn finish(alloc: Global, case: Case) -> Result<u64> {
     let mut ids = TreeIds::new(1);
-    let (editor, _) = recorded(rt, alloc, &mut ids, case)?;
+    let editor = case.recorded(alloc, &mut ids)?;
     mark(alloc)?;
     let edit = editor.finish(alloc, &mut ids)?;
-    mark(alloc)?;
-    Ok(edit.new_root().text_len())
+    mark_again(alloc, &edit)
 }
 
-fn run<R: Clock>(rt: &R, alloc: Global, case: Case) -> Result<u64> {
+fn run_plan(alloc: Global, ids: &mut TreeIds, plan: &EditPlan) -> Result<u64> {
+    mark(alloc)?;
+    let edit = plan.run_with(alloc, ids, &mut OnePassEngine::new(alloc))?;
+    mark_again(alloc, &edit)
+}
+
+fn run(alloc: Global, case: Case) -> Result<u64> {
     let mut ids = TreeIds::new(1);
-    let (editor, _) = recorded(rt, alloc, &mut ids, case)?;
-    let plan = editor.plan(alloc)?;
-    mark(alloc)?;
-    let edit = plan.run_with(alloc, &mut ids, &mut OnePassEngine::new(alloc))?;
-    mark(alloc)?;
-    Ok(edit.new_root().text_len())
+    let plan = case.planned(alloc, &mut ids)?;
+    run_plan(alloc, &mut ids, &plan)
 }
 
-fn finished<R: Clock>(rt: &R, alloc: Global, case: Case) -> Result<SyntaxEdit> {
-    let mut ids = TreeIds::new(1);
-    let (editor, _) = recorded(rt, alloc, &mut ids, case)?;
-    Ok(editor.finish(alloc, &mut ids)?)
+fn make_nodes(alloc: Global, case: Case) -> Result<u64> {
+    let edit = case.finished(alloc, &mut TreeIds::new(1))?;
+    make_nodes_of(alloc, &Floor::of(alloc, &edit, case.touches())?)
 }
 
-fn make_nodes<R: Clock>(rt: &R, alloc: Global, case: Case) -> Result<u64> {
-    let edit = finished(rt, alloc, case)?;
-    let floor = Floor::of(alloc, &edit, case.touches())?;
+fn make_nodes_of(alloc: Global, floor: &Floor) -> Result<u64> {
     mark(alloc)?;
     let tree = floor.make(alloc)?;
     mark(alloc)?;
@@ -90,20 +91,15 @@ fn make_nodes<R: Clock>(rt: &R, alloc: Global, case: Case) -> Result<u64> {
     })
 }
 
-fn report_call<R: Print + Clock>(
-    rt: &R,
-    alloc: Global,
-    case: Case,
-    counted: Counted,
-) -> Result<()> {
-    let bytes = counted.call(rt, alloc, case)?;
+fn report_call<R: Print>(rt: &R, alloc: Global, case: Case, counted: Counted) -> Result<()> {
+    let bytes = counted.call(alloc, case)?;
     let label = case.label(alloc)?;
     let name = counted.name();
     println!(rt; "{label}: {name}, {bytes} bytes")?;
     Ok(())
 }
 
-fn report_calls<R: Print + Clock>(rt: &R, alloc: Global, case: Case) -> Result<()> {
+fn report_calls<R: Print>(rt: &R, alloc: Global, case: Case) -> Result<()> {
     for counted in [Counted::Finish, Counted::Run, Counted::Nodes] {
         report_call(rt, alloc, case, counted)?;
     }
@@ -111,7 +107,7 @@ fn report_calls<R: Print + Clock>(rt: &R, alloc: Global, case: Case) -> Result<(
 }
 
 /// Edits with marks round their calls, and a line for each two marks.
-pub(crate) fn report_memory<R: Print + Clock>(rt: &R, alloc: Global) -> Result<()> {
+pub(crate) fn report_memory<R: Print>(rt: &R, alloc: Global) -> Result<()> {
     for growth in ONE_OF_EACH {
         report_calls(rt, alloc, growth.case(SIZE))?;
     }

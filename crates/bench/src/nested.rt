@@ -1,11 +1,10 @@
 //! Chains of nested blocks, where each block is wrapped and inserted into.
-use crate::edits::leaf;
-use crate::prepared::{Call, Prepared, editor_with};
+use crate::edits::{leaf, new_leaf};
+use crate::prepared::{Call, Prepared, insert_after};
 use anyhow::{Context, Result};
 use cst_core::{GreenElement, GreenNode, GreenToken, SyntaxKind, SyntaxNode, TreeIds};
 use edit_map::{SyntaxMapping, SyntaxMappingBuilder};
 use std::alloc::Global;
-use syntax_editor::Position;
 
 /// Chains of n blocks each, which stand side by side.
 #[derive(Clone, Copy)]
@@ -16,18 +15,26 @@ pub(crate) struct Nest {
     pub(crate) wraps: usize,
 }
 
+// A node between braces.
+fn braced(alloc: Global, inner: GreenNode) -> Result<GreenNode> {
+    let mut children = Vec::new(alloc);
+    children.push(GreenElement::Token(GreenToken::new(alloc, SyntaxKind::L_CURLY, "{")?))?;
+    children.push(GreenElement::Node(inner))?;
+    children.push(GreenElement::Token(GreenToken::new(alloc, SyntaxKind::R_CURLY, "}")?))?;
+    Ok(GreenNode::new(alloc, SyntaxKind::STMT_LIST, children)?)
+}
+
+fn block(alloc: Global, list: GreenNode) -> Result<GreenNode> {
+    let mut children = Vec::new(alloc);
+    children.push(GreenElement::Node(list))?;
+    Ok(GreenNode::new(alloc, SyntaxKind::BLOCK_EXPR, children)?)
+}
+
 // Something in n blocks.
 fn wrapped(alloc: Global, inner: GreenNode, times: usize) -> Result<GreenNode> {
     let mut node = inner;
     for _ in 0..times {
-        let mut children = Vec::new(alloc);
-        children.push(GreenElement::Token(GreenToken::new(alloc, SyntaxKind::L_CURLY, "{")?))?;
-        children.push(GreenElement::Node(node))?;
-        children.push(GreenElement::Token(GreenToken::new(alloc, SyntaxKind::R_CURLY, "}")?))?;
-        let list = GreenNode::new(alloc, SyntaxKind::STMT_LIST, children)?;
-        let mut lists = Vec::new(alloc);
-        lists.push(GreenElement::Node(list))?;
-        node = GreenNode::new(alloc, SyntaxKind::BLOCK_EXPR, lists)?;
+        node = block(alloc, braced(alloc, node)?)?;
     }
     Ok(node)
 }
@@ -61,11 +68,15 @@ fn map_copy(
     mapping: &mut SyntaxMapping,
 ) -> Result<()> {
     let copy = inside(alloc, payload, wraps)?;
+    let builder = builder_of(alloc, block, copy)?;
+    Ok(builder.finish(alloc, mapping)?)
+}
+
+fn builder_of(alloc: Global, block: &SyntaxNode, copy: SyntaxNode) -> Result<SyntaxMappingBuilder> {
     let parent = copy.parent(alloc)?.context("no parent")?;
     let mut builder = SyntaxMappingBuilder::new(alloc, parent);
     builder.map_node(alloc, block.try_clone(alloc)?, copy)?;
-    builder.finish(alloc, mapping)?;
-    Ok(())
+    Ok(builder)
 }
 
 // A payload that wraps a block, of which the mapping knows the copy.
@@ -84,12 +95,37 @@ fn payload(
 
 // An insert after what stands in a block.
 fn insert(alloc: Global, ids: &mut TreeIds, block: &SyntaxNode) -> Result<Call> {
-    let position = Position::after(alloc, inside(alloc, block, 1)?)?.context("no parent")?;
-    let new = SyntaxNode::new_root(alloc, ids, leaf(alloc)?)?;
-    Ok(Call::Insert(position, new))
+    let inner = inside(alloc, block, 1)?;
+    insert_after(alloc, inner, new_leaf(alloc, ids)?)
 }
 
-// For each block below a root an insert into it, and its replacement by one that wraps it.
+// A block's replacement by one that wraps it.
+fn replace(
+    alloc: Global,
+    ids: &mut TreeIds,
+    block: SyntaxNode,
+    wraps: usize,
+    mapping: &mut SyntaxMapping,
+) -> Result<Call> {
+    let payload = payload(alloc, ids, &block, wraps, mapping)?;
+    Ok(Call::Replace(block, payload))
+}
+
+// An insert into a block, and its replacement by one that wraps it.
+fn push_calls(
+    alloc: Global,
+    ids: &mut TreeIds,
+    block: SyntaxNode,
+    wraps: usize,
+    mapping: &mut SyntaxMapping,
+    calls: &mut Vec<Call>,
+) -> Result<()> {
+    calls.push(insert(alloc, ids, &block)?)?;
+    calls.push(replace(alloc, ids, block, wraps, mapping)?)?;
+    Ok(())
+}
+
+// The calls for each block below a root.
 fn calls(
     alloc: Global,
     ids: &mut TreeIds,
@@ -100,19 +136,28 @@ fn calls(
     let mut calls = Vec::new(alloc);
     for block in root.descendants(alloc)? {
         if block.kind() == SyntaxKind::BLOCK_EXPR {
-            calls.push(insert(alloc, ids, &block)?)?;
-            let payload = payload(alloc, ids, &block, wraps, mapping)?;
-            calls.push(Call::Replace(block, payload))?;
+            push_calls(alloc, ids, block, wraps, mapping, &mut calls)?;
         }
     }
     Ok(calls)
 }
 
+// The tree and the calls, of which the mapping is told.
+fn prepared_into(
+    alloc: Global,
+    ids: &mut TreeIds,
+    nest: Nest,
+    mapping: &mut SyntaxMapping,
+) -> Result<Prepared> {
+    let root = SyntaxNode::new_root(alloc, ids, tree(alloc, nest)?)?;
+    let calls = calls(alloc, ids, &root, nest.wraps, mapping)?;
+    Prepared::new(alloc, ids, root, calls)
+}
+
 /// Each block replaced by one that wraps it, and an insert into each.
 pub(crate) fn prepared(alloc: Global, ids: &mut TreeIds, nest: Nest) -> Result<Prepared> {
-    let root = SyntaxNode::new_root(alloc, ids, tree(alloc, nest)?)?;
     let mut mapping = SyntaxMapping::new(alloc);
-    let calls = calls(alloc, ids, &root, nest.wraps, &mut mapping)?;
-    let editor = editor_with(alloc, ids, root, mapping)?;
-    Ok(Prepared { editor, calls })
+    let mut prepared = prepared_into(alloc, ids, nest, &mut mapping)?;
+    prepared.merge(alloc, mapping)?;
+    Ok(prepared)
 }

@@ -1,11 +1,10 @@
 //! Literals that are registered with annotations, each with one of its own.
-use crate::edits::{flat, leaf};
-use crate::prepared::{Call, Prepared, editor_with};
+use crate::edits::{flat, new_leaf};
+use crate::prepared::{Call, Prepared, insert_after};
 use anyhow::{Context, Result};
 use cst_core::{SyntaxNode, TreeIds};
-use edit_map::SyntaxMapping;
 use std::alloc::Global;
-use syntax_editor::{Annotations, Position};
+use syntax_editor::Annotations;
 
 /// Which literals are registered, and what is edited.
 #[derive(Clone, Copy)]
@@ -26,12 +25,6 @@ fn annotate(alloc: Global, root: &SyntaxNode, calls: &mut Vec<Call>) -> Result<(
     Ok(())
 }
 
-// An insert of a payload after a child.
-fn insert(alloc: Global, child: SyntaxNode, payload: SyntaxNode) -> Result<Call> {
-    let position = Position::after(alloc, child)?.context("no parent")?;
-    Ok(Call::Insert(position, payload))
-}
-
 // An insert of another literal after each child of a root.
 fn insert_leaves(
     alloc: Global,
@@ -40,8 +33,8 @@ fn insert_leaves(
     calls: &mut Vec<Call>,
 ) -> Result<()> {
     for child in root.children(alloc)? {
-        let new = SyntaxNode::new_root(alloc, ids, leaf(alloc)?)?;
-        calls.push(insert(alloc, child, new)?)?;
+        let new = new_leaf(alloc, ids)?;
+        calls.push(insert_after(alloc, child, new)?)?;
     }
     Ok(())
 }
@@ -55,7 +48,7 @@ fn insert_payload(
 ) -> Result<()> {
     for child in root.children(alloc)? {
         let new = payload.try_clone(alloc)?;
-        calls.push(insert(alloc, child, new)?)?;
+        calls.push(insert_after(alloc, child, new)?)?;
     }
     Ok(())
 }
@@ -100,6 +93,5 @@ impl Noted {
 pub(crate) fn prepared(alloc: Global, ids: &mut TreeIds, noted: Noted) -> Result<Prepared> {
     let root = SyntaxNode::new_root(alloc, ids, flat(alloc, noted.size())?)?;
     let calls = calls(alloc, ids, &root, noted)?;
-    let editor = editor_with(alloc, ids, root, SyntaxMapping::new(alloc))?;
-    Ok(Prepared { editor, calls })
+    Prepared::new(alloc, ids, root, calls)
 }

@@ -1,6 +1,6 @@
 //! How long it takes to carry changes out one at a time, in the default order, beside all of them at once.
 use crate::case::{Case, Subject};
-use crate::measured::recorded;
+use crate::measured::{finished, seconds_since};
 use anyhow::Result;
 use cst_core::TreeIds;
 use std::alloc::Global;
@@ -53,34 +53,37 @@ fn execute(alloc: Global, ids: &mut TreeIds, editor: SyntaxEditor) -> Result<Syn
     Ok(plan.execute(alloc, ids, &order)?)
 }
 
-// How many changes there are, how many bytes the new text has, and how many seconds it takes in the default order.
-fn executed<R: Clock>(rt: &R, alloc: Global, case: Case) -> Result<(usize, u64, f64)> {
-    let mut ids = TreeIds::new(1);
-    let (editor, _) = recorded(rt, alloc, &mut ids, case)?;
+// What comes of changes in the default order, without the time at once.
+fn executed_by<R: Clock>(
+    rt: &R,
+    alloc: Global,
+    ids: &mut TreeIds,
+    editor: SyntaxEditor,
+) -> Result<Figures> {
     let changes = editor.changes().len();
     let start = Instant::now(rt)?;
-    let edit = execute(alloc, &mut ids, editor)?;
-    let seconds = start.elapsed(rt)?.as_secs_f64();
-    Ok((changes, edit.new_root().text_len(), seconds))
+    let edit = execute(alloc, ids, editor)?;
+    Ok(Figures {
+        changes,
+        bytes: edit.new_root().text_len(),
+        finished: 0.0,
+        executed: seconds_since(rt, start)?,
+    })
 }
 
-// How many seconds it takes at once.
-fn finished<R: Clock>(rt: &R, alloc: Global, case: Case) -> Result<f64> {
+fn executed<R: Clock>(rt: &R, alloc: Global, case: Case) -> Result<Figures> {
     let mut ids = TreeIds::new(1);
-    let (editor, _) = recorded(rt, alloc, &mut ids, case)?;
-    let start = Instant::now(rt)?;
-    editor.finish(alloc, &mut ids)?;
-    Ok(start.elapsed(rt)?.as_secs_f64())
+    let editor = case.recorded(alloc, &mut ids)?;
+    executed_by(rt, alloc, &mut ids, editor)
 }
 
 fn measured<R: Clock>(rt: &R, alloc: Global, case: Case) -> Result<Figures> {
-    let finished = finished(rt, alloc, case)?;
-    let (changes, bytes, executed) = executed(rt, alloc, case)?;
+    let mut seconds = 0.0;
+    finished(rt, alloc, case, &mut seconds)?;
+    let executed = executed(rt, alloc, case)?;
     Ok(Figures {
-        changes,
-        bytes,
-        finished,
-        executed,
+        finished: seconds,
+        ..executed
     })
 }
 
@@ -120,13 +123,17 @@ pub(crate) fn report_order_times<R: Print + Clock>(rt: &R, alloc: Global) -> Res
     Ok(())
 }
 
+fn report_order<R: Print + Clock>(rt: &R, alloc: Global, case: Case) -> Result<()> {
+    let Figures { changes, bytes, .. } = executed(rt, alloc, case)?;
+    let label = case.label(alloc)?;
+    println!(rt; "{label}: {changes} changes by the default order, {bytes} bytes")?;
+    Ok(())
+}
+
 /// One small edit of each kind by the default order, without a time.
 pub(crate) fn report_orders<R: Print + Clock>(rt: &R, alloc: Global) -> Result<()> {
     for subject in SUBJECTS {
-        let case = case(subject, LEAST);
-        let label = case.label(alloc)?;
-        let (changes, bytes, _) = executed(rt, alloc, case)?;
-        println!(rt; "{label}: {changes} changes by the default order, {bytes} bytes")?;
+        report_order(rt, alloc, case(subject, LEAST))?;
     }
     Ok(())
 }

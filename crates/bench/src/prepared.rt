@@ -1,5 +1,5 @@
 //! The calls of an edit, and the editor that they are made on.
-use anyhow::Result;
+use anyhow::{Context, Result};
 use cst_core::{SyntaxNode, TreeIds};
 use edit_map::SyntaxMapping;
 use std::alloc::Global;
@@ -21,29 +21,56 @@ pub(crate) struct Prepared {
 }
 
 impl Call {
-    /// Makes the call.
-    pub(crate) fn record(self, alloc: Global, editor: &mut SyntaxEditor) -> Result<()> {
+    // Makes the call.
+    fn record(self, alloc: Global, editor: &mut SyntaxEditor) -> Result<()> {
         match self {
-            Call::Insert(position, new) => editor.insert(alloc, position, new)?,
-            Call::Replace(target, new) => editor.replace(alloc, target, new)?,
+            Call::Insert(position, new) => Ok(editor.insert(alloc, position, new)?),
+            Call::Replace(target, new) => Ok(editor.replace(alloc, target, new)?),
             Call::Annotate(element, annotation) => {
-                editor.add_annotation(alloc, element, annotation)?
+                Ok(editor.add_annotation(alloc, element, annotation)?)
             }
         }
-        Ok(())
     }
 }
 
-/// An editor of a root, whose factory has this mapping.
-pub(crate) fn editor_with(
-    alloc: Global,
-    ids: &mut TreeIds,
-    root: SyntaxNode,
-    mapping: SyntaxMapping,
-) -> Result<SyntaxEditor> {
-    let (mut editor, _) = SyntaxEditor::new(alloc, ids, root)?;
-    if let Some(mappings) = editor.make_mut().mappings() {
-        mappings.merge(alloc, mapping)?;
+/// Makes the calls.
+pub(crate) fn record_all(alloc: Global, calls: Vec<Call>, editor: &mut SyntaxEditor) -> Result<()> {
+    for call in calls {
+        call.record(alloc, editor)?;
     }
-    Ok(editor)
+    Ok(())
+}
+
+/// An insert of a node after another one, which is no root.
+pub(crate) fn insert_after(alloc: Global, target: SyntaxNode, new: SyntaxNode) -> Result<Call> {
+    let position = Position::after(alloc, target)?.context("no parent")?;
+    Ok(Call::Insert(position, new))
+}
+
+impl Prepared {
+    /// An editor of a root.
+    pub(crate) fn new(
+        alloc: Global,
+        ids: &mut TreeIds,
+        root: SyntaxNode,
+        calls: Vec<Call>,
+    ) -> Result<Prepared> {
+        let (editor, _) = SyntaxEditor::new(alloc, ids, root)?;
+        Ok(Prepared { editor, calls })
+    }
+
+    /// Adds a mapping to that of the editor's factory.
+    pub(crate) fn merge(&mut self, alloc: Global, mapping: SyntaxMapping) -> Result<()> {
+        match self.editor.make_mut().mappings() {
+            Some(mappings) => Ok(mappings.merge(alloc, mapping)?),
+            None => Ok(()),
+        }
+    }
+
+    /// The editor after the calls.
+    pub(crate) fn recorded(self, alloc: Global) -> Result<SyntaxEditor> {
+        let Prepared { mut editor, calls } = self;
+        record_all(alloc, calls, &mut editor)?;
+        Ok(editor)
+    }
 }

@@ -2,10 +2,9 @@
 use crate::case::{Case, Subject};
 use crate::figures::{Figures, Phase};
 use crate::growth::SIZES;
-use crate::measured::{measured, recorded};
+use crate::measured::{finished, measured, seconds_since};
 use crate::notes::Noted;
 use anyhow::{Context, Result};
-use cst_core::TreeIds;
 use std::alloc::Global;
 use std::rt::Clock;
 use std::time::Instant;
@@ -111,32 +110,32 @@ fn copies(alloc: Global, path: &[usize], number: usize) -> Result<Vec<Vec<usize>
 fn time_of_copies<R: Clock>(rt: &R, alloc: Global, path: &[usize], number: usize) -> Result<f64> {
     let start = Instant::now(rt)?;
     let _copies = copies(alloc, path, number)?;
-    Ok(start.elapsed(rt)?.as_secs_f64())
-}
-
-// A payload with notes brought so many times, and how many seconds it took to finish that.
-fn finished<R: Clock>(rt: &R, alloc: Global, times: usize) -> Result<(SyntaxEdit, f64)> {
-    let mut ids = TreeIds::new(1);
-    let case = Case::Noted(Noted::Payload {
-        notes: NOTES,
-        times,
-    });
-    let (editor, _) = recorded(rt, alloc, &mut ids, case)?;
-    let start = Instant::now(rt)?;
-    let edit = editor.finish(alloc, &mut ids)?;
-    let seconds = start.elapsed(rt)?.as_secs_f64();
-    Ok((edit, seconds))
+    seconds_since(rt, start)
 }
 
 impl Brought {
-    fn measured<R: Clock>(rt: &R, alloc: Global, times: usize) -> Result<Brought> {
-        let (edit, finished) = finished(rt, alloc, times)?;
-        let paths = found(&edit, NOTES)?;
-        let path = path_of_one(alloc, &edit)?;
+    // How many paths come out of an edit, and what it takes to copy one of them as often.
+    fn of_edit<R: Clock>(rt: &R, alloc: Global, edit: &SyntaxEdit) -> Result<Brought> {
+        let paths = found(edit, NOTES)?;
+        let path = path_of_one(alloc, edit)?;
         Ok(Brought {
             paths,
-            finished,
+            finished: 0.0,
             copied: time_of_copies(rt, alloc, &path, paths)?,
+        })
+    }
+
+    // Of a payload with notes that is brought so many times.
+    fn measured<R: Clock>(rt: &R, alloc: Global, times: usize) -> Result<Brought> {
+        let case = Case::Noted(Noted::Payload {
+            notes: NOTES,
+            times,
+        });
+        let mut seconds = 0.0;
+        let edit = finished(rt, alloc, case, &mut seconds)?;
+        Ok(Brought {
+            finished: seconds,
+            ..Brought::of_edit(rt, alloc, &edit)?
         })
     }
 

@@ -14,6 +14,13 @@ pub enum Aim {
     Targets(Vec<Vec<usize>>),
 }
 
+/// A gap at an element: before its first child, or after itself.
+#[derive(Clone, Copy)]
+pub enum Gap {
+    First,
+    After,
+}
+
 // A path with one more slot.
 fn child(alloc: Global, parent: &[usize], slot: usize) -> Result<Vec<usize>, AllocError> {
     let mut path = Vec::from_slice(alloc, parent)?;
@@ -43,7 +50,7 @@ fn one(alloc: Global, target: &SyntaxElement) -> Result<Aim> {
     Ok(Aim::Targets(targets))
 }
 
-fn gap(alloc: Global, at: &Position) -> Result<Aim> {
+fn insert_gap(alloc: Global, at: &Position) -> Result<Aim> {
     if let Some(node) = at.first_of() {
         return Ok(Aim::First(node.path(alloc)?));
     }
@@ -68,8 +75,8 @@ fn moved_path(
 impl Aim {
     pub fn of(alloc: Global, change: &Change) -> Result<Aim> {
         match change {
-            Change::Insert(at, _) => gap(alloc, at),
-            Change::InsertAll(at, _) => gap(alloc, at),
+            Change::Insert(at, _) => insert_gap(alloc, at),
+            Change::InsertAll(at, _) => insert_gap(alloc, at),
             Change::Replace(target, _) => one(alloc, target),
             Change::ReplaceWithMany(target, _) => one(alloc, target),
             Change::ReplaceAll(first, last, _) => range(alloc, first, last),
@@ -96,17 +103,12 @@ impl Aim {
         }
     }
 
-    pub fn is_first_of(&self, path: &[usize]) -> bool {
+    /// Whether it is the gap of this form at the element at this path.
+    pub fn fills(&self, gap: Gap, path: &[usize]) -> bool {
         match self {
-            Aim::First(node) => node.as_slice() == path,
-            _ => false,
-        }
-    }
-
-    pub fn is_after(&self, path: &[usize]) -> bool {
-        match self {
-            Aim::After(element) => element.as_slice() == path,
-            _ => false,
+            Aim::First(node) => matches!(gap, Gap::First) && node.as_slice() == path,
+            Aim::After(element) => matches!(gap, Gap::After) && element.as_slice() == path,
+            Aim::Targets(_) => false,
         }
     }
 

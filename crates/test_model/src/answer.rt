@@ -55,9 +55,9 @@ impl Answer {
     }
 
     // What was made by the editor.
-    fn of_edit(alloc: Global, edit: &SyntaxEdit) -> Result<Answer, AllocError> {
+    fn of_edit(alloc: Global, edit: &SyntaxEdit) -> Result<Answer> {
         let changed = paths_of(alloc, edit.changed_elements())?;
-        Answer::of_tree(alloc, edit.new_root().as_green(), &changed)
+        Ok(Answer::of_tree(alloc, edit.new_root().as_green(), &changed)?)
     }
 
     /// What was made by an engine.
@@ -82,10 +82,10 @@ impl Display for Answer {
                 f,
                 "MissingMapping {change} {owner}"
             ),
-            Answer::NotAllowed(clause) => write!(f, "{clause}"),
-            Answer::OtherStage(difference) => write!(f, "{difference}"),
-            Answer::EnginesDiffer => write!(f, "the engines differ"),
-            Answer::Made(text) => write!(f, "{text}"),
+            Answer::NotAllowed(clause) => f.write_str(clause.name()),
+            Answer::OtherStage(difference) => f.write_str(difference),
+            Answer::EnginesDiffer => f.write_str("the engines differ"),
+            Answer::Made(text) => f.write_str(text),
         }
     }
 }
@@ -98,7 +98,7 @@ pub fn editor_answer(alloc: Global, ids: &mut TreeIds, editor: SyntaxEditor) -> 
 /// What a call answered that makes an edit.
 pub fn answer_of(alloc: Global, made: Result<SyntaxEdit, EditError>) -> Result<Answer> {
     match made {
-        Ok(edit) => Ok(Answer::of_edit(alloc, &edit)?),
+        Ok(edit) => Answer::of_edit(alloc, &edit),
         Err(refusal) => answer_of_refusal(refusal),
     }
 }
@@ -124,6 +124,14 @@ fn not_allowed(refusal: ExecuteError) -> Result<Answer> {
     }
 }
 
+// What a call answered that carries changes out in an order.
+fn answer_of_executed(alloc: Global, executed: Result<SyntaxEdit, ExecuteError>) -> Result<Answer> {
+    match executed {
+        Ok(edit) => Answer::of_edit(alloc, &edit),
+        Err(refusal) => not_allowed(refusal),
+    }
+}
+
 /// What the editor answers where its changes are carried out in an order.
 pub fn ordered_answer(
     alloc: Global,
@@ -131,12 +139,8 @@ pub fn ordered_answer(
     editor: SyntaxEditor,
     order: &[usize],
 ) -> Result<Answer> {
-    let plan = match editor.plan(alloc) {
-        Ok(plan) => plan,
-        Err(refusal) => return answer_of_refusal(refusal),
-    };
-    match plan.execute(alloc, ids, order) {
-        Ok(edit) => Ok(Answer::of_edit(alloc, &edit)?),
-        Err(refusal) => not_allowed(refusal),
+    match editor.plan(alloc) {
+        Ok(plan) => answer_of_executed(alloc, plan.execute(alloc, ids, order)),
+        Err(refusal) => answer_of_refusal(refusal),
     }
 }

@@ -1,15 +1,12 @@
 use crate::answer::{Answer, answer_of, answer_of_refusal, editor_answer, ordered_answer};
 use crate::choice::Choice;
 use crate::engines::engines_answer;
-use crate::fate::fates;
-use crate::model::model_answer;
-use crate::order::Fated;
-use crate::planned::plan;
+use crate::fated::Fated;
 use crate::stepper::Stepper;
 use anyhow::Result;
 use cst_core::{SyntaxNode, TreeIds};
 use std::alloc::{AllocError, Global};
-use syntax_editor::{Change, SyntaxEditor, SyntaxMapping};
+use syntax_editor::{EditPlan, SyntaxEditor, SyntaxMapping};
 
 /// What the editor and the model answer to the same changes.
 #[derive(Drop)]
@@ -32,6 +29,18 @@ fn mapping_of(alloc: Global, editor: &mut SyntaxEditor) -> Result<SyntaxMapping,
     }
 }
 
+// What the model says becomes of what an editor has recorded.
+fn fated(alloc: Global, editor: &mut SyntaxEditor) -> Result<Fated<'_>> {
+    let mapping = mapping_of(alloc, editor)?;
+    Fated::new(alloc, editor.changes(), &mapping)
+}
+
+// What the model answers to what an editor has recorded.
+fn model_answer(alloc: Global, root: &SyntaxNode, editor: &mut SyntaxEditor) -> Result<Answer> {
+    let fated = fated(alloc, editor)?;
+    Ok(fated.answer(alloc, root)?)
+}
+
 /// What both answer to what this editor of the tree with this root has recorded.
 pub fn answers_to(
     alloc: Global,
@@ -39,8 +48,7 @@ pub fn answers_to(
     root: &SyntaxNode,
     mut editor: SyntaxEditor,
 ) -> Result<Answers> {
-    let mapping = mapping_of(alloc, &mut editor)?;
-    let model = model_answer(alloc, root, editor.changes(), &mapping)?;
+    let model = model_answer(alloc, root, &mut editor)?;
     let editor = editor_answer(alloc, ids, editor)?;
     Ok(Answers { editor, model })
 }
@@ -51,34 +59,19 @@ pub fn engines_answers(
     root: &SyntaxNode,
     mut editor: SyntaxEditor,
 ) -> Result<Answers> {
-    let mapping = mapping_of(alloc, &mut editor)?;
-    let model = model_answer(alloc, root, editor.changes(), &mapping)?;
+    let model = model_answer(alloc, root, &mut editor)?;
     let editor = engines_answer(alloc, editor)?;
     Ok(Answers { editor, model })
 }
 
-// What the model answers where the changes are carried out in an order. The order makes no difference where it is allowed.
 fn ordered_model_answer(
     alloc: Global,
     root: &SyntaxNode,
-    changes: &[Change],
-    mapping: &SyntaxMapping,
+    editor: &mut SyntaxEditor,
     order: &[usize],
 ) -> Result<Answer> {
-    let answer = model_answer(alloc, root, changes, mapping)?;
-    let Answer::Made(_) = answer else {
-        return Ok(answer);
-    };
-    let planned = plan(alloc, changes)?;
-    let fates = fates(alloc, &planned, mapping)?;
-    let fated = Fated {
-        planned: &planned,
-        fates: &fates,
-    };
-    match fated.broken(order) {
-        Some(clause) => Ok(Answer::NotAllowed(clause)),
-        None => Ok(answer),
-    }
+    let fated = fated(alloc, editor)?;
+    Ok(fated.ordered_answer(alloc, root, order)?)
 }
 
 /// What both answer where the changes are carried out in this order.
@@ -89,33 +82,57 @@ pub fn ordered_answers(
     mut editor: SyntaxEditor,
     order: &[usize],
 ) -> Result<Answers> {
-    let mapping = mapping_of(alloc, &mut editor)?;
-    let model = ordered_model_answer(alloc, root, editor.changes(), &mapping, order)?;
+    let model = ordered_model_answer(alloc, root, &mut editor, order)?;
     let editor = ordered_answer(alloc, ids, editor, order)?;
     Ok(Answers { editor, model })
 }
 
 // What comes of a plan that is carried out one change at a time, in an order that the next tree number picks.
-fn stepped_answer(
+fn stepped_plan_answer(
     alloc: Global,
     ids: &mut TreeIds,
     root: &SyntaxNode,
-    fated: Fated<'_>,
-    editor: SyntaxEditor,
+    fated: &Fated<'_>,
+    plan: &EditPlan,
 ) -> Result<Answer> {
-    let plan = match editor.plan(alloc) {
-        Ok(plan) => plan,
-        Err(refusal) => return answer_of_refusal(refusal),
-    };
     let mut choice = Choice::new(ids.peek().unwrap_or(0));
-    let mut stepper = Stepper::new(alloc, &plan, root, fated)?;
-    if let Some(difference) = stepper.step_on(&mut choice)? {
-        return Ok(Answer::OtherStage(difference));
+    let mut stepper = Stepper::new(alloc, plan, root, fated)?;
+    match stepper.step_on(&mut choice)? {
+        Some(difference) => Ok(Answer::OtherStage(difference)),
+        None => finished_answer(alloc, ids, stepper),
     }
+}
+
+fn finished_answer(alloc: Global, ids: &mut TreeIds, stepper: Stepper<'_>) -> Result<Answer> {
     match stepper.finish(ids) {
         Some(made) => answer_of(alloc, made),
         None => Ok(Answer::OtherStage(String::from_str(alloc, "no change is ready")?)),
     }
+}
+
+fn stepped_answer(
+    alloc: Global,
+    ids: &mut TreeIds,
+    root: &SyntaxNode,
+    fated: &Fated<'_>,
+    editor: SyntaxEditor,
+) -> Result<Answer> {
+    match editor.plan(alloc) {
+        Ok(plan) => stepped_plan_answer(alloc, ids, root, fated, &plan),
+        Err(refusal) => answer_of_refusal(refusal),
+    }
+}
+
+fn stepped_answers_to(
+    alloc: Global,
+    ids: &mut TreeIds,
+    root: &SyntaxNode,
+    fated: &Fated<'_>,
+    editor: SyntaxEditor,
+) -> Result<Answers> {
+    let model = fated.answer(alloc, root)?;
+    let editor = stepped_answer(alloc, ids, root, fated, editor)?;
+    Ok(Answers { editor, model })
 }
 
 /// The same where the changes are carried out one at a time, and each stage is compared. `same` has recorded what `editor` has.
@@ -126,14 +143,6 @@ pub fn stepped_answers(
     mut editor: SyntaxEditor,
     same: SyntaxEditor,
 ) -> Result<Answers> {
-    let mapping = mapping_of(alloc, &mut editor)?;
-    let planned = plan(alloc, editor.changes())?;
-    let fates = fates(alloc, &planned, &mapping)?;
-    let fated = Fated {
-        planned: &planned,
-        fates: &fates,
-    };
-    let model = model_answer(alloc, root, editor.changes(), &mapping)?;
-    let editor = stepped_answer(alloc, ids, root, fated, same)?;
-    Ok(Answers { editor, model })
+    let fated = fated(alloc, &mut editor)?;
+    stepped_answers_to(alloc, ids, root, &fated, same)
 }

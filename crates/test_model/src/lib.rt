@@ -10,6 +10,7 @@ mod changed;
 mod choice;
 mod engines;
 mod fate;
+mod fated;
 mod given;
 mod model;
 mod order;

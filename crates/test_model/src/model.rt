@@ -2,15 +2,14 @@
 
 use crate::answer::Answer;
 use crate::changed::changed_paths;
-use crate::fate::{Fate, fates, first_lost};
+use crate::fate::{Fate, first_lost};
+use crate::fated::Fated;
 use crate::given::{given, staying};
 use crate::piece::Piece;
-use crate::planned::{Planned, clash, plan};
+use crate::planned::{Planned, clash};
 use crate::rewriter::rewritten;
-use anyhow::Result;
 use cst_core::{GreenElementRef, SyntaxNode};
 use std::alloc::{AllocError, Global};
-use syntax_editor::{Change, SyntaxMapping};
 
 /// The tree that is made of the old one by its changes.
 pub fn tree_of(
@@ -25,54 +24,43 @@ pub fn tree_of(
     rewritten(alloc, root, &brought, false)
 }
 
-fn new_tree(
-    alloc: Global,
-    root: &SyntaxNode,
-    planned: &[Planned],
-    fates: &[Fate],
-) -> Result<Vec<Piece>, AllocError> {
-    let given = given(alloc, planned, fates)?;
-    tree_of(alloc, root, planned, fates, &given)
-}
-
 fn answer_of_tree(alloc: Global, pieces: &[Piece]) -> Result<Answer, AllocError> {
     let changed = changed_paths(alloc, pieces)?;
     Answer::made(alloc, pieces, &changed)
 }
 
-fn answer_of_fates(
-    alloc: Global,
-    root: &SyntaxNode,
-    planned: &[Planned],
-    fates: &[Fate],
-) -> Result<Answer, AllocError> {
-    if let Some((change, owner)) = first_lost(fates) {
-        return Ok(Answer::MissingMapping { change, owner });
+impl Fated<'_> {
+    fn new_tree(&self, alloc: Global, root: &SyntaxNode) -> Result<Vec<Piece>, AllocError> {
+        let given = given(alloc, &self.planned, &self.fates)?;
+        tree_of(alloc, root, &self.planned, &self.fates, &given)
     }
-    let pieces = new_tree(alloc, root, planned, fates)?;
-    answer_of_tree(alloc, &pieces)
-}
 
-fn answer_of_plan(
-    alloc: Global,
-    root: &SyntaxNode,
-    planned: &[Planned],
-    mapping: &SyntaxMapping,
-) -> Result<Answer> {
-    if let Some((first, second)) = clash(planned) {
-        return Ok(Answer::Intersecting { first, second });
+    /// What comes of the changes of the tree with this root.
+    pub fn answer(&self, alloc: Global, root: &SyntaxNode) -> Result<Answer, AllocError> {
+        if let Some((first, second)) = clash(&self.planned) {
+            return Ok(Answer::Intersecting { first, second });
+        }
+        if let Some((change, owner)) = first_lost(&self.fates) {
+            return Ok(Answer::MissingMapping { change, owner });
+        }
+        let pieces = self.new_tree(alloc, root)?;
+        answer_of_tree(alloc, &pieces)
     }
-    let fates = fates(alloc, planned, mapping)?;
-    Ok(answer_of_fates(alloc, root, planned, &fates)?)
-}
 
-/// What comes of changes of the tree with this root.
-pub fn model_answer(
-    alloc: Global,
-    root: &SyntaxNode,
-    changes: &[Change],
-    mapping: &SyntaxMapping,
-) -> Result<Answer> {
-    let planned = plan(alloc, changes)?;
-    answer_of_plan(alloc, root, &planned, mapping)
+    /// The same where they are carried out in an order, which makes no difference where it is allowed.
+    pub fn ordered_answer(
+        &self,
+        alloc: Global,
+        root: &SyntaxNode,
+        order: &[usize],
+    ) -> Result<Answer, AllocError> {
+        let answer = self.answer(alloc, root)?;
+        let Answer::Made(_) = answer else {
+            return Ok(answer);
+        };
+        match self.broken(order) {
+            Some(clause) => Ok(Answer::NotAllowed(clause)),
+            None => Ok(answer),
+        }
+    }
 }

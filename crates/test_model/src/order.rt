@@ -1,10 +1,10 @@
 //! Which orders of changes are allowed: four clauses, each asked of every change or of every two of them.
 
-use crate::aim::Aim;
+use crate::aim::{Aim, Gap};
 use crate::fate::Fate;
+use crate::fated::Fated;
 use crate::planned::Planned;
 use cst_core::SyntaxElement;
-use std::fmt::{self, Display, Formatter, Write};
 use syntax_editor::Change;
 
 /// The clause that an order does not keep, by the name of its refusal.
@@ -16,13 +16,13 @@ pub enum Clause {
     TokenTooEarly,
 }
 
-impl Display for Clause {
-    fn fmt<W: Write>(&self, f: &mut Formatter<W>) -> Result<(), fmt::Error> {
+impl Clause {
+    pub fn name(self) -> &'static str {
         match self {
-            Clause::NotEachOnce => write!(f, "NotEachOnce"),
-            Clause::OwnerTooEarly => write!(f, "OwnerTooEarly"),
-            Clause::GapOutOfOrder => write!(f, "GapOutOfOrder"),
-            Clause::TokenTooEarly => write!(f, "TokenTooEarly"),
+            Clause::NotEachOnce => "NotEachOnce",
+            Clause::OwnerTooEarly => "OwnerTooEarly",
+            Clause::GapOutOfOrder => "GapOutOfOrder",
+            Clause::TokenTooEarly => "TokenTooEarly",
         }
     }
 }
@@ -52,8 +52,8 @@ fn has_each_once(fates: &[Fate], order: &[usize]) -> bool {
 // Whether the first of two changes fills the gap that the second one fills.
 fn fill_one_gap(first: &Planned, second: &Planned) -> bool {
     match &first.aim {
-        Aim::First(node) => second.aim.is_first_of(node.as_slice()),
-        Aim::After(element) => second.aim.is_after(element.as_slice()),
+        Aim::First(node) => second.aim.fills(Gap::First, node.as_slice()),
+        Aim::After(element) => second.aim.fills(Gap::After, element.as_slice()),
         Aim::Targets(_) => false,
     }
 }
@@ -69,13 +69,6 @@ fn stands_behind_replaced(first: &Planned, second: &Planned) -> bool {
         Aim::After(element) => replaces_token && second.aim.has_target(element.as_slice()),
         _ => false,
     }
-}
-
-/// Changes, each with what becomes of it.
-#[derive(Clone, Copy)]
-pub struct Fated<'a> {
-    pub planned: &'a [Planned<'a>],
-    pub fates: &'a [Fate],
 }
 
 impl Fated<'_> {
@@ -112,7 +105,7 @@ impl Fated<'_> {
 
     /// Why this order is not allowed, if it is not.
     pub fn broken(&self, order: &[usize]) -> Option<Clause> {
-        if !has_each_once(self.fates, order) {
+        if !has_each_once(&self.fates, order) {
             return Some(Clause::NotEachOnce);
         }
         ONE_BEFORE_ANOTHER

@@ -1,4 +1,4 @@
-use crate::aim::Aim;
+use crate::aim::{Aim, Gap};
 use crate::piece::{Piece, share_pieces};
 use cst_core::{GreenElement, GreenElementRef, GreenNode, GreenToken};
 use std::alloc::{AllocError, Global};
@@ -34,20 +34,10 @@ impl<'a> Rewriter<'a> {
         }
     }
 
-    // Those that aim at one gap stand as they were recorded.
-    fn push_first_gap(&mut self) -> Result<(), AllocError> {
+    // A gap at the element at the path. Those that aim at one gap stand as they were recorded.
+    fn push_gap(&mut self, gap: Gap) -> Result<(), AllocError> {
         for brought in self.brought {
-            if brought.aim.is_first_of(self.path.as_slice()) {
-                share_pieces(self.alloc, &mut self.out, brought.pieces)?;
-            }
-        }
-        Ok(())
-    }
-
-    // The gap after the element at the path.
-    fn push_gap_behind(&mut self) -> Result<(), AllocError> {
-        for brought in self.brought {
-            if brought.aim.is_after(self.path.as_slice()) {
+            if brought.aim.fills(gap, self.path.as_slice()) {
                 share_pieces(self.alloc, &mut self.out, brought.pieces)?;
             }
         }
@@ -81,7 +71,7 @@ impl<'a> Rewriter<'a> {
             kind: node.kind(),
             is_brought: self.is_brought,
         })?;
-        self.push_first_gap()?;
+        self.push_gap(Gap::First)?;
         for (slot, child) in node.children().iter().enumerate() {
             self.path.push(slot)?;
             if !self.push_replacement()? {
@@ -90,7 +80,7 @@ impl<'a> Rewriter<'a> {
                     GreenElement::Token(token) => self.push_token(token)?,
                 }
             }
-            self.push_gap_behind()?;
+            self.push_gap(Gap::After)?;
             self.path.pop();
         }
         self.out.push(Piece::Close)?;

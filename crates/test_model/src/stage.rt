@@ -1,9 +1,10 @@
 //! What the model says of changes of which some are done: the tree and each payload, written anew.
 
 use crate::fate::Fate;
+use crate::fated::Fated;
 use crate::given::given;
 use crate::model::tree_of;
-use crate::order::{Fated, is_done};
+use crate::order::is_done;
 use crate::piece::{Piece, print_tree};
 use crate::rewriter::rewritten;
 use cst_core::{GreenElementRef, GreenNode, SyntaxNode};
@@ -55,12 +56,12 @@ impl Stage {
     pub fn of(
         alloc: Global,
         root: &SyntaxNode,
-        fated: Fated<'_>,
+        fated: &Fated<'_>,
         done: &[bool],
     ) -> Result<Stage, AllocError> {
-        let fates = done_fates(alloc, fated.fates, done)?;
-        let given = given(alloc, fated.planned, &fates)?;
-        let tree = tree_of(alloc, root, fated.planned, &fates, &given)?;
+        let fates = done_fates(alloc, &fated.fates, done)?;
+        let given = given(alloc, &fated.planned, &fates)?;
+        let tree = tree_of(alloc, root, &fated.planned, &fates, &given)?;
         Ok(Stage {
             tree: printed(alloc, &tree)?,
             payloads: all_printed(alloc, &given)?,

@@ -3,12 +3,31 @@ ghost use Rattle.std.specs.Prelude.{◌≡◌, length};
 
 use crate::choice::Choice;
 use crate::fate::Fate;
-use crate::order::{Fated, is_done};
+use crate::fated::Fated;
 use crate::stage::{Stage, printed_green};
 use anyhow::{Result, anyhow};
 use cst_core::{GreenNode, SyntaxNode, TreeIds};
 use std::alloc::{AllocError, Global};
+use std::fmt::{self, Display, Formatter, Write};
 use syntax_editor::{EditError, EditPlan, EditRun, SyntaxEdit};
+
+// What is not as the model has it.
+#[derive(Clone, Copy)]
+enum Difference {
+    Tree,
+    Payload(usize),
+    Ready,
+}
+
+impl Display for Difference {
+    fn fmt<W: Write>(&self, f: &mut Formatter<W>) -> Result<(), fmt::Error> {
+        match self {
+            Difference::Tree => f.write_str("another tree"),
+            Difference::Payload(change) => write!(f, "another payload of {change}"),
+            Difference::Ready => f.write_str("others are ready"),
+        }
+    }
+}
 
 /// A run of a plan, and which changes are done.
 #[derive(Drop)]
@@ -19,7 +38,7 @@ pub struct Stepper<'a> {
     count: usize,
     done: Vec<bool>,
     root: &'a SyntaxNode,
-    fated: Fated<'a>,
+    fated: &'a Fated<'a>,
     ghost counted: { count ≡ length run.plan.changes },
 }
 
@@ -28,13 +47,14 @@ impl<'a> Stepper<'a> {
         alloc: Global,
         plan: &'a EditPlan,
         root: &'a SyntaxNode,
-        fated: Fated<'a>,
+        fated: &'a Fated<'a>,
     ) -> Result<Stepper<'a>, AllocError> {
+        let done = vec![in alloc; false; plan.len()]?;
         Ok(Stepper {
             alloc,
             run: EditRun::new(alloc, plan)?,
             count: plan.len(),
-            done: vec![in alloc; false; plan.len()]?,
+            done,
             root,
             fated,
         })
@@ -98,29 +118,55 @@ impl<'a> Stepper<'a> {
         }
     }
 
-    /// What differs from the stage of the model, if something does.
-    pub fn difference(&self) -> Result<Option<String>> {
-        let stage = Stage::of(self.alloc, self.root, self.fated, &self.done)?;
-        let done = self.done.as_slice();
-        if !self.is_shown(Some(self.run.green()), Some(stage.tree.as_str()))? {
-            return Ok(Some(format!(in self.alloc; "another tree at {done:?}")?));
-        }
+    // The first change with another payload than in the stage of the model.
+    fn other_payload(&self, stage: &Stage) -> Result<Option<usize>, AllocError> {
         for change in 0..self.count {
-            let payload = self.run.payload(change);
-            if !self.is_shown(payload, self.payload_of(&stage, change))? {
-                return Ok(Some(format!(in self.alloc; "another payload of {change} at {done:?}")?));
+            if !self.is_shown(self.run.payload(change), self.payload_of(stage, change))? {
+                return Ok(Some(change));
             }
         }
-        if self.ready()? != self.model_ready()? {
-            return Ok(Some(format!(in self.alloc; "others are ready at {done:?}")?));
+        Ok(None)
+    }
+
+    fn others_are_ready(&self) -> Result<bool, AllocError> {
+        let ready = self.ready()?;
+        Ok(ready != self.model_ready()?)
+    }
+
+    fn difference_from(&self, stage: &Stage) -> Result<Option<Difference>, AllocError> {
+        if !self.is_shown(Some(self.run.green()), Some(stage.tree.as_str()))? {
+            return Ok(Some(Difference::Tree));
+        }
+        if let Some(change) = self.other_payload(stage)? {
+            return Ok(Some(Difference::Payload(change)));
+        }
+        if self.others_are_ready()? {
+            return Ok(Some(Difference::Ready));
         }
         Ok(None)
+    }
+
+    // What differs from the stage of the model, if something does.
+    fn difference(&self) -> Result<Option<Difference>, AllocError> {
+        let stage = Stage::of(self.alloc, self.root, self.fated, &self.done)?;
+        self.difference_from(&stage)
+    }
+
+    // The same, as it is printed.
+    fn printed_difference(&self) -> Result<Option<String>> {
+        match self.difference()? {
+            Some(difference) => Ok(Some(format!(in self.alloc;
+                "{difference} at {:?}",
+                self.done.as_slice()
+            )?)),
+            None => Ok(None),
+        }
     }
 
     /// Takes one change after another, each one that is ready, until none is, or a stage differs from that of the model.
     pub fn step_on(&mut self, choice: &mut Choice) -> Result<Option<String>> {
         for _ in 0..self.count {
-            if let Some(difference) = self.difference()? {
+            if let Some(difference) = self.printed_difference()? {
                 return Ok(Some(difference));
             }
             let Some(change) = choice.pick(&self.ready()?) else {
@@ -128,7 +174,7 @@ impl<'a> Stepper<'a> {
             };
             self.step(change)?;
         }
-        self.difference()
+        self.printed_difference()
     }
 
     /// The edit that the steps made; `None` where changes are left.
