@@ -6,7 +6,7 @@ use crate::session::{Editing, Session};
 use crate::stop::{Stop, Stopped};
 use crate::words::Words;
 use cst_core::{SyntaxNode, TreeIds};
-use std::alloc::{AllocError, Global};
+use std::alloc::Global;
 use syntax_editor::{SyntaxEdit, SyntaxEditor};
 
 /// What a script makes that is carried out to its end.
@@ -33,16 +33,20 @@ pub struct Recorded {
 
 /// Carries a script out to its end, or says at which line it ends, and why.
 pub fn carry_out(alloc: Global, script: &str) -> Result<CarriedOut, Stopped> {
-    let lines = lines(alloc, script).map_err(|_| Stop::Memory.at(0))?;
-    let (session, number) = record(alloc, &lines)?;
-    end(alloc, session, &lines, number)
+    let mut session = Session::new(alloc);
+    let number = go_through(alloc, &mut session, script)?;
+    finish(alloc, session).map_err(|stop| stop.at(number))
 }
 
 /// What a script records, for another engine that is to carry it out; `None` where a line up to `finish` is bad, or its call
 /// refused, or memory is.
 pub fn record_script(alloc: Global, script: &str) -> Option<Recorded> {
-    let lines = lines(alloc, script).ok()?;
-    let (session, _) = record(alloc, &lines).ok()?;
+    let mut session = Session::new(alloc);
+    go_to_finish(alloc, &mut session, script).ok()?;
+    what_is_recorded(session)
+}
+
+fn what_is_recorded(session: Session) -> Option<Recorded> {
     let (
         Editing {
             editor,
@@ -60,19 +64,33 @@ pub fn record_script(alloc: Global, script: &str) -> Option<Recorded> {
     })
 }
 
-fn lines<'a>(alloc: Global, script: &'a str) -> Result<Vec<&'a str>, AllocError> {
-    script.split_terminator('\n').collect(alloc)
+fn lines<'a>(alloc: Global, script: &'a str) -> Result<Vec<&'a str>, Stopped> {
+    let lines = script.split_terminator('\n').collect(alloc);
+    lines.map_err(|_| Stop::Memory.at(0))
+}
+
+// Carries out the lines before `finish`, tells the number of that one, and tests what follows.
+fn go_through(alloc: Global, session: &mut Session, script: &str) -> Result<usize, Stopped> {
+    let lines = lines(alloc, script)?;
+    let number = record(alloc, session, &lines)?;
+    test_end(session, &lines, number)?;
+    Ok(number)
+}
+
+// The same, whatever follows.
+fn go_to_finish(alloc: Global, session: &mut Session, script: &str) -> Result<usize, Stopped> {
+    let lines = lines(alloc, script)?;
+    record(alloc, session, &lines)
 }
 
 // Carries out the lines before `finish`, and tells the number of that one.
-fn record(alloc: Global, lines: &[&str]) -> Result<(Session, usize), Stopped>
-    ensures { IfOk result (λ r. r.1 < 2 ^ 63) }
+fn record(alloc: Global, session: &mut Session, lines: &[&str]) -> Result<usize, Stopped>
+    ensures { IfOk result (λ n. n < 2 ^ 63) }
 {
-    let mut session = Session::new(alloc);
     for (index, text) in lines.iter().enumerate() {
         let number = index + 1;
-        if is_finish(alloc, &mut session, text).map_err(|stop| stop.at(number))? {
-            return Ok((session, number));
+        if is_finish(alloc, session, text).map_err(|stop| stop.at(number))? {
+            return Ok(number);
         }
     }
     Err(Stop::Bad.at(lines.len() + 1))
@@ -89,13 +107,8 @@ fn is_finish(alloc: Global, session: &mut Session, text: &str) -> Result<bool, S
     }
 }
 
-// Carries out `finish`, which is the line of this number. Only blank lines may follow.
-fn end(
-    alloc: Global,
-    session: Session,
-    lines: &[&str],
-    number: usize,
-) -> Result<CarriedOut, Stopped>
+// `finish`, which is the line of this number, wants an editor. Only blank lines may follow.
+fn test_end(session: &Session, lines: &[&str], number: usize) -> Result<(), Stopped>
     requires { number < 2 ^ 63 }
 {
     if !session.is_editing() {
@@ -106,7 +119,7 @@ fn end(
             return Err(Stop::Bad.at(index + 1));
         }
     }
-    finish(alloc, session).map_err(|stop| stop.at(number))
+    Ok(())
 }
 
 fn finish(alloc: Global, session: Session) -> Result<CarriedOut, Stop> {
