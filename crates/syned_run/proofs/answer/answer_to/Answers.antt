@@ -1,0 +1,1 @@
+-- Each goal is left to the tactics.
