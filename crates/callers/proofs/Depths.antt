@@ -11,8 +11,7 @@ use Rattle.syntax_editor.specs.Path.{counted_from}
 use Rattle.syntax_editor.specs.Tree as tree
 use Rattle.syntax_editor.specs.Tree.{SyntaxTree, children}
 use Rattle.syntax_editor.specs.Element.{Element, subtree, below}
-use Rattle.syntax_editor.specs.SyntaxElement.{element_of, node_of, syntax_as, syntax_of, child_nodes}
-use Rattle.syntax_editor.specs.ElementForms.{SyntaxElement}
+use Rattle.syntax_editor.specs.SyntaxElement.{node_of, syntax_as, syntax_of, child_nodes}
 use Rattle.syntax_editor.specs.ElementForms.TheVariants.{Node}
 use Rattle.syntax_editor.specs.RecordCall.{RecordCall, Replacing}
 use Rattle.syntax_editor.specs.EditorLaws.{target_depth}

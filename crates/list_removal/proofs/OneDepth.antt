@@ -1,5 +1,5 @@
 -- The first of the siblings that go is at the depth of the element that is removed.
-use Rattle.std.specs.Prelude.{◌≡◌, ℕ, suc, ◌+◌, false, [], ◌∷◌, ◌++◌, length, Option, Some, None, refl}
+use Rattle.std.specs.Prelude.{◌≡◌, ℕ, suc, false, [], ◌∷◌, length, Option, Some, None, refl}
 use Rattle.std.proofs.Common.{ap, sym, ◌∙◌}
 use Rattle.cst_core.specs.Path.{Path, same_path, parent_path}
 use Rattle.cst_core.specs.Element.{Element}

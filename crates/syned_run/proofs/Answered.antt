@@ -1,5 +1,5 @@
 -- What was written of an answer to what was read.
-use Rattle.std.proofs.Common.{◌≡◌, ℕ, ◌+◌, List, Option, take, sym, ap, subst}
+use Rattle.std.proofs.Common.{◌≡◌, ℕ, ◌+◌, List, Option, take, sym, subst}
 use Rattle.std.specs.Io.KnownBytes.{Appends, Consumes}
 use Rattle.syned_run.specs.declared.ends.TheConstants.{SCRIPT_LIMIT}
 use Rattle.syned_run.specs.Ends.{IsFrontOf}
