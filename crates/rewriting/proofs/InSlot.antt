@@ -2,7 +2,7 @@
 --     inside-placed                 aims that are seen from the child are those inside the slot
 --     made-inside                   the child, as all the aims rewrite it in its slot
 --     slot_made-whole, slot_built-whole    what stands in the slot; how many nodes are built for it
---     empty-stays, empty-quiet      where no aim concerns the child, it is not replaced, and nothing is altered below it
+--     empty-stays, empty-quiet, empty-gap      where no aim concerns the child, it is not replaced, nothing is altered below it, and nothing comes after it
 --     built-replaced, built-altered     how many nodes are built for a child that is replaced; that stays
 --     slot-unaltered, marks-unaltered, built-unaltered    such a child is kept as it is, with its marks, and nothing is built
 use Rattle.std.specs.Prelude.{◌≡◌, ℕ, true, false, cond, List, [], ◌∷◌, map, filter, flat_map, length, refl}
@@ -18,7 +18,7 @@ use Rattle.rewriting.specs.declared.mark.Sought.{Sought}
 use Rattle.rewriting.specs.inner.Aimed.{aims_of, of_placed, placed, placed_below, alter_below}
 use Rattle.rewriting.specs.inner.Groups.{concerns}
 use Rattle.rewriting.specs.inner.Marked.{MarkTree, sought_in, wanted}
-use Rattle.rewriting.specs.inner.Pass.{kind_only, aims_inside, child_made, slot_made, child_built, slot_built, kept_marks}
+use Rattle.rewriting.specs.inner.Pass.{kind_only, gap_changes, aims_inside, child_made, slot_made, child_built, slot_built, kept_marks}
 use Rattle.rewriting.proofs.BelowSlot.{alters_nothing, kept-below}
 use Rattle.rewriting.proofs.Children.{slot-kept}
 use Rattle.rewriting.proofs.Counted.{in_slot, built-inside, counted-none}
@@ -60,6 +60,9 @@ empty-stays xs i h = ap (λ g. is_replaced (aims_of g) (i ∷ [])) (no_items xs 
 
 pub empty-quiet : (xs : List Aimed) (i : ℕ) → length xs ≡ 0 → alter_below i (map placed xs) ≡ false
 empty-quiet xs i h = ap (λ g. alter_below i (map placed g)) (no_items xs h)
+
+pub empty-gap : (xs : List Aimed) (i : ℕ) → length xs ≡ 0 → gap_changes xs i ≡ []
+empty-gap xs i h = ap (λ g. gap_changes g i) (no_items xs h)
 
 -- labels by paths from the node above
 abbrev from_above : {L : Type 0} → (Path → ℕ → L) → Path → ℕ → L

@@ -264,18 +264,15 @@ fn push_children(
     push_gap(alloc, out, found, path, given, aims, 0)?;
     for slot in 0..children.len() {
         let group = groups.at(slot);
+        let child = &children[slot];
         let to_find = sought_for(&lists, slot);
+        // No aim concerns most children of a wide node.
+        if group.is_empty() {
+            push_child(alloc, out, found, path, child, to_find)?;
+            continue;
+        }
         push_in_slot(
-            alloc,
-            out,
-            found,
-            path,
-            &children[slot],
-            group,
-            slot,
-            to_find,
-            given,
-            builds,
+            alloc, out, found, path, child, group, slot, to_find, given, builds,
         )?;
         push_gap(alloc, out, found, path, given, group, slot + 1)?;
     }
@@ -302,10 +299,6 @@ fn push_in_slot(
     ensures marks { OnOk result (FindsSlot path.old out.old found.old found.new
         given.now group.now slot sought.now child.now) }
 {
-    // No aim concerns most children of a wide node.
-    if group.is_empty() {
-        return push_child(alloc, out, found, path, child, sought);
-    }
     if is_replaced(group, slot) {
         return push_slot(alloc, out, found, path, given, group, slot);
     }

@@ -1,5 +1,5 @@
 use Rattle.std.proofs.Common.{◌≡◌, ℕ, ◌<◌, ◌≤◌, ◌+◌, List, [], ◌∷◌, ◌++◌, length, get_or, map, flat_map, rules, refl, arith, ap, ap₂, sym, ◌∙◌}
-use Rattle.std.proofs.lemmas.List.{append_assoc, map-append, length-map}
+use Rattle.std.proofs.lemmas.List.{append-nil, append_assoc, map-append, length-map}
 use Rattle.green_tree.specs.Path.{Path}
 use Rattle.green_tree.specs.Tree.{SyntaxTree, Token, forest, node}
 use Rattle.green_tree.specs.GreenElement.{element_tree, element_trees}
@@ -13,7 +13,7 @@ use Rattle.rewriting.proofs.Counted.{still, still-step, still-none, counted-own,
 use Rattle.rewriting.proofs.Touched.{on_ok-touched}
 use Rattle.rewriting.proofs.Untouched.{nothing_made, unaimed}
 use Rattle.rewriting.proofs.InGroups.{group_is, group-inserted}
-use Rattle.rewriting.proofs.InSlot.{inside-placed, slot_made-whole, slot_built-whole, empty-stays, empty-quiet, slot-unaltered, marks-unaltered, built-unaltered, built-replaced, built-altered}
+use Rattle.rewriting.proofs.InSlot.{inside-placed, slot_made-whole, slot_built-whole, empty-stays, empty-quiet, empty-gap, slot-unaltered, marks-unaltered, built-unaltered, built-replaced, built-altered}
 use Rattle.rewriting.proofs.Children.{left, tree_at, size_at, slot-replaced, slot-kept, gap-slots, all_made}
 use Rattle.rewriting.proofs.Children as children
 use Rattle.rewriting.proofs.ChildByChild.{first, step, all_shown}
@@ -85,6 +85,54 @@ push_children-loop-slot-init t c =
       marks = λ trees are. first (shown path) (are_shown path) (wanted sought) trees cs (marks_of c.args.found.now.items) (marks_of c.push_gap.new.found.items) (length out) (length c.push_gap.new.out.items) ts (c.in_ok-push_gap.ensures.marks trees are) (width out c.push_gap.new.out.items (flat_map given ns) (flat_map trees ns) c.in_ok-push_gap.ensures.trees (all_as_many table trees are ns));
     }
 
+pub push_children-loop-slot-preserved-then-is_empty : goal.push_children-loop-slot-preserved-then-is_empty
+push_children-loop-slot-preserved-then-is_empty t c =
+    let table = c.args.given.now in
+    let given : ℕ → List SyntaxTree = given_in table in
+    let path : Path = c.args.path.now.items in
+    let aims = c.args.aims.now in
+    let cs = aims_of aims in
+    let group = c.at-group.result.now in
+    let sought : List Marking = sought_in c.args.sought.now in
+    let i : ℕ = c.loop-slot.slot in
+    let es = c.args.children.now in
+    let ts : List SyntaxTree = element_trees es in
+    let d : SyntaxTree = Token 0 [] in
+    let e = c.index-children-slot.result in
+    let out = c.loop-slot.out.items in
+    let new = c.push_child.new.out.items in
+    let in_range : i < length ts = rw length-map c.loop-slot-test.true in
+    let here = group_is c.in_ok-groups.groups aims (length es) i group c.in_ok-groups.ensures.groups c.loop-slot-test.true c.at-group.ensures in
+    let empty : length group ≡ 0 = search (arith, rules) in
+    let stays = empty-stays group i empty in
+    let quiet = empty-quiet group i empty in
+    let none = sym (empty-gap group (i + 1) empty) ∙ ap gap_order (group-inserted i aims group here) in
+    let child : element_tree e ≡ get_or ts i d = tree_at es i e d c.loop-slot-test.true c.index-children-slot.is in
+    let kept : SyntaxTree = rewritten kind_only given cs (i ∷ []) (get_or ts i d) in
+    let made : element_trees new ≡ element_trees out ++ slot_made kind_only given group i e = c.in_ok-push_child.ensures.trees ∙ ap (λ us. element_trees out ++ us) (slot-unaltered group i stays quiet e given) in
+    let middle : element_trees new ≡ element_trees out ++ slot kind_only given cs (i ∷ []) kept = made ∙ ap (λ us. element_trees out ++ us) (slot_made-whole kind_only kind_only given aims group i e (λ p k. refl) here ∙ ap (λ u. slot kind_only given cs (i ∷ []) (rewritten kind_only given cs (i ∷ []) u)) child) in
+    record {
+      path = c.in_ok-push_child.ensures.path ∙ c.loop-slot.invariant.path;
+      count = λ further. count-step c.loop-slot.builds c.loop-slot.builds (slot_built group i e) (still cs (i + 1) ts) (still cs i ts) (count-nothing c.loop-slot.builds (slot_built group i e) (built-unaltered group i stays quiet e)) (still-step cs i ts d (element_tree e) in_range child ∙ ap (λ n. n + still cs (i + 1) ts) (sym (slot_built-whole aims group i e here))) further ∙ c.loop-slot.invariant.count further;
+      trees = children.step kind_only given cs (element_trees out) (element_trees new) (element_trees new) _ i ts d in_range middle (sym (append-nil (element_trees new)) ∙ ap (λ ms. element_trees new ++ flat_map given ms) none) c.loop-slot.invariant.trees;
+      marks = λ trees are.
+          let before : List Marking = marks_of c.loop-slot.found.items in
+          let between : List Marking = marks_of c.push_child.new.found.items in
+          let own : MarkTree = rewritten (wanted sought) trees cs (i ∷ []) (get_or ts i d) in
+          let s : List MarkTree = slot (wanted sought) trees cs (i ∷ []) own in
+          let to_find = c.sought_for-to_find.result.now in
+          let inner = wanted (sought_in to_find) in
+          let below_it = c.sought_for-to_find.ensures ∙ ap (λ ls. sought_for ls i) c.deref.ensures.value ∙ c.in_ok-lists.ensures i c.loop-slot-test.true in
+          let slot_is : slot_made inner trees group i e ≡ s = slot_made-whole (wanted sought) inner trees aims group i e (λ p k. marks-below sought i p ∙ ap (λ ms. marks_at ms p) (sym below_it)) here ∙ ap (λ u. slot (wanted sought) trees cs (i ∷ []) (rewritten (wanted sought) trees cs (i ∷ []) u)) child in
+          let found_there : between ≡ before ++ shown c.loop-slot.path.items (length out) (slot_made inner trees group i e) = c.in_ok-push_child.ensures.marks ∙ ap (λ us. before ++ shown c.loop-slot.path.items (length out) us) (marks-unaltered group i stays quiet e to_find trees) in
+          let shown_there : between ≡ before ++ shown path (length out) s = found_there ∙ ap₂ (λ p us. before ++ shown p (length out) us) c.loop-slot.invariant.path slot_is in
+          let wider : length new ≡ length out + length s = width out new (slot kind_only given cs (i ∷ []) kept) s middle (slot_as_many table trees are (wanted sought) cs (i ∷ []) own kept) in
+          let after = sym (append-nil between) ∙ ap (λ ms. between ++ ms) (sym ((are_shown path).none (length new))) ∙ ap (λ ms. between ++ shown path (length new) (flat_map trees ms)) none in
+          let no_wider : length new ≡ length new + 0 = omega arith in
+          let wider_still = no_wider ∙ ap (λ ms. length new + length (flat_map trees ms)) none in
+          step (shown path) (are_shown path) (wanted sought) trees cs before between between _ (length out) (length new) (length new) s i ts d in_range refl shown_there wider after wider_still (c.loop-slot.invariant.marks trees are);
+    }
+
 pub push_children-loop-slot-preserved : goal.push_children-loop-slot-preserved
 push_children-loop-slot-preserved t c =
     let table = c.args.given.now in
@@ -150,24 +198,6 @@ push_children-returns-clause-marks t c = λ trees are.
     all_shown (shown path) (are_shown path) (wanted (sought_in c.args.sought.now)) trees (aims_of c.args.aims.now) (marks_of c.loop-slot.found.items) _ (length c.loop-slot.out.items) c.loop-slot.slot ts past (c.loop-slot.invariant.marks trees are)
 
 -- ---- what stands in a slot
-pub push_in_slot-returns-then-is_empty-clause-count : goal.push_in_slot-returns-then-is_empty-clause-count
-push_in_slot-returns-then-is_empty-clause-count t c =
-    let group = c.args.group.now in
-    let empty : length group ≡ 0 = search (arith, rules) in
-    on_ok c.push_child.result (count-nothing c.args.builds.now (slot_built group c.args.slot c.args.child.now) (built-unaltered group c.args.slot (empty-stays group c.args.slot empty) (empty-quiet group c.args.slot empty) c.args.child.now))
-
-pub push_in_slot-returns-then-is_empty-clause-trees : goal.push_in_slot-returns-then-is_empty-clause-trees
-push_in_slot-returns-then-is_empty-clause-trees t c =
-    let group = c.args.group.now in
-    let empty : length group ≡ 0 = search (arith, rules) in
-    on_ok-map c.push_child.result (λ h. h ∙ ap (λ ts. element_trees c.args.out.now.items ++ ts) (slot-unaltered group c.args.slot (empty-stays group c.args.slot empty) (empty-quiet group c.args.slot empty) c.args.child.now (given_in c.args.given.now))) c.push_child.ensures.trees
-
-pub push_in_slot-returns-then-is_empty-clause-marks : goal.push_in_slot-returns-then-is_empty-clause-marks
-push_in_slot-returns-then-is_empty-clause-marks t c =
-    let group = c.args.group.now in
-    let empty : length group ≡ 0 = search (arith, rules) in
-    on_ok-map c.push_child.result (λ h trees are. h ∙ ap (λ ts. marks_of c.args.found.now.items ++ shown c.args.path.now.items (length c.args.out.now.items) ts) (marks-unaltered group c.args.slot (empty-stays group c.args.slot empty) (empty-quiet group c.args.slot empty) c.args.child.now c.args.sought.now trees)) c.push_child.ensures.marks
-
 pub push_in_slot-returns-then-is_replaced-clause-count : goal.push_in_slot-returns-then-is_replaced-clause-count
 push_in_slot-returns-then-is_replaced-clause-count t c =
     let goes = sym c.is_replaced.ensures ∙ c.if-is_replaced.true in
@@ -190,19 +220,19 @@ push_in_slot-returns-then-not-alter_below-clause-count t c =
     let group = c.args.group.now in
     let stays = sym c.is_replaced.ensures ∙ c.if-is_replaced.false in
     let none = sym c.alter_below.ensures ∙ c.if-not-alter_below.true in
-    on_ok c.push_child-then-not-alter_below.result (count-nothing c.args.builds.now (slot_built group c.args.slot c.args.child.now) (built-unaltered group c.args.slot stays none c.args.child.now))
+    on_ok c.push_child.result (count-nothing c.args.builds.now (slot_built group c.args.slot c.args.child.now) (built-unaltered group c.args.slot stays none c.args.child.now))
 
 pub push_in_slot-returns-then-not-alter_below-clause-trees : goal.push_in_slot-returns-then-not-alter_below-clause-trees
 push_in_slot-returns-then-not-alter_below-clause-trees t c =
     let stays = sym c.is_replaced.ensures ∙ c.if-is_replaced.false in
     let none = sym c.alter_below.ensures ∙ c.if-not-alter_below.true in
-    on_ok-map c.push_child-then-not-alter_below.result (λ h. h ∙ ap (λ ts. element_trees c.args.out.now.items ++ ts) (slot-unaltered c.args.group.now c.args.slot stays none c.args.child.now (given_in c.args.given.now))) c.push_child-then-not-alter_below.ensures.trees
+    on_ok-map c.push_child.result (λ h. h ∙ ap (λ ts. element_trees c.args.out.now.items ++ ts) (slot-unaltered c.args.group.now c.args.slot stays none c.args.child.now (given_in c.args.given.now))) c.push_child.ensures.trees
 
 pub push_in_slot-returns-then-not-alter_below-clause-marks : goal.push_in_slot-returns-then-not-alter_below-clause-marks
 push_in_slot-returns-then-not-alter_below-clause-marks t c =
     let stays = sym c.is_replaced.ensures ∙ c.if-is_replaced.false in
     let none = sym c.alter_below.ensures ∙ c.if-not-alter_below.true in
-    on_ok-map c.push_child-then-not-alter_below.result (λ h trees are. h ∙ ap (λ ts. marks_of c.args.found.now.items ++ shown c.args.path.now.items (length c.args.out.now.items) ts) (marks-unaltered c.args.group.now c.args.slot stays none c.args.child.now c.args.sought.now trees)) c.push_child-then-not-alter_below.ensures.marks
+    on_ok-map c.push_child.result (λ h trees are. h ∙ ap (λ ts. marks_of c.args.found.now.items ++ shown c.args.path.now.items (length c.args.out.now.items) ts) (marks-unaltered c.args.group.now c.args.slot stays none c.args.child.now c.args.sought.now trees)) c.push_child.ensures.marks
 
 pub push_in_slot-returns-clause-count : goal.push_in_slot-returns-clause-count
 push_in_slot-returns-clause-count t c =
@@ -224,14 +254,11 @@ push_in_slot-returns-clause-marks t c =
 pub push_in_slot-push_altered-requires : goal.push_in_slot-push_altered-requires
 push_in_slot-push_altered-requires t c = (omega arith, tt)
 
-pub push_in_slot-returns-then-is_empty-clause-path : goal.push_in_slot-returns-then-is_empty-clause-path
-push_in_slot-returns-then-is_empty-clause-path t c = c.push_child.ensures.path
-
 pub push_in_slot-returns-then-is_replaced-clause-path : goal.push_in_slot-returns-then-is_replaced-clause-path
 push_in_slot-returns-then-is_replaced-clause-path t c = c.push_slot.ensures.path
 
 pub push_in_slot-returns-then-not-alter_below-clause-path : goal.push_in_slot-returns-then-not-alter_below-clause-path
-push_in_slot-returns-then-not-alter_below-clause-path t c = c.push_child-then-not-alter_below.ensures.path
+push_in_slot-returns-then-not-alter_below-clause-path t c = c.push_child.ensures.path
 
 pub push_in_slot-returns-clause-path : goal.push_in_slot-returns-clause-path
 push_in_slot-returns-clause-path t c = c.push_altered.ensures.path
