@@ -2,7 +2,7 @@
 --     IsAlong                       what stands in the order before a place is done
 --     order-refused                 why an order is not carried out
 --     along-new, along-step, along-more, along-end      at the beginning; the next change; after it; where all is done
-use Rattle.std.specs.Prelude.{◌≡◌, ◌<◌, ◌≤◌, ◌+◌, ◌||◌, ℕ, Bool, true, false, nat_eq, nat_lt, List, map, length, slice_get, slice_index_or, Some, IsSomeAnd}
+use Rattle.std.specs.Prelude.{◌≡◌, ◌<◌, ◌≤◌, ◌+◌, ℕ, true, false, List, length, slice_get, slice_index_or, Some, IsSomeAnd}
 use Rattle.std.proofs.Common.{ap, sym, subst, ◌∙◌, arith}
 use Rattle.std.proofs.Math.ListN.{set}
 use Rattle.std.proofs.lemmas.Bool.{le-ltb}

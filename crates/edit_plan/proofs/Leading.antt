@@ -3,13 +3,11 @@
 --     numbered-lead                 those of copies, with annotations
 --     changed-there, annotated-there      those of the changed and of the annotated elements of a plan
 --     leads                         a path that leads to an element leads to its value
-use Rattle.std.specs.Prelude.{◌≡◌, ℕ, ◌<◌, ◌&&◌, not, Bool, true, false, List, [], ◌∷◌, ◌++◌, length, map, Vec, Some, None, option_map, is_some, IsSome, All, get_or, refl}
-use Rattle.std.specs.Global.{Global}
+use Rattle.std.specs.Prelude.{◌≡◌, ℕ, ◌&&◌, not, Bool, true, false, List, [], ◌∷◌, ◌++◌, map, Some, None, option_map, is_some, IsSome, All, refl}
 use Rattle.std.specs.List.{AllByRecursion}
 use Rattle.std.specs.Option.{option_map_or}
 use Rattle.std.proofs.Common.{ap, sym, subst, ◌∙◌}
 use Rattle.std.proofs.lemmas.Bool.{and_parts}
-use Rattle.std.proofs.lemmas.List.{length-map, get_or-map}
 use Rattle.std.proofs.lemmas.List.Elements.{All-from_recursion}
 use Rattle.cst_core.specs.Path.{Path}
 use Rattle.cst_core.specs.Tree.{Tree, SyntaxTree, label, at, paths, relabelled}
@@ -17,7 +15,7 @@ use Rattle.cst_core.specs.Element.{Address, Element, IsElement, element_at, same
 use Rattle.cst_core.specs.SyntaxElement.{syntax_as, syntax_at}
 use Rattle.rewriting.specs.Topmost.{holds_at, parent_holds, topmost}
 use Rattle.edit_plan.specs.Plan.{Plan}
-use Rattle.edit_plan.specs.Engine.{annotated_path, IsRewritten}
+use Rattle.edit_plan.specs.Engine.{IsRewritten}
 use Rattle.edit_stages.specs.NewTree.{OriginTree, plain, is_free}
 use Rattle.edit_plan.specs.inner.Marks.{numbered_paths}
 use Rattle.edit_plan.specs.Results.{is_brought, copies_of}

@@ -4,12 +4,12 @@
 --     moved-own                     where a change aims that is moved, by its own path
 --     dependents-to                 what a change owns, of the first so many
 --     none-entered, one-entered     one change more: without an owner, and with one
-use Rattle.std.specs.Prelude.{◌≡◌, ◌≢◌, ℕ, zero, suc, ◌+◌, ◌-◌, ◌<◌, ◌≤◌, Bool, true, false, cond, not, ◌&&◌, nat_eq, List, [], ◌∷◌, ◌++◌, map, filter, length, take, drop, slice_get, unwrap_or, Vec, Option, Some, None, option_map, option_and_then, IfSome, get_or, refl}
+use Rattle.std.specs.Prelude.{◌≡◌, ◌≢◌, ℕ, zero, suc, ◌+◌, ◌-◌, ◌<◌, ◌≤◌, Bool, true, false, cond, nat_eq, List, [], ◌∷◌, ◌++◌, map, filter, length, take, drop, slice_get, unwrap_or, Vec, Option, Some, None, option_map, option_and_then, IfSome, get_or, refl}
 use Rattle.std.specs.Global.{Global}
-use Rattle.std.specs.List.{AllByRecursion, list_any, enumerate_from}
+use Rattle.std.specs.List.{enumerate_from}
 use Rattle.std.specs.Option.{option_map_or}
 use Rattle.std.proofs.Common.{ap, ap₂, sym, subst, ◌∙◌, arith}
-use Rattle.std.proofs.lemmas.Bool.{cases_Bool, eqb-true, eq-eqb, false≢true, true≢false, or_parts, or_left, or_right}
+use Rattle.std.proofs.lemmas.Bool.{cases_Bool, eqb-true, eq-eqb, false≢true}
 use Rattle.std.proofs.lemmas.List.{length-append, length-map, map-append, append-nil, append_assoc, length-take}
 use Rattle.std.proofs.lemmas.List.Elements.{filter-append}
 use Rattle.std.proofs.Math.ListN.{set}
@@ -18,7 +18,7 @@ use Rattle.std.proofs.Math.Seq.{take-suc}
 use mathlib.Core.List.{map-map}
 use mathlib.Core.Logic.{inl, inr}
 use mathlib.Core.Path.{fun_ext}
-use Rattle.cst_core.specs.Path.{Path, same_path, has_path, parent_path, last_slot, counted_from, siblings, first_item}
+use Rattle.cst_core.specs.Path.{Path, parent_path, last_slot, counted_from, siblings, first_item}
 use Rattle.cst_core.specs.Tree as tree
 use Rattle.cst_core.specs.Element.{Element}
 use Rattle.cst_core.specs.SyntaxElement.{element_of}
@@ -30,8 +30,7 @@ use Rattle.rewriting.specs.Rewriting.{NumberedAim}
 use Rattle.edit_change.specs.ChangeAim.{position_aim, aim, aim_path}
 use Rattle.edit_change.specs.Position.{anchor}
 use Rattle.edit_change.specs.Fits.{Fits}
-use Rattle.edit_change.specs.Change.{targets}
-use Rattle.edit_change.specs.Nesting.{region, surroundings, is_keeping, is_around, owner, has_owner}
+use Rattle.edit_change.specs.Nesting.{is_keeping, owner, has_owner}
 use Rattle.edit_change.specs.inner.Fate.{fate, owner_in}
 use Rattle.edit_change.specs.declared.fate.Fate.{Fate}
 use Rattle.edit_change.specs.inner.AimFrom.{position_aim_from, aim_from, depth}
@@ -44,10 +43,8 @@ use Rattle.edit_plan.specs.declared.dependent.Dependent.{Dependent}
 use Rattle.edit_change.specs.declared.change.Change.TheVariants.{Insert, InsertAll, Replace, ReplaceWithMany, ReplaceAll}
 use Rattle.edit_change.proofs.Aiming.{one-sibling}
 use Rattle.edit_plan.proofs.Carried.{enumerate-push, take-whole}
-use Rattle.edit_change.proofs.Paths.{meets, same_path_from}
 use Rattle.edit_change.proofs.Regions.{owner-told}
 use Rattle.edit_change.proofs.Lists.{slice_get-set_same, slice_get-set_other}
-use Rattle.edit_change.proofs.Owners.{HasRegion, owner_cases, owner_region}
 use Rattle.edit_plan.proofs.Owners.{owner_is_above}
 use Rattle.edit_stages.proofs.Owning.{owner-keeps, target-is}
 

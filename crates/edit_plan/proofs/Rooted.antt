@@ -3,38 +3,31 @@
 --     stays-a-node                  what stands in the place of the root is one node
 --     takes-its-place               the node that a change brings which replaces the root
 --     found-fits                    of a change that is found, what is true of all, and that it replaces the root
-use Rattle.std.specs.Prelude.{◌≡◌, ℕ, zero, suc, ◌+◌, ◌<◌, ◌≤◌, Bool, true, false, ◌&&◌, not, cond, nat_eq, List, [], ◌∷◌, map, flat_map, filter, filter_map, find, length, slice_get, unwrap_or, option_map, is_none, All, Option, Some, None, refl}
+use Rattle.std.specs.Prelude.{◌≡◌, ℕ, ◌+◌, true, false, cond, List, [], ◌∷◌, map, flat_map, filter, find, slice_get, unwrap_or, option_map, All, Some, None, refl}
 use Rattle.std.specs.List.{AllByRecursion, list_any, enumerate_from}
-use Rattle.std.specs.Option.{option_or, option_map_or}
-use Rattle.std.proofs.Common.{ap, ap₂, sym, subst, ◌∙◌, arith}
-use Rattle.std.proofs.lemmas.Bool.{cases_Bool, and_parts, or_left, or_right, or_from, or_parts, eqb-true, eqb-false, false≢true, true≢false}
-use Rattle.std.proofs.lemmas.List.Folds.{find-append}
+use Rattle.std.specs.Option.{option_map_or}
+use Rattle.std.proofs.Common.{ap, sym, subst, ◌∙◌}
+use Rattle.std.proofs.lemmas.Bool.{or_from, or_parts, true≢false}
 use Rattle.std.proofs.lemmas.Option.{none-some, same_Some, slice_get_within, get_or_from_slice_get}
 use Rattle.std.proofs.lemmas.List.{append-nil}
-use mathlib.Core.Logic.{inl, inr}
-use Rattle.cst_core.specs.Path.{Path, same_path, has_path, above, last_item, counted_from}
+use Rattle.cst_core.specs.Path.{Path, has_path}
 use Rattle.cst_core.specs.Tree.{SyntaxTree, Forest, Node, Token, at, is_token, forest, forest_relabelled}
 use Rattle.cst_core.specs.Element.{Element, IsNode, subtree, address}
-use Rattle.cst_core.specs.declared.element.SyntaxElement.TheVariants as form
-use Rattle.rewriting.specs.Aim.{Aim, FirstIn, Behind, Over, starts_at, replaces}
+use Rattle.rewriting.specs.Aim.{replaces}
 use Rattle.rewriting.specs.inner.Pass.{kind_only, given_in}
-use Rattle.rewriting.specs.Rewriting.{NumberedAim, numbers, replacements_at, is_replaced, rewritten, rewritten_from, rewritten_whole}
+use Rattle.rewriting.specs.Rewriting.{NumberedAim, replacements_at, is_replaced, rewritten, rewritten_from, rewritten_whole}
 use Rattle.rewriting.specs.declared.marked_given.GivenTable.{GivenTable}
 use Rattle.edit_change.specs.ChangeAim.{position_aim, aim}
 use Rattle.edit_change.specs.PositionForm.{FirstChild, After}
 use Rattle.edit_change.specs.declared.position.Position.{Position}
-use Rattle.edit_change.specs.Change.{payload, targets, shared_targets}
-use Rattle.edit_change.specs.Nesting.{pairs_with, first_clash, is_keeping, region, region_at, surroundings, is_around, is_dropped, owner, is_independent}
+use Rattle.edit_change.specs.Change.{payload, targets}
+use Rattle.edit_change.specs.Nesting.{first_clash, is_independent}
 use Rattle.edit_plan.specs.inner.OwnerTables.{AreGiven}
 use Rattle.edit_plan.specs.inner.PlanRun.{IsOneNode, BringsNode}
 use Rattle.edit_stages.specs.NewTree.{Origin, OriginTree, plain, origin, change_aims, payload_of, dependents, given, independents}
 use Rattle.edit_change.specs.declared.change.Change.{Change}
 use Rattle.edit_change.specs.declared.change.Change.TheVariants.{Insert, InsertAll, Replace, ReplaceWithMany, ReplaceAll}
-use Rattle.edit_change.proofs.Paths.{meets}
-use Rattle.edit_change.proofs.RootTargets.{no-root-range}
 use Rattle.edit_stages.proofs.RootAlone.{none-passes, found-at, root-alone, some-starts}
-use Rattle.edit_change.proofs.Clashes.{clash, clashes-at}
-use Rattle.edit_change.proofs.Lists.{all_weaker, all_enumerated}
 use Rattle.edit_plan.proofs.Settled.{given_is}
 
 -- ---- what stands there

@@ -8,14 +8,14 @@ use Rattle.std.specs.Prelude.{◌≡◌, ◌<◌, ℕ, Bool, true, false, List, 
 use Rattle.std.specs.Global.{Global}
 use Rattle.std.specs.declared.alloc.AllocError.{AllocError}
 use Rattle.std.specs.Borrow.{Bor}
-use Rattle.std.proofs.Common.{ap, ap₂, sym, subst, ◌∙◌, arith, get_or}
+use Rattle.std.proofs.Common.{ap, sym, subst, ◌∙◌, arith, get_or}
 use Rattle.std.proofs.Math.ListN.{set}
 use Rattle.std.proofs.lemmas.List.{length-map}
-use Rattle.std.proofs.lemmas.Option.{none-some, same_Some, slice_get_within}
+use Rattle.std.proofs.lemmas.Option.{same_Some, slice_get_within}
 use Rattle.cst_core.specs.Path.{Path}
 use Rattle.cst_core.specs.Tree.{SyntaxTree}
 use Rattle.cst_core.specs.Green.{Branch, branch_tree}
-use Rattle.cst_core.specs.Element.{Element, subtree}
+use Rattle.cst_core.specs.Element.{subtree}
 use Rattle.rewriting.specs.Effort.{counted}
 use Rattle.rewriting.specs.Rewriting.{NumberedAim, rewritten}
 use Rattle.rewriting.specs.inner.Pass.{kind_only}
@@ -25,7 +25,7 @@ use Rattle.edit_change.specs.declared.change.Change.{Change}
 use Rattle.edit_change.proofs.Clashes.{at-index}
 use Rattle.schedule.specs.Schedule.{is_ready, is_complete}
 use Rattle.schedule.specs.Waiting.{is_done}
-use Rattle.edit_stages.specs.NewTree.{plain, payload_of, dependents, only, new_tree, stage_tree, stage_payload}
+use Rattle.edit_stages.specs.NewTree.{plain, payload_of, dependents, only, new_tree, stage_payload}
 use Rattle.edit_stages.specs.inner.Stages as stages
 use Rattle.edit_stages.specs.inner.Stages.{IsStages, Begins, HasNumber, CanTake, Takes, CountsTaken, Taking, builds_of, done_in, has_stage, staged_aim, tree_of}
 use Rattle.edit_stages.specs.declared.stages.Stages.{Stages}

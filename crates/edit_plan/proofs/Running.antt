@@ -6,21 +6,20 @@
 --     shows-tree, shows-payload     the tree and the payloads at a stage, without origins
 --     told-false, none-told, one-more-told      what is told as done: at the beginning, and after one change more
 --     all-carried                   where all is done, the stage is the new tree
-use Rattle.std.specs.Prelude.{◌≡◌, ◌<◌, ◌||◌, ◌&&◌, ℕ, zero, suc, Bool, true, false, not, nat_eq, List, [], ◌∷◌, map, length, filter, slice_get, slice_index_or, unwrap_or, Option, Some, None, IfSome, All, refl}
-use Rattle.std.specs.List.{AllByRecursion, list_all, enumerate_from}
+use Rattle.std.specs.Prelude.{◌≡◌, ◌<◌, ◌||◌, ℕ, zero, suc, Bool, true, false, not, nat_eq, List, [], ◌∷◌, map, length, slice_get, unwrap_or, Option, Some, None, IfSome, All, refl}
+use Rattle.std.specs.List.{AllByRecursion}
 use Rattle.std.specs.Option.{option_map_or}
-use Rattle.std.proofs.Common.{ap, ap₂, sym, subst, ◌∙◌, arith, get_or, get_or-set_same, get_or-set_other}
+use Rattle.std.proofs.Common.{ap, sym, subst, ◌∙◌, get_or, get_or-set_same, get_or-set_other}
 use Rattle.std.proofs.Math.ListN.{set}
-use Rattle.std.proofs.lemmas.Bool.{cases_eq, or_left, and_parts, eq-eqb, ne_eqb, not-true, false≢true}
+use Rattle.std.proofs.lemmas.Bool.{cases_eq, or_left, and_parts, eq-eqb, ne_eqb, not-true}
 use Rattle.std.proofs.lemmas.List.Elements.{recursion_from_All}
 use Rattle.std.proofs.lemmas.Option.{none-some, same_Some}
 use mathlib.Core.List.{map-map}
 use mathlib.Core.Logic.{inl, inr}
 use mathlib.Core.Path.{fun_ext}
 use Rattle.cst_core.specs.Path.{Path, first_item}
-use Rattle.cst_core.specs.Tree.{SyntaxTree, relabelled}
+use Rattle.cst_core.specs.Tree.{SyntaxTree}
 use Rattle.cst_core.specs.Element.{Address, Element, address, subtree}
-use Rattle.cst_core.specs.declared.element.SyntaxElement.TheVariants.{Node, Token}
 use Rattle.edit_map.specs.Mapping.{Mapping, IsRising, StandsFor}
 use Rattle.rewriting.specs.Rewriting.{rewritten, rewritten_whole}
 use Rattle.rewriting.specs.inner.Pass.{kind_only}
@@ -30,7 +29,7 @@ use Rattle.edit_change.specs.inner.AimFrom.{aim_from}
 use Rattle.edit_change.specs.Nesting.{is_keeping, is_dropped, is_independent, owner}
 use Rattle.edit_change.specs.declared.change.Change.{Change}
 use Rattle.edit_change.specs.declared.change.Change.TheVariants.{Insert, InsertAll, Replace, ReplaceWithMany, ReplaceAll}
-use Rattle.schedule.specs.Schedule.{undropped, is_complete}
+use Rattle.schedule.specs.Schedule.{is_complete}
 use Rattle.edit_change.proofs.Aiming.{own-aim}
 use Rattle.schedule.proofs.Undropped.{all-undropped}
 use Rattle.edit_stages.specs.NewTree.{plain, origin, targets_of, payload_of, moved_path, moved_aim, independents, dependents, only, given, new_tree, stage_tree, stage_payload}

@@ -2,15 +2,13 @@
 --     KeepsTheShape                 the law of places
 --     shapes-kept                   an owner's target has its shape at its place in the payload
 --     way-whole                     so each change is carried out at what is there
-use Rattle.std.specs.Prelude.{◌≡◌, ℕ, true, List, ◌∷◌, ◌++◌, map, flat_map, slice_get, unwrap_or, All, Option, Some, None, IsSome, IsSomeAnd, refl}
+use Rattle.std.specs.Prelude.{◌≡◌, ℕ, true, List, ◌∷◌, ◌++◌, map, flat_map, slice_get, All, Option, Some, None, IsSome, IsSomeAnd, refl}
 use Rattle.std.proofs.Common.{ap, sym, subst, ◌∙◌}
 use Rattle.std.proofs.lemmas.Bool.{false≢true}
 use Rattle.std.proofs.lemmas.List.{append_assoc}
 use Rattle.cst_core.specs.Path.{Path}
 use Rattle.cst_core.specs.Tree.{SyntaxTree, at, SameShape}
 use Rattle.cst_core.specs.Element.{Element, address, subtree, IsElement, NumbersTell}
-use Rattle.cst_core.specs.SyntaxElement.{element_of}
-use Rattle.cst_core.specs.declared.element.SyntaxElement.{SyntaxElement}
 use Rattle.cst_core.specs.declared.element.SyntaxElement.TheVariants.{Node, Token}
 use Rattle.edit_map.specs.Mapping.{Mapping, StandsFor, mapped_elements}
 use Rattle.edit_map.specs.Builder.{ArePairs}

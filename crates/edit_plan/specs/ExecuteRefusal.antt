@@ -2,7 +2,6 @@
 --     of_order                      the refusal that stands for one of the order
 --     ExecuteRefuses                the first clause of allowed orders that does not hold; else why the new tree is refused
 use Rattle.std.specs.Prelude.{ℕ, List}
-use Rattle.schedule.specs.Schedule.{IsAllowed}
 use Rattle.schedule.specs.OrderRefusal.{OrderRefuses}
 use Rattle.schedule.specs.declared.order_error.OrderError.{OrderError}
 use Rattle.schedule.specs.declared.order_error.OrderError.TheVariants as order

@@ -2,12 +2,12 @@
 --     fate-read                      the fate of a change, from a list of all fates
 --     begun-more                     one more of them
 --     begun                          all stages before anything is done
-use Rattle.std.specs.Prelude.{◌≡◌, ◌≢◌, ◌<◌, ◌+◌, ◌&&◌, ℕ, Bool, false, not, refl, List, [], ◌∷◌, ◌++◌, map, length, slice_get, slice_index_or, Option, Some, None, option_map}
+use Rattle.std.specs.Prelude.{◌≡◌, ◌<◌, ◌+◌, ◌&&◌, ℕ, false, not, refl, List, [], ◌∷◌, ◌++◌, map, length, slice_get, slice_index_or, Option, Some, None, option_map}
 use Rattle.std.specs.Option.{option_map_or}
-use Rattle.std.proofs.Common.{ap, ap₂, sym, subst, ◌∙◌, arith, get_or}
+use Rattle.std.proofs.Common.{ap, sym, subst, ◌∙◌, arith, get_or}
 use Rattle.std.proofs.lemmas.Bool.{cases_order}
 use Rattle.std.proofs.lemmas.List.{get_or_push, get_or_append_left}
-use Rattle.std.proofs.lemmas.Option.{same_Some, slice_get_within, get_or_from_slice_get, slice_get-map}
+use Rattle.std.proofs.lemmas.Option.{same_Some, get_or_from_slice_get, slice_get-map}
 use mathlib.Core.Logic.{inl, inr}
 use Rattle.edit_change.specs.inner.Fate.{fate}
 use Rattle.edit_change.specs.declared.change.Change.{Change}
@@ -27,7 +27,7 @@ use Rattle.stepping.specs.Stage.{old_tree, IsStage}
 use Rattle.edit_stages.specs.NewTree.{independents, dependents, only}
 use Rattle.edit_stages.specs.inner.Payload.{BeginsPayload, BeginPayloads, keeps_payload, IsNodeTree}
 use Rattle.edit_stages.specs.inner.Splicing.{payload_at}
-use Rattle.edit_stages.specs.inner.Stages.{has_stage, IsPayloadStage, HasNewRoot, IsStages, Begins}
+use Rattle.edit_stages.specs.inner.Stages.{has_stage, IsPayloadStage, HasNewRoot, Begins}
 use Rattle.edit_stages.specs.declared.stages.Stages.{Stages}
 
 -- the fate of a change, read from a list of all fates

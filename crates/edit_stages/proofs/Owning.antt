@@ -4,11 +4,11 @@
 --     surrounds-above               what is above a surrounding is a surrounding
 --     owner-undropped               an owner is not dropped
 --     owns-nothing                  a change that is none owns nothing
-use Rattle.std.specs.Prelude.{◌≡◌, ℕ, zero, suc, Bool, true, false, not, ◌&&◌, List, [], ◌∷◌, ◌++◌, map, filter, length, slice_get, unwrap_or, Option, Some, None, refl}
-use Rattle.std.specs.List.{AllByRecursion, list_any, enumerate_from}
+use Rattle.std.specs.Prelude.{◌≡◌, ℕ, zero, suc, Bool, true, false, not, ◌&&◌, List, [], ◌∷◌, ◌++◌, map, slice_get, unwrap_or, Some, None, refl}
+use Rattle.std.specs.List.{AllByRecursion, list_any}
 use Rattle.std.specs.Option.{option_map_or}
-use Rattle.std.proofs.Common.{ap, ap₂, sym, subst, ◌∙◌}
-use Rattle.std.proofs.lemmas.Bool.{cases_Bool, and_parts, and_from, or_cases, or_left, or_right, or_parts, not_from_true, not_from_false, eqb-true, eq-eqb, false≢true, true≢false}
+use Rattle.std.proofs.Common.{ap, sym, ◌∙◌}
+use Rattle.std.proofs.lemmas.Bool.{cases_Bool, and_parts, and_from, or_cases, or_left, or_right, or_parts, false≢true, true≢false}
 use Rattle.std.proofs.lemmas.Option.{none-some, same_Some}
 use mathlib.Core.Logic.{inl, inr}
 use Rattle.cst_core.specs.Path.{Path, same_path, has_path, above, up_to, first_item}
@@ -16,14 +16,13 @@ use Rattle.cst_core.specs.SyntaxElement.{element_of}
 use Rattle.cst_core.specs.declared.element.SyntaxElement.TheVariants.{Node, Token}
 use Rattle.edit_change.specs.Position.{anchor}
 use Rattle.edit_change.specs.Change.{targets}
-use Rattle.edit_change.specs.ChangeAim.{aim, aim_path}
-use Rattle.edit_change.specs.Nesting.{region, surroundings, is_keeping, is_around, is_dropped, owner, has_owner}
+use Rattle.edit_change.specs.ChangeAim.{aim_path}
+use Rattle.edit_change.specs.Nesting.{region, surroundings, is_keeping, is_around, is_dropped, owner}
 use Rattle.edit_change.specs.declared.change.Change.{Change}
 use Rattle.edit_change.specs.declared.change.Change.TheVariants.{Insert, InsertAll, Replace, ReplaceWithMany, ReplaceAll}
-use Rattle.edit_change.proofs.Lists.{all_enumerated}
-use Rattle.edit_change.proofs.Owners.{HasRegion, owner_cases, owner_from, owner_region}
+use Rattle.edit_change.proofs.Owners.{HasRegion, owner_cases, owner_region}
 use Rattle.edit_change.proofs.Paths.{meets, same_path-true, same_path_from}
-use Rattle.edit_stages.specs.NewTree.{targets_of, moved_aim, dependents}
+use Rattle.edit_stages.specs.NewTree.{targets_of}
 use Rattle.edit_stages.proofs.Apart.{has_map, has-append, only_one}
 
 -- ---- an owner replaces a node by a node

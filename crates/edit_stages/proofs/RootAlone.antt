@@ -4,25 +4,21 @@
 --     AtRoot, at-root, free-at-root      a change that replaces the root lies in nothing
 --     some-starts                   where something is put, something is replaced
 --     root-alone                    a change that replaces the root is independent, and the only one there
-use Rattle.std.specs.Prelude.{◌≡◌, ℕ, zero, suc, ◌+◌, ◌<◌, ◌≤◌, Bool, true, false, ◌&&◌, not, cond, nat_eq, List, [], ◌∷◌, map, flat_map, filter, filter_map, find, length, slice_get, unwrap_or, option_map, is_none, All, Option, Some, None, refl}
+use Rattle.std.specs.Prelude.{◌≡◌, ℕ, zero, suc, ◌+◌, ◌<◌, ◌≤◌, Bool, true, false, ◌&&◌, not, cond, nat_eq, List, [], ◌∷◌, map, flat_map, filter, filter_map, find, length, slice_get, is_none, Option, Some, None, refl}
 use Rattle.std.specs.List.{AllByRecursion, list_any, enumerate_from}
-use Rattle.std.specs.Option.{option_or, option_map_or}
-use Rattle.std.proofs.Common.{ap, ap₂, sym, subst, ◌∙◌, arith}
-use Rattle.std.proofs.lemmas.Bool.{cases_Bool, and_parts, or_left, or_right, or_from, or_parts, eqb-true, eqb-false, false≢true, true≢false}
+use Rattle.std.specs.Option.{option_or}
+use Rattle.std.proofs.Common.{ap, ap₂, sym, ◌∙◌, arith}
+use Rattle.std.proofs.lemmas.Bool.{cases_Bool, and_parts, or_left, or_right, or_from, eqb-true, eqb-false, false≢true, true≢false}
 use Rattle.std.proofs.lemmas.List.Folds.{find-append}
-use Rattle.std.proofs.lemmas.Option.{none-some, same_Some, slice_get_within, get_or_from_slice_get}
-use Rattle.std.proofs.lemmas.List.{append-nil}
+use Rattle.std.proofs.lemmas.Option.{none-some, same_Some, slice_get_within}
 use mathlib.Core.Logic.{inl, inr}
 use Rattle.cst_core.specs.Path.{Path, same_path, has_path, above, last_item, counted_from}
-use Rattle.cst_core.specs.Tree.{SyntaxTree, Forest, Node, Token, at, is_token, forest, forest_relabelled}
-use Rattle.cst_core.specs.Element.{Element, IsNode, subtree, address}
+use Rattle.cst_core.specs.Tree.{at}
 use Rattle.cst_core.specs.declared.element.SyntaxElement.TheVariants as form
 use Rattle.rewriting.specs.Aim.{Aim, FirstIn, Behind, Over, starts_at, replaces}
-use Rattle.rewriting.specs.Rewriting.{NumberedAim, numbers, replacements_at, is_replaced, rewritten, rewritten_from, rewritten_whole}
-use Rattle.edit_change.specs.ChangeAim.{position_aim, aim}
-use Rattle.edit_change.specs.PositionForm.{FirstChild, After}
-use Rattle.edit_change.specs.declared.position.Position.{Position}
-use Rattle.edit_change.specs.Change.{payload, targets, shared_targets}
+use Rattle.rewriting.specs.Rewriting.{NumberedAim, numbers, replacements_at, is_replaced}
+use Rattle.edit_change.specs.ChangeAim.{aim}
+use Rattle.edit_change.specs.Change.{targets, shared_targets}
 use Rattle.edit_change.specs.Nesting.{pairs_with, first_clash, is_keeping, region, region_at, surroundings, is_around, is_dropped, owner, is_independent}
 use Rattle.edit_stages.specs.NewTree.{change_aims, independents}
 use Rattle.edit_change.specs.declared.change.Change.{Change}

@@ -8,15 +8,15 @@
 --     rooted                         the new root after that
 --     payload-read, splice-can, splice-counts, splice-takes, splice-rooted, splice-kept, waits-there     the same as code asks for it
 --     one-node                       a change that brings one node gives one
-use Rattle.std.specs.Prelude.{◌≡◌, ◌≢◌, ◌<◌, ℕ, Bool, true, false, cond, not, ◌&&◌, ◌||◌, nat_eq, List, [], ◌∷◌, ◌++◌, map, filter, length, slice_get, slice_index_or, unwrap_or, Option, Some, None, option_map, is_none, All, MatchBool, IsSomeAnd, Result, Ok, Err, OnErr, refl}
-use Rattle.std.specs.List.{AllByRecursion, list_any, list_all, enumerate_from}
+use Rattle.std.specs.Prelude.{◌≡◌, ◌<◌, ℕ, Bool, true, false, cond, not, ◌&&◌, ◌||◌, nat_eq, List, [], ◌∷◌, map, filter, length, slice_get, unwrap_or, Option, Some, None, option_map, is_none, All, MatchBool, IsSomeAnd, Result, Ok, Err, OnErr, refl}
+use Rattle.std.specs.List.{AllByRecursion, list_all, enumerate_from}
 use Rattle.std.specs.Option.{option_map_or}
 use Rattle.std.proofs.Common.{ap, ap₂, sym, subst, ◌∙◌, arith, get_or}
-use Rattle.std.proofs.lemmas.Bool.{cases_Bool, cases_eq, and_parts, and_from, or_cases, or_left, or_right, or_from, not-true, not_from_false, not_from_true, eq-eqb, ne_eqb, eqb-true, false≢true, true≢false}
+use Rattle.std.proofs.lemmas.Bool.{cases_Bool, cases_eq, and_parts, and_from, or_cases, or_left, or_right, or_from, not-true, not_from_false, eq-eqb, ne_eqb, false≢true, true≢false}
 use Rattle.std.proofs.lemmas.Option.{none-some, same_Some, slice_get_within, slice_get-get_or, get_or_from_slice_get}
 use mathlib.Core.Logic.{inl, inr}
 use Rattle.cst_core.specs.Path.{Path, has_path, first_item}
-use Rattle.cst_core.specs.Tree.{SyntaxTree, Forest, Node, Token, at, is_token, forest}
+use Rattle.cst_core.specs.Tree.{SyntaxTree, Node, Token, at, is_token, forest}
 use Rattle.cst_core.specs.Green.{Branch, branch_tree}
 use Rattle.cst_core.specs.Element.{Element, IsNode, subtree}
 use Rattle.rewriting.specs.Aim.{Aim}
@@ -35,16 +35,15 @@ use Rattle.edit_change.proofs.Clashes.{at-index}
 use Rattle.edit_change.proofs.Regions.{owner-told}
 use Rattle.edit_change.proofs.Lists.{all_enumerated, all_filter, all_weaker}
 use Rattle.edit_change.proofs.Owners.{owner_cases, owner_from}
-use Rattle.schedule.specs.Schedule.{Numbered, undropped, owned_first, gap_first, token_first, comes_first, is_ready}
+use Rattle.schedule.specs.Schedule.{undropped, owned_first, gap_first, token_first, comes_first, is_ready}
 use Rattle.schedule.specs.Waiting.{IsWaiting, HasChange}
 use Rattle.schedule.proofs.Undropped.{all-undropped}
-use Rattle.stepping.specs.Stage.{old_tree, new_tree, IsStage, IsNext, step_builds}
-use Rattle.stepping.specs.Stage as stage
+use Rattle.stepping.specs.Stage.{old_tree, IsStage, step_builds}
 use Rattle.stepping.specs.declared.stage.Stage.{Stage}
-use Rattle.edit_stages.specs.NewTree.{targets_of, payload_of, moved_aim, change_aims, independents, dependents, only}
+use Rattle.edit_stages.specs.NewTree.{targets_of, payload_of, moved_aim, independents, dependents, only}
 use Rattle.edit_stages.specs.inner.Payload.{IsNodeTree, IsOneNode, BringsNode, payload_trees}
 use Rattle.edit_stages.specs.inner.Splicing.{payload_at, CanSplice, Splices, SpliceStays, CountsSplice, RestStays, TreesStay, WaitsOn, PutsRoot}
-use Rattle.edit_stages.specs.inner.Stages.{GivesTrees, staged_aim, has_stage, IsPayload, IsPayloadStage, IsNewRoot, HasNewRoot, HasTrees, IsStages, tree_of, builds_of, Taking, EachTaking, Takes, StaysAs}
+use Rattle.edit_stages.specs.inner.Stages.{GivesTrees, staged_aim, has_stage, IsPayload, IsPayloadStage, HasNewRoot, HasTrees, IsStages, tree_of, builds_of, Taking, EachTaking, Takes, StaysAs}
 use Rattle.edit_stages.specs.declared.stages.Stages.{Stages}
 use Rattle.edit_stages.proofs.Altered.{fit_at}
 use Rattle.edit_stages.proofs.Begun.{fate-read}

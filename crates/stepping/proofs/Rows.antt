@@ -1,5 +1,5 @@
 -- The examples of docs/DEFINITIONS.md, computed.
-use Rattle.std.specs.Prelude.{◌≡◌, ℕ, cond, List, [], ◌∷◌, Some, None, refl}
+use Rattle.std.specs.Prelude.{◌≡◌, cond, List, [], ◌∷◌, Some, None, refl}
 use Rattle.green_tree.specs.Path.{Path, same_path}
 use Rattle.green_tree.specs.Tree.{SyntaxTree, Token, node}
 use Rattle.rewriting.specs.Aim.{Behind}

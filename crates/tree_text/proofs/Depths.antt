@@ -1,5 +1,5 @@
 -- How the depth of open nodes changes as nodes are opened, filled and closed.
-use Rattle.std.proofs.Common.{◌≡◌, ℕ, ◌+◌, ◌-◌, ◌≤◌, ◌<◌, suc, zero, List, [], ◌∷◌, ◌++◌, length, max, arith, Option, None, Some, Bool, true, false, if◌then◌else◌, option_to_list, subst, sym, ap, ◌∙◌, append-nil, length-append}
+use Rattle.std.proofs.Common.{◌≡◌, ℕ, ◌+◌, ◌-◌, ◌≤◌, ◌<◌, suc, zero, List, [], ◌∷◌, ◌++◌, length, arith, Option, None, Some, Bool, true, false, if◌then◌else◌, option_to_list, subst, sym, ap, ◌∙◌, append-nil, length-append}
 use Rattle.cst_core.specs.Tree.{SyntaxTree, forest}
 use Rattle.cst_core.specs.GreenElement.{element_trees}
 use Rattle.tree_text.specs.declared.open_node.OpenNode.{OpenNode}

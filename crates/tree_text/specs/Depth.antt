@@ -1,7 +1,7 @@
 -- How deep trees are.
 --     depth, forest_depth    how many nodes are nested in each other at most, 0 for a token; in trees side by side
 --     open_depth             the depth of the tree that closing all open nodes would give
-use Rattle.std.specs.Prelude.{ℕ, ◌+◌, suc, List, [], ◌∷◌, max}
+use Rattle.std.specs.Prelude.{ℕ, suc, List, [], ◌∷◌, max}
 use Rattle.cst_core.specs.Tree.{Tree, Token, Node, Forest, end, more, forest}
 use Rattle.cst_core.specs.GreenElement.{element_trees}
 use Rattle.tree_text.specs.declared.open_node.OpenNode.{OpenNode}

@@ -7,7 +7,7 @@
 --     HasNoCopy                      an address has no copy
 --     StopsAll                       a table has all first elements of these pairs
 --     IsKept                         a mapping, and a table that has all that it maps
-use Rattle.std.specs.Prelude.{◌≡◌, ◌≢◌, ℕ, ◌<◌, ◌∷◌, take, length, Option, None, MatchOption, All}
+use Rattle.std.specs.Prelude.{◌≡◌, ◌≢◌, ℕ, ◌<◌, take, length, Option, None, MatchOption, All}
 use Rattle.cst_core.specs.Path.{Path}
 use Rattle.cst_core.specs.Element.{Address, Element, address, address_path}
 use Rattle.path_table.specs.PathTable.{number_by_path, IsTree}

@@ -4,10 +4,9 @@
 --     keeps_payload                  a change with this fate has a payload that other changes may be carried out in
 --     IsBegun, BeginsPayload, BeginPayloads   nothing is done in it; of all changes, by their numbers
 --     payload_trees                  what a change gives, by its payload as it stands
-use Rattle.std.specs.Prelude.{◌≡◌, ◌<◌, ℕ, Bool, true, false, ◌&&◌, not, List, [], ◌∷◌, map, length, slice_get, slice_index_or, Option, Some, None}
+use Rattle.std.specs.Prelude.{◌≡◌, ℕ, Bool, true, false, ◌&&◌, not, List, [], ◌∷◌, map, length, slice_get, slice_index_or, Option, Some, None}
 use Rattle.green_tree.specs.Tree.{SyntaxTree, Forest, Node}
 use Rattle.cst_core.specs.Element.{Element, IsNode, subtree}
-use Rattle.rewriting.specs.Rewriting.{NumberedAim}
 use Rattle.edit_change.specs.Change.{payload}
 use Rattle.edit_change.specs.Nesting.{is_keeping}
 use Rattle.edit_change.specs.inner.Fate.{fate, is_dropped_in}

@@ -7,7 +7,7 @@
 --     CanSplice, Splices, SpliceStays, CountsSplice      the same in the payload of this owner, or in the tree
 --     RestStays                      all that is not a tree is as it was
 --     TreesStay, WaitsOn, PutsRoot   trees and the count are as they were; one change more is done; what it gives is the new root, if it replaces the root
-use Rattle.std.specs.Prelude.{◌≡◌, ◌≢◌, ◌<◌, ◌||◌, ℕ, Bool, true, false, nat_eq, List, ◌∷◌, [], length, slice_get, slice_index_or, Option, Some, None, IsSomeAnd, MatchBool}
+use Rattle.std.specs.Prelude.{◌≡◌, ◌≢◌, ◌<◌, ◌||◌, ℕ, Bool, true, nat_eq, List, ◌∷◌, [], length, slice_get, slice_index_or, Option, Some, None, IsSomeAnd, MatchBool}
 use Rattle.green_tree.specs.Path.{has_path}
 use Rattle.green_tree.specs.Tree.{SyntaxTree}
 use Rattle.green_tree.specs.Green.{Branch, branch_tree}

@@ -1,1 +1,5 @@
--- Each goal is left to the tactics.
+use Rattle.std.proofs.Common.{rules}
+use Rattle.edit_change.proofs.element_like.element_of_typed.Goals as goal
+
+pub returns : goal.returns
+returns g c = search rules

@@ -1,1 +1,8 @@
--- Each goal is left to the tactics.
+use Rattle.std.proofs.Common.{rules}
+use Rattle.edit_plan.proofs.first_node.first_node.Goals as goal
+
+pub returns-in_default : goal.returns-in_default
+returns-in_default c = search rules
+
+pub returns : goal.returns
+returns c = search rules

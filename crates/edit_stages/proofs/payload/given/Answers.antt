@@ -1,1 +1,8 @@
--- Each goal is left to the tactics.
+use Rattle.std.proofs.Common.{rules}
+use Rattle.edit_stages.proofs.payload.given.Goals as goal
+
+pub returns-in_ok-share-in-Some : goal.returns-in_ok-share-in-Some
+returns-in_ok-share-in-Some c = search rules
+
+pub returns-in_ok-green_payload-in-None : goal.returns-in_ok-green_payload-in-None
+returns-in_ok-green_payload-in-None c = search rules

@@ -1,8 +1,7 @@
-use Rattle.std.proofs.Common.{◌≡◌, ◌∷◌, [], ◌<◌, ℕ, suc, ◌+◌, length, slice_get, slice_index_or, Some, None, ap, sym, subst, ◌∙◌, arith, get_or}
+use Rattle.std.proofs.Common.{◌∷◌, [], length, ap, arith}
 use Rattle.std.proofs.lemmas.List.{length-append}
 use Rattle.std.proofs.lemmas.Option.{slice_get_within}
 use Rattle.edit_stages.proofs.Begun.{begun-more}
-use Rattle.edit_stages.specs.inner.Payload.{BeginPayloads}
 use Rattle.edit_stages.proofs.payload.payload_stages.Goals as goal
 
 pub loop-number-init : goal.loop-number-init

@@ -1,1 +1,6 @@
--- Each goal is left to the tactics.
+use Rattle.std.proofs.Common.{arith}
+use Rattle.std.proofs.lemmas.Grind.{common_steps}
+use Rattle.green_tree.proofs.green.share_all.Goals as goal
+
+pub returns : goal.returns
+returns c = grind (arith, common_steps)

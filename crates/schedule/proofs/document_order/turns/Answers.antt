@@ -1,4 +1,5 @@
-use Rattle.std.proofs.Common.{◌∙◌, ap, sym, map}
+use Rattle.std.proofs.Common.{arith, ◌∙◌, ap, sym, map}
+use Rattle.std.proofs.lemmas.Grind.{common_steps}
 use Rattle.edit_change.proofs.Clashes.{at-index}
 use Rattle.schedule.specs.inner.Turns.{turn_in}
 use Rattle.schedule.proofs.Turns.{turns-kept, turns-passed}
@@ -21,3 +22,6 @@ loop-number-preserved c =
       | else-not-is_dropped w ↦
           ap (λ v. map turn_in v.items) w.turns-is ∙ turns-passed cs n change l is before c.loop-number.invariant (sym told ∙ w.if-not-is_dropped.false)
     ]
+
+pub returns : goal.returns
+returns c = grind (arith, common_steps)

@@ -1,1 +1,5 @@
--- Each goal is left to the tactics.
+use Rattle.std.proofs.Common.{rules}
+use Rattle.change_list.proofs.change_list.ChangeList.as_slice.Goals as goal
+
+pub returns : goal.returns
+returns c = search rules

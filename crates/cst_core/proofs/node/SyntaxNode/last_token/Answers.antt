@@ -1,4 +1,4 @@
-use Rattle.std.proofs.Common.{◌≡◌, Some}
+use Rattle.std.proofs.Common.{rules, ◌≡◌, Some}
 use Rattle.green_tree.specs.Tree.{at}
 use Rattle.green_tree.specs.Green.{branch_tree}
 use Rattle.cst_core.proofs.Children.{subtree_there}
@@ -9,3 +9,9 @@ token_below-requires c =
     let placed : at c.args.self.now.root c.args.self.now.path ≡ Some (branch_tree c.self.inside.green) = rw (← c.self.view_is) c.self.invariant.there in
     let token = rw c.in-Some.is at c.in_ok-found.ensures.token in
     rw (subtree_there c.args.self.now (branch_tree c.self.inside.green) placed) token
+
+pub returns-in_default : goal.returns-in_default
+returns-in_default c = search rules
+
+pub returns : goal.returns
+returns c = search rules

@@ -1,1 +1,5 @@
--- Each goal is left to the tactics.
+use Rattle.std.proofs.Common.{rules}
+use Rattle.cst_core.proofs.token.SyntaxToken.index.Goals as goal
+
+pub returns : goal.returns
+returns c = search rules

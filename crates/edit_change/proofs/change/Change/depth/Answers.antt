@@ -1,1 +1,5 @@
--- Each goal is left to the tactics.
+use Rattle.std.proofs.Common.{rules}
+use Rattle.edit_change.proofs.change.Change.depth.Goals as goal
+
+pub returns-in-Insert-clause-value : goal.returns-in-Insert-clause-value
+returns-in-Insert-clause-value c = search rules

@@ -1,1 +1,8 @@
--- Each goal is left to the tactics.
+use Rattle.std.proofs.Common.{rules}
+use Rattle.edit_change.proofs.position.Position.after_of.Goals as goal
+
+pub returns-in-FirstChild : goal.returns-in-FirstChild
+returns-in-FirstChild c = search rules
+
+pub returns-in-After : goal.returns-in-After
+returns-in-After c = search rules

@@ -1,4 +1,4 @@
-use Rattle.std.proofs.Common.{◌≡◌, sym, subst}
+use Rattle.std.proofs.Common.{rules, ◌≡◌, sym, subst}
 use Rattle.std.specs.Prelude.{true}
 use Rattle.schedule.specs.Schedule.{is_complete}
 use Rattle.edit_plan.specs.Run.{is_done}
@@ -14,3 +14,12 @@ within_limit-requires c =
     let complete = subst (λ r. is_complete r.plan.changes (is_done r) ≡ true) (sym c.self.view_is) c.requires in
     let shown = carried-tree c.self.inside.plan.now c.self.inside.stages _ (tree-shown c.self.inside.plan.now c.self.inside.stages c.self.invariant _ c.green.ensures) complete in
     with-tree c.self.inside.plan.now c.in_ok-rewritten.rewritten c.with_tree.result c.in_ok-green.green _ c.in_ok-rewritten.ensures.made c.in_ok-green.ensures shown c.with_tree.ensures
+
+pub returns-clause-ok : goal.returns-clause-ok
+returns-clause-ok c = search rules
+
+pub returns-clause-short : goal.returns-clause-short
+returns-clause-short c = search rules
+
+pub returns-clause-refused : goal.returns-clause-refused
+returns-clause-refused c = search rules

@@ -1,1 +1,8 @@
--- Each goal is left to the tactics.
+use Rattle.std.proofs.Common.{rules}
+use Rattle.edit_plan.proofs.plan.EditPlan.default_order.Goals as goal
+
+pub returns-clause-allowed : goal.returns-clause-allowed
+returns-clause-allowed c = search rules
+
+pub returns-clause-placed : goal.returns-clause-placed
+returns-clause-placed c = search rules

@@ -1,4 +1,4 @@
-use Rattle.std.proofs.Common.{◌≡◌, ap, sym, subst, ◌∙◌}
+use Rattle.std.proofs.Common.{subst, ◌∙◌}
 use Rattle.green_tree.specs.GreenElement.{element_trees}
 use Rattle.rewriting.specs.inner.Aimed.{numbered}
 use Rattle.edit_stages.specs.inner.Splicing.{Splices}

@@ -1,4 +1,4 @@
-use Rattle.std.proofs.Common.{ap, ◌∙◌}
+use Rattle.std.proofs.Common.{ap}
 use Rattle.schedule.specs.inner.Followers.{owner_link, gap_link, token_link}
 use Rattle.schedule.proofs.Readiness.{new-counted, waiting-new, none-done-yet}
 use Rattle.schedule.proofs.waiting.Waiting.new.Goals as goal

@@ -1,0 +1,5 @@
+use Rattle.std.proofs.Common.{rules}
+use Rattle.green_tree.proofs.green.GreenNode.length.Goals as goal
+
+pub returns : goal.returns
+returns c = search rules
