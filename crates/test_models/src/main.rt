@@ -1,113 +1,39 @@
-//! Reads a script of `syned` and asks the editor and a plain model what comes of its changes: all at once, one at a time, by each engine,
-//! and in the order of the script where it says one. It prints what both answer, and fails at the first of these where they differ.
+//! Compares the editor with a plain model of it on a script of `syned`, which it reads. With the argument `all` it compares both on every
+//! pair of single changes of a small tree before, and runs scripts over readers and writers that fail. It fails where something is not as
+//! it must be.
 #![tactic(auto)]
+
+mod ends;
+mod pairs;
+mod scripts;
 
 use anyhow::Result;
 use std::alloc::Global;
+use std::env;
 use std::io::read_to_string;
 use std::process::ExitCode;
-use syned_script::{Recorded, record_script};
-use test_model::{Answers, answers_to, engines_answers, ordered_answers, stepped_answers};
+use std::rt::Env;
 
-// What both answer, where the script comes to its end.
-fn at_once(alloc: Global, script: &str) -> Result<Option<Answers>> {
-    let Some(
-        Recorded {
-            root,
-            editor,
-            mut ids,
-            ..
-        },
-    ) = record_script(alloc, script)
-    else {
-        return Ok(None);
-    };
-    Ok(Some(answers_to(alloc, &mut ids, &root, editor)?))
-}
-
-// The same, one change at a time.
-fn stepped(alloc: Global, script: &str) -> Result<Option<Answers>> {
-    let Some(
-        Recorded {
-            root,
-            editor,
-            mut ids,
-            ..
-        },
-    ) = record_script(alloc, script)
-    else {
-        return Ok(None);
-    };
-    let Some(Recorded { editor: same, .. }) = record_script(alloc, script) else {
-        return Ok(None);
-    };
-    Ok(Some(stepped_answers(alloc, &mut ids, &root, editor, same)?))
-}
-
-// The same by each engine.
-fn by_engines(alloc: Global, script: &str) -> Result<Option<Answers>> {
-    let Some(Recorded { root, editor, .. }) = record_script(alloc, script) else {
-        return Ok(None);
-    };
-    Ok(Some(engines_answers(alloc, &root, editor)?))
-}
-
-// The same in the order of the script, where it says one.
-fn ordered(alloc: Global, script: &str) -> Result<Option<Answers>> {
-    let Some(
-        Recorded {
-            root,
-            editor,
-            order,
-            mut ids,
-        },
-    ) = record_script(alloc, script)
-    else {
-        return Ok(None);
-    };
-    let Some(order) = order else {
-        return Ok(None);
-    };
-    Ok(Some(ordered_answers(alloc, &mut ids, &root, editor, &order)?))
-}
-
-// Prints the answers if they differ, and says whether they agree.
-fn agree<R: Print>(rt: &R, how: &str, answers: &Answers) -> Result<bool> {
-    if !answers.agree() {
-        println!(rt; "{how}: {}, but {}", answers.editor, answers.model)?;
-    }
-    Ok(answers.agree())
-}
-
-fn all_agree<R: Print>(rt: &R, alloc: Global, script: &str, at_once: &Answers) -> Result<bool> {
-    if !agree(rt, "at once", at_once)? {
-        return Ok(false);
-    }
-    if let Some(answers) = stepped(alloc, script)? {
-        if !agree(rt, "one at a time", &answers)? {
-            return Ok(false);
+fn asks_for_all(rt: &(impl Env + Alloc)) -> Result<bool> {
+    for argument in env::args(rt)? {
+        if argument.as_str() == "all" {
+            return Ok(true);
         }
     }
-    if let Some(answers) = by_engines(alloc, script)? {
-        if !agree(rt, "by the engines", &answers)? {
-            return Ok(false);
-        }
-    }
-    match ordered(alloc, script)? {
-        Some(answers) => agree(rt, "in the order", &answers),
-        None => Ok(true),
-    }
+    Ok(false)
+}
+
+// Whether the pairs and the ends are as they must be.
+fn are_right<R: Print>(rt: &R, alloc: Global) -> Result<bool> {
+    let pairs_agree = pairs::agree(rt, alloc)?;
+    Ok(ends::are_right(rt, alloc)? && pairs_agree)
 }
 
 fn main(rt: HostRuntime) -> Result<ExitCode> {
     let alloc = rt.alloc();
+    let is_right = !asks_for_all(&rt)? || are_right(&rt, alloc)?;
     let script = read_to_string(alloc, rt.stdin())?;
-    let Some(answers) = at_once(alloc, &script)? else {
-        println!(rt; "nothing recorded")?;
-        return Ok(ExitCode::SUCCESS);
-    };
-    if all_agree(&rt, alloc, &script, &answers)? {
-        println!(rt; "both: {}", answers.model)?;
+    if scripts::agree(&rt, alloc, &script)? && is_right {
         Ok(ExitCode::SUCCESS)
     } else {
         Ok(ExitCode::FAILURE)

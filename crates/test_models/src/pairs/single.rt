@@ -1,6 +1,6 @@
 //! All single changes of a tree.
 
-use crate::trees::Payload;
+use crate::pairs::trees::Payload;
 use anyhow::{Context, Result};
 use cst_core::{SyntaxElement, SyntaxNode};
 use std::alloc::Global;

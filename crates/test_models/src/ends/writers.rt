@@ -1,9 +1,9 @@
 //! Runs over writers that fail.
 
-use crate::reader::FailingReader;
-use crate::report::Report;
-use crate::script::Script;
-use crate::writer::{FailingWriter, Full};
+use crate::ends::reader::FailingReader;
+use crate::ends::report::Report;
+use crate::ends::script::Script;
+use crate::ends::writer::{FailingWriter, Full};
 use std::alloc::Global;
 use std::io;
 use std::io::ErrorKind;

@@ -1,6 +1,5 @@
 //! Runs scripts over readers and writers that fail, at each place where they can, and over readers without end, and looks
 //! at the exit status and at what was written.
-#![tactic(auto)]
 
 mod endless;
 mod reader;
@@ -10,11 +9,10 @@ mod script;
 mod writer;
 mod writers;
 
-use crate::report::Report;
-use crate::script::{NOTED, REPLACED, Script};
+use crate::ends::report::Report;
+use crate::ends::script::{NOTED, REPLACED, Script};
 use std::alloc::Global;
 use std::io;
-use std::process::ExitCode;
 
 fn try_script<R: Print>(
     rt: &R,
@@ -34,7 +32,8 @@ fn try_all<R: Print>(rt: &R, alloc: Global) -> io::Result<Report> {
     Ok(report)
 }
 
-fn main(rt: HostRuntime) -> io::Result<ExitCode> {
-    let report = try_all(&rt, rt.alloc())?;
-    Ok(report.exit_code())
+/// Whether every run was as it must be.
+pub fn are_right<R: Print>(rt: &R, alloc: Global) -> io::Result<bool> {
+    let report = try_all(rt, alloc)?;
+    Ok(report.is_right())
 }

@@ -1,6 +1,6 @@
-use crate::scenario::Scenario;
-use crate::single::Single;
-use crate::trees::Trees;
+use crate::pairs::scenario::Scenario;
+use crate::pairs::single::Single;
+use crate::pairs::trees::Trees;
 use anyhow::{Context, Result};
 use cst_core::{SyntaxNode, TreeIds};
 use std::alloc::Global;

@@ -1,7 +1,7 @@
 //! Runs over readers without end.
 
-use crate::report::Report;
-use crate::writer::{FailingWriter, Full};
+use crate::ends::report::Report;
+use crate::ends::writer::{FailingWriter, Full};
 use std::alloc::Global;
 use std::io;
 use std::io::Read;

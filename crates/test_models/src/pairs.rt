@@ -1,6 +1,5 @@
-//! Compares the editor with a plain model of it: every pair of single changes of a small tree is recorded, and both say what comes of
-//! it, all at once and one change at a time. It prints a line for each pair on which they differ, and at the end of each scenario how many pairs there were.
-#![tactic(auto)]
+//! Every pair of single changes of a small tree is recorded, and the editor and a plain model say what comes of it, all at once and one
+//! change at a time. It prints a line for each pair on which they differ, and at the end of each scenario how many pairs there were.
 
 mod report;
 mod scenario;
@@ -8,15 +7,14 @@ mod single;
 mod trees;
 mod trial;
 
-use crate::report::Report;
-use crate::scenario::SCENARIOS;
-use crate::single::{Single, singles};
-use crate::trees::Trees;
-use crate::trial::Trial;
+use crate::pairs::report::Report;
+use crate::pairs::scenario::SCENARIOS;
+use crate::pairs::single::{Single, singles};
+use crate::pairs::trees::Trees;
+use crate::pairs::trial::Trial;
 use anyhow::Result;
 use cst_core::TreeIds;
 use std::alloc::Global;
-use std::process::ExitCode;
 
 // Every pair of one scenario.
 fn try_pairs<R: Print>(
@@ -37,7 +35,7 @@ fn try_pairs<R: Print>(
     Ok(())
 }
 
-// Whether both engines agree on every pair of one scenario.
+// Whether both agree on every pair of one scenario.
 fn agrees<R: Print>(rt: &R, ids: &mut TreeIds, trial: &Trial, singles: &[Single]) -> Result<bool> {
     let mut report = Report::new();
     try_pairs(rt, ids, trial, singles, &mut report)?;
@@ -69,18 +67,9 @@ fn new_trial(alloc: Global, ids: &mut TreeIds) -> Result<Trial> {
     Trial::new(alloc, trees)
 }
 
-// Whether both engines agree on every pair.
-fn agree<R: Print>(rt: &R, alloc: Global) -> Result<bool> {
+/// Whether both agree on every pair.
+pub fn agree<R: Print>(rt: &R, alloc: Global) -> Result<bool> {
     let mut ids = TreeIds::new(1);
     let mut trial = new_trial(alloc, &mut ids)?;
     compared(rt, alloc, &mut ids, &mut trial)
-}
-
-fn main(rt: HostRuntime) -> Result<ExitCode> {
-    let alloc = rt.alloc();
-    if agree(&rt, alloc)? {
-        Ok(ExitCode::SUCCESS)
-    } else {
-        Ok(ExitCode::FAILURE)
-    }
 }

@@ -1,5 +1,4 @@
 use std::io;
-use std::process::ExitCode;
 
 /// Whether every run was as it must be.
 #[derive(Drop)]
@@ -27,11 +26,7 @@ impl Report {
         Ok(())
     }
 
-    pub fn exit_code(&self) -> ExitCode {
-        if self.wrong {
-            ExitCode::FAILURE
-        } else {
-            ExitCode::SUCCESS
-        }
+    pub fn is_right(&self) -> bool {
+        !self.wrong
     }
 }

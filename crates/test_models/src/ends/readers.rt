@@ -1,9 +1,9 @@
 //! Runs over readers that fail.
 
-use crate::reader::{FailingReader, READ_AT_MOST};
-use crate::report::Report;
-use crate::script::Script;
-use crate::writer::{FailingWriter, Full};
+use crate::ends::reader::{FailingReader, READ_AT_MOST};
+use crate::ends::report::Report;
+use crate::ends::script::Script;
+use crate::ends::writer::{FailingWriter, Full};
 use std::alloc::Global;
 use std::io;
 use std::io::ErrorKind;
