@@ -1,1 +1,8 @@
--- Each goal is left to the tactics.
+use Rattle.std.proofs.Common.{rules}
+use Rattle.list_removal.proofs.remove.next_past_whitespace.Goals as goal
+
+pub returns-in-Some : goal.returns-in-Some
+returns-in-Some c = search rules
+
+pub returns-in_default : goal.returns-in_default
+returns-in_default c = search rules

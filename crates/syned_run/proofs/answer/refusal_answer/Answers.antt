@@ -1,1 +1,5 @@
--- Each goal is left to the tactics.
+use Rattle.std.proofs.Common.{rules}
+use Rattle.syned_run.proofs.answer.refusal_answer.Goals as goal
+
+pub returns : goal.returns
+returns c = search rules

@@ -1,1 +1,14 @@
--- Each goal is left to the tactics.
+use Rattle.std.proofs.Common.{rules}
+use Rattle.syned_run.proofs.answer.Status.code.Goals as goal
+
+pub returns-in-Done : goal.returns-in-Done
+returns-in-Done c = search rules
+
+pub returns-in-Refused : goal.returns-in-Refused
+returns-in-Refused c = search rules
+
+pub returns-in-BadScript : goal.returns-in-BadScript
+returns-in-BadScript c = search rules
+
+pub returns-in-Failed : goal.returns-in-Failed
+returns-in-Failed c = search rules

@@ -1,4 +1,4 @@
-use Rattle.std.proofs.Common.{◌≡◌, ◌++◌, [], Result, Ok, Err, OnOk, unwrap_or, false, sym, subst, ◌∙◌}
+use Rattle.std.proofs.Common.{rules, ◌≡◌, ◌++◌, [], Result, Ok, Err, OnOk, unwrap_or, false, sym, subst, ◌∙◌}
 use Rattle.std.specs.Prelude.{is_err}
 use Rattle.std.proofs.lemmas.Bool.{true≢false}
 use Rattle.edit_map.specs.Builder.{IsMadeOf}
@@ -18,3 +18,6 @@ returns-clause-merged c =
     let of_other : IsMadeOf (unwrap_or c.args.other.factory [] ++ unwrap_or c.self.inside.factory []) m = subst (λ (e : Editor). IsMadeOf (unwrap_or e.factory [] ++ unwrap_or c.self.inside.factory []) m) c.other.view_is c.in-Ok.ensures in
     let copies : IsMadeOf (unwrap_or c.args.other.factory [] ++ unwrap_or c.args.self.now.factory []) m = subst (λ (e : Editor). IsMadeOf (unwrap_or c.args.other.factory [] ++ unwrap_or e.factory []) m) c.self.view_is of_other in
     merged-editor c.args.self.now c.args.other taken c.of_mapping.result m (c.self-2.view_is ∙ over) c.of_mapping.ensures copies
+
+pub returns-then-not-is_mergeable-clause-refused : goal.returns-then-not-is_mergeable-clause-refused
+returns-then-not-is_mergeable-clause-refused c = search rules

@@ -1,1 +1,0 @@
--- Each goal is left to the tactics.
