@@ -5,6 +5,7 @@
 
 A time is the least of all runs, in milliseconds. A multiple or a power is given from the least to the greatest of the runs.
 """
+import math
 import os
 import re
 import subprocess
@@ -58,17 +59,26 @@ GROWTHS = [
     "the times that a payload of 4,096 notes is brought, 1 to 64",
 ]
 
-NUMBER = r"([\d.]+)"
-EDIT = re.compile(
-    rf"(.*): (\d+) changes, (\d+) nodes built, (\d+) in the tree, recorded {NUMBER} ms, planned {NUMBER} ms, run {NUMBER} ms"
-)
-LEAST = re.compile(rf"    the least {NUMBER} ms: planned {NUMBER} times that, run {NUMBER} times; recorded {NUMBER} times planned")
-POWER = re.compile(rf"grows with (.*): recorded {NUMBER}, planned {NUMBER}, run {NUMBER}, the last two together {NUMBER}")
-NOTES = re.compile(rf"notes on (\d+) statements: finished {NUMBER} ms, without notes {NUMBER} ms: {NUMBER} times, with recording {NUMBER} times")
-PAYLOAD = re.compile(rf"(a payload of .*): finished {NUMBER} ms, (\d+) paths copied {NUMBER} ms: {NUMBER} times")
-LEVEL = re.compile(rf"    depth (\d+), each change and level, .*: recorded {NUMBER}, planned {NUMBER}, run {NUMBER}, the last two together {NUMBER}")
-ORDER = re.compile(rf"(.*): (\d+) changes, finished {NUMBER} ms, by the default order {NUMBER} ms")
+# Those of them that grow by levels of nested blocks.
+BY_LEVELS = [
+    "blocks round each copy, 1 to 256, of 256 chains of 4",
+    "blocks of a chain, 1 to 256, of 1,024 in all",
+]
+
+TIMES = r"recorded (\d+) ns, planned (\d+) ns, run (\d+) ns"
+EDIT = re.compile(rf"(.*): (\d+) changes, (\d+) nodes built, (\d+) in the tree, {TIMES}, the least (\d+) ns")
+GROWS = re.compile(r"what grows: .*")
+NOTES = re.compile(rf"notes on (\d+) statements: {TIMES}; without notes {TIMES}")
+PAYLOAD = re.compile(r"(a payload of .*): finished (\d+) ns, (\d+) paths copied (\d+) ns")
+ORDER = re.compile(r"(.*): (\d+) changes, finished (\d+) ns, by the default order (\d+) ns")
 TREE = re.compile(r"(.*): (\d+) elements, (\d+) ns")
+
+
+def power(times):
+    """The power of the number that a time grows with: the least-squares slope of the logarithms, where each number is twice the one before."""
+    middle = (len(times) - 1) / 2
+    steps = [at - middle for at in range(len(times))]
+    return sum(step * math.log2(time) for step, time in zip(steps, times)) / sum(step * step for step in steps)
 
 
 class Figures:
@@ -80,27 +90,31 @@ class Figures:
 
     def read(self, lines):
         """Takes in what one run printed. Of what is printed twice in a run the first counts."""
-        new = Figures()
-        edit, growth = None, ""
+        new, grown = Figures(), []
         for line in lines:
             if found := EDIT.fullmatch(line):
-                edit = (found[1], int(found[2]))
-                new.edits.setdefault(edit, [int(found[3]), int(found[4]), *map(float, found.groups()[4:])])
-            elif (found := LEAST.fullmatch(line)) and edit and len(new.edits[edit]) == 5:
-                new.edits[edit] += map(float, found.groups())
-            elif found := POWER.fullmatch(line):
-                growth = GROWTHS[len(new.powers)]
-                new.powers[growth] = [float(found[2]), float(found[5])]
-            elif found := LEVEL.fullmatch(line):
-                new.levels[growth, int(found[1])] = [float(found[2]), float(found[5])]
+                recorded, planned, run, least = (int(it) / 1e6 for it in found.groups()[4:])
+                ratios = [planned / least, run / least, recorded / planned]
+                new.edits.setdefault((found[1], int(found[2])), [int(found[3]), int(found[4]), recorded, planned, run, least, *ratios])
+                grown[-1].append((recorded, planned + run))
+            elif GROWS.fullmatch(line):
+                grown.append([])
             elif found := NOTES.fullmatch(line):
-                new.notes[found[1]] = list(map(float, found.groups()[1:]))
+                recorded, planned, run, *plain = (int(it) / 1e6 for it in found.groups()[1:])
+                noted, without = planned + run, plain[1] + plain[2]
+                new.notes[found[1]] = [noted, without, noted / without, (noted + recorded) / (without + plain[0])]
             elif found := PAYLOAD.fullmatch(line):
-                new.payloads[found[1]] = [float(found[2]), float(found[4]), float(found[5])]
+                finished, copied = int(found[2]) / 1e6, int(found[4]) / 1e6
+                new.payloads[found[1]] = [finished, copied, finished / copied]
             elif found := ORDER.fullmatch(line):
-                new.orders[found[1]] = [int(found[2]), float(found[3]), float(found[4])]
+                new.orders[found[1]] = [int(found[2]), int(found[3]) / 1e6, int(found[4]) / 1e6]
             elif found := TREE.fullmatch(line):
                 new.trees[found[1]] = [int(found[2]), int(found[3]) / 1e6]
+        for growth, times in zip(GROWTHS, grown):
+            new.powers[growth] = [power(it) for it in zip(*times)]
+            for at, time in enumerate(times if growth in BY_LEVELS else []):
+                # As many changes at each depth, which is twice the one before.
+                new.levels[growth, 2**at] = [mine / (first * 2**at) for mine, first in zip(time, times[0])]
         for mine, theirs in zip(vars(self).values(), vars(new).values()):
             for key, numbers in theirs.items():
                 mine.setdefault(key, []).append(numbers)

@@ -1,8 +1,7 @@
 //! How long edits take, and how that grows.
 use crate::built::Built;
 use crate::case::{Case, Subject};
-use crate::depth::show_levels;
-use crate::figures::{Figures, Phase, power};
+use crate::figures::Figures;
 use crate::measured::{measured, tried};
 use crate::nested::Nest;
 use crate::notes::Noted;
@@ -195,66 +194,29 @@ fn shortest<R: Clock>(rt: &R, alloc: Global) -> Result<Vec<Vec<Figures>>> {
     Ok(best)
 }
 
-fn show_times<R: Print>(rt: &R, label: &str, built: Built, figures: Figures) -> Result<()> {
-    let Built { builds, nodes, .. } = built;
-    let Figures { changes, .. } = figures;
-    let recorded = figures.recorded * 1e3;
-    let planned = figures.planned * 1e3;
-    let run = figures.run * 1e3;
-    println!(rt;
-        "{label}: {changes} changes, {builds} nodes built, {nodes} in the tree, recorded {recorded:.3} ms, planned {planned:.3} ms, run {run:.3} ms"
-    )?;
-    Ok(())
-}
-
-fn show_multiples<R: Print>(rt: &R, figures: Figures) -> Result<()> {
-    let floor = figures.floor * 1e3;
-    let times_planned = figures.planned / figures.floor;
-    let times_run = figures.run / figures.floor;
-    let times_recorded = figures.recorded / figures.planned;
-    println!(rt;
-        "    the least {floor:.3} ms: planned {times_planned:.1} times that, run {times_run:.1} times; recorded {times_recorded:.1} times planned"
-    )?;
-    Ok(())
-}
-
 fn show_case<R: Print>(rt: &R, alloc: Global, case: Case, figures: Figures) -> Result<()> {
-    let built = Built::of(alloc, case)?;
-    show_times(rt, &case.label(alloc)?, built, figures)?;
-    show_multiples(rt, figures)
-}
-
-fn show_powers<R: Print>(rt: &R, growth: Growth, figures: &[Figures]) -> Result<()> {
-    let name = growth.name();
-    let recorded = power(figures, Phase::Recorded);
-    let planned = power(figures, Phase::Planned);
-    let run = power(figures, Phase::Run);
-    let both = power(figures, Phase::PlannedAndRun);
+    let Built { builds, nodes, .. } = Built::of(alloc, case)?;
+    let Figures {
+        changes,
+        recorded,
+        planned,
+        run,
+        floor,
+        ..
+    } = figures;
+    let label = case.label(alloc)?;
     println!(rt;
-        "grows with {name}: recorded {recorded:.2}, planned {planned:.2}, run {run:.2}, the last two together {both:.2}"
+        "{label}: {changes} changes, {builds} nodes built, {nodes} in the tree, recorded {recorded} ns, planned {planned} ns, run {run} ns, the least {floor} ns"
     )?;
     Ok(())
 }
 
-fn show_numbers<R: Print>(
-    rt: &R,
-    alloc: Global,
-    growth: Growth,
-    numbers: &[usize],
-    figures: &[Figures],
-) -> Result<()> {
-    for (number, figures) in numbers.iter().zip(figures.iter()) {
-        show_case(rt, alloc, growth.case(*number), *figures)?;
-    }
-    Ok(())
-}
-
+// The edits of a growth, from the least number to the greatest.
 fn show_growth<R: Print>(rt: &R, alloc: Global, growth: Growth, figures: &[Figures]) -> Result<()> {
-    let numbers = growth.numbers();
-    show_numbers(rt, alloc, growth, numbers, figures)?;
-    show_powers(rt, growth, figures)?;
-    if growth.is_by_levels() {
-        show_levels(rt, numbers, figures)?;
+    let name = growth.name();
+    println!(rt; "what grows: {name}")?;
+    for (number, figures) in growth.numbers().iter().zip(figures.iter()) {
+        show_case(rt, alloc, growth.case(*number), *figures)?;
     }
     Ok(())
 }

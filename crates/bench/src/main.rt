@@ -4,7 +4,6 @@
 
 mod built;
 mod case;
-mod depth;
 mod edits;
 mod figures;
 mod floor;

@@ -12,23 +12,23 @@ use syntax_editor::{EditPlan, OnePassEngine, SyntaxEdit, SyntaxEditor};
 
 const TRIES: usize = 3;
 
-/// How many seconds have gone by.
-pub(crate) fn seconds_since<R: Clock>(rt: &R, start: Instant) -> Result<f64> {
-    Ok(start.elapsed(rt)?.as_secs_f64())
+/// How many nanoseconds have gone by.
+pub(crate) fn nanoseconds_since<R: Clock>(rt: &R, start: Instant) -> Result<u128> {
+    Ok(start.elapsed(rt)?.as_nanos())
 }
 
-/// What a case makes, all at once. How many seconds that took is put into the last argument.
+/// What a case makes, all at once. How many nanoseconds that took is put into the last argument.
 pub(crate) fn finished<R: Clock>(
     rt: &R,
     alloc: Global,
     case: Case,
-    seconds: &mut f64,
+    nanoseconds: &mut u128,
 ) -> Result<SyntaxEdit> {
     let mut ids = TreeIds::new(1);
     let editor = case.recorded(alloc, &mut ids)?;
     let start = Instant::now(rt)?;
     let edit = editor.finish(alloc, &mut ids)?;
-    *seconds = seconds_since(rt, start)?;
+    *nanoseconds = nanoseconds_since(rt, start)?;
     Ok(edit)
 }
 
@@ -47,7 +47,7 @@ impl<R: Clock> Try<'_, R> {
     fn make_calls(&mut self, calls: Vec<Call>, editor: &mut SyntaxEditor) -> Result<()> {
         let start = Instant::now(self.rt)?;
         record_all(self.alloc, calls, editor)?;
-        self.figures.recorded = seconds_since(self.rt, start)?;
+        self.figures.recorded = nanoseconds_since(self.rt, start)?;
         self.figures.changes = editor.changes().len();
         Ok(())
     }
@@ -63,7 +63,7 @@ impl<R: Clock> Try<'_, R> {
         let editor = self.record()?;
         let start = Instant::now(self.rt)?;
         let plan = editor.plan(self.alloc)?;
-        self.figures.planned = seconds_since(self.rt, start)?;
+        self.figures.planned = nanoseconds_since(self.rt, start)?;
         Ok(plan)
     }
 
@@ -75,7 +75,7 @@ impl<R: Clock> Try<'_, R> {
             &mut self.ids,
             &mut OnePassEngine::new(self.alloc),
         )?;
-        self.figures.run = seconds_since(self.rt, start)?;
+        self.figures.run = nanoseconds_since(self.rt, start)?;
         self.figures.bytes = edit.new_root().text_len();
         Ok(edit)
     }
@@ -85,7 +85,7 @@ impl<R: Clock> Try<'_, R> {
         let floor = Floor::of(self.alloc, edit, self.case.touches())?;
         let start = Instant::now(self.rt)?;
         let _tree = floor.make(self.alloc)?;
-        self.figures.floor = seconds_since(self.rt, start)?;
+        self.figures.floor = nanoseconds_since(self.rt, start)?;
         Ok(())
     }
 

@@ -1,6 +1,6 @@
 //! How long it takes to carry changes out one at a time, in the default order, beside all of them at once.
 use crate::case::{Case, Subject};
-use crate::measured::{finished, seconds_since};
+use crate::measured::{finished, nanoseconds_since};
 use anyhow::Result;
 use cst_core::TreeIds;
 use std::alloc::Global;
@@ -17,14 +17,14 @@ const LEAST: usize = 256;
 
 const SUBJECTS: [Subject; 3] = [Subject::Literals, Subject::Statements, Subject::Leaves];
 
-/// How many changes there were, how many bytes the new text has, and how many seconds it took to finish them at once, and in the
+/// How many changes there were, how many bytes the new text has, and how many nanoseconds it took to finish them at once, and in the
 /// default order.
 #[derive(Clone, Copy)]
 struct Figures {
     changes: usize,
     bytes: u64,
-    finished: f64,
-    executed: f64,
+    finished: u128,
+    executed: u128,
 }
 
 impl Figures {
@@ -66,8 +66,8 @@ fn executed_by<R: Clock>(
     Ok(Figures {
         changes,
         bytes: edit.new_root().text_len(),
-        finished: 0.0,
-        executed: seconds_since(rt, start)?,
+        finished: 0,
+        executed: nanoseconds_since(rt, start)?,
     })
 }
 
@@ -78,11 +78,11 @@ fn executed<R: Clock>(rt: &R, alloc: Global, case: Case) -> Result<Figures> {
 }
 
 fn measured<R: Clock>(rt: &R, alloc: Global, case: Case) -> Result<Figures> {
-    let mut seconds = 0.0;
-    finished(rt, alloc, case, &mut seconds)?;
+    let mut nanoseconds = 0;
+    finished(rt, alloc, case, &mut nanoseconds)?;
     let executed = executed(rt, alloc, case)?;
     Ok(Figures {
-        finished: seconds,
+        finished: nanoseconds,
         ..executed
     })
 }
@@ -98,11 +98,14 @@ fn tried<R: Clock>(rt: &R, alloc: Global, case: Case) -> Result<Figures> {
 
 fn show_times<R: Print>(rt: &R, alloc: Global, case: Case, figures: Figures) -> Result<()> {
     let label = case.label(alloc)?;
-    let Figures { changes, .. } = figures;
-    let finished = figures.finished * 1e3;
-    let executed = figures.executed * 1e3;
+    let Figures {
+        changes,
+        finished,
+        executed,
+        ..
+    } = figures;
     println!(rt;
-        "{label}: {changes} changes, finished {finished:.3} ms, by the default order {executed:.3} ms"
+        "{label}: {changes} changes, finished {finished} ns, by the default order {executed} ns"
     )?;
     Ok(())
 }

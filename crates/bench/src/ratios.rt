@@ -1,8 +1,8 @@
 //! What notes cost: beside the same edit without them, and beside copies of as many paths as come out.
 use crate::case::{Case, Subject};
-use crate::figures::{Figures, Phase};
+use crate::figures::Figures;
 use crate::growth::SIZES;
-use crate::measured::{finished, measured, seconds_since};
+use crate::measured::{finished, measured, nanoseconds_since};
 use crate::notes::Noted;
 use anyhow::{Context, Result};
 use std::alloc::Global;
@@ -26,12 +26,12 @@ struct Pair {
     plain: Figures,
 }
 
-/// How many paths come out of an edit, how many seconds it took to finish it, and how many to make as many copies of a path.
+/// How many paths come out of an edit, how many nanoseconds it took to finish it, and how many to make as many copies of a path.
 #[derive(Clone, Copy)]
 struct Brought {
     paths: usize,
-    finished: f64,
-    copied: f64,
+    finished: u128,
+    copied: u128,
 }
 
 impl Pair {
@@ -63,14 +63,10 @@ impl Pair {
     }
 
     fn show<R: Print>(self, rt: &R, size: usize) -> Result<()> {
-        let noted = self.noted.of(Phase::PlannedAndRun);
-        let plain = self.plain.of(Phase::PlannedAndRun);
-        let times = noted / plain;
-        let times_recorded = (noted + self.noted.recorded) / (plain + self.plain.recorded);
+        let Pair { noted, plain } = self;
         println!(rt;
-            "notes on {size} statements: finished {:.3} ms, without notes {:.3} ms: {times:.2} times, with recording {times_recorded:.2} times",
-            noted * 1e3,
-            plain * 1e3
+            "notes on {size} statements: recorded {} ns, planned {} ns, run {} ns; without notes recorded {} ns, planned {} ns, run {} ns",
+            noted.recorded, noted.planned, noted.run, plain.recorded, plain.planned, plain.run
         )?;
         Ok(())
     }
@@ -106,11 +102,11 @@ fn copies(alloc: Global, path: &[usize], number: usize) -> Result<Vec<Vec<usize>
     Ok(copies)
 }
 
-// How many seconds it takes to make so many copies of a path.
-fn time_of_copies<R: Clock>(rt: &R, alloc: Global, path: &[usize], number: usize) -> Result<f64> {
+// How many nanoseconds it takes to make so many copies of a path.
+fn time_of_copies<R: Clock>(rt: &R, alloc: Global, path: &[usize], number: usize) -> Result<u128> {
     let start = Instant::now(rt)?;
     let _copies = copies(alloc, path, number)?;
-    seconds_since(rt, start)
+    nanoseconds_since(rt, start)
 }
 
 impl Brought {
@@ -120,7 +116,7 @@ impl Brought {
         let path = path_of_one(alloc, edit)?;
         Ok(Brought {
             paths,
-            finished: 0.0,
+            finished: 0,
             copied: time_of_copies(rt, alloc, &path, paths)?,
         })
     }
@@ -131,10 +127,10 @@ impl Brought {
             notes: NOTES,
             times,
         });
-        let mut seconds = 0.0;
-        let edit = finished(rt, alloc, case, &mut seconds)?;
+        let mut nanoseconds = 0;
+        let edit = finished(rt, alloc, case, &mut nanoseconds)?;
         Ok(Brought {
-            finished: seconds,
+            finished: nanoseconds,
             ..Brought::of_edit(rt, alloc, &edit)?
         })
     }
@@ -154,12 +150,13 @@ impl Brought {
     }
 
     fn show<R: Print>(self, rt: &R, times: usize) -> Result<()> {
-        let Brought { paths, .. } = self;
-        let finished = self.finished * 1e3;
-        let copied = self.copied * 1e3;
-        let ratio = self.finished / self.copied;
+        let Brought {
+            paths,
+            finished,
+            copied,
+        } = self;
         println!(rt;
-            "a payload of {NOTES} notes, brought {times} times: finished {finished:.3} ms, {paths} paths copied {copied:.3} ms: {ratio:.2} times"
+            "a payload of {NOTES} notes, brought {times} times: finished {finished} ns, {paths} paths copied {copied} ns"
         )?;
         Ok(())
     }

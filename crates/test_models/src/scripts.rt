@@ -76,24 +76,21 @@ fn agree_how<R: Print>(rt: &R, how: &str, answers: &Answers) -> Result<bool> {
     Ok(answers.agree())
 }
 
-fn all_agree<R: Print>(rt: &R, alloc: Global, script: &str, at_once: &Answers) -> Result<bool> {
-    if !agree_how(rt, "at once", at_once)? {
-        return Ok(false);
-    }
-    if let Some(answers) = stepped(alloc, script)? {
-        if !agree_how(rt, "one at a time", &answers)? {
-            return Ok(false);
-        }
-    }
-    if let Some(answers) = by_engines(alloc, script)? {
-        if !agree_how(rt, "by the engines", &answers)? {
-            return Ok(false);
-        }
-    }
-    match ordered(alloc, script)? {
-        Some(answers) => agree_how(rt, "in the order", &answers),
+// The same of answers that there may be none of.
+fn agree_if_asked<R: Print>(rt: &R, how: &str, answers: Result<Option<Answers>>) -> Result<bool> {
+    match answers? {
+        Some(answers) => agree_how(rt, how, &answers),
         None => Ok(true),
     }
+}
+
+fn all_agree<R: Print>(rt: &R, alloc: Global, script: &str, at_once: &Answers) -> Result<bool> {
+    Ok(
+        agree_how(rt, "at once", at_once)?
+            && agree_if_asked(rt, "one at a time", stepped(alloc, script))?
+            && agree_if_asked(rt, "by the engines", by_engines(alloc, script))?
+            && agree_if_asked(rt, "in the order", ordered(alloc, script))?,
+    )
 }
 
 /// Whether both say the same of a script. It prints what both answer, or the first of these where they differ.

@@ -2,7 +2,7 @@
 
 use crate::answers::{memory, none, push_item, some_or_none, truth};
 use crate::session::{Session, last};
-use cst_core::SyntaxElement;
+use cst_core::{SyntaxElement, SyntaxNode};
 use std::alloc::{AllocError, Global};
 use syntax_editor::Change;
 use test_trees::{NoAnswer, Words, number, push_quoted, quoted};
@@ -86,16 +86,27 @@ fn push_element(
     write!(out, " of {}", element.tree())
 }
 
-// Whether the first change is one of the tree that the node is of.
-fn fits(alloc: Global, session: &mut Session, words: &mut Words) -> Result<String, NoAnswer> {
+// The root of the tree that a node is of.
+fn top(alloc: Global, session: &Session, words: &mut Words) -> Result<SyntaxNode, NoAnswer> {
     let node = session.trees.node(alloc, words.word()?)?;
-    let root = node.tree_top(alloc)?;
+    Ok(node.tree_top(alloc)?)
+}
+
+// Whether the first change is one of the tree with this root.
+fn first_fits(session: &mut Session, root: &SyntaxNode) -> Result<bool, NoAnswer> {
     let editor = last(&mut session.editors)?;
     let change = editor
         .changes()
         .first()
         .ok_or(NoAnswer::Missing("no change"))?;
-    truth(alloc, change.fits(&root))
+    Ok(change.fits(root))
+}
+
+// Whether the first change is one of the tree that the node is of.
+fn fits(alloc: Global, session: &mut Session, words: &mut Words) -> Result<String, NoAnswer> {
+    let root = top(alloc, session, words)?;
+    let fits = first_fits(session, &root)?;
+    truth(alloc, fits)
 }
 
 // The text that shows a change, by its number.

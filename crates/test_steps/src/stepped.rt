@@ -1,10 +1,10 @@
 ghost use Rattle.std.specs.Prelude.{◌≡◌, ◌<◌, length, IfOk};
 
 use crate::standing::run_standing;
-use cst_core::{GreenNode, SyntaxNode, TreeIds};
+use cst_core::{GreenNode, TreeIds};
 use std::alloc::{AllocError, Global};
 use syntax_editor::{EditError, EditPlan, EditRun, SyntaxEdit};
-use test_trees::{NoAnswer, Words, push_quoted};
+use test_trees::{NoAnswer, Words, quoted};
 
 // Texts up to this length are shown.
 const SHOWN: u64 = 200;
@@ -189,14 +189,17 @@ impl<'a> Stepped<'a> {
     }
 }
 
+fn quoted_text(alloc: Global, tree: &GreenNode) -> Result<String, NoAnswer> {
+    let text = format!(in alloc; "{tree}")?;
+    quoted(alloc, &text)
+}
+
 // The text of a tree, or the length of a long one.
 fn short_text(alloc: Global, tree: &GreenNode) -> Result<String, NoAnswer> {
     let length = tree.length();
     if length > SHOWN {
-        return Ok(format!(in alloc; "{length}_bytes")?);
+        Ok(format!(in alloc; "{length}_bytes")?)
+    } else {
+        quoted_text(alloc, tree)
     }
-    let root = SyntaxNode::new_root(alloc, &mut TreeIds::new(1), tree.share(alloc)?)?;
-    let mut shown = String::new(alloc);
-    push_quoted(&mut shown, &root.text(alloc)?)?;
-    Ok(shown)
 }

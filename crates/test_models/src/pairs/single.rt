@@ -71,17 +71,26 @@ fn push_ranges(alloc: Global, out: &mut Vec<Single>, siblings: &[SyntaxElement])
     Ok(())
 }
 
-fn push_of_node(alloc: Global, out: &mut Vec<Single>, node: &SyntaxNode) -> Result<()> {
+fn push_of_itself(alloc: Global, out: &mut Vec<Single>, node: &SyntaxNode) -> Result<()> {
     let own = SyntaxElement::Node(node.try_clone(alloc)?);
     push_forms(alloc, out, &OF_NODE, &own, &own)?;
     if node.slots().is_empty() {
         push_forms(alloc, out, &OF_ROOT, &own, &own)?;
     }
+    Ok(())
+}
+
+fn push_of_children(alloc: Global, out: &mut Vec<Single>, node: &SyntaxNode) -> Result<()> {
     let children = node.children_with_tokens(alloc)?;
     for child in &children {
         push_forms(alloc, out, &OF_CHILD, child, child)?;
     }
     push_ranges(alloc, out, &children)
+}
+
+fn push_of_node(alloc: Global, out: &mut Vec<Single>, node: &SyntaxNode) -> Result<()> {
+    push_of_itself(alloc, out, node)?;
+    push_of_children(alloc, out, node)
 }
 
 /// Each single change of the tree.
