@@ -2,7 +2,7 @@
 
 The tables of files in docs/ARCHITECTURE.md name each source and each spec file of a library once, and no other but spec files
 that it gives again; the head of a spec file names what it defines for others, all of it, and nothing else. What docs/CALLING.md
-and README.md show of an example is in its source, word for word.
+and README.md show of an example is in its source, word for word. Each edit that the gate does not try can be made.
 """
 
 import re
@@ -131,9 +131,27 @@ def compare_examples():
             wrong.append(f"README.md: code that is in no example: {code[:60]!r}")
 
 
+def compare_edits():
+    """Each text that an edit of must-fail-inner takes away stands once in its file, as the earlier pairs of lines left it."""
+    for file in sorted(ROOT.glob("crates/*/must-fail-inner/*.edit")):
+        source, text, old = None, "", None
+        for line in file.read_text().splitlines():
+            word, _, rest = line.partition(": ")
+            if word == "file":
+                source = file.parent.parent / rest
+                text = source.read_text()
+            elif word == "old":
+                old = rest
+                if text.count(old) != 1:
+                    wrong.append(f"{file.relative_to(ROOT)}: what it takes away stands {text.count(old)} times in {source.name}")
+            elif word == "new":
+                text = text.replace(old, rest)
+
+
 compare_tables()
 compare_heads()
 compare_examples()
+compare_edits()
 for line in wrong:
     print("wrong:", line)
 print(f"docs: {len(wrong)} wrong")

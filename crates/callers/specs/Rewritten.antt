@@ -6,6 +6,7 @@
 --     with_block, with_blocks       the next tree number and the changes with the wrapper of a node, of each of some nodes, that is a block
 --     ReplacesMatches, WrapsBlocks  an editor is another one after the replacement of the matches among some nodes, after their blocks were wrapped
 --     rewriting                     the next tree number and the changes once all nodes of a root were looked at, matches first
+--     Rewrites                      an editor is another one after that
 --     IsRewritten                   an edit is what these changes make of a file, where this is the next tree number
 use Rattle.std.specs.Prelude.{◌≡◌, ℕ, ◌+◌, Bool, ◌&&◌, ◌==◌, cond, List, [], ◌∷◌}
 use Rattle.std.specs.List.{fold}
@@ -56,13 +57,17 @@ pub record WrapsBlocks (ns : List Element) (next next_after : ℕ) (before after
   pub kept : after ≡ record before { changes = after.changes; factory = after.factory }
 
 -- ---- both
-abbrev pub rewriting : Element → Element → Element → ℕ → ℕ × List Change
-rewriting pattern new root next = with_blocks (descendants_of root) (next, with_matches pattern new (descendants_of root) [])
+abbrev pub rewriting : Element → Element → Element → ℕ × List Change → ℕ × List Change
+rewriting pattern new root s = with_blocks (descendants_of root) (s.0, with_matches pattern new (descendants_of root) s.1)
+
+pub record Rewrites (pattern new root : Element) (next next_after : ℕ) (before after : Editor) : Type 0 where
+  pub list : (next_after, after.changes) ≡ rewriting pattern new root (next, before.changes)
+  pub kept : after ≡ record before { changes = after.changes; factory = after.factory }
 
 pub record IsRewritten (pattern new : Element) (next : ℕ) (file : Element) (edit : Edit) : Type 0 where
   pub plan : Plan
   pub root_is : plan.root ≡ edited_root next file
   pub unregistered : plan.registrations ≡ []
   pub number : ℕ
-  pub recorded : (number, plan.changes) ≡ rewriting pattern new (edited_root next file) (cond (has_parent file) (next + 1) next)
+  pub recorded : (number, plan.changes) ≡ rewriting pattern new (edited_root next file) (cond (has_parent file) (next + 1) next, [])
   pub makes : Makes plan number edit

@@ -89,16 +89,17 @@ fn example_edit(alloc: Global, placeholder: SyntaxAnnotation) -> Result<SyntaxEd
     generated(alloc, &mut ids, block, statement, placeholder)
 }
 
-fn shown(alloc: Global, edit: &SyntaxEdit, found: &SyntaxElement) -> Result<String> {
-    let text = new_text(alloc, edit)?;
-    let marked = marked(alloc, &text, found)?;
+fn shown(alloc: Global, edit: &SyntaxEdit, placeholder: SyntaxAnnotation) -> Result<String> {
+    let found = edit
+        .find_annotation(placeholder)
+        .first()
+        .context("the placeholder is found")?;
+    let marked = marked(alloc, &new_text(alloc, edit)?, found)?;
     Ok(format!(in alloc; "at {}: {marked}", found.text_start())?)
 }
 
 /// The new text of the block with its placeholder marked, after where that starts.
 pub(crate) fn example(alloc: Global) -> Result<String> {
     let placeholder = Annotations::new(1).next().context("an annotation")?;
-    let edit = example_edit(alloc, placeholder)?;
-    let found = edit.find_annotation(placeholder).first();
-    shown(alloc, &edit, found.context("the placeholder is found")?)
+    shown(alloc, &example_edit(alloc, placeholder)?, placeholder)
 }

@@ -18,7 +18,7 @@ fn identifier_of(alloc: Global, name: &SyntaxNode) -> Result<SyntaxToken> {
 }
 
 // The identifier alone is exchanged, so a NAME stays a NAME.
-fn rename(
+fn replace_names(
     alloc: Global,
     editor: &mut SyntaxEditor,
     nodes: &[SyntaxNode],
@@ -34,6 +34,17 @@ fn rename(
     Ok(())
 }
 
+fn rename(
+    alloc: Global,
+    editor: &mut SyntaxEditor,
+    root: &SyntaxNode,
+    old: &str,
+    new: &SyntaxToken,
+) -> Result<()> {
+    let nodes = root.descendants(alloc)?;
+    replace_names(alloc, editor, &nodes, old, new)
+}
+
 fn renamed(
     alloc: Global,
     ids: &mut TreeIds,
@@ -41,8 +52,7 @@ fn renamed(
     new: &SyntaxToken,
 ) -> Result<SyntaxEdit> {
     let (mut editor, root) = SyntaxEditor::new(alloc, ids, block)?;
-    let nodes = root.descendants(alloc)?;
-    rename(alloc, &mut editor, &nodes, "a", new)?;
+    rename(alloc, &mut editor, &root, "a", new)?;
     Ok(editor.finish(alloc, ids)?)
 }
 

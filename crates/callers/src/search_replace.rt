@@ -6,7 +6,7 @@ ghost use Rattle.syntax_editor.specs.Element.{Element, subtree};
 ghost use Rattle.syntax_editor.specs.Nesting.{owner};
 ghost use Rattle.syntax_editor.specs.Plan.{Edit};
 ghost use Rattle.syntax_editor.specs.RewritingLaws.{changed_text};
-ghost use Rattle.callers.specs.Rewritten.{is_match, wrapper, ReplacesMatches, WrapsBlocks, IsRewritten};
+ghost use Rattle.callers.specs.Rewritten.{is_match, wrapper, ReplacesMatches, WrapsBlocks, Rewrites, IsRewritten};
 
 use crate::tree::{new_text, root_of};
 use anyhow::{Context, Result};
@@ -67,6 +67,20 @@ fn wrapper_of(alloc: Global, ids: &mut TreeIds, node: &SyntaxNode) -> Result<Syn
     Ok(SyntaxNode::new_root(alloc, ids, wrapper)?)
 }
 
+// The pair of a node and its copy, the one child node of the wrapper.
+fn pair_with_copy(
+    alloc: Global,
+    node: &SyntaxNode,
+    wrapper: &SyntaxNode,
+) -> Result<SyntaxMappingBuilder> {
+    let copy = wrapper
+        .first_child(alloc)?
+        .context("the wrapper has one child node")?;
+    let mut builder = SyntaxMappingBuilder::new(alloc, wrapper.try_clone(alloc)?);
+    builder.map_node(alloc, node.try_clone(alloc)?, copy)?;
+    Ok(builder)
+}
+
 // A block is mapped to its copy in the wrapper, so that changes inside the block move there.
 fn map_to_copy(
     alloc: Global,
@@ -76,11 +90,8 @@ fn map_to_copy(
 ) -> Result<()>
     ensures { OnOk result (editor.new ≡ record editor.old { factory = editor.new.factory }) }
 {
-    let copies = wrapper.children(alloc)?;
-    let copy = copies.first().context("the wrapper has one child node")?;
-    let mut builder = SyntaxMappingBuilder::new(alloc, wrapper.try_clone(alloc)?);
-    builder.map_node(alloc, node.try_clone(alloc)?, copy.try_clone(alloc)?)?;
-    Ok(editor.add_mapping(alloc, builder)?)
+    let pair = pair_with_copy(alloc, node, wrapper)?;
+    Ok(editor.add_mapping(alloc, pair)?)
 }
 
 fn wrap_block(
@@ -122,6 +133,22 @@ fn text_is_told()
     edit_text_is_filled();
 }
 
+// All matches are replaced before any block is wrapped.
+fn rewrite(
+    alloc: Global,
+    ids: &mut TreeIds,
+    editor: &mut SyntaxEditor,
+    root: &SyntaxNode,
+    pattern: &SyntaxNode,
+    new: &SyntaxNode,
+) -> Result<()>
+    ensures { OnOk result (Rewrites pattern.now new.now root.now ids.old ids.new editor.old editor.new) }
+{
+    let nodes = root.descendants(alloc)?;
+    replace_matches(alloc, editor, &nodes, pattern, new)?;
+    wrap_blocks(alloc, ids, editor, &nodes)
+}
+
 fn rewritten(
     alloc: Global,
     ids: &mut TreeIds,
@@ -132,9 +159,7 @@ fn rewritten(
     ensures { IfOk result (IsRewritten pattern.now new.now ids.old file) }
 {
     let (mut editor, root) = SyntaxEditor::new(alloc, ids, file)?;
-    let nodes = root.descendants(alloc)?;
-    replace_matches(alloc, &mut editor, &nodes, pattern, new)?;
-    wrap_blocks(alloc, ids, &mut editor, &nodes)?;
+    rewrite(alloc, ids, &mut editor, &root, pattern, new)?;
     Ok(editor.finish(alloc, ids)?)
 }
 
@@ -145,12 +170,21 @@ const PATTERN: &str = r#"(LITERAL INT_NUMBER"1")"#;
 
 const REPLACEMENT: &str = r#"(NAME_REF IDENT"one")"#;
 
+fn rewritten_file(
+    alloc: Global,
+    ids: &mut TreeIds,
+    pattern: &SyntaxNode,
+    new: &SyntaxNode,
+) -> Result<SyntaxEdit> {
+    let file = root_of(alloc, ids, FILE)?;
+    rewritten(alloc, ids, file, pattern, new)
+}
+
 fn example_edit(alloc: Global) -> Result<SyntaxEdit> {
     let mut ids = TreeIds::new(1);
     let pattern = root_of(alloc, &mut ids, PATTERN)?;
     let new = root_of(alloc, &mut ids, REPLACEMENT)?;
-    let file = root_of(alloc, &mut ids, FILE)?;
-    rewritten(alloc, &mut ids, file, &pattern, &new)
+    rewritten_file(alloc, &mut ids, &pattern, &new)
 }
 
 /// The new text of the file.

@@ -1,10 +1,13 @@
 //! The trees of a script by name.
 
+use crate::line::Place;
 use crate::name::Name;
+use crate::reference::Reference;
 use crate::stop::Stop;
-use cst_core::SyntaxNode;
+use cst_core::{SyntaxElement, SyntaxNode};
 use std::alloc::Global;
 use std::collections::BTreeMap;
+use syntax_editor::Position;
 
 #[derive(Drop)]
 pub(crate) struct Roots {
@@ -37,4 +40,71 @@ impl Roots {
         self.roots.insert(name, root)?;
         Ok(())
     }
+
+    /// What a reference names; `Bad` where there is nothing.
+    pub(crate) fn element(
+        &self,
+        alloc: Global,
+        reference: &Reference<'_>,
+    ) -> Result<SyntaxElement, Stop> {
+        let root = self.get(reference.name).ok_or(Stop::Bad)?;
+        root.element_at(alloc, &reference.slots)?.ok_or(Stop::Bad)
+    }
+
+    /// The same of some references, in order.
+    pub(crate) fn elements(
+        &self,
+        alloc: Global,
+        references: &[Reference<'_>],
+    ) -> Result<Vec<SyntaxElement>, Stop> {
+        let mut elements = Vec::new(alloc);
+        for reference in references {
+            elements.push(self.element(alloc, reference)?)?;
+        }
+        Ok(elements)
+    }
+
+    /// The node that a reference names; `Bad` where there is none.
+    pub(crate) fn node(
+        &self,
+        alloc: Global,
+        reference: &Reference<'_>,
+    ) -> Result<SyntaxNode, Stop> {
+        self.element(alloc, reference)?.into_node().ok_or(Stop::Bad)
+    }
+
+    /// The position at a place; `Bad` where there is none.
+    pub(crate) fn position(&self, alloc: Global, place: &Place<'_>) -> Result<Position, Stop> {
+        match place {
+            Place::First(node) => self.first_in(alloc, node),
+            Place::Last(node) => self.last_in(alloc, node),
+            Place::Before(element) => gap(self.before(alloc, element)?),
+            Place::After(element) => gap(self.after(alloc, element)?),
+        }
+    }
+
+    fn first_in(&self, alloc: Global, node: &Reference<'_>) -> Result<Position, Stop> {
+        let node = self.node(alloc, node)?;
+        Ok(Position::first_child_of(alloc, &node)?)
+    }
+
+    fn last_in(&self, alloc: Global, node: &Reference<'_>) -> Result<Position, Stop> {
+        let node = self.node(alloc, node)?;
+        Ok(Position::last_child_of(alloc, &node)?)
+    }
+
+    fn before(&self, alloc: Global, element: &Reference<'_>) -> Result<Option<Position>, Stop> {
+        let element = self.element(alloc, element)?;
+        Ok(Position::before(alloc, element)?)
+    }
+
+    fn after(&self, alloc: Global, element: &Reference<'_>) -> Result<Option<Position>, Stop> {
+        let element = self.element(alloc, element)?;
+        Ok(Position::after(alloc, element)?)
+    }
+}
+
+// A root has no gap beside it.
+fn gap(position: Option<Position>) -> Result<Position, Stop> {
+    position.ok_or(Stop::Bad)
 }

@@ -6,10 +6,10 @@ use crate::reference::Reference;
 use crate::roots::Roots;
 use crate::stop::Stop;
 use crate::words::Words;
-use cst_core::{GreenNode, SyntaxElement, SyntaxKind, SyntaxNode, TreeIds};
+use cst_core::{GreenNode, SyntaxKind, SyntaxNode, TreeIds};
 use list_removal::remove_separated;
 use std::alloc::Global;
-use syntax_editor::{Position, SyntaxEdit, SyntaxEditor, SyntaxMappingBuilder};
+use syntax_editor::{SyntaxEdit, SyntaxEditor, SyntaxMappingBuilder};
 
 /// The trees of a script, its source of tree numbers, and what it edits once there is something.
 #[derive(Drop)]
@@ -103,21 +103,6 @@ impl Session {
         Ok((editing.ok_or(Stop::Bad)?, ids, words))
     }
 
-    fn test_editing(&self) -> Result<(), Stop> {
-        if self.is_editing() {
-            Ok(())
-        } else {
-            Err(Stop::Bad)
-        }
-    }
-
-    fn editor(&mut self) -> Result<&mut SyntaxEditor, Stop> {
-        match &mut self.editing {
-            Some(editing) => Ok(&mut editing.editor),
-            None => Err(Stop::Bad),
-        }
-    }
-
     fn add_tree(&mut self, name: Name<'_>, root: GreenNode) -> Result<(), Stop> {
         if self.roots.is_taken(name) {
             return Err(Stop::Bad);
@@ -130,15 +115,21 @@ impl Session {
         if self.is_editing() || self.roots.is_taken(name) {
             return Err(Stop::Bad);
         }
-        let node = self.node(node)?;
+        let node = self.roots.node(self.alloc, node)?;
         let (editor, root) = SyntaxEditor::new(self.alloc, &mut self.ids, node)?;
+        let named = self.begin(editor, root)?;
+        self.roots.add(self.alloc, name, named)
+    }
+
+    // Edits from now on, and gives the root.
+    fn begin(&mut self, editor: SyntaxEditor, root: SyntaxNode) -> Result<SyntaxNode, Stop> {
         let named = root.try_clone(self.alloc)?;
         self.editing = Some(Editing {
             editor,
             root,
             order: None,
         });
-        self.roots.add(self.alloc, name, named)
+        Ok(named)
     }
 
     fn map(
@@ -147,30 +138,15 @@ impl Session {
         input: &Reference<'_>,
         output: &Reference<'_>,
     ) -> Result<(), Stop> {
-        self.test_editing()?;
-        let alloc = self.alloc;
-        let mut builder = SyntaxMappingBuilder::new(alloc, self.node(parent)?);
-        self.map_node(&mut builder, input, output)?;
-        if let Some(mapping) = self.editor()?.make_mut().mappings() {
-            builder.finish(alloc, mapping)?;
+        let editor = editor_of(&mut self.editing)?;
+        let pair = pair_of(self.alloc, &self.roots, parent, input, output)?;
+        match editor.make_mut().mappings() {
+            Some(mapping) => Ok(pair.finish(self.alloc, mapping)?),
+            None => Ok(()),
         }
-        Ok(())
-    }
-
-    fn map_node(
-        &self,
-        builder: &mut SyntaxMappingBuilder,
-        input: &Reference<'_>,
-        output: &Reference<'_>,
-    ) -> Result<(), Stop> {
-        let input = self.node(input)?;
-        let output = self.node(output)?;
-        builder.map_node(self.alloc, input, output)?;
-        Ok(())
     }
 
     fn insert(&mut self, place: &Place<'_>, payload: &[Reference<'_>]) -> Result<(), Stop> {
-        self.test_editing()?;
         match payload {
             [one] => self.insert_one(place, one),
             _ => self.insert_all(place, payload),
@@ -178,30 +154,26 @@ impl Session {
     }
 
     fn insert_one(&mut self, place: &Place<'_>, payload: &Reference<'_>) -> Result<(), Stop> {
-        let alloc = self.alloc;
-        let at = self.position(place)?;
-        let element = self.element(payload)?;
-        self.editor()?.insert(alloc, at, element)?;
-        Ok(())
+        let editor = editor_of(&mut self.editing)?;
+        let at = self.roots.position(self.alloc, place)?;
+        let element = self.roots.element(self.alloc, payload)?;
+        Ok(editor.insert(self.alloc, at, element)?)
     }
 
     fn insert_all(&mut self, place: &Place<'_>, payload: &[Reference<'_>]) -> Result<(), Stop> {
-        let alloc = self.alloc;
-        let at = self.position(place)?;
-        let elements = self.elements(payload)?;
-        self.editor()?.insert_all(alloc, at, elements)?;
-        Ok(())
+        let editor = editor_of(&mut self.editing)?;
+        let at = self.roots.position(self.alloc, place)?;
+        let elements = self.roots.elements(self.alloc, payload)?;
+        Ok(editor.insert_all(self.alloc, at, elements)?)
     }
 
     fn delete(&mut self, target: &Reference<'_>) -> Result<(), Stop> {
-        let alloc = self.alloc;
-        let target = self.element(target)?;
-        self.editor()?.delete(alloc, target)?;
-        Ok(())
+        let editor = editor_of(&mut self.editing)?;
+        let target = self.roots.element(self.alloc, target)?;
+        Ok(editor.delete(self.alloc, target)?)
     }
 
     fn replace(&mut self, target: &Reference<'_>, payload: &[Reference<'_>]) -> Result<(), Stop> {
-        self.test_editing()?;
         match payload {
             [one] => self.replace_by_one(target, one),
             _ => self.replace_with_many(target, payload),
@@ -213,11 +185,10 @@ impl Session {
         target: &Reference<'_>,
         payload: &Reference<'_>,
     ) -> Result<(), Stop> {
-        let alloc = self.alloc;
-        let target = self.element(target)?;
-        let element = self.element(payload)?;
-        self.editor()?.replace(alloc, target, element)?;
-        Ok(())
+        let editor = editor_of(&mut self.editing)?;
+        let target = self.roots.element(self.alloc, target)?;
+        let element = self.roots.element(self.alloc, payload)?;
+        Ok(editor.replace(self.alloc, target, element)?)
     }
 
     fn replace_with_many(
@@ -225,11 +196,10 @@ impl Session {
         target: &Reference<'_>,
         payload: &[Reference<'_>],
     ) -> Result<(), Stop> {
-        let alloc = self.alloc;
-        let target = self.element(target)?;
-        let elements = self.elements(payload)?;
-        self.editor()?.replace_with_many(alloc, target, elements)?;
-        Ok(())
+        let editor = editor_of(&mut self.editing)?;
+        let elements = self.roots.elements(self.alloc, payload)?;
+        let target = self.roots.element(self.alloc, target)?;
+        Ok(editor.replace_with_many(self.alloc, target, elements)?)
     }
 
     fn range(
@@ -238,7 +208,6 @@ impl Session {
         last: &Reference<'_>,
         payload: &[Reference<'_>],
     ) -> Result<(), Stop> {
-        self.test_editing()?;
         if payload.is_empty() {
             self.delete_all(first, last)
         } else {
@@ -247,11 +216,10 @@ impl Session {
     }
 
     fn delete_all(&mut self, first: &Reference<'_>, last: &Reference<'_>) -> Result<(), Stop> {
-        let alloc = self.alloc;
-        let first = self.element(first)?;
-        let last = self.element(last)?;
-        self.editor()?.delete_all(alloc, first, last)?;
-        Ok(())
+        let editor = editor_of(&mut self.editing)?;
+        let first = self.roots.element(self.alloc, first)?;
+        let last = self.roots.element(self.alloc, last)?;
+        Ok(editor.delete_all(self.alloc, first, last)?)
     }
 
     fn replace_all(
@@ -260,27 +228,24 @@ impl Session {
         last: &Reference<'_>,
         payload: &[Reference<'_>],
     ) -> Result<(), Stop> {
-        let alloc = self.alloc;
-        let elements = self.elements(payload)?;
-        let first = self.element(first)?;
-        let last = self.element(last)?;
-        self.editor()?.replace_all(alloc, first, last, elements)?;
-        Ok(())
+        let editor = editor_of(&mut self.editing)?;
+        let elements = self.roots.elements(self.alloc, payload)?;
+        let first = self.roots.element(self.alloc, first)?;
+        let last = self.roots.element(self.alloc, last)?;
+        Ok(editor.replace_all(self.alloc, first, last, elements)?)
     }
 
     fn note(&mut self, word: Name<'_>, element: &Reference<'_>) -> Result<(), Stop> {
-        let element = self.element(element)?;
-        let Editing { editor, .. } = self.editing.as_mut().ok_or(Stop::Bad)?;
+        let editor = editor_of(&mut self.editing)?;
+        let element = self.roots.element(self.alloc, element)?;
         let annotation = self.words.annotation(self.alloc, word)?;
-        editor.add_annotation(self.alloc, element, annotation)?;
-        Ok(())
+        Ok(editor.add_annotation(self.alloc, element, annotation)?)
     }
 
     fn remove(&mut self, element: &Reference<'_>, separator: SyntaxKind) -> Result<(), Stop> {
-        let element = self.element(element)?;
-        let Editing { editor, .. } = self.editing.as_mut().ok_or(Stop::Bad)?;
-        remove_separated(editor, self.alloc, &element, separator)?;
-        Ok(())
+        let editor = editor_of(&mut self.editing)?;
+        let element = self.roots.element(self.alloc, element)?;
+        Ok(remove_separated(editor, self.alloc, &element, separator)?)
     }
 
     fn order(&mut self, order: Vec<usize>) -> Result<(), Stop> {
@@ -291,35 +256,37 @@ impl Session {
         editing.order = Some(order);
         Ok(())
     }
+}
 
-    fn position(&self, place: &Place<'_>) -> Result<Position, Stop> {
-        match place {
-            Place::First(node) => Ok(Position::first_child_of(self.alloc, &self.node(node)?)?),
-            Place::Last(node) => Ok(Position::last_child_of(self.alloc, &self.node(node)?)?),
-            Place::Before(element) => {
-                Position::before(self.alloc, self.element(element)?)?.ok_or(Stop::Bad)
-            }
-            Place::After(element) => {
-                Position::after(self.alloc, self.element(element)?)?.ok_or(Stop::Bad)
-            }
-        }
+// The editor, if there is one.
+fn editor_of(editing: &mut Option<Editing>) -> Result<&mut SyntaxEditor, Stop> {
+    match editing {
+        Some(editing) => Ok(&mut editing.editor),
+        None => Err(Stop::Bad),
     }
+}
 
-    fn elements(&self, references: &[Reference<'_>]) -> Result<Vec<SyntaxElement>, Stop> {
-        let mut elements = Vec::new(self.alloc);
-        for reference in references {
-            elements.push(self.element(reference)?)?;
-        }
-        Ok(elements)
-    }
+// The pair of a node and its copy below a parent.
+fn pair_of(
+    alloc: Global,
+    roots: &Roots,
+    parent: &Reference<'_>,
+    input: &Reference<'_>,
+    output: &Reference<'_>,
+) -> Result<SyntaxMappingBuilder, Stop> {
+    let mut builder = SyntaxMappingBuilder::new(alloc, roots.node(alloc, parent)?);
+    map_node(alloc, roots, &mut builder, input, output)?;
+    Ok(builder)
+}
 
-    fn element(&self, reference: &Reference<'_>) -> Result<SyntaxElement, Stop> {
-        let root = self.roots.get(reference.name).ok_or(Stop::Bad)?;
-        root.element_at(self.alloc, &reference.slots)?
-            .ok_or(Stop::Bad)
-    }
-
-    fn node(&self, reference: &Reference<'_>) -> Result<SyntaxNode, Stop> {
-        self.element(reference)?.into_node().ok_or(Stop::Bad)
-    }
+fn map_node(
+    alloc: Global,
+    roots: &Roots,
+    builder: &mut SyntaxMappingBuilder,
+    input: &Reference<'_>,
+    output: &Reference<'_>,
+) -> Result<(), Stop> {
+    let input = roots.node(alloc, input)?;
+    let output = roots.node(alloc, output)?;
+    Ok(builder.map_node(alloc, input, output)?)
 }

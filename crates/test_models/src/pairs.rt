@@ -11,65 +11,104 @@ use crate::pairs::report::Report;
 use crate::pairs::scenario::SCENARIOS;
 use crate::pairs::single::{Single, singles};
 use crate::pairs::trees::Trees;
-use crate::pairs::trial::Trial;
+use crate::pairs::trial::{Numbered, Trial};
 use anyhow::Result;
 use cst_core::TreeIds;
 use std::alloc::Global;
+
+// A pair, all at once.
+fn try_at_once<R: Print>(
+    rt: &R,
+    ids: &mut TreeIds,
+    trial: Trial<'_>,
+    before: Numbered<'_>,
+    behind: Numbered<'_>,
+    report: &mut Report,
+) -> Result<()> {
+    let answers = trial.answers(ids, before.single, behind.single)?;
+    report.note(rt, before.number, behind.number, &answers)
+}
+
+// A pair, one change at a time.
+fn try_stepped<R: Print>(
+    rt: &R,
+    ids: &mut TreeIds,
+    trial: Trial<'_>,
+    before: Numbered<'_>,
+    behind: Numbered<'_>,
+    report: &mut Report,
+) -> Result<()> {
+    let answers = trial.stepped(ids, before.single, behind.single)?;
+    report.note_stepped(rt, before.number, behind.number, &answers)
+}
+
+// Every pair that begins with this change.
+fn try_pairs_with<R: Print>(
+    rt: &R,
+    ids: &mut TreeIds,
+    trial: Trial<'_>,
+    before: Numbered<'_>,
+    singles: &[Single],
+    report: &mut Report,
+) -> Result<()> {
+    for (number, single) in singles.iter().enumerate() {
+        let behind = Numbered { number, single };
+        try_at_once(rt, ids, trial, before, behind, report)?;
+        try_stepped(rt, ids, trial, before, behind, report)?;
+    }
+    Ok(())
+}
 
 // Every pair of one scenario.
 fn try_pairs<R: Print>(
     rt: &R,
     ids: &mut TreeIds,
-    trial: &Trial,
+    trial: Trial<'_>,
     singles: &[Single],
     report: &mut Report,
 ) -> Result<()> {
-    for (first, before) in singles.iter().enumerate() {
-        for (second, behind) in singles.iter().enumerate() {
-            let answers = trial.answers(ids, before, behind)?;
-            report.note(rt, first, second, &answers)?;
-            let stepped = trial.stepped(ids, before, behind)?;
-            report.note_stepped(rt, first, second, &stepped)?;
-        }
+    for (number, single) in singles.iter().enumerate() {
+        let before = Numbered { number, single };
+        try_pairs_with(rt, ids, trial, before, singles, report)?;
     }
     Ok(())
 }
 
 // Whether both agree on every pair of one scenario.
-fn agrees<R: Print>(rt: &R, ids: &mut TreeIds, trial: &Trial, singles: &[Single]) -> Result<bool> {
+fn agrees<R: Print>(
+    rt: &R,
+    ids: &mut TreeIds,
+    trial: Trial<'_>,
+    singles: &[Single],
+) -> Result<bool> {
     let mut report = Report::new();
     try_pairs(rt, ids, trial, singles, &mut report)?;
-    report.close(rt, trial.scenario.name())?;
+    report.close(rt, trial.scenario().name())?;
     Ok(report.all_agree())
 }
 
 fn all_agree<R: Print>(
     rt: &R,
     ids: &mut TreeIds,
-    trial: &mut Trial,
+    trial: Trial<'_>,
     singles: &[Single],
 ) -> Result<bool> {
     let mut all_agree = true;
     for scenario in SCENARIOS {
-        trial.scenario = scenario;
-        all_agree = agrees(rt, ids, trial, singles)? && all_agree;
+        all_agree = agrees(rt, ids, trial.in_scenario(scenario), singles)? && all_agree;
     }
     Ok(all_agree)
 }
 
-fn compared<R: Print>(rt: &R, alloc: Global, ids: &mut TreeIds, trial: &mut Trial) -> Result<bool> {
-    let singles = singles(alloc, trial.root())?;
-    all_agree(rt, ids, trial, &singles)
-}
-
-fn new_trial(alloc: Global, ids: &mut TreeIds) -> Result<Trial> {
-    let trees = Trees::new(alloc, ids)?;
-    Trial::new(alloc, trees)
+fn compared<R: Print>(rt: &R, alloc: Global, ids: &mut TreeIds, trees: &Trees) -> Result<bool> {
+    let singles = singles(alloc, &trees.root)?;
+    let mapping = trees.mapping(alloc)?;
+    all_agree(rt, ids, Trial::new(alloc, trees, &mapping), &singles)
 }
 
 /// Whether both agree on every pair.
 pub fn agree<R: Print>(rt: &R, alloc: Global) -> Result<bool> {
     let mut ids = TreeIds::new(1);
-    let mut trial = new_trial(alloc, &mut ids)?;
-    compared(rt, alloc, &mut ids, &mut trial)
+    let trees = Trees::new(alloc, &mut ids)?;
+    compared(rt, alloc, &mut ids, &trees)
 }

@@ -131,9 +131,9 @@ impl Single {
     fn many(&self, alloc: Global, payload: &Payload) -> Result<Vec<SyntaxElement>> {
         let mut many = Vec::new(alloc);
         if !self.first.slots().is_empty() {
-            many.push(payload.token.try_clone(alloc)?)?;
+            many.push(payload.token()?.try_clone(alloc)?)?;
         }
-        many.push(payload.node.try_clone(alloc)?)?;
+        many.push(payload.node()?.try_clone(alloc)?)?;
         Ok(many)
     }
 
@@ -146,7 +146,7 @@ impl Single {
         let gap = self.gap(alloc)?.context("no gap")?;
         match self.form {
             Form::LastIn => Ok(editor.insert_all(alloc, gap, self.many(alloc, payload)?)?),
-            _ => Ok(editor.insert(alloc, gap, &payload.token)?),
+            _ => Ok(editor.insert(alloc, gap, payload.token()?)?),
         }
     }
 
@@ -175,8 +175,8 @@ impl Single {
     ) -> Result<()> {
         match self.form {
             Form::Delete => Ok(editor.delete(alloc, &self.first)?),
-            Form::ByToken => Ok(editor.replace(alloc, &self.first, &payload.token)?),
-            Form::ByNode => Ok(editor.replace(alloc, &self.first, &payload.node)?),
+            Form::ByToken => Ok(editor.replace(alloc, &self.first, payload.token()?)?),
+            Form::ByNode => Ok(editor.replace(alloc, &self.first, payload.node()?)?),
             Form::ByItself => Ok(editor.replace(alloc, &self.first, &self.first)?),
             Form::ByMany => {
                 let many = self.many(alloc, payload)?;

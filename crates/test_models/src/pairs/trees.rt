@@ -33,19 +33,25 @@ impl Source {
     }
 }
 
-/// A change's payload where it brings a token, or a node.
+/// A tree of which a change brings the token in the first slot, or the node in the second.
 #[derive(Drop)]
 pub struct Payload {
-    pub token: SyntaxElement,
-    pub node: SyntaxElement,
+    children: Vec<SyntaxElement>,
 }
 
 impl Payload {
     fn new(alloc: Global, ids: &mut TreeIds, source: Source) -> Result<Payload> {
         let root = source.root(alloc, ids)?;
-        let token = root.element_at(alloc, &[0])?.context("no token")?;
-        let node = root.element_at(alloc, &[1])?.context("no node")?;
-        Ok(Payload { token, node })
+        let children = root.children_with_tokens(alloc)?;
+        Ok(Payload { children })
+    }
+
+    pub fn token(&self) -> Result<&SyntaxElement> {
+        self.children.first().context("no token")
+    }
+
+    pub fn node(&self) -> Result<&SyntaxElement> {
+        self.children.get(1).context("no node")
     }
 }
 
