@@ -14,7 +14,8 @@ use Rattle.std.proofs.lemmas.Bool.{cases_Bool, cases_eq, cases_lt, eq-eqb, ne_eq
 use Rattle.std.proofs.Common.{ap, ap₂, sym, ◌∙◌, arith}
 use mathlib.Core.Logic.{inl, inr}
 use Rattle.rewriting.specs.declared.mark.Sought.{Sought}
-use Rattle.rewriting.specs.inner.Marked.{Marking, sought_as, sought_in, sought_for, HasOneMore, StaysElsewhere}
+use Rattle.rewriting.specs.inner.Marked.{Marking, sought_as, sought_in, sought_for}
+use Rattle.rewriting.specs.inner.OneMore.{HasOneMore, StaysElsewhere}
 use Rattle.cst_core.specs.Path.{Path, same_path, counted_from}
 use Rattle.cst_core.specs.Element.{Address, same_address}
 use Rattle.path_table.specs.PathTable.{place_below, place_at, size, IsGrown}
@@ -44,7 +45,7 @@ some-of : {X : Type 0} (xs : List X) (i : ℕ) → i < length xs → X
 some-of [] i within = absurd (omega (arith, within))
 some-of (x ∷ xs) i within = x
 
-module _ (old new : List (Vec Sought Global)) (place : ℕ) (s : Sought) (size-same : length new ≡ length old) (within : place < length old) (here : HasOneMore old new place s) (elsewhere : StaysElsewhere old new place) where
+module _ (old new : List (Vec Sought Global)) (place : ℕ) (s : Sought) (size-same : length new ≡ length old) (within : place < length old) (here : HasOneMore (λ v. v.items) old new place s) (elsewhere : StaysElsewhere (λ v. v.items) old new place) where
   abbrev d : Vec Sought Global
   d = some-of old place within
 

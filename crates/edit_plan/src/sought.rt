@@ -4,7 +4,8 @@ ghost use Rattle.std.specs.Prelude.{◌≡◌, ◌≤◌, ◌<◌, ℕ, true, []
 ghost use Rattle.cst_core.specs.Element.{Address, address};
 ghost use Rattle.cst_core.specs.SyntaxElement.{element_of};
 ghost use Rattle.path_table.specs.PathTable.{size};
-ghost use Rattle.rewriting.specs.inner.Marked.{sought_as, sought_in, HasOneMore, StaysElsewhere};
+ghost use Rattle.rewriting.specs.inner.Marked.{sought_as, sought_in};
+ghost use Rattle.rewriting.specs.inner.OneMore.{HasOneMore, StaysElsewhere};
 ghost use Rattle.edit_plan.specs.inner.Sought.{addresses, sought_from, sought_at, IsSoughtIndex};
 ghost use Rattle.edit_plan.specs.inner.Sought.{HasSameLists, HasListedMore, IsMarkEntered, HasRegisteredMore};
 
@@ -73,8 +74,8 @@ impl<'a> SoughtIndex<'a> {
         requires { place < length self.now.lists.items }
         ensures places { self.new.places ≡ self.old.places }
         ensures size { length self.new.lists.items ≡ length self.old.lists.items }
-        ensures here { OnOk result (HasOneMore self.old.lists.items self.new.lists.items place mark.entry) }
-        ensures elsewhere { OnOk result (StaysElsewhere self.old.lists.items self.new.lists.items place) }
+        ensures here { OnOk result (HasOneMore (λ v. v.items) self.old.lists.items self.new.lists.items place mark.entry) }
+        ensures elsewhere { OnOk result (StaysElsewhere (λ v. v.items) self.old.lists.items self.new.lists.items place) }
     {
         self.lists[place].push(mark)?;
         Ok(())

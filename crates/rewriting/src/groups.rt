@@ -1,5 +1,6 @@
 ghost use Rattle.std.specs.Prelude.{◌≡◌, ◌<◌, length, get_or, IfOk, OnOk};
-ghost use Rattle.rewriting.specs.inner.Groups.{AreEmptyGroups, HasOneMore, StaysElsewhere};
+ghost use Rattle.rewriting.specs.inner.Groups.{AreEmptyGroups};
+ghost use Rattle.rewriting.specs.inner.OneMore.{HasOneMore, StaysElsewhere};
 
 use crate::aimed::Aimed;
 use crate::group::Group;
@@ -57,8 +58,8 @@ impl<'a> Groups<'a> {
     ) -> Result<(), AllocError>
         requires { slot < length self.old }
         ensures size { length self.new ≡ length self.old }
-        ensures here { OnOk result (HasOneMore self.old self.new slot aim.entry) }
-        ensures elsewhere { OnOk result (StaysElsewhere self.old self.new slot) }
+        ensures here { OnOk result (HasOneMore (λ g. g) self.old self.new slot aim.entry) }
+        ensures elsewhere { OnOk result (StaysElsewhere (λ g. g) self.old self.new slot) }
     {
         let number = self.numbers[slot];
         if number == 0 {

@@ -1,5 +1,6 @@
 ghost use Rattle.std.specs.Prelude.{◌<◌, ◌≡◌, length, IfOk, OnOk};
-ghost use Rattle.rewriting.specs.inner.Marked.{sought_in, Finds, found_at, HasOneMore, StaysElsewhere, IsDealt};
+ghost use Rattle.rewriting.specs.inner.Marked.{sought_in, Finds, found_at, IsDealt};
+ghost use Rattle.rewriting.specs.inner.OneMore.{HasOneMore, StaysElsewhere};
 ghost use Rattle.rewriting.specs.inner.Marked.{AreDealt, sought_for};
 
 use crate::lists::empty_lists;
@@ -48,8 +49,8 @@ fn enter<'a>(
 ) -> Result<(), AllocError>
     requires { slot < length lists.now.items }
     ensures size { length lists.new.items ≡ length lists.old.items }
-    ensures here { OnOk result (HasOneMore lists.old.items lists.new.items slot mark.entry) }
-    ensures elsewhere { OnOk result (StaysElsewhere lists.old.items lists.new.items slot) }
+    ensures here { OnOk result (HasOneMore (λ v. v.items) lists.old.items lists.new.items slot mark.entry) }
+    ensures elsewhere { OnOk result (StaysElsewhere (λ v. v.items) lists.old.items lists.new.items slot) }
 {
     lists[slot].push(mark)?;
     Ok(())

@@ -11,35 +11,23 @@ use crate::pairs::report::Report;
 use crate::pairs::scenario::SCENARIOS;
 use crate::pairs::single::{Single, singles};
 use crate::pairs::trees::Trees;
-use crate::pairs::trial::{Numbered, Trial};
+use crate::pairs::trial::{Numbered, Pair, Trial, Way};
 use anyhow::Result;
 use cst_core::TreeIds;
 use std::alloc::Global;
 
-// A pair, all at once.
-fn try_at_once<R: Print>(
+fn try_pair<R: Print>(
     rt: &R,
     ids: &mut TreeIds,
     trial: Trial<'_>,
-    before: Numbered<'_>,
-    behind: Numbered<'_>,
+    pair: Pair<'_>,
     report: &mut Report,
 ) -> Result<()> {
-    let answers = trial.answers(ids, before.single, behind.single)?;
-    report.note(rt, before.number, behind.number, &answers)
-}
-
-// A pair, one change at a time.
-fn try_stepped<R: Print>(
-    rt: &R,
-    ids: &mut TreeIds,
-    trial: Trial<'_>,
-    before: Numbered<'_>,
-    behind: Numbered<'_>,
-    report: &mut Report,
-) -> Result<()> {
-    let answers = trial.stepped(ids, before.single, behind.single)?;
-    report.note_stepped(rt, before.number, behind.number, &answers)
+    for way in [Way::AtOnce, Way::Stepped] {
+        let answers = trial.answers(ids, pair, way)?;
+        report.note(rt, pair, way, &answers)?;
+    }
+    Ok(())
 }
 
 // Every pair that begins with this change.
@@ -47,14 +35,13 @@ fn try_pairs_with<R: Print>(
     rt: &R,
     ids: &mut TreeIds,
     trial: Trial<'_>,
-    before: Numbered<'_>,
+    first: Numbered<'_>,
     singles: &[Single],
     report: &mut Report,
 ) -> Result<()> {
     for (number, single) in singles.iter().enumerate() {
-        let behind = Numbered { number, single };
-        try_at_once(rt, ids, trial, before, behind, report)?;
-        try_stepped(rt, ids, trial, before, behind, report)?;
+        let second = Numbered { number, single };
+        try_pair(rt, ids, trial, Pair { first, second }, report)?;
     }
     Ok(())
 }
@@ -68,8 +55,8 @@ fn try_pairs<R: Print>(
     report: &mut Report,
 ) -> Result<()> {
     for (number, single) in singles.iter().enumerate() {
-        let before = Numbered { number, single };
-        try_pairs_with(rt, ids, trial, before, singles, report)?;
+        let first = Numbered { number, single };
+        try_pairs_with(rt, ids, trial, first, singles, report)?;
     }
     Ok(())
 }

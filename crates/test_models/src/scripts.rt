@@ -1,71 +1,59 @@
 //! Asks the editor and a plain model what comes of the changes of a script of `syned`: all at once, one at a time, by each engine, and in
 //! the order of the script where it says one.
 
-use anyhow::Result;
+use anyhow::{Context, Result};
 use std::alloc::Global;
 use syned_script::{Recorded, record_script};
 use test_model::{Answers, answers_to, engines_answers, ordered_answers, stepped_answers};
 
-// What both answer, where the script comes to its end.
-fn at_once(alloc: Global, script: &str) -> Result<Option<Answers>> {
-    let Some(
-        Recorded {
-            root,
-            editor,
-            mut ids,
-            ..
-        },
-    ) = record_script(alloc, script)
-    else {
-        return Ok(None);
-    };
-    Ok(Some(answers_to(alloc, &mut ids, &root, editor)?))
+fn at_once(alloc: Global, recorded: Recorded) -> Result<Answers> {
+    let Recorded {
+        root,
+        editor,
+        mut ids,
+        ..
+    } = recorded;
+    answers_to(alloc, &mut ids, &root, editor)
 }
 
-// The same, one change at a time.
-fn stepped(alloc: Global, script: &str) -> Result<Option<Answers>> {
-    let Some(
-        Recorded {
-            root,
-            editor,
-            mut ids,
-            ..
-        },
-    ) = record_script(alloc, script)
-    else {
-        return Ok(None);
-    };
-    let Some(Recorded { editor: same, .. }) = record_script(alloc, script) else {
-        return Ok(None);
-    };
-    Ok(Some(stepped_answers(alloc, &mut ids, &root, editor, same)?))
+// One change at a time; both have recorded the same.
+fn stepped(alloc: Global, recorded: Recorded, same: Recorded) -> Result<Answers> {
+    let Recorded {
+        root,
+        editor,
+        mut ids,
+        ..
+    } = recorded;
+    stepped_answers(alloc, &mut ids, &root, editor, same.editor)
 }
 
-// The same by each engine.
-fn by_engines(alloc: Global, script: &str) -> Result<Option<Answers>> {
-    let Some(Recorded { root, editor, .. }) = record_script(alloc, script) else {
-        return Ok(None);
-    };
-    Ok(Some(engines_answers(alloc, &root, editor)?))
+fn by_engines(alloc: Global, recorded: Recorded) -> Result<Answers> {
+    let Recorded { root, editor, .. } = recorded;
+    engines_answers(alloc, &root, editor)
 }
 
-// The same in the order of the script, where it says one.
-fn ordered(alloc: Global, script: &str) -> Result<Option<Answers>> {
-    let Some(
-        Recorded {
-            root,
-            editor,
-            order,
-            mut ids,
-        },
-    ) = record_script(alloc, script)
-    else {
-        return Ok(None);
-    };
-    let Some(order) = order else {
-        return Ok(None);
-    };
-    Ok(Some(ordered_answers(alloc, &mut ids, &root, editor, &order)?))
+// In the order of the script, where it says one.
+fn ordered(alloc: Global, recorded: Recorded) -> Result<Option<Answers>> {
+    let Recorded {
+        root,
+        editor,
+        order,
+        mut ids,
+    } = recorded;
+    match order {
+        Some(order) => Ok(Some(ordered_answers(alloc, &mut ids, &root, editor, &order)?)),
+        None => Ok(None),
+    }
+}
+
+// A script that came to its end before does so again.
+fn again(alloc: Global, script: &str) -> Result<Recorded> {
+    record_script(alloc, script).context("nothing recorded")
+}
+
+fn stepped_again(alloc: Global, script: &str) -> Result<Answers> {
+    let recorded = again(alloc, script)?;
+    stepped(alloc, recorded, again(alloc, script)?)
 }
 
 // Prints the answers if they differ, and says whether they agree.
@@ -76,32 +64,42 @@ fn agree_how<R: Print>(rt: &R, how: &str, answers: &Answers) -> Result<bool> {
     Ok(answers.agree())
 }
 
-// The same of answers that there may be none of.
-fn agree_if_asked<R: Print>(rt: &R, how: &str, answers: Result<Option<Answers>>) -> Result<bool> {
-    match answers? {
-        Some(answers) => agree_how(rt, how, &answers),
+fn agree_in_order<R: Print>(rt: &R, answers: Option<Answers>) -> Result<bool> {
+    match answers {
+        Some(answers) => agree_how(rt, "in the order", &answers),
         None => Ok(true),
     }
 }
 
+// Asks in every way, up to one in which they differ.
 fn all_agree<R: Print>(rt: &R, alloc: Global, script: &str, at_once: &Answers) -> Result<bool> {
     Ok(
         agree_how(rt, "at once", at_once)?
-            && agree_if_asked(rt, "one at a time", stepped(alloc, script))?
-            && agree_if_asked(rt, "by the engines", by_engines(alloc, script))?
-            && agree_if_asked(rt, "in the order", ordered(alloc, script))?,
+            && agree_how(rt, "one at a time", &stepped_again(alloc, script)?)?
+            && agree_how(
+                rt,
+                "by the engines",
+                &by_engines(alloc, again(alloc, script)?)?,
+            )?
+            && agree_in_order(rt, ordered(alloc, again(alloc, script)?)?)?,
     )
 }
 
-/// Whether both say the same of a script. It prints what both answer, or the first of these where they differ.
-pub fn agree<R: Print>(rt: &R, alloc: Global, script: &str) -> Result<bool> {
-    let Some(answers) = at_once(alloc, script)? else {
-        println!(rt; "nothing recorded")?;
-        return Ok(true);
-    };
-    let agree = all_agree(rt, alloc, script, &answers)?;
+fn compared<R: Print>(rt: &R, alloc: Global, script: &str, answers: &Answers) -> Result<bool> {
+    let agree = all_agree(rt, alloc, script, answers)?;
     if agree {
         println!(rt; "both: {}", answers.model)?;
     }
     Ok(agree)
+}
+
+/// Whether both say the same of a script. It prints what both answer, or the first of these where they differ.
+pub fn agree<R: Print>(rt: &R, alloc: Global, script: &str) -> Result<bool> {
+    match record_script(alloc, script) {
+        Some(recorded) => compared(rt, alloc, script, &at_once(alloc, recorded)?),
+        None => {
+            println!(rt; "nothing recorded")?;
+            Ok(true)
+        }
+    }
 }

@@ -3,11 +3,10 @@
 --     group_by_number               the group of a number: none for zero, and the others are counted from one
 --     AreNumbers                    numbers of n groups, where no two are the same, but for zero
 --     AreEmptyGroups                no group has any aim
---     HasOneMore, StaysElsewhere    a group has one aim more at its end; the others are as they were
 --     GrowsInside                   n groups, from one on, have one aim more at their ends
 --     StaysBefore, StaysBehind      the groups before these, and those behind them, are as they were
 --     AreGrouped                    groups have the aims that matter for each child, n of them
-use Rattle.std.specs.Prelude.{◌≡◌, ◌≢◌, ◌<◌, ◌≤◌, ◌+◌, ℕ, zero, suc, Bool, false, nat_eq, ◌||◌, List, [], ◌∷◌, ◌++◌, map, filter, length, get_or}
+use Rattle.std.specs.Prelude.{◌≡◌, ◌<◌, ◌≤◌, ◌+◌, ℕ, zero, suc, Bool, false, nat_eq, ◌||◌, List, [], ◌∷◌, ◌++◌, map, filter, length, get_or}
 use Rattle.green_tree.specs.Path.{Path, has_path, counted_from}
 use Rattle.rewriting.specs.declared.aimed.AimForm.{AimForm}
 use Rattle.rewriting.specs.declared.aimed.AimForm.TheVariants.{FirstIn, Behind, Over}
@@ -35,13 +34,6 @@ pub record AreNumbers (numbers : List ℕ) (count : ℕ) : Type 0 where
 -- ---- groups, for one child after another
 abbrev pub AreEmptyGroups : List (List Aimed) → Type 0
 AreEmptyGroups groups = (k : ℕ) (d : List Aimed) → k < length groups → get_or groups k d ≡ []
-
-module _ (before after : List (List Aimed)) where
-  abbrev pub HasOneMore : ℕ → Aimed → Type 0
-  HasOneMore i a = (d : List Aimed) → get_or after i d ≡ get_or before i d ++ a ∷ []
-
-  abbrev pub StaysElsewhere : ℕ → Type 0
-  StaysElsewhere i = (k : ℕ) (d : List Aimed) → k ≢ i → get_or after k d ≡ get_or before k d
 
 module _ (before after : List (List Aimed)) (first count : ℕ) where
   abbrev pub GrowsInside : Aimed → Type 0

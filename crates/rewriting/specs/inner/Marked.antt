@@ -9,10 +9,9 @@
 --     marks_at, wanted              the marks sought at a path; each kept element is labelled by these
 --     Finds, found_at               marks that are found further; the marks sought at the top of an element, which stands at this path
 --     seen_below, sought_below      a sought mark in a child slot or below, with that slot dropped; of these marks those that there are
---     HasOneMore, StaysElsewhere    a list has one sought mark more at its end; the others are as they were
 --     IsDealt                       one mark went to the list of the child that it is in
 --     sought_for, AreDealt          what is sought in a child, from its list, if there is one; lists have what is sought in each child, n of them
-use Rattle.std.specs.Prelude.{◌≡◌, ◌≢◌, ◌<◌, ℕ, suc, cond, nat_eq, List, [], ◌∷◌, ◌++◌, map, filter, flat_map, length, get_or, slice_get, Vec}
+use Rattle.std.specs.Prelude.{◌≡◌, ◌<◌, ℕ, suc, cond, nat_eq, List, [], ◌∷◌, ◌++◌, map, filter, flat_map, length, get_or, slice_get, Vec}
 use Rattle.std.specs.Global.{Global}
 use Rattle.std.specs.Option.{option_map_or}
 use Rattle.green_tree.specs.Path.{Path, same_path}
@@ -75,12 +74,6 @@ found_at path ms = map (λ n. (n, path)) (marks_at ms [])
 
 -- ---- lists of sought marks, for one child after another
 module _ (before after : List (Vec Sought Global)) where
-  abbrev pub HasOneMore : ℕ → Sought → Type 0
-  HasOneMore i s = (d : Vec Sought Global) → (get_or after i d).items ≡ (get_or before i d).items ++ s ∷ []
-
-  abbrev pub StaysElsewhere : ℕ → Type 0
-  StaysElsewhere i = (k : ℕ) (d : Vec Sought Global) → k ≢ i → (get_or after k d).items ≡ (get_or before k d).items
-
   abbrev pub IsDealt : ℕ → Path → Type 0
   IsDealt n p =
       (k : ℕ) (d : Vec Sought Global) → k < length before → sought_in (get_or after k d).items ≡ sought_in (get_or before k d).items ++ seen_below k n p

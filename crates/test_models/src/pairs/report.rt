@@ -1,3 +1,4 @@
+use crate::pairs::trial::{Pair, Way};
 use anyhow::Result;
 use test_model::{Answer, Answers};
 
@@ -35,41 +36,35 @@ impl Report {
         }
     }
 
-    /// Counts a pair, and prints both answers where they differ.
+    fn differing(&mut self, way: Way) -> &mut u32 {
+        match way {
+            Way::AtOnce => &mut self.differ,
+            Way::Stepped => &mut self.differ_stepped,
+        }
+    }
+
+    /// Counts a pair where it is carried out at once, and prints both answers where they differ.
     pub fn note<R: Print>(
         &mut self,
         rt: &R,
-        first: usize,
-        second: usize,
+        pair: Pair<'_>,
+        way: Way,
         answers: &Answers,
     ) -> Result<()> {
-        self.count(&answers.editor);
+        if let Way::AtOnce = way {
+            self.count(&answers.editor);
+        }
         if answers.agree() {
             return Ok(());
         }
-        note_one(&mut self.differ);
+        note_one(self.differing(way));
         println!(rt;
-            "{first} and {second}: {}, but {}",
-            answers.editor, answers.model
-        )?;
-        Ok(())
-    }
-
-    /// Prints both answers where the editor's, one change at a time, is another one.
-    pub fn note_stepped<R: Print>(
-        &mut self,
-        rt: &R,
-        first: usize,
-        second: usize,
-        answers: &Answers,
-    ) -> Result<()> {
-        if answers.agree() {
-            return Ok(());
-        }
-        note_one(&mut self.differ_stepped);
-        println!(rt;
-            "{first} and {second} one at a time: {}, but {}",
-            answers.editor, answers.model
+            "{} and {}{}: {}, but {}",
+            pair.first.number,
+            pair.second.number,
+            way.name(),
+            answers.editor,
+            answers.model
         )?;
         Ok(())
     }

@@ -14,6 +14,30 @@ pub struct Numbered<'a> {
     pub single: &'a Single,
 }
 
+/// Two changes, in the order in which they are recorded.
+#[derive(Clone, Copy)]
+pub struct Pair<'a> {
+    pub first: Numbered<'a>,
+    pub second: Numbered<'a>,
+}
+
+/// How the changes of a pair are carried out.
+#[derive(Clone, Copy)]
+pub enum Way {
+    AtOnce,
+    Stepped,
+}
+
+impl Way {
+    /// What a line says of it, after the numbers of a pair.
+    pub fn name(self) -> &'static str {
+        match self {
+            Way::AtOnce => "",
+            Way::Stepped => " one at a time",
+        }
+    }
+}
+
 /// Tries pairs, each with a new editor.
 #[derive(Clone, Copy)]
 pub struct Trial<'a> {
@@ -76,30 +100,41 @@ impl<'a> Trial<'a> {
         }
     }
 
-    fn record(self, editor: &mut SyntaxEditor, before: &Single, behind: &Single) -> Result<()> {
+    fn record(self, editor: &mut SyntaxEditor, pair: Pair<'_>) -> Result<()> {
         take_mapping(self.alloc, editor, self.mapping)?;
-        before.record(self.alloc, editor, &self.trees.payloads.first)?;
+        let payloads = &self.trees.payloads;
+        pair.first
+            .single
+            .record(self.alloc, editor, &payloads.first)?;
         self.record_between(editor)?;
-        behind.record(self.alloc, editor, &self.trees.payloads.second)
+        pair.second
+            .single
+            .record(self.alloc, editor, &payloads.second)
     }
 
-    // An editor that has recorded two changes, in this order.
-    fn recorded(self, ids: &mut TreeIds, before: &Single, behind: &Single) -> Result<SyntaxEditor> {
+    // An editor that has recorded a pair.
+    fn recorded(self, ids: &mut TreeIds, pair: Pair<'_>) -> Result<SyntaxEditor> {
         let mut editor = self.editor(ids)?;
-        self.record(&mut editor, before, behind)?;
+        self.record(&mut editor, pair)?;
         Ok(editor)
     }
 
-    /// What comes of two changes, recorded in this order.
-    pub fn answers(self, ids: &mut TreeIds, before: &Single, behind: &Single) -> Result<Answers> {
-        let editor = self.recorded(ids, before, behind)?;
+    fn at_once(self, ids: &mut TreeIds, pair: Pair<'_>) -> Result<Answers> {
+        let editor = self.recorded(ids, pair)?;
         answers_to(self.alloc, ids, &self.trees.root, editor)
     }
 
-    /// The same where they are carried out one at a time.
-    pub fn stepped(self, ids: &mut TreeIds, before: &Single, behind: &Single) -> Result<Answers> {
-        let editor = self.recorded(ids, before, behind)?;
-        let same = self.recorded(ids, before, behind)?;
+    fn stepped(self, ids: &mut TreeIds, pair: Pair<'_>) -> Result<Answers> {
+        let editor = self.recorded(ids, pair)?;
+        let same = self.recorded(ids, pair)?;
         stepped_answers(self.alloc, ids, &self.trees.root, editor, same)
+    }
+
+    /// What comes of a pair.
+    pub fn answers(self, ids: &mut TreeIds, pair: Pair<'_>, way: Way) -> Result<Answers> {
+        match way {
+            Way::AtOnce => self.at_once(ids, pair),
+            Way::Stepped => self.stepped(ids, pair),
+        }
     }
 }
