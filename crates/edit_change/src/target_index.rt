@@ -122,7 +122,8 @@ impl TargetIndex {
             → o ≡ number_at self.old (p ++ slot ∷ [])) }
         ensures entered { OnOk result ((p : Path) → place_at self.old.numbers p ≡ Some place
             → IsEntered self.old self.new ((p ++ slot ∷ []) ∷ []) number) }
-        ensures stays { (p : Path) → place_at self.old.numbers p ≡ Some place → place_at self.new.numbers p ≡ Some place }
+        ensures stays { (p : Path) → place_at self.old.numbers p ≡ Some place
+            → place_at self.new.numbers p ≡ Some place }
         ensures new_tree { OnOk result (IsTree self.new.numbers) }
     {
         let below = self.numbers.enter(place, slot)?;

@@ -121,12 +121,12 @@ impl<'a> EditRun<'a> {
         ensures refused { IfErr result (RunRefuses self.entry.plan ids.old) }
         ensures err { OnErr result (ids.new ≡ ids.old) }
     {
-        let rewritten = self.rewritten(alloc)?;
+        let rewritten = self.rewritten_by_steps(alloc)?;
         self.plan.edit_of(alloc, ids, rewritten)
     }
 
     // The tree that the steps made, with the paths of its changed and its annotated elements.
-    pub(crate) fn rewritten(&self, alloc: Global) -> Result<Rewritten, EngineError>
+    pub(crate) fn rewritten_by_steps(&self, alloc: Global) -> Result<Rewritten, EngineError>
         requires { is_complete self.now.plan.changes (is_done self.now) ≡ true }
         ensures ok { IfOk result (HasRewritten self.now.plan) }
         ensures short { IfOk result (λ r. text_length (branch_tree r.green) < length_limit) }

@@ -74,8 +74,10 @@ impl<'a> SoughtIndex<'a> {
         requires { place < length self.now.lists.items }
         ensures places { self.new.places ≡ self.old.places }
         ensures size { length self.new.lists.items ≡ length self.old.lists.items }
-        ensures here { OnOk result (HasOneMore (λ v. v.items) self.old.lists.items self.new.lists.items place mark.entry) }
-        ensures elsewhere { OnOk result (StaysElsewhere (λ v. v.items) self.old.lists.items self.new.lists.items place) }
+        ensures here { OnOk result
+            (HasOneMore (λ v. v.items) self.old.lists.items self.new.lists.items place mark.entry) }
+        ensures elsewhere { OnOk result
+            (StaysElsewhere (λ v. v.items) self.old.lists.items self.new.lists.items place) }
     {
         self.lists[place].push(mark)?;
         Ok(())

@@ -23,6 +23,6 @@ impl EditEngine for SpliceEngine {
     fn run(&mut self, alloc: Global, plan: &EditPlan) -> Result<Rewritten, EngineError> {
         let order = plan.default_order(alloc)?;
         let run = plan.carried_out(alloc, &order)?;
-        run.rewritten(alloc)
+        run.rewritten_by_steps(alloc)
     }
 }

@@ -55,7 +55,7 @@ fn one(alloc: Global, element: GreenElement) -> Result<Vec<GreenElement>, AllocE
 }
 
 // What a change gives, as elements of its own.
-fn shared(alloc: Global, given: Given) -> Result<Vec<GreenElement>, AllocError>
+fn own_elements(alloc: Global, given: Given) -> Result<Vec<GreenElement>, AllocError>
     ensures { IfOk result (λ v. element_trees v.items ≡ given_trees given.entry) }
 {
     match given {
@@ -65,7 +65,7 @@ fn shared(alloc: Global, given: Given) -> Result<Vec<GreenElement>, AllocError>
 }
 
 /// What a change gives: its payload as it stands now, or, where no change can be carried out in that, as it was recorded.
-pub(crate) fn given(
+pub(crate) fn given_elements(
     alloc: Global,
     change: &Change,
     payload: &Option<Stage>,
@@ -74,6 +74,6 @@ pub(crate) fn given(
 {
     match payload {
         Some(stage) => one(alloc, stage.element().share(alloc)?),
-        None => shared(alloc, change.green_payload(alloc)?),
+        None => own_elements(alloc, change.green_payload(alloc)?),
     }
 }

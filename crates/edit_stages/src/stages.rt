@@ -15,7 +15,7 @@ ghost use Rattle.edit_stages.specs.inner.Stages.{Begins, SomeWay, StaysAs, CanTa
 ghost use Rattle.edit_stages.specs.inner.Stages.{builds_of, done_in, HasNumber, TellsReady, TellsComplete};
 ghost use Rattle.edit_stages.specs.inner.Stages.{ShowsTree, ShowsPayload};
 
-use crate::payload::{given, payload_stages};
+use crate::payload::{given_elements, payload_stages};
 use cst_core::{GreenElement, GreenNode, SyntaxNode};
 use edit_change::{Change, Fate};
 use rewriting::Aimed;
@@ -172,7 +172,7 @@ impl Stages {
         ensures refused_count { OnErr result (builds_of self.new ≡ builds_of self.old) }
     {
         let change = &changes[number];
-        let given = given(alloc, change, &self.payloads[number])?;
+        let given = given_elements(alloc, change, &self.payloads[number])?;
         let owner = fates[number].owner();
         self.splice(alloc, owner, aim, &given)?;
         self.settle(change, number, given);

@@ -1,4 +1,5 @@
 ghost use Rattle.std.specs.Prelude.{◌≡◌, ◌+◌, ◌∷◌, [], ◌++◌, ◌≤◌, false, IfOk, IfErr, OnOk, OnErr, string_bytes};
+ghost use Rattle.cst_core.specs.TreeIds.{spent};
 ghost use Rattle.spacing.specs.Spacing.{space_text, space_elements, spaced, numbers_needed, is_deep_round};
 ghost use Rattle.spacing.specs.SpacedRefusal.{SpacedRefuses};
 ghost use Rattle.spacing.specs.inner.SpaceInCode.{space_of, with_spaces, numbers_of, NumbersRefuse, IsRound, RoundRefuses};
@@ -39,10 +40,10 @@ fn push_space(
     space: Space,
     out: &mut Vec<SyntaxElement>,
 ) -> Result<(), SpaceError>
-    requires { ids.old ≤ 18446744073709551615 }
+    requires { ids.old ≤ spent }
     ensures ok { OnOk result (out.new.items ≡ out.old.items ++ space_elements ids.old (space_of space)) }
     ensures drawn { OnOk result (ids.new ≡ ids.old + numbers_of (space_of space)) }
-    ensures given { OnOk result (ids.new ≤ 18446744073709551615) }
+    ensures given { OnOk result (ids.new ≤ spent) }
     ensures refused { IfErr result (NumbersRefuse ids.old (numbers_of (space_of space))) }
 {
     if let Space::Nothing = space {
@@ -63,10 +64,10 @@ fn with_spaces(
     mut new: Vec<SyntaxElement>,
     end: Space,
 ) -> Result<Vec<SyntaxElement>, SpaceError>
-    requires { ids.old ≤ 18446744073709551615 }
+    requires { ids.old ≤ spent }
     ensures ok { IfOk result (λ all. all.items ≡ with_spaces ids.old (space_of front) new.items (space_of end)) }
     ensures drawn { OnOk result (ids.new ≡ ids.old + (numbers_of (space_of front) + numbers_of (space_of end))) }
-    ensures given { OnOk result (ids.new ≤ 18446744073709551615) }
+    ensures given { OnOk result (ids.new ≤ spent) }
     ensures refused { IfErr result (NumbersRefuse ids.old (numbers_of (space_of front) + numbers_of (space_of end))) }
 {
     let mut all = Vec::new(alloc);
@@ -104,7 +105,7 @@ pub fn elements_with_spaces(
     ensures ok { IfOk result (λ all. all.items ≡ spaced ids.old at.now new.items) }
     ensures shallow { OnOk result (is_deep_round at.now new.items ≡ false) }
     ensures drawn { OnOk result (ids.new ≡ ids.old + numbers_needed at.now new.items) }
-    ensures given { OnOk result (ids.new ≤ 18446744073709551615) }
+    ensures given { OnOk result (ids.new ≤ spent) }
     ensures refused { IfErr result (SpacedRefuses ids.old at.now new.items) }
     ensures err { OnErr result (ids.new ≡ ids.old) }
 {

@@ -1,5 +1,6 @@
 ghost use Rattle.std.specs.Prelude.{◌≡◌, ◌↔◌, ◌+◌, ◌<◌, ◌≤◌, [], length, IfOk, OnOk, OnErr};
 ghost use Rattle.cst_core.specs.Green.{length_limit, branch_tree};
+ghost use Rattle.cst_core.specs.TreeIds.{spent};
 ghost use Rattle.cst_core.specs.declared.element.SyntaxElement.TheVariants.{Token};
 ghost use Rattle.spacing.specs.Spacing.{whitespace, whitespace_tree, LacksTokenNumber};
 
@@ -35,7 +36,7 @@ pub fn whitespace(alloc: Global, ids: &mut TreeIds, text: &str) -> Result<Syntax
 
 // Such a token in a tree of this number, of a text that is not too long.
 fn whitespace_of(alloc: Global, number: u64, text: &str) -> Result<SyntaxToken, AllocError>
-    requires number { number < 18446744073709551615 }
+    requires number { number < spent }
     requires fits { length text.now < length_limit }
     ensures { IfOk result (λ t. Token t ≡ whitespace number text.now) }
 {
@@ -47,7 +48,7 @@ fn whitespace_of(alloc: Global, number: u64, text: &str) -> Result<SyntaxToken, 
 
 // The root above it.
 fn whitespace_root(alloc: Global, number: u64, text: &str) -> Result<SyntaxNode, AllocError>
-    requires number { number < 18446744073709551615 }
+    requires number { number < spent }
     requires fits { length text.now < length_limit }
     ensures { IfOk result (λ n. n ≡ record { number = number; root = whitespace_tree text.now; path = [] }) }
 {

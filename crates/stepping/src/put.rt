@@ -5,7 +5,7 @@ ghost use Rattle.stepping.specs.inner.Putting.{CanPutFrom, IsPutFrom};
 use crate::aim_target::AimTarget;
 use crate::done::{Among, Done};
 use crate::done_index::DoneIndex;
-use green_tree::GreenElement;
+use green_tree::{GreenElement, share_all};
 use std::alloc::{AllocError, Global};
 
 // Where in the new child list of a node a gap or slots of the old one begin, after these changes.
@@ -20,13 +20,11 @@ fn start(done: &[Done], at: Among) -> usize
 }
 
 // These elements again, without a copy of what is in them.
-fn shared(alloc: Global, elements: &[GreenElement]) -> Result<Vec<GreenElement>, AllocError>
+fn share_list(alloc: Global, elements: &[GreenElement]) -> Result<Vec<GreenElement>, AllocError>
     ensures { IfOk result (λ v. v.items ≡ elements.now) }
 {
     let mut out = Vec::with_capacity(alloc, elements.len())?;
-    for element in elements {
-        out.push(element.share(alloc)?)?;
-    }
+    share_all(alloc, &mut out, elements)?;
     Ok(out)
 }
 
@@ -52,7 +50,7 @@ pub(crate) fn put(
     let done_here = done.at(above);
     let [slot, ..] = below else {
         let first = start(done_here, target.at);
-        let new = shared(alloc, given)?;
+        let new = share_list(alloc, given)?;
         let node = node.splice_children(alloc, first, first + target.at.count(), new)?;
         return Ok(GreenElement::Node(node));
     };

@@ -5,6 +5,7 @@
 --     SpacingRefuses              why it is refused, that memory ran out among it
 use Rattle.std.specs.Prelude.{◌≡◌, ◌+◌, ℕ, not, nat_lt, List, [], ◌∷◌, Option, Some}
 use Rattle.cst_core.specs.Element.{Element}
+use Rattle.cst_core.specs.TreeIds.{spent}
 use Rattle.cst_core.specs.declared.element.SyntaxElement.{SyntaxElement}
 use Rattle.edit_change.specs.declared.position.Position.{Position}
 use Rattle.edit_change.specs.declared.change.Change.{Change}
@@ -20,13 +21,12 @@ use Rattle.syntax_editor.specs.RecordCall.{RecordCall, InsertingAll}
 abbrev pub insert_all_with_whitespace : ℕ → Position → List SyntaxElement → List Change → List Change
 insert_all_with_whitespace number at es cs = insert_all at (spaced number at es) cs
 
--- no tree has the number 2^64 - 1
 abbrev pub spacing_refusal : Element → ℕ → Position → List SyntaxElement → Option RecordError
 spacing_refusal root number at es =
     first_fit (
     (not (is_native_position root at), Foreign) ∷
     (is_deep_round at es, LevelTooLarge) ∷
-    (nat_lt 18446744073709551615 (number + numbers_needed at es), NoTreeNumber) ∷
+    (nat_lt spent (number + numbers_needed at es), NoTreeNumber) ∷
     [])
 
 abbrev pub spaced_insert : ℕ → Position → List SyntaxElement → RecordCall

@@ -6,6 +6,7 @@
 --     with_spaces                 new elements between two whitespaces
 --     numbers_of, NumbersRefuse   how many numbers whitespace needs; n are not there
 use Rattle.std.specs.Prelude.{◌≡◌, ◌<◌, ◌+◌, ℕ, true, false, List, ◌++◌, length, Result, Ok, Err}
+use Rattle.cst_core.specs.TreeIds.{spent}
 use Rattle.cst_core.specs.declared.element.SyntaxElement.{SyntaxElement}
 use Rattle.edit_change.specs.declared.position.Position.{Position}
 use Rattle.indentation.specs.Level.{is_too_deep}
@@ -55,5 +56,5 @@ numbers_of space = length (space_elements 0 space)
 -- n numbers are not there
 abbrev pub NumbersRefuse : ℕ → ℕ → SpaceError → Type 0
 NumbersRefuse number needed LevelTooLarge = ⊥
-NumbersRefuse number needed NoTreeNumber = 18446744073709551615 < number + needed
+NumbersRefuse number needed NoTreeNumber = spent < number + needed
 NumbersRefuse number needed Memory = Unit {0}

@@ -3,11 +3,11 @@ use Rattle.std.proofs.Common.{sym, ◌∙◌}
 use Rattle.std.specs.Option.{unwrap_or}
 use Rattle.std.proofs.lemmas.Bool.{true≢false}
 use Rattle.cst_core.specs.Path.{Path, same_path}
-use Rattle.cst_core.specs.TreeIds.{IsSpent}
+use Rattle.cst_core.specs.TreeIds.{spent, IsSpent}
 use Rattle.syntax_editor.specs.Editor.{has_parent, edited_root}
 use Rattle.syntax_editor.proofs.editor.SyntaxEditor.new.Goals as goal
 
-number-peeked : (o : Option ℕ) (n : ℕ) → (IsNone o ↔ IsSpent n) → IfSome o (λ k. k ≡ n) → unwrap_or o 18446744073709551615 ≡ n
+number-peeked : (o : Option ℕ) (n : ℕ) → (IsNone o ↔ IsSpent n) → IfSome o (λ k. k ≡ n) → unwrap_or o spent ≡ n
 number-peeked None n spent is = sym (spent.0 refl)
 number-peeked (Some k) n spent is = is
 

@@ -4,7 +4,7 @@ use Rattle.schedule.specs.Schedule.{is_complete}
 use Rattle.edit_plan.specs.Run.{is_done}
 use Rattle.edit_plan.proofs.RunFacts.{some-way, tree-shown, carried-tree}
 use Rattle.edit_plan.proofs.Carrying.{with-tree}
-use Rattle.edit_plan.proofs.edit_run.EditRun.rewritten.Goals as goal
+use Rattle.edit_plan.proofs.edit_run.EditRun.rewritten_by_steps.Goals as goal
 
 pub green-requires : goal.green-requires
 green-requires c = some-way _ _ c.self.invariant
