@@ -35,7 +35,7 @@ impl Built {
     /// Of an edit that is carried out once.
     pub(crate) fn of(alloc: Global, case: Case) -> Result<Built> {
         let mut ids = TreeIds::new(1);
-        let plan = case.planned(alloc, &mut ids)?;
+        let plan = case.plan(alloc, &mut ids)?;
         Built::of_plan(alloc, case, &mut ids, &plan)
     }
 }

@@ -47,31 +47,31 @@ impl Subject {
 
 impl Case {
     /// The tree, the payloads and the mapping, with an editor and the calls to be made.
-    pub(crate) fn prepared(self, alloc: Global, ids: &mut TreeIds) -> Result<Prepared> {
+    pub(crate) fn prepare(self, alloc: Global, ids: &mut TreeIds) -> Result<Prepared> {
         match self {
             Case::Spread {
                 subject,
                 size,
                 step,
-            } => edits::prepared(alloc, ids, subject, size, step),
-            Case::Nested(nest) => nested::prepared(alloc, ids, nest),
-            Case::Noted(noted) => notes::prepared(alloc, ids, noted),
+            } => edits::prepare(alloc, ids, subject, size, step),
+            Case::Nested(nest) => nested::prepare(alloc, ids, nest),
+            Case::Noted(noted) => notes::prepare(alloc, ids, noted),
         }
     }
 
     /// An editor with its changes recorded.
-    pub(crate) fn recorded(self, alloc: Global, ids: &mut TreeIds) -> Result<SyntaxEditor> {
-        self.prepared(alloc, ids)?.recorded(alloc)
+    pub(crate) fn record(self, alloc: Global, ids: &mut TreeIds) -> Result<SyntaxEditor> {
+        self.prepare(alloc, ids)?.record(alloc)
     }
 
     /// A plan of its changes.
-    pub(crate) fn planned(self, alloc: Global, ids: &mut TreeIds) -> Result<EditPlan> {
-        Ok(self.recorded(alloc, ids)?.plan(alloc)?)
+    pub(crate) fn plan(self, alloc: Global, ids: &mut TreeIds) -> Result<EditPlan> {
+        Ok(self.record(alloc, ids)?.plan(alloc)?)
     }
 
     /// What it makes.
-    pub(crate) fn finished(self, alloc: Global, ids: &mut TreeIds) -> Result<SyntaxEdit> {
-        Ok(self.recorded(alloc, ids)?.finish(alloc, ids)?)
+    pub(crate) fn finish(self, alloc: Global, ids: &mut TreeIds) -> Result<SyntaxEdit> {
+        Ok(self.record(alloc, ids)?.finish(alloc, ids)?)
     }
 
     /// Which nodes of the new tree its changes touch.

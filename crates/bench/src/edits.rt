@@ -39,7 +39,7 @@ fn push_parent(
 }
 
 // The nodes in order, n below one.
-fn grouped(alloc: Global, nodes: Vec<GreenNode>) -> Result<Vec<GreenNode>> {
+fn group(alloc: Global, nodes: Vec<GreenNode>) -> Result<Vec<GreenNode>> {
     let mut parents = Vec::new(alloc);
     let mut children = Vec::new(alloc);
     for node in nodes {
@@ -67,7 +67,7 @@ fn topmost(alloc: Global, leaves: Vec<GreenNode>) -> Result<Vec<GreenNode>> {
         if nodes.len() < CHILDREN {
             break;
         }
-        nodes = grouped(alloc, nodes)?;
+        nodes = group(alloc, nodes)?;
     }
     Ok(nodes)
 }
@@ -139,7 +139,7 @@ fn calls(
 }
 
 /// A change at one in n of the literals, statements or leaves.
-pub(crate) fn prepared(
+pub(crate) fn prepare(
     alloc: Global,
     ids: &mut TreeIds,
     subject: Subject,

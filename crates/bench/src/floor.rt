@@ -167,14 +167,14 @@ impl Touched {
         for child in &self.children {
             children.push(match child {
                 Child::Shared(green) => green.share(alloc)?,
-                Child::Made(number) => GreenElement::Node(taken(made, *number)?),
+                Child::Made(number) => GreenElement::Node(take_node(made, *number)?),
             })?;
         }
         Ok(GreenNode::new(alloc, self.kind, children)?)
     }
 }
 
-fn taken(made: &mut [Option<GreenNode>], number: usize) -> Result<GreenNode> {
+fn take_node(made: &mut [Option<GreenNode>], number: usize) -> Result<GreenNode> {
     made.get_mut(number)
         .context("no such node")?
         .take()

@@ -2,7 +2,7 @@
 use crate::built::Built;
 use crate::case::{Case, Subject};
 use crate::figures::Figures;
-use crate::measured::{measured, tried};
+use crate::measured::{measure, shortest_of_tries};
 use crate::nested::Nest;
 use crate::notes::Noted;
 use anyhow::Result;
@@ -156,7 +156,7 @@ impl Growth {
 fn sizes<R: Clock>(rt: &R, alloc: Global, growth: Growth) -> Result<Vec<Figures>> {
     let mut figures = Vec::new(alloc);
     for number in growth.numbers() {
-        figures.push(tried(rt, alloc, growth.case(*number))?)?;
+        figures.push(shortest_of_tries(rt, alloc, growth.case(*number))?)?;
     }
     Ok(figures)
 }
@@ -241,7 +241,7 @@ pub(crate) fn report_growth<R: Print + Clock>(rt: &R, alloc: Global) -> Result<(
 
 // An edit without its times.
 fn report_edit<R: Print + Clock>(rt: &R, alloc: Global, case: Case) -> Result<()> {
-    let Figures { changes, bytes, .. } = measured(rt, alloc, case)?;
+    let Figures { changes, bytes, .. } = measure(rt, alloc, case)?;
     let Built {
         builds,
         least,

@@ -18,14 +18,14 @@ pub(crate) fn nanoseconds_since<R: Clock>(rt: &R, start: Instant) -> Result<u128
 }
 
 /// What a case makes, all at once. How many nanoseconds that took is put into the last argument.
-pub(crate) fn finished<R: Clock>(
+pub(crate) fn finish<R: Clock>(
     rt: &R,
     alloc: Global,
     case: Case,
     nanoseconds: &mut u128,
 ) -> Result<SyntaxEdit> {
     let mut ids = TreeIds::new(1);
-    let editor = case.recorded(alloc, &mut ids)?;
+    let editor = case.record(alloc, &mut ids)?;
     let start = Instant::now(rt)?;
     let edit = editor.finish(alloc, &mut ids)?;
     *nanoseconds = nanoseconds_since(rt, start)?;
@@ -53,7 +53,7 @@ impl<R: Clock> Try<'_, R> {
     }
 
     fn record(&mut self) -> Result<SyntaxEditor> {
-        let Prepared { mut editor, calls } = self.case.prepared(self.alloc, &mut self.ids)?;
+        let Prepared { mut editor, calls } = self.case.prepare(self.alloc, &mut self.ids)?;
         self.make_calls(calls, &mut editor)?;
         Ok(editor)
     }
@@ -101,7 +101,7 @@ impl<R: Clock> Try<'_, R> {
 }
 
 /// The figures of one try.
-pub(crate) fn measured<R: Clock>(rt: &R, alloc: Global, case: Case) -> Result<Figures> {
+pub(crate) fn measure<R: Clock>(rt: &R, alloc: Global, case: Case) -> Result<Figures> {
     let mut one = Try {
         rt,
         alloc,
@@ -114,10 +114,10 @@ pub(crate) fn measured<R: Clock>(rt: &R, alloc: Global, case: Case) -> Result<Fi
 }
 
 /// The shortest times of some tries, one after another.
-pub(crate) fn tried<R: Clock>(rt: &R, alloc: Global, case: Case) -> Result<Figures> {
-    let mut best = measured(rt, alloc, case)?;
+pub(crate) fn shortest_of_tries<R: Clock>(rt: &R, alloc: Global, case: Case) -> Result<Figures> {
+    let mut best = measure(rt, alloc, case)?;
     for _ in 1..TRIES {
-        best = best.best(measured(rt, alloc, case)?);
+        best = best.best(measure(rt, alloc, case)?);
     }
     Ok(best)
 }

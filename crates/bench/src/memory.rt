@@ -58,7 +58,7 @@ fn mark_again(alloc: Global, edit: &SyntaxEdit) -> Result<u64> {
 
 fn finish(alloc: Global, case: Case) -> Result<u64> {
     let mut ids = TreeIds::new(1);
-    let editor = case.recorded(alloc, &mut ids)?;
+    let editor = case.record(alloc, &mut ids)?;
     mark(alloc)?;
     let edit = editor.finish(alloc, &mut ids)?;
     mark_again(alloc, &edit)
@@ -72,12 +72,12 @@ fn run_plan(alloc: Global, ids: &mut TreeIds, plan: &EditPlan) -> Result<u64> {
 
 fn run(alloc: Global, case: Case) -> Result<u64> {
     let mut ids = TreeIds::new(1);
-    let plan = case.planned(alloc, &mut ids)?;
+    let plan = case.plan(alloc, &mut ids)?;
     run_plan(alloc, &mut ids, &plan)
 }
 
 fn make_nodes(alloc: Global, case: Case) -> Result<u64> {
-    let edit = case.finished(alloc, &mut TreeIds::new(1))?;
+    let edit = case.finish(alloc, &mut TreeIds::new(1))?;
     make_nodes_of(alloc, &Floor::of(alloc, &edit, case.touches())?)
 }
 

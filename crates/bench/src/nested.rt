@@ -16,7 +16,7 @@ pub(crate) struct Nest {
 }
 
 // A node between braces.
-fn braced(alloc: Global, inner: GreenNode) -> Result<GreenNode> {
+fn in_braces(alloc: Global, inner: GreenNode) -> Result<GreenNode> {
     let mut children = Vec::new(alloc);
     children.push(GreenElement::Token(GreenToken::new(alloc, SyntaxKind::L_CURLY, "{")?))?;
     children.push(GreenElement::Node(inner))?;
@@ -31,10 +31,10 @@ fn block(alloc: Global, list: GreenNode) -> Result<GreenNode> {
 }
 
 // Something in n blocks.
-fn wrapped(alloc: Global, inner: GreenNode, times: usize) -> Result<GreenNode> {
+fn in_blocks(alloc: Global, inner: GreenNode, times: usize) -> Result<GreenNode> {
     let mut node = inner;
     for _ in 0..times {
-        node = block(alloc, braced(alloc, node)?)?;
+        node = block(alloc, in_braces(alloc, node)?)?;
     }
     Ok(node)
 }
@@ -42,7 +42,7 @@ fn wrapped(alloc: Global, inner: GreenNode, times: usize) -> Result<GreenNode> {
 fn tree(alloc: Global, nest: Nest) -> Result<GreenNode> {
     let mut children = Vec::new(alloc);
     for _ in 0..nest.chains {
-        let chain = wrapped(alloc, leaf(alloc)?, nest.depth)?;
+        let chain = in_blocks(alloc, leaf(alloc)?, nest.depth)?;
         children.push(GreenElement::Node(chain))?;
     }
     Ok(GreenNode::new(alloc, SyntaxKind::SOURCE_FILE, children)?)
@@ -87,7 +87,7 @@ fn payload(
     wraps: usize,
     mapping: &mut SyntaxMapping,
 ) -> Result<SyntaxNode> {
-    let green = wrapped(alloc, block.green(alloc)?, wraps)?;
+    let green = in_blocks(alloc, block.green(alloc)?, wraps)?;
     let payload = SyntaxNode::new_root(alloc, ids, green)?;
     map_copy(alloc, block, &payload, wraps, mapping)?;
     Ok(payload)
@@ -155,7 +155,7 @@ fn prepared_into(
 }
 
 /// Each block replaced by one that wraps it, and an insert into each.
-pub(crate) fn prepared(alloc: Global, ids: &mut TreeIds, nest: Nest) -> Result<Prepared> {
+pub(crate) fn prepare(alloc: Global, ids: &mut TreeIds, nest: Nest) -> Result<Prepared> {
     let mut mapping = SyntaxMapping::new(alloc);
     let mut prepared = prepared_into(alloc, ids, nest, &mut mapping)?;
     prepared.merge(alloc, mapping)?;

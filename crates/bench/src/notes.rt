@@ -90,7 +90,7 @@ impl Noted {
 }
 
 /// The registrations, and the inserts.
-pub(crate) fn prepared(alloc: Global, ids: &mut TreeIds, noted: Noted) -> Result<Prepared> {
+pub(crate) fn prepare(alloc: Global, ids: &mut TreeIds, noted: Noted) -> Result<Prepared> {
     let root = SyntaxNode::new_root(alloc, ids, flat(alloc, noted.size())?)?;
     let calls = calls(alloc, ids, &root, noted)?;
     Prepared::new(alloc, ids, root, calls)

@@ -1,6 +1,6 @@
 //! How long it takes to carry changes out one at a time, in the default order, beside all of them at once.
 use crate::case::{Case, Subject};
-use crate::measured::{finished, nanoseconds_since};
+use crate::measured::{finish, nanoseconds_since};
 use anyhow::Result;
 use cst_core::TreeIds;
 use std::alloc::Global;
@@ -71,16 +71,16 @@ fn executed_by<R: Clock>(
     })
 }
 
-fn executed<R: Clock>(rt: &R, alloc: Global, case: Case) -> Result<Figures> {
+fn figures_of<R: Clock>(rt: &R, alloc: Global, case: Case) -> Result<Figures> {
     let mut ids = TreeIds::new(1);
-    let editor = case.recorded(alloc, &mut ids)?;
+    let editor = case.record(alloc, &mut ids)?;
     executed_by(rt, alloc, &mut ids, editor)
 }
 
-fn measured<R: Clock>(rt: &R, alloc: Global, case: Case) -> Result<Figures> {
+fn measure<R: Clock>(rt: &R, alloc: Global, case: Case) -> Result<Figures> {
     let mut nanoseconds = 0;
-    finished(rt, alloc, case, &mut nanoseconds)?;
-    let executed = executed(rt, alloc, case)?;
+    finish(rt, alloc, case, &mut nanoseconds)?;
+    let executed = figures_of(rt, alloc, case)?;
     Ok(Figures {
         finished: nanoseconds,
         ..executed
@@ -88,10 +88,10 @@ fn measured<R: Clock>(rt: &R, alloc: Global, case: Case) -> Result<Figures> {
 }
 
 // The shortest times of some tries.
-fn tried<R: Clock>(rt: &R, alloc: Global, case: Case) -> Result<Figures> {
-    let mut best = measured(rt, alloc, case)?;
+fn shortest_of_tries<R: Clock>(rt: &R, alloc: Global, case: Case) -> Result<Figures> {
+    let mut best = measure(rt, alloc, case)?;
     for _ in 1..TRIES {
-        best = best.best(measured(rt, alloc, case)?);
+        best = best.best(measure(rt, alloc, case)?);
     }
     Ok(best)
 }
@@ -113,7 +113,7 @@ fn show_times<R: Print>(rt: &R, alloc: Global, case: Case, figures: Figures) -> 
 fn report_sizes<R: Print + Clock>(rt: &R, alloc: Global, subject: Subject) -> Result<()> {
     for size in SIZES {
         let case = case(subject, size);
-        show_times(rt, alloc, case, tried(rt, alloc, case)?)?;
+        show_times(rt, alloc, case, shortest_of_tries(rt, alloc, case)?)?;
     }
     Ok(())
 }
@@ -127,7 +127,7 @@ pub(crate) fn report_order_times<R: Print + Clock>(rt: &R, alloc: Global) -> Res
 }
 
 fn report_order<R: Print + Clock>(rt: &R, alloc: Global, case: Case) -> Result<()> {
-    let Figures { changes, bytes, .. } = executed(rt, alloc, case)?;
+    let Figures { changes, bytes, .. } = figures_of(rt, alloc, case)?;
     let label = case.label(alloc)?;
     println!(rt; "{label}: {changes} changes by the default order, {bytes} bytes")?;
     Ok(())

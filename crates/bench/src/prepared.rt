@@ -68,7 +68,7 @@ impl Prepared {
     }
 
     /// The editor after the calls.
-    pub(crate) fn recorded(self, alloc: Global) -> Result<SyntaxEditor> {
+    pub(crate) fn record(self, alloc: Global) -> Result<SyntaxEditor> {
         let Prepared { mut editor, calls } = self;
         record_all(alloc, calls, &mut editor)?;
         Ok(editor)

@@ -2,7 +2,7 @@
 use crate::case::{Case, Subject};
 use crate::figures::Figures;
 use crate::growth::SIZES;
-use crate::measured::{finished, measured, nanoseconds_since};
+use crate::measured::{finish, measure, nanoseconds_since};
 use crate::notes::Noted;
 use anyhow::{Context, Result};
 use std::alloc::Global;
@@ -36,7 +36,7 @@ struct Brought {
 
 impl Pair {
     // Of n statements, after each of which another one is inserted.
-    fn measured<R: Clock>(rt: &R, alloc: Global, size: usize) -> Result<Pair> {
+    fn measure<R: Clock>(rt: &R, alloc: Global, size: usize) -> Result<Pair> {
         let noted = Case::Noted(Noted::List(size));
         let plain = Case::Spread {
             subject: Subject::Statements,
@@ -44,16 +44,16 @@ impl Pair {
             step: 1,
         };
         Ok(Pair {
-            noted: measured(rt, alloc, noted)?,
-            plain: measured(rt, alloc, plain)?,
+            noted: measure(rt, alloc, noted)?,
+            plain: measure(rt, alloc, plain)?,
         })
     }
 
     // The shortest times of some tries.
-    fn tried<R: Clock>(rt: &R, alloc: Global, size: usize) -> Result<Pair> {
-        let mut best = Pair::measured(rt, alloc, size)?;
+    fn shortest_of_tries<R: Clock>(rt: &R, alloc: Global, size: usize) -> Result<Pair> {
+        let mut best = Pair::measure(rt, alloc, size)?;
         for _ in 1..TRIES {
-            let Pair { noted, plain } = Pair::measured(rt, alloc, size)?;
+            let Pair { noted, plain } = Pair::measure(rt, alloc, size)?;
             best = Pair {
                 noted: best.noted.best(noted),
                 plain: best.plain.best(plain),
@@ -73,7 +73,7 @@ impl Pair {
 }
 
 // How many elements of the new tree were copied from the literals of a payload with this many notes.
-fn found(edit: &SyntaxEdit, notes: usize) -> Result<usize> {
+fn count_found(edit: &SyntaxEdit, notes: usize) -> Result<usize> {
     let mut annotations = Annotations::new(1);
     let mut found = 0usize;
     for _ in 0..notes {
@@ -112,7 +112,7 @@ fn time_of_copies<R: Clock>(rt: &R, alloc: Global, path: &[usize], number: usize
 impl Brought {
     // How many paths come out of an edit, and what it takes to copy one of them as often.
     fn of_edit<R: Clock>(rt: &R, alloc: Global, edit: &SyntaxEdit) -> Result<Brought> {
-        let paths = found(edit, NOTES)?;
+        let paths = count_found(edit, NOTES)?;
         let path = path_of_one(alloc, edit)?;
         Ok(Brought {
             paths,
@@ -122,13 +122,13 @@ impl Brought {
     }
 
     // Of a payload with notes that is brought so many times.
-    fn measured<R: Clock>(rt: &R, alloc: Global, times: usize) -> Result<Brought> {
+    fn measure<R: Clock>(rt: &R, alloc: Global, times: usize) -> Result<Brought> {
         let case = Case::Noted(Noted::Payload {
             notes: NOTES,
             times,
         });
         let mut nanoseconds = 0;
-        let edit = finished(rt, alloc, case, &mut nanoseconds)?;
+        let edit = finish(rt, alloc, case, &mut nanoseconds)?;
         Ok(Brought {
             finished: nanoseconds,
             ..Brought::of_edit(rt, alloc, &edit)?
@@ -136,10 +136,10 @@ impl Brought {
     }
 
     // The shortest times of some tries.
-    fn tried<R: Clock>(rt: &R, alloc: Global, times: usize) -> Result<Brought> {
-        let mut best = Brought::measured(rt, alloc, times)?;
+    fn shortest_of_tries<R: Clock>(rt: &R, alloc: Global, times: usize) -> Result<Brought> {
+        let mut best = Brought::measure(rt, alloc, times)?;
         for _ in 1..TRIES {
-            let other = Brought::measured(rt, alloc, times)?;
+            let other = Brought::measure(rt, alloc, times)?;
             best = Brought {
                 finished: best.finished.min(other.finished),
                 copied: best.copied.min(other.copied),
@@ -164,14 +164,14 @@ impl Brought {
 
 fn report_notes<R: Print + Clock>(rt: &R, alloc: Global) -> Result<()> {
     for size in SIZES {
-        Pair::tried(rt, alloc, size)?.show(rt, size)?;
+        Pair::shortest_of_tries(rt, alloc, size)?.show(rt, size)?;
     }
     Ok(())
 }
 
 fn report_payloads<R: Print + Clock>(rt: &R, alloc: Global) -> Result<()> {
     for times in TIMES {
-        Brought::tried(rt, alloc, times)?.show(rt, times)?;
+        Brought::shortest_of_tries(rt, alloc, times)?.show(rt, times)?;
     }
     Ok(())
 }

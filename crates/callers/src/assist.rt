@@ -66,7 +66,7 @@ fn text_is_told()
 }
 
 // The elements to edit are those of the root that `new` returns.
-fn rearranged(alloc: Global, ids: &mut TreeIds, list: SyntaxNode) -> Result<SyntaxEdit>
+fn rearrange_edit(alloc: Global, ids: &mut TreeIds, list: SyntaxNode) -> Result<SyntaxEdit>
     ensures { IfOk result (IsRearranged (new_editor ids.old list) (cond (has_parent list) (ids.old + 1) ids.old)) }
 {
     // A law: the calls alone tell the new text.
@@ -83,5 +83,5 @@ const LIST: &str =
 pub(crate) fn example(alloc: Global) -> Result<String> {
     let mut ids = TreeIds::new(1);
     let list = root_of(alloc, &mut ids, LIST)?;
-    new_text(alloc, &rearranged(alloc, &mut ids, list)?)
+    new_text(alloc, &rearrange_edit(alloc, &mut ids, list)?)
 }

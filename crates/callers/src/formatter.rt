@@ -52,7 +52,7 @@ fn format_block(
     begin_line(alloc, ids, editor, block.syntax(), level)
 }
 
-fn formatted(alloc: Global, ids: &mut TreeIds, root: SyntaxNode) -> Result<SyntaxEdit> {
+fn format_edit(alloc: Global, ids: &mut TreeIds, root: SyntaxNode) -> Result<SyntaxEdit> {
     let (mut editor, root) = SyntaxEditor::new(alloc, ids, root)?;
     format_block(alloc, ids, &mut editor, &root)?;
     Ok(editor.finish(alloc, ids)?)
@@ -65,5 +65,5 @@ const STATEMENTS: &str =
 pub(crate) fn example(alloc: Global) -> Result<String> {
     let mut ids = TreeIds::new(1);
     let root = root_of(alloc, &mut ids, STATEMENTS)?;
-    new_text(alloc, &formatted(alloc, &mut ids, root)?)
+    new_text(alloc, &format_edit(alloc, &mut ids, root)?)
 }

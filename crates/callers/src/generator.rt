@@ -56,7 +56,7 @@ fn insert_statement(
     insert_line_after(alloc, ids, editor, &last, statement)
 }
 
-fn generated(
+fn statement_edit(
     alloc: Global,
     ids: &mut TreeIds,
     block: SyntaxNode,
@@ -69,7 +69,7 @@ fn generated(
 }
 
 // The text with an element of it between `<` and `>`. Offsets are in bytes.
-fn marked(alloc: Global, text: &str, element: &SyntaxElement) -> Result<String> {
+fn text_with_mark(alloc: Global, text: &str, element: &SyntaxElement) -> Result<String> {
     let (start, length) = (element.text_start() as usize, element.text_len() as usize);
     let (before, rest) = text.split_at_checked(start).context("a start in the text")?;
     let (inside, after) = rest.split_at_checked(length).context("an end in the text")?;
@@ -86,20 +86,24 @@ fn example_edit(alloc: Global, placeholder: SyntaxAnnotation) -> Result<SyntaxEd
     let mut ids = TreeIds::new(1);
     let block = root_of(alloc, &mut ids, BLOCK)?;
     let statement = root_of(alloc, &mut ids, STATEMENT)?;
-    generated(alloc, &mut ids, block, statement, placeholder)
+    statement_edit(alloc, &mut ids, block, statement, placeholder)
 }
 
-fn shown(alloc: Global, edit: &SyntaxEdit, placeholder: SyntaxAnnotation) -> Result<String> {
+fn text_with_placeholder(
+    alloc: Global,
+    edit: &SyntaxEdit,
+    placeholder: SyntaxAnnotation,
+) -> Result<String> {
     let found = edit
         .find_annotation(placeholder)
         .first()
         .context("the placeholder is found")?;
-    let marked = marked(alloc, &new_text(alloc, edit)?, found)?;
+    let marked = text_with_mark(alloc, &new_text(alloc, edit)?, found)?;
     Ok(format!(in alloc; "at {}: {marked}", found.text_start())?)
 }
 
 /// The new text of the block with its placeholder marked, after where that starts.
 pub(crate) fn example(alloc: Global) -> Result<String> {
     let placeholder = Annotations::new(1).next().context("an annotation")?;
-    shown(alloc, &example_edit(alloc, placeholder)?, placeholder)
+    text_with_placeholder(alloc, &example_edit(alloc, placeholder)?, placeholder)
 }

@@ -45,7 +45,7 @@ fn rename(
     replace_names(alloc, editor, &nodes, old, new)
 }
 
-fn renamed(
+fn rename_edit(
     alloc: Global,
     ids: &mut TreeIds,
     block: SyntaxNode,
@@ -68,7 +68,7 @@ fn example_edit(alloc: Global) -> Result<SyntaxEdit> {
     let mut ids = TreeIds::new(1);
     let new = new_name(alloc, &mut ids)?;
     let block = root_of(alloc, &mut ids, BLOCK)?;
-    renamed(alloc, &mut ids, block, &new)
+    rename_edit(alloc, &mut ids, block, &new)
 }
 
 /// The new text of the block.

@@ -149,7 +149,7 @@ fn rewrite(
     wrap_blocks(alloc, ids, editor, &nodes)
 }
 
-fn rewritten(
+fn rewrite_edit(
     alloc: Global,
     ids: &mut TreeIds,
     file: SyntaxNode,
@@ -170,21 +170,21 @@ const PATTERN: &str = r#"(LITERAL INT_NUMBER"1")"#;
 
 const REPLACEMENT: &str = r#"(NAME_REF IDENT"one")"#;
 
-fn rewritten_file(
+fn rewrite_file(
     alloc: Global,
     ids: &mut TreeIds,
     pattern: &SyntaxNode,
     new: &SyntaxNode,
 ) -> Result<SyntaxEdit> {
     let file = root_of(alloc, ids, FILE)?;
-    rewritten(alloc, ids, file, pattern, new)
+    rewrite_edit(alloc, ids, file, pattern, new)
 }
 
 fn example_edit(alloc: Global) -> Result<SyntaxEdit> {
     let mut ids = TreeIds::new(1);
     let pattern = root_of(alloc, &mut ids, PATTERN)?;
     let new = root_of(alloc, &mut ids, REPLACEMENT)?;
-    rewritten_file(alloc, &mut ids, &pattern, &new)
+    rewrite_file(alloc, &mut ids, &pattern, &new)
 }
 
 /// The new text of the file.

@@ -127,7 +127,7 @@ impl Aim {
 
     /// The same aim below `place`, in place of below a target with n slots. There is no gap after the root of what it
     /// moves into.
-    pub fn moved(&self, alloc: Global, slots: usize, place: &[usize]) -> Result<Option<Aim>> {
+    pub fn moved_to(&self, alloc: Global, slots: usize, place: &[usize]) -> Result<Option<Aim>> {
         match self {
             Aim::First(node) => Ok(Some(Aim::First(moved_path(alloc, node, slots, place)?))),
             Aim::After(element) => {

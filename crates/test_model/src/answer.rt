@@ -1,6 +1,6 @@
 use crate::order::Clause;
 use crate::piece::{Piece, print_tree};
-use crate::rewriter::rewritten;
+use crate::rewriter::rewrite;
 use anyhow::Result;
 use cst_core::{GreenElementRef, GreenNode, SyntaxElement, TreeIds};
 use std::alloc::{AllocError, Global};
@@ -30,7 +30,7 @@ fn print_path(out: &mut String, path: &[usize]) -> Result<(), AllocError> {
 }
 
 impl Answer {
-    pub fn made(
+    pub fn of_pieces(
         alloc: Global,
         pieces: &[Piece],
         changed: &[Vec<usize>],
@@ -50,8 +50,8 @@ impl Answer {
         tree: &GreenNode,
         changed: &[Vec<usize>],
     ) -> Result<Answer, AllocError> {
-        let pieces = rewritten(alloc, GreenElementRef::Node(tree), &[], false)?;
-        Answer::made(alloc, &pieces, changed)
+        let pieces = rewrite(alloc, GreenElementRef::Node(tree), &[], false)?;
+        Answer::of_pieces(alloc, &pieces, changed)
     }
 
     // What was made by the editor.

@@ -30,14 +30,14 @@ fn mapping_of(alloc: Global, editor: &mut SyntaxEditor) -> Result<SyntaxMapping,
 }
 
 // What the model says becomes of what an editor has recorded.
-fn fated(alloc: Global, editor: &mut SyntaxEditor) -> Result<Fated<'_>> {
+fn fates_of(alloc: Global, editor: &mut SyntaxEditor) -> Result<Fated<'_>> {
     let mapping = mapping_of(alloc, editor)?;
     Fated::new(alloc, editor.changes(), &mapping)
 }
 
 // What the model answers to what an editor has recorded.
 fn model_answer(alloc: Global, root: &SyntaxNode, editor: &mut SyntaxEditor) -> Result<Answer> {
-    let fated = fated(alloc, editor)?;
+    let fated = fates_of(alloc, editor)?;
     Ok(fated.answer(alloc, root)?)
 }
 
@@ -70,7 +70,7 @@ fn ordered_model_answer(
     editor: &mut SyntaxEditor,
     order: &[usize],
 ) -> Result<Answer> {
-    let fated = fated(alloc, editor)?;
+    let fated = fates_of(alloc, editor)?;
     Ok(fated.ordered_answer(alloc, root, order)?)
 }
 
@@ -143,6 +143,6 @@ pub fn stepped_answers(
     mut editor: SyntaxEditor,
     same: SyntaxEditor,
 ) -> Result<Answers> {
-    let fated = fated(alloc, &mut editor)?;
+    let fated = fates_of(alloc, &mut editor)?;
     stepped_answers_to(alloc, ids, root, &fated, same)
 }

@@ -47,14 +47,14 @@ fn place(alloc: Global, owner: &Planned, mapping: &SyntaxMapping) -> Result<Opti
     }
 }
 
-fn moved(
+fn moved_aim(
     alloc: Global,
     own: &Planned,
     owner: &Planned,
     mapping: &SyntaxMapping,
 ) -> Result<Option<Aim>> {
     match place(alloc, owner, mapping)? {
-        Some(place) => own.aim.moved(alloc, owner.depth(), &place),
+        Some(place) => own.aim.moved_to(alloc, owner.depth(), &place),
         None => Ok(None),
     }
 }
@@ -75,7 +75,7 @@ fn fate_of(
         return Ok(Fate::Stays);
     };
     let other = planned.get(owner).context("no such owner")?;
-    match moved(alloc, own, other, mapping)? {
+    match moved_aim(alloc, own, other, mapping)? {
         Some(aim) => Ok(Fate::Moves { owner, aim }),
         None => Ok(Fate::Lost { owner }),
     }

@@ -3,7 +3,7 @@
 use crate::fate::Fate;
 use crate::piece::{Piece, share_pieces};
 use crate::planned::Planned;
-use crate::rewriter::{Brought, rewritten};
+use crate::rewriter::{Brought, rewrite};
 use cst_core::SyntaxElement;
 use std::alloc::{AllocError, Global};
 use syntax_editor::Change;
@@ -17,12 +17,12 @@ fn push_rewritten(
     element: &SyntaxElement,
     is_brought: bool,
 ) -> Result<(), AllocError> {
-    let pieces = rewritten(alloc, element.as_green(), &[], is_brought)?;
+    let pieces = rewrite(alloc, element.as_green(), &[], is_brought)?;
     share_pieces(alloc, out, &pieces)
 }
 
 // Elements that no change moves into.
-fn listed(
+fn pieces_of(
     alloc: Global,
     elements: &[SyntaxElement],
     is_brought: bool,
@@ -42,17 +42,17 @@ fn payload(
     is_brought: bool,
 ) -> Result<Vec<Piece>, AllocError> {
     match change {
-        Change::Insert(_, element) => rewritten(alloc, element.as_green(), brought, is_brought),
-        Change::InsertAll(_, list) => listed(alloc, list.as_slice(), is_brought),
-        Change::Replace(_, Some(element)) => rewritten(
+        Change::Insert(_, element) => rewrite(alloc, element.as_green(), brought, is_brought),
+        Change::InsertAll(_, list) => pieces_of(alloc, list.as_slice(), is_brought),
+        Change::Replace(_, Some(element)) => rewrite(
             alloc,
             element.as_green(),
             brought,
             is_brought,
         ),
         Change::Replace(_, None) => Ok(Vec::new(alloc)),
-        Change::ReplaceWithMany(_, list) => listed(alloc, list.as_slice(), is_brought),
-        Change::ReplaceAll(_, _, list) => listed(alloc, list.as_slice(), is_brought),
+        Change::ReplaceWithMany(_, list) => pieces_of(alloc, list.as_slice(), is_brought),
+        Change::ReplaceAll(_, _, list) => pieces_of(alloc, list.as_slice(), is_brought),
     }
 }
 
@@ -123,7 +123,7 @@ fn next_given(
 
 /// The payload of each change. A change that moves is deeper than its owner, so what the first round makes of the deepest changes is
 /// final, and each further round settles one more level.
-pub fn given(alloc: Global, planned: &[Planned], fates: &[Fate]) -> Result<Given, AllocError> {
+pub fn payloads(alloc: Global, planned: &[Planned], fates: &[Fate]) -> Result<Given, AllocError> {
     let mut given = Vec::new(alloc);
     for _ in planned {
         given = next_given(alloc, planned, fates, &given)?;

@@ -4,10 +4,10 @@ use crate::answer::Answer;
 use crate::changed::changed_paths;
 use crate::fate::{Fate, first_lost};
 use crate::fated::Fated;
-use crate::given::{given, staying};
+use crate::given::{payloads, staying};
 use crate::piece::Piece;
 use crate::planned::{Planned, clash};
-use crate::rewriter::rewritten;
+use crate::rewriter::rewrite;
 use cst_core::{GreenElementRef, SyntaxNode};
 use std::alloc::{AllocError, Global};
 
@@ -21,17 +21,17 @@ pub fn tree_of(
 ) -> Result<Vec<Piece>, AllocError> {
     let brought = staying(alloc, planned, fates, given)?;
     let root = GreenElementRef::Node(root.as_green());
-    rewritten(alloc, root, &brought, false)
+    rewrite(alloc, root, &brought, false)
 }
 
 fn answer_of_tree(alloc: Global, pieces: &[Piece]) -> Result<Answer, AllocError> {
     let changed = changed_paths(alloc, pieces)?;
-    Answer::made(alloc, pieces, &changed)
+    Answer::of_pieces(alloc, pieces, &changed)
 }
 
 impl Fated<'_> {
     fn new_tree(&self, alloc: Global, root: &SyntaxNode) -> Result<Vec<Piece>, AllocError> {
-        let given = given(alloc, &self.planned, &self.fates)?;
+        let given = payloads(alloc, &self.planned, &self.fates)?;
         tree_of(alloc, root, &self.planned, &self.fates, &given)
     }
 
@@ -58,7 +58,7 @@ impl Fated<'_> {
         let Answer::Made(_) = answer else {
             return Ok(answer);
         };
-        match self.broken(order) {
+        match self.broken_clause(order) {
             Some(clause) => Ok(Answer::NotAllowed(clause)),
             None => Ok(answer),
         }

@@ -104,7 +104,7 @@ impl Fated<'_> {
     }
 
     /// Why this order is not allowed, if it is not.
-    pub fn broken(&self, order: &[usize]) -> Option<Clause> {
+    pub fn broken_clause(&self, order: &[usize]) -> Option<Clause> {
         if !has_each_once(&self.fates, order) {
             return Some(Clause::NotEachOnce);
         }

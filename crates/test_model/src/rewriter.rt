@@ -99,7 +99,7 @@ impl<'a> Rewriter<'a> {
 }
 
 /// The pieces of the tree that changes make of a tree.
-pub fn rewritten(
+pub fn rewrite(
     alloc: Global,
     element: GreenElementRef<'_>,
     brought: &[Brought<'_>],

@@ -2,11 +2,11 @@
 
 use crate::fate::Fate;
 use crate::fated::Fated;
-use crate::given::given;
+use crate::given::payloads;
 use crate::model::tree_of;
 use crate::order::is_done;
 use crate::piece::{Piece, print_tree};
-use crate::rewriter::rewritten;
+use crate::rewriter::rewrite;
 use cst_core::{GreenElementRef, GreenNode, SyntaxNode};
 use std::alloc::{AllocError, Global};
 
@@ -31,7 +31,7 @@ fn done_fates(alloc: Global, fates: &[Fate], done: &[bool]) -> Result<Vec<Fate>,
     Ok(staged)
 }
 
-fn printed(alloc: Global, pieces: &[Piece]) -> Result<String, AllocError> {
+fn text_of(alloc: Global, pieces: &[Piece]) -> Result<String, AllocError> {
     let mut out = String::new(alloc);
     print_tree(&mut out, pieces)?;
     Ok(out)
@@ -39,14 +39,14 @@ fn printed(alloc: Global, pieces: &[Piece]) -> Result<String, AllocError> {
 
 /// A shared tree, printed as the trees of stages are.
 pub fn printed_green(alloc: Global, node: &GreenNode) -> Result<String, AllocError> {
-    let pieces = rewritten(alloc, GreenElementRef::Node(node), &[], false)?;
-    printed(alloc, &pieces)
+    let pieces = rewrite(alloc, GreenElementRef::Node(node), &[], false)?;
+    text_of(alloc, &pieces)
 }
 
 fn all_printed(alloc: Global, given: &[Vec<Piece>]) -> Result<Vec<String>, AllocError> {
     let mut payloads = Vec::new(alloc);
     for pieces in given {
-        payloads.push(printed(alloc, pieces.as_slice())?)?;
+        payloads.push(text_of(alloc, pieces.as_slice())?)?;
     }
     Ok(payloads)
 }
@@ -60,10 +60,10 @@ impl Stage {
         done: &[bool],
     ) -> Result<Stage, AllocError> {
         let fates = done_fates(alloc, &fated.fates, done)?;
-        let given = given(alloc, &fated.planned, &fates)?;
+        let given = payloads(alloc, &fated.planned, &fates)?;
         let tree = tree_of(alloc, root, &fated.planned, &fates, &given)?;
         Ok(Stage {
-            tree: printed(alloc, &tree)?,
+            tree: text_of(alloc, &tree)?,
             payloads: all_printed(alloc, &given)?,
         })
     }

@@ -87,7 +87,7 @@ fn all_agree<R: Print>(
     Ok(all_agree)
 }
 
-fn compared<R: Print>(rt: &R, alloc: Global, ids: &mut TreeIds, trees: &Trees) -> Result<bool> {
+fn compare<R: Print>(rt: &R, alloc: Global, ids: &mut TreeIds, trees: &Trees) -> Result<bool> {
     let singles = singles(alloc, &trees.root)?;
     let mapping = trees.mapping(alloc)?;
     all_agree(rt, ids, Trial::new(alloc, trees, &mapping), &singles)
@@ -97,5 +97,5 @@ fn compared<R: Print>(rt: &R, alloc: Global, ids: &mut TreeIds, trees: &Trees) -
 pub fn agree<R: Print>(rt: &R, alloc: Global) -> Result<bool> {
     let mut ids = TreeIds::new(1);
     let trees = Trees::new(alloc, &mut ids)?;
-    compared(rt, alloc, &mut ids, &trees)
+    compare(rt, alloc, &mut ids, &trees)
 }

@@ -17,7 +17,7 @@ fn at_once(alloc: Global, recorded: Recorded) -> Result<Answers> {
 }
 
 // One change at a time; both have recorded the same.
-fn stepped(alloc: Global, recorded: Recorded, same: Recorded) -> Result<Answers> {
+fn one_at_a_time(alloc: Global, recorded: Recorded, same: Recorded) -> Result<Answers> {
     let Recorded {
         root,
         editor,
@@ -33,7 +33,7 @@ fn by_engines(alloc: Global, recorded: Recorded) -> Result<Answers> {
 }
 
 // In the order of the script, where it says one.
-fn ordered(alloc: Global, recorded: Recorded) -> Result<Option<Answers>> {
+fn in_order(alloc: Global, recorded: Recorded) -> Result<Option<Answers>> {
     let Recorded {
         root,
         editor,
@@ -53,7 +53,7 @@ fn again(alloc: Global, script: &str) -> Result<Recorded> {
 
 fn stepped_again(alloc: Global, script: &str) -> Result<Answers> {
     let recorded = again(alloc, script)?;
-    stepped(alloc, recorded, again(alloc, script)?)
+    one_at_a_time(alloc, recorded, again(alloc, script)?)
 }
 
 // Prints the answers if they differ, and says whether they agree.
@@ -81,11 +81,11 @@ fn all_agree<R: Print>(rt: &R, alloc: Global, script: &str, at_once: &Answers) -
                 "by the engines",
                 &by_engines(alloc, again(alloc, script)?)?,
             )?
-            && agree_in_order(rt, ordered(alloc, again(alloc, script)?)?)?,
+            && agree_in_order(rt, in_order(alloc, again(alloc, script)?)?)?,
     )
 }
 
-fn compared<R: Print>(rt: &R, alloc: Global, script: &str, answers: &Answers) -> Result<bool> {
+fn compare<R: Print>(rt: &R, alloc: Global, script: &str, answers: &Answers) -> Result<bool> {
     let agree = all_agree(rt, alloc, script, answers)?;
     if agree {
         println!(rt; "both: {}", answers.model)?;
@@ -96,7 +96,7 @@ fn compared<R: Print>(rt: &R, alloc: Global, script: &str, answers: &Answers) ->
 /// Whether both say the same of a script. It prints what both answer, or the first of these where they differ.
 pub fn agree<R: Print>(rt: &R, alloc: Global, script: &str) -> Result<bool> {
     match record_script(alloc, script) {
-        Some(recorded) => compared(rt, alloc, script, &at_once(alloc, recorded)?),
+        Some(recorded) => compare(rt, alloc, script, &at_once(alloc, recorded)?),
         None => {
             println!(rt; "nothing recorded")?;
             Ok(true)

@@ -1,7 +1,7 @@
 //! The elements around one: asked of it, and of the node or token that it is.
 
 use crate::memory::Standing;
-use crate::shown::agreed;
+use crate::shown::agree;
 use crate::told::{told_node, told_node_place, told_place};
 use cst_core::{SyntaxElement, SyntaxNode, SyntaxToken};
 use std::alloc::Global;
@@ -48,7 +48,7 @@ fn of_all(
     element: &SyntaxElement,
 ) -> Result<String, NoAnswer> {
     let own = of_element(alloc, question, element)?;
-    agreed(alloc, own, by_form(alloc, question, element)?)
+    agree(alloc, own, by_form(alloc, question, element)?)
 }
 
 fn by_form(

@@ -1,11 +1,11 @@
 //! Facts of an element: asked of it, of a copy, and of a copy of the node or token that it is.
 
-use crate::memory::{Standing, told};
-use crate::shown::{agreed, green_facts, kind_name, node_facts, path, token_facts};
+use crate::memory::{Standing, value_or_refusal};
+use crate::shown::{agree, green_facts, kind_name, node_facts, path, token_facts};
 use crate::told::{told_green, told_path, told_text};
 use cst_core::{SyntaxElement, SyntaxNode, SyntaxToken};
 use std::alloc::Global;
-use test_trees::{NoAnswer, Trees, find_named, number, quoted, word};
+use test_trees::{NoAnswer, Trees, find_named, number, quote, word};
 
 #[derive(Clone, Copy)]
 pub enum FactQuestion {
@@ -63,7 +63,7 @@ fn of_all(
     element: &SyntaxElement,
 ) -> Result<String, NoAnswer> {
     let own = of_both(alloc, question, element)?;
-    agreed(alloc, own, by_form(alloc, question, element)?)
+    agree(alloc, own, by_form(alloc, question, element)?)
 }
 
 // Of the element and of a copy.
@@ -73,7 +73,7 @@ fn of_both(
     element: &SyntaxElement,
 ) -> Result<String, NoAnswer> {
     let own = of_element(alloc, question, element)?;
-    agreed(alloc, own, of_copy(alloc, question, element)?)
+    agree(alloc, own, of_copy(alloc, question, element)?)
 }
 
 fn of_copy(
@@ -81,7 +81,7 @@ fn of_copy(
     question: FactQuestion,
     element: &SyntaxElement,
 ) -> Result<String, NoAnswer> {
-    let copy = told("SyntaxElement::try_clone", element.try_clone(alloc))?;
+    let copy = value_or_refusal("SyntaxElement::try_clone", element.try_clone(alloc))?;
     of_element(alloc, question, &copy)
 }
 
@@ -101,7 +101,7 @@ fn of_node_copy(
     question: FactQuestion,
     node: &SyntaxNode,
 ) -> Result<String, NoAnswer> {
-    let copy = told("SyntaxNode::try_clone", node.try_clone(alloc))?;
+    let copy = value_or_refusal("SyntaxNode::try_clone", node.try_clone(alloc))?;
     of_node(alloc, question, &copy)
 }
 
@@ -110,7 +110,7 @@ fn of_token_copy(
     question: FactQuestion,
     token: &SyntaxToken,
 ) -> Result<String, NoAnswer> {
-    let copy = told("SyntaxToken::try_clone", token.try_clone(alloc))?;
+    let copy = value_or_refusal("SyntaxToken::try_clone", token.try_clone(alloc))?;
     of_token(alloc, question, &copy)
 }
 
@@ -133,7 +133,10 @@ fn of_element(
             "SyntaxElement::to_string",
             element.to_string(alloc),
         ),
-        FactQuestion::Debug => told("SyntaxElement as {:?}", format!(in alloc; "{element:?}")),
+        FactQuestion::Debug => value_or_refusal(
+            "SyntaxElement as {:?}",
+            format!(in alloc; "{element:?}"),
+        ),
         FactQuestion::AsGreen => green_facts(alloc, element.as_green()),
         FactQuestion::Green => shared_element(alloc, element),
     }
@@ -150,7 +153,10 @@ fn of_node(alloc: Global, question: FactQuestion, node: &SyntaxNode) -> Result<S
         FactQuestion::TextLen => number(alloc, node.text_len()),
         FactQuestion::Text => told_text(alloc, "SyntaxNode::text", node.text(alloc)),
         FactQuestion::Display => told_text(alloc, "SyntaxNode::to_string", node.to_string(alloc)),
-        FactQuestion::Debug => told("SyntaxNode as {:?}", format!(in alloc; "Node({node:?})")),
+        FactQuestion::Debug => value_or_refusal(
+            "SyntaxNode as {:?}",
+            format!(in alloc; "Node({node:?})"),
+        ),
         FactQuestion::AsGreen => node_facts(alloc, node.as_green()),
         FactQuestion::Green => told_green(alloc, "SyntaxNode::green", node.green(alloc)),
     }
@@ -169,20 +175,23 @@ fn of_token(
         FactQuestion::Index => number(alloc, token.index() as u64),
         FactQuestion::TextStart => number(alloc, token.text_start()),
         FactQuestion::TextLen => number(alloc, token.text_len()),
-        FactQuestion::Text => quoted(alloc, token.text()),
+        FactQuestion::Text => quote(alloc, token.text()),
         FactQuestion::Display => told_text(alloc, "SyntaxToken::to_string", token.to_string(alloc)),
-        FactQuestion::Debug => told("SyntaxToken as {:?}", format!(in alloc; "Token({token:?})")),
+        FactQuestion::Debug => value_or_refusal(
+            "SyntaxToken as {:?}",
+            format!(in alloc; "Token({token:?})"),
+        ),
         FactQuestion::AsGreen => token_facts(alloc, token.as_green()),
         FactQuestion::Green => shared_token(alloc, token),
     }
 }
 
 fn shared_element(alloc: Global, element: &SyntaxElement) -> Result<String, NoAnswer> {
-    let shared = told("SyntaxElement::green", element.green(alloc))?;
+    let shared = value_or_refusal("SyntaxElement::green", element.green(alloc))?;
     green_facts(alloc, shared.as_ref())
 }
 
 fn shared_token(alloc: Global, token: &SyntaxToken) -> Result<String, NoAnswer> {
-    let shared = told("SyntaxToken::green", token.green(alloc))?;
+    let shared = value_or_refusal("SyntaxToken::green", token.green(alloc))?;
     token_facts(alloc, &shared)
 }

@@ -1,13 +1,13 @@
 //! Shared trees, and the expressions that they are read from.
 
 use crate::ask_kinds::kind_of;
-use crate::memory::{told, told_tree};
-use crate::shown::{agreed, green_facts, node_facts, row_refusal, text_of, token_facts, unquoted};
+use crate::memory::{made_or_refusal, value_or_refusal};
+use crate::shown::{agree, green_facts, node_facts, row_refusal, text_of, token_facts, unquote};
 use crate::told::told_green;
 use cst_core::{GreenElement, GreenElementRef, GreenNode, GreenToken, SyntaxKind};
 use std::alloc::Global;
 use test_trees::{
-    NoAnswer, RowError, Trees, Words, find_named, green, number, quoted, row, slots_of, word,
+    NoAnswer, RowError, Trees, Words, find_named, green, number, quote, row, slots_of, word,
 };
 
 #[derive(Clone, Copy)]
@@ -54,13 +54,13 @@ pub fn answer(
         GreenQuestion::Get => get(alloc, trees, arguments),
         GreenQuestion::Text => text(alloc, &trees.tree(alloc, arguments)?),
         GreenQuestion::ChildCount => child_count(alloc, &trees.tree(alloc, arguments)?),
-        GreenQuestion::Read => read(alloc, &unquoted(alloc, arguments)?),
+        GreenQuestion::Read => read(alloc, &unquote(alloc, arguments)?),
         GreenQuestion::Row => tree_or_refusal(alloc, row(alloc, arguments)),
     }
 }
 
 fn text(alloc: Global, tree: &GreenNode) -> Result<String, NoAnswer> {
-    quoted(alloc, &text_of(alloc, tree)?)
+    quote(alloc, &text_of(alloc, tree)?)
 }
 
 fn child_count(alloc: Global, tree: &GreenNode) -> Result<String, NoAnswer> {
@@ -81,18 +81,18 @@ fn tree_or_refusal(alloc: Global, tree: Result<GreenNode, RowError>) -> Result<S
 fn token(alloc: Global, arguments: &str) -> Result<String, NoAnswer> {
     let mut words = Words::of(arguments);
     let kind = kind_of(words.word()?)?;
-    token_of(alloc, kind, &unquoted(alloc, words.take_rest())?)
+    token_of(alloc, kind, &unquote(alloc, words.take_rest())?)
 }
 
 // A token of a kind by its number, and that token shared.
 fn token_of(alloc: Global, kind: SyntaxKind, text: &str) -> Result<String, NoAnswer> {
-    let token = told_tree("GreenToken::new", GreenToken::new(alloc, kind, text))?;
+    let token = made_or_refusal("GreenToken::new", GreenToken::new(alloc, kind, text))?;
     let own = numbered_facts(alloc, &token)?;
-    agreed(alloc, own, shared_token(alloc, &token)?)
+    agree(alloc, own, shared_token(alloc, &token)?)
 }
 
 fn shared_token(alloc: Global, token: &GreenToken) -> Result<String, NoAnswer> {
-    let shared = told("GreenToken::share", token.share(alloc))?;
+    let shared = value_or_refusal("GreenToken::share", token.share(alloc))?;
     numbered_facts(alloc, &shared)
 }
 
@@ -114,7 +114,7 @@ fn letters(alloc: Global, text: &str) -> Result<Vec<GreenElement>, NoAnswer> {
 }
 
 fn name_node(alloc: Global, letters: Vec<GreenElement>) -> Result<GreenNode, NoAnswer> {
-    told_tree(
+    made_or_refusal(
         "GreenNode::new",
         GreenNode::new(alloc, SyntaxKind::NAME, letters),
     )
@@ -122,9 +122,9 @@ fn name_node(alloc: Global, letters: Vec<GreenElement>) -> Result<GreenNode, NoA
 
 // A node of a token of each letter, made by `new` and by `capped`.
 fn node(alloc: Global, arguments: &str) -> Result<String, NoAnswer> {
-    let text = unquoted(alloc, arguments)?;
+    let text = unquote(alloc, arguments)?;
     let own = new_node(alloc, letters(alloc, &text)?)?;
-    agreed(alloc, own, capped_node(alloc, letters(alloc, &text)?)?)
+    agree(alloc, own, capped_node(alloc, letters(alloc, &text)?)?)
 }
 
 fn new_node(alloc: Global, letters: Vec<GreenElement>) -> Result<String, NoAnswer> {
@@ -141,12 +141,12 @@ fn splice(alloc: Global, arguments: &str) -> Result<String, NoAnswer> {
     let mut words = Words::of(arguments);
     let start = words.count()?;
     let end = words.count()?;
-    let new = unquoted(alloc, words.take_rest())?;
-    spliced(alloc, start, end, letters(alloc, &new)?)
+    let new = unquote(alloc, words.take_rest())?;
+    splice_letters(alloc, start, end, letters(alloc, &new)?)
 }
 
 // Of a node of the tokens `abc`, which is then as it was.
-fn spliced(
+fn splice_letters(
     alloc: Global,
     start: usize,
     end: usize,
@@ -156,7 +156,7 @@ fn spliced(
     if start > end || end > node.children().len() {
         return Err(NoAnswer::Arguments);
     }
-    let spliced = told(
+    let spliced = value_or_refusal(
         "GreenNode::splice_children",
         node.splice_children(alloc, start, end, new),
     )?;
@@ -181,7 +181,7 @@ fn get(alloc: Global, trees: &Trees, arguments: &str) -> Result<String, NoAnswer
 
 fn get_at(alloc: Global, tree: &GreenNode, slots: &[usize]) -> Result<String, NoAnswer> {
     let own = facts_at(alloc, tree, slots)?;
-    agreed(alloc, own, shared_facts_at(alloc, tree, slots)?)
+    agree(alloc, own, shared_facts_at(alloc, tree, slots)?)
 }
 
 fn facts_at(alloc: Global, tree: &GreenNode, slots: &[usize]) -> Result<String, NoAnswer> {
@@ -192,7 +192,7 @@ fn facts_at(alloc: Global, tree: &GreenNode, slots: &[usize]) -> Result<String, 
 }
 
 fn shared_facts_at(alloc: Global, tree: &GreenNode, slots: &[usize]) -> Result<String, NoAnswer> {
-    let tree = told("GreenNode::share", tree.share(alloc))?;
+    let tree = value_or_refusal("GreenNode::share", tree.share(alloc))?;
     match tree.get(slots) {
         Some(element) => shared_once(alloc, element),
         None => word(alloc, "none"),
@@ -200,11 +200,11 @@ fn shared_facts_at(alloc: Global, tree: &GreenNode, slots: &[usize]) -> Result<S
 }
 
 fn shared_once(alloc: Global, element: GreenElementRef<'_>) -> Result<String, NoAnswer> {
-    let shared = told("GreenElementRef::share", element.share(alloc))?;
+    let shared = value_or_refusal("GreenElementRef::share", element.share(alloc))?;
     shared_twice(alloc, &shared)
 }
 
 fn shared_twice(alloc: Global, element: &GreenElement) -> Result<String, NoAnswer> {
-    let shared = told("GreenElement::share", element.share(alloc))?;
+    let shared = value_or_refusal("GreenElement::share", element.share(alloc))?;
     green_facts(alloc, shared.as_ref())
 }

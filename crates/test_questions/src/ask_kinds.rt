@@ -1,6 +1,6 @@
 //! Kinds, their constants and their names.
 
-use crate::shown::unquoted;
+use crate::shown::unquote;
 use cst_core::{KIND_NAMES, SyntaxKind};
 use std::alloc::Global;
 use test_trees::{NoAnswer, find_named, number, word};
@@ -95,7 +95,7 @@ pub fn answer(alloc: Global, question: KindQuestion, argument: &str) -> Result<S
     match question {
         KindQuestion::Name => name_of(alloc, kind_of(argument)?),
         KindQuestion::FromName => {
-            let name = unquoted(alloc, argument)?;
+            let name = unquote(alloc, argument)?;
             match SyntaxKind::from_name(&name) {
                 Some(kind) => number(alloc, kind.0 as u64),
                 None => word(alloc, "none"),

@@ -41,14 +41,14 @@ pub fn answer(
             let tree = trees.tree(alloc, arguments)?;
             number(alloc, tree.length())
         }
-        LengthQuestion::Doubled => doubled(alloc, Words::of(arguments).count()?),
+        LengthQuestion::Doubled => doubled_length(alloc, Words::of(arguments).count()?),
         LengthQuestion::Halves => node_of_halves(alloc, Words::of(arguments).count()?),
         LengthQuestion::Root => new_root(alloc, trees, arguments),
     }
 }
 
 // The length of P_K.
-fn doubled(alloc: Global, k: usize) -> Result<String, NoAnswer> {
+fn doubled_length(alloc: Global, k: usize) -> Result<String, NoAnswer> {
     match p(alloc, k) {
         Ok(tree) => number(alloc, tree.length()),
         Err(error) => row_refusal(alloc, error),

@@ -1,7 +1,7 @@
 //! Whole lists: the nodes above an element, its siblings in one direction, and the elements below a node.
 
 use crate::memory::Standing;
-use crate::shown::agreed;
+use crate::shown::agree;
 use crate::told::{told_node_places, told_places};
 use cst_core::{Direction, SyntaxElement};
 use std::alloc::Global;
@@ -51,7 +51,7 @@ pub fn answer(
 fn ancestors(alloc: Global, element: &SyntaxElement) -> Result<String, NoAnswer> {
     let called = element.ancestors(alloc);
     let own = told_node_places(alloc, element.tree(), "SyntaxElement::ancestors", called)?;
-    agreed(alloc, own, ancestors_by_form(alloc, element)?)
+    agree(alloc, own, ancestors_by_form(alloc, element)?)
 }
 
 fn ancestors_by_form(alloc: Global, element: &SyntaxElement) -> Result<String, NoAnswer> {
@@ -82,7 +82,7 @@ fn siblings(
         "SyntaxElement::siblings_with_tokens",
         called,
     )?;
-    agreed(alloc, own, siblings_by_form(alloc, direction, element)?)
+    agree(alloc, own, siblings_by_form(alloc, direction, element)?)
 }
 
 fn siblings_by_form(

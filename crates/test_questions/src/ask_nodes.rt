@@ -1,6 +1,6 @@
 //! What is in a node and below it, and its copy.
 
-use crate::memory::{Standing, drawn, told};
+use crate::memory::{Standing, node_or_refusal, value_or_refusal};
 use crate::shown::{kind_name, push_extent};
 use crate::told::{told_node_places, told_place, told_places, told_token_place};
 use cst_core::{SyntaxElement, SyntaxNode, TreeIds};
@@ -116,7 +116,7 @@ fn of_node(alloc: Global, question: NodeQuestion, node: &SyntaxNode) -> Result<S
 fn clone_subtree(alloc: Global, node: &SyntaxNode) -> Result<String, NoAnswer> {
     let mut ids = TreeIds::new(40);
     let called = node.clone_subtree(alloc, &mut ids);
-    let copy = drawn("SyntaxNode::clone_subtree", called, ids.peek() == Some(40))?;
+    let copy = node_or_refusal("SyntaxNode::clone_subtree", called, ids.peek() == Some(40))?;
     root_facts(alloc, &copy)
 }
 
@@ -138,5 +138,5 @@ fn push_place(facts: &mut String, root: &SyntaxNode) -> Result<(), AllocError> {
 }
 
 fn text_of_root(alloc: Global, root: &SyntaxNode) -> Result<String, NoAnswer> {
-    told("SyntaxNode::text", root.text(alloc))
+    value_or_refusal("SyntaxNode::text", root.text(alloc))
 }

@@ -60,7 +60,7 @@ fn draws(alloc: Global, ids: &mut TreeIds) -> Result<String, NoAnswer> {
 // The number of a new root, that of a copied node, and the number that comes then.
 fn roots(alloc: Global, trees: &Trees, ids: &mut TreeIds) -> Result<String, NoAnswer> {
     let new = new_root(alloc, trees, ids)?;
-    let copied = copied(alloc, trees, ids)?;
+    let copied = copy_numbers(alloc, trees, ids)?;
     let next = number_or_none(alloc, ids.peek())?;
     Ok(format!(in alloc; "{new}, {copied}, then {next}")?)
 }
@@ -72,7 +72,7 @@ fn new_root(alloc: Global, trees: &Trees, ids: &mut TreeIds) -> Result<String, N
     number_or_error(alloc, "SyntaxNode::new_root", called, ids.peek() == before)
 }
 
-fn copied(alloc: Global, trees: &Trees, ids: &mut TreeIds) -> Result<String, NoAnswer> {
+fn copy_numbers(alloc: Global, trees: &Trees, ids: &mut TreeIds) -> Result<String, NoAnswer> {
     let node = trees.node(alloc, "L")?;
     let before = ids.peek();
     let called = node.clone_subtree(alloc, ids);

@@ -1,6 +1,6 @@
 //! What stands at an offset of a tree's text, and what covers a range of it.
 
-use crate::memory::told;
+use crate::memory::value_or_refusal;
 use crate::shown::{place_of_token, push_item};
 use crate::told::told_place;
 use cst_core::{SyntaxNode, SyntaxToken, TokenAtOffset};
@@ -48,7 +48,7 @@ fn tokens_at(alloc: Global, node: &SyntaxNode, offset: u64) -> Result<String, No
     token_places(
         alloc,
         node.tree(),
-        &told("SyntaxNode::token_at_offset", called)?,
+        &value_or_refusal("SyntaxNode::token_at_offset", called)?,
     )
 }
 

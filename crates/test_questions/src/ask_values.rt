@@ -1,7 +1,7 @@
 //! Equality, hash and form of element values, and the shape of nodes.
 
-use crate::memory::{hash_of, told};
-use crate::shown::agreed;
+use crate::memory::{hash_of, value_or_refusal};
+use crate::shown::agree;
 use cst_core::{SyntaxElement, SyntaxNode, same_shape};
 use std::alloc::Global;
 use std::hash::Hash;
@@ -41,7 +41,7 @@ pub fn answer(
 }
 
 // By `==` both ways, and by the hash, which differs where these values do.
-fn compared<T: Hash>(left: &T, right: &T) -> &'static str {
+fn compare<T: Hash>(left: &T, right: &T) -> &'static str {
     let is_same_hash = hash_of(left) == hash_of(right);
     match (left == right, right == left, is_same_hash) {
         (true, true, true) => "yes",
@@ -52,15 +52,15 @@ fn compared<T: Hash>(left: &T, right: &T) -> &'static str {
 
 fn compared_by_form(left: &SyntaxElement, right: &SyntaxElement) -> &'static str {
     match (left, right) {
-        (SyntaxElement::Node(left), SyntaxElement::Node(right)) => compared(left, right),
-        (SyntaxElement::Token(left), SyntaxElement::Token(right)) => compared(left, right),
+        (SyntaxElement::Node(left), SyntaxElement::Node(right)) => compare(left, right),
+        (SyntaxElement::Token(left), SyntaxElement::Token(right)) => compare(left, right),
         _ => "no",
     }
 }
 
 // As elements, and as the nodes or tokens that they are.
 fn equal(left: &SyntaxElement, right: &SyntaxElement) -> &'static str {
-    let own = compared(left, right);
+    let own = compare(left, right);
     if own == compared_by_form(left, right) {
         own
     } else {
@@ -90,7 +90,7 @@ fn form(alloc: Global, trees: &Trees, place: &str) -> Result<String, NoAnswer> {
 
 fn form_of(alloc: Global, element: &SyntaxElement) -> Result<String, NoAnswer> {
     let own = word(alloc, taken_form(alloc, element)?)?;
-    agreed(alloc, own, word(alloc, lent_form(element))?)
+    agree(alloc, own, word(alloc, lent_form(element))?)
 }
 
 // By the node or token that is taken.
@@ -115,14 +115,14 @@ fn lent_form(element: &SyntaxElement) -> &'static str {
 
 // The form is taken off and put on again.
 fn is_node(alloc: Global, element: &SyntaxElement) -> Result<bool, NoAnswer> {
-    match told("SyntaxElement::try_clone", element.try_clone(alloc))?.into_node() {
+    match value_or_refusal("SyntaxElement::try_clone", element.try_clone(alloc))?.into_node() {
         Some(node) => Ok(SyntaxElement::from(node) == *element),
         None => Ok(false),
     }
 }
 
 fn is_token(alloc: Global, element: &SyntaxElement) -> Result<bool, NoAnswer> {
-    match told("SyntaxElement::try_clone", element.try_clone(alloc))?.into_token() {
+    match value_or_refusal("SyntaxElement::try_clone", element.try_clone(alloc))?.into_token() {
         Some(token) => Ok(SyntaxElement::from(token) == *element),
         None => Ok(false),
     }

@@ -6,7 +6,10 @@ use std::hash::{DefaultHasher, Hash, Hasher};
 use test_trees::NoAnswer;
 
 /// What a call gave, which is asked about by its name in the sources.
-pub fn told<T>(call: &'static str, called: Result<T, AllocError>) -> Result<T, NoAnswer> {
+pub fn value_or_refusal<T>(
+    call: &'static str,
+    called: Result<T, AllocError>,
+) -> Result<T, NoAnswer> {
     match called {
         Ok(given) => Ok(given),
         Err(_) => Err(NoAnswer::Refused(call)),
@@ -14,7 +17,7 @@ pub fn told<T>(call: &'static str, called: Result<T, AllocError>) -> Result<T, N
 }
 
 /// The same of a call that is refused for other reasons too.
-pub fn told_tree<T>(call: &'static str, called: Result<T, TreeError>) -> Result<T, NoAnswer> {
+pub fn made_or_refusal<T>(call: &'static str, called: Result<T, TreeError>) -> Result<T, NoAnswer> {
     match called {
         Ok(given) => Ok(given),
         Err(TreeError::Memory) => Err(NoAnswer::Refused(call)),
@@ -23,20 +26,20 @@ pub fn told_tree<T>(call: &'static str, called: Result<T, TreeError>) -> Result<
 }
 
 /// The same of a call that draws a number where it is done, and else must keep the source.
-pub fn drawn(
+pub fn node_or_refusal(
     call: &'static str,
     called: Result<SyntaxNode, TreeError>,
     is_kept: bool,
 ) -> Result<SyntaxNode, NoAnswer> {
     match called {
         Ok(given) => Ok(given),
-        Err(TreeError::Memory) => Err(refused(call, is_kept)),
+        Err(TreeError::Memory) => Err(refusal_of(call, is_kept)),
         Err(error) => Err(NoAnswer::from(error)),
     }
 }
 
 /// A call that was refused because memory ran out, and whether that kept what it works on.
-pub fn refused(call: &'static str, is_kept: bool) -> NoAnswer {
+pub fn refusal_of(call: &'static str, is_kept: bool) -> NoAnswer {
     if is_kept {
         NoAnswer::Refused(call)
     } else {

@@ -1,6 +1,6 @@
 //! What calls gave, as the table writes it.
 
-use crate::memory::refused;
+use crate::memory::refusal_of;
 use cst_core::{
     GreenElement, GreenElementRef, GreenNode, GreenToken, SyntaxElement, SyntaxKind, SyntaxNode,
     SyntaxToken, TreeError,
@@ -9,13 +9,13 @@ use std::alloc::{AllocError, Global};
 use test_trees::{NoAnswer, RowError, number, push_path, push_quoted, word};
 
 /// What an argument between quotes stands for: `\n`, `\r`, `\t`, `\"` and `\\` are escapes.
-pub fn unquoted(alloc: Global, quoted: &str) -> Result<String, NoAnswer> {
+pub fn unquote(alloc: Global, quoted: &str) -> Result<String, NoAnswer> {
     let inner = inside_quotes(quoted).ok_or(NoAnswer::Arguments)?;
     let mut text = String::new(alloc);
     let mut is_escaped = false;
     for c in inner.chars() {
         if is_escaped {
-            text.push(escaped(c)?)?;
+            text.push(unescape(c)?)?;
             is_escaped = false;
         } else if c == '\\' {
             is_escaped = true;
@@ -30,7 +30,7 @@ fn inside_quotes(quoted: &str) -> Option<&str> {
     quoted.strip_prefix('"')?.strip_suffix('"')
 }
 
-fn escaped(c: char) -> Result<char, NoAnswer> {
+fn unescape(c: char) -> Result<char, NoAnswer> {
     match c {
         'n' => Ok('\n'),
         'r' => Ok('\r'),
@@ -182,7 +182,7 @@ pub fn number_or_error(
 ) -> Result<String, NoAnswer> {
     match made {
         Ok(node) => number(alloc, node.tree()),
-        Err(TreeError::Memory) => Err(refused(call, is_kept)),
+        Err(TreeError::Memory) => Err(refusal_of(call, is_kept)),
         Err(error) => Ok(error.to_string(alloc)?),
     }
 }
@@ -204,7 +204,7 @@ pub fn number_or_none(alloc: Global, found: Option<u64>) -> Result<String, NoAns
 }
 
 /// The answer, where another way to get it gives the same one; else both.
-pub fn agreed(alloc: Global, own: String, other: String) -> Result<String, NoAnswer> {
+pub fn agree(alloc: Global, own: String, other: String) -> Result<String, NoAnswer> {
     if own.as_str() == other.as_str() {
         Ok(own)
     } else {

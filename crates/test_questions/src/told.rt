@@ -1,12 +1,12 @@
 //! What calls gave that may be refused because memory ran out, as the table writes it. Each takes the call's name in the sources.
 
-use crate::memory::told;
+use crate::memory::value_or_refusal;
 use crate::shown::{
     node_facts, node_places, path, place_of, place_of_node, place_of_token, places,
 };
 use cst_core::{GreenNode, SyntaxElement, SyntaxNode, SyntaxToken};
 use std::alloc::{AllocError, Global};
-use test_trees::{NoAnswer, quoted, word};
+use test_trees::{NoAnswer, quote, word};
 
 /// The slots of a path.
 pub fn told_path(
@@ -14,7 +14,7 @@ pub fn told_path(
     call: &'static str,
     called: Result<Vec<usize>, AllocError>,
 ) -> Result<String, NoAnswer> {
-    path(alloc, &told(call, called)?)
+    path(alloc, &value_or_refusal(call, called)?)
 }
 
 /// A text between quotes.
@@ -23,7 +23,7 @@ pub fn told_text(
     call: &'static str,
     called: Result<String, AllocError>,
 ) -> Result<String, NoAnswer> {
-    quoted(alloc, &told(call, called)?)
+    quote(alloc, &value_or_refusal(call, called)?)
 }
 
 /// The facts of a shared node.
@@ -32,7 +32,7 @@ pub fn told_green(
     call: &'static str,
     called: Result<GreenNode, AllocError>,
 ) -> Result<String, NoAnswer> {
-    node_facts(alloc, &told(call, called)?)
+    node_facts(alloc, &value_or_refusal(call, called)?)
 }
 
 /// Path and kind of an element of the tree with this number; `none` of none.
@@ -42,7 +42,7 @@ pub fn told_place(
     call: &'static str,
     called: Result<Option<SyntaxElement>, AllocError>,
 ) -> Result<String, NoAnswer> {
-    match told(call, called)? {
+    match value_or_refusal(call, called)? {
         Some(element) => place_of(alloc, tree, &element),
         None => word(alloc, "none"),
     }
@@ -55,7 +55,7 @@ pub fn told_node_place(
     call: &'static str,
     called: Result<Option<SyntaxNode>, AllocError>,
 ) -> Result<String, NoAnswer> {
-    match told(call, called)? {
+    match value_or_refusal(call, called)? {
         Some(node) => place_of_node(alloc, tree, &node),
         None => word(alloc, "none"),
     }
@@ -68,7 +68,7 @@ pub fn told_node(
     call: &'static str,
     called: Result<SyntaxNode, AllocError>,
 ) -> Result<String, NoAnswer> {
-    place_of_node(alloc, tree, &told(call, called)?)
+    place_of_node(alloc, tree, &value_or_refusal(call, called)?)
 }
 
 /// The same of a token.
@@ -78,7 +78,7 @@ pub fn told_token_place(
     call: &'static str,
     called: Result<Option<SyntaxToken>, AllocError>,
 ) -> Result<String, NoAnswer> {
-    match told(call, called)? {
+    match value_or_refusal(call, called)? {
         Some(token) => place_of_token(alloc, tree, &token),
         None => word(alloc, "none"),
     }
@@ -91,7 +91,7 @@ pub fn told_places(
     call: &'static str,
     called: Result<Vec<SyntaxElement>, AllocError>,
 ) -> Result<String, NoAnswer> {
-    places(alloc, tree, &told(call, called)?)
+    places(alloc, tree, &value_or_refusal(call, called)?)
 }
 
 /// The same of nodes.
@@ -101,5 +101,5 @@ pub fn told_node_places(
     call: &'static str,
     called: Result<Vec<SyntaxNode>, AllocError>,
 ) -> Result<String, NoAnswer> {
-    node_places(alloc, tree, &told(call, called)?)
+    node_places(alloc, tree, &value_or_refusal(call, called)?)
 }

@@ -24,7 +24,7 @@ pub fn some(alloc: Global, is_some: bool) -> Result<String, NoAnswer> {
     if is_some { ok(alloc) } else { none(alloc) }
 }
 
-pub fn refused<E: Display + Drop>(alloc: Global, refusal: E) -> Result<String, NoAnswer> {
+pub fn refusal_text<E: Display + Drop>(alloc: Global, refusal: E) -> Result<String, NoAnswer> {
     Ok(refusal.to_string(alloc)?)
 }
 
@@ -34,7 +34,7 @@ pub fn memory(alloc: Global) -> Result<String, NoAnswer> {
 }
 
 /// The answer of such a call that gives nothing.
-pub fn grown(alloc: Global, called: Result<(), AllocError>) -> Result<String, NoAnswer> {
+pub fn ok_or_memory(alloc: Global, called: Result<(), AllocError>) -> Result<String, NoAnswer> {
     match called {
         Ok(()) => ok(alloc),
         Err(_) => memory(alloc),
@@ -47,28 +47,31 @@ pub fn truth(alloc: Global, holds: bool) -> Result<String, NoAnswer> {
 }
 
 /// The answer of a call that gives nothing.
-pub fn done<E: Display + Drop>(alloc: Global, called: Result<(), E>) -> Result<String, NoAnswer> {
+pub fn ok_or_refusal<E: Display + Drop>(
+    alloc: Global,
+    called: Result<(), E>,
+) -> Result<String, NoAnswer> {
     match called {
         Ok(()) => ok(alloc),
-        Err(refusal) => refused(alloc, refusal),
+        Err(refusal) => refusal_text(alloc, refusal),
     }
 }
 
 /// The answer of a call that gives a number.
-pub fn counted(alloc: Global, number: u64) -> Result<String, NoAnswer> {
+pub fn number_answer(alloc: Global, number: u64) -> Result<String, NoAnswer> {
     Ok(format!(in alloc; "ok {number}")?)
 }
 
 /// The answer of a call that gives a number, or none.
-pub fn counted_or_none(alloc: Global, number: Option<u64>) -> Result<String, NoAnswer> {
+pub fn number_or_none(alloc: Global, number: Option<u64>) -> Result<String, NoAnswer> {
     match number {
-        Some(number) => counted(alloc, number),
+        Some(number) => number_answer(alloc, number),
         None => none(alloc),
     }
 }
 
 /// The answer of a call that gives a node: its text, or the length of a long one, and the number of its tree.
-pub fn given(alloc: Global, node: &SyntaxNode) -> Result<String, NoAnswer> {
+pub fn node_answer(alloc: Global, node: &SyntaxNode) -> Result<String, NoAnswer> {
     let mut answer = String::from_str(alloc, "ok ")?;
     push_root(alloc, &mut answer, node)?;
     Ok(answer)
@@ -102,13 +105,13 @@ pub fn text_of(alloc: Global, node: &SyntaxNode) -> Result<String, NoAnswer> {
 }
 
 /// The answer of a call that makes a node.
-pub fn made<E: Display + Drop>(
+pub fn node_or_refusal<E: Display + Drop>(
     alloc: Global,
     called: Result<SyntaxNode, E>,
 ) -> Result<String, NoAnswer> {
     match called {
-        Ok(node) => given(alloc, &node),
-        Err(refusal) => refused(alloc, refusal),
+        Ok(node) => node_answer(alloc, &node),
+        Err(refusal) => refusal_text(alloc, refusal),
     }
 }
 

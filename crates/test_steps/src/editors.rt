@@ -1,6 +1,6 @@
 //! Editors: new ones, merged ones, and one whose changes are finished.
 
-use crate::answers::{given, ok, refused};
+use crate::answers::{node_answer, ok, refusal_text};
 use crate::edits::keep_edit;
 use crate::session::{Session, last};
 use crate::shifts::factory;
@@ -36,14 +36,14 @@ fn keep(
     root: &SyntaxNode,
 ) -> Result<String, NoAnswer> {
     session.editors.push(editor)?;
-    given(alloc, root)
+    node_answer(alloc, root)
 }
 
 fn new(alloc: Global, session: &mut Session, words: &mut Words) -> Result<String, NoAnswer> {
     let node = session.trees.node(alloc, words.word()?)?;
     match SyntaxEditor::new(alloc, &mut session.ids, node) {
         Ok((editor, root)) => keep(alloc, session, editor, &root),
-        Err(refusal) => refused(alloc, refusal),
+        Err(refusal) => refusal_text(alloc, refusal),
     }
 }
 
@@ -65,7 +65,7 @@ fn keep_typed(
 ) -> Result<String, NoAnswer> {
     match called {
         Ok((editor, root)) => keep(alloc, session, editor, root.syntax()),
-        Err(refusal) => refused(alloc, refusal),
+        Err(refusal) => refusal_text(alloc, refusal),
     }
 }
 
@@ -93,7 +93,7 @@ fn not_merged(
     other: SyntaxEditor,
 ) -> Result<String, NoAnswer> {
     session.editors.push(other)?;
-    refused(alloc, refusal)
+    refusal_text(alloc, refusal)
 }
 
 // The last editor gets another factory.

@@ -1,6 +1,6 @@
 //! What edits give: their roots, changed and annotated elements, and nodes that are found again.
 
-use crate::answers::{given, memory, none, paths_of, refused, text_of};
+use crate::answers::{memory, node_answer, none, paths_of, refusal_text, text_of};
 use crate::making::annotation;
 use crate::session::Session;
 use cst_core::SyntaxNode;
@@ -19,8 +19,8 @@ pub fn answer(
     let answer = match name {
         "old_text" => old_text(alloc, session),
         "new_text" => new_text(alloc, session),
-        "changed" => changed(alloc, session),
-        "annotated" => annotated(alloc, session, words),
+        "changed" => changed_paths(alloc, session),
+        "annotated" => annotated_paths(alloc, session, words),
         "find_element" => find_element(alloc, session, words),
         _ => return None,
     };
@@ -43,9 +43,9 @@ pub fn keep_edit<E: Display + Drop>(
     match edit {
         Ok(edit) => {
             session.edits.push(edit)?;
-            given(alloc, last(session)?.new_root())
+            node_answer(alloc, last(session)?.new_root())
         }
-        Err(refusal) => refused(alloc, refusal),
+        Err(refusal) => refusal_text(alloc, refusal),
     }
 }
 
@@ -57,12 +57,16 @@ fn new_text(alloc: Global, session: &Session) -> Result<String, NoAnswer> {
     text_of(alloc, last(session)?.new_root())
 }
 
-fn changed(alloc: Global, session: &Session) -> Result<String, NoAnswer> {
+fn changed_paths(alloc: Global, session: &Session) -> Result<String, NoAnswer> {
     paths_of(alloc, last(session)?.changed_elements())
 }
 
 // The elements of the annotation of the next word, or of the first one.
-fn annotated(alloc: Global, session: &Session, words: &mut Words) -> Result<String, NoAnswer> {
+fn annotated_paths(
+    alloc: Global,
+    session: &Session,
+    words: &mut Words,
+) -> Result<String, NoAnswer> {
     let Some(annotation) = annotation(words.next().unwrap_or("1")) else {
         return Err(NoAnswer::Arguments);
     };
@@ -75,10 +79,10 @@ fn find_element(
     words: &mut Words,
 ) -> Result<String, NoAnswer> {
     let old = session.trees.node(alloc, words.word()?)?;
-    found(alloc, last(session)?.find_element(alloc, &old))
+    node_or_none(alloc, last(session)?.find_element(alloc, &old))
 }
 
-fn found(
+fn node_or_none(
     alloc: Global,
     called: Result<Option<SyntaxNode>, AllocError>,
 ) -> Result<String, NoAnswer> {
@@ -90,7 +94,7 @@ fn found(
 }
 
 fn with_path(alloc: Global, node: &SyntaxNode) -> Result<String, NoAnswer> {
-    let mut answer = given(alloc, node)?;
+    let mut answer = node_answer(alloc, node)?;
     answer.push_str(" at ")?;
     push_path(&mut answer, node.slots())?;
     Ok(answer)

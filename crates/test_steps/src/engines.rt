@@ -1,6 +1,6 @@
 //! Plans that engines carry out: what each gives, how many nodes one builds, and whether both make the same.
 
-use crate::answers::{counted, refused};
+use crate::answers::{number_answer, refusal_text};
 use crate::edits::keep_edit;
 use crate::session::Session;
 use cst_core::{GreenNode, SyntaxNode, TreeIds, same_shape};
@@ -21,7 +21,7 @@ pub fn answer(
     let answer = match name {
         "run" => run(alloc, session, &mut OnePassEngine::new(alloc)),
         "run_spliced" => run(alloc, session, &mut SpliceEngine::new(alloc)),
-        "built" => built(alloc, session, words),
+        "built" => count_builds(alloc, session, words),
         _ => return None,
     };
     Some(answer)
@@ -43,13 +43,13 @@ fn run<E: EditEngine>(
 }
 
 // The count of an engine that makes the last plan's tree in one pass, if the other engine makes the same.
-fn built(alloc: Global, session: &Session, words: &mut Words) -> Result<String, NoAnswer> {
+fn count_builds(alloc: Global, session: &Session, words: &mut Words) -> Result<String, NoAnswer> {
     let mut engine = one_pass_engine(alloc, words)?;
     let plan = last(&session.plans)?;
     match made_by_both(alloc, plan, &mut engine)? {
-        Made::Same => counted(alloc, engine.builds()),
+        Made::Same => number_answer(alloc, engine.builds()),
         Made::Other => word(alloc, "the engines differ"),
-        Made::Refused(refusal) => refused(alloc, refusal),
+        Made::Refused(refusal) => refusal_text(alloc, refusal),
     }
 }
 
@@ -89,12 +89,12 @@ fn made_by_both(
     }
 }
 
-fn spliced(alloc: Global, plan: &EditPlan) -> Result<Rewritten, EngineError> {
+fn run_by_splices(alloc: Global, plan: &EditPlan) -> Result<Rewritten, EngineError> {
     SpliceEngine::new(alloc).run(alloc, plan)
 }
 
 fn spliced_as(alloc: Global, plan: &EditPlan, one: &Rewritten) -> Result<Made, NoAnswer> {
-    match spliced(alloc, plan) {
+    match run_by_splices(alloc, plan) {
         Ok(other) => Ok(Made::of(are_same(alloc, one, &other)?)),
         Err(EngineError::Memory) => Ok(Made::Refused(EngineError::Memory)),
         Err(EngineError::TooLong) => Ok(Made::Other),
@@ -103,7 +103,7 @@ fn spliced_as(alloc: Global, plan: &EditPlan, one: &Rewritten) -> Result<Made, N
 
 // Where the other engine's tree is too long.
 fn spliced_too_long(alloc: Global, plan: &EditPlan) -> Made {
-    match spliced(alloc, plan) {
+    match run_by_splices(alloc, plan) {
         Ok(_) => Made::Other,
         Err(refusal) => Made::Refused(refusal),
     }

@@ -1,6 +1,6 @@
 //! Whitespace tokens and levels.
 
-use crate::answers::{counted, none, refused, truth};
+use crate::answers::{none, number_answer, refusal_text, truth};
 use crate::session::Session;
 use crate::shifts::{block, factory};
 use cst_core::{SyntaxNode, SyntaxToken, TreeIds};
@@ -44,7 +44,7 @@ fn whitespace_of(
     let text = text_of_tree(alloc, tree)?;
     match factory.whitespace(alloc, &mut session.ids, &text) {
         Ok(token) => token_answer(alloc, &token),
-        Err(refusal) => refused(alloc, refusal),
+        Err(refusal) => refusal_text(alloc, refusal),
     }
 }
 
@@ -77,8 +77,8 @@ fn push_below(alloc: Global, out: &mut String, parent: &SyntaxNode) -> Result<()
 
 fn level(alloc: Global, read: Result<IndentLevel, IndentError>) -> Result<String, NoAnswer> {
     match read {
-        Ok(level) => counted(alloc, level.0 as u64),
-        Err(refusal) => refused(alloc, refusal),
+        Ok(level) => number_answer(alloc, level.0 as u64),
+        Err(refusal) => refusal_text(alloc, refusal),
     }
 }
 

@@ -1,6 +1,8 @@
 //! Trees, numbers, annotations and positions.
 
-use crate::answers::{counted, counted_or_none, made, memory, ok, refused, some};
+use crate::answers::{
+    memory, node_or_refusal, number_answer, number_or_none, ok, refusal_text, some,
+};
 use crate::session::Session;
 use cst_core::ast::{BlockExpr, Fn, LetStmt, StmtList};
 use cst_core::{AstNode, GreenElement, GreenNode, SyntaxElement, SyntaxKind, SyntaxNode, TreeIds};
@@ -21,9 +23,9 @@ pub fn answer(
         "new_root" => new_root(alloc, session, words),
         "clone_subtree" => clone_subtree(alloc, session, words),
         "green_node" => green_node(alloc, words),
-        "capped" => capped(alloc, words),
+        "capped" => capped_node(alloc, words),
         "splice_children" => splice_children(alloc, words),
-        "next" => counted_or_none(alloc, session.ids.next()),
+        "next" => number_or_none(alloc, session.ids.next()),
         "peek" => peek(alloc, session),
         "annotations" => annotations(alloc, words),
         "before" => before(alloc, session, words),
@@ -56,7 +58,7 @@ fn numbers(alloc: Global, session: &mut Session, words: &mut Words) -> Result<St
 
 fn new_root(alloc: Global, session: &mut Session, words: &mut Words) -> Result<String, NoAnswer> {
     let green = read_tree(alloc, words.take_rest())?;
-    made(alloc, SyntaxNode::new_root(alloc, &mut session.ids, green))
+    node_or_refusal(alloc, SyntaxNode::new_root(alloc, &mut session.ids, green))
 }
 
 fn clone_subtree(
@@ -65,7 +67,7 @@ fn clone_subtree(
     words: &mut Words,
 ) -> Result<String, NoAnswer> {
     let node = session.trees.node(alloc, words.word()?)?;
-    made(alloc, node.clone_subtree(alloc, &mut session.ids))
+    node_or_refusal(alloc, node.clone_subtree(alloc, &mut session.ids))
 }
 
 // The trees that the words name.
@@ -80,23 +82,26 @@ fn greens(alloc: Global, words: &mut Words) -> Result<Vec<GreenElement>, NoAnswe
 fn green_node(alloc: Global, words: &mut Words) -> Result<String, NoAnswer> {
     let children = greens(alloc, words)?;
     match GreenNode::new(alloc, SyntaxKind::SOURCE_FILE, children) {
-        Ok(node) => counted(alloc, node.length()),
-        Err(refusal) => refused(alloc, refusal),
+        Ok(node) => number_answer(alloc, node.length()),
+        Err(refusal) => refusal_text(alloc, refusal),
     }
 }
 
-fn capped(alloc: Global, words: &mut Words) -> Result<String, NoAnswer> {
+fn capped_node(alloc: Global, words: &mut Words) -> Result<String, NoAnswer> {
     let children = greens(alloc, words)?;
-    shared(
+    length_or_memory(
         alloc,
         GreenNode::capped(alloc, SyntaxKind::SOURCE_FILE, children),
     )
 }
 
 // The length of a shared tree.
-fn shared(alloc: Global, called: Result<GreenNode, AllocError>) -> Result<String, NoAnswer> {
+fn length_or_memory(
+    alloc: Global,
+    called: Result<GreenNode, AllocError>,
+) -> Result<String, NoAnswer> {
     match called {
-        Ok(node) => counted(alloc, node.length()),
+        Ok(node) => number_answer(alloc, node.length()),
         Err(_) => memory(alloc),
     }
 }
@@ -105,7 +110,7 @@ fn shared(alloc: Global, called: Result<GreenNode, AllocError>) -> Result<String
 fn splice_children(alloc: Global, words: &mut Words) -> Result<String, NoAnswer> {
     let node = read_tree(alloc, words.word()?)?;
     let new = greens(alloc, words)?;
-    shared(alloc, node.splice_children(alloc, 0, 0, new))
+    length_or_memory(alloc, node.splice_children(alloc, 0, 0, new))
 }
 
 // The number that comes next.

@@ -1,6 +1,6 @@
 //! Mappings that no editor has.
 
-use crate::answers::{grown, memory, none, ok};
+use crate::answers::{memory, none, ok, ok_or_memory};
 use crate::session::Session;
 use cst_core::{SyntaxElement, SyntaxNode};
 use std::alloc::{AllocError, Global};
@@ -50,7 +50,7 @@ fn merge_mappings(alloc: Global, session: &mut Session) -> Result<String, NoAnsw
         .mappings
         .pop()
         .ok_or(NoAnswer::Missing("no mapping was made"))?;
-    grown(alloc, last(session)?.merge(alloc, other))
+    ok_or_memory(alloc, last(session)?.merge(alloc, other))
 }
 
 // A clone stands before the last mapping.
@@ -93,10 +93,10 @@ fn place_in(
     payload: &str,
 ) -> Result<String, NoAnswer> {
     let payload = session.trees.node(alloc, payload)?;
-    placed(alloc, last(session)?.place(alloc, target, &payload))
+    place_or_none(alloc, last(session)?.place(alloc, target, &payload))
 }
 
-fn placed(
+fn place_or_none(
     alloc: Global,
     called: Result<Option<Vec<usize>>, AllocError>,
 ) -> Result<String, NoAnswer> {
@@ -123,10 +123,13 @@ fn follow_from(
     session: &mut Session,
     element: &SyntaxElement,
 ) -> Result<String, NoAnswer> {
-    followed(alloc, last(session)?.follow(alloc, element))
+    element_or_memory(alloc, last(session)?.follow(alloc, element))
 }
 
-fn followed(alloc: Global, called: Result<SyntaxElement, AllocError>) -> Result<String, NoAnswer> {
+fn element_or_memory(
+    alloc: Global,
+    called: Result<SyntaxElement, AllocError>,
+) -> Result<String, NoAnswer> {
     match called {
         Ok(end) => element_answer(alloc, &end),
         Err(_) => memory(alloc),

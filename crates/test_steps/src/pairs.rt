@@ -1,6 +1,6 @@
 //! Builders of mappings, and where their pairs go.
 
-use crate::answers::{MEMORY, done, grown, ok};
+use crate::answers::{MEMORY, ok, ok_or_memory, ok_or_refusal};
 use crate::mappings;
 use crate::roots::Roots;
 use crate::session::{Session, last};
@@ -56,7 +56,7 @@ fn pair(
 ) -> Result<String, NoAnswer> {
     let input = trees.node(alloc, input)?;
     let output = trees.node(alloc, output)?;
-    done(alloc, builder.map_node(alloc, input, output))
+    ok_or_refusal(alloc, builder.map_node(alloc, input, output))
 }
 
 fn map_children(
@@ -74,7 +74,7 @@ fn map_children(
         .builders
         .last_mut()
         .ok_or(NoAnswer::Missing("no builder was made"))?;
-    done(alloc, builder.map_children(alloc, &inputs, &outputs))
+    ok_or_refusal(alloc, builder.map_children(alloc, &inputs, &outputs))
 }
 
 // A builder of the copy's parent, with one pair. Where memory runs out there is no such builder, so that the step can be taken again.
@@ -123,13 +123,13 @@ fn map_all(alloc: Global, session: &mut Session) -> Result<String, NoAnswer> {
         .make_mut()
         .mappings()
         .ok_or(NoAnswer::Missing("no mappings"))?;
-    grown(alloc, builder.finish(alloc, mapping))
+    ok_or_memory(alloc, builder.finish(alloc, mapping))
 }
 
 // The same, by the editor's call.
 fn map_editor(alloc: Global, session: &mut Session) -> Result<String, NoAnswer> {
     let builder = last_builder(session)?;
-    grown(
+    ok_or_memory(
         alloc,
         last(&mut session.editors)?.add_mapping(alloc, builder),
     )
@@ -138,10 +138,10 @@ fn map_editor(alloc: Global, session: &mut Session) -> Result<String, NoAnswer> 
 // The pairs of the last builder go into the last mapping: by the builder's call, and by the mapping's.
 fn finish_builder(alloc: Global, session: &mut Session) -> Result<String, NoAnswer> {
     let builder = last_builder(session)?;
-    grown(alloc, builder.finish(alloc, mappings::last(session)?))
+    ok_or_memory(alloc, builder.finish(alloc, mappings::last(session)?))
 }
 
 fn add_mapping(alloc: Global, session: &mut Session) -> Result<String, NoAnswer> {
     let builder = last_builder(session)?;
-    grown(alloc, mappings::last(session)?.add_mapping(alloc, builder))
+    ok_or_memory(alloc, mappings::last(session)?.add_mapping(alloc, builder))
 }

@@ -2,7 +2,7 @@
 ghost use Rattle.std.specs.Prelude.{◌≡◌, ◌↔◌, ◌<◌, [], length, IsTrue, IfOk, All};
 ghost use Rattle.edit_plan.specs.Fits.{Fits};
 
-use crate::answers::{counted, counted_or_none, ok, refused, truth};
+use crate::answers::{number_answer, number_or_none, ok, refusal_text, truth};
 use crate::arguments::{insertion, insertions, range_replacements, replacements, two_elements};
 use crate::editors::take_last;
 use crate::making::annotation;
@@ -49,9 +49,9 @@ fn keep_plan(
         Ok(plan) => {
             let count = plan.len();
             session.plans.push(plan)?;
-            counted(alloc, count as u64)
+            number_answer(alloc, count as u64)
         }
-        Err(refusal) => refused(alloc, refusal),
+        Err(refusal) => refusal_text(alloc, refusal),
     }
 }
 
@@ -171,5 +171,5 @@ fn is_dropped(alloc: Global, session: &mut Session, words: &mut Words) -> Result
 fn owner(alloc: Global, session: &mut Session, words: &mut Words) -> Result<String, NoAnswer> {
     let plan = last(session)?;
     let change = change_number(plan, words)?;
-    counted_or_none(alloc, plan.owner(change).map(|owner| owner as u64))
+    number_or_none(alloc, plan.owner(change).map(|owner| owner as u64))
 }

@@ -5,7 +5,7 @@ use crate::session::{Session, last};
 use cst_core::{SyntaxElement, SyntaxNode};
 use std::alloc::{AllocError, Global};
 use syntax_editor::Change;
-use test_trees::{NoAnswer, Words, number, push_quoted, quoted};
+use test_trees::{NoAnswer, Words, number, push_quoted, quote};
 
 /// What the step of this name answers, if it is one of these.
 pub fn answer(
@@ -16,9 +16,9 @@ pub fn answer(
 ) -> Option<Result<String, NoAnswer>> {
     let answer = match name {
         "changes" => changes(alloc, session),
-        "deleted" => deleted(alloc, session, words),
+        "deleted" => is_deleted(alloc, session, words),
         "deletions" => deletions(alloc, session),
-        "inserted" => inserted(alloc, session),
+        "inserted" => inserted_texts(alloc, session),
         "fits" => fits(alloc, session, words),
         "text" => text(alloc, session, words),
         _ => return None,
@@ -32,13 +32,13 @@ fn changes(alloc: Global, session: &mut Session) -> Result<String, NoAnswer> {
     number(alloc, editor.changes().len() as u64)
 }
 
-fn deleted(alloc: Global, session: &mut Session, words: &mut Words) -> Result<String, NoAnswer> {
+fn is_deleted(alloc: Global, session: &mut Session, words: &mut Words) -> Result<String, NoAnswer> {
     let editor = last(&mut session.editors)?;
     let element = session.trees.element(alloc, words.word()?)?;
-    held(alloc, editor.deleted(alloc, &element))
+    truth_or_memory(alloc, editor.deleted(alloc, &element))
 }
 
-fn held(alloc: Global, called: Result<bool, AllocError>) -> Result<String, NoAnswer> {
+fn truth_or_memory(alloc: Global, called: Result<bool, AllocError>) -> Result<String, NoAnswer> {
     match called {
         Ok(holds) => truth(alloc, holds),
         Err(_) => memory(alloc),
@@ -58,7 +58,7 @@ fn deletions(alloc: Global, session: &mut Session) -> Result<String, NoAnswer> {
 }
 
 // What the last change inserts, if that is several elements: the text of each, and the number of its tree.
-fn inserted(alloc: Global, session: &mut Session) -> Result<String, NoAnswer> {
+fn inserted_texts(alloc: Global, session: &mut Session) -> Result<String, NoAnswer> {
     let editor = last(&mut session.editors)?;
     match editor.changes().last() {
         Some(Change::InsertAll(_, elements)) => texts_of(alloc, elements.as_slice()),
@@ -125,7 +125,7 @@ fn text(alloc: Global, session: &mut Session, words: &mut Words) -> Result<Strin
 
 // A text between quotes, with \e for the byte ESC.
 fn with_escape_shown(alloc: Global, text: &str) -> Result<String, NoAnswer> {
-    let quoted = quoted(alloc, text)?;
+    let quoted = quote(alloc, text)?;
     let shown = quoted.replace(alloc, '\x1b', "\\e")?;
     Ok(format!(in alloc; "ok {shown}")?)
 }

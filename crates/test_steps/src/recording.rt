@@ -1,6 +1,6 @@
 //! The calls that record.
 
-use crate::answers::done;
+use crate::answers::ok_or_refusal;
 use crate::arguments::{insertion, insertions, range_replacements, replacements, two_elements};
 use crate::making::annotation;
 use crate::session::{Session, last};
@@ -40,13 +40,13 @@ pub fn answer(
 fn insert(alloc: Global, session: &mut Session, words: &mut Words) -> Result<String, NoAnswer> {
     let editor = last(&mut session.editors)?;
     let (at, new) = insertion(alloc, &session.trees, words)?;
-    done(alloc, editor.insert(alloc, at, new))
+    ok_or_refusal(alloc, editor.insert(alloc, at, new))
 }
 
 fn insert_all(alloc: Global, session: &mut Session, words: &mut Words) -> Result<String, NoAnswer> {
     let editor = last(&mut session.editors)?;
     let (at, new) = insertions(alloc, &session.trees, words)?;
-    done(alloc, editor.insert_all(alloc, at, new))
+    ok_or_refusal(alloc, editor.insert_all(alloc, at, new))
 }
 
 fn insert_with_whitespace(
@@ -56,7 +56,7 @@ fn insert_with_whitespace(
 ) -> Result<String, NoAnswer> {
     let editor = last(&mut session.editors)?;
     let (at, new) = insertion(alloc, &session.trees, words)?;
-    done(
+    ok_or_refusal(
         alloc,
         editor.insert_with_whitespace(alloc, &mut session.ids, at, new),
     )
@@ -69,7 +69,7 @@ fn insert_all_with_whitespace(
 ) -> Result<String, NoAnswer> {
     let editor = last(&mut session.editors)?;
     let (at, new) = insertions(alloc, &session.trees, words)?;
-    done(
+    ok_or_refusal(
         alloc,
         editor.insert_all_with_whitespace(alloc, &mut session.ids, at, new),
     )
@@ -78,19 +78,19 @@ fn insert_all_with_whitespace(
 fn delete(alloc: Global, session: &mut Session, words: &mut Words) -> Result<String, NoAnswer> {
     let editor = last(&mut session.editors)?;
     let target = session.trees.element(alloc, words.word()?)?;
-    done(alloc, editor.delete(alloc, target))
+    ok_or_refusal(alloc, editor.delete(alloc, target))
 }
 
 fn delete_all(alloc: Global, session: &mut Session, words: &mut Words) -> Result<String, NoAnswer> {
     let editor = last(&mut session.editors)?;
     let (first, end) = two_elements(alloc, &session.trees, words)?;
-    done(alloc, editor.delete_all(alloc, first, end))
+    ok_or_refusal(alloc, editor.delete_all(alloc, first, end))
 }
 
 fn replace(alloc: Global, session: &mut Session, words: &mut Words) -> Result<String, NoAnswer> {
     let editor = last(&mut session.editors)?;
     let (target, new) = two_elements(alloc, &session.trees, words)?;
-    done(alloc, editor.replace(alloc, target, new))
+    ok_or_refusal(alloc, editor.replace(alloc, target, new))
 }
 
 fn replace_with_many(
@@ -100,7 +100,7 @@ fn replace_with_many(
 ) -> Result<String, NoAnswer> {
     let editor = last(&mut session.editors)?;
     let (target, new) = replacements(alloc, &session.trees, words)?;
-    done(alloc, editor.replace_with_many(alloc, target, new))
+    ok_or_refusal(alloc, editor.replace_with_many(alloc, target, new))
 }
 
 fn replace_all(
@@ -110,7 +110,7 @@ fn replace_all(
 ) -> Result<String, NoAnswer> {
     let editor = last(&mut session.editors)?;
     let ((first, end), new) = range_replacements(alloc, &session.trees, words)?;
-    done(alloc, editor.replace_all(alloc, first, end, new))
+    ok_or_refusal(alloc, editor.replace_all(alloc, first, end, new))
 }
 
 // Registered with the annotation of the next word, or with the first one.
@@ -125,7 +125,7 @@ fn add_annotation(
         return Err(NoAnswer::Arguments);
     };
     let element = session.trees.element(alloc, element)?;
-    done(alloc, editor.add_annotation(alloc, element, annotation))
+    ok_or_refusal(alloc, editor.add_annotation(alloc, element, annotation))
 }
 
 fn add_annotation_all(
@@ -138,7 +138,7 @@ fn add_annotation_all(
         return Err(NoAnswer::Arguments);
     };
     let elements = session.trees.elements(alloc, words)?;
-    done(
+    ok_or_refusal(
         alloc,
         editor.add_annotation_all(alloc, elements, annotation),
     )
@@ -164,7 +164,7 @@ fn remove_from<N: HasAttrs>(
 ) -> Result<String, NoAnswer> {
     let owner = N::cast(node).ok_or(NoAnswer::Missing("no function and no statement"))?;
     let editor = last(&mut session.editors)?;
-    done(alloc, owner.remove_attrs_and_docs(alloc, editor))
+    ok_or_refusal(alloc, owner.remove_attrs_and_docs(alloc, editor))
 }
 
 // With a separator of the kind that the next word names.
@@ -179,5 +179,5 @@ fn removed_with_separator(
         return Err(NoAnswer::Arguments);
     };
     let element = session.trees.element(alloc, element)?;
-    done(alloc, remove_separated(editor, alloc, &element, separator))
+    ok_or_refusal(alloc, remove_separated(editor, alloc, &element, separator))
 }

@@ -18,7 +18,7 @@ pub fn answer(
     let answer = match name {
         "default_order" => default_order(alloc, session),
         "execute" => execute(alloc, session, words),
-        "stepped" => stepped(alloc, session, words),
+        "stepped" => step_through(alloc, session, words),
         "finish_run" => finish_run(alloc, session, words),
         _ => return None,
     };
@@ -49,11 +49,15 @@ fn execute(alloc: Global, session: &mut Session, words: &mut Words) -> Result<St
 }
 
 // A run of the last plan: words that are numbers are changes that are carried out, and each other word is a question.
-fn stepped(alloc: Global, session: &mut Session, words: &mut Words) -> Result<String, NoAnswer> {
+fn step_through(
+    alloc: Global,
+    session: &mut Session,
+    words: &mut Words,
+) -> Result<String, NoAnswer> {
     let plan = last(&session.plans)?;
     let mut stepped = Stepped::new(alloc, plan)?;
     stepped.take_all(words)?;
-    let refused = stepped.refused();
+    let refused = stepped.refused_call();
     let answer = stepped.into_answer();
     if refused.is_some() {
         session.refused = refused;
@@ -66,7 +70,7 @@ fn finish_run(alloc: Global, session: &mut Session, words: &mut Words) -> Result
     let plan = last(&session.plans)?;
     let mut stepped = Stepped::new(alloc, plan)?;
     stepped.take_all(words)?;
-    let refused = stepped.refused();
+    let refused = stepped.refused_call();
     let edit = stepped.finish(&mut session.ids);
     if refused.is_some() {
         session.refused = refused;

@@ -1,6 +1,6 @@
 //! Trees that are indented and dedented.
 
-use crate::answers::{given, made, memory, refused};
+use crate::answers::{memory, node_answer, node_or_refusal, refusal_text};
 use crate::mappings;
 use crate::session::Session;
 use cst_core::ast::{BlockExpr, StmtList};
@@ -34,7 +34,7 @@ fn free_indent(
 ) -> Result<String, NoAnswer> {
     let node = session.trees.node(alloc, words.word()?)?;
     let level = IndentLevel(words.level()?);
-    made(alloc, indent(alloc, &node, &mut session.ids, level))
+    node_or_refusal(alloc, indent(alloc, &node, &mut session.ids, level))
 }
 
 /// The block that a reference leads to.
@@ -43,10 +43,13 @@ pub fn block(alloc: Global, session: &Session, words: &mut Words) -> Result<Bloc
     BlockExpr::cast(node).ok_or(NoAnswer::Missing("no block"))
 }
 
-fn shifted<N: AstNode>(alloc: Global, called: Result<N, IndentError>) -> Result<String, NoAnswer> {
+fn shifted_node<N: AstNode>(
+    alloc: Global,
+    called: Result<N, IndentError>,
+) -> Result<String, NoAnswer> {
     match called {
-        Ok(node) => given(alloc, node.syntax()),
-        Err(refusal) => refused(alloc, refusal),
+        Ok(node) => node_answer(alloc, node.syntax()),
+        Err(refusal) => refusal_text(alloc, refusal),
     }
 }
 
@@ -57,7 +60,7 @@ fn typed_indent(
 ) -> Result<String, NoAnswer> {
     let block = block(alloc, session, words)?;
     let level = IndentLevel(words.level()?);
-    shifted(alloc, block.indent(alloc, &mut session.ids, level))
+    shifted_node(alloc, block.indent(alloc, &mut session.ids, level))
 }
 
 // Of a list of statements, or of a block.
@@ -65,19 +68,19 @@ fn dedent(alloc: Global, session: &mut Session, words: &mut Words) -> Result<Str
     let node = session.trees.node(alloc, words.word()?)?;
     let level = IndentLevel(words.level()?);
     if StmtList::can_cast(node.kind()) {
-        return dedented::<StmtList>(alloc, session, node, level);
+        return dedent_by::<StmtList>(alloc, session, node, level);
     }
-    dedented::<BlockExpr>(alloc, session, node, level)
+    dedent_by::<BlockExpr>(alloc, session, node, level)
 }
 
-fn dedented<N: AstNodeEdit>(
+fn dedent_by<N: AstNodeEdit>(
     alloc: Global,
     session: &mut Session,
     node: SyntaxNode,
     level: IndentLevel,
 ) -> Result<String, NoAnswer> {
     let node = N::cast(node).ok_or(NoAnswer::Missing("no block and no list of statements"))?;
-    shifted(alloc, node.dedent(alloc, &mut session.ids, level))
+    shifted_node(alloc, node.dedent(alloc, &mut session.ids, level))
 }
 
 fn reset_indent(
@@ -86,7 +89,7 @@ fn reset_indent(
     words: &mut Words,
 ) -> Result<String, NoAnswer> {
     let block = block(alloc, session, words)?;
-    shifted(alloc, block.reset_indent(alloc, &mut session.ids))
+    shifted_node(alloc, block.reset_indent(alloc, &mut session.ids))
 }
 
 /// A factory that keeps mappings, or one that keeps none.
@@ -120,7 +123,7 @@ fn indent_by(
     let mut factory = factory(alloc, word)?;
     let called = block.indent_with_mapping(alloc, &mut session.ids, level, &mut factory);
     if let Err(IndentError::Memory) = &called {
-        return unmapped(alloc, &mut factory);
+        return memory_unmapped(alloc, &mut factory);
     }
     keep_mapping(alloc, session, &mut factory)?;
     kept_or_refused(alloc, session, called)
@@ -143,20 +146,24 @@ fn kept_or_refused(
     called: Result<BlockExpr, IndentError>,
 ) -> Result<String, NoAnswer> {
     match called {
-        Ok(block) => kept(alloc, session, block.syntax()),
-        Err(refusal) => refused(alloc, refusal),
+        Ok(block) => keep_copies(alloc, session, block.syntax()),
+        Err(refusal) => refusal_text(alloc, refusal),
     }
 }
 
 // Want of memory leaves the mapping of a new factory empty.
-fn unmapped(alloc: Global, factory: &mut SyntaxFactory) -> Result<String, NoAnswer> {
+fn memory_unmapped(alloc: Global, factory: &mut SyntaxFactory) -> Result<String, NoAnswer> {
     match factory.mappings() {
         Some(mapping) if mapping.len() != 0 => Err(NoAnswer::Changed),
         _ => memory(alloc),
     }
 }
 
-fn kept(alloc: Global, session: &mut Session, node: &SyntaxNode) -> Result<String, NoAnswer> {
+fn keep_copies(
+    alloc: Global,
+    session: &mut Session,
+    node: &SyntaxNode,
+) -> Result<String, NoAnswer> {
     session.keep(alloc, node)?;
-    given(alloc, node)
+    node_answer(alloc, node)
 }

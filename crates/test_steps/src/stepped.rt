@@ -4,7 +4,7 @@ use crate::standing::run_standing;
 use cst_core::{GreenNode, TreeIds};
 use std::alloc::{AllocError, Global};
 use syntax_editor::{EditError, EditPlan, EditRun, SyntaxEdit};
-use test_trees::{NoAnswer, Words, quoted};
+use test_trees::{NoAnswer, Words, quote};
 
 // Texts up to this length are shown.
 const SHOWN: u64 = 200;
@@ -166,7 +166,7 @@ impl<'a> Stepped<'a> {
     }
 
     /// The name in the sources of the call that was refused because memory ran out, and then done.
-    pub fn refused(&self) -> Option<&'static str> {
+    pub fn refused_call(&self) -> Option<&'static str> {
         match self.refused {
             Some(RunCall::New) => Some("EditRun::new"),
             Some(RunCall::Step) => Some("EditRun::step"),
@@ -191,7 +191,7 @@ impl<'a> Stepped<'a> {
 
 fn quoted_text(alloc: Global, tree: &GreenNode) -> Result<String, NoAnswer> {
     let text = format!(in alloc; "{tree}")?;
-    quoted(alloc, &text)
+    quote(alloc, &text)
 }
 
 // The text of a tree, or the length of a long one.

@@ -17,6 +17,6 @@ pub use doubling::{halves, p};
 pub use no_answer::NoAnswer;
 pub use row_error::RowError;
 pub use rows::{green, row};
-pub use shown::{number, push_path, push_quoted, quoted, word};
+pub use shown::{number, push_path, push_quoted, quote, word};
 pub use trees::{Trees, element_below, read_tree};
 pub use words::{Words, find_named, first_word, name_and_path, number_of, slots_of};

@@ -9,7 +9,7 @@ use std::alloc::Global;
 const LONGEST: u64 = 65_536;
 
 /// The node with letters after its children, so that its text has n bytes.
-pub fn filled(alloc: Global, node: &GreenNode, bytes: u64) -> Result<GreenNode, NoAnswer> {
+pub fn fill(alloc: Global, node: &GreenNode, bytes: u64) -> Result<GreenNode, NoAnswer> {
     let missing = bytes.checked_sub(node.length()).ok_or(NoAnswer::Arguments)?;
     let end = node.children().len();
     let letters = letters(alloc, missing)?;
@@ -31,13 +31,13 @@ fn push_letters(alloc: Global, all: &mut Vec<GreenElement>, count: u64) -> Resul
             all.push(power.share(alloc)?)?;
         }
         rest /= 2;
-        power = doubled(alloc, &power)?;
+        power = double(alloc, &power)?;
     }
     Ok(())
 }
 
 // An element with twice the text: a token, or a node that holds the element two times.
-fn doubled(alloc: Global, element: &GreenElement) -> Result<GreenElement, NoAnswer> {
+fn double(alloc: Global, element: &GreenElement) -> Result<GreenElement, NoAnswer> {
     match element {
         GreenElement::Token(short) if short.length() < LONGEST => token_twice(alloc, short),
         _ => twice(alloc, element),

@@ -34,7 +34,7 @@ pub fn push_quoted(out: &mut String, text: &str) -> Result<(), AllocError> {
 }
 
 /// The same by itself.
-pub fn quoted(alloc: Global, text: &str) -> Result<String, NoAnswer> {
+pub fn quote(alloc: Global, text: &str) -> Result<String, NoAnswer> {
     let mut quoted = String::new(alloc);
     push_quoted(&mut quoted, text)?;
     Ok(quoted)

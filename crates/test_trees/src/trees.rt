@@ -1,7 +1,7 @@
 //! The trees that rows of tests name, and the elements in them.
 
 use crate::doubling::{capped_halves, p_file};
-use crate::long::{at_level, blank, filled, many};
+use crate::long::{at_level, blank, fill, many};
 use crate::no_answer::NoAnswer;
 use crate::rows::{green, row};
 use crate::words::{Words, name_and_path, number_of, slots_of};
@@ -15,7 +15,7 @@ pub fn read_tree(alloc: Global, text: &str) -> Result<GreenNode, NoAnswer> {
     match words.word()? {
         "long" => {
             let bytes = words.number()?;
-            filled(alloc, &short_tree(alloc, words.take_rest())?, bytes)
+            fill(alloc, &short_tree(alloc, words.take_rest())?, bytes)
         }
         "deep" => {
             let level = words.number()?;
@@ -83,8 +83,12 @@ impl Trees {
     /// The root of a tree, as `L` or with its number as `1:L`. Without a number it has the number 7.
     pub fn root(&self, alloc: Global, tree: &str) -> Result<SyntaxNode, NoAnswer> {
         match tree.split_once(':') {
-            Some((number, name)) => numbered(alloc, number_of(number)?, self.tree(alloc, name)?),
-            None => numbered(alloc, 7, self.tree(alloc, tree)?),
+            Some((number, name)) => root_of_number(
+                alloc,
+                number_of(number)?,
+                self.tree(alloc, name)?,
+            ),
+            None => root_of_number(alloc, 7, self.tree(alloc, tree)?),
         }
     }
 
@@ -110,7 +114,7 @@ impl Trees {
     }
 }
 
-fn numbered(alloc: Global, number: u64, tree: GreenNode) -> Result<SyntaxNode, NoAnswer> {
+fn root_of_number(alloc: Global, number: u64, tree: GreenNode) -> Result<SyntaxNode, NoAnswer> {
     let mut ids = TreeIds::new(number);
     Ok(SyntaxNode::new_root(alloc, &mut ids, tree)?)
 }

@@ -113,20 +113,20 @@ impl<'a> Trial<'a> {
     }
 
     // An editor that has recorded a pair.
-    fn recorded(self, ids: &mut TreeIds, pair: Pair<'_>) -> Result<SyntaxEditor> {
+    fn editor_with(self, ids: &mut TreeIds, pair: Pair<'_>) -> Result<SyntaxEditor> {
         let mut editor = self.editor(ids)?;
         self.record(&mut editor, pair)?;
         Ok(editor)
     }
 
     fn at_once(self, ids: &mut TreeIds, pair: Pair<'_>) -> Result<Answers> {
-        let editor = self.recorded(ids, pair)?;
+        let editor = self.editor_with(ids, pair)?;
         answers_to(self.alloc, ids, &self.trees.root, editor)
     }
 
-    fn stepped(self, ids: &mut TreeIds, pair: Pair<'_>) -> Result<Answers> {
-        let editor = self.recorded(ids, pair)?;
-        let same = self.recorded(ids, pair)?;
+    fn one_at_a_time(self, ids: &mut TreeIds, pair: Pair<'_>) -> Result<Answers> {
+        let editor = self.editor_with(ids, pair)?;
+        let same = self.editor_with(ids, pair)?;
         stepped_answers(self.alloc, ids, &self.trees.root, editor, same)
     }
 
@@ -134,7 +134,7 @@ impl<'a> Trial<'a> {
     pub fn answers(self, ids: &mut TreeIds, pair: Pair<'_>, way: Way) -> Result<Answers> {
         match way {
             Way::AtOnce => self.at_once(ids, pair),
-            Way::Stepped => self.stepped(ids, pair),
+            Way::Stepped => self.one_at_a_time(ids, pair),
         }
     }
 }
