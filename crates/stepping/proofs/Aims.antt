@@ -24,7 +24,7 @@ use Rattle.stepping.specs.Stage.{is_child, is_live}
 use Rattle.stepping.specs.declared.done.Among.{Among}
 use Rattle.stepping.specs.declared.done.Among.TheVariants.{Gap, Slots}
 use Rattle.stepping.specs.declared.done.Done.{Done}
-use Rattle.stepping.specs.inner.Targets.{Child, count_in, child_count, child_in, child_at, live_target, Site}
+use Rattle.stepping.specs.inner.AimTargets.{Child, count_in, child_count, child_in, child_at, live_target, Site}
 use Rattle.stepping.proofs.AimSteps.{same_path_from, range, elsewhere-insert, other_gaps, slots, elsewhere-replace, gaps_over, slot_outside, same_gap, same_slot}
 use Rattle.stepping.proofs.Stepping.{DeadAt}
 

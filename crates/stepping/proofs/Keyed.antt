@@ -13,7 +13,7 @@ use mathlib.Core.Logic.{inl, inr}
 use Rattle.green_tree.specs.Path.{Path, same_path, parent_path, last_slot}
 use Rattle.green_tree.specs.Tree.{Token, SyntaxTree}
 use Rattle.stepping.specs.declared.done.Done.{Done}
-use Rattle.stepping.specs.inner.Targets.{child_count, child_in, child_at}
+use Rattle.stepping.specs.inner.AimTargets.{child_count, child_in, child_at}
 use Rattle.stepping.proofs.AimSteps.{same_path-true}
 
 -- ---- the index

@@ -8,7 +8,7 @@ use Rattle.stepping.specs.Stage.{step_builds}
 use Rattle.stepping.specs.declared.done.Among.TheVariants.{Gap, Slots}
 use Rattle.stepping.specs.declared.done.Done.{Done}
 use Rattle.stepping.specs.inner.CurrentPaths.{start, current_path}
-use Rattle.stepping.specs.inner.Targets.{live_target}
+use Rattle.stepping.specs.inner.AimTargets.{live_target}
 
 -- the tree `L`, its kinds numbered in the order in which they come
 abbrev l : SyntaxTree

@@ -1,6 +1,6 @@
 ghost use Rattle.std.specs.Prelude.{◌≡◌, ◌<◌, ◌+◌, ◌^◌, option_map, IfSome};
 ghost use Rattle.green_tree.specs.GreenElement.{element_tree};
-ghost use Rattle.stepping.specs.inner.Targets.{child_count, child_at, child_of, live_target, site_of};
+ghost use Rattle.stepping.specs.inner.AimTargets.{child_count, child_at, child_of, live_target, site_of};
 
 use crate::done::Among;
 use green_tree::{GreenElement, GreenElementRef};

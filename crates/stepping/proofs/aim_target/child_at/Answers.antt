@@ -2,7 +2,7 @@ use Rattle.std.proofs.Common.{◌-◌, length, take, get_or, cond, ap, sym, ◌�
 use Rattle.std.specs.Prelude.{Some, None, option_map, option_and_then}
 use Rattle.std.proofs.lemmas.Bool.{lt-ltb, le-ltb}
 use Rattle.green_tree.specs.GreenElement.{element_tree}
-use Rattle.stepping.specs.inner.Targets.{Child, child_in, child_of}
+use Rattle.stepping.specs.inner.AimTargets.{Child, child_in, child_of}
 use Rattle.stepping.proofs.Keyed.{child-by-last}
 use Rattle.stepping.proofs.aim_target.child_at.Goals as goal
 

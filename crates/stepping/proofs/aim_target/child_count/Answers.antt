@@ -4,7 +4,7 @@ use Rattle.std.proofs.lemmas.List.{length-map}
 use Rattle.green_tree.specs.GreenElement.{element_tree}
 use Rattle.green_tree.specs.GreenElementRef.{ref_tree}
 use Rattle.green_tree.proofs.Lookup.{trees-forest}
-use Rattle.stepping.specs.inner.Targets.{count_in, child_count}
+use Rattle.stepping.specs.inner.AimTargets.{count_in, child_count}
 use Rattle.stepping.proofs.Keyed.{count-token}
 use Rattle.stepping.proofs.aim_target.child_count.Goals as goal
 

@@ -8,7 +8,7 @@ use Rattle.stepping.specs.Stage.{old_tree}
 use Rattle.stepping.specs.declared.done.Done.{Done}
 use Rattle.stepping.specs.inner.CurrentPaths.{done_at}
 use Rattle.stepping.specs.inner.Putting.{CanPut, put}
-use Rattle.stepping.specs.inner.Targets.{site_of}
+use Rattle.stepping.specs.inner.AimTargets.{site_of}
 use Rattle.stepping.proofs.Aims.{found-live, found-dead, found-none}
 use Rattle.stepping.proofs.Stepping.{dead-tree, dead-counted}
 use Rattle.stepping.proofs.Taken.{made-live, builds-live, builds-dead}
