@@ -38,7 +38,7 @@ pub fn answer(
     let element = trees.element(alloc, place)?;
     let before = Standing::of(&element);
     let answer = of_all(alloc, question, &element);
-    before.kept(&element, answer)
+    before.answer_if_kept(&element, answer)
 }
 
 // Of the element, and of the node or token that it is.

@@ -44,7 +44,7 @@ pub fn answer(
         ListQuestion::Siblings(direction) => siblings(alloc, direction, &element),
         ListQuestion::DescendantsWithTokens => descendants(alloc, &element),
     };
-    before.kept(&element, answer)
+    before.answer_if_kept(&element, answer)
 }
 
 // Of the element, and of the node or token that it is.

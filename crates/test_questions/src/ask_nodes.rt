@@ -46,7 +46,7 @@ pub fn answer(
     let element = trees.element(alloc, place)?;
     let before = Standing::of(&element);
     let answer = of_element(alloc, question, &element);
-    before.kept(&element, answer)
+    before.answer_if_kept(&element, answer)
 }
 
 fn of_element(

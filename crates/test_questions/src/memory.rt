@@ -71,7 +71,7 @@ impl Standing {
     }
 
     /// The answer, where the element still is what it was.
-    pub fn kept(
+    pub fn answer_if_kept(
         self,
         element: &SyntaxElement,
         answer: Result<String, NoAnswer>,

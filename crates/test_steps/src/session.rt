@@ -63,7 +63,7 @@ impl Session {
         if !before.is_kept(&after) {
             return Err(NoAnswer::Changed);
         }
-        if before.lost(&after) {
+        if before.has_lost(&after) {
             return Err(NoAnswer::from(AllocError));
         }
         Ok(())

@@ -67,7 +67,7 @@ impl Standing {
     }
 
     /// Whether a call took something.
-    pub fn lost(&self, after: &Standing) -> bool {
+    pub fn has_lost(&self, after: &Standing) -> bool {
         after.builders < self.builders
             || after.mappings.count < self.mappings.count
             || after.editors.count < self.editors.count
