@@ -1,4 +1,4 @@
-//! Gives a block the indentation that its place wants, whatever it had.
+//! Gives a block the indentation that what is around it wants, whatever it had.
 
 use crate::tree::{new_text, root_of};
 use anyhow::{Context, Result};

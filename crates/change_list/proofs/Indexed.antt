@@ -83,21 +83,21 @@ abbrev pub stated : Option ℕ → List (Option SyntaxElement) → Option Replac
 stated o rs = option_map (λ i. record { first = i; is_deleted = list_any is_none rs }) o
 
 pub nothing-said : (p : Path) (cs : List Change) → replaced_at p cs ≡ None → position (is_replace_at p) cs ≡ None
-nothing-said p cs none = by_place (position (is_replace_at p) cs) none
+nothing-said p cs none = by_number (position (is_replace_at p) cs) none
   where
-    by_place : (o : Option ℕ) → stated o (replacements_at p cs) ≡ None → o ≡ None
-    by_place None e = refl
-    by_place (Some i) e = cc
+    by_number : (o : Option ℕ) → stated o (replacements_at p cs) ≡ None → o ≡ None
+    by_number None e = refl
+    by_number (Some i) e = cc
 
 pub nothing-deleted : (p : Path) (cs : List Change) → replaced_at p cs ≡ None → list_any is_none (replacements_at p cs) ≡ false
 nothing-deleted p cs none = ap (list_any is_none) (none-found (replacement_at p) cs (nothing-said p cs none))
 
 pub something-said : (p : Path) (cs : List Change) (r : Replaced) → replaced_at p cs ≡ Some r → (position (is_replace_at p) cs ≡ Some r.first) × (list_any is_none (replacements_at p cs) ≡ r.is_deleted)
-something-said p cs r said = by_place (position (is_replace_at p) cs) said
+something-said p cs r said = by_number (position (is_replace_at p) cs) said
   where
-    by_place : (o : Option ℕ) → stated o (replacements_at p cs) ≡ Some r → (o ≡ Some r.first) × (list_any is_none (replacements_at p cs) ≡ r.is_deleted)
-    by_place None e = cc
-    by_place (Some i) e =
+    by_number : (o : Option ℕ) → stated o (replacements_at p cs) ≡ Some r → (o ≡ Some r.first) × (list_any is_none (replacements_at p cs) ≡ r.is_deleted)
+    by_number None e = cc
+    by_number (Some i) e =
         let same : record { first = i; is_deleted = list_any is_none (replacements_at p cs) } ≡ r = cc in
         (ap (λ s. Some s.first) same, ap (λ s. s.is_deleted) same)
 
@@ -214,7 +214,7 @@ module _ (e : SyntaxElement) where
           | inr differ ↦ kept-elsewhere None (λ _. None) cs q differ ∙ sym (cond-false (same_path p q) _ _ differ)
         ]
 
--- an index that is told of a first Replace, whose path, place and form are these
+-- an index that is told of a first Replace, whose path, number and form are these
 pub added-agrees : (e : SyntaxElement) (new : Option SyntaxElement) (cs : List Change) (old now : Path → Option Replaced) (path : Path) (first : ℕ) (b : Bool)
     → path ≡ (element_of e).path → first ≡ length cs → b ≡ is_none new → position (is_replace_at (element_of e).path) cs ≡ None → ((q : Path) → old q ≡ replaced_at q cs)
     → ((q : Path) → now q ≡ cond (same_path path q) (Some (record { first = first; is_deleted = b })) (old q)) → (q : Path) → now q ≡ replaced_at q (cs ++ Replace e new ∷ [])

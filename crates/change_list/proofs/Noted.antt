@@ -88,10 +88,10 @@ some-of None b h is = absurd (true≢false (sym (h ∙ ap not is)))
 some-of (Some x) b h is = (x, refl)
 
 module _ (e : SyntaxElement) (new : Option SyntaxElement) (cs : List Change) (old : Path → Option Replaced) (path : Path) (path-is : path ≡ (element_of e).path) (agrees : (q : Path) → old q ≡ replaced_at q cs) (o : Option Replaced) (o-is : o ≡ old path) (b : Bool) (test : is_some o ≡ not b) where
-  pub noted-first : (now : Path → Option Replaced) (at : Path) (place : ℕ) (d : Bool) → at ≡ (element_of e).path → b ≡ true → length cs ≡ place → is_none new ≡ d → ((q : Path) → now q ≡ cond (same_path at q) (Some (record { first = place; is_deleted = d })) (old q)) → (q : Path) → now q ≡ replaced_at q (cs ++ Replace e new ∷ [])
-  noted-first now at place d at-is none long deletes told =
+  pub noted-first : (now : Path → Option Replaced) (at : Path) (number : ℕ) (d : Bool) → at ≡ (element_of e).path → b ≡ true → length cs ≡ number → is_none new ≡ d → ((q : Path) → now q ≡ cond (same_path at q) (Some (record { first = number; is_deleted = d })) (old q)) → (q : Path) → now q ≡ replaced_at q (cs ++ Replace e new ∷ [])
+  noted-first now at number d at-is none long deletes told =
       let unsaid : replaced_at (element_of e).path cs ≡ None = sym (agrees (element_of e).path) ∙ sym (ap old path-is) ∙ sym o-is ∙ none-of o b test none in
-      added-agrees e new cs old now at place d at-is (sym long) (sym deletes) (nothing-said (element_of e).path cs unsaid) agrees told
+      added-agrees e new cs old now at number d at-is (sym long) (sym deletes) (nothing-said (element_of e).path cs unsaid) agrees told
 
   known-before : b ≡ false → (r : Replaced) × (position (is_replace_at (element_of e).path) cs ≡ Some r.first)
   known-before some =

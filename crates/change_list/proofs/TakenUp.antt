@@ -1,6 +1,6 @@
 -- A list in which the first item that passes a test is exchanged, or one more put at the end.
 --     taken-here, taken-behind     where the first item passes; where it does not
---     taken-set, taken-none        by the place of the first item that passes
+--     taken-set, taken-none        by the index of the first item that passes
 --     all-taken                    what holds of each of its items
 --     filter_map-taken             what a test finds in it, where it finds what passes
 --     filter_map-passed            the same, where it finds nothing of what passes
@@ -67,7 +67,7 @@ module _ {X Y : Type 0} (p : X → Bool) (change : X → X) (more : X) (found : 
             ap (filter_map found) (taken-behind p change more x xs fails) ∙ ap (cons_option (found x)) (filter_map-passed before behind last xs)
       ]
 
--- ---- by the place of the first item that passes
+-- ---- by the index of the first item that passes
 module _ {X : Type 0} (p : X → Bool) (change : X → X) (more : X) where
   position-first : (x : X) (xs : List X) → p x ≡ true → position p (x ∷ xs) ≡ Some 0
   position-first x xs passes = position-cons p x xs ∙ ap (λ b. cond b (Some 0) (option_map suc (position p xs))) passes

@@ -270,26 +270,26 @@ fn note_all(
     requires { before + length changes.now < 2 ^ 64 }
     ensures { Notes result before changes.now index.old index.new }
 {
-    let mut place = before;
+    let mut number = before;
     for change in changes {
-        note(alloc, index, place, change)?;
-        place += 1;
+        note(alloc, index, number, change)?;
+        number += 1;
     }
     Ok(())
 }
 
-// Tells the index of a list of one more change, which stands at this place.
+// Tells the index of a list of one more change, which stands at this number.
 fn note(
     alloc: Global,
     index: &mut ReplaceIndex,
-    place: usize,
+    number: usize,
     change: &Change,
 ) -> Result<(), AllocError>
-    ensures { Notes result place (change.now ∷ []) index.old index.new }
+    ensures { Notes result number (change.now ∷ []) index.old index.new }
 {
     match change {
         Change::Replace(element, new) => {
-            note_replace(alloc, index, place, element, new.is_none())
+            note_replace(alloc, index, number, element, new.is_none())
         }
         _ => Ok(()),
     }
@@ -299,16 +299,16 @@ fn note(
 fn note_replace(
     alloc: Global,
     index: &mut ReplaceIndex,
-    place: usize,
+    number: usize,
     element: &SyntaxElement,
     is_deleted: bool,
 ) -> Result<(), AllocError>
-    ensures { NotesReplace result place element.now is_deleted index.old index.new }
+    ensures { NotesReplace result number element.now is_deleted index.old index.new }
 {
     if index.get(element.slots()).is_none() {
         let path = element.path(alloc)?;
         let replaced = Replaced {
-            first: place,
+            first: number,
             is_deleted,
         };
         return index.insert(path, replaced);

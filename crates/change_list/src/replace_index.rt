@@ -17,7 +17,7 @@ pub(crate) struct Replaced {
 /// The elements of a tree that are replaced, by path.
 #[derive(Drop)]
 pub(crate) struct ReplaceIndex {
-    places: HashMap<Vec<usize>, Replaced>,
+    entries: HashMap<Vec<usize>, Replaced>,
 }
 
 impl ReplaceIndex {
@@ -25,7 +25,7 @@ impl ReplaceIndex {
         ensures { (p : Path) → entry_at result p ≡ None }
     {
         ReplaceIndex {
-            places: HashMap::new(alloc),
+            entries: HashMap::new(alloc),
         }
     }
 
@@ -33,7 +33,7 @@ impl ReplaceIndex {
     pub(crate) fn get(&self, path: &[usize]) -> Option<Replaced>
         ensures { result ≡ entry_at self.now path.now }
     {
-        self.places.get(path).copied()
+        self.entries.get(path).copied()
     }
 
     /// Says this of the element at a path from now on. Without memory for that nothing changes.
@@ -41,7 +41,7 @@ impl ReplaceIndex {
         ensures ok { OnOk result (SaysAt path.items (Some replaced) self.old self.new) }
         ensures err { OnErr result ((p : Path) → entry_at self.new p ≡ entry_at self.old p) }
     {
-        self.places.insert(path, replaced)?;
+        self.entries.insert(path, replaced)?;
         Ok(())
     }
 
@@ -50,7 +50,7 @@ impl ReplaceIndex {
         ensures found { (p : Path) → entry_at self.new p ≡ entry_at self.old p }
         ensures ok { OnOk result (additional ≤ room self.new) }
     {
-        self.places.reserve(additional)
+        self.entries.reserve(additional)
     }
 
     /// Says this of the element at a path from now on, where there is room for it.
@@ -59,7 +59,7 @@ impl ReplaceIndex {
         ensures found { SaysAt path.items (Some replaced) self.old self.new }
         ensures room { room self.old ≤ room self.new + 1 }
     {
-        let inserted: Result<_, _> = self.places.insert(path, replaced);
+        let inserted: Result<_, _> = self.entries.insert(path, replaced);
         let _ = inserted.unwrap();
     }
 
@@ -67,7 +67,7 @@ impl ReplaceIndex {
     pub(crate) fn mark_deleted(&mut self, path: &[usize])
         ensures { SaysDeleted path.now self.old self.new }
     {
-        if let Some(replaced) = self.places.get_mut(path) {
+        if let Some(replaced) = self.entries.get_mut(path) {
             replaced.is_deleted = true;
         }
     }

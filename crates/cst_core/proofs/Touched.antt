@@ -8,7 +8,7 @@ use Rattle.green_tree.specs.Order.{start, token_paths}
 use Rattle.green_tree.specs.Offsets as green
 use Rattle.green_tree.specs.Offsets.{touches, covers, covering}
 use Rattle.green_tree.specs.Green.{leaf_tree}
-use Rattle.green_tree.specs.inner.FoundToken.{place_found, places_below}
+use Rattle.green_tree.specs.inner.FoundToken.{reached, reached_below}
 use Rattle.green_tree.specs.declared.tokens.FoundToken.{FoundToken}
 use Rattle.cst_core.specs.Element.{Element, subtree, below}
 use Rattle.cst_core.specs.SyntaxElement.{syntax_as, syntax_of, syntax_at, element_of}
@@ -40,20 +40,20 @@ abbrev head_of : List (Path × Option SyntaxTree) → Path × Option SyntaxTree
 head_of [] = ([], None)
 head_of (f ∷ fs) = f
 
-found_places : (e : Element) (t : SyntaxTree) (found : List FoundToken) (ps : List Path) → map place_found found ≡ places_below [] t ps → map (below e) ps ≡ tokens_found e found
-found_places e t [] [] h = refl
-found_places e t [] (p ∷ ps) h = absurd (cc)
-found_places e t (x ∷ found) [] h = absurd (cc)
-found_places e t (x ∷ found) (p ∷ ps) h =
+found_reached : (e : Element) (t : SyntaxTree) (found : List FoundToken) (ps : List Path) → map reached found ≡ reached_below [] t ps → map (below e) ps ≡ tokens_found e found
+found_reached e t [] [] h = refl
+found_reached e t [] (p ∷ ps) h = absurd (cc)
+found_reached e t (x ∷ found) [] h = absurd (cc)
+found_reached e t (x ∷ found) (p ∷ ps) h =
     let path : x.path.items ≡ p = ap (λ fs. (head_of fs).0) h in
-    let rest : map place_found found ≡ places_below [] t ps = cc in
-    rw (path, found_places e t found ps rest) refl
+    let rest : map reached found ≡ reached_below [] t ps = cc in
+    rw (path, found_reached e t found ps rest) refl
 
-pub token_at-found : (e : Element) (t : SyntaxTree) (offset : ℕ) (found : List FoundToken) → at e.root e.path ≡ Some t → start e.root e.path ≤ offset → map place_found found ≡ places_below [] t (green.tokens_touching t (offset - start e.root e.path)) → token_at e offset ≡ first_two (tokens_found e found)
-token_at-found e t offset found there h places = ap first_two (touching_below e t offset there h ∙ found_places e t found (green.tokens_touching t (offset - start e.root e.path)) places)
+pub token_at-found : (e : Element) (t : SyntaxTree) (offset : ℕ) (found : List FoundToken) → at e.root e.path ≡ Some t → start e.root e.path ≤ offset → map reached found ≡ reached_below [] t (green.tokens_touching t (offset - start e.root e.path)) → token_at e offset ≡ first_two (tokens_found e found)
+token_at-found e t offset found there h reaches = ap first_two (touching_below e t offset there h ∙ found_reached e t found (green.tokens_touching t (offset - start e.root e.path)) reaches)
 
 -- each is a token of the tree
-pub is_found : (t : SyntaxTree) (found : List FoundToken) (ps : List Path) (i : ℕ) (x : FoundToken) → map place_found found ≡ places_below [] t ps → i < length found → x ≡ get_or found i x → at t x.path.items ≡ Some (leaf_tree x.green)
+pub is_found : (t : SyntaxTree) (found : List FoundToken) (ps : List Path) (i : ℕ) (x : FoundToken) → map reached found ≡ reached_below [] t ps → i < length found → x ≡ get_or found i x → at t x.path.items ≡ Some (leaf_tree x.green)
 is_found t [] ps i x h inside is = absurd (omega arith)
 is_found t (y ∷ found) [] i x h inside is = absurd (cc)
 is_found t (y ∷ found) (p ∷ ps) zero x h inside is =
@@ -62,7 +62,7 @@ is_found t (y ∷ found) (p ∷ ps) zero x h inside is =
     let first : x ≡ y = is in
     rw first (ap (at t) path ∙ sym leaf)
 is_found t (y ∷ found) (p ∷ ps) (suc i) x h inside is =
-    let rest : map place_found found ≡ places_below [] t ps = cc in
+    let rest : map reached found ≡ reached_below [] t ps = cc in
     is_found t found ps i x rest (omega arith) is
 
 pub first_two-none : (e : Element) (found : List FoundToken) → length found ≡ 0 → first_two (tokens_found e found) ≡ tokens.None

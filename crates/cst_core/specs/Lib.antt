@@ -11,7 +11,7 @@ pub use Rattle.green_tree.specs.GreenElement
 pub use Rattle.green_tree.specs.GreenElementRef
 pub mod TreeIds
 pub mod Element
-pub mod Placed
+pub mod InTree
 pub mod SyntaxElement
 pub mod Navigation
 pub mod Debug

@@ -32,7 +32,7 @@ pub(crate) struct Location {
 impl Model for Location {
     ghost use Rattle.green_tree.specs.Green.{branch_tree};
     ghost use Rattle.cst_core.specs.Element.{Element, element_code};
-    ghost use Rattle.cst_core.specs.Placed.{IsPlaced};
+    ghost use Rattle.cst_core.specs.InTree.{IsInTree};
 
     ghost Value = { Element };
 
@@ -40,7 +40,7 @@ impl Model for Location {
 
     ghost view = { λ a. record { number = a.tree; root = branch_tree a.root; path = a.path.items } };
 
-    ghost invariant = { λ a. IsPlaced (record { number = a.tree; root = branch_tree a.root; path = a.path.items }) };
+    ghost invariant = { λ a. IsInTree (record { number = a.tree; root = branch_tree a.root; path = a.path.items }) };
 }
 
 // A path with one more slot.

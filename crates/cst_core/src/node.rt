@@ -29,7 +29,7 @@ pub struct SyntaxNode {
 impl Model for SyntaxNode {
     ghost use Rattle.green_tree.specs.Green.{branch_tree};
     ghost use Rattle.cst_core.specs.Element.{Element, element_code};
-    ghost use Rattle.cst_core.specs.Placed.{IsPlacedAs};
+    ghost use Rattle.cst_core.specs.InTree.{IsInTreeAs};
 
     ghost Value = { Element };
 
@@ -37,7 +37,7 @@ impl Model for SyntaxNode {
 
     ghost view = { λ a. a.location };
 
-    ghost invariant = { λ a. IsPlacedAs a.location (branch_tree a.green) };
+    ghost invariant = { λ a. IsInTreeAs a.location (branch_tree a.green) };
 }
 
 impl SyntaxNode {

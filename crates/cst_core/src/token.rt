@@ -31,7 +31,7 @@ pub struct SyntaxToken {
 impl Model for SyntaxToken {
     ghost use Rattle.green_tree.specs.Green.{leaf_tree};
     ghost use Rattle.cst_core.specs.Element.{Element, element_code};
-    ghost use Rattle.cst_core.specs.Placed.{IsPlacedAs};
+    ghost use Rattle.cst_core.specs.InTree.{IsInTreeAs};
 
     ghost Value = { Element };
 
@@ -39,7 +39,7 @@ impl Model for SyntaxToken {
 
     ghost view = { λ a. a.location };
 
-    ghost invariant = { λ a. IsPlacedAs a.location (leaf_tree a.green) };
+    ghost invariant = { λ a. IsInTreeAs a.location (leaf_tree a.green) };
 }
 
 impl SyntaxToken {

@@ -1,6 +1,6 @@
 -- Numbers put at the paths of what a change replaces.
 --     before-one, entered-one       at one path, in a table that has the numbers of an older one
---     leads-below                   the path of a place that was entered below another one
+--     leads-below                   the path of a cell that was entered below another one
 --     up_to_slot                    the siblings from the first up to a slot, without it
 --     before-more, entered-more     one sibling more
 use Rattle.std.specs.Prelude.{◌≡◌, ◌≢◌, ℕ, zero, suc, ◌+◌, ◌-◌, ◌≤◌, Bool, true, false, ◌||◌, cond, List, [], ◌∷◌, ◌++◌, map, Option, Some, refl}
@@ -9,9 +9,9 @@ use Rattle.std.proofs.lemmas.Bool.{cases_Bool}
 use mathlib.Core.Logic.{inl, inr}
 use Rattle.cst_core.specs.Path.{Path, same_path, has_path, parent_path, last_slot, counted_from}
 use Rattle.cst_core.proofs.LastSlot.{last_slot-push}
-use Rattle.path_table.specs.PathTable.{place_below, next_place, place_at, number_in, number_by_path, SameNumbers, IsPut, IsGrown}
+use Rattle.path_table.specs.PathTable.{cell_below, next_cell, cell_at, number_in, number_by_path, SameNumbers, IsPut, IsGrown}
 use Rattle.path_table.specs.declared.table.PathTable.{PathTable}
-use Rattle.path_table.proofs.PathTables.{place-push}
+use Rattle.path_table.proofs.PathTables.{cell-push}
 use Rattle.edit_change.specs.inner.TargetIndex.{number_at, IsEntered, lesser, least}
 use Rattle.edit_change.specs.declared.target_index.TargetIndex.{TargetIndex}
 use Rattle.edit_change.proofs.Clashes.{counted-on}
@@ -19,7 +19,7 @@ use Rattle.edit_change.proofs.Indexed.{least-push, put-more}
 use Rattle.edit_change.proofs.Paths.{same_path-true}
 
 -- ---- one path
-pub before-one : (t u : PathTable) (q : Path) (m : ℕ) (o : Option ℕ) → SameNumbers t u → place_at u q ≡ Some m → o ≡ number_in u (Some m) → o ≡ number_by_path t q
+pub before-one : (t u : PathTable) (q : Path) (m : ℕ) (o : Option ℕ) → SameNumbers t u → cell_at u q ≡ Some m → o ≡ number_in u (Some m) → o ≡ number_by_path t q
 before-one t u q m o same leads is = is ∙ ap (number_in u) (sym leads) ∙ same q
 
 pub entered-one : (t u v : PathTable) (q : Path) (n : ℕ) → SameNumbers t u → IsPut u v q n → (p : Path) → number_by_path v p ≡ cond (has_path (q ∷ []) p) (Some n) (number_by_path t p)
@@ -30,8 +30,8 @@ entered-one t u v q n same put p = put p ∙ ap (cond (same_path p q) (Some n)) 
     alone false = refl
 
 -- ---- one slot further
-pub leads-below : (t u : PathTable) (p : Path) (n i m : ℕ) → IsGrown t u → place_at t p ≡ Some n → place_below u n i ≡ Some m → place_at u (p ++ i ∷ []) ≡ Some m
-leads-below t u p n i m grown leads below = place-push u (Some 0) p i ∙ ap (λ o. next_place u o i) (grown.stay p n leads) ∙ below
+pub leads-below : (t u : PathTable) (p : Path) (n i m : ℕ) → IsGrown t u → cell_at t p ≡ Some n → cell_below u n i ≡ Some m → cell_at u (p ++ i ∷ []) ≡ Some m
+leads-below t u p n i m grown leads below = cell-push u (Some 0) p i ∙ ap (λ o. next_cell u o i) (grown.stay p n leads) ∙ below
 
 -- ---- siblings
 abbrev pub up_to_slot : Path → ℕ → List Path

@@ -52,7 +52,7 @@ impl Change {
         }
     }
 
-    /// The innermost element that lies around the place where the change aims.
+    /// The innermost element that lies around where the change aims.
     pub(crate) fn innermost(&self) -> Option<&[usize]>
         ensures { option_map_or (λ p. up_to p.now) result [] ≡ surroundings self.now }
     {

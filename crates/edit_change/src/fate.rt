@@ -91,11 +91,11 @@ fn fate_within(index: &TargetIndex, changes: &[Change], innermost: &[usize]) -> 
     ensures { result ≡ fate_within changes.now (up_to innermost.now) }
 {
     let table = &index.numbers;
-    let mut place = table.top();
-    let mut fate = fate_below(changes, Fate::Independent, table.number(place));
+    let mut cell = table.top();
+    let mut fate = fate_below(changes, Fate::Independent, table.number(cell));
     for slot in innermost {
-        place = table.below(place, *slot);
-        fate = fate_below(changes, fate, table.number(place));
+        cell = table.below(cell, *slot);
+        fate = fate_below(changes, fate, table.number(cell));
     }
     fate
 }

@@ -1,6 +1,6 @@
 ghost use Rattle.std.specs.Prelude.{◌≡◌, ◌≤◌, ◌++◌, ◌∷◌, [], Some, None, OnOk, IfOk, IfErr};
 ghost use Rattle.cst_core.specs.Path.{Path, siblings};
-ghost use Rattle.path_table.specs.PathTable.{place_at, size, IsTree};
+ghost use Rattle.path_table.specs.PathTable.{cell_at, size, IsTree};
 ghost use Rattle.edit_change.specs.Change.{targets};
 ghost use Rattle.edit_change.specs.inner.TargetIndex.{number_at, IsEntered, lesser, least, IsIndex};
 ghost use Rattle.edit_change.specs.Nesting.{first_clash};
@@ -85,8 +85,8 @@ impl TargetIndex {
         ensures entered { OnOk result (IsEntered self.old self.new (path.now ∷ []) number) }
         ensures tree { OnOk result (IsTree self.new.numbers) }
     {
-        let place = self.numbers.enter_path(path)?;
-        self.numbers.put(place, number)
+        let cell = self.numbers.enter_path(path)?;
+        self.numbers.put(cell, number)
     }
 
     // Puts a number at the path of each sibling from the first to the last, and gives the least one that was at any of them.
@@ -109,24 +109,24 @@ impl TargetIndex {
         Ok(least_so_far)
     }
 
-    // Puts a number at the place below another one, at a slot, and gives the one that was there.
+    // Puts a number at the cell below another one, at a slot, and gives the one that was there.
     fn enter_below(
         &mut self,
-        place: usize,
+        cell: usize,
         slot: usize,
         number: usize,
     ) -> Result<Option<usize>, AllocError>
         requires tree { IsTree self.old.numbers }
-        requires here { place ≤ size self.old.numbers }
-        ensures before { IfOk result (λ o. (p : Path) → place_at self.old.numbers p ≡ Some place
+        requires here { cell ≤ size self.old.numbers }
+        ensures before { IfOk result (λ o. (p : Path) → cell_at self.old.numbers p ≡ Some cell
             → o ≡ number_at self.old (p ++ slot ∷ [])) }
-        ensures entered { OnOk result ((p : Path) → place_at self.old.numbers p ≡ Some place
+        ensures entered { OnOk result ((p : Path) → cell_at self.old.numbers p ≡ Some cell
             → IsEntered self.old self.new ((p ++ slot ∷ []) ∷ []) number) }
-        ensures stays { (p : Path) → place_at self.old.numbers p ≡ Some place
-            → place_at self.new.numbers p ≡ Some place }
+        ensures stays { (p : Path) → cell_at self.old.numbers p ≡ Some cell
+            → cell_at self.new.numbers p ≡ Some cell }
         ensures new_tree { OnOk result (IsTree self.new.numbers) }
     {
-        let below = self.numbers.enter(place, slot)?;
+        let below = self.numbers.enter(cell, slot)?;
         self.numbers.put(below, number)
     }
 }

@@ -13,7 +13,7 @@ use std::alloc::{AllocError, Global};
 #[derive(Drop)]
 pub(crate) struct Stops {
     // The tree's number comes first on the path, and then come the slots.
-    places: PathTable,
+    cells: PathTable,
 }
 
 // Whether the node above another one at this depth may be a payload.
@@ -55,23 +55,23 @@ pub(crate) fn node_above(
 
 impl Stops {
     pub(crate) fn new(alloc: Global) -> Stops
-        ensures { IsTree result.places }
+        ensures { IsTree result.cells }
     {
         Stops {
-            places: PathTable::new(alloc),
+            cells: PathTable::new(alloc),
         }
     }
 
     fn insert(&mut self, alloc: Global, node: &SyntaxNode) -> Result<(), AllocError>
-        requires { IsTree self.old.places }
+        requires { IsTree self.old.cells }
         ensures free { (x : Address) → IsFree self.new x → IsFree self.old x }
         ensures ok { OnOk result (IsFree self.new (address node.now) → ⊥) }
-        ensures tree { IsTree self.new.places }
+        ensures tree { IsTree self.new.cells }
     {
         let mut path = Vec::with_capacity(alloc, node.slots().len() + 1)?;
         path.push(node.tree() as usize)?;
         path.extend_from_slice(node.slots())?;
-        self.places.insert(&path, 0)
+        self.cells.insert(&path, 0)
     }
 
     /// Takes up the first nodes of these pairs.
@@ -80,10 +80,10 @@ impl Stops {
         alloc: Global,
         pairs: &[(SyntaxNode, SyntaxNode)],
     ) -> Result<(), AllocError>
-        requires { IsTree self.old.places }
+        requires { IsTree self.old.cells }
         ensures free { (x : Address) → IsFree self.new x → IsFree self.old x }
         ensures ok { OnOk result (StopsAll self.new pairs.now) }
-        ensures tree { IsTree self.new.places }
+        ensures tree { IsTree self.new.cells }
     {
         for (input, _) in pairs {
             self.insert(alloc, input)?;
@@ -97,12 +97,12 @@ impl Stops {
         ensures { IsStopAbove self.now node.now payload.now result }
     {
         let mut stop = None;
-        let mut place = self.places.below(self.places.top(), node.tree() as usize);
+        let mut cell = self.cells.below(self.cells.top(), node.tree() as usize);
         for (depth, slot) in node.slots().iter().enumerate() {
-            if self.places.number(place).is_some() || may_be(payload, node, depth) {
+            if self.cells.number(cell).is_some() || may_be(payload, node, depth) {
                 stop = Some(depth);
             }
-            place = self.places.below(place, *slot);
+            cell = self.cells.below(cell, *slot);
         }
         stop
     }

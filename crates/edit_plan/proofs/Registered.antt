@@ -1,8 +1,8 @@
 -- The table of registered elements.
 --     pushed-nothing, pushed-list, pushed-one    an empty list at the end; a list of one mark there; one mark more in a list
---     found-same                    places that are added have no list
---     leads-further                 the path of the place below another one
---     entered, entered-unused       one mark more there; what has no place has no list
+--     found-same                    cells that are added have no list
+--     leads-further                 the path of the cell below another one
+--     entered, entered-unused       one mark more there; what has no cell has no list
 --     all-ancestors                 what is put in at each ancestor, all together
 --     sought-more                   one registered element more
 use Rattle.std.specs.Prelude.{◌≡◌, ◌≢◌, ℕ, zero, suc, ◌+◌, ◌<◌, ◌≤◌, Bool, true, false, ◌&&◌, cond, nat_eq, length, flat_map, List, [], ◌∷◌, ◌++◌, take, drop, get_or, option_and_then, Option, Some, None, Vec, refl}
@@ -18,13 +18,13 @@ use Rattle.rewriting.specs.inner.Marked.{Marking, sought_as, sought_in, sought_f
 use Rattle.rewriting.specs.inner.OneMore.{HasOneMore, StaysElsewhere}
 use Rattle.cst_core.specs.Path.{Path, same_path, counted_from}
 use Rattle.cst_core.specs.Element.{Address, same_address}
-use Rattle.path_table.specs.PathTable.{place_below, place_at, size, IsGrown}
+use Rattle.path_table.specs.PathTable.{cell_below, cell_at, size, IsGrown}
 use Rattle.path_table.specs.declared.table.PathTable.{PathTable}
-use Rattle.path_table.proofs.PathTables.{place-push, path-is}
+use Rattle.path_table.proofs.PathTables.{cell-push, path-is}
 use Rattle.edit_plan.specs.inner.Sought.{path_below, sought_one, sought_from}
 use Rattle.edit_change.proofs.Paths.{same_path-true, same_path_from}
 
--- ---- lists by place
+-- ---- lists by cell
 pub pushed-nothing : (ls : List (Vec Sought Global)) (v : Vec Sought Global) → v.items ≡ [] → (k : ℕ) → sought_for (ls ++ v ∷ []) k ≡ sought_for ls k
 pushed-nothing [] v empty zero = ap sought_in empty
 pushed-nothing [] v empty (suc k) = refl
@@ -45,9 +45,9 @@ some-of : {X : Type 0} (xs : List X) (i : ℕ) → i < length xs → X
 some-of [] i within = absurd (omega (arith, within))
 some-of (x ∷ xs) i within = x
 
-module _ (old new : List (Vec Sought Global)) (place : ℕ) (s : Sought) (size-same : length new ≡ length old) (within : place < length old) (here : HasOneMore (λ v. v.items) old new place s) (elsewhere : StaysElsewhere (λ v. v.items) old new place) where
+module _ (old new : List (Vec Sought Global)) (cell : ℕ) (s : Sought) (size-same : length new ≡ length old) (within : cell < length old) (here : HasOneMore (λ v. v.items) old new cell s) (elsewhere : StaysElsewhere (λ v. v.items) old new cell) where
   abbrev d : Vec Sought Global
-  d = some-of old place within
+  d = some-of old cell within
 
   listed : (ls : List (Vec Sought Global)) (k : ℕ) → k < length ls → sought_for ls k ≡ sought_in (get_or ls k d).items
   listed ls k l = ap (λ o. option_map_or (λ v. sought_in v.items) o []) (slice_get-get_or ls k d l)
@@ -55,32 +55,32 @@ module _ (old new : List (Vec Sought Global)) (place : ℕ) (s : Sought) (size-s
   unlisted : (ls : List (Vec Sought Global)) (k : ℕ) → length ls ≤ k → sought_for ls k ≡ []
   unlisted ls k l = ap (λ o. option_map_or (λ v. sought_in v.items) o []) (slice_get_past ls k l)
 
-  pub pushed-one : (k : ℕ) → sought_for new k ≡ sought_for old k ++ cond (nat_eq place k) (sought_as s ∷ []) []
+  pub pushed-one : (k : ℕ) → sought_for new k ≡ sought_for old k ++ cond (nat_eq cell k) (sought_as s ∷ []) []
   pushed-one k =
-      elim (cases_eq k place) [
+      elim (cases_eq k cell) [
         | inl same ↦
             let l : k < length old = omega (arith, same, within) in
             let m : k < length new = omega (arith, l, size-same) in
-            listed new k m ∙ ap (λ i. sought_in (get_or new i d).items) same ∙ ap sought_in (here d) ∙ map-append sought_as (get_or old place d).items (s ∷ []) ∙ ap (λ i. sought_in (get_or old i d).items ++ sought_as s ∷ []) (sym same) ∙ ap (λ ms. ms ++ sought_as s ∷ []) (sym (listed old k l)) ∙ ap (λ b. sought_for old k ++ cond b (sought_as s ∷ []) []) (sym (eq-eqb place k (sym same)))
-        | inr other ↦ unchanged other ∙ sym (append-nil (sought_for old k)) ∙ ap (λ b. sought_for old k ++ cond b (sought_as s ∷ []) []) (sym (ne_eqb place k (λ e. other (sym e))))
+            listed new k m ∙ ap (λ i. sought_in (get_or new i d).items) same ∙ ap sought_in (here d) ∙ map-append sought_as (get_or old cell d).items (s ∷ []) ∙ ap (λ i. sought_in (get_or old i d).items ++ sought_as s ∷ []) (sym same) ∙ ap (λ ms. ms ++ sought_as s ∷ []) (sym (listed old k l)) ∙ ap (λ b. sought_for old k ++ cond b (sought_as s ∷ []) []) (sym (eq-eqb cell k (sym same)))
+        | inr other ↦ unchanged other ∙ sym (append-nil (sought_for old k)) ∙ ap (λ b. sought_for old k ++ cond b (sought_as s ∷ []) []) (sym (ne_eqb cell k (λ e. other (sym e))))
       ]
     where
-      unchanged : k ≢ place → sought_for new k ≡ sought_for old k
+      unchanged : k ≢ cell → sought_for new k ≡ sought_for old k
       unchanged other =
           elim (cases_lt k (length old)) [
             | inl is ↦ listed new k (omega (arith, is, size-same)) ∙ ap sought_in (elsewhere k d other) ∙ sym (listed old k (omega (arith, is)))
             | inr is ↦ unlisted new k (omega (arith, is, size-same)) ∙ sym (unlisted old k (omega (arith, is)))
           ]
 
--- ---- one mark more at the place below another one
-pub leads-further : (t u : PathTable) → IsGrown t u → (p : Path) (place slot next : ℕ) → place_at t p ≡ Some place → place_below u place slot ≡ Some next → place_at u (p ++ slot ∷ []) ≡ Some next
-leads-further t u grown p place slot next at leads = place-push u (Some 0) p slot ∙ ap (λ o. option_and_then (λ n. place_below u n slot) o) (grown.stay p place at) ∙ leads
+-- ---- one mark more at the cell below another one
+pub leads-further : (t u : PathTable) → IsGrown t u → (p : Path) (cell slot next : ℕ) → cell_at t p ≡ Some cell → cell_below u cell slot ≡ Some next → cell_at u (p ++ slot ∷ []) ≡ Some next
+leads-further t u grown p cell slot next at leads = cell-push u (Some 0) p slot ∙ ap (λ o. option_and_then (λ n. cell_below u n slot) o) (grown.stay p cell at) ∙ leads
 
 module _ (t u : PathTable) (old new : ℕ → List Marking) (grown : IsGrown t u) (unused : (k : ℕ) → size t < k → old k ≡ []) where
-  found-same : (q : Path) → option_map_or old (place_at u q) [] ≡ option_map_or old (place_at t q) []
-  found-same q = go (place_at u q) (place_at t q) refl refl
+  found-same : (q : Path) → option_map_or old (cell_at u q) [] ≡ option_map_or old (cell_at t q) []
+  found-same q = go (cell_at u q) (cell_at t q) refl refl
     where
-      go : (o w : Option ℕ) → place_at u q ≡ o → place_at t q ≡ w → option_map_or old o [] ≡ option_map_or old w []
+      go : (o w : Option ℕ) → cell_at u q ≡ o → cell_at t q ≡ w → option_map_or old o [] ≡ option_map_or old w []
       go None None now was = refl
       go None (Some k) now was = absurd (none-some k (sym now ∙ grown.stay q k was))
       go (Some m) (Some k) now was = ap old (same_Some m k (sym now ∙ grown.stay q k was))
@@ -90,28 +90,28 @@ module _ (t u : PathTable) (old new : ℕ → List Marking) (grown : IsGrown t u
             | inr older ↦ absurd (none-some m (sym was ∙ grown.older q m now (omega (arith, older))))
           ]
 
-  module _ (place slot next : ℕ) (m : Marking) (leads : place_below u place slot ≡ Some next) (more : (k : ℕ) → new k ≡ old k ++ cond (nat_eq next k) (m ∷ []) []) where
+  module _ (cell slot next : ℕ) (m : Marking) (leads : cell_below u cell slot ≡ Some next) (more : (k : ℕ) → new k ≡ old k ++ cond (nat_eq next k) (m ∷ []) []) where
     pub entered-unused : (k : ℕ) → size u < k → new k ≡ []
     entered-unused k later =
-        let there : next ≤ size u = (grown.tree.steps place slot next leads).1 in
+        let there : next ≤ size u = (grown.tree.steps cell slot next leads).1 in
         let apart : next ≢ k = omega (arith, later, there) in
         more k ∙ ap₂ (λ ms b. ms ++ cond b (m ∷ []) []) (unused k (omega (arith, later, grown.longer))) (ne_eqb next k apart)
 
-    module _ (p : Path) (at : place_at t p ≡ Some place) where
-      entered-leads : place_at u (p ++ slot ∷ []) ≡ Some next
-      entered-leads = leads-further t u grown p place slot next at leads
+    module _ (p : Path) (at : cell_at t p ≡ Some cell) where
+      entered-leads : cell_at u (p ++ slot ∷ []) ≡ Some next
+      entered-leads = leads-further t u grown p cell slot next at leads
 
-      pub entered : (q : Path) → option_map_or new (place_at u q) [] ≡ option_map_or old (place_at t q) [] ++ cond (same_path (p ++ slot ∷ []) q) (m ∷ []) []
+      pub entered : (q : Path) → option_map_or new (cell_at u q) [] ≡ option_map_or old (cell_at t q) [] ++ cond (same_path (p ++ slot ∷ []) q) (m ∷ []) []
       entered q =
           elim (cases_Bool (same_path (p ++ slot ∷ []) q)) [
             | inl same ↦
-                let there : place_at u q ≡ Some next = ap (place_at u) (sym (same_path-true (p ++ slot ∷ []) q same)) ∙ entered-leads in
-                let before : old next ≡ option_map_or old (place_at t q) [] = ap (λ o. option_map_or old o []) (sym there) ∙ found-same q in
+                let there : cell_at u q ≡ Some next = ap (cell_at u) (sym (same_path-true (p ++ slot ∷ []) q same)) ∙ entered-leads in
+                let before : old next ≡ option_map_or old (cell_at t q) [] = ap (λ o. option_map_or old o []) (sym there) ∙ found-same q in
                 ap (λ o. option_map_or new o []) there ∙ more next ∙ ap₂ (λ ms b. ms ++ cond b (m ∷ []) []) before (eq-eqb next next refl ∙ sym same)
-            | inr other ↦ go other (place_at u q) refl ∙ found-same q ∙ sym (append-nil (option_map_or old (place_at t q) [])) ∙ ap (λ b. option_map_or old (place_at t q) [] ++ cond b (m ∷ []) []) (sym other)
+            | inr other ↦ go other (cell_at u q) refl ∙ found-same q ∙ sym (append-nil (option_map_or old (cell_at t q) [])) ∙ ap (λ b. option_map_or old (cell_at t q) [] ++ cond b (m ∷ []) []) (sym other)
           ]
         where
-          go : same_path (p ++ slot ∷ []) q ≡ false → (o : Option ℕ) → place_at u q ≡ o → option_map_or new (place_at u q) [] ≡ option_map_or old (place_at u q) []
+          go : same_path (p ++ slot ∷ []) q ≡ false → (o : Option ℕ) → cell_at u q ≡ o → option_map_or new (cell_at u q) [] ≡ option_map_or old (cell_at u q) []
           go other None is = ap (λ o. option_map_or new o []) is ∙ sym (ap (λ o. option_map_or old o []) is)
           go other (Some k) is =
               let same-path : next ≡ k → p ++ slot ∷ [] ≡ q = λ e. sym (path-is u grown.tree (p ++ slot ∷ []) next entered-leads) ∙ ap grown.tree.paths.0 e ∙ path-is u grown.tree q k is in

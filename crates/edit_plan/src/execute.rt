@@ -24,7 +24,7 @@ impl EditPlan {
     /// It is an allowed order. Takes time near linear in the paths of the changes.
     pub fn default_order(&self, alloc: Global) -> Result<Vec<usize>, AllocError>
         ensures allowed { IfOk result (λ v. IsAllowed self.now.changes v.items) }
-        ensures placed { IfOk result (λ v. IsDefaultOrder self.now.changes v.items) }
+        ensures ordered { IfOk result (λ v. IsDefaultOrder self.now.changes v.items) }
     {
         default_order(alloc, &self.changes, &self.fates)
     }

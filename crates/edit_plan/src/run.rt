@@ -84,8 +84,8 @@ impl EditPlan {
             annotated,
         } = rewritten;
         // The number is drawn last, when nothing can fail any more.
-        let mut own = TreeIds::new(next_number(ids));
-        let new_root = SyntaxNode::new_root(alloc, &mut own, green)?;
+        let mut drawn = ids.ahead();
+        let new_root = SyntaxNode::new_root(alloc, &mut drawn, green)?;
         let changed = elements_at(alloc, &new_root, changed)?;
         let count = self.registrations.len();
         let annotated = elements_by_annotation(alloc, &new_root, count, annotated)?;
@@ -246,13 +246,6 @@ fn only_node(mut elements: Vec<GreenElement>) -> GreenNode
         Some(GreenElement::Token(_)) => unreachable!(),
         None => unreachable!(),
     }
-}
-
-// The number that comes next; 2^64 - 1 once there is none.
-fn next_number(ids: &TreeIds) -> u64
-    ensures { result ≡ ids.now }
-{
-    ids.peek().unwrap_or(u64::MAX)
 }
 
 // The elements that these paths lead to, counted from a root.

@@ -18,20 +18,20 @@ use std::alloc::{AllocError, Global};
 #[derive(Drop)]
 pub(crate) struct SoughtIndex<'a> {
     // The tree's number comes first on the path, and then come the slots.
-    places: PathTable,
-    // By place.
+    cells: PathTable,
+    // By cell.
     lists: Vec<Vec<Sought<'a>>>,
 }
 
 impl<'a> SoughtIndex<'a> {
-    // A table of nothing, with room for the lists of so many places.
-    fn with_capacity(alloc: Global, places: usize) -> Result<SoughtIndex<'a>, AllocError>
+    // A table of nothing, with room for the lists of so many cells.
+    fn with_capacity(alloc: Global, cells: usize) -> Result<SoughtIndex<'a>, AllocError>
         ensures index { IfOk result IsSoughtIndex }
         ensures empty { IfOk result (λ x. (a : Address) → sought_at x a ≡ []) }
     {
-        let lists = Vec::with_capacity(alloc, places)?;
-        let places = PathTable::with_capacity(alloc, places)?;
-        Ok(SoughtIndex { places, lists })
+        let lists = Vec::with_capacity(alloc, cells)?;
+        let cells = PathTable::with_capacity(alloc, cells)?;
+        Ok(SoughtIndex { cells, lists })
     }
 
     /// Whether nothing is registered. Where this says no, an element may still have none.
@@ -45,52 +45,50 @@ impl<'a> SoughtIndex<'a> {
     pub(crate) fn at(&self, element: &SyntaxElement) -> &[Sought<'a>]
         ensures { sought_in result.now ≡ sought_at self.now (address (element_of element.now)) }
     {
-        let tree = self
-            .places
-            .below(self.places.top(), element.tree() as usize);
-        let Some(place) = self.places.descend(tree, element.slots()) else {
+        let tree = self.cells.below(self.cells.top(), element.tree() as usize);
+        let Some(cell) = self.cells.descend(tree, element.slots()) else {
             return &[];
         };
-        if place >= self.lists.len() {
+        if cell >= self.lists.len() {
             return &[];
         }
-        self.lists[place].as_slice()
+        self.lists[cell].as_slice()
     }
 
-    // Lists for the places before this one.
-    fn make_room(&mut self, alloc: Global, place: usize) -> Result<(), AllocError>
-        ensures places { self.new.places ≡ self.old.places }
+    // Lists for the cells before this one.
+    fn make_room(&mut self, alloc: Global, cell: usize) -> Result<(), AllocError>
+        ensures cells { self.new.cells ≡ self.old.cells }
         ensures lists { HasSameLists self.old self.new }
-        ensures room { OnOk result (place ≤ length self.new.lists.items) }
+        ensures room { OnOk result (cell ≤ length self.new.lists.items) }
     {
-        for _ in self.lists.len()..place {
+        for _ in self.lists.len()..cell {
             self.lists.push(Vec::new(alloc))?;
         }
         Ok(())
     }
 
-    // One more mark in the list of a place that has one.
-    fn push_in(&mut self, place: usize, mark: Sought<'a>) -> Result<(), AllocError>
-        requires { place < length self.now.lists.items }
-        ensures places { self.new.places ≡ self.old.places }
+    // One more mark in the list of a cell that has one.
+    fn push_in(&mut self, cell: usize, mark: Sought<'a>) -> Result<(), AllocError>
+        requires { cell < length self.now.lists.items }
+        ensures cells { self.new.cells ≡ self.old.cells }
         ensures size { length self.new.lists.items ≡ length self.old.lists.items }
         ensures here { OnOk result
-            (HasOneMore (λ v. v.items) self.old.lists.items self.new.lists.items place mark.entry) }
+            (HasOneMore (λ v. v.items) self.old.lists.items self.new.lists.items cell mark.entry) }
         ensures elsewhere { OnOk result
-            (StaysElsewhere (λ v. v.items) self.old.lists.items self.new.lists.items place) }
+            (StaysElsewhere (λ v. v.items) self.old.lists.items self.new.lists.items cell) }
     {
-        self.lists[place].push(mark)?;
+        self.lists[cell].push(mark)?;
         Ok(())
     }
 
-    // One more mark in the list of a place, which is made where there is none.
-    fn push_at(&mut self, alloc: Global, place: usize, mark: Sought<'a>) -> Result<(), AllocError>
-        ensures places { self.new.places ≡ self.old.places }
-        ensures more { OnOk result (HasListedMore self.old self.new place (sought_as mark.entry)) }
+    // One more mark in the list of a cell, which is made where there is none.
+    fn push_at(&mut self, alloc: Global, cell: usize, mark: Sought<'a>) -> Result<(), AllocError>
+        ensures cells { self.new.cells ≡ self.old.cells }
+        ensures more { OnOk result (HasListedMore self.old self.new cell (sought_as mark.entry)) }
     {
-        self.make_room(alloc, place)?;
-        if place < self.lists.len() {
-            self.push_in(place, mark)?;
+        self.make_room(alloc, cell)?;
+        if cell < self.lists.len() {
+            self.push_in(cell, mark)?;
             return Ok(());
         }
         let list = vec![in alloc; mark]?;
@@ -98,19 +96,19 @@ impl<'a> SoughtIndex<'a> {
         Ok(())
     }
 
-    // One more mark at the place below another one, at a slot.
+    // One more mark at the cell below another one, at a slot.
     fn enter(
         &mut self,
         alloc: Global,
-        place: usize,
+        cell: usize,
         slot: usize,
         mark: Sought<'a>,
     ) -> Result<usize, AllocError>
         requires index { IsSoughtIndex self.old }
-        requires here { place ≤ size self.old.places }
-        ensures { IfOk result (λ next. IsMarkEntered self.old self.new place slot (sought_as mark.entry) next) }
+        requires here { cell ≤ size self.old.cells }
+        ensures { IfOk result (λ next. IsMarkEntered self.old self.new cell slot (sought_as mark.entry) next) }
     {
-        let next = self.places.enter(place, slot)?;
+        let next = self.cells.enter(cell, slot)?;
         self.push_at(alloc, next, mark)?;
         Ok(next)
     }
@@ -128,14 +126,14 @@ impl<'a> SoughtIndex<'a> {
     {
         let path = element.slots();
         let tree = element.tree() as usize;
-        let mut place = self.enter(alloc, 0, tree, Sought { number, path })?;
+        let mut cell = self.enter(alloc, 0, tree, Sought { number, path })?;
         for depth in 0..path.len() {
             let (_, below) = path.split_at(depth + 1);
             let mark = Sought {
                 number,
                 path: below,
             };
-            place = self.enter(alloc, place, path[depth], mark)?;
+            cell = self.enter(alloc, cell, path[depth], mark)?;
         }
         Ok(())
     }

@@ -1,6 +1,6 @@
 -- The names of the kinds, and where a name stands in a list of names.
---     item-option_copied      what a call of get lends is the item at that place
---     kind_at, kind_name-is   the kind at a place, if one was found; the same of the kinds' names, which differ
+--     item-option_copied      what a call of get lends is the item at that index
+--     kind_at, kind_name-is   the kind at an index, if one was found; the same of the kinds' names, which differ
 --     name_of-get             the name that a call of get gives
 --     All-equal               two functions that give the same list agree at each item
 use Rattle.std.proofs.Common.{◌≡◌, ℕ, zero, suc, ◌+◌, Bool, true, false, not, ◌&&◌, cond, List, [], ◌∷◌, length, map, slice_get, position, Option, Some, None, option_map, Bor, ◌↔◌, nat_eq, refl, sym, ap, ◌∙◌, arith}
@@ -28,8 +28,8 @@ abbrev differ : List Name → Bool
 differ [] = true
 differ (m ∷ ns) = not (list_any (pointwise nat_eq m) ns) && differ ns
 
-abbrev place_from : Name → ℕ → List Name → Option ℕ
-place_from n i ns = position_from (λ m. pointwise nat_eq m n) i ns
+abbrev index_from : Name → ℕ → List Name → Option ℕ
+index_from n i ns = position_from (λ m. pointwise nat_eq m n) i ns
 
 same : (m n : Name) → pointwise nat_eq m n ≡ true → m ≡ n
 same m n = (bytes_eq-Decides m n).0
@@ -42,15 +42,15 @@ and_right : (a b : Bool) → (a && b) ≡ true → b ≡ true
 and_right true b h = h
 and_right false b h = cc
 
-place-stands : (n : Name) (i : ℕ) (ns : List Name) (k : ℕ) → place_from n i ns ≡ Some k → (j : ℕ) × (k ≡ i + j) × (slice_get ns j ≡ Some n)
-place-stands n i [] k h = cc
-place-stands n i (m ∷ ns) k h =
-    let P : Bool → Type 0 = λ b. pointwise nat_eq m n ≡ b → cond b (Some i) (place_from n (i + 1) ns) ≡ Some k → (j : ℕ) × (k ≡ i + j) × (slice_get (m ∷ ns) j ≡ Some n) in
+index-stands : (n : Name) (i : ℕ) (ns : List Name) (k : ℕ) → index_from n i ns ≡ Some k → (j : ℕ) × (k ≡ i + j) × (slice_get ns j ≡ Some n)
+index-stands n i [] k h = cc
+index-stands n i (m ∷ ns) k h =
+    let P : Bool → Type 0 = λ b. pointwise nat_eq m n ≡ b → cond b (Some i) (index_from n (i + 1) ns) ≡ Some k → (j : ℕ) × (k ≡ i + j) × (slice_get (m ∷ ns) j ≡ Some n) in
     let found : i ≡ k → k ≡ i + 0 = λ e. omega arith in
     let on : (j : ℕ) → k ≡ (i + 1) + j → k ≡ i + suc j = λ j e. omega arith in
     (elim (pointwise nat_eq m n) as P [
       | true ↦ λ e g. (0, found (cc), ap Some (same m n e))
-      | false ↦ λ e g. let r = place-stands n (i + 1) ns k g in (suc r.0, on r.0 r.1, r.2)
+      | false ↦ λ e g. let r = index-stands n (i + 1) ns k g in (suc r.0, on r.0 r.1, r.2)
     ]) refl h
 
 fresh : (n m : Name) (ns : List Name) (j : ℕ) → not (list_any (pointwise nat_eq m) ns) ≡ true → slice_get ns j ≡ Some n → pointwise nat_eq m n ≡ false
@@ -61,36 +61,36 @@ fresh n m ns j d h =
       | false ↦ λ e. refl
     ]) refl
 
-place-of : (n : Name) (i : ℕ) (ns : List Name) (j : ℕ) → differ ns ≡ true → slice_get ns j ≡ Some n → place_from n i ns ≡ Some (i + j)
-place-of n i [] j d h = cc
-place-of n i (m ∷ ns) zero d h =
+index-of : (n : Name) (i : ℕ) (ns : List Name) (j : ℕ) → differ ns ≡ true → slice_get ns j ≡ Some n → index_from n i ns ≡ Some (i + j)
+index-of n i [] j d h = cc
+index-of n i (m ∷ ns) zero d h =
     let e : i ≡ i + 0 = omega arith in
-    ap (λ b. cond b (Some i) (place_from n (i + 1) ns)) ((bytes_eq-Decides m n).1 (cc)) ∙ ap Some e
-place-of n i (m ∷ ns) (suc j) d h =
+    ap (λ b. cond b (Some i) (index_from n (i + 1) ns)) ((bytes_eq-Decides m n).1 (cc)) ∙ ap Some e
+index-of n i (m ∷ ns) (suc j) d h =
     let new = fresh n m ns j (and_left _ _ d) h in
     let e : (i + 1) + j ≡ i + suc j = omega arith in
-    ap (λ b. cond b (Some i) (place_from n (i + 1) ns)) new ∙ place-of n (i + 1) ns j (and_right _ _ d) h ∙ ap Some e
+    ap (λ b. cond b (Some i) (index_from n (i + 1) ns)) new ∙ index-of n (i + 1) ns j (and_right _ _ d) h ∙ ap Some e
 
--- the place that is found for a name
-abbrev place_in : List (Bor Name) → Name → Option ℕ
-place_in es n = position (λ e. pointwise nat_eq e.now n) es
+-- the index that is found for a name
+abbrev index_in : List (Bor Name) → Name → Option ℕ
+index_in es n = position (λ e. pointwise nat_eq e.now n) es
 
-place_from-now : (n : Name) (i : ℕ) (es : List (Bor Name)) → position_from (λ e. pointwise nat_eq e.now n) i es ≡ place_from n i (map (λ e. e.now) es)
-place_from-now n i [] = refl
-place_from-now n i (e ∷ es) = ap (cond (pointwise nat_eq e.now n) (Some i)) (place_from-now n (i + 1) es)
+index_from-now : (n : Name) (i : ℕ) (es : List (Bor Name)) → position_from (λ e. pointwise nat_eq e.now n) i es ≡ index_from n i (map (λ e. e.now) es)
+index_from-now n i [] = refl
+index_from-now n i (e ∷ es) = ap (cond (pointwise nat_eq e.now n) (Some i)) (index_from-now n (i + 1) es)
 
-place_in-now : (es : List (Bor Name)) (ns : List Name) (n : Name) → map (λ e. e.now) es ≡ ns → place_in es n ≡ place_from n 0 ns
-place_in-now es ns n h = position_from-zero (λ e. pointwise nat_eq e.now n) es ∙ place_from-now n 0 es ∙ ap (place_from n 0) h
+index_in-now : (es : List (Bor Name)) (ns : List Name) (n : Name) → map (λ e. e.now) es ≡ ns → index_in es n ≡ index_from n 0 ns
+index_in-now es ns n h = position_from-zero (λ e. pointwise nat_eq e.now n) es ∙ index_from-now n 0 es ∙ ap (index_from n 0) h
 
 -- in a list of names that differ it is the one where the name stands
-place-is : (es : List (Bor Name)) (ns : List Name) → map (λ e. e.now) es ≡ ns → differ ns ≡ true → (n : Name) (k : ℕ) → (place_in es n ≡ Some k) ↔ (slice_get ns k ≡ Some n)
-place-is es ns h d n k =
-    let e = place_in-now es ns n h in (
-      λ g. let r = place-stands n 0 ns k (sym e ∙ g) in let same_place : r.0 ≡ k = omega arith in ap (slice_get ns) (sym same_place) ∙ r.2,
-      λ g. let zero_on : 0 + k ≡ k = omega arith in e ∙ place-of n 0 ns k d g ∙ ap Some zero_on,
+index-is : (es : List (Bor Name)) (ns : List Name) → map (λ e. e.now) es ≡ ns → differ ns ≡ true → (n : Name) (k : ℕ) → (index_in es n ≡ Some k) ↔ (slice_get ns k ≡ Some n)
+index-is es ns h d n k =
+    let e = index_in-now es ns n h in (
+      λ g. let r = index-stands n 0 ns k (sym e ∙ g) in let same_index : r.0 ≡ k = omega arith in ap (slice_get ns) (sym same_index) ∙ r.2,
+      λ g. let zero_on : 0 + k ≡ k = omega arith in e ∙ index-of n 0 ns k d g ∙ ap Some zero_on,
     )
 
--- the kind at a place, if one was found
+-- the kind at an index, if one was found
 abbrev pub kind_at : Option ℕ → Option SyntaxKind
 kind_at r = option_map (λ k. record { 0 = k }) r
 
@@ -100,9 +100,9 @@ kind_at-is (Some j) k =
     let number : Option SyntaxKind → Option ℕ = option_map (λ x. x.0) in
     (λ g. ap number g, λ g. ap kind_at g)
 
-pub kind_name-is : (es : List (Bor Name)) → map (λ e. e.now) es ≡ kind_names → (n : Name) (r : Option ℕ) → r ≡ place_in es n → (x : Option SyntaxKind) → x ≡ kind_at r → (k : ℕ) → (x ≡ Some (record { 0 = k })) ↔ (name_of k ≡ Some n)
+pub kind_name-is : (es : List (Bor Name)) → map (λ e. e.now) es ≡ kind_names → (n : Name) (r : Option ℕ) → r ≡ index_in es n → (x : Option SyntaxKind) → x ≡ kind_at r → (k : ℕ) → (x ≡ Some (record { 0 = k })) ↔ (name_of k ≡ Some n)
 kind_name-is es h n r e x f k =
-    let it = place-is es kind_names h refl n k in
+    let it = index-is es kind_names h refl n k in
     let kind = kind_at-is r k in (
       λ g. it.0 (sym e ∙ kind.0 (sym f ∙ g)),
       λ g. f ∙ kind.1 (e ∙ it.1 g),

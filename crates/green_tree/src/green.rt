@@ -50,7 +50,7 @@ pub enum GreenElement {
     Token(GreenToken),
 }
 
-/// A node: a kind and a list of nodes and tokens, shared. It knows neither its parent nor its place.
+/// A node: a kind and a list of nodes and tokens, shared. It knows neither its parent nor where it stands.
 #[cycle(green)]
 #[derive(Drop)]
 pub struct GreenNode {

@@ -84,8 +84,8 @@ fn kind_names() -> &'static [&'static str]
     &KIND_NAMES
 }
 
-// The place of a name in a list of names.
-fn place_of(names: &[&str], name: &str) -> Option<usize>
+// The index of a name in a list of names.
+fn index_of(names: &[&str], name: &str) -> Option<usize>
     ensures { result ≡ position (λ own. pointwise nat_eq own.now name.now) names.now }
 {
     names.iter().position(|own| *own == name)
@@ -233,7 +233,7 @@ impl SyntaxKind {
     pub fn from_name(name: &str) -> Option<SyntaxKind>
         ensures { (k : ℕ) → (result ≡ Some (record { 0 = k })) ↔ (name_of k ≡ Some name.now) }
     {
-        let number = place_of(kind_names(), name)?;
+        let number = index_of(kind_names(), name)?;
         Some(SyntaxKind(number as u16))
     }
 }

@@ -1,4 +1,4 @@
-//! Syntax trees that are shared: tokens and nodes that know neither their parents nor their places, and walks over them.
+//! Syntax trees that are shared: tokens and nodes that know neither their parents nor where they stand, and walks over them.
 #![tactic(auto)]
 
 mod error;

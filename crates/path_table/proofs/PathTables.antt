@@ -1,17 +1,17 @@
 -- What a path leads to in a table of numbers by path.
---     place-push, place-more        one slot more
---     none-below                    nothing is below a place that is missing
+--     cell-push, cell-more        one slot more
+--     none-below                    nothing is below a cell that is missing
 --     empty-tree                    a table of nothing
 --     leads-on, enter-more          what a path leads to stays where steps are added; one slot more then
---     grown                         one place more, below a place that had none at this slot
---     is-older                      a place that was there is led to as before
---     grown-on                      more places, and more again
+--     grown                         one cell more, below a cell that had none at this slot
+--     is-older                      a cell that was there is led to as before
+--     grown-on                      more cells, and more again
 --     grown-same                    the same steps and numbers
 --     step-entered, grown-as        a step that was there, or is there now; with another name for the table
---     tree-same                     the same places, with other numbers
---     within-at, path-is            a path leads to a place that there is, which has this path
---     number-read, number-set, put-number      a list of numbers, at a place; a table's, after one was put there
---     put-tree, entered             a number put at a place; at the place of a path
+--     tree-same                     the same cells, with other numbers
+--     within-at, path-is            a path leads to a cell that there is, which has this path
+--     number-read, number-set, put-number      a list of numbers, at a cell; a table's, after one was put there
+--     put-tree, entered             a number put at a cell; at the cell of a path
 use Rattle.std.specs.Prelude.{◌≡◌, ◌≢◌, ℕ, zero, suc, ◌+◌, ◌<◌, ◌≤◌, true, false, ◌&&◌, cond, nat_eq, [], ◌∷◌, ◌++◌, length, List, slice_get, slice_set, option_and_then, unwrap_or, is_some, if◌then◌else◌, Option, Some, None, IfSome, refl}
 use Rattle.std.specs.List.{fold}
 use Rattle.std.specs.Map.{lookup}
@@ -25,24 +25,24 @@ use Rattle.std.proofs.lemmas.Option.{none-some, same_Some, slice_get-get_or}
 use mathlib.Core.Logic.{inl, inr}
 use lib.Pointwise.{pointwise_decides}
 use Rattle.green_tree.specs.Path.{Path, same_path}
-use Rattle.path_table.specs.PathTable.{place_below, next_place, place_further, place_at, number_in, number_by_path, size, IsTree, IsGrown}
+use Rattle.path_table.specs.PathTable.{cell_below, next_cell, cell_further, cell_at, number_in, number_by_path, size, IsTree, IsGrown}
 use Rattle.path_table.specs.declared.table.PathTable.{PathTable}
 
-pub place-push : (t : PathTable) (o : Option ℕ) (p : Path) (i : ℕ) → place_further t o (p ++ i ∷ []) ≡ next_place t (place_further t o p) i
-place-push t o p i = fold-append (next_place t) o p (i ∷ [])
+pub cell-push : (t : PathTable) (o : Option ℕ) (p : Path) (i : ℕ) → cell_further t o (p ++ i ∷ []) ≡ next_cell t (cell_further t o p) i
+cell-push t o p i = fold-append (next_cell t) o p (i ∷ [])
 
-pub none-below : (t : PathTable) (p : Path) → fold (next_place t) None p ≡ None
+pub none-below : (t : PathTable) (p : Path) → fold (next_cell t) None p ≡ None
 none-below t [] = refl
 none-below t (i ∷ p) = none-below t p
 
-pub place-more : (t : PathTable) (from : Option ℕ) (p : Path) (k : ℕ) (o : Option ℕ) → k < length p → o ≡ place_further t from (take k p) → next_place t o (get_or p k 0) ≡ place_further t from (take (k + 1) p)
-place-more t from p k o l is =
-    ap (λ place. next_place t place (get_or p k 0)) is ∙ sym (ap (place_further t from) (take_more p k 0 l) ∙ place-push t from (take k p) (get_or p k 0))
+pub cell-more : (t : PathTable) (from : Option ℕ) (p : Path) (k : ℕ) (o : Option ℕ) → k < length p → o ≡ cell_further t from (take k p) → next_cell t o (get_or p k 0) ≡ cell_further t from (take (k + 1) p)
+cell-more t from p k o l is =
+    ap (λ cell. next_cell t cell (get_or p k 0)) is ∙ sym (ap (cell_further t from) (take_more p k 0 l) ∙ cell-push t from (take k p) (get_or p k 0))
 
 -- ---- a table of nothing
 pub empty-tree : (t : PathTable) → t.steps.entries ≡ [] → t.numbers.items ≡ [] → IsTree t
 empty-tree t no_steps no_numbers =
-    let nothing : (n i m : ℕ) → place_below t n i ≡ Some m → ⊥ = λ n i m h. none-some m (sym (ap (lookup (λ k. nat_eq n k.0 && nat_eq i k.1)) no_steps) ∙ h) in
+    let nothing : (n i m : ℕ) → cell_below t n i ≡ Some m → ⊥ = λ n i m h. none-some m (sym (ap (lookup (λ k. nat_eq n k.0 && nat_eq i k.1)) no_steps) ∙ h) in
     record {
       steps = λ n i m h. absurd (nothing n i m h);
       numbers = λ n x h. absurd (none-some x (sym (ap (λ xs. option_flatten (slice_get xs n)) no_numbers) ∙ h));
@@ -50,34 +50,34 @@ empty-tree t no_steps no_numbers =
     }
 
 -- ---- steps that are added
-module _ (t u : PathTable) (steps : (n i m : ℕ) → place_below t n i ≡ Some m → place_below u n i ≡ Some m) where
-  pub leads-on : (o : Option ℕ) (p : Path) (m : ℕ) → fold (next_place t) o p ≡ Some m → fold (next_place u) o p ≡ Some m
+module _ (t u : PathTable) (steps : (n i m : ℕ) → cell_below t n i ≡ Some m → cell_below u n i ≡ Some m) where
+  pub leads-on : (o : Option ℕ) (p : Path) (m : ℕ) → fold (next_cell t) o p ≡ Some m → fold (next_cell u) o p ≡ Some m
   leads-on o [] m h = h
   leads-on None (i ∷ p) m h = absurd (none-some m (sym (none-below t p) ∙ h))
-  leads-on (Some n) (i ∷ p) m h = go (place_below t n i) refl (λ k. leads-on (Some k) p m)
+  leads-on (Some n) (i ∷ p) m h = go (cell_below t n i) refl (λ k. leads-on (Some k) p m)
     where
-      go : (o : Option ℕ) → place_below t n i ≡ o → ((k : ℕ) → fold (next_place t) (Some k) p ≡ Some m → fold (next_place u) (Some k) p ≡ Some m) → fold (next_place u) (place_below u n i) p ≡ Some m
-      go None is rest = absurd (none-some m (sym (ap (λ o. fold (next_place t) o p) is ∙ none-below t p) ∙ h))
-      go (Some k) is rest = ap (λ o. fold (next_place u) o p) (steps n i k is) ∙ rest k (ap (λ o. fold (next_place t) o p) (sym is) ∙ h)
+      go : (o : Option ℕ) → cell_below t n i ≡ o → ((k : ℕ) → fold (next_cell t) (Some k) p ≡ Some m → fold (next_cell u) (Some k) p ≡ Some m) → fold (next_cell u) (cell_below u n i) p ≡ Some m
+      go None is rest = absurd (none-some m (sym (ap (λ o. fold (next_cell t) o p) is ∙ none-below t p) ∙ h))
+      go (Some k) is rest = ap (λ o. fold (next_cell u) o p) (steps n i k is) ∙ rest k (ap (λ o. fold (next_cell t) o p) (sym is) ∙ h)
 
-pub enter-more : (t u : PathTable) (p : Path) (k n m : ℕ) → k < length p → place_at t (take k p) ≡ Some n → IsGrown t u → place_below u n (get_or p k 0) ≡ Some m → place_at u (take (k + 1) p) ≡ Some m
+pub enter-more : (t u : PathTable) (p : Path) (k n m : ℕ) → k < length p → cell_at t (take k p) ≡ Some n → IsGrown t u → cell_below u n (get_or p k 0) ≡ Some m → cell_at u (take (k + 1) p) ≡ Some m
 enter-more t u p k n m l leads grown below =
-    sym (place-more u (Some 0) p k (Some n) l (sym (leads-on t u grown.steps (Some 0) (take k p) n leads))) ∙ below
+    sym (cell-more u (Some 0) p k (Some n) l (sym (leads-on t u grown.steps (Some 0) (take k p) n leads))) ∙ below
 
--- ---- one place more
-module _ (t u : PathTable) (n s : ℕ) (tree : IsTree t) (here : n ≤ size t) (free : place_below t n s ≡ None) (more : size u ≡ size t + 1) (same : u.numbers.items ≡ t.numbers.items) (put : (a i : ℕ) → place_below u a i ≡ cond (nat_eq n a && nat_eq s i) (Some (size t + 1)) (place_below t a i)) where
-  at-new : (a i : ℕ) → (nat_eq n a && nat_eq s i) ≡ true → place_below u a i ≡ Some (size t + 1)
-  at-new a i new = put a i ∙ ap (λ b. cond b (Some (size t + 1)) (place_below t a i)) new
+-- ---- one cell more
+module _ (t u : PathTable) (n s : ℕ) (tree : IsTree t) (here : n ≤ size t) (free : cell_below t n s ≡ None) (more : size u ≡ size t + 1) (same : u.numbers.items ≡ t.numbers.items) (put : (a i : ℕ) → cell_below u a i ≡ cond (nat_eq n a && nat_eq s i) (Some (size t + 1)) (cell_below t a i)) where
+  at-new : (a i : ℕ) → (nat_eq n a && nat_eq s i) ≡ true → cell_below u a i ≡ Some (size t + 1)
+  at-new a i new = put a i ∙ ap (λ b. cond b (Some (size t + 1)) (cell_below t a i)) new
 
-  at-old : (a i : ℕ) → (nat_eq n a && nat_eq s i) ≡ false → place_below u a i ≡ place_below t a i
-  at-old a i old = put a i ∙ ap (λ b. cond b (Some (size t + 1)) (place_below t a i)) old
+  at-old : (a i : ℕ) → (nat_eq n a && nat_eq s i) ≡ false → cell_below u a i ≡ cell_below t a i
+  at-old a i old = put a i ∙ ap (λ b. cond b (Some (size t + 1)) (cell_below t a i)) old
 
-  was-free : (a i : ℕ) → (nat_eq n a && nat_eq s i) ≡ true → place_below t a i ≡ None
+  was-free : (a i : ℕ) → (nat_eq n a && nat_eq s i) ≡ true → cell_below t a i ≡ None
   was-free a i new =
       let parts = and_parts (nat_eq n a) (nat_eq s i) new in
-      ap (λ b. place_below t b i) (sym (eqb-true n a parts.0)) ∙ ap (place_below t n) (sym (eqb-true s i parts.1)) ∙ free
+      ap (λ b. cell_below t b i) (sym (eqb-true n a parts.0)) ∙ ap (cell_below t n) (sym (eqb-true s i parts.1)) ∙ free
 
-  steps-stay : (a i m : ℕ) → place_below t a i ≡ Some m → place_below u a i ≡ Some m
+  steps-stay : (a i m : ℕ) → cell_below t a i ≡ Some m → cell_below u a i ≡ Some m
   steps-stay a i m h =
       elim (cases_Bool (nat_eq n a && nat_eq s i)) [
         | inl new ↦ absurd (none-some m (sym (was-free a i new) ∙ h))
@@ -88,13 +88,13 @@ module _ (t u : PathTable) (n s : ℕ) (tree : IsTree t) (here : n ≤ size t) (
   number-same None = refl
   number-same (Some a) = ap (λ xs. option_flatten (slice_get xs a)) same
 
-  -- the new place has no number, and nothing below it
-  nothing-below : (i : ℕ) → place_below u (size t + 1) i ≡ None
+  -- the new cell has no number, and nothing below it
+  nothing-below : (i : ℕ) → cell_below u (size t + 1) i ≡ None
   nothing-below i =
       let apart : n ≢ size t + 1 = omega (arith, here) in
-      at-old (size t + 1) i (and_left (nat_eq n (size t + 1)) (nat_eq s i) (ne_eqb n (size t + 1) apart)) ∙ go (place_below t (size t + 1) i) refl
+      at-old (size t + 1) i (and_left (nat_eq n (size t + 1)) (nat_eq s i) (ne_eqb n (size t + 1) apart)) ∙ go (cell_below t (size t + 1) i) refl
     where
-      go : (o : Option ℕ) → place_below t (size t + 1) i ≡ o → place_below t (size t + 1) i ≡ None
+      go : (o : Option ℕ) → cell_below t (size t + 1) i ≡ o → cell_below t (size t + 1) i ≡ None
       go None is = is
       go (Some m) is = absurd (omega (arith, (tree.steps (size t + 1) i m is).0))
 
@@ -105,37 +105,37 @@ module _ (t u : PathTable) (n s : ℕ) (tree : IsTree t) (here : n ≤ size t) (
       go None is = is
       go (Some x) is = absurd (omega (arith, tree.numbers (size t + 1) x is))
 
-  new-number : (p : Path) → number_in u (fold (next_place u) (Some (size t + 1)) p) ≡ None
+  new-number : (p : Path) → number_in u (fold (next_cell u) (Some (size t + 1)) p) ≡ None
   new-number [] = number-same (Some (size t + 1)) ∙ no-number
-  new-number (i ∷ p) = ap (λ o. number_in u (fold (next_place u) o p)) (nothing-below i) ∙ ap (number_in u) (none-below u p)
+  new-number (i ∷ p) = ap (λ o. number_in u (fold (next_cell u) o p)) (nothing-below i) ∙ ap (number_in u) (none-below u p)
 
-  numbers-stay : (o : Option ℕ) (p : Path) → number_in u (fold (next_place u) o p) ≡ number_in t (fold (next_place t) o p)
+  numbers-stay : (o : Option ℕ) (p : Path) → number_in u (fold (next_cell u) o p) ≡ number_in t (fold (next_cell t) o p)
   numbers-stay None p = ap (number_in u) (none-below u p) ∙ sym (ap (number_in t) (none-below t p))
   numbers-stay (Some a) [] = number-same (Some a)
-  numbers-stay (Some a) (i ∷ p) = go (numbers-stay (place_below t a i) p)
+  numbers-stay (Some a) (i ∷ p) = go (numbers-stay (cell_below t a i) p)
     where
-      go : number_in u (fold (next_place u) (place_below t a i) p) ≡ number_in t (fold (next_place t) (place_below t a i) p) → number_in u (fold (next_place u) (place_below u a i) p) ≡ number_in t (fold (next_place t) (place_below t a i) p)
+      go : number_in u (fold (next_cell u) (cell_below t a i) p) ≡ number_in t (fold (next_cell t) (cell_below t a i) p) → number_in u (fold (next_cell u) (cell_below u a i) p) ≡ number_in t (fold (next_cell t) (cell_below t a i) p)
       go rest =
           elim (cases_Bool (nat_eq n a && nat_eq s i)) [
-            | inl new ↦ ap (λ o. number_in u (fold (next_place u) o p)) (at-new a i new) ∙ new-number p ∙ sym (ap (λ o. number_in t (fold (next_place t) o p)) (was-free a i new) ∙ ap (number_in t) (none-below t p))
-            | inr old ↦ ap (λ o. number_in u (fold (next_place u) o p)) (at-old a i old) ∙ rest
+            | inl new ↦ ap (λ o. number_in u (fold (next_cell u) o p)) (at-new a i new) ∙ new-number p ∙ sym (ap (λ o. number_in t (fold (next_cell t) o p)) (was-free a i new) ∙ ap (number_in t) (none-below t p))
+            | inr old ↦ ap (λ o. number_in u (fold (next_cell u) o p)) (at-old a i old) ∙ rest
           ]
 
-  -- a place that was there before is led to as before
-  is-older : (o : Option ℕ) (p : Path) (m : ℕ) → place_further u o p ≡ Some m → m ≤ size t → place_further t o p ≡ Some m
+  -- a cell that was there before is led to as before
+  is-older : (o : Option ℕ) (p : Path) (m : ℕ) → cell_further u o p ≡ Some m → m ≤ size t → cell_further t o p ≡ Some m
   is-older None p m h l = absurd (none-some m (sym (none-below u p) ∙ h))
   is-older (Some a) [] m h l = h
   is-older (Some a) (i ∷ p) m h l =
       elim (cases_Bool (nat_eq n a && nat_eq s i)) [
-        | inl new ↦ absurd (not-new p (sym (ap (λ o. place_further u o p) (at-new a i new)) ∙ h))
-        | inr old ↦ is-older (place_below t a i) p m (sym (ap (λ o. place_further u o p) (at-old a i old)) ∙ h) l
+        | inl new ↦ absurd (not-new p (sym (ap (λ o. cell_further u o p) (at-new a i new)) ∙ h))
+        | inr old ↦ is-older (cell_below t a i) p m (sym (ap (λ o. cell_further u o p) (at-old a i old)) ∙ h) l
       ]
     where
-      not-new : (p : Path) → place_further u (Some (size t + 1)) p ≡ Some m → ⊥
+      not-new : (p : Path) → cell_further u (Some (size t + 1)) p ≡ Some m → ⊥
       not-new [] h = let is : size t + 1 ≡ m = same_Some (size t + 1) m h in omega (arith, is, l)
-      not-new (j ∷ q) h = none-some m (sym (ap (λ o. place_further u o q) (nothing-below j) ∙ none-below u q) ∙ h)
+      not-new (j ∷ q) h = none-some m (sym (ap (λ o. cell_further u o q) (nothing-below j) ∙ none-below u q) ∙ h)
 
-  steps-more : (a i m : ℕ) → place_below u a i ≡ Some m → (a ≤ size u) × (m ≤ size u)
+  steps-more : (a i m : ℕ) → cell_below u a i ≡ Some m → (a ≤ size u) × (m ≤ size u)
   steps-more a i m h =
       elim (cases_Bool (nat_eq n a && nat_eq s i)) [
         | inl new ↦
@@ -155,7 +155,7 @@ module _ (t u : PathTable) (n s : ℕ) (tree : IsTree t) (here : n ≤ size t) (
       let apart : k ≢ size t + 1 = omega (arith, l) in
       ap (λ b. cond b (tree.paths.0 n ++ s ∷ []) (tree.paths.0 k)) (ne_eqb k (size t + 1) apart)
 
-  path-below : (a i m : ℕ) → place_below u a i ≡ Some m → path-of m ≡ path-of a ++ i ∷ []
+  path-below : (a i m : ℕ) → cell_below u a i ≡ Some m → path-of m ≡ path-of a ++ i ∷ []
   path-below a i m h =
       elim (cases_Bool (nat_eq n a && nat_eq s i)) [
         | inl new ↦
@@ -163,7 +163,7 @@ module _ (t u : PathTable) (n s : ℕ) (tree : IsTree t) (here : n ≤ size t) (
             let last : size t + 1 ≡ m = same_Some (size t + 1) m (sym (at-new a i new) ∙ h) in
             ap (λ b. cond b (tree.paths.0 n ++ s ∷ []) (tree.paths.0 m)) (eq-eqb m (size t + 1) (sym last)) ∙ ap (λ j. tree.paths.0 n ++ j ∷ []) (eqb-true s i parts.1) ∙ ap (λ p. p ++ i ∷ []) (sym (path-before n here) ∙ ap path-of (eqb-true n a parts.0))
         | inr old ↦
-            let was : place_below t a i ≡ Some m = sym (at-old a i old) ∙ h in
+            let was : cell_below t a i ≡ Some m = sym (at-old a i old) ∙ h in
             let before = tree.steps a i m was in
             path-before m before.1 ∙ tree.paths.2 a i m was ∙ ap (λ p. p ++ i ∷ []) (sym (path-before a before.0))
       ]
@@ -182,7 +182,7 @@ module _ (t u : PathTable) (n s : ℕ) (tree : IsTree t) (here : n ≤ size t) (
     };
   }
 
--- ---- more and more places
+-- ---- more and more cells
 pub grown-on : (t u v : PathTable) → IsGrown t u → IsGrown u v → IsGrown t v
 grown-on t u v first second = record {
   steps = λ n i m h. second.steps n i m (first.steps n i m h);
@@ -193,24 +193,24 @@ grown-on t u v first second = record {
   tree = second.tree;
 }
 
--- ---- the same places and numbers
-module _ (t u : PathTable) (tree : IsTree t) (below : (n i : ℕ) → place_below u n i ≡ place_below t n i) (long : size u ≡ size t) (same : u.numbers.items ≡ t.numbers.items) where
+-- ---- the same cells and numbers
+module _ (t u : PathTable) (tree : IsTree t) (below : (n i : ℕ) → cell_below u n i ≡ cell_below t n i) (long : size u ≡ size t) (same : u.numbers.items ≡ t.numbers.items) where
   number-kept : (o : Option ℕ) → number_in u o ≡ number_in t o
   number-kept None = refl
   number-kept (Some a) = ap (λ xs. option_flatten (slice_get xs a)) same
 
-  place-kept : (o : Option ℕ) (p : Path) → place_further u o p ≡ place_further t o p
-  place-kept o [] = refl
-  place-kept None (i ∷ p) = place-kept None p
-  place-kept (Some a) (i ∷ p) = ap (λ o. place_further u o p) (below a i) ∙ place-kept (place_below t a i) p
+  cell-kept : (o : Option ℕ) (p : Path) → cell_further u o p ≡ cell_further t o p
+  cell-kept o [] = refl
+  cell-kept None (i ∷ p) = cell-kept None p
+  cell-kept (Some a) (i ∷ p) = ap (λ o. cell_further u o p) (below a i) ∙ cell-kept (cell_below t a i) p
 
   pub grown-same : IsGrown t u
   grown-same = record {
     steps = λ n i m h. below n i ∙ h;
     longer = omega (arith, long);
-    stay = λ p m h. place-kept (Some 0) p ∙ h;
-    older = λ p m h l. sym (place-kept (Some 0) p) ∙ h;
-    numbers = λ p. number-kept (place_at u p) ∙ ap (number_in t) (place-kept (Some 0) p);
+    stay = λ p m h. cell-kept (Some 0) p ∙ h;
+    older = λ p m h l. sym (cell-kept (Some 0) p) ∙ h;
+    numbers = λ p. number-kept (cell_at u p) ∙ ap (number_in t) (cell-kept (Some 0) p);
     tree = record {
       steps = λ n i m h. let before = tree.steps n i m (sym (below n i) ∙ h) in (omega (arith, before.0, long), omega (arith, before.1, long));
       numbers = λ n x h. let before : n ≤ size t = tree.numbers n x (sym (number-kept (Some n)) ∙ h) in omega (arith, before, long);
@@ -219,29 +219,29 @@ module _ (t u : PathTable) (tree : IsTree t) (below : (n i : ℕ) → place_belo
   }
 
 -- ---- a step that was there, or is there now
-pub step-entered : (t u : PathTable) (n s : ℕ) (o : Option ℕ) → IsTree t → n ≤ size t → o ≡ place_below t n s → size u ≡ size t + (if is_some o then 0 else 1) → u.numbers.items ≡ t.numbers.items → ((a i : ℕ) → place_below u a i ≡ cond (nat_eq n a && nat_eq s i) (Some (unwrap_or o (size t + 1))) (place_below t a i)) → IsGrown t u
+pub step-entered : (t u : PathTable) (n s : ℕ) (o : Option ℕ) → IsTree t → n ≤ size t → o ≡ cell_below t n s → size u ≡ size t + (if is_some o then 0 else 1) → u.numbers.items ≡ t.numbers.items → ((a i : ℕ) → cell_below u a i ≡ cond (nat_eq n a && nat_eq s i) (Some (unwrap_or o (size t + 1))) (cell_below t a i)) → IsGrown t u
 step-entered t u n s None tree here is long same put = grown t u n s tree here (sym is) long same put
 step-entered t u n s (Some m) tree here is long same put = grown-same t u tree kept (omega (arith, long)) same
   where
-    kept : (a i : ℕ) → place_below u a i ≡ place_below t a i
+    kept : (a i : ℕ) → cell_below u a i ≡ cell_below t a i
     kept a i =
         elim (cases_Bool (nat_eq n a && nat_eq s i)) [
-          | inl at ↦ (let parts = and_parts (nat_eq n a) (nat_eq s i) at in put a i ∙ ap (λ b. cond b (Some m) (place_below t a i)) at ∙ is ∙ ap (λ b. place_below t b s) (eqb-true n a parts.0) ∙ ap (place_below t a) (eqb-true s i parts.1))
-          | inr other ↦ put a i ∙ ap (λ b. cond b (Some m) (place_below t a i)) other
+          | inl at ↦ (let parts = and_parts (nat_eq n a) (nat_eq s i) at in put a i ∙ ap (λ b. cond b (Some m) (cell_below t a i)) at ∙ is ∙ ap (λ b. cell_below t b s) (eqb-true n a parts.0) ∙ ap (cell_below t a) (eqb-true s i parts.1))
+          | inr other ↦ put a i ∙ ap (λ b. cond b (Some m) (cell_below t a i)) other
         ]
 
 pub grown-as : {t u v : PathTable} → v ≡ u → IsGrown t u → IsGrown t v
 grown-as {t} is grown = subst (IsGrown t) (sym is) grown
 
--- ---- no place more
+-- ---- no cell more
 module _ (t u : PathTable) (tree : IsTree t) (steps : u.steps.entries ≡ t.steps.entries) where
-  places-same : (q : Path) → place_at u q ≡ place_at t q
-  places-same q = ap (λ es. fold (λ o i. option_and_then (λ n. lookup (λ k. nat_eq n k.0 && nat_eq i k.1) es) o) (Some 0) q) steps
+  cells-same : (q : Path) → cell_at u q ≡ cell_at t q
+  cells-same q = ap (λ es. fold (λ o i. option_and_then (λ n. lookup (λ k. nat_eq n k.0 && nat_eq i k.1) es) o) (Some 0) q) steps
 
-  below-same : (n i : ℕ) → place_below u n i ≡ place_below t n i
+  below-same : (n i : ℕ) → cell_below u n i ≡ cell_below t n i
   below-same n i = ap (lookup (λ k. nat_eq n k.0 && nat_eq i k.1)) steps
 
-  -- whatever numbers there are, at places that there are
+  -- whatever numbers there are, at cells that there are
   pub tree-same : ((n x : ℕ) → number_in u (Some n) ≡ Some x → n ≤ size t) → IsTree u
   tree-same numbers =
       let long : size u ≡ size t = ap length steps in
@@ -274,7 +274,7 @@ number-set xs n k x l =
     set-other (y ∷ ys) (suc i) zero d = refl
     set-other (y ∷ ys) (suc i) (suc j) d = set-other ys i j (λ e. d (ap suc e))
 
-pub put-number : (t r : PathTable) (n x : ℕ) (o : Option ℕ) → n < length r.numbers.items → ((place : Option ℕ) → number_in r place ≡ number_in t place) → o ≡ Some x → (k : ℕ) → number_in (record { steps = r.steps; numbers = with_item r.numbers n o }) (Some k) ≡ cond (nat_eq n k) (Some x) (number_in t (Some k))
+pub put-number : (t r : PathTable) (n x : ℕ) (o : Option ℕ) → n < length r.numbers.items → ((cell : Option ℕ) → number_in r cell ≡ number_in t cell) → o ≡ Some x → (k : ℕ) → number_in (record { steps = r.steps; numbers = with_item r.numbers n o }) (Some k) ≡ cond (nat_eq n k) (Some x) (number_in t (Some k))
 put-number t r n x o within same is k =
     ap (λ o. option_flatten (slice_get (slice_set r.numbers.items n o) k)) is ∙ number-set r.numbers.items n k x within ∙ ap (cond (nat_eq n k) (Some x)) (same (Some k))
 
@@ -283,31 +283,31 @@ decides : (p q : Path) → (same_path p q ≡ true → p ≡ q) × (p ≡ q → 
 decides = pointwise_decides (λ x y. (eqb-true x y, eq-eqb x y))
 
 module _ (t : PathTable) (tree : IsTree t) where
-  place-within : (o : Option ℕ) (p : Path) (m : ℕ) → IfSome o (λ a. a ≤ size t) → fold (next_place t) o p ≡ Some m → m ≤ size t
-  place-within None p m w h = absurd (none-some m (sym (none-below t p) ∙ h))
-  place-within (Some a) [] m w h = let is : a ≡ m = same_Some a m h in omega (arith, w, is)
-  place-within (Some a) (i ∷ p) m w h = place-within (place_below t a i) p m (there (place_below t a i) refl) h
+  cell-within : (o : Option ℕ) (p : Path) (m : ℕ) → IfSome o (λ a. a ≤ size t) → fold (next_cell t) o p ≡ Some m → m ≤ size t
+  cell-within None p m w h = absurd (none-some m (sym (none-below t p) ∙ h))
+  cell-within (Some a) [] m w h = let is : a ≡ m = same_Some a m h in omega (arith, w, is)
+  cell-within (Some a) (i ∷ p) m w h = cell-within (cell_below t a i) p m (there (cell_below t a i) refl) h
     where
-      there : (o : Option ℕ) → place_below t a i ≡ o → IfSome o (λ b. b ≤ size t)
+      there : (o : Option ℕ) → cell_below t a i ≡ o → IfSome o (λ b. b ≤ size t)
       there None is = tt
       there (Some k) is = (tree.steps a i k is).1
 
-  pub within-at : (p : Path) (m : ℕ) → place_at t p ≡ Some m → m ≤ size t
-  within-at p m h = place-within (Some 0) p m (omega arith) h
+  pub within-at : (p : Path) (m : ℕ) → cell_at t p ≡ Some m → m ≤ size t
+  within-at p m h = cell-within (Some 0) p m (omega arith) h
 
-  path-told : (a : ℕ) (p : Path) (m : ℕ) → fold (next_place t) (Some a) p ≡ Some m → tree.paths.0 m ≡ tree.paths.0 a ++ p
+  path-told : (a : ℕ) (p : Path) (m : ℕ) → fold (next_cell t) (Some a) p ≡ Some m → tree.paths.0 m ≡ tree.paths.0 a ++ p
   path-told a [] m h = ap tree.paths.0 (sym (same_Some a m h)) ∙ sym (append-nil (tree.paths.0 a))
-  path-told a (i ∷ p) m h = go (place_below t a i) refl (λ k. path-told k p m)
+  path-told a (i ∷ p) m h = go (cell_below t a i) refl (λ k. path-told k p m)
     where
-      go : (o : Option ℕ) → place_below t a i ≡ o → ((k : ℕ) → fold (next_place t) (Some k) p ≡ Some m → tree.paths.0 m ≡ tree.paths.0 k ++ p) → tree.paths.0 m ≡ tree.paths.0 a ++ i ∷ p
-      go None is rest = absurd (none-some m (sym (ap (λ o. fold (next_place t) o p) is ∙ none-below t p) ∙ h))
+      go : (o : Option ℕ) → cell_below t a i ≡ o → ((k : ℕ) → fold (next_cell t) (Some k) p ≡ Some m → tree.paths.0 m ≡ tree.paths.0 k ++ p) → tree.paths.0 m ≡ tree.paths.0 a ++ i ∷ p
+      go None is rest = absurd (none-some m (sym (ap (λ o. fold (next_cell t) o p) is ∙ none-below t p) ∙ h))
       go (Some k) is rest =
-          rest k (ap (λ o. fold (next_place t) o p) (sym is) ∙ h) ∙ ap (λ q. q ++ p) (tree.paths.2 a i k is) ∙ append_assoc (tree.paths.0 a) (i ∷ []) p
+          rest k (ap (λ o. fold (next_cell t) o p) (sym is) ∙ h) ∙ ap (λ q. q ++ p) (tree.paths.2 a i k is) ∙ append_assoc (tree.paths.0 a) (i ∷ []) p
 
-  pub path-is : (p : Path) (m : ℕ) → place_at t p ≡ Some m → tree.paths.0 m ≡ p
+  pub path-is : (p : Path) (m : ℕ) → cell_at t p ≡ Some m → tree.paths.0 m ≡ p
   path-is p m h = path-told 0 p m h ∙ ap (λ q. q ++ p) tree.paths.1
 
-  -- ---- a number put at a place
+  -- ---- a number put at a cell
   pub put-tree : (u : PathTable) (m x : ℕ) → m ≤ size t → u.steps.entries ≡ t.steps.entries → ((n : ℕ) → number_in u (Some n) ≡ cond (nat_eq m n) (Some x) (number_in t (Some n))) → IsTree u
   put-tree u m x here steps put = tree-same t u tree steps numbered
     where
@@ -318,12 +318,12 @@ module _ (t : PathTable) (tree : IsTree t) where
             | inr other ↦ tree.numbers n y (sym (put n ∙ ap (λ b. cond b (Some x) (number_in t (Some n))) other) ∙ h)
           ]
 
-  -- ---- at the place of a path
-  module _ (u : PathTable) (p : Path) (m x : ℕ) (leads : place_at t p ≡ Some m) (steps : u.steps.entries ≡ t.steps.entries) (put : (n : ℕ) → number_in u (Some n) ≡ cond (nat_eq m n) (Some x) (number_in t (Some n))) where
-    at-other : (q : Path) → same_path q p ≡ false → number_in u (place_at t q) ≡ number_in t (place_at t q)
-    at-other q other = go (place_at t q) refl
+  -- ---- at the cell of a path
+  module _ (u : PathTable) (p : Path) (m x : ℕ) (leads : cell_at t p ≡ Some m) (steps : u.steps.entries ≡ t.steps.entries) (put : (n : ℕ) → number_in u (Some n) ≡ cond (nat_eq m n) (Some x) (number_in t (Some n))) where
+    at-other : (q : Path) → same_path q p ≡ false → number_in u (cell_at t q) ≡ number_in t (cell_at t q)
+    at-other q other = go (cell_at t q) refl
       where
-        go : (o : Option ℕ) → place_at t q ≡ o → number_in u o ≡ number_in t o
+        go : (o : Option ℕ) → cell_at t q ≡ o → number_in u o ≡ number_in t o
         go None is = refl
         go (Some k) is =
             let apart : m ≡ k → ⊥ = λ e. true≢false (sym ((decides q p).1 (sym (path-is q k is) ∙ ap tree.paths.0 (sym e) ∙ path-is p m leads)) ∙ other) in
@@ -331,7 +331,7 @@ module _ (t : PathTable) (tree : IsTree t) where
 
     pub entered : (q : Path) → number_by_path u q ≡ cond (same_path q p) (Some x) (number_by_path t q)
     entered q =
-        ap (number_in u) (places-same t u tree steps q) ∙ (elim (cases_Bool (same_path q p)) [
-          | inl here ↦ ap (number_in u) (ap (place_at t) ((decides q p).0 here) ∙ leads) ∙ put m ∙ ap (λ b. cond b (Some x) (number_in t (Some m))) (eq-eqb m m refl) ∙ sym (ap (λ b. cond b (Some x) (number_by_path t q)) here)
+        ap (number_in u) (cells-same t u tree steps q) ∙ (elim (cases_Bool (same_path q p)) [
+          | inl here ↦ ap (number_in u) (ap (cell_at t) ((decides q p).0 here) ∙ leads) ∙ put m ∙ ap (λ b. cond b (Some x) (number_in t (Some m))) (eq-eqb m m refl) ∙ sym (ap (λ b. cond b (Some x) (number_by_path t q)) here)
           | inr other ↦ at-other q other ∙ sym (ap (λ b. cond b (Some x) (number_by_path t q)) other)
         ])

@@ -1,13 +1,13 @@
 -- Numbers by path, as a table in code has them.
---     place_below, next_place       the place below a place, at a slot; below a place that may be missing
---     place_further, place_at       the place that a path leads to from a place that may be missing; from the top, if there is one
---     number_in, number_by_path     the number of a place that may be missing; that of the place of a path
---     SamePlaces, SameNumbers       two tables lead each path to the same place; they have the same number at each path
+--     cell_below, next_cell       the cell below a cell, at a slot; below a cell that may be missing
+--     cell_further, cell_at       the cell that a path leads to from a cell that may be missing; from the top, if there is one
+--     number_in, number_by_path     the number of a cell that may be missing; that of the cell of a path
+--     SameCells, SameNumbers       two tables lead each path to the same cell; they have the same number at each path
 --     IsPut                         one path has this number now, and the others what they had
---     size                          how many places there are below the top
---     HasPaths                      each place can be told its path, which is that of the place above it with one slot more
---     IsTree                        such a table, in which no other places are named than there are
---     IsGrown                       with more places, which have no number, and are counted after the older ones
+--     size                          how many cells there are below the top
+--     HasPaths                      each cell can be told its path, which is that of the cell above it with one slot more
+--     IsTree                        such a table, in which no other cells are named than there are
+--     IsGrown                       with more cells, which have no number, and are counted after the older ones
 use Rattle.std.specs.Prelude.{◌≡◌, ℕ, ◌≤◌, ◌&&◌, cond, nat_eq, [], ◌∷◌, ◌++◌, slice_get, option_and_then, Option, Some}
 use Rattle.std.specs.List.{fold}
 use Rattle.std.specs.Option.{option_flatten}
@@ -15,26 +15,26 @@ use Rattle.std.specs.HashMap.{get_by, hash_map_len}
 use Rattle.green_tree.specs.Path.{Path, same_path}
 use Rattle.path_table.specs.declared.table.PathTable.{PathTable}
 
-abbrev pub place_below : PathTable → ℕ → ℕ → Option ℕ
-place_below t n i = get_by (λ k. nat_eq n k.0 && nat_eq i k.1) t.steps
+abbrev pub cell_below : PathTable → ℕ → ℕ → Option ℕ
+cell_below t n i = get_by (λ k. nat_eq n k.0 && nat_eq i k.1) t.steps
 
-abbrev pub next_place : PathTable → Option ℕ → ℕ → Option ℕ
-next_place t place i = option_and_then (λ n. place_below t n i) place
+abbrev pub next_cell : PathTable → Option ℕ → ℕ → Option ℕ
+next_cell t cell i = option_and_then (λ n. cell_below t n i) cell
 
-abbrev pub place_further : PathTable → Option ℕ → Path → Option ℕ
-place_further t place p = fold (next_place t) place p
+abbrev pub cell_further : PathTable → Option ℕ → Path → Option ℕ
+cell_further t cell p = fold (next_cell t) cell p
 
-abbrev pub place_at : PathTable → Path → Option ℕ
-place_at t p = place_further t (Some 0) p
+abbrev pub cell_at : PathTable → Path → Option ℕ
+cell_at t p = cell_further t (Some 0) p
 
 abbrev pub number_in : PathTable → Option ℕ → Option ℕ
-number_in t place = option_and_then (λ n. option_flatten (slice_get t.numbers.items n)) place
+number_in t cell = option_and_then (λ n. option_flatten (slice_get t.numbers.items n)) cell
 
 abbrev pub number_by_path : PathTable → Path → Option ℕ
-number_by_path t p = number_in t (place_at t p)
+number_by_path t p = number_in t (cell_at t p)
 
-abbrev pub SamePlaces : PathTable → PathTable → Type 0
-SamePlaces before after = (p : Path) → place_at after p ≡ place_at before p
+abbrev pub SameCells : PathTable → PathTable → Type 0
+SameCells before after = (p : Path) → cell_at after p ≡ cell_at before p
 
 abbrev pub SameNumbers : PathTable → PathTable → Type 0
 SameNumbers before after = (p : Path) → number_by_path after p ≡ number_by_path before p
@@ -46,17 +46,17 @@ abbrev pub size : PathTable → ℕ
 size t = hash_map_len t.steps
 
 abbrev pub HasPaths : PathTable → Type 0
-HasPaths t = (path_of : ℕ → Path) × (path_of 0 ≡ []) × ((n i m : ℕ) → place_below t n i ≡ Some m → path_of m ≡ path_of n ++ i ∷ [])
+HasPaths t = (path_of : ℕ → Path) × (path_of 0 ≡ []) × ((n i m : ℕ) → cell_below t n i ≡ Some m → path_of m ≡ path_of n ++ i ∷ [])
 
 pub record IsTree (t : PathTable) : Type 0 where
-  pub steps : (n i m : ℕ) → place_below t n i ≡ Some m → (n ≤ size t) × (m ≤ size t)
+  pub steps : (n i m : ℕ) → cell_below t n i ≡ Some m → (n ≤ size t) × (m ≤ size t)
   pub numbers : (n x : ℕ) → number_in t (Some n) ≡ Some x → n ≤ size t
   pub paths : HasPaths t
 
 pub record IsGrown (before after : PathTable) : Type 0 where
-  pub steps : (n i m : ℕ) → place_below before n i ≡ Some m → place_below after n i ≡ Some m
+  pub steps : (n i m : ℕ) → cell_below before n i ≡ Some m → cell_below after n i ≡ Some m
   pub longer : size before ≤ size after
-  pub stay : (p : Path) (m : ℕ) → place_at before p ≡ Some m → place_at after p ≡ Some m
-  pub older : (p : Path) (m : ℕ) → place_at after p ≡ Some m → m ≤ size before → place_at before p ≡ Some m
+  pub stay : (p : Path) (m : ℕ) → cell_at before p ≡ Some m → cell_at after p ≡ Some m
+  pub older : (p : Path) (m : ℕ) → cell_at after p ≡ Some m → m ≤ size before → cell_at before p ≡ Some m
   pub numbers : SameNumbers before after
   pub tree : IsTree after

@@ -1,18 +1,18 @@
 ghost use Rattle.std.specs.Prelude.{◌≡◌, ◌≤◌, ◌<◌, ℕ, Option, None, Some, OnOk, OnErr, IfOk, length};
 ghost use Rattle.green_tree.specs.Path.{Path};
-ghost use Rattle.path_table.specs.PathTable.{place_below, next_place, place_further, place_at, number_in, number_by_path};
-ghost use Rattle.path_table.specs.PathTable.{SamePlaces, SameNumbers, IsPut, size, IsTree, IsGrown};
+ghost use Rattle.path_table.specs.PathTable.{cell_below, next_cell, cell_further, cell_at, number_in, number_by_path};
+ghost use Rattle.path_table.specs.PathTable.{SameCells, SameNumbers, IsPut, size, IsTree, IsGrown};
 
 use std::alloc::{AllocError, Global};
 use std::collections::HashMap;
 
-/// Numbers by path. From the top each path leads, by one step a slot, to a place of its own; so a way down costs its length, and
+/// Numbers by path. From the top each path leads, by one step a slot, to a cell of its own; so a way down costs its length, and
 /// finds the numbers of all elements on it.
 #[derive(Drop)]
 pub struct PathTable {
-    // The place below a place, at a slot. The top is 0, and the others are counted in the order in which they were made.
+    // The cell below a cell, at a slot. The top is 0, and the others are counted in the order in which they were made.
     steps: HashMap<(usize, usize), usize>,
-    // By place; the last places may be missing, and have none.
+    // By cell; the last cells may be missing, and have none.
     numbers: Vec<Option<usize>>,
 }
 
@@ -28,7 +28,7 @@ impl PathTable {
         }
     }
 
-    /// A table of nothing, with room for so many places below the top.
+    /// A table of nothing, with room for so many cells below the top.
     ///
     /// Refused for memory alone.
     pub fn with_capacity(alloc: Global, capacity: usize) -> Result<PathTable, AllocError>
@@ -40,36 +40,36 @@ impl PathTable {
         Ok(table)
     }
 
-    /// The place of the empty path.
+    /// The cell of the empty path.
     pub fn top(&self) -> Option<usize>
         ensures { result ≡ Some 0 }
     {
         Some(0)
     }
 
-    /// The place below a place, at a slot; `None` below none, and where the table has nothing.
-    pub fn below(&self, place: Option<usize>, slot: usize) -> Option<usize>
-        ensures { result ≡ next_place self.now place slot }
+    /// The cell below a cell, at a slot; `None` below none, and where the table has nothing.
+    pub fn below(&self, cell: Option<usize>, slot: usize) -> Option<usize>
+        ensures { result ≡ next_cell self.now cell slot }
     {
-        self.steps.get(&(place?, slot)).copied()
+        self.steps.get(&(cell?, slot)).copied()
     }
 
-    /// The number of a place, if it has one.
-    pub fn number(&self, place: Option<usize>) -> Option<usize>
-        ensures { result ≡ number_in self.now place }
+    /// The number of a cell, if it has one.
+    pub fn number(&self, cell: Option<usize>) -> Option<usize>
+        ensures { result ≡ number_in self.now cell }
     {
-        self.numbers.get(place?).copied().flatten()
+        self.numbers.get(cell?).copied().flatten()
     }
 
-    /// The place that a path leads to from a place; `None` from none, and where the table has nothing.
-    pub fn descend(&self, place: Option<usize>, path: &[usize]) -> Option<usize>
-        ensures { result ≡ place_further self.now place path.now }
+    /// The cell that a path leads to from a cell; `None` from none, and where the table has nothing.
+    pub fn descend(&self, cell: Option<usize>, path: &[usize]) -> Option<usize>
+        ensures { result ≡ cell_further self.now cell path.now }
     {
-        let mut place = place;
+        let mut cell = cell;
         for slot in path {
-            place = self.below(place, *slot);
+            cell = self.below(cell, *slot);
         }
-        place
+        cell
     }
 
     /// The number at a path, if there is one.
@@ -79,38 +79,38 @@ impl PathTable {
         self.number(self.descend(self.top(), path))
     }
 
-    /// The place below a place, at a slot. Where there is none it is made, has no number, and gets the next place's number.
+    /// The cell below a cell, at a slot. Where there is none it is made, has no number, and gets the next cell's number.
     ///
-    /// Refused for memory alone. The places are as they were then.
-    pub fn enter(&mut self, place: usize, slot: usize) -> Result<usize, AllocError>
+    /// Refused for memory alone. The cells are as they were then.
+    pub fn enter(&mut self, cell: usize, slot: usize) -> Result<usize, AllocError>
         requires tree { IsTree self.old }
-        requires here { place ≤ size self.old }
-        ensures leads { IfOk result (λ m. place_below self.new place slot ≡ Some m) }
+        requires here { cell ≤ size self.old }
+        ensures leads { IfOk result (λ m. cell_below self.new cell slot ≡ Some m) }
         ensures grown { IsGrown self.old self.new }
     {
         let next = self.steps.len() + 1;
-        Ok(*self.steps.entry((place, slot))?.or_insert(next))
+        Ok(*self.steps.entry((cell, slot))?.or_insert(next))
     }
 
-    /// The place of a path. Where there is none it is made, and the places on the way to it that are missing.
+    /// The cell of a path. Where there is none it is made, and the cells on the way to it that are missing.
     ///
-    /// Refused for memory alone. The places are then as they were, or some of those on the way were made.
+    /// Refused for memory alone. The cells are then as they were, or some of those on the way were made.
     pub fn enter_path(&mut self, path: &[usize]) -> Result<usize, AllocError>
         requires { IsTree self.old }
-        ensures leads { IfOk result (λ m. place_at self.new path.now ≡ Some m) }
+        ensures leads { IfOk result (λ m. cell_at self.new path.now ≡ Some m) }
         ensures grown { IsGrown self.old self.new }
     {
-        let mut place = 0;
+        let mut cell = 0;
         for slot in path {
-            place = self.enter(place, *slot)?;
+            cell = self.enter(cell, *slot)?;
         }
-        Ok(place)
+        Ok(cell)
     }
 
-    // A number or none for each place.
+    // A number or none for each cell.
     fn make_room(&mut self) -> Result<(), AllocError>
         ensures steps { self.new.steps ≡ self.old.steps }
-        ensures numbers { (place : Option ℕ) → number_in self.new place ≡ number_in self.old place }
+        ensures numbers { (cell : Option ℕ) → number_in self.new cell ≡ number_in self.old cell }
         ensures room { OnOk result (size self.new < length self.new.numbers.items) }
     {
         let count = self.steps.len() + 1;
@@ -120,20 +120,20 @@ impl PathTable {
         Ok(())
     }
 
-    /// Puts a number at a place, and gives the one that was there.
+    /// Puts a number at a cell, and gives the one that was there.
     ///
-    /// Refused for memory alone. The places and numbers are as they were then.
-    pub fn put(&mut self, place: usize, number: usize) -> Result<Option<usize>, AllocError>
+    /// Refused for memory alone. The cells and numbers are as they were then.
+    pub fn put(&mut self, cell: usize, number: usize) -> Result<Option<usize>, AllocError>
         requires tree { IsTree self.old }
-        requires here { place ≤ size self.old }
-        ensures before { IfOk result (λ n. n ≡ number_in self.old (Some place)) }
-        ensures ok { OnOk result ((p : Path) → place_at self.old p ≡ Some place → IsPut self.old self.new p number) }
+        requires here { cell ≤ size self.old }
+        ensures before { IfOk result (λ n. n ≡ number_in self.old (Some cell)) }
+        ensures ok { OnOk result ((p : Path) → cell_at self.old p ≡ Some cell → IsPut self.old self.new p number) }
         ensures err { OnErr result (SameNumbers self.old self.new) }
-        ensures places { SamePlaces self.old self.new }
+        ensures cells { SameCells self.old self.new }
         ensures tree { IsTree self.new }
     {
         self.make_room()?;
-        Ok(self.numbers[place].replace(number))
+        Ok(self.numbers[cell].replace(number))
     }
 
     /// Puts a number at a path, in place of the one that was there.
@@ -145,8 +145,8 @@ impl PathTable {
         ensures err { OnErr result (SameNumbers self.old self.new) }
         ensures tree { IsTree self.new }
     {
-        let place = self.enter_path(path)?;
-        self.put(place, number)?;
+        let cell = self.enter_path(path)?;
+        self.put(cell, number)?;
         Ok(())
     }
 }

@@ -6,22 +6,22 @@ use Rattle.std.proofs.Common.{subst, ◌∙◌}
 use Rattle.green_tree.specs.Tree.{SyntaxTree}
 use Rattle.rewriting.specs.Rewriting.{rewritten}
 use Rattle.rewriting.specs.declared.aimed.Aimed.{Aimed}
-use Rattle.rewriting.specs.inner.Aimed.{placed, of_placed, aims_of, placed_below, alter_below}
+use Rattle.rewriting.specs.inner.Aimed.{formed, of_formed, aims_of, formed_below, alter_below}
 use Rattle.rewriting.specs.inner.Pass.{kind_only}
-use Rattle.rewriting.proofs.SeenBelow.{Shifted, below_shifted, rewritten-shifted, aims-placed}
+use Rattle.rewriting.proofs.SeenBelow.{Shifted, below_shifted, rewritten-shifted, aims-formed}
 use Rattle.rewriting.proofs.Untouched.{no_inserts, no_replacements, no_slot, nothing_made}
 
-module _ (xs : List Aimed) (i : ℕ) (none : alter_below i (map placed xs) ≡ false) where
+module _ (xs : List Aimed) (i : ℕ) (none : alter_below i (map formed xs) ≡ false) where
   pub alters_nothing : Shifted (aims_of xs) [] i
   alters_nothing =
-      let same = below_shifted (map placed xs) i in
-      let inner = placed_below i (map placed xs) in
-      let there : Shifted (map of_placed (map placed xs)) [] i = record {
+      let same = below_shifted (map formed xs) i in
+      let inner = formed_below i (map formed xs) in
+      let there : Shifted (map of_formed (map formed xs)) [] i = record {
         inserts = λ p j. same.inserts p j ∙ no_inserts inner p j none;
         replaced = λ p j. same.replaced p j ∙ no_slot inner p j none;
         replacements = λ p j. same.replacements p j ∙ no_replacements inner p j none;
       } in
-      subst (λ cs. Shifted cs [] i) (aims-placed xs) there
+      subst (λ cs. Shifted cs [] i) (aims-formed xs) there
 
   pub kept-below : (given : ℕ → List SyntaxTree) (t : SyntaxTree) → rewritten kind_only given (aims_of xs) (i ∷ []) t ≡ t
   kept-below given t =

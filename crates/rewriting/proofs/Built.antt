@@ -13,7 +13,7 @@ use Rattle.rewriting.specs.Rewriting.{NumberedAim}
 use Rattle.rewriting.specs.declared.aimed.Aimed.{Aimed}
 use Rattle.rewriting.specs.declared.aimed.AimForm.{AimForm}
 use Rattle.rewriting.specs.declared.aimed.AimForm.TheVariants.{FirstIn, Behind, Over}
-use Rattle.rewriting.specs.inner.Aimed.{Placed, placed, aim_in, of_placed, aims_of, some_path, has_parent, seen_from, and_those, placed_below}
+use Rattle.rewriting.specs.inner.Aimed.{FormedAim, formed, aim_in, of_formed, aims_of, some_path, has_parent, seen_from, and_those, formed_below}
 use Rattle.rewriting.specs.Effort.{inside, parents_of}
 
 -- ---- the parents of aims that are seen from a child
@@ -24,8 +24,8 @@ other_way i j =
       | inr other ↦ ne_eqb j i other ∙ sym (ne_eqb i j (λ e. other (sym e)))
     ]
 
-abbrev pub above : List Placed → List Path
-above xs = parents_of (map of_placed xs)
+abbrev pub above : List FormedAim → List Path
+above xs = parents_of (map of_formed xs)
 
 parent-end : (p : Path) (m : ℕ) → parent_path (p ++ m ∷ []) ≡ p
 parent-end [] m = refl
@@ -74,18 +74,18 @@ own i c (k ∷ l ∷ q) (Over (suc n)) =
     let m = last_slot (l ∷ q) in
     ap (inside i) (over-parents (k ∷ p) m (map (λ s. (k ∷ p) ++ s ∷ []) (counted_from (suc m) n))) ∙ one i c k (l ∷ q) p (Over (suc n)) (over-parents p m (map (λ s. p ++ s ∷ []) (counted_from (suc m) n)))
 
-and_those-above : (a : Option Placed) (xs : List Placed) → above (and_those a []) ++ above xs ≡ above (and_those a xs)
+and_those-above : (a : Option FormedAim) (xs : List FormedAim) → above (and_those a []) ++ above xs ≡ above (and_those a xs)
 and_those-above None xs = refl
 and_those-above (Some a) xs = ap (λ ps. ps ++ above xs) (append-nil (parents (aim_in a.path a.form)))
 
-pub above-below : (i : ℕ) (xs : List Placed) → inside i (above xs) ≡ above (placed_below i xs)
+pub above-below : (i : ℕ) (xs : List FormedAim) → inside i (above xs) ≡ above (formed_below i xs)
 above-below i [] = refl
 above-below i (x ∷ xs) =
-    inside-append i (parents (aim_in x.path x.form)) (above xs) ∙ ap₂ (λ ps qs. ps ++ qs) (own i x.change x.path x.form) (above-below i xs) ∙ and_those-above (seen_from i x) (placed_below i xs)
+    inside-append i (parents (aim_in x.path x.form)) (above xs) ∙ ap₂ (λ ps qs. ps ++ qs) (own i x.change x.path x.form) (above-below i xs) ∙ and_those-above (seen_from i x) (formed_below i xs)
 
-pub above-placed : (xs : List Aimed) → above (map placed xs) ≡ parents_of (aims_of xs)
-above-placed [] = refl
-above-placed (x ∷ xs) = ap (λ ps. parents (aim_in x.path.now x.form) ++ ps) (above-placed xs)
+pub above-formed : (xs : List Aimed) → above (map formed xs) ≡ parents_of (aims_of xs)
+above-formed [] = refl
+above-formed (x ∷ xs) = ap (λ ps. parents (aim_in x.path.now x.form) ++ ps) (above-formed xs)
 
 -- ---- whether there is any
 some-append : (ps qs : List Path) → some_path (ps ++ qs) ≡ (some_path ps || some_path qs)

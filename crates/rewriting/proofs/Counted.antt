@@ -10,13 +10,13 @@ use Rattle.green_tree.specs.Path.{Path}
 use Rattle.green_tree.specs.Tree.{SyntaxTree, Forest, Token, Node, end, more, forest, node}
 use Rattle.rewriting.specs.Rewriting.{NumberedAim, is_replaced}
 use Rattle.rewriting.specs.declared.aimed.Aimed.{Aimed}
-use Rattle.rewriting.specs.inner.Aimed.{placed, of_placed, aims_of, some_path, has_parent}
+use Rattle.rewriting.specs.inner.Aimed.{formed, of_formed, aims_of, some_path, has_parent}
 use Rattle.rewriting.specs.inner.Pass.{aims_inside, CountsBuilt, TouchesAtMost}
 use Rattle.green_tree.specs.GreenElement.{element_tree}
 use Rattle.green_tree.specs.declared.green.GreenElement.{GreenElement}
 use Rattle.rewriting.specs.Effort.{inside, touched, touched_from, parents_of, built, built_from, nodes_built, counted}
-use Rattle.rewriting.proofs.Built.{above-below, above-placed, some-parents}
-use Rattle.rewriting.proofs.SeenBelow.{Shifted, below_shifted, aims-placed}
+use Rattle.rewriting.proofs.Built.{above-below, above-formed, some-parents}
+use Rattle.rewriting.proofs.SeenBelow.{Shifted, below_shifted, aims-formed}
 
 -- ---- as it is seen from a child
 module _ (cs ds : List NumberedAim) (i : ℕ) (same : Shifted cs ds i) where
@@ -33,7 +33,7 @@ module _ (cs ds : List NumberedAim) (i : ℕ) (same : Shifted cs ds i) where
 
 pub built-inside : (xs : List Aimed) (i : ℕ) (t : SyntaxTree) → nodes_built (aims_inside xs i) t ≡ built (aims_of xs) (i ∷ []) t (inside i (parents_of (aims_of xs)))
 built-inside xs i t =
-    sym (built-shifted (map of_placed (map placed xs)) (aims_inside xs i) i (below_shifted (map placed xs) i) [] t (parents_of (aims_inside xs i))) ∙ ap₂ (λ cs ps. built cs (i ∷ []) t ps) (aims-placed xs) (sym (above-below i (map placed xs)) ∙ ap (inside i) (above-placed xs))
+    sym (built-shifted (map of_formed (map formed xs)) (aims_inside xs i) i (below_shifted (map formed xs) i) [] t (parents_of (aims_inside xs i))) ∙ ap₂ (λ cs ps. built cs (i ∷ []) t ps) (aims-formed xs) (sym (above-below i (map formed xs)) ∙ ap (inside i) (above-formed xs))
 
 -- ---- no more is built than is touched
 module _ (cs : List NumberedAim) where

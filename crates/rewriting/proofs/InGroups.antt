@@ -12,7 +12,7 @@ use Rattle.rewriting.specs.Rewriting.{numbers, inserts_at, replacements_at, is_r
 use Rattle.rewriting.specs.declared.aimed.AimForm.{AimForm}
 use Rattle.rewriting.specs.declared.aimed.AimForm.TheVariants.{FirstIn, Behind, Over}
 use Rattle.rewriting.specs.declared.aimed.Aimed.{Aimed}
-use Rattle.rewriting.specs.inner.Aimed.{aim_in, Placed, placed, numbered, aims_of, seen_from, and_those, placed_below}
+use Rattle.rewriting.specs.inner.Aimed.{aim_in, FormedAim, formed, numbered, aims_of, seen_from, and_those, formed_below}
 use Rattle.rewriting.specs.inner.Groups.{reaches, concerns}
 use Rattle.rewriting.proofs.Here.{range_deeper, start_deeper, first_false, second_false}
 
@@ -84,15 +84,15 @@ reaches_own i j q Behind h = h
 reaches_own i j [] (Over n) h = first_false (nat_eq i j) _ h
 reaches_own i j (k ∷ q) (Over n) h = h
 
-below-skip : (i : ℕ) (c : ℕ) (w : AimForm) (q : Path) (zs ys : List Placed) → reaches i q w ≡ false → zs ≡ ys → zs ≡ and_those (seen_from i (record { change = c; path = q; form = w })) ys
+below-skip : (i : ℕ) (c : ℕ) (w : AimForm) (q : Path) (zs ys : List FormedAim) → reaches i q w ≡ false → zs ≡ ys → zs ≡ and_those (seen_from i (record { change = c; path = q; form = w })) ys
 below-skip i c w [] zs ys e h = h
 below-skip i c w (j ∷ q) zs ys e h = h ∙ sym (ap (λ b. and_those (cond b (Some (record { change = c; path = q; form = w })) None) ys) (reaches_own i j q w e))
 
-below-step : (i : ℕ) (a : Aimed) (xs ys : List Aimed) (b : Bool) → concerns i a ≡ b → placed_below i (map placed ys) ≡ placed_below i (map placed xs) → placed_below i (map placed (cond b (a ∷ ys) ys)) ≡ placed_below i (map placed (a ∷ xs))
-below-step i a xs ys true e h = ap (and_those (seen_from i (placed a))) h
-below-step i a xs ys false e h = below-skip i a.change a.form a.path.now (placed_below i (map placed ys)) (placed_below i (map placed xs)) e h
+below-step : (i : ℕ) (a : Aimed) (xs ys : List Aimed) (b : Bool) → concerns i a ≡ b → formed_below i (map formed ys) ≡ formed_below i (map formed xs) → formed_below i (map formed (cond b (a ∷ ys) ys)) ≡ formed_below i (map formed (a ∷ xs))
+below-step i a xs ys true e h = ap (and_those (seen_from i (formed a))) h
+below-step i a xs ys false e h = below-skip i a.change a.form a.path.now (formed_below i (map formed ys)) (formed_below i (map formed xs)) e h
 
-pub group-below : (i : ℕ) (xs : List Aimed) → placed_below i (map placed (filter (concerns i) xs)) ≡ placed_below i (map placed xs)
+pub group-below : (i : ℕ) (xs : List Aimed) → formed_below i (map formed (filter (concerns i) xs)) ≡ formed_below i (map formed xs)
 group-below i [] = refl
 group-below i (a ∷ xs) = below-step i a xs (filter (concerns i) xs) (concerns i a) refl (group-below i xs)
 

@@ -1,5 +1,5 @@
 -- What stands in the slot of a child, by the aims that concern the child, is what all the aims put there.
---     inside-placed                 aims that are seen from the child are those inside the slot
+--     inside-formed                 aims that are seen from the child are those inside the slot
 --     made-inside                   the child, as all the aims rewrite it in its slot
 --     slot_made-whole, slot_built-whole    what stands in the slot; how many nodes are built for it
 --     empty-stays, empty-quiet, empty-gap      where no aim concerns the child, it is not replaced, nothing is altered below it, and nothing comes after it
@@ -15,7 +15,7 @@ use Rattle.rewriting.specs.Rewriting.{is_replaced, slot, rewritten}
 use Rattle.rewriting.specs.Effort.{nodes_built}
 use Rattle.rewriting.specs.declared.aimed.Aimed.{Aimed}
 use Rattle.rewriting.specs.declared.mark.Sought.{Sought}
-use Rattle.rewriting.specs.inner.Aimed.{aims_of, of_placed, placed, placed_below, alter_below}
+use Rattle.rewriting.specs.inner.Aimed.{aims_of, of_formed, formed, formed_below, alter_below}
 use Rattle.rewriting.specs.inner.Groups.{concerns}
 use Rattle.rewriting.specs.inner.Marked.{MarkTree, sought_in, wanted}
 use Rattle.rewriting.specs.inner.Pass.{kind_only, gap_changes, aims_inside, child_made, slot_made, child_built, slot_built, kept_marks}
@@ -23,26 +23,26 @@ use Rattle.rewriting.proofs.BelowSlot.{alters_nothing, kept-below}
 use Rattle.rewriting.proofs.Children.{slot-kept}
 use Rattle.rewriting.proofs.Counted.{in_slot, built-inside, counted-none}
 use Rattle.rewriting.proofs.InGroups.{group-replaced, group-replacements, group-below}
-use Rattle.rewriting.proofs.SeenBelow.{below_shifted, rewritten-shifted, aims-placed}
+use Rattle.rewriting.proofs.SeenBelow.{below_shifted, rewritten-shifted, aims-formed}
 use Rattle.rewriting.proofs.Untouched.{unaimed}
 
-pub inside-placed : (xs ys : List Aimed) (i : ℕ) → map placed ys ≡ placed_below i (map placed xs) → aims_of ys ≡ aims_inside xs i
-inside-placed xs ys i e = sym (aims-placed ys) ∙ ap (map of_placed) e
+pub inside-formed : (xs ys : List Aimed) (i : ℕ) → map formed ys ≡ formed_below i (map formed xs) → aims_of ys ≡ aims_inside xs i
+inside-formed xs ys i e = sym (aims-formed ys) ∙ ap (map of_formed) e
 
 -- ---- all the aims
 pub made-inside : {L : Type 0} (above inner : Path → ℕ → L) (given : ℕ → List (Tree L)) (xs : List Aimed) (i : ℕ) (t : SyntaxTree) → ((p : Path) (k : ℕ) → above (i ∷ p) k ≡ inner p k) → rewritten inner given (aims_inside xs i) [] t ≡ rewritten above given (aims_of xs) (i ∷ []) t
 made-inside above inner given xs i t labels =
-    sym (rewritten-shifted above inner given (map of_placed (map placed xs)) (aims_inside xs i) i labels (below_shifted (map placed xs) i) [] t) ∙ ap (λ cs. rewritten above given cs (i ∷ []) t) (aims-placed xs)
+    sym (rewritten-shifted above inner given (map of_formed (map formed xs)) (aims_inside xs i) i labels (below_shifted (map formed xs) i) [] t) ∙ ap (λ cs. rewritten above given cs (i ∷ []) t) (aims-formed xs)
 
 pub slot_made-whole : {L : Type 0} (above inner : Path → ℕ → L) (given : ℕ → List (Tree L)) (xs group : List Aimed) (i : ℕ) (e : GreenElement) → ((p : Path) (k : ℕ) → above (i ∷ p) k ≡ inner p k) → group ≡ filter (concerns i) xs → slot_made inner given group i e ≡ slot above given (aims_of xs) (i ∷ []) (rewritten above given (aims_of xs) (i ∷ []) (element_tree e))
 slot_made-whole above inner given xs group i e labels here =
     let own = child_made inner given (filter (concerns i) xs) i e in
-    let own_is = ap (λ ps. rewritten inner given (map of_placed ps) [] (element_tree e)) (group-below i xs) ∙ made-inside above inner given xs i (element_tree e) labels in
+    let own_is = ap (λ ps. rewritten inner given (map of_formed ps) [] (element_tree e)) (group-below i xs) ∙ made-inside above inner given xs i (element_tree e) labels in
     ap (λ g. slot_made inner given g i e) here ∙ ap₂ (λ b ns. cond b (flat_map given ns) (own ∷ [])) (group-replaced i xs) (group-replacements i xs) ∙ ap (slot above given (aims_of xs) (i ∷ [])) own_is
 
 pub slot_built-whole : (xs group : List Aimed) (i : ℕ) (e : GreenElement) → group ≡ filter (concerns i) xs → slot_built group i e ≡ in_slot (aims_of xs) i (element_tree e)
 slot_built-whole xs group i e here =
-    ap (λ g. slot_built g i e) here ∙ ap₂ (λ b n. cond b 0 n) (group-replaced i xs) (ap (λ ps. nodes_built (map of_placed ps) (element_tree e)) (group-below i xs) ∙ built-inside xs i (element_tree e))
+    ap (λ g. slot_built g i e) here ∙ ap₂ (λ b n. cond b 0 n) (group-replaced i xs) (ap (λ ps. nodes_built (map of_formed ps) (element_tree e)) (group-below i xs) ∙ built-inside xs i (element_tree e))
 
 pub built-replaced : (xs : List Aimed) (i : ℕ) (e : GreenElement) → is_replaced (aims_of xs) (i ∷ []) ≡ true → slot_built xs i e ≡ 0
 built-replaced xs i e goes = ap (λ b. cond b 0 (child_built xs i e)) goes
@@ -58,8 +58,8 @@ no_items (a ∷ xs) h = absurd (omega (arith, h))
 pub empty-stays : (xs : List Aimed) (i : ℕ) → length xs ≡ 0 → is_replaced (aims_of xs) (i ∷ []) ≡ false
 empty-stays xs i h = ap (λ g. is_replaced (aims_of g) (i ∷ [])) (no_items xs h)
 
-pub empty-quiet : (xs : List Aimed) (i : ℕ) → length xs ≡ 0 → alter_below i (map placed xs) ≡ false
-empty-quiet xs i h = ap (λ g. alter_below i (map placed g)) (no_items xs h)
+pub empty-quiet : (xs : List Aimed) (i : ℕ) → length xs ≡ 0 → alter_below i (map formed xs) ≡ false
+empty-quiet xs i h = ap (λ g. alter_below i (map formed g)) (no_items xs h)
 
 pub empty-gap : (xs : List Aimed) (i : ℕ) → length xs ≡ 0 → gap_changes xs i ≡ []
 empty-gap xs i h = ap (λ g. gap_changes g i) (no_items xs h)
@@ -69,7 +69,7 @@ abbrev from_above : {L : Type 0} → (Path → ℕ → L) → Path → ℕ → L
 from_above label_at [] k = label_at [] k
 from_above label_at (i ∷ p) k = label_at p k
 
-module _ (xs : List Aimed) (i : ℕ) (stays : is_replaced (aims_of xs) (i ∷ []) ≡ false) (none : alter_below i (map placed xs) ≡ false) (e : GreenElement) where
+module _ (xs : List Aimed) (i : ℕ) (stays : is_replaced (aims_of xs) (i ∷ []) ≡ false) (none : alter_below i (map formed xs) ≡ false) (e : GreenElement) where
   pub slot-unaltered : (given : ℕ → List SyntaxTree) → element_tree e ∷ [] ≡ slot_made kind_only given xs i e
   slot-unaltered given =
       let kept = made-inside kind_only kind_only given xs i (element_tree e) (λ p k. refl) ∙ kept-below xs i none given (element_tree e) in

@@ -10,7 +10,7 @@ use Rattle.rewriting.specs.Rewriting.{NumberedAim, numbers, inserts_at, replacem
 use Rattle.rewriting.specs.declared.aimed.AimForm.{AimForm}
 use Rattle.rewriting.specs.declared.aimed.AimForm.TheVariants.{FirstIn, Behind, Over}
 use Rattle.rewriting.specs.declared.aimed.Aimed.{Aimed}
-use Rattle.rewriting.specs.inner.Aimed.{aim_in, Placed, placed, of_placed, aims_of, seen_from, and_those, placed_below}
+use Rattle.rewriting.specs.inner.Aimed.{aim_in, FormedAim, formed, of_formed, aims_of, seen_from, and_those, formed_below}
 
 -- ---- two lists of aims, of which one says below a slot what the other says
 pub record Shifted (cs ds : List NumberedAim) (i : ℕ) : Type 0 where
@@ -104,34 +104,34 @@ module _ (i : ℕ) (above inside : NumberedAim → Bool) where
   abbrev pub Agrees : Type 0
   Agrees = (c : ℕ) (w : AimForm) → (above (c, aim_in [] w) ≡ false) × ((k : ℕ) (q : Path) → above (c, aim_in (k ∷ q) w) ≡ (nat_eq i k && inside (c, aim_in q w)))
 
-  one-filter : Agrees → (c : ℕ) (w : AimForm) (q : Path) (xs bs : List Placed) → numbers (filter above (map of_placed xs)) ≡ numbers (filter inside (map of_placed bs)) → numbers (filter above ((c, aim_in q w) ∷ map of_placed xs)) ≡ numbers (filter inside (map of_placed (and_those (seen_from i (record { change = c; path = q; form = w })) bs)))
-  one-filter a c w [] xs bs h = ap (λ b. numbers (cond b ((c, aim_in [] w) ∷ filter above (map of_placed xs)) (filter above (map of_placed xs)))) (a c w).0 ∙ h
+  one-filter : Agrees → (c : ℕ) (w : AimForm) (q : Path) (xs bs : List FormedAim) → numbers (filter above (map of_formed xs)) ≡ numbers (filter inside (map of_formed bs)) → numbers (filter above ((c, aim_in q w) ∷ map of_formed xs)) ≡ numbers (filter inside (map of_formed (and_those (seen_from i (record { change = c; path = q; form = w })) bs)))
+  one-filter a c w [] xs bs h = ap (λ b. numbers (cond b ((c, aim_in [] w) ∷ filter above (map of_formed xs)) (filter above (map of_formed xs)))) (a c w).0 ∙ h
   one-filter a c w (k ∷ q) xs bs h =
-      ap (λ b. numbers (cond b ((c, aim_in (k ∷ q) w) ∷ filter above (map of_placed xs)) (filter above (map of_placed xs)))) ((a c w).1 k q) ∙ elim (nat_eq i k) as (λ b. numbers (cond (b && inside (c, aim_in q w)) ((c, aim_in (k ∷ q) w) ∷ filter above (map of_placed xs)) (filter above (map of_placed xs))) ≡ numbers (filter inside (map of_placed (and_those (cond b (Some (record { change = c; path = q; form = w })) None) bs)))) [
-        | true ↦ elim (inside (c, aim_in q w)) as (λ b. numbers (cond b ((c, aim_in (k ∷ q) w) ∷ filter above (map of_placed xs)) (filter above (map of_placed xs))) ≡ numbers (cond b ((c, aim_in q w) ∷ filter inside (map of_placed bs)) (filter inside (map of_placed bs)))) [
+      ap (λ b. numbers (cond b ((c, aim_in (k ∷ q) w) ∷ filter above (map of_formed xs)) (filter above (map of_formed xs)))) ((a c w).1 k q) ∙ elim (nat_eq i k) as (λ b. numbers (cond (b && inside (c, aim_in q w)) ((c, aim_in (k ∷ q) w) ∷ filter above (map of_formed xs)) (filter above (map of_formed xs))) ≡ numbers (filter inside (map of_formed (and_those (cond b (Some (record { change = c; path = q; form = w })) None) bs)))) [
+        | true ↦ elim (inside (c, aim_in q w)) as (λ b. numbers (cond b ((c, aim_in (k ∷ q) w) ∷ filter above (map of_formed xs)) (filter above (map of_formed xs))) ≡ numbers (cond b ((c, aim_in q w) ∷ filter inside (map of_formed bs)) (filter inside (map of_formed bs)))) [
           | true ↦ ap (λ ns. c ∷ ns) h
           | false ↦ h
         ]
         | false ↦ h
       ]
 
-  pub filter-below : Agrees → (xs : List Placed) → numbers (filter above (map of_placed xs)) ≡ numbers (filter inside (map of_placed (placed_below i xs)))
+  pub filter-below : Agrees → (xs : List FormedAim) → numbers (filter above (map of_formed xs)) ≡ numbers (filter inside (map of_formed (formed_below i xs)))
   filter-below a [] = refl
-  filter-below a (x ∷ xs) = one-filter a x.change x.form x.path xs (placed_below i xs) (filter-below a xs)
+  filter-below a (x ∷ xs) = one-filter a x.change x.form x.path xs (formed_below i xs) (filter-below a xs)
 
-  one-any : Agrees → (c : ℕ) (w : AimForm) (q : Path) (xs bs : List Placed) → list_any above (map of_placed xs) ≡ list_any inside (map of_placed bs) → (above (c, aim_in q w) || list_any above (map of_placed xs)) ≡ list_any inside (map of_placed (and_those (seen_from i (record { change = c; path = q; form = w })) bs))
-  one-any a c w [] xs bs h = ap (λ b. b || list_any above (map of_placed xs)) (a c w).0 ∙ h
+  one-any : Agrees → (c : ℕ) (w : AimForm) (q : Path) (xs bs : List FormedAim) → list_any above (map of_formed xs) ≡ list_any inside (map of_formed bs) → (above (c, aim_in q w) || list_any above (map of_formed xs)) ≡ list_any inside (map of_formed (and_those (seen_from i (record { change = c; path = q; form = w })) bs))
+  one-any a c w [] xs bs h = ap (λ b. b || list_any above (map of_formed xs)) (a c w).0 ∙ h
   one-any a c w (k ∷ q) xs bs h =
-      ap₂ (λ x y. x || y) ((a c w).1 k q) h ∙ elim (nat_eq i k) as (λ b. ((b && inside (c, aim_in q w)) || list_any inside (map of_placed bs)) ≡ list_any inside (map of_placed (and_those (cond b (Some (record { change = c; path = q; form = w })) None) bs))) [
+      ap₂ (λ x y. x || y) ((a c w).1 k q) h ∙ elim (nat_eq i k) as (λ b. ((b && inside (c, aim_in q w)) || list_any inside (map of_formed bs)) ≡ list_any inside (map of_formed (and_those (cond b (Some (record { change = c; path = q; form = w })) None) bs))) [
         | true ↦ refl
         | false ↦ refl
       ]
 
-  pub any-below : Agrees → (xs : List Placed) → list_any above (map of_placed xs) ≡ list_any inside (map of_placed (placed_below i xs))
+  pub any-below : Agrees → (xs : List FormedAim) → list_any above (map of_formed xs) ≡ list_any inside (map of_formed (formed_below i xs))
   any-below a [] = refl
-  any-below a (x ∷ xs) = one-any a x.change x.form x.path xs (placed_below i xs) (any-below a xs)
+  any-below a (x ∷ xs) = one-any a x.change x.form x.path xs (formed_below i xs) (any-below a xs)
 
-pub below_shifted : (xs : List Placed) (i : ℕ) → Shifted (map of_placed xs) (map of_placed (placed_below i xs)) i
+pub below_shifted : (xs : List FormedAim) (i : ℕ) → Shifted (map of_formed xs) (map of_formed (formed_below i xs)) i
 below_shifted xs i = record {
   inserts = λ p j. filter-below i (λ c. aims_at_gap (i ∷ p) j c.1) (λ c. aims_at_gap p j c.1) (λ c w. (gap_above i p j w, λ k q. gap_inside i p j k q w)) xs;
   replaced = λ p j. any-below i (λ c. replaces (i ∷ (p ++ j ∷ [])) c.1) (λ c. replaces (p ++ j ∷ []) c.1) (λ c w. (over_above i (p ++ j ∷ []) w, λ k q. over_inside i p j k q w)) xs;
@@ -139,10 +139,10 @@ below_shifted xs i = record {
 }
 
 -- ---- the same for aims in code
-pub aims-placed : (xs : List Aimed) → map of_placed (map placed xs) ≡ aims_of xs
-aims-placed [] = refl
-aims-placed (x ∷ xs) = ap (λ cs. of_placed (placed x) ∷ cs) (aims-placed xs)
+pub aims-formed : (xs : List Aimed) → map of_formed (map formed xs) ≡ aims_of xs
+aims-formed [] = refl
+aims-formed (x ∷ xs) = ap (λ cs. of_formed (formed x) ∷ cs) (aims-formed xs)
 
-pub seen-below : {L : Type 0} (above inner : Path → ℕ → L) (given : ℕ → List (Tree L)) (xs ys : List Aimed) (i : ℕ) (t : SyntaxTree) → ((p : Path) (k : ℕ) → above (i ∷ p) k ≡ inner p k) → map placed ys ≡ placed_below i (map placed xs) → rewritten inner given (aims_of ys) [] t ≡ rewritten above given (aims_of xs) (i ∷ []) t
+pub seen-below : {L : Type 0} (above inner : Path → ℕ → L) (given : ℕ → List (Tree L)) (xs ys : List Aimed) (i : ℕ) (t : SyntaxTree) → ((p : Path) (k : ℕ) → above (i ∷ p) k ≡ inner p k) → map formed ys ≡ formed_below i (map formed xs) → rewritten inner given (aims_of ys) [] t ≡ rewritten above given (aims_of xs) (i ∷ []) t
 seen-below above inner given xs ys i t labels e =
-    ap (λ cs. rewritten inner given cs [] t) (sym (aims-placed ys) ∙ ap (map of_placed) e) ∙ sym (rewritten-shifted above inner given (map of_placed (map placed xs)) (map of_placed (placed_below i (map placed xs))) i labels (below_shifted (map placed xs) i) [] t) ∙ ap (λ cs. rewritten above given cs (i ∷ []) t) (aims-placed xs)
+    ap (λ cs. rewritten inner given cs [] t) (sym (aims-formed ys) ∙ ap (map of_formed) e) ∙ sym (rewritten-shifted above inner given (map of_formed (map formed xs)) (map of_formed (formed_below i (map formed xs))) i labels (below_shifted (map formed xs) i) [] t) ∙ ap (λ cs. rewritten above given cs (i ∷ []) t) (aims-formed xs)

@@ -9,10 +9,10 @@ use Rattle.rewriting.specs.Rewriting.{NumberedAim, numbers, inserts_at, replacem
 use Rattle.rewriting.specs.declared.aimed.AimForm.{AimForm}
 use Rattle.rewriting.specs.declared.aimed.AimForm.TheVariants.{FirstIn, Behind, Over}
 use Rattle.rewriting.specs.declared.aimed.Aimed.{Aimed}
-use Rattle.rewriting.specs.inner.Aimed.{Placed, placed, of_placed, aim_in, aims_of, has_parent}
+use Rattle.rewriting.specs.inner.Aimed.{FormedAim, formed, of_formed, aim_in, aims_of, has_parent}
 use Rattle.rewriting.specs.inner.Pass.{kind_only}
 use Rattle.rewriting.proofs.Here.{over_some, first_false, second_false}
-use Rattle.rewriting.proofs.SeenBelow.{no_end, aims-placed}
+use Rattle.rewriting.proofs.SeenBelow.{no_end, aims-formed}
 
 -- ---- one aim
 quiet_gap : (c : ℕ) (q : Path) (w : AimForm) (p : Path) (j : ℕ) → has_parent (c, aim_in q w) ≡ false → aims_at_gap p j (aim_in q w) ≡ false
@@ -44,45 +44,45 @@ quiet_start c (i ∷ q) (Over (suc n)) p j h =
     absurd (cc)
 
 -- ---- all of them
-abbrev pub AlterNothing : List Placed → Type 0
-AlterNothing xs = list_any has_parent (map of_placed xs) ≡ false
+abbrev pub AlterNothing : List FormedAim → Type 0
+AlterNothing xs = list_any has_parent (map of_formed xs) ≡ false
 
 module _ (test : Aim → Bool) (quiet : (c : ℕ) (q : Path) (w : AimForm) → has_parent (c, aim_in q w) ≡ false → test (aim_in q w) ≡ false) where
-  none_pass : (xs : List Placed) → AlterNothing xs → numbers (filter (λ c. test c.1) (map of_placed xs)) ≡ []
+  none_pass : (xs : List FormedAim) → AlterNothing xs → numbers (filter (λ c. test c.1) (map of_formed xs)) ≡ []
   none_pass [] h = refl
   none_pass (a ∷ xs) h =
-      let rest = filter (λ (c : NumberedAim). test c.1) (map of_placed xs) in
-      let one = first_false (has_parent (of_placed a)) (list_any has_parent (map of_placed xs)) h in
-      let others = second_false (has_parent (of_placed a)) (list_any has_parent (map of_placed xs)) h in
-      ap (λ b. numbers (cond b (of_placed a ∷ rest) rest)) (quiet a.change a.path a.form one) ∙ none_pass xs others
+      let rest = filter (λ (c : NumberedAim). test c.1) (map of_formed xs) in
+      let one = first_false (has_parent (of_formed a)) (list_any has_parent (map of_formed xs)) h in
+      let others = second_false (has_parent (of_formed a)) (list_any has_parent (map of_formed xs)) h in
+      ap (λ b. numbers (cond b (of_formed a ∷ rest) rest)) (quiet a.change a.path a.form one) ∙ none_pass xs others
 
-  not_any : (xs : List Placed) → AlterNothing xs → list_any (λ c. test c.1) (map of_placed xs) ≡ false
+  not_any : (xs : List FormedAim) → AlterNothing xs → list_any (λ c. test c.1) (map of_formed xs) ≡ false
   not_any [] h = refl
   not_any (a ∷ xs) h =
-      let one = first_false (has_parent (of_placed a)) (list_any has_parent (map of_placed xs)) h in
-      let others = second_false (has_parent (of_placed a)) (list_any has_parent (map of_placed xs)) h in
-      ap (λ b. b || list_any (λ (c : NumberedAim). test c.1) (map of_placed xs)) (quiet a.change a.path a.form one) ∙ not_any xs others
+      let one = first_false (has_parent (of_formed a)) (list_any has_parent (map of_formed xs)) h in
+      let others = second_false (has_parent (of_formed a)) (list_any has_parent (map of_formed xs)) h in
+      ap (λ b. b || list_any (λ (c : NumberedAim). test c.1) (map of_formed xs)) (quiet a.change a.path a.form one) ∙ not_any xs others
 
-module _ (xs : List Placed) (p : Path) (j : ℕ) (h : AlterNothing xs) where
-  pub no_inserts : inserts_at (map of_placed xs) p j ≡ []
+module _ (xs : List FormedAim) (p : Path) (j : ℕ) (h : AlterNothing xs) where
+  pub no_inserts : inserts_at (map of_formed xs) p j ≡ []
   no_inserts = none_pass (aims_at_gap p j) (λ c q w. quiet_gap c q w p j) xs h
 
-  pub no_replacements : replacements_at (map of_placed xs) (p ++ j ∷ []) ≡ []
+  pub no_replacements : replacements_at (map of_formed xs) (p ++ j ∷ []) ≡ []
   no_replacements = none_pass (starts_at (p ++ j ∷ [])) (λ c q w. quiet_start c q w p j) xs h
 
-  pub no_slot : is_replaced (map of_placed xs) (p ++ j ∷ []) ≡ false
+  pub no_slot : is_replaced (map of_formed xs) (p ++ j ∷ []) ≡ false
   no_slot = not_any (replaces (p ++ j ∷ [])) (λ c q w. quiet_slot c q w p j) xs h
 
 -- ---- the same for aims in code
 module _ (xs : List Aimed) (p : Path) (j : ℕ) (h : list_any has_parent (aims_of xs) ≡ false) where
-  nothing : AlterNothing (map placed xs)
-  nothing = ap (list_any has_parent) (aims-placed xs) ∙ h
+  nothing : AlterNothing (map formed xs)
+  nothing = ap (list_any has_parent) (aims-formed xs) ∙ h
 
   inserts_none : inserts_at (aims_of xs) p j ≡ []
-  inserts_none = ap (λ cs. inserts_at cs p j) (sym (aims-placed xs)) ∙ no_inserts (map placed xs) p j nothing
+  inserts_none = ap (λ cs. inserts_at cs p j) (sym (aims-formed xs)) ∙ no_inserts (map formed xs) p j nothing
 
   slot_stays : is_replaced (aims_of xs) (p ++ j ∷ []) ≡ false
-  slot_stays = ap (λ cs. is_replaced cs (p ++ j ∷ [])) (sym (aims-placed xs)) ∙ no_slot (map placed xs) p j nothing
+  slot_stays = ap (λ cs. is_replaced cs (p ++ j ∷ [])) (sym (aims-formed xs)) ∙ no_slot (map formed xs) p j nothing
 
 module _ {L : Type 0} (h : ℕ → L) (given : ℕ → List (Tree L)) (xs : List Aimed) (none : list_any has_parent (aims_of xs) ≡ false) where
   abbrev cs : List NumberedAim

@@ -1,7 +1,7 @@
 ghost use Rattle.std.specs.Prelude.{◌≡◌, [], ◌∷◌, map, length, IfOk, OnOk};
 ghost use Rattle.std.specs.List.{list_any};
 ghost use Rattle.rewriting.specs.Rewriting.{is_replaced};
-ghost use Rattle.rewriting.specs.inner.Aimed.{aims_of, has_parent, placed, placed_below, alter_below};
+ghost use Rattle.rewriting.specs.inner.Aimed.{aims_of, has_parent, formed, formed_below, alter_below};
 ghost use Rattle.rewriting.specs.inner.Groups.{GrowsInside, StaysBefore, StaysBehind, AreGrouped};
 
 use crate::aimed::Aimed;
@@ -44,7 +44,7 @@ pub fn top_is_replaced(aims: &[Aimed]) -> bool
 
 // Whether some aim alters the children of a node that is a child of the top, or below it.
 pub fn alter_below(aims: &[Aimed], slot: usize) -> bool
-    ensures { result ≡ alter_below slot (map placed aims.now) }
+    ensures { result ≡ alter_below slot (map formed aims.now) }
 {
     for aim in aims {
         if let Some(inner) = aim.seen_from(slot) {
@@ -62,7 +62,7 @@ pub fn aims_below<'a>(
     aims: &[Aimed<'a>],
     slot: usize,
 ) -> Result<Vec<Aimed<'a>>, AllocError>
-    ensures { IfOk result (λ v. map placed v.items ≡ placed_below slot (map placed aims.now)) }
+    ensures { IfOk result (λ v. map formed v.items ≡ formed_below slot (map formed aims.now)) }
 {
     let mut out = Vec::new(alloc);
     for aim in aims {

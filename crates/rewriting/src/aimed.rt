@@ -1,6 +1,6 @@
 ghost use Rattle.std.specs.Prelude.{ℕ, ◌<◌, ◌≤◌, ◌+◌, ◌≡◌, Bool, true, false, [], ◌∷◌, suc, not};
 ghost use Rattle.rewriting.specs.Aim.{FirstIn, Behind, Over, aims_at_gap, starts_at, replaces};
-ghost use Rattle.rewriting.specs.inner.Aimed.{aim_in, siblings_from, placed, numbered, option_placed, seen_from, has_parent};
+ghost use Rattle.rewriting.specs.inner.Aimed.{aim_in, siblings_from, formed, numbered, option_formed, seen_from, has_parent};
 ghost use Rattle.rewriting.specs.inner.Groups.{concerns};
 
 /// Where something aims, from the element at a path.
@@ -161,7 +161,7 @@ impl<'a> Aimed<'a> {
 
     // The same as it is seen from this child of the top, if its path leads to the child or below.
     pub(crate) fn seen_from(&self, slot: usize) -> Option<Aimed<'a>>
-        ensures { option_placed result ≡ seen_from slot (placed self.now) }
+        ensures { option_formed result ≡ seen_from slot (formed self.now) }
     {
         let [first, rest @ ..] = self.path else {
             return None;

@@ -107,7 +107,7 @@ pub fn default_order(
 ) -> Result<Vec<usize>, AllocError>
     requires { fates.now ≡ map (fate changes.now) changes.now }
     ensures allowed { IfOk result (λ v. IsAllowed changes.now v.items) }
-    ensures placed { IfOk result (λ v. IsDefaultOrder changes.now v.items) }
+    ensures ordered { IfOk result (λ v. IsDefaultOrder changes.now v.items) }
 {
     let mut turns = turns(alloc, changes, fates)?;
     turns.sort()?;

@@ -111,7 +111,7 @@ pub fn elements_with_spaces(
 {
     let (front, end) = spaces_round(alloc, at, &new)?;
     // The numbers are drawn last, when nothing can fail any more.
-    let mut drawn = TreeIds::new(ids.peek().unwrap_or(u64::MAX));
+    let mut drawn = ids.ahead();
     let all = with_spaces(alloc, &mut drawn, front, new, end)?;
     *ids = drawn;
     Ok(all)

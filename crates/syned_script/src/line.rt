@@ -28,9 +28,9 @@ pub(crate) enum Line<'a> {
         input: Reference<'a>,
         output: Reference<'a>,
     },
-    /// New elements at a place.
+    /// New elements at a position.
     Insert {
-        place: Place<'a>,
+        at: WrittenPosition<'a>,
         payload: Vec<Reference<'a>>,
     },
     /// An element is deleted.
@@ -68,7 +68,7 @@ pub(crate) enum Line<'a> {
 
 /// Where new elements are put.
 #[derive(Drop)]
-pub(crate) enum Place<'a> {
+pub(crate) enum WrittenPosition<'a> {
     /// Before the first child of a node.
     First(Reference<'a>),
     /// After the last child of a node.
@@ -128,19 +128,19 @@ fn map_line<'a>(alloc: Global, fields: &mut Fields<'a>) -> Result<Line<'a>, Stop
 }
 
 fn insert_line<'a>(alloc: Global, fields: &mut Fields<'a>) -> Result<Line<'a>, Stop> {
-    let place = read_place(alloc, fields)?;
+    let at = read_position(alloc, fields)?;
     let payload = fields.references(alloc)?;
-    Ok(Line::Insert { place, payload })
+    Ok(Line::Insert { at, payload })
 }
 
-fn read_place<'a>(alloc: Global, fields: &mut Fields<'a>) -> Result<Place<'a>, Stop> {
+fn read_position<'a>(alloc: Global, fields: &mut Fields<'a>) -> Result<WrittenPosition<'a>, Stop> {
     let word = fields.next().ok_or(Stop::Bad)?;
     let beside = fields.reference(alloc)?;
     match word {
-        "first" => Ok(Place::First(beside)),
-        "last" => Ok(Place::Last(beside)),
-        "before" => Ok(Place::Before(beside)),
-        "after" => Ok(Place::After(beside)),
+        "first" => Ok(WrittenPosition::First(beside)),
+        "last" => Ok(WrittenPosition::Last(beside)),
+        "before" => Ok(WrittenPosition::Before(beside)),
+        "after" => Ok(WrittenPosition::After(beside)),
         _ => Err(Stop::Bad),
     }
 }

@@ -1,6 +1,6 @@
 //! The trees of a script by name.
 
-use crate::line::Place;
+use crate::line::WrittenPosition;
 use crate::name::Name;
 use crate::reference::Reference;
 use crate::stop::Stop;
@@ -73,13 +73,17 @@ impl Roots {
         self.element(alloc, reference)?.into_node().ok_or(Stop::Bad)
     }
 
-    /// The position at a place; `Bad` where there is none.
-    pub(crate) fn position(&self, alloc: Global, place: &Place<'_>) -> Result<Position, Stop> {
-        match place {
-            Place::First(node) => self.first_in(alloc, node),
-            Place::Last(node) => self.last_in(alloc, node),
-            Place::Before(element) => gap(self.before(alloc, element)?),
-            Place::After(element) => gap(self.after(alloc, element)?),
+    /// The position that is written so; `Bad` where there is none.
+    pub(crate) fn position(
+        &self,
+        alloc: Global,
+        at: &WrittenPosition<'_>,
+    ) -> Result<Position, Stop> {
+        match at {
+            WrittenPosition::First(node) => self.first_in(alloc, node),
+            WrittenPosition::Last(node) => self.last_in(alloc, node),
+            WrittenPosition::Before(element) => gap(self.before(alloc, element)?),
+            WrittenPosition::After(element) => gap(self.after(alloc, element)?),
         }
     }
 

@@ -1,6 +1,6 @@
 //! The state of a script that is carried out line by line.
 
-use crate::line::{Line, Place};
+use crate::line::{Line, WrittenPosition};
 use crate::name::Name;
 use crate::reference::Reference;
 use crate::roots::Roots;
@@ -72,7 +72,7 @@ impl Session {
                 input,
                 output,
             } => self.map(&parent, &input, &output),
-            Line::Insert { place, payload } => self.insert(&place, &payload),
+            Line::Insert { at, payload } => self.insert(&at, &payload),
             Line::Delete { target } => self.delete(&target),
             Line::Replace { target, payload } => self.replace(&target, &payload),
             Line::Range {
@@ -146,23 +146,31 @@ impl Session {
         }
     }
 
-    fn insert(&mut self, place: &Place<'_>, payload: &[Reference<'_>]) -> Result<(), Stop> {
+    fn insert(&mut self, at: &WrittenPosition<'_>, payload: &[Reference<'_>]) -> Result<(), Stop> {
         match payload {
-            [one] => self.insert_one(place, one),
-            _ => self.insert_all(place, payload),
+            [one] => self.insert_one(at, one),
+            _ => self.insert_all(at, payload),
         }
     }
 
-    fn insert_one(&mut self, place: &Place<'_>, payload: &Reference<'_>) -> Result<(), Stop> {
+    fn insert_one(
+        &mut self,
+        at: &WrittenPosition<'_>,
+        payload: &Reference<'_>,
+    ) -> Result<(), Stop> {
         let editor = editor_of(&mut self.editing)?;
-        let at = self.roots.position(self.alloc, place)?;
+        let at = self.roots.position(self.alloc, at)?;
         let element = self.roots.element(self.alloc, payload)?;
         Ok(editor.insert(self.alloc, at, element)?)
     }
 
-    fn insert_all(&mut self, place: &Place<'_>, payload: &[Reference<'_>]) -> Result<(), Stop> {
+    fn insert_all(
+        &mut self,
+        at: &WrittenPosition<'_>,
+        payload: &[Reference<'_>],
+    ) -> Result<(), Stop> {
         let editor = editor_of(&mut self.editing)?;
-        let at = self.roots.position(self.alloc, place)?;
+        let at = self.roots.position(self.alloc, at)?;
         let elements = self.roots.elements(self.alloc, payload)?;
         Ok(editor.insert_all(self.alloc, at, elements)?)
     }

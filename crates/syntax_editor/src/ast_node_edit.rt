@@ -123,7 +123,7 @@ fn indent_along(
     ensures unchanged { OnErr result (factory.new ≡ factory.old) }
 {
     // The number is drawn last, when memory cannot be refused any more.
-    let mut drawn = TreeIds::new(ids.peek().unwrap_or(u64::MAX));
+    let mut drawn = ids.ahead();
     let new = indent(alloc, node, &mut drawn, level)?;
     match factory.map_children(alloc, node, &new) {
         Ok(()) => {

@@ -61,8 +61,8 @@ impl SyntaxEditor {
             return Ok((SyntaxEditor::of_root(alloc, own), root));
         }
         // The number is drawn last, when nothing can fail any more.
-        let mut peeked = TreeIds::new(ids.peek().unwrap_or(u64::MAX));
-        let own = root.clone_subtree(alloc, &mut peeked)?;
+        let mut drawn = ids.ahead();
+        let own = root.clone_subtree(alloc, &mut drawn)?;
         let edited = own.try_clone(alloc)?;
         ids.next();
         Ok((SyntaxEditor::of_root(alloc, own), edited))

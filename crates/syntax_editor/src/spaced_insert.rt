@@ -37,7 +37,7 @@ impl SyntaxEditor {
             return Err(RecordError::Foreign);
         }
         // The numbers are drawn last, when nothing can fail any more.
-        let mut drawn = TreeIds::new(ids.peek().unwrap_or(u64::MAX));
+        let mut drawn = ids.ahead();
         let all = match elements_with_spaces(alloc, &mut drawn, &at, elements) {
             Ok(all) => all,
             Err(error) => return Err(RecordError::of_space(error)),

@@ -19,7 +19,7 @@ impl Choice {
         if count == 0 {
             return None;
         }
-        let place = (self.state >> 33) % count;
-        numbers.get(place as usize).copied()
+        let index = (self.state >> 33) % count;
+        numbers.get(index as usize).copied()
     }
 }

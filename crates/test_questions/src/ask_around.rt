@@ -2,7 +2,7 @@
 
 use crate::memory::Standing;
 use crate::shown::agree;
-use crate::told::{told_node, told_node_place, told_place};
+use crate::told::{told_address, told_node, told_node_address};
 use cst_core::{SyntaxElement, SyntaxNode, SyntaxToken};
 use std::alloc::Global;
 use test_trees::{NoAnswer, Trees, find_named};
@@ -33,9 +33,9 @@ pub fn answer(
     alloc: Global,
     trees: &Trees,
     question: AroundQuestion,
-    place: &str,
+    address: &str,
 ) -> Result<String, NoAnswer> {
-    let element = trees.element(alloc, place)?;
+    let element = trees.element(alloc, address)?;
     let before = Standing::of(&element);
     let answer = of_all(alloc, question, &element);
     before.answer_if_kept(&element, answer)
@@ -69,19 +69,19 @@ fn of_element(
 ) -> Result<String, NoAnswer> {
     let tree = element.tree();
     match question {
-        AroundQuestion::Parent => told_node_place(
+        AroundQuestion::Parent => told_node_address(
             alloc,
             tree,
             "SyntaxElement::parent",
             element.parent(alloc),
         ),
-        AroundQuestion::PrevSiblingOrToken => told_place(
+        AroundQuestion::PrevSiblingOrToken => told_address(
             alloc,
             tree,
             "SyntaxElement::prev_sibling_or_token",
             element.prev_sibling_or_token(alloc),
         ),
-        AroundQuestion::NextSiblingOrToken => told_place(
+        AroundQuestion::NextSiblingOrToken => told_address(
             alloc,
             tree,
             "SyntaxElement::next_sibling_or_token",
@@ -99,19 +99,19 @@ fn of_element(
 fn of_node(alloc: Global, question: AroundQuestion, node: &SyntaxNode) -> Result<String, NoAnswer> {
     let tree = node.tree();
     match question {
-        AroundQuestion::Parent => told_node_place(
+        AroundQuestion::Parent => told_node_address(
             alloc,
             tree,
             "SyntaxNode::parent",
             node.parent(alloc),
         ),
-        AroundQuestion::PrevSiblingOrToken => told_place(
+        AroundQuestion::PrevSiblingOrToken => told_address(
             alloc,
             tree,
             "SyntaxNode::prev_sibling_or_token",
             node.prev_sibling_or_token(alloc),
         ),
-        AroundQuestion::NextSiblingOrToken => told_place(
+        AroundQuestion::NextSiblingOrToken => told_address(
             alloc,
             tree,
             "SyntaxNode::next_sibling_or_token",
@@ -133,19 +133,19 @@ fn of_token(
 ) -> Result<String, NoAnswer> {
     let tree = token.tree();
     match question {
-        AroundQuestion::Parent => told_node_place(
+        AroundQuestion::Parent => told_node_address(
             alloc,
             tree,
             "SyntaxToken::parent",
             token.parent(alloc),
         ),
-        AroundQuestion::PrevSiblingOrToken => told_place(
+        AroundQuestion::PrevSiblingOrToken => told_address(
             alloc,
             tree,
             "SyntaxToken::prev_sibling_or_token",
             token.prev_sibling_or_token(alloc),
         ),
-        AroundQuestion::NextSiblingOrToken => told_place(
+        AroundQuestion::NextSiblingOrToken => told_address(
             alloc,
             tree,
             "SyntaxToken::next_sibling_or_token",

@@ -49,9 +49,9 @@ pub fn answer(
     alloc: Global,
     trees: &Trees,
     question: FactQuestion,
-    place: &str,
+    address: &str,
 ) -> Result<String, NoAnswer> {
-    let element = trees.element(alloc, place)?;
+    let element = trees.element(alloc, address)?;
     let before = Standing::of(&element);
     let answer = of_all(alloc, question, &element);
     before.answer_if_kept(&element, answer)

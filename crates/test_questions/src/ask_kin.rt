@@ -1,7 +1,7 @@
 //! The nearest nodes below a node and beside it.
 
 use crate::memory::Standing;
-use crate::told::told_node_place;
+use crate::told::told_node_address;
 use cst_core::{SyntaxElement, SyntaxNode};
 use std::alloc::Global;
 use test_trees::{NoAnswer, Trees, find_named};
@@ -32,9 +32,9 @@ pub fn answer(
     alloc: Global,
     trees: &Trees,
     question: KinQuestion,
-    place: &str,
+    address: &str,
 ) -> Result<String, NoAnswer> {
-    let element = trees.element(alloc, place)?;
+    let element = trees.element(alloc, address)?;
     let before = Standing::of(&element);
     let answer = of_element(alloc, question, &element);
     before.answer_if_kept(&element, answer)
@@ -55,7 +55,7 @@ fn of_node(alloc: Global, question: KinQuestion, node: &SyntaxNode) -> Result<St
     let tree = node.tree();
     match question {
         KinQuestion::FirstChild => {
-            told_node_place(
+            told_node_address(
                 alloc,
                 tree,
                 "SyntaxNode::first_child",
@@ -63,7 +63,7 @@ fn of_node(alloc: Global, question: KinQuestion, node: &SyntaxNode) -> Result<St
             )
         }
         KinQuestion::LastChild => {
-            told_node_place(
+            told_node_address(
                 alloc,
                 tree,
                 "SyntaxNode::last_child",
@@ -71,7 +71,7 @@ fn of_node(alloc: Global, question: KinQuestion, node: &SyntaxNode) -> Result<St
             )
         }
         KinQuestion::NextSibling => {
-            told_node_place(
+            told_node_address(
                 alloc,
                 tree,
                 "SyntaxNode::next_sibling",
@@ -79,7 +79,7 @@ fn of_node(alloc: Global, question: KinQuestion, node: &SyntaxNode) -> Result<St
             )
         }
         KinQuestion::PrevSibling => {
-            told_node_place(
+            told_node_address(
                 alloc,
                 tree,
                 "SyntaxNode::prev_sibling",

@@ -2,7 +2,7 @@
 
 use crate::memory::Standing;
 use crate::shown::agree;
-use crate::told::{told_node_places, told_places};
+use crate::told::{told_addresses, told_node_addresses};
 use cst_core::{Direction, SyntaxElement};
 use std::alloc::Global;
 use test_trees::{NoAnswer, Trees, find_named};
@@ -35,9 +35,9 @@ pub fn answer(
     alloc: Global,
     trees: &Trees,
     question: ListQuestion,
-    place: &str,
+    address: &str,
 ) -> Result<String, NoAnswer> {
-    let element = trees.element(alloc, place)?;
+    let element = trees.element(alloc, address)?;
     let before = Standing::of(&element);
     let answer = match question {
         ListQuestion::Ancestors => ancestors(alloc, &element),
@@ -50,7 +50,7 @@ pub fn answer(
 // Of the element, and of the node or token that it is.
 fn ancestors(alloc: Global, element: &SyntaxElement) -> Result<String, NoAnswer> {
     let called = element.ancestors(alloc);
-    let own = told_node_places(alloc, element.tree(), "SyntaxElement::ancestors", called)?;
+    let own = told_node_addresses(alloc, element.tree(), "SyntaxElement::ancestors", called)?;
     agree(alloc, own, ancestors_by_form(alloc, element)?)
 }
 
@@ -58,9 +58,9 @@ fn ancestors_by_form(alloc: Global, element: &SyntaxElement) -> Result<String, N
     let tree = element.tree();
     match element {
         SyntaxElement::Node(node) => {
-            told_node_places(alloc, tree, "SyntaxNode::ancestors", node.ancestors(alloc))
+            told_node_addresses(alloc, tree, "SyntaxNode::ancestors", node.ancestors(alloc))
         }
-        SyntaxElement::Token(token) => told_node_places(
+        SyntaxElement::Token(token) => told_node_addresses(
             alloc,
             tree,
             "SyntaxToken::parent_ancestors",
@@ -76,7 +76,7 @@ fn siblings(
     element: &SyntaxElement,
 ) -> Result<String, NoAnswer> {
     let called = element.siblings_with_tokens(alloc, direction);
-    let own = told_places(
+    let own = told_addresses(
         alloc,
         element.tree(),
         "SyntaxElement::siblings_with_tokens",
@@ -92,13 +92,13 @@ fn siblings_by_form(
 ) -> Result<String, NoAnswer> {
     let tree = element.tree();
     match element {
-        SyntaxElement::Node(node) => told_places(
+        SyntaxElement::Node(node) => told_addresses(
             alloc,
             tree,
             "SyntaxNode::siblings_with_tokens",
             node.siblings_with_tokens(alloc, direction),
         ),
-        SyntaxElement::Token(token) => told_places(
+        SyntaxElement::Token(token) => told_addresses(
             alloc,
             tree,
             "SyntaxToken::siblings_with_tokens",
@@ -111,7 +111,7 @@ fn descendants(alloc: Global, element: &SyntaxElement) -> Result<String, NoAnswe
     let SyntaxElement::Node(node) = element else {
         return Err(NoAnswer::Form);
     };
-    told_places(
+    told_addresses(
         alloc,
         node.tree(),
         "SyntaxNode::descendants_with_tokens",

@@ -2,7 +2,7 @@
 
 use crate::memory::{Standing, node_or_refusal, value_or_refusal};
 use crate::shown::{kind_name, push_extent};
-use crate::told::{told_node_places, told_place, told_places, told_token_place};
+use crate::told::{told_address, told_addresses, told_node_addresses, told_token_address};
 use cst_core::{SyntaxElement, SyntaxNode, TreeIds};
 use std::alloc::{AllocError, Global};
 use test_trees::{NoAnswer, Trees, find_named, number, push_path};
@@ -41,9 +41,9 @@ pub fn answer(
     alloc: Global,
     trees: &Trees,
     question: NodeQuestion,
-    place: &str,
+    address: &str,
 ) -> Result<String, NoAnswer> {
-    let element = trees.element(alloc, place)?;
+    let element = trees.element(alloc, address)?;
     let before = Standing::of(&element);
     let answer = of_element(alloc, question, &element);
     before.answer_if_kept(&element, answer)
@@ -63,29 +63,29 @@ fn of_element(
 fn of_node(alloc: Global, question: NodeQuestion, node: &SyntaxNode) -> Result<String, NoAnswer> {
     let tree = node.tree();
     match question {
-        NodeQuestion::ChildrenWithTokens => told_places(
+        NodeQuestion::ChildrenWithTokens => told_addresses(
             alloc,
             tree,
             "SyntaxNode::children_with_tokens",
             node.children_with_tokens(alloc),
         ),
         NodeQuestion::Children => {
-            told_node_places(alloc, tree, "SyntaxNode::children", node.children(alloc))
+            told_node_addresses(alloc, tree, "SyntaxNode::children", node.children(alloc))
         }
-        NodeQuestion::FirstChildOrToken => told_place(
+        NodeQuestion::FirstChildOrToken => told_address(
             alloc,
             tree,
             "SyntaxNode::first_child_or_token",
             node.first_child_or_token(alloc),
         ),
-        NodeQuestion::LastChildOrToken => told_place(
+        NodeQuestion::LastChildOrToken => told_address(
             alloc,
             tree,
             "SyntaxNode::last_child_or_token",
             node.last_child_or_token(alloc),
         ),
         NodeQuestion::FirstToken => {
-            told_token_place(
+            told_token_address(
                 alloc,
                 tree,
                 "SyntaxNode::first_token",
@@ -93,7 +93,7 @@ fn of_node(alloc: Global, question: NodeQuestion, node: &SyntaxNode) -> Result<S
             )
         }
         NodeQuestion::LastToken => {
-            told_token_place(
+            told_token_address(
                 alloc,
                 tree,
                 "SyntaxNode::last_token",
@@ -101,7 +101,7 @@ fn of_node(alloc: Global, question: NodeQuestion, node: &SyntaxNode) -> Result<S
             )
         }
         NodeQuestion::Descendants => {
-            told_node_places(
+            told_node_addresses(
                 alloc,
                 tree,
                 "SyntaxNode::descendants",
@@ -123,12 +123,12 @@ fn clone_subtree(alloc: Global, node: &SyntaxNode) -> Result<String, NoAnswer> {
 // Number, path, kind, slot, start, length and text.
 fn root_facts(alloc: Global, root: &SyntaxNode) -> Result<String, NoAnswer> {
     let mut facts = number(alloc, root.tree())?;
-    push_place(&mut facts, root)?;
+    push_address(&mut facts, root)?;
     push_extent(&mut facts, root.text_len(), &text_of_root(alloc, root)?)?;
     Ok(facts)
 }
 
-fn push_place(facts: &mut String, root: &SyntaxNode) -> Result<(), AllocError> {
+fn push_address(facts: &mut String, root: &SyntaxNode) -> Result<(), AllocError> {
     facts.push(' ')?;
     push_path(facts, root.slots())?;
     let kind = kind_name(root.kind());

@@ -1,8 +1,8 @@
 //! What stands at an offset of a tree's text, and what covers a range of it.
 
 use crate::memory::value_or_refusal;
-use crate::shown::{place_of_token, push_item};
-use crate::told::told_place;
+use crate::shown::{address_of_token, push_item};
+use crate::told::told_address;
 use cst_core::{SyntaxNode, SyntaxToken, TokenAtOffset};
 use std::alloc::Global;
 use test_trees::{NoAnswer, Trees, Words, find_named, word};
@@ -45,30 +45,30 @@ fn token_at_offset(alloc: Global, trees: &Trees, arguments: &str) -> Result<Stri
 
 fn tokens_at(alloc: Global, node: &SyntaxNode, offset: u64) -> Result<String, NoAnswer> {
     let called = node.token_at_offset(alloc, offset);
-    token_places(
+    token_addresses(
         alloc,
         node.tree(),
         &value_or_refusal("SyntaxNode::token_at_offset", called)?,
     )
 }
 
-fn token_places(alloc: Global, tree: u64, found: &TokenAtOffset) -> Result<String, NoAnswer> {
+fn token_addresses(alloc: Global, tree: u64, found: &TokenAtOffset) -> Result<String, NoAnswer> {
     match found {
         TokenAtOffset::None => word(alloc, "none"),
-        TokenAtOffset::Single(token) => place_of_token(alloc, tree, token),
-        TokenAtOffset::Between(left, right) => both_places(alloc, tree, left, right),
+        TokenAtOffset::Single(token) => address_of_token(alloc, tree, token),
+        TokenAtOffset::Between(left, right) => both_addresses(alloc, tree, left, right),
     }
 }
 
 // With a comma between them.
-fn both_places(
+fn both_addresses(
     alloc: Global,
     tree: u64,
     left: &SyntaxToken,
     right: &SyntaxToken,
 ) -> Result<String, NoAnswer> {
-    let mut both = place_of_token(alloc, tree, left)?;
-    push_item(&mut both, &place_of_token(alloc, tree, right)?)?;
+    let mut both = address_of_token(alloc, tree, left)?;
+    push_item(&mut both, &address_of_token(alloc, tree, right)?)?;
     Ok(both)
 }
 
@@ -81,7 +81,7 @@ fn covering_element(alloc: Global, trees: &Trees, arguments: &str) -> Result<Str
 fn covering(alloc: Global, node: &SyntaxNode, words: &mut Words) -> Result<String, NoAnswer> {
     let start = words.number()?;
     let end = words.number()?;
-    told_place(
+    told_address(
         alloc,
         node.tree(),
         "SyntaxNode::covering_element",

@@ -1,6 +1,6 @@
 //! Where a path leads on from a node, and the tokens before and after a token.
 
-use crate::told::{told_place, told_token_place};
+use crate::told::{told_address, told_token_address};
 use cst_core::{SyntaxNode, SyntaxToken};
 use std::alloc::Global;
 use test_trees::{NoAnswer, Trees, Words, find_named, slots_of};
@@ -51,7 +51,7 @@ fn element_at(alloc: Global, trees: &Trees, arguments: &str) -> Result<String, N
 fn below_node(alloc: Global, node: &SyntaxNode, path: &str) -> Result<String, NoAnswer> {
     let slots = slots_of(alloc, path)?;
     let called = node.element_at(alloc, &slots);
-    told_place(alloc, node.tree(), "SyntaxNode::element_at", called)
+    told_address(alloc, node.tree(), "SyntaxNode::element_at", called)
 }
 
 fn element_of_tree(alloc: Global, trees: &Trees, arguments: &str) -> Result<String, NoAnswer> {
@@ -63,15 +63,15 @@ fn element_of_tree(alloc: Global, trees: &Trees, arguments: &str) -> Result<Stri
 // The path is counted from the root of the node's tree.
 fn below_root(alloc: Global, node: &SyntaxNode, path: &str) -> Result<String, NoAnswer> {
     let called = node.element_of_tree(alloc, slots_of(alloc, path)?);
-    told_place(alloc, node.tree(), "SyntaxNode::element_of_tree", called)
+    told_address(alloc, node.tree(), "SyntaxNode::element_of_tree", called)
 }
 
 fn prev_token(alloc: Global, token: &SyntaxToken) -> Result<String, NoAnswer> {
     let called = token.prev_token(alloc);
-    told_token_place(alloc, token.tree(), "SyntaxToken::prev_token", called)
+    told_token_address(alloc, token.tree(), "SyntaxToken::prev_token", called)
 }
 
 fn next_token(alloc: Global, token: &SyntaxToken) -> Result<String, NoAnswer> {
     let called = token.next_token(alloc);
-    told_token_place(alloc, token.tree(), "SyntaxToken::next_token", called)
+    told_token_address(alloc, token.tree(), "SyntaxToken::next_token", called)
 }

@@ -84,8 +84,8 @@ fn equality_to(
     word(alloc, equal(left, &right))
 }
 
-fn form(alloc: Global, trees: &Trees, place: &str) -> Result<String, NoAnswer> {
-    form_of(alloc, &trees.element(alloc, place)?)
+fn form(alloc: Global, trees: &Trees, address: &str) -> Result<String, NoAnswer> {
+    form_of(alloc, &trees.element(alloc, address)?)
 }
 
 fn form_of(alloc: Global, element: &SyntaxElement) -> Result<String, NoAnswer> {

@@ -10,8 +10,8 @@ use std::alloc::{AllocError, Global};
 use test_trees::{NoAnswer, Trees};
 
 /// `views NODE`: the kinds of the node's views as BlockExpr, as StmtList, as LetStmt and as Fn
-pub fn answer(alloc: Global, trees: &Trees, place: &str) -> Result<String, NoAnswer> {
-    let node = trees.node(alloc, place)?;
+pub fn answer(alloc: Global, trees: &Trees, address: &str) -> Result<String, NoAnswer> {
+    let node = trees.node(alloc, address)?;
     views(alloc, &node)
 }
 

@@ -53,15 +53,15 @@ pub fn path(alloc: Global, slots: &[usize]) -> Result<String, NoAnswer> {
 }
 
 /// Path and kind of an element of the tree with this number.
-pub fn place_of(alloc: Global, tree: u64, element: &SyntaxElement) -> Result<String, NoAnswer> {
+pub fn address_of(alloc: Global, tree: u64, element: &SyntaxElement) -> Result<String, NoAnswer> {
     match element {
-        SyntaxElement::Node(node) => place_of_node(alloc, tree, node),
-        SyntaxElement::Token(token) => place_of_token(alloc, tree, token),
+        SyntaxElement::Node(node) => address_of_node(alloc, tree, node),
+        SyntaxElement::Token(token) => address_of_token(alloc, tree, token),
     }
 }
 
 /// The same of a node.
-pub fn place_of_node(alloc: Global, tree: u64, node: &SyntaxNode) -> Result<String, NoAnswer> {
+pub fn address_of_node(alloc: Global, tree: u64, node: &SyntaxNode) -> Result<String, NoAnswer> {
     if node.tree() != tree {
         return Err(NoAnswer::OtherTree);
     }
@@ -69,7 +69,7 @@ pub fn place_of_node(alloc: Global, tree: u64, node: &SyntaxNode) -> Result<Stri
 }
 
 /// The same of a token.
-pub fn place_of_token(alloc: Global, tree: u64, token: &SyntaxToken) -> Result<String, NoAnswer> {
+pub fn address_of_token(alloc: Global, tree: u64, token: &SyntaxToken) -> Result<String, NoAnswer> {
     if token.tree() != tree {
         return Err(NoAnswer::OtherTree);
     }
@@ -84,25 +84,25 @@ fn path_and_kind(alloc: Global, slots: &[usize], kind: SyntaxKind) -> Result<Str
 }
 
 /// Paths and kinds of elements of the tree with this number, with commas between; `none` of none.
-pub fn places(alloc: Global, tree: u64, elements: &[SyntaxElement]) -> Result<String, NoAnswer> {
+pub fn addresses(alloc: Global, tree: u64, elements: &[SyntaxElement]) -> Result<String, NoAnswer> {
     if elements.is_empty() {
         return word(alloc, "none");
     }
     let mut all = String::new(alloc);
     for element in elements {
-        push_item(&mut all, &place_of(alloc, tree, element)?)?;
+        push_item(&mut all, &address_of(alloc, tree, element)?)?;
     }
     Ok(all)
 }
 
 /// The same of nodes.
-pub fn node_places(alloc: Global, tree: u64, nodes: &[SyntaxNode]) -> Result<String, NoAnswer> {
+pub fn node_addresses(alloc: Global, tree: u64, nodes: &[SyntaxNode]) -> Result<String, NoAnswer> {
     if nodes.is_empty() {
         return word(alloc, "none");
     }
     let mut all = String::new(alloc);
     for node in nodes {
-        push_item(&mut all, &place_of_node(alloc, tree, node)?)?;
+        push_item(&mut all, &address_of_node(alloc, tree, node)?)?;
     }
     Ok(all)
 }

@@ -2,7 +2,7 @@
 
 use crate::memory::value_or_refusal;
 use crate::shown::{
-    node_facts, node_places, path, place_of, place_of_node, place_of_token, places,
+    address_of, address_of_node, address_of_token, addresses, node_addresses, node_facts, path,
 };
 use cst_core::{GreenNode, SyntaxElement, SyntaxNode, SyntaxToken};
 use std::alloc::{AllocError, Global};
@@ -36,27 +36,27 @@ pub fn told_green(
 }
 
 /// Path and kind of an element of the tree with this number; `none` of none.
-pub fn told_place(
+pub fn told_address(
     alloc: Global,
     tree: u64,
     call: &'static str,
     called: Result<Option<SyntaxElement>, AllocError>,
 ) -> Result<String, NoAnswer> {
     match value_or_refusal(call, called)? {
-        Some(element) => place_of(alloc, tree, &element),
+        Some(element) => address_of(alloc, tree, &element),
         None => word(alloc, "none"),
     }
 }
 
 /// The same of a node.
-pub fn told_node_place(
+pub fn told_node_address(
     alloc: Global,
     tree: u64,
     call: &'static str,
     called: Result<Option<SyntaxNode>, AllocError>,
 ) -> Result<String, NoAnswer> {
     match value_or_refusal(call, called)? {
-        Some(node) => place_of_node(alloc, tree, &node),
+        Some(node) => address_of_node(alloc, tree, &node),
         None => word(alloc, "none"),
     }
 }
@@ -68,38 +68,38 @@ pub fn told_node(
     call: &'static str,
     called: Result<SyntaxNode, AllocError>,
 ) -> Result<String, NoAnswer> {
-    place_of_node(alloc, tree, &value_or_refusal(call, called)?)
+    address_of_node(alloc, tree, &value_or_refusal(call, called)?)
 }
 
 /// The same of a token.
-pub fn told_token_place(
+pub fn told_token_address(
     alloc: Global,
     tree: u64,
     call: &'static str,
     called: Result<Option<SyntaxToken>, AllocError>,
 ) -> Result<String, NoAnswer> {
     match value_or_refusal(call, called)? {
-        Some(token) => place_of_token(alloc, tree, &token),
+        Some(token) => address_of_token(alloc, tree, &token),
         None => word(alloc, "none"),
     }
 }
 
 /// Paths and kinds of elements of the tree with this number; `none` of none.
-pub fn told_places(
+pub fn told_addresses(
     alloc: Global,
     tree: u64,
     call: &'static str,
     called: Result<Vec<SyntaxElement>, AllocError>,
 ) -> Result<String, NoAnswer> {
-    places(alloc, tree, &value_or_refusal(call, called)?)
+    addresses(alloc, tree, &value_or_refusal(call, called)?)
 }
 
 /// The same of nodes.
-pub fn told_node_places(
+pub fn told_node_addresses(
     alloc: Global,
     tree: u64,
     call: &'static str,
     called: Result<Vec<SyntaxNode>, AllocError>,
 ) -> Result<String, NoAnswer> {
-    node_places(alloc, tree, &value_or_refusal(call, called)?)
+    node_addresses(alloc, tree, &value_or_refusal(call, called)?)
 }

@@ -26,7 +26,7 @@ fn row_of<'a>(rows: &'a [Row], name: &str) -> Result<&'a Row, RowError> {
 
 // What the next character belongs to.
 #[derive(Clone, Copy)]
-enum Place {
+enum State {
     Outside,
     Text,
     // After a backslash of a text.
@@ -38,24 +38,24 @@ enum Place {
 pub(crate) fn expand(alloc: Global, rows: &[Row], expression: &str) -> Result<String, RowError> {
     let mut expanded = String::new(alloc);
     let mut name = String::new(alloc);
-    let mut place = Place::Outside;
+    let mut state = State::Outside;
     for c in expression.chars() {
-        place = match (place, c) {
+        state = match (state, c) {
             // A name alone is no node.
-            (Place::Outside, '[') if expanded.is_empty() => return Err(RowError::Malformed),
-            (Place::Outside, '[') => Place::RowName,
-            (Place::RowName, ']') => {
+            (State::Outside, '[') if expanded.is_empty() => return Err(RowError::Malformed),
+            (State::Outside, '[') => State::RowName,
+            (State::RowName, ']') => {
                 expanded.push_str(&row_of(rows, &name)?.expression)?;
                 name.clear();
-                Place::Outside
+                State::Outside
             }
-            (Place::RowName, c) => {
+            (State::RowName, c) => {
                 name.push(c)?;
-                Place::RowName
+                State::RowName
             }
-            (place, c) => {
+            (state, c) => {
                 expanded.push(c)?;
-                behind(place, c)
+                behind(state, c)
             }
         };
     }
@@ -63,12 +63,12 @@ pub(crate) fn expand(alloc: Global, rows: &[Row], expression: &str) -> Result<St
 }
 
 // Where the character after this one is, outside of names.
-fn behind(place: Place, c: char) -> Place {
-    match (place, c) {
-        (Place::Outside, '"') => Place::Text,
-        (Place::Text, '"') => Place::Outside,
-        (Place::Text, '\\') => Place::Escape,
-        (Place::Escape, _) => Place::Text,
-        (place, _) => place,
+fn behind(state: State, c: char) -> State {
+    match (state, c) {
+        (State::Outside, '"') => State::Text,
+        (State::Text, '"') => State::Outside,
+        (State::Text, '\\') => State::Escape,
+        (State::Escape, _) => State::Text,
+        (state, _) => state,
     }
 }

@@ -93,22 +93,22 @@ impl Trees {
     }
 
     /// The element of a tree, as `L/1/0`; the root is `L` alone. Each is of a tree and from a source of its own.
-    pub fn element(&self, alloc: Global, place: &str) -> Result<SyntaxElement, NoAnswer> {
-        let (tree, path) = name_and_path(place);
+    pub fn element(&self, alloc: Global, address: &str) -> Result<SyntaxElement, NoAnswer> {
+        let (tree, path) = name_and_path(address);
         let root = self.root(alloc, tree)?;
         element_below(alloc, &root, path)
     }
 
     /// The node there.
-    pub fn node(&self, alloc: Global, place: &str) -> Result<SyntaxNode, NoAnswer> {
-        self.element(alloc, place)?
+    pub fn node(&self, alloc: Global, address: &str) -> Result<SyntaxNode, NoAnswer> {
+        self.element(alloc, address)?
             .into_node()
             .ok_or(NoAnswer::Form)
     }
 
     /// The token there.
-    pub fn token(&self, alloc: Global, place: &str) -> Result<SyntaxToken, NoAnswer> {
-        self.element(alloc, place)?
+    pub fn token(&self, alloc: Global, address: &str) -> Result<SyntaxToken, NoAnswer> {
+        self.element(alloc, address)?
             .into_token()
             .ok_or(NoAnswer::Form)
     }

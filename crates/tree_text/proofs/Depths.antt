@@ -39,7 +39,7 @@ popped old new (Some n) k is fits =
     let fits' : open_depth (new ++ n ∷ []) ≤ k = subst (λ ns. open_depth ns ≤ k) is fits in
     let below = outer_below new n in omega arith
 
--- a node that is opened, or that goes back to its place
+-- a node that is opened, or that goes back to where it stands
 pub pushed : (old new : List OpenNode) (n : OpenNode) (b : Bool) (k : ℕ) → new ≡ (if b then old ++ n ∷ [] else old) → open_depth old ≤ k → length old + suc (filled n) ≤ k → open_depth new ≤ k
 pushed old new n true k is outer inner = subst (λ ns. open_depth ns ≤ k) (sym is) (open_depth_at_most old n k outer inner)
 pushed old new n false k is outer inner = subst (λ ns. open_depth ns ≤ k) (sym is) outer

@@ -24,7 +24,7 @@ pub fn read_tree(alloc: Global, expression: &str) -> Result<GreenNode, Expressio
     let mut reader = Reader {
         alloc,
         open: OpenNodes::new(alloc),
-        place: Place::Between,
+        state: State::Between,
         word: String::new(alloc),
         root: None,
     };
@@ -36,7 +36,7 @@ pub fn read_tree(alloc: Global, expression: &str) -> Result<GreenNode, Expressio
 
 // What the next character belongs to.
 #[derive(Clone, Copy)]
-enum Place {
+enum State {
     Between,
     NodeKind,
     TokenKind,
@@ -49,7 +49,7 @@ enum Place {
 struct Reader {
     alloc: Global,
     open: OpenNodes,
-    place: Place,
+    state: State,
     // The name or the text that is being read.
     word: String,
     // The whole tree, once its last parenthesis was read.
@@ -59,12 +59,12 @@ struct Reader {
 
 impl Reader {
     fn step(&mut self, c: char) -> Result<(), ExpressionError> {
-        match self.place {
-            Place::Between => self.between(c),
-            Place::NodeKind => self.in_node_kind(c),
-            Place::TokenKind => self.in_token_kind(c),
-            Place::Text(kind) => self.in_text(kind, c),
-            Place::Escape(kind) => self.in_escape(kind, c),
+        match self.state {
+            State::Between => self.between(c),
+            State::NodeKind => self.in_node_kind(c),
+            State::TokenKind => self.in_token_kind(c),
+            State::Text(kind) => self.in_text(kind, c),
+            State::Escape(kind) => self.in_escape(kind, c),
         }
     }
 
@@ -76,12 +76,12 @@ impl Reader {
         match c {
             ' ' => Ok(()),
             '(' => {
-                self.place = Place::NodeKind;
+                self.state = State::NodeKind;
                 Ok(())
             }
             ')' => self.close(),
             c => {
-                self.place = Place::TokenKind;
+                self.state = State::TokenKind;
                 self.push_to_name(c)
             }
         }
@@ -93,7 +93,7 @@ impl Reader {
         }
         let kind = self.take_kind()?;
         self.open.begin(self.alloc, kind)?;
-        self.place = Place::Between;
+        self.state = State::Between;
         self.between(c)
     }
 
@@ -101,7 +101,7 @@ impl Reader {
         if c != '"' {
             return self.push_to_name(c);
         }
-        self.place = Place::Text(self.take_kind()?);
+        self.state = State::Text(self.take_kind()?);
         Ok(())
     }
 
@@ -109,7 +109,7 @@ impl Reader {
         match c {
             '"' => self.end_token(kind),
             '\\' => {
-                self.place = Place::Escape(kind);
+                self.state = State::Escape(kind);
                 Ok(())
             }
             c => Ok(self.word.push(c)?),
@@ -119,7 +119,7 @@ impl Reader {
     fn in_escape(&mut self, kind: SyntaxKind, c: char) -> Result<(), ExpressionError> {
         let meant = meant_by(c).ok_or(ExpressionError::Malformed)?;
         self.word.push(meant)?;
-        self.place = Place::Text(kind);
+        self.state = State::Text(kind);
         Ok(())
     }
 
@@ -142,7 +142,7 @@ impl Reader {
             ExpressionError::of_tree,
         )?;
         self.word.clear();
-        self.place = Place::Between;
+        self.state = State::Between;
         self.open.put(GreenElement::Token(token))
     }
 

@@ -27,7 +27,7 @@ as_deleted (Some r) = Some (record { first = r.first; is_deleted = true })
 
 -- ---- the index
 abbrev pub entry_at : ReplaceIndex → Path → Option Replaced
-entry_at x p = get_by (λ k. same_path p k.items) x.places
+entry_at x p = get_by (λ k. same_path p k.items) x.entries
 
 abbrev pub SaysAt : Path → Option Replaced → ReplaceIndex → ReplaceIndex → Type 0
 SaysAt path replaced before after = (p : Path) → entry_at after p ≡ cond (same_path path p) replaced (entry_at before p)
@@ -36,15 +36,15 @@ abbrev pub SaysDeleted : Path → ReplaceIndex → ReplaceIndex → Type 0
 SaysDeleted path before after = (p : Path) → entry_at after p ≡ cond (same_path path p) (as_deleted (entry_at before p)) (entry_at before p)
 
 abbrev pub room : ReplaceIndex → ℕ
-room x = spare x.places
+room x = spare x.entries
 
 abbrev pub Agrees : ReplaceIndex → List Change → Type 0
 Agrees x cs = (p : Path) → entry_at x p ≡ replaced_at p cs
 
 -- ---- more changes at the end, which an index is told of where the call is not refused
 abbrev pub Notes : {A E : Type 0} → Result A E → ℕ → List Change → ReplaceIndex → ReplaceIndex → Type 0
-Notes r place more before after = (cs : List Change) → length cs ≡ place → Agrees before cs → OnOk r (Agrees after (cs ++ more))
+Notes r number more before after = (cs : List Change) → length cs ≡ number → Agrees before cs → OnOk r (Agrees after (cs ++ more))
 
 abbrev pub NotesReplace : {A E : Type 0} → Result A E → ℕ → SyntaxElement → Bool → ReplaceIndex → ReplaceIndex → Type 0
-NotesReplace r place e deletes before after =
-    (cs : List Change) (new : Option SyntaxElement) → length cs ≡ place → is_none new ≡ deletes → Agrees before cs → OnOk r (Agrees after (cs ++ Replace e new ∷ []))
+NotesReplace r number e deletes before after =
+    (cs : List Change) (new : Option SyntaxElement) → length cs ≡ number → is_none new ≡ deletes → Agrees before cs → OnOk r (Agrees after (cs ++ Replace e new ∷ []))

@@ -29,7 +29,7 @@ IsLastStop passes n stop =
     MatchOption stop ((k : ℕ) → k < n → passes k) (λ d. (d < n) × ((k : ℕ) → d < k → k < n → passes k))
 
 abbrev pub IsFree : Stops → Address → Type 0
-IsFree stops x = number_by_path stops.places (address_path x) ≡ None
+IsFree stops x = number_by_path stops.cells (address_path x) ≡ None
 
 abbrev pub IsStopAbove : Stops → Element → Element → Option ℕ → Type 0
 IsStopAbove stops node payload stop =
@@ -43,5 +43,5 @@ StopsAll stops pairs = All (λ pair. IsFree stops (address pair.0) → ⊥) pair
 
 pub record IsKept (m : Mapping) (stops : Stops) : Type 0 where
   pub mapping : IsMapping m
-  pub tree : IsTree stops.places
+  pub tree : IsTree stops.cells
   pub free : (x : Address) → IsFree stops x → HasNoCopy m x

@@ -3,7 +3,7 @@
 --     FindsLastBefore, FindsFirstAfter      that of the last token before the element at a path; of the first one after it
 --     tokens_from, FindsFirstFrom   the paths of the tokens that do not stand before the element at a path; that of the first of them
 --     path_found, IsTokenOf         the path of a token that was found; it leads to that token in the tree
---     place_found, places_below     the path of a token that was found, and its tree; paths in a tree that stands at a path, each with what it leads to
+--     reached, reached_below     the path of a token that was found, and its tree; paths in a tree that stands at a path, each with what it leads to
 --     FindsTouching                 after those that were found before, the tokens of a tree at a path that touch an offset
 use Rattle.std.specs.Prelude.{◌≡◌, ℕ, not, List, [], ◌++◌, map, filter, Option, Some, option_map, unwrap_or}
 use Rattle.green_tree.specs.Path.{Path, precedes, first_item}
@@ -35,11 +35,11 @@ path_found found = option_map (λ token. token.path.items) found
 abbrev pub IsTokenOf : SyntaxTree → FoundToken → Type 0
 IsTokenOf t token = at t token.path.items ≡ Some (leaf_tree token.green)
 
-abbrev pub place_found : FoundToken → Path × Option SyntaxTree
-place_found token = (token.path.items, Some (leaf_tree token.green))
+abbrev pub reached : FoundToken → Path × Option SyntaxTree
+reached token = (token.path.items, Some (leaf_tree token.green))
 
-abbrev pub places_below : Path → SyntaxTree → List Path → List (Path × Option SyntaxTree)
-places_below top t ps = map (λ p. (top ++ p, at t p)) ps
+abbrev pub reached_below : Path → SyntaxTree → List Path → List (Path × Option SyntaxTree)
+reached_below top t ps = map (λ p. (top ++ p, at t p)) ps
 
 abbrev pub FindsTouching : SyntaxTree → ℕ → Path → List FoundToken → List FoundToken → Type 0
-FindsTouching t offset top old new = map place_found new ≡ map place_found old ++ places_below top t (tokens_touching t offset)
+FindsTouching t offset top old new = map reached new ≡ map reached old ++ reached_below top t (tokens_touching t offset)

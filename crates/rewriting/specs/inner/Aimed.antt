@@ -1,12 +1,12 @@
 -- What aims in code stand for.
 --     siblings_from                 the paths of an element and of the siblings after it, n with the first; the top has none
 --     aim_in                        an aim from the element at a path
---     Placed, placed                the number of a change, a path, and the form in which it aims from there
---     option_placed, of_placed      the same of an aim that may not be there; the numbered aim that it stands for
+--     FormedAim, formed                the number of a change, a path, and the form in which it aims from there
+--     option_formed, of_formed      the same of an aim that may not be there; the numbered aim that it stands for
 --     numbered, aims_of             the numbered aim that it stands for; those of a list
 --     some_path                     there is a path among these
 --     has_parent                    it alters the children of some node
---     seen_from, placed_below       an aim at a child slot or below, with that slot dropped; of these aims those that there are
+--     seen_from, formed_below       an aim at a child slot or below, with that slot dropped; of these aims those that there are
 --     and_those                     one more of these, if it is there
 --     alter_below                   some aim, as it is seen from a child slot, alters the children of a node
 use Rattle.std.specs.Prelude.{ℕ, zero, suc, Bool, true, false, cond, nat_eq, List, [], ◌∷◌, ◌++◌, map, Option, Some, None, option_map}
@@ -28,19 +28,19 @@ aim_in p form.FirstIn = FirstIn p
 aim_in p form.Behind = Behind p
 aim_in p (form.Over n) = Over (siblings_from p n)
 
-pub record Placed : Type 0 where
+pub record FormedAim : Type 0 where
   pub change : ℕ
   pub path : Path
   pub form : AimForm
 
-abbrev pub placed : Aimed → Placed
-placed a = record { change = a.change; path = a.path.now; form = a.form }
+abbrev pub formed : Aimed → FormedAim
+formed a = record { change = a.change; path = a.path.now; form = a.form }
 
-abbrev pub of_placed : Placed → NumberedAim
-of_placed a = (a.change, aim_in a.path a.form)
+abbrev pub of_formed : FormedAim → NumberedAim
+of_formed a = (a.change, aim_in a.path a.form)
 
 abbrev pub numbered : Aimed → NumberedAim
-numbered a = of_placed (placed a)
+numbered a = of_formed (formed a)
 
 abbrev pub aims_of : List Aimed → List NumberedAim
 aims_of xs = map numbered xs
@@ -53,23 +53,23 @@ abbrev pub has_parent : NumberedAim → Bool
 has_parent c = some_path (parents c.1)
 
 -- ---- as they are seen from a child
-abbrev seen_along : ℕ → ℕ → AimForm → Path → Option Placed
+abbrev seen_along : ℕ → ℕ → AimForm → Path → Option FormedAim
 seen_along i c w [] = None
 seen_along i c w (j ∷ q) = cond (nat_eq i j) (Some (record { change = c; path = q; form = w })) None
 
-abbrev pub seen_from : ℕ → Placed → Option Placed
+abbrev pub seen_from : ℕ → FormedAim → Option FormedAim
 seen_from i a = seen_along i a.change a.form a.path
 
-abbrev pub option_placed : Option Aimed → Option Placed
-option_placed a = option_map placed a
+abbrev pub option_formed : Option Aimed → Option FormedAim
+option_formed a = option_map formed a
 
-abbrev pub and_those : Option Placed → List Placed → List Placed
+abbrev pub and_those : Option FormedAim → List FormedAim → List FormedAim
 and_those None xs = xs
 and_those (Some a) xs = a ∷ xs
 
-abbrev pub placed_below : ℕ → List Placed → List Placed
-placed_below i [] = []
-placed_below i (a ∷ xs) = and_those (seen_from i a) (placed_below i xs)
+abbrev pub formed_below : ℕ → List FormedAim → List FormedAim
+formed_below i [] = []
+formed_below i (a ∷ xs) = and_those (seen_from i a) (formed_below i xs)
 
-abbrev pub alter_below : ℕ → List Placed → Bool
-alter_below i xs = list_any has_parent (map of_placed (placed_below i xs))
+abbrev pub alter_below : ℕ → List FormedAim → Bool
+alter_below i xs = list_any has_parent (map of_formed (formed_below i xs))

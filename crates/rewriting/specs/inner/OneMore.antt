@@ -1,5 +1,5 @@
 -- Lists in a list, of which one gets one item more. What is in each, `shown` says.
---     HasOneMore                    the list in this place has this item more, at its end
+--     HasOneMore                    the list at this index has this item more, at its end
 --     StaysElsewhere                the others are as they were
 use Rattle.std.specs.Prelude.{◌≡◌, ◌≢◌, ℕ, List, [], ◌∷◌, ◌++◌, get_or}
 

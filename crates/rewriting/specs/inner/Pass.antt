@@ -34,7 +34,7 @@ use Rattle.green_tree.specs.GreenElement.{element_tree, element_trees}
 use Rattle.green_tree.specs.declared.green.GreenElement.{GreenElement}
 use Rattle.rewriting.specs.Effort.{touched, parents_of, built_from, nodes_built, nodes_built_whole, AreBuilt, counted}
 use Rattle.rewriting.specs.Rewriting.{NumberedAim, inserts_at, replacements_at, is_replaced, gap_order, slot, rewritten, rewritten_from, rewritten_whole}
-use Rattle.rewriting.specs.inner.Aimed.{placed, of_placed, aims_of, placed_below}
+use Rattle.rewriting.specs.inner.Aimed.{formed, of_formed, aims_of, formed_below}
 use Rattle.rewriting.specs.inner.Marked.{MarkTree, Marking, marked, marked_from, mark_below, marks_of, sought_in, wanted, Finds}
 use Rattle.rewriting.specs.declared.aimed.Aimed.{Aimed}
 use Rattle.rewriting.specs.declared.mark.Mark.{Mark}
@@ -110,7 +110,7 @@ module _ (path : Vec ℕ Global) (out : Vec GreenElement Global) (before after :
 
 -- ---- what the pass makes of the children of a node, each by the aims that concern it
 abbrev pub aims_inside : List Aimed → ℕ → List NumberedAim
-aims_inside aims i = map of_placed (placed_below i (map placed aims))
+aims_inside aims i = map of_formed (formed_below i (map formed aims))
 
 module _ {L : Type 0} (label_at : Path → ℕ → L) (given : ℕ → List (Tree L)) (aims : List Aimed) where
   abbrev pub child_made : ℕ → GreenElement → Tree L

@@ -16,12 +16,12 @@ impl Report {
         &mut self,
         rt: &R,
         kind: &str,
-        place: usize,
+        index: usize,
         is_right: bool,
     ) -> io::Result<()> {
         if !is_right {
             self.wrong = true;
-            println!(rt; "wrong: {kind} at {place}")?;
+            println!(rt; "wrong: {kind} at {index}")?;
         }
         Ok(())
     }

@@ -36,8 +36,8 @@ returns-clause-list c =
     let r = c.in-Some.known in
     let there : c.target.inside.path.items ≡ p = c.target.invariant ∙ ap (λ x. (element_of x).path) c.target.view_is in
     let said : replaced_at p cs ≡ Some r = sym (c.requires.agrees p) ∙ sym (ap (entry_at c.args.replaced.now) (c.as_slice.ensures.value ∙ there)) ∙ sym c.get.ensures ∙ c.in-Some.is in
-    let place : position (is_replace_at p) cs ≡ Some r.first = (something-said p cs r said).0 in
-    ap (set cs r.first) (c.take_away.ensures ∙ ap (with_replacement (λ _. None)) c.index_mut.ensures.value) ∙ taken-set (is_replace_at p) (with_replacement (λ _. None)) (Replace e None) cs r.first c.index_mut.result.now place
+    let stands : position (is_replace_at p) cs ≡ Some r.first = (something-said p cs r said).0 in
+    ap (set cs r.first) (c.take_away.ensures ∙ ap (with_replacement (λ _. None)) c.index_mut.ensures.value) ∙ taken-set (is_replace_at p) (with_replacement (λ _. None)) (Replace e None) cs r.first c.index_mut.result.now stands
 
 pub returns-clause-agrees : goal.returns-clause-agrees
 returns-clause-agrees c =
@@ -50,6 +50,6 @@ returns-clause-agrees c =
     let there : path ≡ p = c.target.invariant ∙ ap (λ x. (element_of x).path) c.target.view_is in
     let known : old path ≡ Some r = sym (ap old c.as_slice.ensures.value) ∙ sym c.get.ensures ∙ c.in-Some.is in
     let said : replaced_at p cs ≡ Some r = sym (c.requires.agrees p) ∙ sym (ap old there) ∙ known in
-    let place : position (is_replace_at p) cs ≡ Some r.first = (something-said p cs r said).0 in
-    let list : set cs r.first c.take_away.new.change ≡ delete_at e cs = ap (set cs r.first) (c.take_away.ensures ∙ ap (with_replacement (λ _. None)) c.index_mut.ensures.value) ∙ taken-set (is_replace_at p) (with_replacement (λ _. None)) (Replace e None) cs r.first c.index_mut.result.now place in
-    λ q. deleted-agrees e cs r.first old (entry_at c.insert_reserved-2.new.self) path place there c.requires.agrees (λ s. c.insert_reserved-2.ensures.found s ∙ marked old path s r known) q ∙ ap (replaced_at q) (sym list)
+    let stands : position (is_replace_at p) cs ≡ Some r.first = (something-said p cs r said).0 in
+    let list : set cs r.first c.take_away.new.change ≡ delete_at e cs = ap (set cs r.first) (c.take_away.ensures ∙ ap (with_replacement (λ _. None)) c.index_mut.ensures.value) ∙ taken-set (is_replace_at p) (with_replacement (λ _. None)) (Replace e None) cs r.first c.index_mut.result.now stands in
+    λ q. deleted-agrees e cs r.first old (entry_at c.insert_reserved-2.new.self) path stands there c.requires.agrees (λ s. c.insert_reserved-2.ensures.found s ∙ marked old path s r known) q ∙ ap (replaced_at q) (sym list)

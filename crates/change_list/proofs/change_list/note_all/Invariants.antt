@@ -5,6 +5,6 @@ use Rattle.change_list.proofs.change_list.note_all.Given as goal
 
 abbrev pub invariant-loop-change : goal.invariant-loop-change
 invariant-loop-change l = record {
-  place : l.place ≡ l.fn.before + l.change-index;
+  number : l.number ≡ l.fn.before + l.change-index;
   agrees : (cs : List Change) → length cs ≡ l.fn.before → Agrees l.initial.index cs → Agrees l.index (cs ++ take l.change-index l.changes);
 }

@@ -1,11 +1,11 @@
 use Rattle.std.proofs.Common.{◌≡◌, take}
 use Rattle.cst_core.specs.Path.{up_to}
 use Rattle.edit_change.specs.inner.Fate.{fate_within}
-use Rattle.path_table.specs.PathTable.{place_at}
+use Rattle.path_table.specs.PathTable.{cell_at}
 use Rattle.edit_change.proofs.fate.fate_within.Given as goal
 
 abbrev pub invariant-loop-slot : goal.invariant-loop-slot
 invariant-loop-slot l = record {
-  place : l.place ≡ place_at l.index.numbers (take l.slot-index l.innermost);
+  cell : l.cell ≡ cell_at l.index.numbers (take l.slot-index l.innermost);
   fate : l.fate ≡ fate_within l.changes (up_to (take l.slot-index l.innermost));
 }

@@ -7,7 +7,7 @@ use Rattle.green_tree.specs.Order.{start, tokens_before}
 use Rattle.green_tree.specs.Offsets.{touches, tokens_touching}
 use Rattle.green_tree.specs.Green.{branch_tree, leaf_tree}
 use Rattle.green_tree.specs.GreenElement.{element_tree}
-use Rattle.green_tree.specs.inner.FoundToken.{place_found, places_below}
+use Rattle.green_tree.specs.inner.FoundToken.{reached, reached_below}
 use Rattle.green_tree.proofs.Slots.{size_at}
 use Rattle.green_tree.proofs.Starts.{start-slot}
 use Rattle.green_tree.proofs.FoundTokens.{child_at}
@@ -19,7 +19,7 @@ pub loop-slot-init : goal.loop-slot-init
 loop-slot-init t c = record {
   start = sym (start-slot c.args.node.now c.children-child-items.result.now 0 c.children-child-items.ensures);
   same = refl;
-  found = found_none c.args.node.now c.args.offset c.args.path.now.items (map place_found c.args.found.now.items);
+  found = found_none c.args.node.now c.args.offset c.args.path.now.items (map reached c.args.found.now.items);
 }
 
 pub overflow_add-end : goal.overflow_add-end
@@ -44,7 +44,7 @@ loop-slot-preserved-then-start-end t c =
     record {
       start = omega arith;
       same = c.loop-slot.invariant.same;
-      found = found_past c.args.node.now c.args.offset c.args.path.now.items c.loop-slot.slot (map place_found c.args.found.now.items) apart c.loop-slot.invariant.found;
+      found = found_past c.args.node.now c.args.offset c.args.path.now.items c.loop-slot.slot (map reached c.args.found.now.items) apart c.loop-slot.invariant.found;
     }
 
 pub push_tokens_at-requires : goal.push_tokens_at-requires
@@ -65,12 +65,12 @@ loop-slot-preserved t c =
     let begins : start (branch_tree c.args.node.now) (c.loop-slot.slot ∷ []) ≤ c.args.offset = omega (arith, c.if-offset-start.false) in
     let ends : c.args.offset ≤ start (branch_tree c.args.node.now) (c.loop-slot.slot ∷ []) + text_length (element_tree c.child-item.result) = omega (arith, c.if-end-offset.false) in
     let pushed : c.push.new.self.items ≡ c.args.path.now.items ++ c.loop-slot.slot ∷ [] = rw (← c.loop-slot.invariant.same) c.in_ok-push.ensures.items in
-    let turn : (c.match-child.path.items ≡ c.push.new.self.items) × (map place_found c.match-child.found.items ≡ map place_found c.args.found.now.items ++ places_below c.args.path.now.items (branch_tree c.args.node.now) (filter (touches (branch_tree c.args.node.now) c.args.offset) (tokens_before (branch_tree c.args.node.now) ((c.loop-slot.slot + 1) ∷ [])))) =
+    let turn : (c.match-child.path.items ≡ c.push.new.self.items) × (map reached c.match-child.found.items ≡ map reached c.args.found.now.items ++ reached_below c.args.path.now.items (branch_tree c.args.node.now) (filter (touches (branch_tree c.args.node.now) c.args.offset) (tokens_before (branch_tree c.args.node.now) ((c.loop-slot.slot + 1) ∷ [])))) =
     elim c.match-child.branch [
       | in-Node+in_ok-push_tokens_at-in-Node w ↦
-          let below : places_below c.push.new.self.items (branch_tree w.in-Node.below) (tokens_touching (branch_tree w.in-Node.below) (c.args.offset - c.loop-slot.end)) ≡ places_below (c.args.path.now.items ++ c.loop-slot.slot ∷ []) (element_tree c.child-item.result) (tokens_touching (element_tree c.child-item.result) (c.args.offset - start (branch_tree c.args.node.now) (c.loop-slot.slot ∷ []))) = rw (w.in-Node.is, pushed, c.loop-slot.invariant.start) refl in (
+          let below : reached_below c.push.new.self.items (branch_tree w.in-Node.below) (tokens_touching (branch_tree w.in-Node.below) (c.args.offset - c.loop-slot.end)) ≡ reached_below (c.args.path.now.items ++ c.loop-slot.slot ∷ []) (element_tree c.child-item.result) (tokens_touching (element_tree c.child-item.result) (c.args.offset - start (branch_tree c.args.node.now) (c.loop-slot.slot ∷ []))) = rw (w.in-Node.is, pushed, c.loop-slot.invariant.start) refl in (
             ap (λ v. v.items) w.path-is ∙ w.in_ok-push_tokens_at-in-Node.ensures.path,
-            found_in c.args.node.now c.args.offset c.args.path.now.items c.loop-slot.slot (element_tree c.child-item.result) (map place_found c.args.found.now.items) (map place_found c.loop-slot.found.items) (map place_found c.match-child.found.items) child span begins c.loop-slot.invariant.found (ap (λ v. map place_found v.items) w.found-is ∙ w.in_ok-push_tokens_at-in-Node.ensures.found ∙ ap (λ ps. map place_found c.loop-slot.found.items ++ ps) below),
+            found_in c.args.node.now c.args.offset c.args.path.now.items c.loop-slot.slot (element_tree c.child-item.result) (map reached c.args.found.now.items) (map reached c.loop-slot.found.items) (map reached c.match-child.found.items) child span begins c.loop-slot.invariant.found (ap (λ v. map reached v.items) w.found-is ∙ w.in_ok-push_tokens_at-in-Node.ensures.found ∙ ap (λ ps. map reached c.loop-slot.found.items ++ ps) below),
           )
       | in-Token+in_ok-from_slice-in-Token+in_ok-share-in-Token+in_ok-push-in-Token w ↦
           let child_token = rw w.in-Token.is at child in
@@ -78,9 +78,9 @@ loop-slot-preserved t c =
           let long_token : 0 < length w.in-Token.token.text = rw w.in-Token.is at long_enough in
           let ends_token : c.args.offset ≤ start (branch_tree c.args.node.now) (c.loop-slot.slot ∷ []) + length w.in-Token.token.text = rw w.in-Token.is at ends in
           let copied : w.in_ok-from_slice-in-Token.field-0.items ≡ c.args.path.now.items ++ c.loop-slot.slot ∷ [] = w.in_ok-from_slice-in-Token.ensures.items ∙ w.deref.ensures.value ∙ pushed in
-          let more : map place_found w.push-in-Token.new.self.items ≡ map place_found c.loop-slot.found.items ++ (c.args.path.now.items ++ c.loop-slot.slot ∷ [], Some (leaf_tree w.in-Token.token)) ∷ [] = ap (map place_found) w.in_ok-push-in-Token.ensures.items ∙ map-append place_found c.loop-slot.found.items _ ∙ rw (copied, w.in_ok-share-in-Token.ensures) refl in (
+          let more : map reached w.push-in-Token.new.self.items ≡ map reached c.loop-slot.found.items ++ (c.args.path.now.items ++ c.loop-slot.slot ∷ [], Some (leaf_tree w.in-Token.token)) ∷ [] = ap (map reached) w.in_ok-push-in-Token.ensures.items ∙ map-append reached c.loop-slot.found.items _ ∙ rw (copied, w.in_ok-share-in-Token.ensures) refl in (
             ap (λ v. v.items) w.path-is,
-            found_token_in c.args.node.now c.args.offset c.args.path.now.items c.loop-slot.slot w.in-Token.token (map place_found c.args.found.now.items) (map place_found c.loop-slot.found.items) (map place_found c.match-child.found.items) child_token span_token begins long_token ends_token c.loop-slot.invariant.found (ap (λ v. map place_found v.items) w.found-is ∙ more),
+            found_token_in c.args.node.now c.args.offset c.args.path.now.items c.loop-slot.slot w.in-Token.token (map reached c.args.found.now.items) (map reached c.loop-slot.found.items) (map reached c.match-child.found.items) child_token span_token begins long_token ends_token c.loop-slot.invariant.found (ap (λ v. map reached v.items) w.found-is ∙ more),
           )
     ] in
     record {
@@ -90,4 +90,4 @@ loop-slot-preserved t c =
     }
 
 pub returns-clause-found : goal.returns-clause-found
-returns-clause-found t c = found_all c.args.node.now c.children-child-items.result.now c.args.offset c.args.path.now.items c.loop-slot.slot (map place_found c.args.found.now.items) c.children-child-items.ensures c.loop-slot-test.false c.loop-slot.invariant.found
+returns-clause-found t c = found_all c.args.node.now c.children-child-items.result.now c.args.offset c.args.path.now.items c.loop-slot.slot (map reached c.args.found.now.items) c.children-child-items.ensures c.loop-slot-test.false c.loop-slot.invariant.found

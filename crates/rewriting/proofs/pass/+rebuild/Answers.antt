@@ -13,7 +13,7 @@ use Rattle.rewriting.proofs.Counted.{still, still-step, still-none, counted-own,
 use Rattle.rewriting.proofs.Touched.{on_ok-touched}
 use Rattle.rewriting.proofs.Untouched.{nothing_made, unaimed}
 use Rattle.rewriting.proofs.InGroups.{group_is, group-inserted}
-use Rattle.rewriting.proofs.InSlot.{inside-placed, slot_made-whole, slot_built-whole, empty-stays, empty-quiet, empty-gap, slot-unaltered, marks-unaltered, built-unaltered, built-replaced, built-altered}
+use Rattle.rewriting.proofs.InSlot.{inside-formed, slot_made-whole, slot_built-whole, empty-stays, empty-quiet, empty-gap, slot-unaltered, marks-unaltered, built-unaltered, built-replaced, built-altered}
 use Rattle.rewriting.proofs.Children.{left, tree_at, size_at, slot-replaced, slot-kept, gap-slots, all_made}
 use Rattle.rewriting.proofs.Children as children
 use Rattle.rewriting.proofs.ChildByChild.{first, step, all_shown}
@@ -27,7 +27,7 @@ use Rattle.rewriting.proofs.pass.+rebuild.Goals as goal
 pub push_altered-returns-clause-count : goal.push_altered-returns-clause-count
 push_altered-returns-clause-count t c =
     let e = element_tree c.args.child.now in
-    let inside = ap aims_of c.deref.ensures.value ∙ inside-placed c.args.group.now c.in_ok-inner.inner.items c.args.slot c.in_ok-inner.ensures in
+    let inside = ap aims_of c.deref.ensures.value ∙ inside-formed c.args.group.now c.in_ok-inner.inner.items c.args.slot c.in_ok-inner.ensures in
     count-on c.args.builds.now c.rebuild.new.builds (child_built c.args.group.now c.args.slot c.args.child.now) (c.in_ok-rebuild.ensures.count ∙ ap (λ cs. counted c.args.builds.now (nodes_built cs e)) inside)
 
 pub push_altered-returns-clause-trees : goal.push_altered-returns-clause-trees
@@ -35,7 +35,7 @@ push_altered-returns-clause-trees t c =
     let given : ℕ → List SyntaxTree = given_in c.args.given.now in
     let e = element_tree c.args.child.now in
     let out = c.args.out.now.items in
-    let inside = ap aims_of c.deref.ensures.value ∙ inside-placed c.args.group.now c.in_ok-inner.inner.items c.args.slot c.in_ok-inner.ensures in
+    let inside = ap aims_of c.deref.ensures.value ∙ inside-formed c.args.group.now c.in_ok-inner.inner.items c.args.slot c.in_ok-inner.ensures in
     ap element_trees c.in_ok-push-2.ensures.items ∙ map-append element_tree out (_ ∷ []) ∙ ap (λ u. element_trees out ++ u ∷ []) (c.in_ok-rebuild.ensures.tree ∙ ap (λ cs. rewritten kind_only given cs [] e) inside)
 
 pub push_altered-returns-clause-marks : goal.push_altered-returns-clause-marks
@@ -45,7 +45,7 @@ push_altered-returns-clause-marks t c = λ trees are.
     let sought = sought_in c.args.sought.now in
     let next = length c.args.out.now.items in
     let before = marks_of c.args.found.now.items in
-    let inside = ap aims_of c.deref.ensures.value ∙ inside-placed c.args.group.now c.in_ok-inner.inner.items c.args.slot c.in_ok-inner.ensures in
+    let inside = ap aims_of c.deref.ensures.value ∙ inside-formed c.args.group.now c.in_ok-inner.inner.items c.args.slot c.in_ok-inner.ensures in
     let slot_is : c.len-next.result ≡ next = search rules in
     let there : c.push.new.self.items ≡ path ++ next ∷ [] = c.in_ok-push.ensures.items ∙ ap (λ n. path ++ n ∷ []) slot_is in
     c.in_ok-rebuild.ensures.marks trees are ∙ ap₂ (λ p cs. before ++ map (mark_below p) (marked (rewritten (wanted sought) trees cs [] e))) there inside ∙ ap (λ ms. before ++ ms) (sym (shown-one path next (child_made (wanted sought) trees c.args.group.now c.args.slot c.args.child.now)))

@@ -4,8 +4,8 @@ use Rattle.schedule.specs.inner.Turns.{number_in}
 use Rattle.schedule.proofs.TurnsSorted.{sorted-default, default-allowed}
 use Rattle.schedule.proofs.document_order.default_order.Goals as goal
 
-pub returns-clause-placed : goal.returns-clause-placed
-returns-clause-placed c =
+pub returns-clause-ordered : goal.returns-clause-ordered
+returns-clause-ordered c =
     let sorted = sorted-default c.args.changes.now c.in_ok-turns.turns.items c.sort.new.self.items c.in_ok-turns.ensures c.in_ok-sort.ensures.permutation c.in_ok-sort.ensures.sorted in
     if-ok-weaker _ _ (λ v is. sorted v.items (is ∙ ap (λ ts. map number_in (reverse ts)) c.deref.ensures.value)) c.numbers_back.result c.numbers_back.ensures
 

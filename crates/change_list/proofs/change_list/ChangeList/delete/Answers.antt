@@ -24,9 +24,9 @@ invariant_of-self c =
     let cs = c.self.inside.changes.items in
     let r = c.in-Some.replaced in
     let said : replaced_at p cs ≡ Some r = sym (c.self.invariant p) ∙ sym (ap (entry_at c.self.inside.replaced) c.slots.ensures) ∙ sym c.get.ensures ∙ c.in-Some.is in
-    let place : position (is_replace_at p) cs ≡ Some r.first = (something-said p cs r said).0 in
-    let list : set cs r.first c.take_away.new.change ≡ delete_at e cs = ap (set cs r.first) (c.take_away.ensures ∙ ap (with_replacement (λ _. None)) c.index_mut.ensures.value) ∙ taken-set (is_replace_at p) (with_replacement (λ _. None)) (Replace e None) cs r.first c.index_mut.result.now place in
-    λ q. deleted-agrees e cs r.first (entry_at c.self.inside.replaced) (entry_at c.mark_deleted.new.self) c.slots-2.result.now place c.slots-2.ensures c.self.invariant c.mark_deleted.ensures q ∙ ap (replaced_at q) (sym list)
+    let stands : position (is_replace_at p) cs ≡ Some r.first = (something-said p cs r said).0 in
+    let list : set cs r.first c.take_away.new.change ≡ delete_at e cs = ap (set cs r.first) (c.take_away.ensures ∙ ap (with_replacement (λ _. None)) c.index_mut.ensures.value) ∙ taken-set (is_replace_at p) (with_replacement (λ _. None)) (Replace e None) cs r.first c.index_mut.result.now stands in
+    λ q. deleted-agrees e cs r.first (entry_at c.self.inside.replaced) (entry_at c.mark_deleted.new.self) c.slots-2.result.now stands c.slots-2.ensures c.self.invariant c.mark_deleted.ensures q ∙ ap (replaced_at q) (sym list)
 
 pub returns-clause-ok : goal.returns-clause-ok
 returns-clause-ok c =
@@ -35,6 +35,6 @@ returns-clause-ok c =
     let cs = c.self.inside.changes.items in
     let r = c.in-Some.replaced in
     let said : replaced_at p cs ≡ Some r = sym (c.self.invariant p) ∙ sym (ap (entry_at c.self.inside.replaced) c.slots.ensures) ∙ sym c.get.ensures ∙ c.in-Some.is in
-    let place : position (is_replace_at p) cs ≡ Some r.first = (something-said p cs r said).0 in
-    let list : set cs r.first c.take_away.new.change ≡ delete_at e cs = ap (set cs r.first) (c.take_away.ensures ∙ ap (with_replacement (λ _. None)) c.index_mut.ensures.value) ∙ taken-set (is_replace_at p) (with_replacement (λ _. None)) (Replace e None) cs r.first c.index_mut.result.now place in
+    let stands : position (is_replace_at p) cs ≡ Some r.first = (something-said p cs r said).0 in
+    let list : set cs r.first c.take_away.new.change ≡ delete_at e cs = ap (set cs r.first) (c.take_away.ensures ∙ ap (with_replacement (λ _. None)) c.index_mut.ensures.value) ∙ taken-set (is_replace_at p) (with_replacement (λ _. None)) (Replace e None) cs r.first c.index_mut.result.now stands in
     list ∙ ap (delete_at e) c.self.view_is

@@ -24,9 +24,9 @@ invariant_of-self c =
     let cs = c.self.inside.changes.items in
     let r = c.in-Some.replaced in
     let said : replaced_at p cs ≡ Some r = sym (c.self.invariant p) ∙ sym (ap (entry_at c.self.inside.replaced) c.slots.ensures) ∙ sym c.get.ensures ∙ c.in-Some.is in
-    let place : position (is_replace_at p) cs ≡ Some r.first = (something-said p cs r said).0 in
-    let list : set cs r.first c.take_up.new.change ≡ replace_at e c.args.new cs = ap (set cs r.first) (c.take_up.ensures ∙ ap (with_replacement (option_map (λ _. c.args.new))) c.index_mut.ensures.value) ∙ taken-set (is_replace_at p) (with_replacement (option_map (λ _. c.args.new))) (Replace e (Some c.args.new)) cs r.first c.index_mut.result.now place in
-    λ q. c.self.invariant q ∙ sym (said-replaced e cs r.first place c.args.new q) ∙ ap (replaced_at q) (sym list)
+    let stands : position (is_replace_at p) cs ≡ Some r.first = (something-said p cs r said).0 in
+    let list : set cs r.first c.take_up.new.change ≡ replace_at e c.args.new cs = ap (set cs r.first) (c.take_up.ensures ∙ ap (with_replacement (option_map (λ _. c.args.new))) c.index_mut.ensures.value) ∙ taken-set (is_replace_at p) (with_replacement (option_map (λ _. c.args.new))) (Replace e (Some c.args.new)) cs r.first c.index_mut.result.now stands in
+    λ q. c.self.invariant q ∙ sym (said-replaced e cs r.first stands c.args.new q) ∙ ap (replaced_at q) (sym list)
 
 pub returns-clause-ok : goal.returns-clause-ok
 returns-clause-ok c =
@@ -35,6 +35,6 @@ returns-clause-ok c =
     let cs = c.self.inside.changes.items in
     let r = c.in-Some.replaced in
     let said : replaced_at p cs ≡ Some r = sym (c.self.invariant p) ∙ sym (ap (entry_at c.self.inside.replaced) c.slots.ensures) ∙ sym c.get.ensures ∙ c.in-Some.is in
-    let place : position (is_replace_at p) cs ≡ Some r.first = (something-said p cs r said).0 in
-    let list : set cs r.first c.take_up.new.change ≡ replace_at e c.args.new cs = ap (set cs r.first) (c.take_up.ensures ∙ ap (with_replacement (option_map (λ _. c.args.new))) c.index_mut.ensures.value) ∙ taken-set (is_replace_at p) (with_replacement (option_map (λ _. c.args.new))) (Replace e (Some c.args.new)) cs r.first c.index_mut.result.now place in
+    let stands : position (is_replace_at p) cs ≡ Some r.first = (something-said p cs r said).0 in
+    let list : set cs r.first c.take_up.new.change ≡ replace_at e c.args.new cs = ap (set cs r.first) (c.take_up.ensures ∙ ap (with_replacement (option_map (λ _. c.args.new))) c.index_mut.ensures.value) ∙ taken-set (is_replace_at p) (with_replacement (option_map (λ _. c.args.new))) (Replace e (Some c.args.new)) cs r.first c.index_mut.result.now stands in
     list ∙ ap (replace_at e c.args.new) c.self.view_is

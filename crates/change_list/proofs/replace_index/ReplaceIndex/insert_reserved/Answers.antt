@@ -10,4 +10,4 @@ where_ok (Err e) is holds = absurd (true≢false (sym is))
 
 pub returns-clause-found : goal.returns-clause-found
 returns-clause-found c =
-    path-updated c.args.self.now.places c.insert-inserted.new.self _ (λ k. k.items) c.args.path.items (where_ok c.insert-inserted.result (c.insert-inserted.ensures.succeeds c.requires) c.insert-inserted.ensures.updates)
+    path-updated c.args.self.now.entries c.insert-inserted.new.self _ (λ k. k.items) c.args.path.items (where_ok c.insert-inserted.result (c.insert-inserted.ensures.succeeds c.requires) c.insert-inserted.ensures.updates)

@@ -11,4 +11,4 @@ returns-in-Some c =
     let r = c.in-Some.replaced.now in
     let w : Replaced = record { first = r.first; is_deleted = true } in
     let known : entry_at old c.args.path.now ≡ Some r = sym c.get_mut.ensures.value ∙ ap option_copied_mut c.in-Some.is in
-    λ p. path-updated old.places (c.get_mut.follows.lender w) (Some w) (λ k. k.items) c.args.path.now ((c.get_mut.follows.holds w).3 (search rules)) p ∙ marked (entry_at old) c.args.path.now p r known
+    λ p. path-updated old.entries (c.get_mut.follows.lender w) (Some w) (λ k. k.items) c.args.path.now ((c.get_mut.follows.holds w).3 (search rules)) p ∙ marked (entry_at old) c.args.path.now p r known

@@ -8,5 +8,5 @@ use Rattle.cst_core.proofs.node.SyntaxNode.first_child_or_token.Goals as goal
 
 pub returns : goal.returns
 returns c =
-    let placed : at c.args.self.now.root c.args.self.now.path ≡ Some (branch_tree c.self.inside.green) = rw (← c.self.view_is) c.self.invariant.there in
-    subst (λ x. IfOk c.element_at.result (λ r. r ≡ x)) (first_child c.args.self.now (branch_tree c.self.inside.green) (length (children (subtree c.args.self.now))) placed refl) c.element_at.ensures
+    let stands : at c.args.self.now.root c.args.self.now.path ≡ Some (branch_tree c.self.inside.green) = rw (← c.self.view_is) c.self.invariant.there in
+    subst (λ x. IfOk c.element_at.result (λ r. r ≡ x)) (first_child c.args.self.now (branch_tree c.self.inside.green) (length (children (subtree c.args.self.now))) stands refl) c.element_at.ensures

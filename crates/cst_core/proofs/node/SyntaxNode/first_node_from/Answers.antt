@@ -9,20 +9,20 @@ use Rattle.cst_core.proofs.node.SyntaxNode.first_node_from.Goals as goal
 
 pub returns-in-Some : goal.returns-in-Some
 returns-in-Some c =
-    let placed : at c.args.self.now.root c.args.self.now.path ≡ Some (branch_tree c.self.inside.green) = rw (← c.self.view_is) c.self.invariant.there in
-    let count = length_children c.args.self.now c.self.inside.green c.children-slot-end.result.now (sym (subtree_there c.args.self.now (branch_tree c.self.inside.green) placed)) c.children-slot-end.ensures in
-    let found = first_node_found c.args.self.now (branch_tree c.self.inside.green) c.loop-slot.slot c.in-Some.node placed (omega arith) (sym c.in_ok-node.ensures ∙ c.in-Some.is) in
+    let stands : at c.args.self.now.root c.args.self.now.path ≡ Some (branch_tree c.self.inside.green) = rw (← c.self.view_is) c.self.invariant.there in
+    let count = length_children c.args.self.now c.self.inside.green c.children-slot-end.result.now (sym (subtree_there c.args.self.now (branch_tree c.self.inside.green) stands)) c.children-slot-end.ensures in
+    let found = first_node_found c.args.self.now (branch_tree c.self.inside.green) c.loop-slot.slot c.in-Some.node stands (omega arith) (sym c.in_ok-node.ensures ∙ c.in-Some.is) in
     sym (ap first_item c.loop-slot.invariant ∙ found)
 
 pub loop-slot-preserved : goal.loop-slot-preserved
 loop-slot-preserved c =
-    let placed : at c.args.self.now.root c.args.self.now.path ≡ Some (branch_tree c.self.inside.green) = rw (← c.self.view_is) c.self.invariant.there in
-    let count = length_children c.args.self.now c.self.inside.green c.children-slot-end.result.now (sym (subtree_there c.args.self.now (branch_tree c.self.inside.green) placed)) c.children-slot-end.ensures in
-    c.loop-slot.invariant ∙ first_node_passed c.args.self.now (branch_tree c.self.inside.green) c.loop-slot.slot (c.loop-slot.slot + 1) placed (omega arith) (omega arith) (sym c.in_ok-node.ensures ∙ c.in_default.is)
+    let stands : at c.args.self.now.root c.args.self.now.path ≡ Some (branch_tree c.self.inside.green) = rw (← c.self.view_is) c.self.invariant.there in
+    let count = length_children c.args.self.now c.self.inside.green c.children-slot-end.result.now (sym (subtree_there c.args.self.now (branch_tree c.self.inside.green) stands)) c.children-slot-end.ensures in
+    c.loop-slot.invariant ∙ first_node_passed c.args.self.now (branch_tree c.self.inside.green) c.loop-slot.slot (c.loop-slot.slot + 1) stands (omega arith) (omega arith) (sym c.in_ok-node.ensures ∙ c.in_default.is)
 
 pub returns : goal.returns
 returns c =
-    let placed : at c.args.self.now.root c.args.self.now.path ≡ Some (branch_tree c.self.inside.green) = rw (← c.self.view_is) c.self.invariant.there in
-    let count = length_children c.args.self.now c.self.inside.green c.children-slot-end.result.now (sym (subtree_there c.args.self.now (branch_tree c.self.inside.green) placed)) c.children-slot-end.ensures in
+    let stands : at c.args.self.now.root c.args.self.now.path ≡ Some (branch_tree c.self.inside.green) = rw (← c.self.view_is) c.self.invariant.there in
+    let count = length_children c.args.self.now c.self.inside.green c.children-slot-end.result.now (sym (subtree_there c.args.self.now (branch_tree c.self.inside.green) stands)) c.children-slot-end.ensures in
     let past : length (children (subtree c.args.self.now)) ≤ c.loop-slot.slot = omega arith in
     sym (ap first_item (c.loop-slot.invariant ∙ nodes_from_slot-end c.args.self.now c.loop-slot.slot past))

@@ -8,8 +8,8 @@ use Rattle.cst_core.proofs.node.SyntaxNode.last_child_or_token.Goals as goal
 
 pub returns-in-Some : goal.returns-in-Some
 returns-in-Some c =
-    let placed : at c.args.self.now.root c.args.self.now.path ≡ Some (branch_tree c.self.inside.green) = rw (← c.self.view_is) c.self.invariant.there in
-    let count = length_children c.args.self.now c.self.inside.green c.children.result.now (sym (subtree_there c.args.self.now (branch_tree c.self.inside.green) placed)) c.children.ensures in
+    let stands : at c.args.self.now.root c.args.self.now.path ≡ Some (branch_tree c.self.inside.green) = rw (← c.self.view_is) c.self.invariant.there in
+    let count = length_children c.args.self.now c.self.inside.green c.children.result.now (sym (subtree_there c.args.self.now (branch_tree c.self.inside.green) stands)) c.children.ensures in
     let last = c.in-Some.ensures in
     let is_last : c.in-Some.slot + 1 ≡ length (children (subtree c.args.self.now)) = omega (arith, last.0, last.1, count) in
-    subst (λ x. IfOk c.element_at.result (λ r. r ≡ x)) (last_child c.args.self.now (branch_tree c.self.inside.green) c.in-Some.slot placed is_last) c.element_at.ensures
+    subst (λ x. IfOk c.element_at.result (λ r. r ≡ x)) (last_child c.args.self.now (branch_tree c.self.inside.green) c.in-Some.slot stands is_last) c.element_at.ensures

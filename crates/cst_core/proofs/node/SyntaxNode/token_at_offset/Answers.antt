@@ -3,7 +3,7 @@ use Rattle.green_tree.specs.Tree.{at, text_length}
 use Rattle.green_tree.specs.Order.{start}
 use Rattle.green_tree.specs.Offsets.{tokens_touching}
 use Rattle.green_tree.specs.Green.{branch_tree, length_limit}
-use Rattle.green_tree.specs.inner.FoundToken.{place_found, places_below}
+use Rattle.green_tree.specs.inner.FoundToken.{reached, reached_below}
 use Rattle.cst_core.specs.Element.{below}
 use Rattle.cst_core.specs.declared.offsets.TokenAtOffset.TheVariants as tokens
 use Rattle.green_tree.proofs.TextLengths.{text_length-part}
@@ -26,8 +26,8 @@ pub returns-in-empty : goal.returns-in-empty
 returns-in-empty c =
     let there : at c.args.self.now.root c.args.self.now.path ≡ Some (branch_tree c.self.inside.green) = rw (← c.self.view_is) c.self.invariant.there in
     let behind : start c.args.self.now.root c.args.self.now.path ≤ c.args.offset = omega (arith, c.text_start-base.ensures, c.if-offset-base.false) in
-    let places : map place_found c.in_ok-found.found.items ≡ places_below [] (branch_tree c.self.inside.green) (tokens_touching (branch_tree c.self.inside.green) (c.args.offset - start c.args.self.now.root c.args.self.now.path)) = rw (← c.text_start-base.ensures) c.in_ok-found.ensures in
-    let whole = token_at-found c.args.self.now (branch_tree c.self.inside.green) c.args.offset c.in_ok-found.found.items there behind places in
+    let reaches : map reached c.in_ok-found.found.items ≡ reached_below [] (branch_tree c.self.inside.green) (tokens_touching (branch_tree c.self.inside.green) (c.args.offset - start c.args.self.now.root c.args.self.now.path)) = rw (← c.text_start-base.ensures) c.in_ok-found.ensures in
+    let whole = token_at-found c.args.self.now (branch_tree c.self.inside.green) c.args.offset c.in_ok-found.found.items there behind reaches in
     let none : length c.in_ok-found.found.items ≡ 0 = rw (← c.as_slice.ensures.value) (omega (arith, c.in-empty.len_below)) in
     sym (whole ∙ first_two-none c.args.self.now c.in_ok-found.found.items none)
 
@@ -35,17 +35,17 @@ pub token_below-requires : goal.token_below-requires
 token_below-requires c =
     let there : at c.args.self.now.root c.args.self.now.path ≡ Some (branch_tree c.self.inside.green) = rw (← c.self.view_is) c.self.invariant.there in
     let behind : start c.args.self.now.root c.args.self.now.path ≤ c.args.offset = omega (arith, c.text_start-base.ensures, c.if-offset-base.false) in
-    let places : map place_found c.in_ok-found.found.items ≡ places_below [] (branch_tree c.self.inside.green) (tokens_touching (branch_tree c.self.inside.green) (c.args.offset - start c.args.self.now.root c.args.self.now.path)) = rw (← c.text_start-base.ensures) c.in_ok-found.ensures in
+    let reaches : map reached c.in_ok-found.found.items ≡ reached_below [] (branch_tree c.self.inside.green) (tokens_touching (branch_tree c.self.inside.green) (c.args.offset - start c.args.self.now.root c.args.self.now.path)) = rw (← c.text_start-base.ensures) c.in_ok-found.ensures in
     let inside : 0 < length c.in_ok-found.found.items = rw (← c.as_slice.ensures.value) (omega (arith, c.in-len1.len_at_least)) in
     let item : c.token-item.result ≡ get_or c.in_ok-found.found.items 0 c.token-item.result = rw (← c.as_slice.ensures.value) c.token-item.is in
-    ap (λ t. at t c.token-item.result.path.items) (subtree_there c.args.self.now (branch_tree c.self.inside.green) there) ∙ is_found (branch_tree c.self.inside.green) c.in_ok-found.found.items (tokens_touching (branch_tree c.self.inside.green) (c.args.offset - start c.args.self.now.root c.args.self.now.path)) 0 c.token-item.result places inside item
+    ap (λ t. at t c.token-item.result.path.items) (subtree_there c.args.self.now (branch_tree c.self.inside.green) there) ∙ is_found (branch_tree c.self.inside.green) c.in_ok-found.found.items (tokens_touching (branch_tree c.self.inside.green) (c.args.offset - start c.args.self.now.root c.args.self.now.path)) 0 c.token-item.result reaches inside item
 
 pub returns-in-len1 : goal.returns-in-len1
 returns-in-len1 c =
     let there : at c.args.self.now.root c.args.self.now.path ≡ Some (branch_tree c.self.inside.green) = rw (← c.self.view_is) c.self.invariant.there in
     let behind : start c.args.self.now.root c.args.self.now.path ≤ c.args.offset = omega (arith, c.text_start-base.ensures, c.if-offset-base.false) in
-    let places : map place_found c.in_ok-found.found.items ≡ places_below [] (branch_tree c.self.inside.green) (tokens_touching (branch_tree c.self.inside.green) (c.args.offset - start c.args.self.now.root c.args.self.now.path)) = rw (← c.text_start-base.ensures) c.in_ok-found.ensures in
-    let whole = token_at-found c.args.self.now (branch_tree c.self.inside.green) c.args.offset c.in_ok-found.found.items there behind places in
+    let reaches : map reached c.in_ok-found.found.items ≡ reached_below [] (branch_tree c.self.inside.green) (tokens_touching (branch_tree c.self.inside.green) (c.args.offset - start c.args.self.now.root c.args.self.now.path)) = rw (← c.text_start-base.ensures) c.in_ok-found.ensures in
+    let whole = token_at-found c.args.self.now (branch_tree c.self.inside.green) c.args.offset c.in_ok-found.found.items there behind reaches in
     let one : length c.in_ok-found.found.items ≡ 1 = rw (← c.as_slice.ensures.value) (omega (arith, c.in-len1.len_at_least, c.in-len1.len_below)) in
     let item : c.token-item.result ≡ get_or c.in_ok-found.found.items 0 c.token-item.result = rw (← c.as_slice.ensures.value) c.token-item.is in
     ap (λ e. tokens.Single e) c.in_ok-token_below-in-len1.ensures ∙ sym (whole ∙ first_two-one c.args.self.now c.in_ok-found.found.items c.token-item.result one item)
@@ -54,26 +54,26 @@ pub token_below-requires-in-len2-up : goal.token_below-requires-in-len2-up
 token_below-requires-in-len2-up c =
     let there : at c.args.self.now.root c.args.self.now.path ≡ Some (branch_tree c.self.inside.green) = rw (← c.self.view_is) c.self.invariant.there in
     let behind : start c.args.self.now.root c.args.self.now.path ≤ c.args.offset = omega (arith, c.text_start-base.ensures, c.if-offset-base.false) in
-    let places : map place_found c.in_ok-found.found.items ≡ places_below [] (branch_tree c.self.inside.green) (tokens_touching (branch_tree c.self.inside.green) (c.args.offset - start c.args.self.now.root c.args.self.now.path)) = rw (← c.text_start-base.ensures) c.in_ok-found.ensures in
+    let reaches : map reached c.in_ok-found.found.items ≡ reached_below [] (branch_tree c.self.inside.green) (tokens_touching (branch_tree c.self.inside.green) (c.args.offset - start c.args.self.now.root c.args.self.now.path)) = rw (← c.text_start-base.ensures) c.in_ok-found.ensures in
     let inside : 0 < length c.in_ok-found.found.items = rw (← c.as_slice.ensures.value) (omega (arith, c.in-len2-up.len_at_least)) in
     let item : c.left-item.result ≡ get_or c.in_ok-found.found.items 0 c.left-item.result = rw (← c.as_slice.ensures.value) c.left-item.is in
-    ap (λ t. at t c.left-item.result.path.items) (subtree_there c.args.self.now (branch_tree c.self.inside.green) there) ∙ is_found (branch_tree c.self.inside.green) c.in_ok-found.found.items (tokens_touching (branch_tree c.self.inside.green) (c.args.offset - start c.args.self.now.root c.args.self.now.path)) 0 c.left-item.result places inside item
+    ap (λ t. at t c.left-item.result.path.items) (subtree_there c.args.self.now (branch_tree c.self.inside.green) there) ∙ is_found (branch_tree c.self.inside.green) c.in_ok-found.found.items (tokens_touching (branch_tree c.self.inside.green) (c.args.offset - start c.args.self.now.root c.args.self.now.path)) 0 c.left-item.result reaches inside item
 
 pub token_below-requires-in-len2-up-2 : goal.token_below-requires-in-len2-up-2
 token_below-requires-in-len2-up-2 c =
     let there : at c.args.self.now.root c.args.self.now.path ≡ Some (branch_tree c.self.inside.green) = rw (← c.self.view_is) c.self.invariant.there in
     let behind : start c.args.self.now.root c.args.self.now.path ≤ c.args.offset = omega (arith, c.text_start-base.ensures, c.if-offset-base.false) in
-    let places : map place_found c.in_ok-found.found.items ≡ places_below [] (branch_tree c.self.inside.green) (tokens_touching (branch_tree c.self.inside.green) (c.args.offset - start c.args.self.now.root c.args.self.now.path)) = rw (← c.text_start-base.ensures) c.in_ok-found.ensures in
+    let reaches : map reached c.in_ok-found.found.items ≡ reached_below [] (branch_tree c.self.inside.green) (tokens_touching (branch_tree c.self.inside.green) (c.args.offset - start c.args.self.now.root c.args.self.now.path)) = rw (← c.text_start-base.ensures) c.in_ok-found.ensures in
     let inside : 1 < length c.in_ok-found.found.items = rw (← c.as_slice.ensures.value) (omega (arith, c.in-len2-up.len_at_least)) in
     let item : c.right-item.result ≡ get_or c.in_ok-found.found.items 1 c.right-item.result = rw (← c.as_slice.ensures.value) c.right-item.is in
-    ap (λ t. at t c.right-item.result.path.items) (subtree_there c.args.self.now (branch_tree c.self.inside.green) there) ∙ is_found (branch_tree c.self.inside.green) c.in_ok-found.found.items (tokens_touching (branch_tree c.self.inside.green) (c.args.offset - start c.args.self.now.root c.args.self.now.path)) 1 c.right-item.result places inside item
+    ap (λ t. at t c.right-item.result.path.items) (subtree_there c.args.self.now (branch_tree c.self.inside.green) there) ∙ is_found (branch_tree c.self.inside.green) c.in_ok-found.found.items (tokens_touching (branch_tree c.self.inside.green) (c.args.offset - start c.args.self.now.root c.args.self.now.path)) 1 c.right-item.result reaches inside item
 
 pub returns : goal.returns
 returns c =
     let there : at c.args.self.now.root c.args.self.now.path ≡ Some (branch_tree c.self.inside.green) = rw (← c.self.view_is) c.self.invariant.there in
     let behind : start c.args.self.now.root c.args.self.now.path ≤ c.args.offset = omega (arith, c.text_start-base.ensures, c.if-offset-base.false) in
-    let places : map place_found c.in_ok-found.found.items ≡ places_below [] (branch_tree c.self.inside.green) (tokens_touching (branch_tree c.self.inside.green) (c.args.offset - start c.args.self.now.root c.args.self.now.path)) = rw (← c.text_start-base.ensures) c.in_ok-found.ensures in
-    let whole = token_at-found c.args.self.now (branch_tree c.self.inside.green) c.args.offset c.in_ok-found.found.items there behind places in
+    let reaches : map reached c.in_ok-found.found.items ≡ reached_below [] (branch_tree c.self.inside.green) (tokens_touching (branch_tree c.self.inside.green) (c.args.offset - start c.args.self.now.root c.args.self.now.path)) = rw (← c.text_start-base.ensures) c.in_ok-found.ensures in
+    let whole = token_at-found c.args.self.now (branch_tree c.self.inside.green) c.args.offset c.in_ok-found.found.items there behind reaches in
     let two : 2 ≤ length c.in_ok-found.found.items = rw (← c.as_slice.ensures.value) c.in-len2-up.len_at_least in
     let left : c.left-item.result ≡ get_or c.in_ok-found.found.items 0 c.left-item.result = rw (← c.as_slice.ensures.value) c.left-item.is in
     let right : c.right-item.result ≡ get_or c.in_ok-found.found.items 1 c.right-item.result = rw (← c.as_slice.ensures.value) c.right-item.is in

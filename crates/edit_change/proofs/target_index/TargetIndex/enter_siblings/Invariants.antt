@@ -1,7 +1,7 @@
 use Rattle.std.proofs.Common.{◌≡◌, ◌≤◌, suc, max}
 use Rattle.std.specs.Prelude.{Some}
 use Rattle.cst_core.specs.Path.{parent_path, last_slot}
-use Rattle.path_table.specs.PathTable.{place_at, IsTree}
+use Rattle.path_table.specs.PathTable.{cell_at, IsTree}
 use Rattle.edit_change.specs.inner.TargetIndex.{number_at, IsEntered, least}
 use Rattle.edit_change.proofs.Entering.{up_to_slot}
 use Rattle.edit_change.proofs.target_index.TargetIndex.enter_siblings.Given as goal
@@ -9,7 +9,7 @@ use Rattle.edit_change.proofs.target_index.TargetIndex.enter_siblings.Given as g
 abbrev pub invariant-loop-slot : goal.invariant-loop-slot
 invariant-loop-slot l = record {
   tree : IsTree l.self.numbers;
-  leads : place_at l.self.numbers (parent_path l.first) ≡ Some l.parent;
+  leads : cell_at l.self.numbers (parent_path l.first) ≡ Some l.parent;
   before : l.least_so_far ≡ least (number_at l.initial.self) (up_to_slot l.first l.slot);
   entered : IsEntered l.initial.self l.self (up_to_slot l.first l.slot) l.number;
   within : l.slot ≤ max (last_slot l.first) (suc (last_slot l.last));

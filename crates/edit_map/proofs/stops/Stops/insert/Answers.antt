@@ -6,9 +6,9 @@ use Rattle.edit_map.proofs.stops.Stops.insert.Goals as goal
 
 pub returns-clause-free : goal.returns-clause-free
 returns-clause-free c = λ x free.
-    put-free c.args.self.now.places c.insert.new.self c.deref.result.now (address_path x) 0 c.insert.result c.insert.ensures.ok c.insert.ensures.err free
+    put-free c.args.self.now.cells c.insert.new.self c.deref.result.now (address_path x) 0 c.insert.result c.insert.ensures.ok c.insert.ensures.err free
 
 pub returns-clause-ok : goal.returns-clause-ok
 returns-clause-ok c =
     let path : c.deref.result.now ≡ address_path (address c.args.node.now) = rw (c.deref.ensures.value, c.in_ok-extend_from_slice.ensures.items, c.in_ok-push.ensures.items, c.in_ok-path.ensures.items, c.slots-2.ensures, c.tree.ensures) refl in
-    subst (λ p. OnOk c.insert.result (number_by_path c.insert.new.self p ≡ None → ⊥)) path (put-taken c.args.self.now.places c.insert.new.self c.deref.result.now 0 c.insert.result c.insert.ensures.ok)
+    subst (λ p. OnOk c.insert.result (number_by_path c.insert.new.self p ≡ None → ⊥)) path (put-taken c.args.self.now.cells c.insert.new.self c.deref.result.now 0 c.insert.result c.insert.ensures.ok)

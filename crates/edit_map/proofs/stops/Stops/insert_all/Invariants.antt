@@ -8,5 +8,5 @@ abbrev pub invariant-loop-input : goal.invariant-loop-input
 invariant-loop-input l = record {
   free : (x : Address) → IsFree l.self x → IsFree l.fn.self x;
   ok : StopsAll l.self (take l.input-index l.pairs);
-  tree : IsTree l.self.places;
+  tree : IsTree l.self.cells;
 }

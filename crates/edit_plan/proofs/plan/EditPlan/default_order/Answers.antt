@@ -4,5 +4,5 @@ use Rattle.edit_plan.proofs.plan.EditPlan.default_order.Goals as goal
 pub returns-clause-allowed : goal.returns-clause-allowed
 returns-clause-allowed c = search rules
 
-pub returns-clause-placed : goal.returns-clause-placed
-returns-clause-placed c = search rules
+pub returns-clause-ordered : goal.returns-clause-ordered
+returns-clause-ordered c = search rules

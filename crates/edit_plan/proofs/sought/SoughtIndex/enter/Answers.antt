@@ -1,6 +1,6 @@
 use Rattle.std.proofs.Common.{◌≡◌, ℕ, ◌++◌, [], ◌∷◌, cond, Some, sym, subst}
 use Rattle.std.specs.Prelude.{nat_eq}
-use Rattle.path_table.specs.PathTable.{place_below, IsGrown}
+use Rattle.path_table.specs.PathTable.{cell_below, IsGrown}
 use Rattle.rewriting.specs.inner.Marked.{sought_as}
 use Rattle.edit_plan.specs.inner.Sought.{listed_at}
 use Rattle.cst_core.specs.Element.{address_path}
@@ -13,16 +13,16 @@ returns c =
     let after = c.push_at.new.self in
     let next : ℕ = c.in_ok-next.next in
     let m = sought_as c.args.mark in
-    let same : after.places ≡ c.enter.new.self = c.push_at.ensures.places in
-    let grown : IsGrown before.places after.places = subst (IsGrown before.places) (sym same) c.in_ok-next.ensures.grown in
-    let leads : place_below after.places c.args.place c.args.slot ≡ Some next = subst (λ t. place_below t c.args.place c.args.slot ≡ Some next) (sym same) c.in_ok-next.ensures.leads in
+    let same : after.cells ≡ c.enter.new.self = c.push_at.ensures.cells in
+    let grown : IsGrown before.cells after.cells = subst (IsGrown before.cells) (sym same) c.in_ok-next.ensures.grown in
+    let leads : cell_below after.cells c.args.cell c.args.slot ≡ Some next = subst (λ t. cell_below t c.args.cell c.args.slot ≡ Some next) (sym same) c.in_ok-next.ensures.leads in
     let more : (k : ℕ) → listed_at after k ≡ listed_at before k ++ cond (nat_eq next k) (m ∷ []) [] = c.in_ok-push_at.ensures.more in
     record {
       index = record {
         tree = grown.tree;
-        unused = entered-unused before.places after.places (listed_at before) (listed_at after) grown c.requires.index.unused c.args.place c.args.slot next m leads more;
+        unused = entered-unused before.cells after.cells (listed_at before) (listed_at after) grown c.requires.index.unused c.args.cell c.args.slot next m leads more;
       };
       grown = grown;
       leads = leads;
-      more = λ p at a. entered before.places after.places (listed_at before) (listed_at after) grown c.requires.index.unused c.args.place c.args.slot next m leads more p at (address_path a);
+      more = λ p at a. entered before.cells after.cells (listed_at before) (listed_at after) grown c.requires.index.unused c.args.cell c.args.slot next m leads more p at (address_path a);
     }

@@ -4,7 +4,7 @@ use Rattle.edit_plan.proofs.sought.SoughtIndex.make_room.Given as goal
 
 abbrev pub invariant-loop : goal.invariant-loop
 invariant-loop l = record {
-  places : l.self.places ≡ l.fn.self.places;
+  cells : l.self.cells ≡ l.fn.self.cells;
   lists : HasSameLists l.fn.self l.self;
   room : length l.self.lists.items ≡ l.counter;
 }

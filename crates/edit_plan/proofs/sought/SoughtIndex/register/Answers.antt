@@ -3,7 +3,7 @@ use Rattle.std.proofs.lemmas.List.{take_more}
 use Rattle.cst_core.specs.Path.{Path, counted_from}
 use Rattle.cst_core.specs.Element.{Address, address}
 use Rattle.cst_core.specs.SyntaxElement.{element_of}
-use Rattle.path_table.specs.PathTable.{place_below, place_at}
+use Rattle.path_table.specs.PathTable.{cell_below, cell_at}
 use Rattle.path_table.proofs.PathTables.{within-at}
 use Rattle.edit_plan.specs.inner.Sought.{sought_at}
 use Rattle.edit_plan.proofs.Registered.{one_at, one-deeper, all-ancestors, leads-further}
@@ -12,15 +12,15 @@ use Rattle.edit_plan.proofs.sought.SoughtIndex.register.Goals as goal
 pub enter-requires-in-loop-depth-clause-here : goal.enter-requires-in-loop-depth-clause-here
 enter-requires-in-loop-depth-clause-here c =
     let r : Address = address (element_of c.args.element.now) in
-    within-at c.loop-depth.self.places c.loop-depth.invariant.index.tree (r.number ∷ take c.loop-depth.depth r.path) c.loop-depth.place c.loop-depth.invariant.leads
+    within-at c.loop-depth.self.cells c.loop-depth.invariant.index.tree (r.number ∷ take c.loop-depth.depth r.path) c.loop-depth.cell c.loop-depth.invariant.leads
 
 pub loop-depth-init : goal.loop-depth-init
 loop-depth-init c =
     let r : Address = address (element_of c.args.element.now) in
-    let entered = c.in_ok-place.ensures in
+    let entered = c.in_ok-cell.ensures in
     record {
       index = entered.index;
-      leads = subst (λ n. place_below c.enter.new.self.places 0 n ≡ Some c.in_ok-place.place) c.tree-tree.ensures entered.leads;
+      leads = subst (λ n. cell_below c.enter.new.self.cells 0 n ≡ Some c.in_ok-cell.cell) c.tree-tree.ensures entered.leads;
       marks = λ a.
           let start = sought_at c.args.self.now a in
           one-deeper a r c.args.number 0 c.tree-tree.result [] c.slots-path.result.now start start (sought_at c.enter.new.self a) c.tree-tree.ensures refl c.slots-path.ensures (entered.more [] refl a) (sym (append-nil start));
@@ -32,13 +32,13 @@ loop-depth-preserved c =
     let d : ℕ = c.loop-depth.depth in
     let loop = c.loop-depth in
     let path = c.slots-path.result.now in
-    let entered = c.in_ok-place-2.ensures in
+    let entered = c.in_ok-cell-2.ensures in
     let above : Path = take d r.path ++ get_or path d 0 ∷ [] in
     let within : d < length r.path = omega (arith, c.loop-depth-test.true, loop.auto.depth-end, ap length c.slots-path.ensures) in
     let longer : above ≡ take (d + 1) r.path = ap (λ p. take d r.path ++ get_or p d 0 ∷ []) c.slots-path.ensures ∙ sym (take_more r.path d 0 within) in
     record {
       index = entered.index;
-      leads = subst (λ p. place_at c.enter-in-loop-depth.new.self.places (r.number ∷ p) ≡ Some c.in_ok-place-2.place) longer (leads-further loop.self.places c.enter-in-loop-depth.new.self.places entered.grown (r.number ∷ take d r.path) loop.place (get_or path d 0) c.in_ok-place-2.place loop.invariant.leads entered.leads);
+      leads = subst (λ p. cell_at c.enter-in-loop-depth.new.self.cells (r.number ∷ p) ≡ Some c.in_ok-cell-2.cell) longer (leads-further loop.self.cells c.enter-in-loop-depth.new.self.cells entered.grown (r.number ∷ take d r.path) loop.cell (get_or path d 0) c.in_ok-cell-2.cell loop.invariant.leads entered.leads);
       marks = λ a. one-deeper a r c.args.number (d + 1) r.number above c.split_at.result.1.now (sought_at c.args.self.now a) (sought_at loop.self a) (sought_at c.enter-in-loop-depth.new.self a) refl longer (c.split_at.ensures.back ∙ ap (drop (d + 1)) c.slots-path.ensures) (entered.more (r.number ∷ take d r.path) loop.invariant.leads a) (loop.invariant.marks a);
     }
 

@@ -2,7 +2,7 @@ use Rattle.std.proofs.Common.{◌≡◌, ◌+◌, ◌∷◌, ◌++◌, Some, tak
 use Rattle.cst_core.specs.Path.{counted_from}
 use Rattle.cst_core.specs.Element.{Address, address}
 use Rattle.cst_core.specs.SyntaxElement.{element_of}
-use Rattle.path_table.specs.PathTable.{place_at}
+use Rattle.path_table.specs.PathTable.{cell_at}
 use Rattle.edit_plan.specs.inner.Sought.{sought_at, IsSoughtIndex}
 use Rattle.edit_plan.proofs.Registered.{one_at}
 use Rattle.edit_plan.proofs.sought.SoughtIndex.register.Given as goal
@@ -10,6 +10,6 @@ use Rattle.edit_plan.proofs.sought.SoughtIndex.register.Given as goal
 abbrev pub invariant-loop-depth : goal.invariant-loop-depth
 invariant-loop-depth l = record {
   index : IsSoughtIndex l.self;
-  leads : place_at l.self.places ((address (element_of l.element)).number ∷ take l.depth (address (element_of l.element)).path) ≡ Some l.place;
+  leads : cell_at l.self.cells ((address (element_of l.element)).number ∷ take l.depth (address (element_of l.element)).path) ≡ Some l.cell;
   marks : (a : Address) → sought_at l.self a ≡ sought_at l.fn.self a ++ flat_map (one_at a l.number (address (element_of l.element))) (counted_from 0 (l.depth + 1));
 }

@@ -16,14 +16,14 @@ returns-clause-before c =
     let room = c.in_ok-make_room.ensures in
     let items = c.make_room.new.self.numbers.items in
     let long : size c.make_room.new.self ≡ size c.args.self.now = ap (λ m. length m.entries) room.steps in
-    let within : c.args.place < length items = omega (arith, c.requires.here, long, room.room) in
-    c.replace.ensures.value ∙ number-read items c.args.place c.index_mut.result.now within c.index_mut.ensures.value ∙ room.numbers (Some c.args.place)
+    let within : c.args.cell < length items = omega (arith, c.requires.here, long, room.room) in
+    c.replace.ensures.value ∙ number-read items c.args.cell c.index_mut.result.now within c.index_mut.ensures.value ∙ room.numbers (Some c.args.cell)
 
 pub returns-clause-ok : goal.returns-clause-ok
 returns-clause-ok c = λ p leads.
     let t = c.args.self.now in
     let r = c.make_room.new.self in
-    let n = c.args.place in
+    let n = c.args.cell in
     let x = c.args.number in
     let room = c.in_ok-make_room.ensures in
     let long : size r ≡ size t = ap (λ m. length m.entries) room.steps in
@@ -35,7 +35,7 @@ pub returns-clause-tree : goal.returns-clause-tree
 returns-clause-tree c =
     let t = c.args.self.now in
     let r = c.make_room.new.self in
-    let n = c.args.place in
+    let n = c.args.cell in
     let x = c.args.number in
     let room = c.in_ok-make_room.ensures in
     let long : size r ≡ size t = ap (λ m. length m.entries) room.steps in

@@ -1,15 +1,10 @@
 use Rattle.std.specs.Prelude.{◌≡◌, ℕ, ◌+◌, true, false, cond, ◌==◌, [], ◌∷◌, length, Option, Some, None, IsNone, IfSome, OnSome, ◌↔◌, Ok, Err, refl}
 use Rattle.std.proofs.Common.{sym, ◌∙◌}
-use Rattle.std.specs.Option.{unwrap_or}
 use Rattle.std.proofs.lemmas.Bool.{true≢false}
 use Rattle.cst_core.specs.Path.{Path, same_path}
-use Rattle.cst_core.specs.TreeIds.{spent, IsSpent}
+use Rattle.cst_core.specs.TreeIds.{IsSpent}
 use Rattle.syntax_editor.specs.Editor.{has_parent, edited_root}
 use Rattle.syntax_editor.proofs.editor.SyntaxEditor.new.Goals as goal
-
-number-peeked : (o : Option ℕ) (n : ℕ) → (IsNone o ↔ IsSpent n) → IfSome o (λ k. k ≡ n) → unwrap_or o spent ≡ n
-number-peeked None n spent is = sym (spent.0 refl)
-number-peeked (Some k) n spent is = is
 
 number-drawn : (o : Option ℕ) (n m : ℕ) → (IsNone o ↔ IsSpent n) → (IsSpent n → ⊥) → OnSome o (m ≡ n + 1) → m ≡ n + 1
 number-drawn None n m spent left given = absurd (left (spent.0 refl))
@@ -25,13 +20,13 @@ parent-by-path (i ∷ p) h = refl
 pub returns-clause-root : goal.returns-clause-root
 returns-clause-root c =
     let parent : has_parent c.args.root ≡ true = parent-by-path c.args.root.path (rw (← c.slots.ensures) (sym c.is_empty.ensures ∙ c.if-is_empty.false)) in
-    let number : c.new-peeked.result ≡ c.args.ids.now = c.new-peeked.ensures ∙ c.unwrap_or.ensures ∙ number-peeked c.peek.result c.args.ids.now c.peek.ensures.spent c.peek.ensures.number in
+    let number : c.ahead-drawn.result ≡ c.args.ids.now = c.ahead-drawn.ensures in
     rw (c.in_ok-edited.ensures, c.in_ok-own-2.ensures.ok, number, parent) refl
 
 pub returns-clause-drawn : goal.returns-clause-drawn
 returns-clause-drawn c =
     let parent : has_parent c.args.root ≡ true = parent-by-path c.args.root.path (rw (← c.slots.ensures) (sym c.is_empty.ensures ∙ c.if-is_empty.false)) in
-    let number : c.new-peeked.result ≡ c.args.ids.now = c.new-peeked.ensures ∙ c.unwrap_or.ensures ∙ number-peeked c.peek.result c.args.ids.now c.peek.ensures.spent c.peek.ensures.number in
+    let number : c.ahead-drawn.result ≡ c.args.ids.now = c.ahead-drawn.ensures in
     rw parent (number-drawn c.next.result c.args.ids.now c.next.new.self c.next.ensures.spent (λ spent. no-error _ _ (c.in_ok-own-2.ensures.no_number.1 (number ∙ spent))) c.next.ensures.given)
 
 pub returns-clause-editor : goal.returns-clause-editor
