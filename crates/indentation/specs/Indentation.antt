@@ -6,7 +6,7 @@
 --     with_texts, in_whitespace       a tree with other texts of its tokens; of its whitespace tokens
 --     forest_with_texts               trees side by side with other texts
 --     indented, dedented, reset       a tree indented or dedented by a level; that of an element dedented by its own level
---     mapped_children                 each child node of an element, with the child node of another one at the same place
+--     mapped_children                 each child node of an element, with the child node of another one at the same index
 use Rattle.std.specs.Prelude.{ℕ, ◌*◌, ◌==◌, cond, nat_eq, List, [], ◌∷◌, ◌++◌, map, drop, zip}
 use Rattle.std.specs.List.{slice_split, starts_with, join_with_byte}
 use Rattle.cst_core.specs.Tree.{Forest, Token, Node, end, more, SyntaxTree}

@@ -11,7 +11,7 @@ use cst_core::SyntaxNode;
 use edit_map::{SyntaxMapping, SyntaxMappingBuilder};
 use std::alloc::Global;
 
-/// Maps each child node of a node as the copy of which the child node at the same place of another node of its shape is, in
+/// Maps each child node of a node as the copy of which the child node at the same index of another node of its shape is, in
 /// front of the pairs that the mapping has.
 ///
 /// `NotYounger` comes exactly where there is a child node and the number of the new node is not greater than that of the old one;

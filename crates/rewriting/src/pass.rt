@@ -184,7 +184,7 @@ fn push_child(
     Ok(())
 }
 
-// The one place where a node is made, and counted. At the greatest number the count stays.
+// Nodes are made here alone, and counted. At the greatest number the count stays.
 fn build_node(
     alloc: Global,
     kind: SyntaxKind,

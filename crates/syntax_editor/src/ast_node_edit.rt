@@ -78,7 +78,7 @@ pub trait AstNodeEdit: AstNode {
     }
 
     /// The node indented by a level, as `indent` makes it. Where the factory keeps mappings, each child node of the new node is
-    /// mapped as the copy of the child node of this one at the same place.
+    /// mapped as the copy of the child node of this one at the same index.
     ///
     /// `TooLong` comes first, then `NoTreeNumber`, then `NotYounger`; `Memory` may come at any time. `NotYounger` comes where the factory keeps
     /// mappings, this node has a child node and the number drawn is not greater than its own; one number is spent then, and

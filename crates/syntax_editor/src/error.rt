@@ -69,7 +69,7 @@ impl RecordError {
 /// Why an editor is not merged into another one.
 #[derive(Debug, PartialEq, Eq, Drop, Error)]
 pub enum MergeError {
-    /// The editors have different roots, or roots of one tree number in which a change of the other editor finds no place.
+    /// The editors have different roots, or roots of one tree number in which a change of the other editor does not fit.
     #[error("OtherRoot")]
     OtherRoot,
     /// Memory was refused.

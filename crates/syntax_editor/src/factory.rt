@@ -120,7 +120,7 @@ impl SyntaxFactory {
         whitespace(alloc, ids, text)
     }
 
-    // Maps each child node of a node as the copy of which the child node of another one at the same place is, where the factory
+    // Maps each child node of a node as the copy of which the child node of another one at the same index is, where the factory
     // keeps mappings.
     pub(crate) fn map_children(
         &mut self,
