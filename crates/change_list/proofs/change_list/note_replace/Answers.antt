@@ -9,7 +9,7 @@ on-ok (Err e) h p = p
 
 pub returns-then-is_none : goal.returns-then-is_none
 returns-then-is_none c = λ cs new long deletes agrees.
-    on-ok c.insert.result (noted-first c.args.element.now new cs (entry_at c.args.index.now) c.slots.result.now c.slots.ensures agrees c.get.result c.get.ensures c.is_none.result c.is_none.ensures (entry_at c.insert.new.self) c.in_ok-path.path.items c.args.place c.args.is_deleted c.in_ok-path.ensures c.if-is_none.true long deletes) c.insert.ensures.ok
+    on-ok c.insert.result (noted-first c.args.element.now new cs (entry_at c.args.index.now) c.slots.result.now c.slots.ensures agrees c.get.result c.get.ensures c.is_none.result c.is_none.ensures (entry_at c.insert.new.self) c.in_ok-path.path.items c.args.number c.args.is_deleted c.in_ok-path.ensures c.if-is_none.true long deletes) c.insert.ensures.ok
 
 pub returns-then-is_deleted : goal.returns-then-is_deleted
 returns-then-is_deleted c = λ cs new long deletes agrees.
