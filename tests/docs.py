@@ -3,7 +3,7 @@
 The tables of files in docs/ARCHITECTURE.md name each source and each spec file of a library once, and no other but spec files
 that it gives again; the head of a spec file names what it defines for others, all of it, and nothing else. What docs/CALLING.md
 and README.md show of an example is in its source, word for word. Each edit that the gate does not try can be made, and was refused
-over the files that stand now, as tests/inner_edits.txt says.
+over the files that stand now, as tests/inner_bugs.txt says.
 """
 
 import re
@@ -153,7 +153,7 @@ def compare_edits():
 
 def compare_record():
     for crate in inner_record.not_tried(ROOT):
-        wrong.append(f"{crate}: its files are not those over which its inner edits were refused: bash tests/inner_edits.sh {crate}")
+        wrong.append(f"{crate}: its files are not those over which its inner edits were refused: bash tests/inner_bugs.sh {crate}")
 
 
 compare_tables()

@@ -1,6 +1,6 @@
-"""The record of tests/inner_edits.sh: over which files the edits of crates/NAME/must-fail-inner were last refused.
+"""The record of tests/inner_bugs.sh: over which files the edits of crates/NAME/must-fail-inner were last refused.
 
-tests/inner_edits.txt has a line for each crate: its name, and a checksum of all that its edits are tried over. That is the crate's sources,
+tests/inner_bugs.txt has a line for each crate: its name, and a checksum of all that its edits are tried over. That is the crate's sources,
 definitions, proofs and inner edits, and the sources and definitions of all libraries below it.
 
     inner_record.py digests FOLDER CRATE..      prints these lines for the crates of a copy of the repository
@@ -12,7 +12,7 @@ import sys
 from pathlib import Path
 
 ROOT = Path(__file__).resolve().parent.parent
-RECORD = ROOT / "tests/inner_edits.txt"
+RECORD = ROOT / "tests/inner_bugs.txt"
 
 
 def crates_with_edits(root):

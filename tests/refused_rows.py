@@ -13,8 +13,7 @@ import subprocess
 import sys
 import tempfile
 
-# The crates that users name. They give some names of others again; what those have besides is below the surface.
-SURFACE = ["cst_core", "edit_map", "edit_plan", "syntax_editor", "list_removal", "tree_text", "syned_script", "syned_run"]
+from public_calls import calls_of, given, libraries, sources, surface_names
 
 TABLE = "crates/test_rows/stdin"
 
@@ -49,77 +48,24 @@ EXCEPT = {
 }
 
 
-def libraries():
-    """The libraries of crates.txt but for those that are there for tests, which stand behind all others."""
-    with open("crates.txt", encoding="utf-8") as table:
-        names = re.findall(r"^(\w+):", table.read(), re.M)
-    crates = [name for name in names if os.path.exists(f"crates/{name}/src/lib.rt")]
-    return [name for name in crates if not name.startswith("test_")]
-
-
-def source(crate):
-    for folder, _, files in os.walk(f"crates/{crate}/src"):
-        for name in sorted(files):
-            if name.endswith(".rt"):
-                with open(f"{folder}/{name}", encoding="utf-8") as text:
-                    yield text.read()
-
-
-def given(crate):
-    """The names that a crate gives, its own and those of others."""
-    names = set()
-    with open(f"crates/{crate}/src/lib.rt", encoding="utf-8") as text:
-        for body in re.findall(r"^pub use [\w:]+::(\{[^}]*\}|\w+);", text.read(), re.M):
-            names.update(re.findall(r"\w+", body))
-    return names
-
-
-ITEM = re.compile(
-    r"^(?:impl(?:<[^>]*>)? (?P<type>[^\n{]*)\{"
-    r"|pub trait (?P<trait>\w+)"
-    r"|(?P<method>    )?(?P<public>pub )?fn (?P<call>\w+)(?:<[^(]*>)?\((?P<parameters>[^)]*)\))",
-    re.M,
-)
-
-
-def calls_of(crate):
-    """The public calls of a crate that take an allocator: the type, the trait or the call that has to be given, and the name."""
-    for text in source(crate):
-        owner, is_public = None, False
-        for item in ITEM.finditer(text):
-            if item["type"] is not None:
-                # What an impl of a trait has is a call of the trait.
-                owner, is_public = re.match(r"\w*", item["type"])[0], " for " not in item["type"]
-            elif item["trait"]:
-                owner, is_public = item["trait"], True
-            elif re.search(r"\b_?alloc: Global\b", item["parameters"]):
-                if item["method"] and is_public and (item["public"] or is_trait(text, item)):
-                    yield owner, f"{owner}::{item['call']}"
-                elif item["public"] and not item["method"]:
-                    yield item["call"], item["call"]
-
-
-def is_trait(text, item):
-    before = re.findall(r"^(impl|pub trait)\b", text[: item.start()], re.M)
-    return before[-1:] == ["pub trait"]
-
-
 def owed_calls():
-    """The calls that a user can name, and those below the surface with their crates."""
-    names = set().union(*map(given, SURFACE))
+    """The calls that take an allocator: those that a user can name, and those below the surface with their crates."""
+    names = surface_names()
     owed, below = set(), set()
     for crate in libraries():
-        for owner, name in calls_of(crate):
-            if owner in names:
-                owed.add(name)
-            elif owner in given(crate):
-                below.add((crate, name))
+        for call in calls_of(crate):
+            if not call.takes_allocator():
+                continue
+            if call.owner in names:
+                owed.add(call.name)
+            elif call.owner in given(crate):
+                below.add((crate, call.name))
     return owed, below
 
 
 def is_called_above(crate, name):
     word = re.compile(rf"\b{name.split('::')[-1]}\(")
-    return any(word.search(text) for other in libraries() if other != crate for text in source(other))
+    return any(word.search(text) for other in libraries() if other != crate for _, text in sources(other))
 
 
 def rows():

@@ -1,7 +1,7 @@
 #!/usr/bin/env bash
-# inner_edits.sh [CRATE..]: tries the edits of crates/NAME/must-fail-inner, of these crates or of all, each of which the prover must refuse as it does
+# inner_bugs.sh [CRATE..]: tries the edits of crates/NAME/must-fail-inner, of these crates or of all, each of which the prover must refuse as it does
 # those of must-fail: in a copy of the crates, where they stand in the place of the gate's edits. The proofs are taken from what the gate kept on this
-# machine, or made anew. Where all are refused, tests/inner_edits.txt says so, with a checksum of the files: tests/docs.py fails while it names others.
+# machine, or made anew. Where all are refused, tests/inner_bugs.txt says so, with a checksum of the files: tests/docs.py fails while it names others.
 set -euo pipefail
 cd "$(dirname "$0")/.."
 source tests/lanes.sh

@@ -1,0 +1,125 @@
+#!/usr/bin/env python3
+"""Runs a program of the tests without any proof, and compares its answers.
+
+    without_proofs.py rows       `test_rows` on its table
+    without_proofs.py scripts    `syned` on scripts with their answers
+    without_proofs.py models     the editor against the plain model (`test_models`) on the same scripts
+
+A program that the gate has built is taken if no source is newer; then all scripts are run, by tests/scripts.sh and tests/models.sh.
+Otherwise `rt try` compiles the program without its proofs and starts it once for each script, which takes a third of a second, so of
+the corpus only every SHARE-th script is run."""
+import glob
+import os
+import re
+import subprocess
+import sys
+import tempfile
+
+import tables
+
+ROOT = os.path.dirname(os.path.dirname(os.path.abspath(__file__)))
+SHARE = {"scripts": 12, "models": 16}
+STATUS = {"text": 0, "refu": 1, "bad ": 2}
+
+
+def is_built(name):
+    """Whether the program is there and no file of a crate is newer."""
+    program = f"{ROOT}/crates/{name}/out/{name}"
+    if not os.access(program, os.X_OK):
+        return False
+    newer = ["find", f"{ROOT}/crates", "-name", "out", "-prune", "-o", "-type", "f", "-newer", program, "-print", "-quit"]
+    return not subprocess.run(newer, capture_output=True, check=True).stdout
+
+
+def try_program(name, *flags, **options):
+    """What `rt try` says of the program. The interpreter that it also has is stopped at once: it takes longer than the compiled program."""
+    command = ["rt", "try", "--steps", "1", *flags]
+    return subprocess.run(command, cwd=f"{ROOT}/crates/{name}", capture_output=True, text=True, check=False, **options)
+
+
+def rows():
+    with open(f"{ROOT}/crates/test_rows/stdout", encoding="utf-8") as file:
+        wanted = file.read()
+    with open(f"{ROOT}/crates/test_rows/stdin", "rb") as table:
+        if is_built("test_rows"):
+            program = [f"{ROOT}/crates/test_rows/out/test_rows"]
+            done = subprocess.run(program, stdin=table, capture_output=True, text=True, check=False)
+        else:
+            done = try_program("test_rows", stdin=table)
+    print(done.stdout, end="")
+    if done.stdout != wanted or done.returncode != 0:
+        print(f"rows: wrong; status {done.returncode}; wanted:\n{wanted}", end="")
+        print(*done.stderr.splitlines()[-5:], sep="\n")
+        return False
+    return True
+
+
+def scripts_with_answers(share):
+    """The scripts of the tables and the examples, and a part of the corpus, each with its answer, by name."""
+    found = {f"table {name}": pair for name, pair in tables.table_rows().items()}
+    examples = sorted(glob.glob(f"{ROOT}/examples/*.script"))
+    corpus = sorted(path.removesuffix(".stdout") for path in glob.glob(f"{ROOT}/tests/corpus/*/*.stdout"))
+    for path in examples + corpus[::share]:
+        answer = path.removesuffix(".script") + ".stdout"
+        with open(path, encoding="utf-8", newline="") as script, open(answer, encoding="utf-8", newline="") as out:
+            found["script " + os.path.relpath(path, ROOT).replace("/", " ")] = (script.read(), out.read())
+    return found
+
+
+def wanted_status(answer):
+    return STATUS.get(answer[:4], 3)
+
+
+def try_cases(name, cases, with_answers):
+    """What `rt try --cases` prints of the program for these scripts."""
+    with tempfile.TemporaryDirectory() as folder:
+        for case, (script, answer) in cases.items():
+            texts = {case.replace("/", " "): script}
+            if with_answers:
+                texts[case.replace("/", " ") + ".stdout"] = answer
+            for file, text in texts.items():
+                with open(os.path.join(folder, file), "w", encoding="utf-8", newline="") as out:
+                    out.write(text)
+        done = try_program(name, "--cases", folder)
+    return done.stdout + done.stderr
+
+
+def report(what, cases, good, said):
+    for name in sorted(cases.keys() - good):
+        print(f"wrong: {name}")
+    print(f"{what}: {len(good)} of {len(cases)} scripts as expected")
+    if len(good) < len(cases):
+        print(*[line for line in said.splitlines() if "output=expected" not in line][-20:], sep="\n")
+    return bool(cases) and len(good) == len(cases)
+
+
+def scripts():
+    if is_built("syned"):
+        return subprocess.run([f"{ROOT}/tests/scripts.sh"], check=False).returncode == 0
+    cases = scripts_with_answers(SHARE["scripts"])
+    said = try_cases("syned", cases, True)
+    ended = re.findall(r"^case=(.*) run=ended status=(\d+) .*output=expected", said, re.M)
+    good = {name for name, status in ended if name in cases and int(status) == wanted_status(cases[name][1])}
+    return report("scripts", cases, good, said)
+
+
+def models():
+    if is_built("test_models"):
+        return subprocess.run([f"{ROOT}/tests/models.sh"], check=False).returncode == 0
+    cases = scripts_with_answers(SHARE["models"])
+    said = try_cases("test_models", cases, False)
+    # A script may be bad or refused before its changes are recorded, and then nothing is compared.
+    ended = re.findall(r"^== (.*)\n((?s:.*?))^case=\1 run=ended status=0 ", said, re.M)
+    good = {name for name, out in ended if name in cases and is_agreed(cases[name][1], out)}
+    return report("models", cases, good, said)
+
+
+def is_agreed(answer, out):
+    return out.startswith("both:") or (out.startswith("nothing") and wanted_status(answer) in (1, 2))
+
+
+if __name__ == "__main__":
+    CHECKS = {"rows": rows, "scripts": scripts, "models": models}
+    if len(sys.argv) != 2 or sys.argv[1] not in CHECKS:
+        sys.exit(__doc__)
+    sys.exit(not CHECKS[sys.argv[1]]())
