@@ -1,16 +1,21 @@
-"""Compares what the docs and the spec files say is there with what is there.
+"""Compares what the docs and the spec files say with what is there.
 
-The tables of files in docs/ARCHITECTURE.md name each source and each spec file of a library once, and no other but spec files
-that it gives again; the head of a spec file names what it defines for others, all of it, and nothing else. What docs/CALLING.md
-and README.md show of an example is in its source, word for word. Each edit that the gate does not try can be made, and was refused
-over the files that stand now, as tests/inner_bugs.txt says.
+- The tables of files in docs/ARCHITECTURE.md name each source and each spec file of a library once, and no other but spec files that
+  it re-exports. The head of a spec file names what it defines for others, all of it, and nothing else.
+- What docs/CALLING.md and README.md show of a caller, and docs/SCRIPTS.md of a script, is in its file, word for word.
+- docs/GUARANTEES.md names each public call once, and its contracts cite the definitions that the row names.
+- Each file that a page names is there. No line of a page is over 120 columns but in a table, README.md is one page, and it names the kit.
+- Each inner planted bug can be made, and was refused over the files that are there now, by the record in tests/inner_bugs.txt.
 """
 
 import re
+import shutil
+import subprocess
 import sys
 from pathlib import Path
 
 import inner_record
+import public_calls
 
 ROOT = Path(__file__).resolve().parent.parent
 # Libraries whose files no table lists: they are for tests.
@@ -50,8 +55,8 @@ def listed_files():
     return listed
 
 
-def given_again(crate):
-    """The spec files of other crates that a crate gives under their own names or others."""
+def exported_again(crate):
+    """The spec files of other crates that a crate re-exports, under their own names or others."""
     text = (ROOT / "crates" / crate / "specs/Lib.antt").read_text()
     return {line.split(".")[-1].split()[-1] for line in text.splitlines() if line.startswith("pub use ")}
 
@@ -62,7 +67,7 @@ def compare_tables():
         for crate, names in library_files(kind, ending).items():
             told = [name for c, k, name in listed if c == crate and k == kind]
             if kind == "specs":
-                told = [name for name in told if name in names or name not in given_again(crate)]
+                told = [name for name in told if name in names or name not in exported_again(crate)]
             for name in sorted(names | set(told)):
                 if told.count(name) != (name in names):
                     wrong.append(f"{crate}/{kind}/{name}: {told.count(name)} times in docs/ARCHITECTURE.md")
@@ -134,8 +139,106 @@ def compare_examples():
             wrong.append(f"README.md: code that is in no example: {code[:60]!r}")
 
 
-def compare_edits():
-    """Each text that an edit of must-fail-inner takes away stands once in its file, as the earlier pairs of lines left it."""
+def compare_scripts():
+    """A heading of docs/SCRIPTS.md names a script of examples/; its first block is the script, its second the answer."""
+    shown = set()
+    for section in re.split(r"^### ", (ROOT / "docs/SCRIPTS.md").read_text(), flags=re.M):
+        named = re.search(r"`(examples/\w+)\.script`", section.split("\n")[0])
+        if named:
+            shown.add(named.group(1) + ".script")
+            files = [(ROOT / (named.group(1) + ending)).read_text() for ending in (".script", ".stdout")]
+            if re.findall(r"```text\n(.*?)```", section, re.S) != files:
+                wrong.append(f"docs/SCRIPTS.md: does not show {named.group(1)}.script with its answer as they are")
+    for file in sorted(ROOT.glob("examples/*.script")):
+        name = str(file.relative_to(ROOT))
+        if name not in shown and name != "examples/replace.script":
+            wrong.append(f"docs/SCRIPTS.md: no heading names {name}")
+
+
+def told_calls(cell):
+    """The calls that the first cell of a row of docs/GUARANTEES.md names: types, and after each group of them its methods."""
+    types, after_type, told = [], False, []
+    for word in re.findall(r"`([^`]+)`", cell):
+        if "::" in word:
+            told.append(word)
+        elif word[0].isupper():
+            types = [*types, word] if after_type else [word]
+        else:
+            told += [f"{owner}::{word}" for owner in types]
+        after_type = "::" not in word and word[0].isupper()
+    return told
+
+
+def calls_owed():
+    """The public calls by the names that docs/GUARANTEES.md has for them."""
+    owed, names = {}, public_calls.surface_names(ROOT) | {"laws"}
+    for crate in public_calls.libraries(ROOT):
+        for call in public_calls.calls_of(crate, ROOT):
+            if call.owner == "laws":
+                owed[f"{crate}::{call.name}"] = call
+            elif call.owner in names:
+                # A free function goes by the crate from which a user takes it.
+                takes = [it for it in public_calls.SURFACE if call.name in public_calls.given(it, ROOT)]
+                owed[call.name if "::" in call.name else f"{takes[0]}::{call.name}"] = call
+    return owed
+
+
+def compare_guarantees():
+    page, owed, told = "docs/GUARANTEES.md", calls_owed(), []
+    for line in (ROOT / page).read_text().splitlines():
+        if not line.startswith("| `"):
+            continue
+        calls, _, contract = line.strip("|").split(" | ")
+        row = told_calls(calls)
+        told += row
+        cited = set().union(*(owed[name].cited for name in row if name in owed))
+        for word in re.findall(r"`([^`]+)`", contract):
+            if word not in cited:
+                wrong.append(f"{page}: no contract of {', '.join(row)} cites {word}")
+    for name in sorted(owed.keys() | set(told)):
+        if told.count(name) != (name in owed):
+            wrong.append(f"{page}: names {name} {told.count(name)} times")
+
+
+def pages():
+    return [*sorted(ROOT.glob("*.md")), *sorted(ROOT.glob("docs/**/*.md"))]
+
+
+def compare_names():
+    """Paths of the repository that a page names, and files that it names by their names alone."""
+    files = {file.name for file in ROOT.glob("crates/*/*/**/*")}
+    for page in pages():
+        text = page.read_text()
+        for path in re.findall(r"(?<![\w./-])(?:docs|tests|crates|examples|bindings)/[\w./*-]*[\w*/]", text):
+            if not re.search(r"NAME|CRATE|FILE|/out\b|/target\b", path) and not list(ROOT.glob(path)):
+                wrong.append(f"{page.relative_to(ROOT)}: names {path}, which is not there")
+        for name in re.findall(r"(?<![\w/.])(\w+\.(?:rt|antt|edit))\b", text):
+            if name not in files and not name.startswith(("NAME.", "FILE.")):
+                wrong.append(f"{page.relative_to(ROOT)}: names {name}, which is not there")
+        for link in re.findall(r"\]\(([^)#]+)(?:#[^)]*)?\)", text):
+            if "://" not in link and not (page.parent / link).exists():
+                wrong.append(f"{page.relative_to(ROOT)}: links to {link}, which is not there")
+
+
+def compare_widths():
+    for page in pages():
+        for number, line in enumerate(page.read_text().splitlines(), 1):
+            if len(line) > 120 and not line.startswith("|"):
+                wrong.append(f"{page.relative_to(ROOT)}:{number}: has {len(line)} columns")
+
+
+def compare_readme():
+    text = (ROOT / "README.md").read_text()
+    if text.count("\n") > 120:
+        wrong.append(f"README.md: has {text.count(chr(10))} lines, 120 at most")
+    if shutil.which("rt"):
+        kit = subprocess.run(["rt", "version"], capture_output=True, text=True, check=True).stdout.strip()
+        if kit not in text:
+            wrong.append(f"README.md: does not name the kit as rt version does: {kit}")
+
+
+def compare_planted_bugs():
+    """Each text that a bug of must-fail-inner takes away is there once in its file, as the earlier pairs of lines left it."""
     for file in sorted(ROOT.glob("crates/*/must-fail-inner/*.edit")):
         source, text, old = None, "", None
         for line in file.read_text().splitlines():
@@ -146,20 +249,25 @@ def compare_edits():
             elif word == "old":
                 old = rest
                 if text.count(old) != 1:
-                    wrong.append(f"{file.relative_to(ROOT)}: what it takes away stands {text.count(old)} times in {source.name}")
+                    wrong.append(f"{file.relative_to(ROOT)}: what it takes away is {text.count(old)} times in {source.name}")
             elif word == "new":
                 text = text.replace(old, rest)
 
 
 def compare_record():
     for crate in inner_record.not_tried(ROOT):
-        wrong.append(f"{crate}: its files are not those over which its inner edits were refused: bash tests/inner_bugs.sh {crate}")
+        wrong.append(f"{crate}: its files are not those over which its inner planted bugs were refused: bash tests/inner_bugs.sh {crate}")
 
 
 compare_tables()
 compare_heads()
 compare_examples()
-compare_edits()
+compare_scripts()
+compare_guarantees()
+compare_names()
+compare_widths()
+compare_readme()
+compare_planted_bugs()
 compare_record()
 for line in wrong:
     print("wrong:", line)
