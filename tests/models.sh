@@ -16,7 +16,7 @@ for answer in tests/corpus/*/*.stdout "$room"/tables/*.stdout; do
     script=${answer%.stdout}
     status=0
     timeout 20 "$program" <"$script" >"$out" || status=$?
-    # A script may be bad or refused before its changes are recorded, and bad behind them.
+    # A script may be bad or refused before its changes are recorded, and bad after them.
     case "$(head -c 4 "$answer") $status $(head -c 5 "$out")" in
     'text 0 both:' | 'refu 0 both:' | 'bad  0 both:') compared=$((compared + 1)) ;;
     'refu 0 nothi' | 'bad  0 nothi') ;;

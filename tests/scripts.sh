@@ -1,10 +1,10 @@
 #!/usr/bin/env bash
 # Runs the program `syned` on scripts and compares what it prints and its exit status. tests/scripts has them:
 #   *.table            scripts with their answers
-#   bad_lines.txt      lines that are bad behind three good ones, each in a script of its own
-#   bad_first_lines.txt, bad_ends.txt    lines that are bad as the first one, and behind `finish`
+#   bad_lines.txt      lines that are bad after three good ones, each in a script of its own
+#   bad_first_lines.txt, bad_ends.txt    lines that are bad as the first one, and after `finish`
 #   good_lines.txt     lines that change nothing
-# tests/corpus has a folder of scripts, NAME with its answer NAME.stdout.
+# tests/corpus has a folder of scripts, NAME with its answer NAME.stdout; examples has NAME.script with its answer NAME.stdout.
 set -euo pipefail
 cd "$(dirname "$0")/.."
 scripts=tests/scripts
@@ -58,7 +58,7 @@ tables() {
                 ;;
             '-- answer') to=$room/answer ;;
             *)
-                # An empty line behind an answer ends it.
+                # An empty line after an answer ends it.
                 [ -z "$line" ] && [ "$to" = "$room/answer" ] || printf '%s\n' "$line" >>"$to"
                 ;;
             esac
@@ -84,7 +84,7 @@ lines() {
     done <"$scripts/bad_first_lines.txt"
     while IFS= read -r line; do
         printf '%s\nfinish\n\n%s\nno\n' "$opening" "$line" >"$room/script"
-        is_bad 6 "behind the end $line"
+        is_bad 6 "after the end $line"
     done <"$scripts/bad_ends.txt"
     while IFS= read -r line; do
         printf '%s\n%s\nfinish\n' "$opening" "$line" >"$room/script"
@@ -99,18 +99,18 @@ ends_of_lines() {
     printf '%s\nfinish' "$opening" >"$room/script" && try 'no last newline'
     printf '%s\nfinish\r' "$opening" >"$room/script" && try 'a carriage return and no last newline'
     printf '%s\nfinish \r\n' "$opening" >"$room/script" && try 'a space before a carriage return'
-    printf '%s\nfinish\n\r\n# end\r' "$opening" >"$room/script" && try 'blank lines with carriage returns behind the end'
+    printf '%s\nfinish\n\r\n# end\r' "$opening" >"$room/script" && try 'blank lines with carriage returns after the end'
     : >"$room/script" && is_bad 1 'no byte'
     printf '\n' >"$room/script" && is_bad 2 'one newline'
-    printf '%s\nfinish\n\377' "$opening" >"$room/script" && is_bad 0 'no text behind the end'
-    printf 'no\n\300\200\n' >"$room/script" && is_bad 0 'no text behind a bad line'
+    printf '%s\nfinish\n\377' "$opening" >"$room/script" && is_bad 0 'no text after the end'
+    printf 'no\n\300\200\n' >"$room/script" && is_bad 0 'no text after a bad line'
     printf '%s\ndelete R\n# \377\n' "$opening" >"$room/script" && is_bad 0 'no text after a refused call'
     printf '# \355\240\200\n' >"$room/script" && is_bad 0 'half a pair in a comment'
     printf '# \303' >"$room/script" && is_bad 0 'half a character'
 }
 
-# A script cut behind each of its bytes. What is cut off from a line leaves it bad, but for a whole line, for
-# `replace R`, which takes the root away, and for `replace R/1` and `replace R/1 U`; then the line behind it is missing.
+# A script cut after each of its bytes. What is cut off from a line leaves it bad, but for a whole line, for
+# `replace R`, which takes the root away, and for `replace R/1` and `replace R/1 U`; then the next line is missing.
 beginnings() {
     local whole="$opening"$'\nreplace R/1 U/0\nfinish\n' size lines last
     for ((size = 0; size < ${#whole}; size++)); do
@@ -131,6 +131,16 @@ beginnings() {
     done
 }
 
+# The scripts that docs/SCRIPTS.md shows.
+examples() {
+    local script
+    for script in examples/*.script; do
+        cp "$script" "$room/script"
+        cp "${script%.script}.stdout" "$room/answer"
+        try "$script"
+    done
+}
+
 # Random scripts, whose answers were made from the definitions by another program.
 corpus() {
     local answer
@@ -141,7 +151,7 @@ corpus() {
     done
 }
 
-# So many nodes inside each other.
+# Nodes inside each other, $1 of them.
 nested() {
     local open close
     open=$(printf '(LITERAL %.0s' $(seq "$1"))
@@ -219,6 +229,7 @@ ends() {
 }
 
 tables
+examples
 corpus
 lines
 ends_of_lines
