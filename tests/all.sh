@@ -1,6 +1,6 @@
 #!/usr/bin/env bash
-# All tests: what the docs say of files and definitions, the gate, scripts through the built program and through a plain model, hostile
-# scripts, each row of the table with each of its growths refused in turn, and how many growths an edit asks for.
+# All tests: docs against files and definitions, the gate, scripts through the built program and through a plain model, hostile scripts,
+# each row of the table with each of its allocations made to fail in turn, and how many allocations an edit makes.
 set -euo pipefail
 cd "$(dirname "$0")/.."
 

@@ -1,8 +1,8 @@
 #!/usr/bin/env bash
-# Counts what edits at one end of a tree ask of memory, and what indenting asks for where nothing changes: as many growths for
-# a tree of some 2,000 nodes as for one of some 60, of the same depth, or for a list with 1,000 tokens more, since what stays is shared.
-# Of plans that is asked of each engine, and of a run with its steps. The program `test_rows` makes the steps of each row with the last
-# one and without it; the difference is what that one asks for.
+# Counts the allocations of edits at one end of a tree, and of indenting where nothing changes: as many for a tree of some 2,000 nodes as
+# for one of some 60 of the same depth, or for a list with 1,000 tokens more, since what stays is shared. Of plans that is asked of each
+# engine, and of a run with its steps. The program `test_rows` makes the steps of each row with the last one and without it; the
+# difference is what that one allocates.
 set -euo pipefail
 cd "$(dirname "$0")/.."
 
@@ -11,7 +11,7 @@ trap 'rm -rf "$room"' EXIT
 "${CC:-cc}" -O1 -shared -fPIC -o "$room/refuse.so" tests/refuse_growth.c -ldl
 
 program=$(tests/program.sh test_rows)
-# How many growths a run of these steps asks for. Each of them must be done.
+# How many allocations a run of these steps makes. Each step must succeed.
 growths() {
     printf 'growths: %s = not asked\n' "$1" >"$room/table"
     timeout 20 env COUNT_GROWTHS=1 LD_PRELOAD="$room/refuse.so" "$program" <"$room/table" >"$room/out" 2>"$room/err" || true
@@ -19,7 +19,7 @@ growths() {
     sed -n 's/^growths //p' "$room/err"
 }
 
-# How many growths the last step asks for, $3, on the tree $1 after the steps $2.
+# How many allocations the last step makes, $3, on the tree $1 after the steps $2.
 asked() {
     local all before
     all=$(growths "tree R $1 ; $2 ; $3")
@@ -29,13 +29,13 @@ asked() {
 
 wrong=0
 
-# Says that the last step, $2 after the steps $1, asks for $3 growths on a small tree and $4 on a large one.
+# Says that the last step, $2 after the steps $1, makes $3 allocations on a small tree and $4 on a large one.
 report() {
     if [ "$3" -eq "$4" ]; then
-        echo "$1 ; $2: $3 growths for each"
+        echo "$1 ; $2: $3 allocations for each"
     else
         wrong=$((wrong + 1))
-        echo "wrong: $1 ; $2: $3 growths for a small tree, $4 for a large one"
+        echo "wrong: $1 ; $2: $3 allocations for a small tree, $4 for a large one"
     fi
 }
 
@@ -66,7 +66,7 @@ compare 'new R ; insert first R R/0/1' 'finish'
 compare 'new R ; insert after R/LAST/5 R/0/1' 'finish'
 compare 'new R ; replace R/0/1 R/0/4 ; plan' 'run'
 compare 'new R ; replace R/LAST/4 R/0/1 ; plan' 'run'
-# A splice makes a list of the children of each node that it builds, one by one, so for splices only what they leave may grow.
+# A splice copies the child list of each node that it builds, so for splices only the part that they leave may be larger.
 for step in 'run' 'run_spliced' 'stepped 0'; do
     compare_lists 'tree U U ; new R ; replace R/1 U/0 ; plan' "$step"
 done

@@ -1,7 +1,7 @@
 #!/usr/bin/env bash
-# inner_bugs.sh [CRATE..]: tries the edits of crates/NAME/must-fail-inner, of these crates or of all, each of which the prover must refuse as it does
-# those of must-fail: in a copy of the crates, where they stand in the place of the gate's edits. The proofs are taken from what the gate kept on this
-# machine, or made anew. Where all are refused, tests/inner_bugs.txt says so, with a checksum of the files: tests/docs.py fails while it names others.
+# inner_bugs.sh [CRATE..]: tries the inner planted bugs (crates/NAME/must-fail-inner) of these crates, or of all. The prover has to refuse
+# each. They are tried in a copy of the crates, in the place of the gate's planted bugs, over the proofs that the gate kept on this machine,
+# or over new ones. If all are refused, tests/inner_bugs.txt gets a checksum of the files; tests/docs.py fails if these files change.
 set -euo pipefail
 cd "$(dirname "$0")/.."
 source tests/lanes.sh

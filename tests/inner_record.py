@@ -1,7 +1,7 @@
-"""The record of tests/inner_bugs.sh: over which files the edits of crates/NAME/must-fail-inner were last refused.
+"""The record of tests/inner_bugs.sh: over which files the inner planted bugs (crates/NAME/must-fail-inner) were last refused.
 
-tests/inner_bugs.txt has a line for each crate: its name, and a checksum of all that its edits are tried over. That is the crate's sources,
-definitions, proofs and inner edits, and the sources and definitions of all libraries below it.
+tests/inner_bugs.txt has a line for each crate: its name, and a checksum of all that its planted bugs are tried over. That is the crate's
+sources, definitions, proofs and inner planted bugs, and the sources and definitions of all libraries below it.
 
     inner_record.py digests FOLDER CRATE..      prints these lines for the crates of a copy of the repository
     inner_record.py write                       puts such lines, from standard input, in the record
@@ -15,7 +15,7 @@ ROOT = Path(__file__).resolve().parent.parent
 RECORD = ROOT / "tests/inner_bugs.txt"
 
 
-def crates_with_edits(root):
+def crates_with_bugs(root):
     return sorted(folder.parent.name for folder in root.glob("crates/*/must-fail-inner"))
 
 
@@ -49,14 +49,14 @@ def recorded():
 
 
 def not_tried(root):
-    """The crates whose inner edits were not refused over the files that stand now."""
+    """The crates whose inner planted bugs were not refused over the files that are there now."""
     known = recorded()
-    return [crate for crate in crates_with_edits(root) if known.get(crate) != digest(root, crate)]
+    return [crate for crate in crates_with_bugs(root) if known.get(crate) != digest(root, crate)]
 
 
 def write(lines):
     known = recorded() | dict(line.split() for line in lines)
-    kept = [crate for crate in crates_with_edits(ROOT) if crate in known]
+    kept = [crate for crate in crates_with_bugs(ROOT) if crate in known]
     RECORD.write_text("".join(f"{crate} {known[crate]}\n" for crate in kept))
 
 

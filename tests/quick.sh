@@ -8,15 +8,15 @@ trap 'rm -rf "$room"' EXIT
 
 # Each file of a crate as `rt fmt` lays it out.
 format() {
-    mkdir "$room/format"
+    mkdir "$room/as_is"
     git ls-files -z --cached --others --exclude-standard crates crates.txt HANDLES |
         xargs -0 sh -c 'for file; do [ ! -e "$file" ] || printf "%s\0" "$file"; done' sh |
-        xargs -0 cp --parents -t "$room/format"
-    cp -r "$room/format" "$room/laid_out"
+        xargs -0 cp --parents -t "$room/as_is"
+    cp -r "$room/as_is" "$room/laid_out"
     for crate in "$room"/laid_out/crates/*/; do
         (cd "$crate" && rt fmt >/dev/null)
     done
-    diff -r "$room/format/crates" "$room/laid_out/crates"
+    diff -r "$room/as_is/crates" "$room/laid_out/crates"
     echo "format: as rt fmt lays it out"
 }
 

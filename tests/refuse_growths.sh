@@ -1,9 +1,9 @@
 #!/usr/bin/env bash
-# Runs each row of the table of `test_rows`, and the program `syned` on some scripts, with the first, second and each further growth
-# refused, until a run asks for no more. A row must answer as expected or end for want of memory, and what a refused call must leave as
-# it was is asked for then (tests/refused_rows.py); `syned` must print all of its answer, or nothing and end with status 3.
-# The kit's own way to refuse an allocation takes one number a run and compiles the program anew for each, so a small library
-# stands before the C library here.
+# Runs each row of the table of `test_rows`, and the program `syned` on some scripts, with the first, second and each further allocation
+# made to fail, until a run makes no more. A row must answer as expected, or end because memory ran out, and then everything that a refused
+# call must leave as it was is compared (tests/refused_rows.py). `syned` must print all of its answer, or nothing and end with status 3.
+# The kit's own way to make an allocation fail takes one number a run and compiles the program anew for each, so here a small library is
+# loaded before the C library.
 set -euo pipefail
 cd "$(dirname "$0")/.."
 
@@ -11,9 +11,9 @@ room=$(mktemp -d)
 trap 'rm -rf "$room"' EXIT
 "${CC:-cc}" -O1 -shared -fPIC -o "$room/refuse.so" tests/refuse_growth.c -ldl
 
-# A run of the program with a growth refused has gone wrong; $1 says what is wrong with it.
+# A run of the program with a failed allocation has gone wrong; $1 says how.
 went_wrong() {
-    echo "$1: with growth $growth refused the program ended with status $status and printed:"
+    echo "$1: with allocation $growth failed the program ended with status $status and printed:"
     cat "$room/out" "$room/err"
     exit 1
 }
@@ -27,7 +27,7 @@ status_of() {
     esac
 }
 
-# Runs the program $1 on the input $2, whose answer is the file $2.stdout, with each growth refused; $3 looks at each such run.
+# Runs the program $1 on the input $2, whose answer is the file $2.stdout, with each allocation made to fail; $3 looks at each such run.
 refuse_each() {
     local program input=$2 answer=$2.stdout growth status wanted
     program=$(tests/program.sh "$1")
@@ -37,12 +37,12 @@ refuse_each() {
         timeout 20 env REFUSE_GROWTH=$growth LD_PRELOAD="$room/refuse.so" "$program" <"$input" >"$room/out" 2>"$room/err" || status=$?
         if ! grep -q '^growth refused' "$room/err"; then
             [ "$status" -eq "$wanted" ] && cmp -s "$answer" "$room/out" || went_wrong "$1 without a refusal"
-            echo "$1 on ${input##*/}: refused growths: $((growth - 1)), each answered"
+            echo "$1 on ${input##*/}: failed allocations: $((growth - 1)), each answered"
             return
         fi
         "$3" || went_wrong "$1"
     done
-    echo "$1 on $input: more than 5000 growths"
+    echo "$1 on $input: more than 5000 allocations"
     exit 1
 }
 

@@ -1,12 +1,12 @@
 #!/usr/bin/env python3
-"""Runs each row of the table of `test_rows` with its first, second and each further growth refused.
+"""Runs each row of the table of `test_rows` with its first, second and each further allocation made to fail.
 
     refused_rows.py LIBRARY PROGRAM    LIBRARY is built of refuse_growth.c; PROGRAM is `test_rows`
 
 A row is a table of its own, which begins with the line `growths are refused` and the trees that the row names. Each of its runs must
 answer as expected or end because memory runs out. A call that was refused says its name (`Memory: NAME`). In the end each public call
 that takes an allocator, of all libraries of crates.txt, must have done so, but for those of EXCEPT, and for calls that no user can name.
-Of these each must stand in a crate above its own, so that it is refused below some call that is named."""
+Each of these must be called by a crate above its own, so that it is refused below some call that is named."""
 import os
 import re
 import subprocess
@@ -42,7 +42,7 @@ EXCEPT = {
     "SpliceEngine::new": "asks for nothing",
     "Change::green_payload": "gives a type that no user of edit_plan can name; EditPlan::run_with calls it, and has rows",
     "read_tree": "each row reads its trees by it, and ends where that is refused",
-    "run": "is the whole of the program `syned`, which tests/refuse_growths.sh runs with each growth refused",
+    "run": "is the whole of the program `syned`, which tests/refuse_growths.sh runs with each allocation made to fail",
     "carry_out": "is what `run` carries a script out by",
     "record_script": "is for tests alone; it records by the calls that `carry_out` makes",
 }
@@ -109,7 +109,7 @@ def main():
                 wrong += 1
                 said = [it for it in out.split("\n") if not it.startswith("Memory: ")]
                 print(line, *said, sep="\n    ")
-    print(f"test_rows: {ran} rows, {growths} refused growths, each answered")
+    print(f"test_rows: {ran} rows, {growths} failed allocations, each answered")
     owed, below = owed_calls()
     for name in sorted(EXCEPT.keys() - owed):
         wrong += 1
