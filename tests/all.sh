@@ -13,6 +13,7 @@ step() {
 source tests/lanes.sh
 
 step python3 tests/docs.py
+step python3 tests/without_proofs.py caller
 step env RT_JOBS="${RT_JOBS:-$(lanes)}" rt ci
 step tests/scripts.sh
 step tests/models.sh

@@ -76,17 +76,22 @@ def surface_names(root="."):
     return set().union(*(given(crate, root) for crate in SURFACE))
 
 
+def calls_in(crate, file, text):
+    """The public functions of a source. What an impl of a trait has is a call of the trait."""
+    owner, is_public, is_trait = None, False, False
+    for item in ITEM.finditer(text):
+        if item["type"] is not None:
+            owner, is_public, is_trait = re.match(r"\w*", item["type"])[0], " for " not in item["type"], False
+        elif item["trait"]:
+            owner, is_public, is_trait = item["trait"], True, True
+        elif item["method"]:
+            if is_public and (item["public"] or is_trait):
+                yield Call(crate, owner, item, text)
+        elif item["public"]:
+            yield Call(crate, "laws" if file == "laws.rt" else item["call"], item, text)
+
+
 def calls_of(crate, root="."):
-    """The public functions of a crate. What an impl of a trait has is a call of the trait."""
+    """The public functions of a crate."""
     for file, text in sources(crate, root):
-        owner, is_public, is_trait = None, False, False
-        for item in ITEM.finditer(text):
-            if item["type"] is not None:
-                owner, is_public, is_trait = re.match(r"\w*", item["type"])[0], " for " not in item["type"], False
-            elif item["trait"]:
-                owner, is_public, is_trait = item["trait"], True, True
-            elif item["method"]:
-                if is_public and (item["public"] or is_trait):
-                    yield Call(crate, owner, item, text)
-            elif item["public"]:
-                yield Call(crate, "laws" if file == "laws.rt" else item["call"], item, text)
+        yield from calls_in(crate, file, text)

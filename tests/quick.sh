@@ -1,6 +1,6 @@
 #!/usr/bin/env bash
-# The quick check, for while you write: format, docs, every row, scripts, and the plain model, all without proofs. It takes three to five
-# minutes on four processors, and half a minute where the gate has built the programs. It proves nothing: tests/all.sh does.
+# The quick check, for while you write: format, docs, every row, scripts, the plain model, and the first caller of docs/CALLING.md, all
+# without proofs. It takes at most five minutes on four processors, and two where the gate has built the programs. tests/all.sh proves.
 set -euo pipefail
 cd "$(dirname "$0")/.."
 room=$(mktemp -d)
@@ -31,11 +31,12 @@ start() {
 start rows python3 tests/without_proofs.py rows
 start models python3 tests/without_proofs.py models
 start scripts python3 tests/without_proofs.py scripts
+start caller python3 tests/without_proofs.py caller
 start docs python3 tests/docs.py
 start format format
 
 failed=0
-for name in docs format rows scripts models; do
+for name in docs format rows scripts models caller; do
     wait "${checks[$name]}" || {
         failed=$((failed + 1))
         echo "FAILED: $name"

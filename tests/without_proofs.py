@@ -4,6 +4,7 @@
     without_proofs.py rows       `test_rows` on its table
     without_proofs.py scripts    `syned` on scripts with their answers
     without_proofs.py models     the editor against the plain model (`test_models`) on the same scripts
+    without_proofs.py caller     the first caller of docs/CALLING.md, in a copy of the repository
 
 A program that the gate has built is taken if no source is newer; then all scripts are run, by tests/scripts.sh and tests/models.sh.
 Otherwise `rt try` compiles the program without its proofs and starts it once for each script, which takes a third of a second, so of
@@ -11,6 +12,7 @@ the corpus only every SHARE-th script is run."""
 import glob
 import os
 import re
+import shutil
 import subprocess
 import sys
 import tempfile
@@ -31,10 +33,10 @@ def is_built(name):
     return not subprocess.run(newer, capture_output=True, check=True).stdout
 
 
-def try_program(name, *flags, **options):
+def try_program(name, *flags, root=ROOT, **options):
     """What `rt try` says of the program. The interpreter that it also has is stopped at once: it takes longer than the compiled program."""
     command = ["rt", "try", "--steps", "1", *flags]
-    return subprocess.run(command, cwd=f"{ROOT}/crates/{name}", capture_output=True, text=True, check=False, **options)
+    return subprocess.run(command, cwd=f"{root}/crates/{name}", capture_output=True, text=True, check=False, **options)
 
 
 def rows():
@@ -118,8 +120,35 @@ def is_agreed(answer, out):
     return out.startswith("both:") or (out.startswith("nothing") and wanted_status(answer) in (1, 2))
 
 
+def caller():
+    """The page shows a line of crates.txt, the source of a program, and what that prints."""
+    with open(f"{ROOT}/docs/CALLING.md", encoding="utf-8") as file:
+        page = file.read()
+    entry = re.search(r"^ *(my_caller: .*)$", page, re.M).group(1)
+    code = re.search(r"^   ```rust\n((?s:.*?))^   ```", page, re.M).group(1)
+    wanted = re.search(r"`rt try` prints `(.*?)`", page).group(1) + "\n"
+    with tempfile.TemporaryDirectory() as copy:
+        list_files = ["git", "ls-files", "--cached", "--others", "--exclude-standard", "-z", "crates", "crates.txt", "HANDLES"]
+        files = subprocess.run(list_files, cwd=ROOT, capture_output=True, text=True, check=True).stdout.split("\0")
+        for file in filter(os.path.isfile, (os.path.join(ROOT, name) for name in files if name)):
+            target = os.path.join(copy, os.path.relpath(file, ROOT))
+            os.makedirs(os.path.dirname(target), exist_ok=True)
+            shutil.copy(file, target)
+        with open(f"{copy}/crates.txt", "a", encoding="utf-8") as crates:
+            crates.write(f"{entry}\n")
+        os.makedirs(f"{copy}/crates/my_caller/src")
+        with open(f"{copy}/crates/my_caller/src/main.rt", "w", encoding="utf-8") as main:
+            main.write(re.sub(r"^   ", "", code, flags=re.M))
+        done = try_program("my_caller", root=copy)
+    if done.stdout != wanted or done.returncode != 0:
+        print(f"caller: wrong: {done.stdout!r}, {wanted!r} is wanted", *done.stderr.splitlines()[-5:], sep="\n")
+        return False
+    print(f"caller: prints {wanted}", end="")
+    return True
+
+
 if __name__ == "__main__":
-    CHECKS = {"rows": rows, "scripts": scripts, "models": models}
+    CHECKS = {"rows": rows, "scripts": scripts, "models": models, "caller": caller}
     if len(sys.argv) != 2 or sys.argv[1] not in CHECKS:
         sys.exit(__doc__)
     sys.exit(not CHECKS[sys.argv[1]]())
