@@ -20,7 +20,7 @@ import tempfile
 import tables
 
 ROOT = os.path.dirname(os.path.dirname(os.path.abspath(__file__)))
-SHARE = {"scripts": 12, "models": 16}
+SHARE = {"scripts": 24, "models": 32}
 STATUS = {"text": 0, "refu": 1, "bad ": 2}
 
 
@@ -33,10 +33,13 @@ def is_built(name):
     return not subprocess.run(newer, capture_output=True, check=True).stdout
 
 
-def try_program(name, *flags, root=ROOT, **options):
+APART = {"stdout": subprocess.PIPE, "stderr": subprocess.PIPE}
+
+
+def try_program(name, *flags, root=ROOT, streams=APART, **options):
     """What `rt try` says of the program. The interpreter that it also has is stopped at once: it takes longer than the compiled program."""
     command = ["rt", "try", "--steps", "1", *flags]
-    return subprocess.run(command, cwd=f"{root}/crates/{name}", capture_output=True, text=True, check=False, **options)
+    return subprocess.run(command, cwd=f"{root}/crates/{name}", text=True, check=False, **streams, **options)
 
 
 def rows():
@@ -82,16 +85,16 @@ def try_cases(name, cases, with_answers):
             for file, text in texts.items():
                 with open(os.path.join(folder, file), "w", encoding="utf-8", newline="") as out:
                     out.write(text)
-        done = try_program(name, "--cases", folder)
-    return done.stdout + done.stderr
+        # What a case prints and what is said of it come on two streams, in turns.
+        return try_program(name, "--cases", folder, streams={"stdout": subprocess.PIPE, "stderr": subprocess.STDOUT}).stdout
 
 
 def report(what, cases, good, said):
-    for name in sorted(cases.keys() - good):
+    for name in sorted(cases.keys() - good)[:10]:
         print(f"wrong: {name}")
     print(f"{what}: {len(good)} of {len(cases)} scripts as expected")
     if len(good) < len(cases):
-        print(*[line for line in said.splitlines() if "output=expected" not in line][-20:], sep="\n")
+        print(*[line for line in said.splitlines() if "output=expected" not in line][-10:], sep="\n")
     return bool(cases) and len(good) == len(cases)
 
 
