@@ -28,15 +28,21 @@ start() {
     checks[$name]=$!
 }
 
-start rows python3 tests/without_proofs.py rows
+# One after the other, since there are four processors.
+rows_and_caller() {
+    python3 tests/without_proofs.py rows
+    python3 tests/without_proofs.py caller
+}
+
 start models python3 tests/without_proofs.py models
-start scripts python3 tests/without_proofs.py scripts
-start caller python3 tests/without_proofs.py caller
+start scripts python3 tests/without_proofs.py scripts 1 2
+start more_scripts python3 tests/without_proofs.py scripts 2 2
+start rows rows_and_caller
 start docs python3 tests/docs.py
 start format format
 
 failed=0
-for name in docs format rows scripts models caller; do
+for name in docs format rows scripts more_scripts models; do
     wait "${checks[$name]}" || {
         failed=$((failed + 1))
         echo "FAILED: $name"

@@ -1,14 +1,15 @@
 #!/usr/bin/env python3
 """Runs a program of the tests without any proof, and compares its answers.
 
-    without_proofs.py rows       `test_rows` on its table
-    without_proofs.py scripts    `syned` on scripts with their answers
-    without_proofs.py models     the editor against the plain model (`test_models`) on the same scripts
-    without_proofs.py caller     the first caller of docs/CALLING.md, in a copy of the repository
+    without_proofs.py rows          `test_rows` on its table
+    without_proofs.py scripts       `syned` on scripts with their answers
+    without_proofs.py scripts 1 2   the first of two parts of these, for two processors
+    without_proofs.py models        the editor against the plain model (`test_models`) on such scripts
+    without_proofs.py caller        the first caller of docs/CALLING.md, in a copy of the repository
 
 A program that the gate has built is taken if no source is newer; then all scripts are run, by tests/scripts.sh and tests/models.sh.
-Otherwise `rt try` compiles the program without its proofs and starts it once for each script, which takes a third of a second, so of
-the corpus only every SHARE-th script is run."""
+Otherwise `rt try` compiles the program without its proofs and starts it once for each script, which takes most of a second. So then
+`syned` runs the scripts of all tables and examples, and every 24th of the corpus, and the model half as many."""
 import glob
 import os
 import re
@@ -20,7 +21,7 @@ import tempfile
 import tables
 
 ROOT = os.path.dirname(os.path.dirname(os.path.abspath(__file__)))
-SHARE = {"scripts": 24, "models": 32}
+SHARE = 24
 STATUS = {"text": 0, "refu": 1, "bad ": 2}
 
 
@@ -59,16 +60,16 @@ def rows():
     return True
 
 
-def scripts_with_answers(share):
-    """The scripts of the tables and the examples, and a part of the corpus, each with its answer, by name."""
+def scripts_with_answers(part, parts):
+    """One part of the scripts of the tables, the examples and a share of the corpus, each with its answer, by name."""
     found = {f"table {name}": pair for name, pair in tables.table_rows().items()}
     examples = sorted(glob.glob(f"{ROOT}/examples/*.script"))
     corpus = sorted(path.removesuffix(".stdout") for path in glob.glob(f"{ROOT}/tests/corpus/*/*.stdout"))
-    for path in examples + corpus[::share]:
+    for path in examples + corpus[::SHARE]:
         answer = path.removesuffix(".script") + ".stdout"
         with open(path, encoding="utf-8", newline="") as script, open(answer, encoding="utf-8", newline="") as out:
             found["script " + os.path.relpath(path, ROOT).replace("/", " ")] = (script.read(), out.read())
-    return found
+    return {name: found[name] for name in sorted(found)[part - 1 :: parts]}
 
 
 def wanted_status(answer):
@@ -98,10 +99,10 @@ def report(what, cases, good, said):
     return bool(cases) and len(good) == len(cases)
 
 
-def scripts():
+def scripts(part=1, parts=1):
     if is_built("syned"):
-        return subprocess.run([f"{ROOT}/tests/scripts.sh"], check=False).returncode == 0
-    cases = scripts_with_answers(SHARE["scripts"])
+        return part > 1 or subprocess.run([f"{ROOT}/tests/scripts.sh"], check=False).returncode == 0
+    cases = scripts_with_answers(part, parts)
     said = try_cases("syned", cases, True)
     ended = re.findall(r"^case=(.*) run=ended status=(\d+) .*output=expected", said, re.M)
     good = {name for name, status in ended if name in cases and int(status) == wanted_status(cases[name][1])}
@@ -111,7 +112,7 @@ def scripts():
 def models():
     if is_built("test_models"):
         return subprocess.run([f"{ROOT}/tests/models.sh"], check=False).returncode == 0
-    cases = scripts_with_answers(SHARE["models"])
+    cases = scripts_with_answers(1, 2)
     said = try_cases("test_models", cases, False)
     # A script may be bad or refused before its changes are recorded, and then nothing is compared.
     ended = re.findall(r"^== (.*)\n((?s:.*?))^case=\1 run=ended status=0 ", said, re.M)
@@ -152,6 +153,6 @@ def caller():
 
 if __name__ == "__main__":
     CHECKS = {"rows": rows, "scripts": scripts, "models": models, "caller": caller}
-    if len(sys.argv) != 2 or sys.argv[1] not in CHECKS:
+    if len(sys.argv) < 2 or sys.argv[1] not in CHECKS:
         sys.exit(__doc__)
-    sys.exit(not CHECKS[sys.argv[1]]())
+    sys.exit(not CHECKS[sys.argv[1]](*map(int, sys.argv[2:])))
