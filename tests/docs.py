@@ -142,9 +142,9 @@ def compare_examples():
 
 
 def compare_scripts():
-    """A heading of docs/SCRIPTS.md names a script of examples/; its first block is the script, its second the answer."""
-    shown = set()
-    for section in re.split(r"^### ", (ROOT / "docs/SCRIPTS.md").read_text(), flags=re.M):
+    """A heading of docs/SCRIPTS.md names a script of examples/; its first block is the script, its second the answer. The kinds are there."""
+    shown, page = set(), (ROOT / "docs/SCRIPTS.md").read_text()
+    for section in re.split(r"^### ", page, flags=re.M):
         named = re.search(r"`(examples/\w+)\.script`", section.split("\n")[0])
         if named:
             shown.add(named.group(1) + ".script")
@@ -155,6 +155,9 @@ def compare_scripts():
         name = str(file.relative_to(ROOT))
         if name not in shown and name != "examples/replace.script":
             wrong.append(f"docs/SCRIPTS.md: no heading names {name}")
+    table = re.search(r"KIND_NAMES: \[&str; 65\] = \[(.*?)\];", (ROOT / "crates/green_tree/src/kind.rt").read_text(), re.S)
+    if re.findall(r'"(\w+)"', table.group(1)) not in [block.split() for block in re.findall(r"```text\n(.*?)```", page, re.S)]:
+        wrong.append("docs/SCRIPTS.md: does not list the names of the kinds")
 
 
 def told_calls(cell):
