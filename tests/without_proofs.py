@@ -40,6 +40,7 @@ APART = {"stdout": subprocess.PIPE, "stderr": subprocess.PIPE}
 def try_program(name, *flags, root=ROOT, streams=APART, **options):
     """What `rt try` says of the program. The interpreter that it also has is stopped at once: it takes longer than the compiled program."""
     command = ["rt", "try", "--steps", "1", "--seconds", "300", *flags]
+    options.setdefault("stdin", subprocess.DEVNULL)
     return subprocess.run(command, cwd=f"{root}/crates/{name}", text=True, check=False, **streams, **options)
 
 
