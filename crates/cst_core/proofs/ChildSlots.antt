@@ -1,6 +1,6 @@
 -- The children of an element, one slot at a time: from a slot on, and up to a slot.
 use Rattle.std.proofs.Common.{◌≡◌, ℕ, zero, suc, ◌+◌, ◌<◌, ◌≤◌, List, [], ◌∷◌, ◌++◌, length, map, take, drop, Option, Some, None, refl, ap, sym, ◌∙◌, subst, arith}
-use Rattle.std.specs.Prelude.{filter_map, option_and_then, slice_get, unwrap_or, IsSome}
+use Rattle.std.specs.Prelude.{filter_map, option_map, option_and_then, slice_get, unwrap_or, IsSome}
 use Rattle.std.specs.List.{cons_option}
 use Rattle.std.proofs.Math.ListN.{drop_of_length-le}
 use Rattle.std.proofs.Math.Seq.{take-length}
@@ -9,10 +9,12 @@ use Rattle.std.proofs.lemmas.List.Elements.{filter_map-append}
 use Rattle.green_tree.specs.Path.{Path, counted_from, first_item, last_item, parent_path, last_slot}
 use Rattle.green_tree.specs.Tree.{SyntaxTree, Token, at, children}
 use Rattle.cst_core.specs.Element.{Element, IsElement, subtree, below, element_at, parent_of}
-use Rattle.cst_core.specs.SyntaxElement.{syntax_of, syntax_at, node_of, child_elements, child_nodes}
+use Rattle.cst_core.specs.SyntaxElement.{syntax_as, syntax_of, node_of, child_elements, child_nodes}
+use Rattle.cst_core.specs.inner.ChildSlots.{node_in, nodes_from_slot, nodes_up_to}
 use Rattle.green_tree.proofs.Lookup.{at-append}
 use Rattle.cst_core.proofs.LastSlot.{parent-and-slot}
-use Rattle.cst_core.proofs.Children.{child_there, last_item-push}
+use Rattle.green_tree.specs.Green.{Branch, Leaf, branch_tree, leaf_tree}
+use Rattle.cst_core.proofs.Children.{at_below, child_there, child_past, last_item-push}
 
 pub length_counted : (a n : ℕ) → length (counted_from a n) ≡ n
 length_counted a zero = refl
@@ -49,19 +51,8 @@ take_child e i h =
     let same : 0 + i ≡ i = omega arith in
     take_slot (λ j. syntax_of (below e (j ∷ []))) 0 (length (children (subtree e))) i h ∙ ap (λ j. take i (child_elements e) ++ syntax_of (below e (j ∷ [])) ∷ []) same
 
--- the child in a slot, if it is a node
-abbrev pub node_in : Element → ℕ → Option Element
-node_in e i = option_and_then node_of (syntax_at e (e.path ++ i ∷ []))
-
 node_in-there : (e : Element) (t : SyntaxTree) (i : ℕ) → at e.root e.path ≡ Some t → i < length (children (subtree e)) → node_in e i ≡ node_of (syntax_of (below e (i ∷ [])))
 node_in-there e t i h inside = ap (option_and_then node_of) (child_there e t i h inside)
-
--- the nodes among the children from a slot on, and up to a slot
-abbrev pub nodes_from_slot : Element → ℕ → List Element
-nodes_from_slot e i = filter_map node_of (drop i (child_elements e))
-
-abbrev pub nodes_up_to : Element → ℕ → List Element
-nodes_up_to e i = filter_map node_of (take i (child_elements e))
 
 pub nodes_from_slot-next : (e : Element) (t : SyntaxTree) (i : ℕ) → at e.root e.path ≡ Some t → i < length (children (subtree e)) → nodes_from_slot e i ≡ cons_option (node_in e i) (nodes_from_slot e (suc i))
 nodes_from_slot-next e t i h inside =
@@ -121,3 +112,32 @@ slot_in_parent e p (i ∷ q) there h =
 
 pub slot_is_inside : (e p : Element) → IsElement e → parent_of e ≡ Some p → last_slot e.path < length (children (subtree p))
 slot_is_inside e p there h = slot_in_parent e p e.path there h
+
+-- ---- where a walk finds nothing, no slot that it passes has a node
+first_item-cons : {X : Type 0} (o : Option X) (xs : List X) → first_item (cons_option o xs) ≡ None → o ≡ None
+first_item-cons None xs h = refl
+first_item-cons (Some x) xs h = absurd (cc)
+
+some_not_none : {X : Type 0} {x : X} → Some x ≡ None → ⊥
+some_not_none h = absurd (cc)
+
+last_item-cons : {X : Type 0} (xs : List X) (o : Option X) → last_item (xs ++ cons_option o []) ≡ None → o ≡ None
+last_item-cons xs None h = refl
+last_item-cons xs (Some x) h = absurd (some_not_none (sym (last_item-push xs x) ∙ h))
+
+pub first_node_none : (e : Element) (t : SyntaxTree) (i : ℕ) → at e.root e.path ≡ Some t → i < length (children (subtree e)) → first_item (nodes_from_slot e i) ≡ None → node_in e i ≡ None
+first_node_none e t i h inside none = first_item-cons (node_in e i) (nodes_from_slot e (suc i)) (ap first_item (sym (nodes_from_slot-next e t i h inside)) ∙ none)
+
+pub last_node_none : (e : Element) (t : SyntaxTree) (i j : ℕ) → at e.root e.path ≡ Some t → i < length (children (subtree e)) → j ≡ suc i → last_item (nodes_up_to e j) ≡ None → node_in e i ≡ None
+last_node_none e t i j h inside next none =
+    last_item-cons (nodes_up_to e i) (node_in e i) (ap last_item (sym (ap (nodes_up_to e) next ∙ nodes_up_to-next e t i h inside)) ∙ none)
+
+-- ---- what is in one slot, by the shared child there
+pub node_in-node : (e : Element) (t : SyntaxTree) (i : ℕ) (b : Branch) → at e.root e.path ≡ Some t → at t (i ∷ []) ≡ Some (branch_tree b) → node_in e i ≡ Some (element_at e (e.path ++ i ∷ []))
+node_in-node e t i b h there = ap (λ o. option_and_then node_of (option_map (λ d. syntax_as d (element_at e (e.path ++ i ∷ []))) o)) (at_below e t (i ∷ []) h ∙ there)
+
+pub node_in-token : (e : Element) (t : SyntaxTree) (i : ℕ) (l : Leaf) → at e.root e.path ≡ Some t → at t (i ∷ []) ≡ Some (leaf_tree l) → node_in e i ≡ None
+node_in-token e t i l h there = ap (λ o. option_and_then node_of (option_map (λ d. syntax_as d (element_at e (e.path ++ i ∷ []))) o)) (at_below e t (i ∷ []) h ∙ there)
+
+pub node_in-past : (e : Element) (t : SyntaxTree) (i : ℕ) → at e.root e.path ≡ Some t → length (children (subtree e)) ≤ i → node_in e i ≡ None
+node_in-past e t i h past = ap (option_and_then node_of) (child_past e t i h past)

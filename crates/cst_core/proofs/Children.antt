@@ -12,6 +12,7 @@ use Rattle.cst_core.specs.SyntaxElement.{syntax_as, syntax_of, syntax_at, child_
 use Rattle.cst_core.specs.declared.element.SyntaxElement.{SyntaxElement}
 use Rattle.green_tree.specs.declared.green.GreenElement.{GreenElement}
 use Rattle.green_tree.proofs.Lookup.{at-append, children-branch_tree}
+use Rattle.green_tree.proofs.FoundTokens.{some_is_not_none}
 
 pub subtree_there : (e : Element) (t : SyntaxTree) → at e.root e.path ≡ Some t → subtree e ≡ t
 subtree_there e t h = ap (λ o. unwrap_or o (Token 0 [])) h
@@ -22,6 +23,12 @@ at_below e t p h = at-append e.root e.path p ∙ ap (option_and_then (λ c. at c
 -- where a path from the element on leads nowhere
 pub below_none : (e : Element) (t : SyntaxTree) (p : Path) → at e.root e.path ≡ Some t → None ≡ at t p → None ≡ syntax_at e (e.path ++ p)
 below_none e t p h none = ap (option_map (λ d. syntax_as d (below e p))) (none ∙ sym (at_below e t p h))
+
+-- where it leads somewhere
+pub below_some : (e : Element) (t c : SyntaxTree) (p : Path) → at e.root e.path ≡ Some t → at t p ≡ Some c → syntax_at e (e.path ++ p) ≡ None → ⊥
+below_some e t c p h there none =
+    let some : syntax_at e (e.path ++ p) ≡ Some (syntax_as c (below e p)) = ap (option_map (λ d. syntax_as d (below e p))) (at_below e t p h ∙ there) in
+    some_is_not_none (sym some ∙ none)
 
 -- how many children an element has, from the list of the shared node
 pub length_children : (e : Element) (b : Branch) (es : List GreenElement) → branch_tree b ≡ subtree e → element_trees es ≡ b.children → length (children (subtree e)) ≡ length es
@@ -43,6 +50,14 @@ pub child_past : (e : Element) (t : SyntaxTree) (i : ℕ) → at e.root e.path �
 child_past e t i h past =
     let over : length (children t) ≤ i = rw (← subtree_there e t h) past in
     ap (option_map (λ d. syntax_as d (below e (i ∷ [])))) (at_below e t (i ∷ []) h ∙ ap (option_and_then (λ d. Some d)) (slice_get_past (children t) i over))
+
+-- the same of any value, whether its path leads to an element or not
+pub child_past-any : (e : Element) (i : ℕ) → length (children (subtree e)) ≤ i → syntax_at e (e.path ++ i ∷ []) ≡ None
+child_past-any e i past =
+    elim (at e.root e.path) as (λ o. at e.root e.path ≡ o → syntax_at e (e.path ++ i ∷ []) ≡ None) [
+      | None ↦ λ none. ap (option_map (λ d. syntax_as d (below e (i ∷ [])))) (at-append e.root e.path (i ∷ []) ∙ ap (option_and_then (λ c. at c (i ∷ []))) none)
+      | Some t ↦ λ there. child_past e t i there past
+    ] refl
 
 pub counted_more : (a n : ℕ) → counted_from a (suc n) ≡ counted_from a n ++ (a + n) ∷ []
 counted_more a zero = ap (λ i. i ∷ []) (omega arith)

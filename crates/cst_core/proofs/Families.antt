@@ -9,7 +9,8 @@ use Rattle.cst_core.specs.Element.{Element, IsElement, IsNode, subtree, element_
 use Rattle.cst_core.specs.SyntaxElement.{syntax_as, syntax_of, node_of, child_elements}
 use Rattle.cst_core.specs.Navigation.{family_of, next_node, previous_node}
 use Rattle.cst_core.specs.declared.element.SyntaxElement.TheVariants.{Node}
-use Rattle.cst_core.proofs.ChildSlots.{length_child_elements, nodes_from_slot, nodes_from_slot-end, nodes_up_to, slot_is_inside}
+use Rattle.cst_core.specs.inner.ChildSlots.{nodes_from_slot, nodes_up_to}
+use Rattle.cst_core.proofs.ChildSlots.{length_child_elements, nodes_from_slot-end, slot_is_inside}
 
 pub family-child : (e p : Element) → parent_of e ≡ Some p → family_of e ≡ child_elements p
 family-child e p h = ap (λ o. option_map_or child_elements o (syntax_of e ∷ [])) h

@@ -32,6 +32,23 @@ touching_none e t offset there h =
     let none = filter-map (λ x. touches x.root offset x.path) (λ q. false) (below e) (token_paths (subtree e)) (λ q. touches-outside e.root e.path t offset q there h) in
     ap first_two (sym (none ∙ ap (map (below e)) (filter-none (λ q. false) (token_paths (subtree e)) (λ q. refl))))
 
+-- where none touches it, none of the element's own tree does
+first_two-empty : (es : List Element) → first_two es ≡ tokens.None → es ≡ []
+first_two-empty [] h = refl
+first_two-empty (x ∷ []) h = absurd (cc)
+first_two-empty (x ∷ y ∷ es) h = absurd (cc)
+
+map-empty : {X Y : Type 0} (f : X → Y) (xs : List X) → map f xs ≡ [] → xs ≡ []
+map-empty f [] h = refl
+map-empty f (x ∷ xs) h = absurd (cc)
+
+pub none_touching_below : (e : Element) (t : SyntaxTree) (offset : ℕ) → at e.root e.path ≡ Some t → start e.root e.path ≤ offset → token_at e offset ≡ tokens.None → green.tokens_touching t (offset - start e.root e.path) ≡ []
+none_touching_below e t offset there h none =
+    map-empty (below e) (green.tokens_touching t (offset - start e.root e.path)) (sym (touching_below e t offset there h) ∙ first_two-empty (tokens_touching e offset) none)
+
+pub none_found : (t : SyntaxTree) (found : List FoundToken) (ps : List Path) → map reached found ≡ reached_below [] t ps → ps ≡ [] → length found ≡ 0
+none_found t found ps reaches none = ap length (map-empty reached found (reaches ∙ ap (reached_below [] t) none))
+
 -- the tokens that a walk found
 abbrev pub tokens_found : Element → List FoundToken → List Element
 tokens_found e found = map (λ token. below e token.path.items) found
@@ -163,3 +180,11 @@ syntax_covering e t from to p there h k is =
 
 pub covering_nowhere : (e : Element) (t : SyntaxTree) (from to : ℕ) → at e.root e.path ≡ Some t → start e.root e.path ≤ from → from ≤ to → None ≡ covering t (from - start e.root e.path) (to - start e.root e.path) → None ≡ covering_of e from to
 covering_nowhere e t from to there h k is = ap (option_map (λ q. syntax_of (below e q))) is ∙ sym (covering_below e t from to there h k)
+
+option_map-none : {X Y : Type 0} (f : X → Y) (o : Option X) → option_map f o ≡ None → o ≡ None
+option_map-none f None h = refl
+option_map-none f (Some x) h = absurd (cc)
+
+pub none_covering_below : (e : Element) (t : SyntaxTree) (from to : ℕ) → at e.root e.path ≡ Some t → start e.root e.path ≤ from → from ≤ to → covering_of e from to ≡ None → covering t (from - start e.root e.path) (to - start e.root e.path) ≡ None
+none_covering_below e t from to there h k none =
+    option_map-none (λ p. syntax_of (below e p)) (covering t (from - start e.root e.path) (to - start e.root e.path)) (sym (covering_below e t from to there h k) ∙ none)

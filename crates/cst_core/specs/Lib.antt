@@ -16,3 +16,4 @@ pub mod SyntaxElement
 pub mod Navigation
 pub mod Debug
 pub mod AtOffset
+pub mod inner

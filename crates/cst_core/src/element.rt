@@ -1,4 +1,4 @@
-ghost use Rattle.std.specs.Prelude.{◌≡◌, ◌<◌, IfOk, Some, option_map, string_bytes};
+ghost use Rattle.std.specs.Prelude.{◌≡◌, ◌<◌, IfOk, Ok, Some, None, option_map, string_bytes};
 ghost use Rattle.green_tree.specs.Path.{last_slot};
 ghost use Rattle.green_tree.specs.Tree.{at, label, text, text_length};
 ghost use Rattle.green_tree.specs.Order.{start};
@@ -186,21 +186,24 @@ impl SyntaxElement {
 
     /// The parent; `None` for a root.
     pub fn parent(&self, alloc: Global) -> Result<Option<SyntaxNode>, AllocError>
-        ensures { IfOk result (λ r. r ≡ parent_of (element_of self.now)) }
+        ensures ok { IfOk result (λ r. r ≡ parent_of (element_of self.now)) }
+        ensures none { parent_of (element_of self.now) ≡ None → result ≡ Ok None }
     {
         self.location().parent(alloc)
     }
 
     /// The next sibling; `None` for a root and for a last child.
     pub fn next_sibling_or_token(&self, alloc: Global) -> Result<Option<SyntaxElement>, AllocError>
-        ensures { IfOk result (λ r. r ≡ next_sibling (element_of self.now)) }
+        ensures ok { IfOk result (λ r. r ≡ next_sibling (element_of self.now)) }
+        ensures none { next_sibling (element_of self.now) ≡ None → result ≡ Ok None }
     {
         self.location().next_sibling(alloc)
     }
 
     /// The sibling before this one; `None` for a root and for a first child.
     pub fn prev_sibling_or_token(&self, alloc: Global) -> Result<Option<SyntaxElement>, AllocError>
-        ensures { IfOk result (λ r. r ≡ previous_sibling (element_of self.now)) }
+        ensures ok { IfOk result (λ r. r ≡ previous_sibling (element_of self.now)) }
+        ensures none { previous_sibling (element_of self.now) ≡ None → result ≡ Ok None }
     {
         self.location().previous_sibling(alloc)
     }

@@ -1,4 +1,7 @@
 //! Syntax trees that are shared, and values that stand for their elements.
+//!
+//! A call that looks for one element takes no memory to find that it isn't there: then it answers `Ok(None)`, or `Ok(TokenAtOffset::None)`,
+//! and never `Memory`.
 #![tactic(auto)]
 
 pub mod ast;
@@ -6,6 +9,7 @@ mod ast_node;
 mod direction;
 mod display;
 mod element;
+mod lent_node;
 mod location;
 mod navigation;
 mod node;

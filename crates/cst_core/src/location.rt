@@ -3,7 +3,7 @@ ghost use Rattle.std.specs.Cmp.Rules.{comparing, hashing};
 ghost use Rattle.std.specs.Cmp.Lexicographic.{pointwise};
 ghost use Rattle.std.specs.Ordering.{on, eq_of_both};
 ghost use Rattle.std.specs.Hash as fed;
-ghost use Rattle.std.specs.Prelude.{◌≡◌, ◌↔◌, ◌==◌, ◌++◌, [], ◌∷◌, IfOk, Some, option_map};
+ghost use Rattle.std.specs.Prelude.{◌≡◌, ◌↔◌, ◌==◌, ◌++◌, [], ◌∷◌, IfOk, Ok, Some, None, option_map};
 ghost use Rattle.green_tree.specs.Path.{Path, last_slot};
 ghost use Rattle.green_tree.specs.Tree.{at};
 ghost use Rattle.green_tree.specs.Order.{start};
@@ -14,6 +14,7 @@ ghost use Rattle.cst_core.specs.Navigation.{family_of, siblings_on, next_node, p
 
 use crate::direction::Direction;
 use crate::element::SyntaxElement;
+use crate::lent_node::LentNode;
 use crate::node::SyntaxNode;
 use crate::token::SyntaxToken;
 use green_tree::{GreenElementRef, GreenNode, start_of};
@@ -135,7 +136,8 @@ impl Location {
         alloc: Global,
         path: Vec<usize>,
     ) -> Result<Option<SyntaxElement>, AllocError>
-        ensures { IfOk result (λ r. r ≡ syntax_at self.now path.items) }
+        ensures ok { IfOk result (λ r. r ≡ syntax_at self.now path.items) }
+        ensures none { syntax_at self.now path.items ≡ None → result ≡ Ok None }
     {
         match self.root.get(&path) {
             Some(green) => Ok(Some(self.moved_to(alloc, path, green)?)),
@@ -156,35 +158,44 @@ impl Location {
         })
     }
 
-    pub(crate) fn parent(&self, alloc: Global) -> Result<Option<SyntaxNode>, AllocError>
-        ensures { IfOk result (λ r. r ≡ parent_of self.now) }
+    // The parent, lent.
+    pub(crate) fn lent_parent(&self) -> Option<LentNode<'_>>
+        ensures { result ≡ parent_of self.now }
     {
-        let Some((_, front)) = self.path.split_last() else {
-            return Ok(None);
+        let Some((_, path)) = self.path.split_last() else {
+            return None;
         };
-        match self.root.get(front) {
-            Some(GreenElementRef::Node(green)) => Ok(Some(SyntaxNode {
-                location: Location {
-                    tree: self.tree,
-                    root: self.root.share(alloc)?,
-                    path: Vec::from_slice(alloc, front)?,
-                },
-                green: green.share(alloc)?,
-            })),
+        match self.root.get(path) {
+            Some(GreenElementRef::Node(green)) => Some(LentNode {
+                location: self,
+                path,
+                green,
+            }),
             Some(GreenElementRef::Token(_)) => unreachable!(),
             None => unreachable!(),
         }
     }
 
-    pub(crate) fn next_sibling(&self, alloc: Global) -> Result<Option<SyntaxElement>, AllocError>
-        ensures { IfOk result (λ r. r ≡ next_sibling self.now) }
+    pub(crate) fn parent(&self, alloc: Global) -> Result<Option<SyntaxNode>, AllocError>
+        ensures ok { IfOk result (λ r. r ≡ parent_of self.now) }
+        ensures none { parent_of self.now ≡ None → result ≡ Ok None }
     {
-        let Some(parent) = self.parent(alloc)? else {
+        match self.lent_parent() {
+            Some(parent) => Ok(Some(parent.to_node(alloc)?)),
+            None => Ok(None),
+        }
+    }
+
+    pub(crate) fn next_sibling(&self, alloc: Global) -> Result<Option<SyntaxElement>, AllocError>
+        ensures ok { IfOk result (λ r. r ≡ next_sibling self.now) }
+        ensures none { next_sibling self.now ≡ None → result ≡ Ok None }
+    {
+        let Some(parent) = self.lent_parent() else {
             return Ok(None);
         };
         let slot = self.index();
-        if slot < parent.as_green().children().len() {
-            parent.element_at(alloc, &[slot + 1])
+        if slot < parent.len() {
+            parent.child(alloc, slot + 1)
         } else {
             Ok(None)
         }
@@ -194,25 +205,28 @@ impl Location {
         &self,
         alloc: Global,
     ) -> Result<Option<SyntaxElement>, AllocError>
-        ensures { IfOk result (λ r. r ≡ previous_sibling self.now) }
+        ensures ok { IfOk result (λ r. r ≡ previous_sibling self.now) }
+        ensures none { previous_sibling self.now ≡ None → result ≡ Ok None }
     {
-        let Some(parent) = self.parent(alloc)? else {
+        let Some(parent) = self.lent_parent() else {
             return Ok(None);
         };
         match self.index().checked_sub(1) {
-            Some(slot) => parent.element_at(alloc, &[slot]),
+            Some(slot) => parent.child(alloc, slot),
             None => Ok(None),
         }
     }
+
     // The nearest sibling after this element that is a node.
     pub(crate) fn next_node(&self, alloc: Global) -> Result<Option<SyntaxNode>, AllocError>
-        ensures { IfOk result (λ r. r ≡ next_node self.now) }
+        ensures ok { IfOk result (λ r. r ≡ next_node self.now) }
+        ensures none { next_node self.now ≡ None → result ≡ Ok None }
     {
-        let Some(parent) = self.parent(alloc)? else {
+        let Some(parent) = self.lent_parent() else {
             return Ok(None);
         };
         let slot = self.index();
-        if slot < parent.as_green().children().len() {
+        if slot < parent.len() {
             parent.first_node_from(alloc, slot + 1)
         } else {
             Ok(None)
@@ -221,11 +235,12 @@ impl Location {
 
     // The nearest sibling before this element that is a node.
     pub(crate) fn previous_node(&self, alloc: Global) -> Result<Option<SyntaxNode>, AllocError>
-        ensures { IfOk result (λ r. r ≡ previous_node self.now) }
+        ensures ok { IfOk result (λ r. r ≡ previous_node self.now) }
+        ensures none { previous_node self.now ≡ None → result ≡ Ok None }
     {
         // An element stands at the path.
         let _ = &self.path;
-        match self.parent(alloc)? {
+        match self.lent_parent() {
             Some(parent) => parent.last_node_before(alloc, self.index()),
             None => Ok(None),
         }

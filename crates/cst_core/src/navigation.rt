@@ -1,4 +1,4 @@
-ghost use Rattle.std.specs.Prelude.{◌≡◌, ◌≤◌, [], ◌∷◌, ◌++◌, length, filter_map, take, drop, option_and_then, IfOk, OnOk};
+ghost use Rattle.std.specs.Prelude.{◌≡◌, ◌≤◌, [], ◌∷◌, ◌++◌, length, filter_map, take, drop, IfOk, OnOk, Ok, None};
 ghost use Rattle.green_tree.specs.Path.{first_item, last_item};
 ghost use Rattle.green_tree.specs.Tree.{children};
 ghost use Rattle.green_tree.specs.inner.FoundToken.{IsTokenOf};
@@ -8,6 +8,7 @@ ghost use Rattle.cst_core.specs.Navigation.{next_node, previous_node, siblings_o
 
 use crate::direction::Direction;
 use crate::element::SyntaxElement;
+use crate::lent_node::LentNode;
 use crate::node::SyntaxNode;
 use crate::token::SyntaxToken;
 use green_tree::{FoundToken, first_token, last_token};
@@ -21,7 +22,8 @@ impl SyntaxNode {
         alloc: Global,
         path: &[usize],
     ) -> Result<Option<SyntaxElement>, AllocError>
-        ensures { IfOk result (λ r. r ≡ syntax_at self.now (self.now.path ++ path.now)) }
+        ensures ok { IfOk result (λ r. r ≡ syntax_at self.now (self.now.path ++ path.now)) }
+        ensures none { syntax_at self.now (self.now.path ++ path.now) ≡ None → result ≡ Ok None }
     {
         let Some(green) = self.green.get(path) else {
             return Ok(None);
@@ -38,7 +40,8 @@ impl SyntaxNode {
         alloc: Global,
         path: Vec<usize>,
     ) -> Result<Option<SyntaxElement>, AllocError>
-        ensures { IfOk result (λ r. r ≡ syntax_at self.now path.items) }
+        ensures ok { IfOk result (λ r. r ≡ syntax_at self.now path.items) }
+        ensures none { syntax_at self.now path.items ≡ None → result ≡ Ok None }
     {
         self.location.element_at(alloc, path)
     }
@@ -68,7 +71,8 @@ impl SyntaxNode {
 
     /// The first child; `None` for a node without children.
     pub fn first_child_or_token(&self, alloc: Global) -> Result<Option<SyntaxElement>, AllocError>
-        ensures { IfOk result (λ r. r ≡ first_item (child_elements self.now)) }
+        ensures ok { IfOk result (λ r. r ≡ first_item (child_elements self.now)) }
+        ensures none { first_item (child_elements self.now) ≡ None → result ≡ Ok None }
     {
         if self.green.children().is_empty() {
             return Ok(None);
@@ -78,7 +82,8 @@ impl SyntaxNode {
 
     /// The last child; `None` for a node without children.
     pub fn last_child_or_token(&self, alloc: Global) -> Result<Option<SyntaxElement>, AllocError>
-        ensures { IfOk result (λ r. r ≡ last_item (child_elements self.now)) }
+        ensures ok { IfOk result (λ r. r ≡ last_item (child_elements self.now)) }
+        ensures none { last_item (child_elements self.now) ≡ None → result ≡ Ok None }
     {
         match self.green.children().len().checked_sub(1) {
             Some(slot) => self.element_at(alloc, &[slot]),
@@ -86,68 +91,38 @@ impl SyntaxNode {
         }
     }
 
-    // The child in this slot, if it is a node.
-    fn node_in(&self, alloc: Global, slot: usize) -> Result<Option<SyntaxNode>, AllocError>
-        ensures { IfOk result (λ r. r ≡ option_and_then node_of (syntax_at self.now (self.now.path ++ slot ∷ []))) }
+    // The node, lent.
+    fn lent(&self) -> LentNode<'_>
+        ensures { result ≡ self.now }
     {
-        match self.element_at(alloc, &[slot])? {
-            Some(child) => Ok(child.into_node()),
-            None => Ok(None),
+        LentNode {
+            location: &self.location,
+            path: self.slots(),
+            green: &self.green,
         }
-    }
-
-    // The first child in this slot or after it that is a node.
-    pub(crate) fn first_node_from(
-        &self,
-        alloc: Global,
-        start: usize,
-    ) -> Result<Option<SyntaxNode>, AllocError>
-        ensures { IfOk result (λ r. r ≡ first_item (filter_map node_of (drop start (child_elements self.now)))) }
-    {
-        for slot in start..self.green.children().len() {
-            if let Some(node) = self.node_in(alloc, slot)? {
-                return Ok(Some(node));
-            }
-        }
-        Ok(None)
-    }
-
-    // The last child before this slot that is a node.
-    pub(crate) fn last_node_before(
-        &self,
-        alloc: Global,
-        end: usize,
-    ) -> Result<Option<SyntaxNode>, AllocError>
-        requires { end ≤ length (children (subtree self.now)) }
-        ensures { IfOk result (λ r. r ≡ last_item (filter_map node_of (take end (child_elements self.now)))) }
-    {
-        // A node stands at the path of `self`.
-        let _ = &self.green;
-        for slot in (0..end).rev() {
-            if let Some(node) = self.node_in(alloc, slot)? {
-                return Ok(Some(node));
-            }
-        }
-        Ok(None)
     }
 
     /// The first child that is a node; `None` where there is no such child.
     pub fn first_child(&self, alloc: Global) -> Result<Option<SyntaxNode>, AllocError>
-        ensures { IfOk result (λ r. r ≡ first_item (child_nodes self.now)) }
+        ensures ok { IfOk result (λ r. r ≡ first_item (child_nodes self.now)) }
+        ensures none { first_item (child_nodes self.now) ≡ None → result ≡ Ok None }
     {
-        self.first_node_from(alloc, 0)
+        self.lent().first_node_from(alloc, 0)
     }
 
     /// The last child that is a node; `None` where there is no such child.
     pub fn last_child(&self, alloc: Global) -> Result<Option<SyntaxNode>, AllocError>
-        ensures { IfOk result (λ r. r ≡ last_item (child_nodes self.now)) }
+        ensures ok { IfOk result (λ r. r ≡ last_item (child_nodes self.now)) }
+        ensures none { last_item (child_nodes self.now) ≡ None → result ≡ Ok None }
     {
-        self.last_node_before(alloc, self.green.children().len())
+        let node = self.lent();
+        node.last_node_before(alloc, node.len())
     }
 
     /// The first token at or below the node in document order; `None` where there is no token below it.
     pub fn first_token(&self, alloc: Global) -> Result<Option<SyntaxToken>, AllocError>
-        ensures { IfOk result (λ r. r ≡ first_token_of self.now) }
+        ensures ok { IfOk result (λ r. r ≡ first_token_of self.now) }
+        ensures none { first_token_of self.now ≡ None → result ≡ Ok None }
     {
         let Some(found) = first_token(alloc, &self.green)? else {
             return Ok(None);
@@ -157,7 +132,8 @@ impl SyntaxNode {
 
     /// The last token at or below the node in document order; `None` where there is no token below it.
     pub fn last_token(&self, alloc: Global) -> Result<Option<SyntaxToken>, AllocError>
-        ensures { IfOk result (λ r. r ≡ last_token_of self.now) }
+        ensures ok { IfOk result (λ r. r ≡ last_token_of self.now) }
+        ensures none { last_token_of self.now ≡ None → result ≡ Ok None }
     {
         let Some(found) = last_token(alloc, &self.green)? else {
             return Ok(None);
@@ -221,35 +197,40 @@ impl SyntaxNode {
 
     /// The parent; `None` for a root.
     pub fn parent(&self, alloc: Global) -> Result<Option<SyntaxNode>, AllocError>
-        ensures { IfOk result (λ r. r ≡ parent_of self.now) }
+        ensures ok { IfOk result (λ r. r ≡ parent_of self.now) }
+        ensures none { parent_of self.now ≡ None → result ≡ Ok None }
     {
         self.location.parent(alloc)
     }
 
     /// The next sibling; `None` for a root and for a last child.
     pub fn next_sibling_or_token(&self, alloc: Global) -> Result<Option<SyntaxElement>, AllocError>
-        ensures { IfOk result (λ r. r ≡ next_sibling self.now) }
+        ensures ok { IfOk result (λ r. r ≡ next_sibling self.now) }
+        ensures none { next_sibling self.now ≡ None → result ≡ Ok None }
     {
         self.location.next_sibling(alloc)
     }
 
     /// The sibling before this one; `None` for a root and for a first child.
     pub fn prev_sibling_or_token(&self, alloc: Global) -> Result<Option<SyntaxElement>, AllocError>
-        ensures { IfOk result (λ r. r ≡ previous_sibling self.now) }
+        ensures ok { IfOk result (λ r. r ≡ previous_sibling self.now) }
+        ensures none { previous_sibling self.now ≡ None → result ≡ Ok None }
     {
         self.location.previous_sibling(alloc)
     }
 
     /// The nearest sibling after this one that is a node; `None` where there is no such sibling.
     pub fn next_sibling(&self, alloc: Global) -> Result<Option<SyntaxNode>, AllocError>
-        ensures { IfOk result (λ r. r ≡ next_node self.now) }
+        ensures ok { IfOk result (λ r. r ≡ next_node self.now) }
+        ensures none { next_node self.now ≡ None → result ≡ Ok None }
     {
         self.location.next_node(alloc)
     }
 
     /// The nearest sibling before this one that is a node; `None` where there is no such sibling.
     pub fn prev_sibling(&self, alloc: Global) -> Result<Option<SyntaxNode>, AllocError>
-        ensures { IfOk result (λ r. r ≡ previous_node self.now) }
+        ensures ok { IfOk result (λ r. r ≡ previous_node self.now) }
+        ensures none { previous_node self.now ≡ None → result ≡ Ok None }
     {
         self.location.previous_node(alloc)
     }

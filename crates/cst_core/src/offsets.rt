@@ -1,4 +1,4 @@
-ghost use Rattle.std.specs.Prelude.{◌≡◌, IfOk};
+ghost use Rattle.std.specs.Prelude.{◌≡◌, IfOk, Ok, None};
 ghost use Rattle.cst_core.specs.AtOffset.{token_at, covering_of};
 
 use crate::element::SyntaxElement;
@@ -19,7 +19,8 @@ impl SyntaxNode {
     /// The tokens at or below the node that touch an offset in the text of the whole tree, counted in bytes: tokens that
     /// begin there or before and end there or after. Tokens without text are passed over. It visits the way to them alone.
     pub fn token_at_offset(&self, alloc: Global, offset: u64) -> Result<TokenAtOffset, AllocError>
-        ensures { IfOk result (λ r. r ≡ token_at self.now offset) }
+        ensures ok { IfOk result (λ r. r ≡ token_at self.now offset) }
+        ensures none { token_at self.now offset ≡ TokenAtOffset.None → result ≡ Ok TokenAtOffset.None }
     {
         // A node stands at the path of `self`.
         let _ = &self.green;
@@ -47,7 +48,8 @@ impl SyntaxNode {
         start: u64,
         end: u64,
     ) -> Result<Option<SyntaxElement>, AllocError>
-        ensures { IfOk result (λ r. r ≡ covering_of self.now start end) }
+        ensures ok { IfOk result (λ r. r ≡ covering_of self.now start end) }
+        ensures none { covering_of self.now start end ≡ None → result ≡ Ok None }
     {
         // A node stands at the path of `self`.
         let _ = &self.green;

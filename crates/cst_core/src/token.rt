@@ -3,7 +3,7 @@ ghost use Rattle.std.specs.Cmp.Rules.{comparing, hashing};
 ghost use Rattle.std.specs.Cmp.Lexicographic.{pointwise};
 ghost use Rattle.std.specs.Ordering.{on, eq_of_both};
 ghost use Rattle.std.specs.Hash as fed;
-ghost use Rattle.std.specs.Prelude.{◌≡◌, ◌↔◌, ◌==◌, ◌<◌, ◌++◌, IfOk, IsSome, Some};
+ghost use Rattle.std.specs.Prelude.{◌≡◌, ◌↔◌, ◌==◌, ◌<◌, ◌++◌, IfOk, IsSome, Ok, Some, None};
 ghost use Rattle.green_tree.specs.Path.{last_slot};
 ghost use Rattle.green_tree.specs.Tree.{at, label, text, text_length};
 ghost use Rattle.green_tree.specs.Order.{start};
@@ -151,14 +151,16 @@ impl SyntaxToken {
 
     /// The next sibling; `None` for a last child.
     pub fn next_sibling_or_token(&self, alloc: Global) -> Result<Option<SyntaxElement>, AllocError>
-        ensures { IfOk result (λ r. r ≡ next_sibling self.now) }
+        ensures ok { IfOk result (λ r. r ≡ next_sibling self.now) }
+        ensures none { next_sibling self.now ≡ None → result ≡ Ok None }
     {
         self.location.next_sibling(alloc)
     }
 
     /// The sibling before this one; `None` for a first child.
     pub fn prev_sibling_or_token(&self, alloc: Global) -> Result<Option<SyntaxElement>, AllocError>
-        ensures { IfOk result (λ r. r ≡ previous_sibling self.now) }
+        ensures ok { IfOk result (λ r. r ≡ previous_sibling self.now) }
+        ensures none { previous_sibling self.now ≡ None → result ≡ Ok None }
     {
         self.location.previous_sibling(alloc)
     }
@@ -184,7 +186,8 @@ impl SyntaxToken {
     /// The token before this one in document order; `None` for the first token of the tree. Nodes without tokens are
     /// passed over.
     pub fn prev_token(&self, alloc: Global) -> Result<Option<SyntaxToken>, AllocError>
-        ensures { IfOk result (λ r. r ≡ token_before self.now) }
+        ensures ok { IfOk result (λ r. r ≡ token_before self.now) }
+        ensures none { token_before self.now ≡ None → result ≡ Ok None }
     {
         let Some(found) = token_before(alloc, &self.location.root, self.slots())? else {
             return Ok(None);
@@ -198,7 +201,8 @@ impl SyntaxToken {
     /// The token after this one in document order; `None` for the last token of the tree. Nodes without tokens are
     /// passed over.
     pub fn next_token(&self, alloc: Global) -> Result<Option<SyntaxToken>, AllocError>
-        ensures { IfOk result (λ r. r ≡ token_after self.now) }
+        ensures ok { IfOk result (λ r. r ≡ token_after self.now) }
+        ensures none { token_after self.now ≡ None → result ≡ Ok None }
     {
         let Some(found) = token_after(alloc, &self.location.root, self.slots())? else {
             return Ok(None);

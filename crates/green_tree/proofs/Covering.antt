@@ -19,7 +19,7 @@ use Rattle.green_tree.proofs.Parts.{filter-map}
 use Rattle.green_tree.proofs.Slots.{slice_get-child}
 use Rattle.green_tree.proofs.Starts.{start-top, start-slot}
 use Rattle.green_tree.proofs.TokenPaths.{filter-none}
-use Rattle.green_tree.proofs.FoundTokens.{last_item-append, last_item-map}
+use Rattle.green_tree.proofs.FoundTokens.{last_item-append, last_item-map, last_of, last_of-is, some_is_not_none}
 use Rattle.green_tree.proofs.Touching.{end-le, IsSpanAt}
 
 -- ---- the paths of a node's elements, slot by slot
@@ -147,6 +147,13 @@ start_behind b es n m same h fits is =
     let whole : take n es ≡ es = rw h (take-length es) in
     let all : start (branch_tree b) (n ∷ []) ≡ length (texts b.children) = start-slot b es n same ∙ ap (λ xs. length (texts (element_trees xs))) whole ∙ ap (λ ts. length (texts ts)) same in
     omega (arith, is, all, fits)
+
+-- what is within the text has an element whose text covers it: the top does
+pub covering_there : (b : Branch) (from to : ℕ) → from ≤ to → to ≤ text_length (branch_tree b) → covering (branch_tree b) from to ≡ None → ⊥
+covering_there b from to h k none =
+    let below = filter (covers (branch_tree b) from to) (paths_from 0 (forest b.children)) in
+    let some : covering (branch_tree b) from to ≡ Some (last_of [] below) = rw (covers-top (branch_tree b) from to h k) (last_of-is [] below) in
+    some_is_not_none (sym some ∙ none)
 
 -- ---- outside of the tree's text
 pub covering_none-back : (t : SyntaxTree) (from to : ℕ) → to < from → covering t from to ≡ None

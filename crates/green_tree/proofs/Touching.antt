@@ -1,24 +1,26 @@
 -- Where the texts of elements begin and end, child by child, and the tokens that touch an offset.
-use Rattle.std.proofs.Common.{◌≡◌, ℕ, ◌+◌, ◌-◌, ◌<◌, ◌≤◌, Bool, true, false, List, [], ◌∷◌, ◌++◌, map, length, get_or, Option, Some, None, refl, ap, sym, ◌∙◌, arith, add-one, append_assoc}
-use Rattle.std.specs.Prelude.{◌&&◌, nat_lt, nat_le, filter}
+use Rattle.std.proofs.Common.{◌≡◌, ℕ, ◌+◌, ◌-◌, ◌<◌, ◌≤◌, Bool, true, false, List, [], ◌∷◌, ◌++◌, map, length, get_or, Option, Some, None, refl, ap, sym, ◌∙◌, arith, add-one, append_assoc, length-append, suc, drop}
+use Rattle.std.specs.Prelude.{◌&&◌, nat_lt, nat_le, filter, sum_by, slice_get}
 use Rattle.std.specs.Option.{option_map_or}
 use Rattle.std.proofs.lemmas.List.{append-nil, map-append}
 use Rattle.std.proofs.lemmas.List.Elements.{filter-append}
+use mathlib.Core.Logic.{inl, inr}
+use Rattle.std.proofs.lemmas.Bool.{cases_lt}
 use Rattle.std.proofs.lemmas.Bool.Decides.{nat_tests}
 use Rattle.green_tree.specs.Path.{Path}
-use Rattle.green_tree.specs.Tree.{Tree, SyntaxTree, at, forest, text, text_length}
+use Rattle.green_tree.specs.Tree.{Tree, Forest, Token, Node, end, more, SyntaxTree, at, trees, forest, text, forest_text, text_length}
 use Rattle.green_tree.specs.Order.{token_paths, tokens_before, start}
 use Rattle.green_tree.specs.Offsets.{length_at, touches, tokens_touching}
 use Rattle.green_tree.specs.Green.{Leaf, leaf_tree, Branch, branch_tree, length_limit, capped_length}
 use Rattle.green_tree.specs.GreenElement.{element_trees, element_tree}
 use Rattle.green_tree.specs.inner.FoundToken.{reached_below}
 use Rattle.green_tree.specs.declared.green.GreenElement.{GreenElement}
-use Rattle.green_tree.proofs.Parts.{filter-map}
+use Rattle.green_tree.proofs.Parts.{filter-map, slice_get-drop, drop-rest}
 use Rattle.green_tree.proofs.Slots.{slice_get-child}
 use Rattle.green_tree.proofs.Starts.{start-top, start-le, start-below, start-next, start-child-le}
 use Rattle.green_tree.proofs.TextLengths.{start-text_length-le, start-append}
 use Rattle.green_tree.proofs.Lookup.{at-append}
-use Rattle.green_tree.proofs.TokenPaths.{filter-none}
+use Rattle.green_tree.proofs.TokenPaths.{filter-none, token_paths_from, token_paths-node, tokens_before-first}
 use Rattle.green_tree.proofs.FoundTokens.{IsChildAt, tokens_before-none, tokens_before-all}
 
 -- no element ends past the end of the text
@@ -111,6 +113,50 @@ touching_token l offset h k =
     let test : touches (leaf_tree l) offset [] ≡ true = rw (start-top (leaf_tree l)) (touched-whole (length l.text) offset h k) in
     rw test
 
+-- ---- some token touches each offset within a text
+append-none : {X : Type 0} (xs ys : List X) → xs ++ ys ≡ [] → (xs ≡ []) × (ys ≡ [])
+append-none [] ys h = (refl, h)
+append-none (x ∷ xs) ys h = absurd (cc)
+
+map-none : {X Y : Type 0} (f : X → Y) (xs : List X) → map f xs ≡ [] → xs ≡ []
+map-none f [] h = refl
+map-none f (x ∷ xs) h = absurd (cc)
+
+cons_is_not_nil : {X : Type 0} {x : X} {xs : List X} → x ∷ xs ≡ [] → ⊥
+cons_is_not_nil h = absurd (cc)
+
+touches-in : (k : ℕ) (f : Forest ℕ) (i : ℕ) (c : SyntaxTree) (offset : ℕ) → slice_get (trees f) i ≡ Some c → start (Node k f) (i ∷ []) ≤ offset →
+    filter (touches (Node k f) offset) (map (λ p. i ∷ p) (token_paths c)) ≡ map (λ p. i ∷ p) (tokens_touching c (offset - start (Node k f) (i ∷ [])))
+touches-in k f i c offset there begins =
+    let long : (p : Path) → length_at (Node k f) (i ∷ p) ≡ length_at c p = λ p. rw there refl in
+    let inside : (p : Path) → touches (Node k f) offset (i ∷ p) ≡ touches c (offset - start (Node k f) (i ∷ [])) p = λ p. rw (start-below k f i p c there, long p) (touched-inside (start (Node k f) (i ∷ [])) (start c p) (length_at c p) offset begins) in
+    filter-map (touches (Node k f) offset) (touches c (offset - start (Node k f) (i ∷ []))) (λ p. i ∷ p) (token_paths c) inside
+
+mutual
+  pub touched_somewhere : (t : SyntaxTree) (offset : ℕ) → 0 < text_length t → offset ≤ text_length t → tokens_touching t offset ≡ [] → ⊥
+  touched_somewhere (Token k s) offset long within none = cons_is_not_nil (sym (touching_token (record { kind = k; text = s }) offset long within) ∙ none)
+  touched_somewhere (Node k f) offset long within none =
+      let first : start (Node k f) (0 ∷ []) ≡ 0 = ap (sum_by (λ q. option_map_or (λ c. length (text c)) (at (Node k f) q) 0)) (tokens_before-first k f) in
+      touched_from k f 0 f offset refl (omega (arith, first)) long (omega (arith, first)) (ap (filter (touches (Node k f) offset)) (sym (token_paths-node k f)) ∙ none)
+
+  touched_from : (k : ℕ) (f : Forest ℕ) (i : ℕ) (g : Forest ℕ) (offset : ℕ) → drop i (trees f) ≡ trees g → start (Node k f) (i ∷ []) ≤ offset → 0 < length (forest_text g) → offset ≤ start (Node k f) (i ∷ []) + length (forest_text g) →
+      filter (touches (Node k f) offset) (token_paths_from i g) ≡ [] → ⊥
+  touched_from k f i end offset slot begins long within none = absurd (omega arith)
+  touched_from k f i (more c g) offset slot begins long within none =
+      let there : slice_get (trees f) i ≡ Some c = slice_get-drop (trees f) (trees g) i c slot in
+      let rest : drop (suc i) (trees f) ≡ trees g = drop-rest (trees f) (trees g) i c slot in
+      let next = start-next k f i c there in
+      let sum = length-append (text c) (forest_text g) in
+      let parts = append-none (filter (touches (Node k f) offset) (map (λ p. i ∷ p) (token_paths c))) (filter (touches (Node k f) offset) (token_paths_from (suc i) g)) (sym (filter-append (touches (Node k f) offset) (map (λ p. i ∷ p) (token_paths c)) (token_paths_from (suc i) g)) ∙ none) in
+      let own = map-none (λ p. i ∷ p) (tokens_touching c (offset - start (Node k f) (i ∷ []))) (sym (touches-in k f i c offset there begins) ∙ parts.0) in
+      elim (cases_lt 0 (text_length c)) [
+        | inl some ↦ elim (cases_lt (start (Node k f) (i ∷ []) + text_length c) offset) [
+          | inl past ↦ touched_from k f (suc i) g offset rest (omega (arith, next)) (omega (arith, sum)) (omega (arith, next, sum)) parts.1
+          | inr here ↦ touched_somewhere c (offset - start (Node k f) (i ∷ [])) some (omega arith) own
+        ]
+        | inr empty ↦ touched_from k f (suc i) g offset rest (omega (arith, next)) (omega (arith, sum)) (omega (arith, next, sum)) parts.1
+      ]
+
 -- ---- what is reached below a child
 pub reached-child : (b : Branch) (i : ℕ) (c : SyntaxTree) (top : Path) (ps : List Path) → IsChildAt b i c → reached_below top (branch_tree b) (map (λ p. i ∷ p) ps) ≡ reached_below (top ++ i ∷ []) c ps
 reached-child b i c top [] child = refl
@@ -130,10 +176,10 @@ found_past b offset top i old none found = found ∙ ap (λ ps. old ++ reached_b
 
 pub found_in : (b : Branch) (offset : ℕ) (top : Path) (i : ℕ) (c : SyntaxTree) (old now new : List (Path × Option SyntaxTree)) → IsChildAt b i c → IsSpanAt b i c → start (branch_tree b) (i ∷ []) ≤ offset → FoundUpTo b offset top i old now →
     new ≡ now ++ reached_below (top ++ i ∷ []) c (tokens_touching c (offset - start (branch_tree b) (i ∷ []))) → FoundUpTo b offset top (i + 1) old new
-found_in b offset top i c old now new child span h found more =
+found_in b offset top i c old now new child span h found brought =
     let before = filter (touches (branch_tree b) offset) (tokens_before (branch_tree b) (i ∷ [])) in
     let own = tokens_touching c (offset - start (branch_tree b) (i ∷ [])) in
-    more
+    brought
     ∙ ap (λ ps. ps ++ reached_below (top ++ i ∷ []) c own) found
     ∙ append_assoc old (reached_below top (branch_tree b) before) (reached_below (top ++ i ∷ []) c own)
     ∙ ap (λ ps. old ++ (reached_below top (branch_tree b) before ++ ps)) (sym (reached-child b i c top own child))
@@ -142,10 +188,10 @@ found_in b offset top i c old now new child span h found more =
 
 pub found_token_in : (b : Branch) (offset : ℕ) (top : Path) (i : ℕ) (l : Leaf) (old now new : List (Path × Option SyntaxTree)) → IsChildAt b i (leaf_tree l) → IsSpanAt b i (leaf_tree l) → start (branch_tree b) (i ∷ []) ≤ offset → 0 < length l.text → offset ≤ start (branch_tree b) (i ∷ []) + length l.text →
     FoundUpTo b offset top i old now → new ≡ now ++ (top ++ i ∷ [], Some (leaf_tree l)) ∷ [] → FoundUpTo b offset top (i + 1) old new
-found_token_in b offset top i l old now new child span h long within found more =
+found_token_in b offset top i l old now new child span h long within found brought =
     let own = touching_token l (offset - start (branch_tree b) (i ∷ [])) long (omega arith) in
     let reach : reached_below (top ++ i ∷ []) (leaf_tree l) ([] ∷ []) ≡ (top ++ i ∷ [], Some (leaf_tree l)) ∷ [] = ap (λ p. (p, Some (leaf_tree l)) ∷ []) (append-nil (top ++ i ∷ [])) in
-    found_in b offset top i (leaf_tree l) old now new child span h found (more ∙ ap (λ ps. now ++ ps) (sym reach) ∙ ap (λ ps. now ++ reached_below (top ++ i ∷ []) (leaf_tree l) ps) (sym own))
+    found_in b offset top i (leaf_tree l) old now new child span h found (brought ∙ ap (λ ps. now ++ ps) (sym reach) ∙ ap (λ ps. now ++ reached_below (top ++ i ∷ []) (leaf_tree l) ps) (sym own))
 
 pub found_all : (b : Branch) (es : List GreenElement) (offset : ℕ) (top : Path) (i : ℕ) (old : List (Path × Option SyntaxTree)) {now : List (Path × Option SyntaxTree)} → element_trees es ≡ b.children → length es ≤ i → FoundUpTo b offset top i old now → now ≡ old ++ reached_below top (branch_tree b) (tokens_touching (branch_tree b) offset)
 found_all b es offset top i old same h found = found ∙ ap (λ ps. old ++ reached_below top (branch_tree b) (filter (touches (branch_tree b) offset) ps)) (tokens_before-all b es i same h)

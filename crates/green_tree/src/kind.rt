@@ -74,7 +74,7 @@ pub const KIND_NAMES: [&str; 65] = [
 ];
 
 /// The kind of a token or a node, as a number. A number past the named ones is a kind without a name.
-#[derive(Clone, Copy, PartialEq, Eq)]
+#[derive(Clone, Copy, PartialEq, Eq, PartialOrd, Ord, Hash)]
 pub struct SyntaxKind(pub u16);
 
 // The table as a slice.

@@ -1,6 +1,6 @@
-ghost use Rattle.std.specs.Prelude.{◌≡◌, ◌<◌, ◌≤◌, ◌++◌, [], IfOk, OnOk, Some, option_map};
+ghost use Rattle.std.specs.Prelude.{◌≡◌, ◌<◌, ◌≤◌, ◌++◌, [], IfOk, IsOk, OnOk, Ok, Some, None, option_map};
 ghost use Rattle.green_tree.specs.Tree.{text_length};
-ghost use Rattle.green_tree.specs.Offsets.{covering};
+ghost use Rattle.green_tree.specs.Offsets.{covering, tokens_touching};
 ghost use Rattle.green_tree.specs.Green.{branch_tree, length_limit};
 ghost use Rattle.green_tree.specs.inner.FoundToken.{FindsTouching};
 
@@ -22,6 +22,7 @@ fn push_tokens_at(
     ensures path { OnOk result (path.new.items ≡ path.old.items) }
     ensures found { let finds = FindsTouching (branch_tree node.now) offset path.old.items in
         OnOk result (finds found.old.items found.new.items) }
+    ensures none { tokens_touching (branch_tree node.now) offset ≡ [] → IsOk result }
 {
     let mut end = 0;
     for (slot, child) in node.children().iter().enumerate() {
@@ -44,14 +45,16 @@ fn push_tokens_at(
 }
 
 /// The tokens below a node whose texts are not empty, begin at the offset or before it, and end there or after it, in
-/// document order. Offset and paths are counted from the node. It visits the way to them, not the tree.
+/// document order. Offset and paths are counted from the node. It visits the way to them, not the tree. Where there are none, it
+/// takes no memory.
 pub fn tokens_at(
     alloc: Global,
     node: &GreenNode,
     offset: u64,
 ) -> Result<Vec<FoundToken>, AllocError>
     requires fits { text_length (branch_tree node.now) < length_limit }
-    ensures { IfOk result (λ found. FindsTouching (branch_tree node.now) offset [] [] found.items) }
+    ensures found { IfOk result (λ found. FindsTouching (branch_tree node.now) offset [] [] found.items) }
+    ensures none { tokens_touching (branch_tree node.now) offset ≡ [] → IsOk result }
 {
     let mut path = Vec::new(alloc);
     let mut found = Vec::new(alloc);
@@ -94,7 +97,7 @@ fn push_covering(
 
 /// The path to the last element in document order, of the node and all below it, whose text contains the bytes from `start`
 /// up to `end`; `None` where they are not all within the node's text or `end` comes before `start`. All are counted from the
-/// node. It visits the way, not the tree.
+/// node. It visits the way, not the tree. `None` takes no memory.
 pub fn covering_path(
     alloc: Global,
     node: &GreenNode,
@@ -102,7 +105,8 @@ pub fn covering_path(
     end: u64,
 ) -> Result<Option<Vec<usize>>, AllocError>
     requires fits { text_length (branch_tree node.now) < length_limit }
-    ensures { IfOk result (λ way. option_map (λ path. path.items) way ≡ covering (branch_tree node.now) start end) }
+    ensures ok { IfOk result (λ way. option_map (λ path. path.items) way ≡ covering (branch_tree node.now) start end) }
+    ensures none { covering (branch_tree node.now) start end ≡ None → result ≡ Ok None }
 {
     if end < start || node.length() < end {
         return Ok(None);

@@ -1,8 +1,8 @@
-ghost use Rattle.std.specs.Prelude.{◌≡◌, ◌≤◌, [], ◌∷◌, length, IfOk, IfSome, IsSome};
+ghost use Rattle.std.specs.Prelude.{◌≡◌, ◌≤◌, [], ◌∷◌, length, reverse, IfOk, IfSome, IsSome, Ok, None};
 ghost use Rattle.green_tree.specs.Tree.{at};
 ghost use Rattle.green_tree.specs.Order.{first_token, last_token, last_token_before, first_token_after};
 ghost use Rattle.green_tree.specs.Green.{branch_tree};
-ghost use Rattle.green_tree.specs.inner.FoundToken.{FindsFirstFrom, FindsFirstAfter, FindsLastBefore, IsTokenOf, path_found};
+ghost use Rattle.green_tree.specs.inner.FoundToken.{FindsFirstFrom, FindsFirstAfter, FindsLastBefore, IsTokenOf, first_from, path_found};
 
 use crate::green::{GreenElement, GreenNode, GreenToken};
 use std::alloc::{AllocError, Global};
@@ -14,41 +14,57 @@ pub struct FoundToken {
     pub green: GreenToken,
 }
 
-// The first token at or below the children in the slots from `start` on. The slots on the way from the node to it go to
-// the end of `path`, if there is one. An `Err` may leave other slots there.
+impl FoundToken {
+    // The token, with the path to it: a way of slots, the last of them first.
+    fn of_way(way: Vec<usize>, green: GreenToken) -> FoundToken
+        ensures path { result.path.items ≡ reverse way.items }
+        ensures token { result.green ≡ green }
+    {
+        let mut path = way;
+        path.reverse();
+        FoundToken { path, green }
+    }
+}
+
+// The first token at or below the children in the slots from `start` on. If there is one, the slots on the way from the node
+// to it go to the end of `way`, the last of them first; else no memory is taken. An `Err` may leave other slots there.
 fn push_first_token(
     alloc: Global,
     node: &GreenNode,
     start: usize,
-    path: &mut Vec<usize>,
+    way: &mut Vec<usize>,
 ) -> Result<Option<GreenToken>, AllocError>
-    ensures { IfOk result (FindsFirstFrom (branch_tree node.now) (start ∷ []) path.old.items path.new.items) }
+    ensures ok { IfOk result (FindsFirstFrom (branch_tree node.now) (start ∷ []) way.old.items way.new.items) }
+    ensures none { first_from (branch_tree node.now) (start ∷ []) ≡ None → result ≡ Ok None }
 {
     let children = node.children();
     for slot in start..children.len() {
-        path.push(slot)?;
         let below = match &children[slot] {
-            GreenElement::Token(token) => return Ok(Some(token.share(alloc)?)),
+            GreenElement::Token(token) => {
+                way.push(slot)?;
+                return Ok(Some(token.share(alloc)?));
+            }
             GreenElement::Node(below) => below,
         };
-        if let Some(token) = push_first_token(alloc, below, 0, path)? {
+        if let Some(token) = push_first_token(alloc, below, 0, way)? {
+            way.push(slot)?;
             return Ok(Some(token));
         }
-        path.pop();
     }
     Ok(None)
 }
 
-/// The first token below a node. The path is counted from the node.
+/// The first token below a node. The path is counted from the node. `None` takes no memory.
 pub fn first_token(alloc: Global, node: &GreenNode) -> Result<Option<FoundToken>, AllocError>
     ensures path { IfOk result (λ found. path_found found ≡ first_token (branch_tree node.now)) }
     ensures token { IfOk result (λ found. IfSome found (IsTokenOf (branch_tree node.now))) }
+    ensures none { first_token (branch_tree node.now) ≡ None → result ≡ Ok None }
 {
-    let mut path = Vec::new(alloc);
-    let Some(green) = push_first_token(alloc, node, 0, &mut path)? else {
+    let mut way = Vec::new(alloc);
+    let Some(green) = push_first_token(alloc, node, 0, &mut way)? else {
         return Ok(None);
     };
-    Ok(Some(FoundToken { path, green }))
+    Ok(Some(FoundToken::of_way(way, green)))
 }
 
 // The same for the last token at or below the children in the slots before `end`.
@@ -56,36 +72,40 @@ fn push_last_token(
     alloc: Global,
     node: &GreenNode,
     end: usize,
-    path: &mut Vec<usize>,
+    way: &mut Vec<usize>,
 ) -> Result<Option<GreenToken>, AllocError>
     requires { end ≤ length node.now.children }
-    ensures { IfOk result (FindsLastBefore (branch_tree node.now) (end ∷ []) path.old.items path.new.items) }
+    ensures ok { IfOk result (FindsLastBefore (branch_tree node.now) (end ∷ []) way.old.items way.new.items) }
+    ensures none { last_token_before (branch_tree node.now) (end ∷ []) ≡ None → result ≡ Ok None }
 {
     let children = node.children();
     for slot in (0..end).rev() {
-        path.push(slot)?;
         let below = match &children[slot] {
-            GreenElement::Token(token) => return Ok(Some(token.share(alloc)?)),
+            GreenElement::Token(token) => {
+                way.push(slot)?;
+                return Ok(Some(token.share(alloc)?));
+            }
             GreenElement::Node(below) => below,
         };
-        if let Some(token) = push_last_token(alloc, below, below.children().len(), path)? {
+        if let Some(token) = push_last_token(alloc, below, below.children().len(), way)? {
+            way.push(slot)?;
             return Ok(Some(token));
         }
-        path.pop();
     }
     Ok(None)
 }
 
-/// The last token below a node. The path is counted from the node.
+/// The last token below a node. The path is counted from the node. `None` takes no memory.
 pub fn last_token(alloc: Global, node: &GreenNode) -> Result<Option<FoundToken>, AllocError>
     ensures path { IfOk result (λ found. path_found found ≡ last_token (branch_tree node.now)) }
     ensures token { IfOk result (λ found. IfSome found (IsTokenOf (branch_tree node.now))) }
+    ensures none { last_token (branch_tree node.now) ≡ None → result ≡ Ok None }
 {
-    let mut path = Vec::new(alloc);
-    let Some(green) = push_last_token(alloc, node, node.children().len(), &mut path)? else {
+    let mut way = Vec::new(alloc);
+    let Some(green) = push_last_token(alloc, node, node.children().len(), &mut way)? else {
         return Ok(None);
     };
-    Ok(Some(FoundToken { path, green }))
+    Ok(Some(FoundToken::of_way(way, green)))
 }
 
 // The same for the last token before the element at `path`, counted from the node: below the child that the path goes
@@ -97,23 +117,24 @@ fn push_token_before(
     way: &mut Vec<usize>,
 ) -> Result<Option<GreenToken>, AllocError>
     requires { IsSome (at (branch_tree node.now) path.now) }
-    ensures { IfOk result (FindsLastBefore (branch_tree node.now) path.now way.old.items way.new.items) }
+    ensures ok { IfOk result (FindsLastBefore (branch_tree node.now) path.now way.old.items way.new.items) }
+    ensures none { last_token_before (branch_tree node.now) path.now ≡ None → result ≡ Ok None }
 {
     let [slot, rest @ ..] = path else {
         return Ok(None);
     };
     let children = node.children();
     if let GreenElement::Node(below) = &children[*slot] {
-        way.push(*slot)?;
         if let Some(token) = push_token_before(alloc, below, rest, way)? {
+            way.push(*slot)?;
             return Ok(Some(token));
         }
-        way.pop();
     }
     push_last_token(alloc, node, *slot, way)
 }
 
-/// The last token that stands before the element at `path`. It visits the way and what is between, not the tree.
+/// The last token that stands before the element at `path`. It visits the way and what is between, not the tree. `None` takes no
+/// memory.
 pub fn token_before(
     alloc: Global,
     root: &GreenNode,
@@ -122,12 +143,13 @@ pub fn token_before(
     requires { IsSome (at (branch_tree root.now) path.now) }
     ensures path { IfOk result (λ found. path_found found ≡ last_token_before (branch_tree root.now) path.now) }
     ensures token { IfOk result (λ found. IfSome found (IsTokenOf (branch_tree root.now))) }
+    ensures none { last_token_before (branch_tree root.now) path.now ≡ None → result ≡ Ok None }
 {
     let mut way = Vec::new(alloc);
     let Some(green) = push_token_before(alloc, root, path, &mut way)? else {
         return Ok(None);
     };
-    Ok(Some(FoundToken { path: way, green }))
+    Ok(Some(FoundToken::of_way(way, green)))
 }
 
 // The same for the first token after the element at `path`: below the child that the path goes through first, and then
@@ -139,24 +161,24 @@ fn push_token_after(
     way: &mut Vec<usize>,
 ) -> Result<Option<GreenToken>, AllocError>
     requires { IsSome (at (branch_tree node.now) path.now) }
-    ensures { IfOk result (FindsFirstAfter (branch_tree node.now) path.now way.old.items way.new.items) }
+    ensures ok { IfOk result (FindsFirstAfter (branch_tree node.now) path.now way.old.items way.new.items) }
+    ensures none { first_token_after (branch_tree node.now) path.now ≡ None → result ≡ Ok None }
 {
     let [slot, rest @ ..] = path else {
         return push_first_token(alloc, node, 0, way);
     };
     let children = node.children();
     if let GreenElement::Node(below) = &children[*slot] {
-        way.push(*slot)?;
         if let Some(token) = push_token_after(alloc, below, rest, way)? {
+            way.push(*slot)?;
             return Ok(Some(token));
         }
-        way.pop();
     }
     push_first_token(alloc, node, *slot + 1, way)
 }
 
 /// The first token that stands after the element at `path` in document order, so the first one below it where that is a
-/// node with tokens. It visits the way and what is between, not the tree.
+/// node with tokens. It visits the way and what is between, not the tree. `None` takes no memory.
 pub fn token_after(
     alloc: Global,
     root: &GreenNode,
@@ -165,10 +187,11 @@ pub fn token_after(
     requires { IsSome (at (branch_tree root.now) path.now) }
     ensures path { IfOk result (λ found. path_found found ≡ first_token_after (branch_tree root.now) path.now) }
     ensures token { IfOk result (λ found. IfSome found (IsTokenOf (branch_tree root.now))) }
+    ensures none { first_token_after (branch_tree root.now) path.now ≡ None → result ≡ Ok None }
 {
     let mut way = Vec::new(alloc);
     let Some(green) = push_token_after(alloc, root, path, &mut way)? else {
         return Ok(None);
     };
-    Ok(Some(FoundToken { path: way, green }))
+    Ok(Some(FoundToken::of_way(way, green)))
 }

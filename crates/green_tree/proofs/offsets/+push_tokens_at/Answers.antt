@@ -11,7 +11,7 @@ use Rattle.green_tree.specs.inner.FoundToken.{reached, reached_below}
 use Rattle.green_tree.proofs.Slots.{size_at}
 use Rattle.green_tree.proofs.Starts.{start-slot}
 use Rattle.green_tree.proofs.FoundTokens.{child_at}
-use Rattle.green_tree.proofs.Touching.{span_at, span_length, touching_out-empty, touching_out-before, touching_out-after, found_none, found_past, found_in, found_token_in, found_all}
+use Rattle.green_tree.proofs.Touching.{span_at, span_length, touching_out-empty, touching_out-before, touching_out-after, found_none, found_past, found_in, found_token_in, found_all, touched_somewhere}
 use Rattle.green_tree.proofs.offsets.+push_tokens_at.Goals as goal
 use Rattle.green_tree.proofs.offsets.+push_tokens_at.Goals.{then-start-end-via-then-start-end, then-start-end-via-else-start-end+then-offset-start, then-start-end-via-else-start-end+else-offset-start+then-end-offset, in-Node+in_ok-push_tokens_at-in-Node, in-Token+in_ok-from_slice-in-Token+in_ok-share-in-Token+in_ok-push-in-Token}
 
@@ -91,3 +91,43 @@ loop-slot-preserved t c =
 
 pub returns-clause-found : goal.returns-clause-found
 returns-clause-found t c = found_all c.args.node.now c.children-child-items.result.now c.args.offset c.args.path.now.items c.loop-slot.slot (map reached c.args.found.now.items) c.children-child-items.ensures c.loop-slot-test.false c.loop-slot.invariant.found
+
+pub returns-in_err-push-clause-none : goal.returns-in_err-push-clause-none
+returns-in_err-push-clause-none t c nothing =
+    let span = span_at c.args.node.now c.children-child-items.result.now c.loop-slot.slot c.child-item.result c.children-child-items.ensures c.loop-slot-test.true c.child-item.is in
+    let long = span_length c.args.node.now c.loop-slot.slot (element_tree c.child-item.result) c.length.result span c.requires.fits c.length.ensures in
+    let some : 0 < text_length (branch_tree c.args.node.now) = omega (arith, span.within, c.if-start-end.false) in
+    let within : c.args.offset ≤ text_length (branch_tree c.args.node.now) = omega (arith, span.within, c.if-end-offset.false) in
+    absurd (touched_somewhere (branch_tree c.args.node.now) c.args.offset some within nothing)
+
+pub returns-in_err-push_tokens_at-in-Node-clause-none : goal.returns-in_err-push_tokens_at-in-Node-clause-none
+returns-in_err-push_tokens_at-in-Node-clause-none t c nothing =
+    let span = span_at c.args.node.now c.children-child-items.result.now c.loop-slot.slot c.child-item.result c.children-child-items.ensures c.loop-slot-test.true c.child-item.is in
+    let long = span_length c.args.node.now c.loop-slot.slot (element_tree c.child-item.result) c.length.result span c.requires.fits c.length.ensures in
+    let some : 0 < text_length (branch_tree c.args.node.now) = omega (arith, span.within, c.if-start-end.false) in
+    let within : c.args.offset ≤ text_length (branch_tree c.args.node.now) = omega (arith, span.within, c.if-end-offset.false) in
+    absurd (touched_somewhere (branch_tree c.args.node.now) c.args.offset some within nothing)
+
+pub returns-in_err-from_slice-in-Token-clause-none : goal.returns-in_err-from_slice-in-Token-clause-none
+returns-in_err-from_slice-in-Token-clause-none t c nothing =
+    let span = span_at c.args.node.now c.children-child-items.result.now c.loop-slot.slot c.child-item.result c.children-child-items.ensures c.loop-slot-test.true c.child-item.is in
+    let long = span_length c.args.node.now c.loop-slot.slot (element_tree c.child-item.result) c.length.result span c.requires.fits c.length.ensures in
+    let some : 0 < text_length (branch_tree c.args.node.now) = omega (arith, span.within, c.if-start-end.false) in
+    let within : c.args.offset ≤ text_length (branch_tree c.args.node.now) = omega (arith, span.within, c.if-end-offset.false) in
+    absurd (touched_somewhere (branch_tree c.args.node.now) c.args.offset some within nothing)
+
+pub returns-in_err-share-in-Token-clause-none : goal.returns-in_err-share-in-Token-clause-none
+returns-in_err-share-in-Token-clause-none t c nothing =
+    let span = span_at c.args.node.now c.children-child-items.result.now c.loop-slot.slot c.child-item.result c.children-child-items.ensures c.loop-slot-test.true c.child-item.is in
+    let long = span_length c.args.node.now c.loop-slot.slot (element_tree c.child-item.result) c.length.result span c.requires.fits c.length.ensures in
+    let some : 0 < text_length (branch_tree c.args.node.now) = omega (arith, span.within, c.if-start-end.false) in
+    let within : c.args.offset ≤ text_length (branch_tree c.args.node.now) = omega (arith, span.within, c.if-end-offset.false) in
+    absurd (touched_somewhere (branch_tree c.args.node.now) c.args.offset some within nothing)
+
+pub returns-in_err-push-in-Token-clause-none : goal.returns-in_err-push-in-Token-clause-none
+returns-in_err-push-in-Token-clause-none t c nothing =
+    let span = span_at c.args.node.now c.children-child-items.result.now c.loop-slot.slot c.child-item.result c.children-child-items.ensures c.loop-slot-test.true c.child-item.is in
+    let long = span_length c.args.node.now c.loop-slot.slot (element_tree c.child-item.result) c.length.result span c.requires.fits c.length.ensures in
+    let some : 0 < text_length (branch_tree c.args.node.now) = omega (arith, span.within, c.if-start-end.false) in
+    let within : c.args.offset ≤ text_length (branch_tree c.args.node.now) = omega (arith, span.within, c.if-end-offset.false) in
+    absurd (touched_somewhere (branch_tree c.args.node.now) c.args.offset some within nothing)

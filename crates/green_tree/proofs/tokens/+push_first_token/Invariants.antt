@@ -9,5 +9,5 @@ decreases-push_first_token l = goal.size-push_first_token l
 abbrev pub invariant-loop-slot : goal.invariant-loop-slot
 invariant-loop-slot l = record {
   none : tokens_from (branch_tree l.node) (l.start ∷ []) ≡ tokens_from (branch_tree l.node) (l.slot ∷ []);
-  same : l.path.items ≡ l.initial.path.items;
+  same : l.way.items ≡ l.initial.way.items;
 }

@@ -10,5 +10,5 @@ abbrev pub invariant-loop-slot : goal.invariant-loop-slot
 invariant-loop-slot l = record {
   within : l.slot ≤ length l.children;
   none : tokens_before (branch_tree l.node) (l.end ∷ []) ≡ tokens_before (branch_tree l.node) (l.slot ∷ []);
-  same : l.path.items ≡ l.initial.path.items;
+  same : l.way.items ≡ l.initial.way.items;
 }

@@ -1,16 +1,25 @@
-use Rattle.std.proofs.Common.{[], ◌∷◌, ap, sym, ◌∙◌, Some, None}
+use Rattle.std.proofs.Common.{[], ◌∷◌, ap, sym, ◌∙◌, Ok, Some, None}
 use Rattle.green_tree.specs.Path.{first_item}
 use Rattle.green_tree.specs.Green.{branch_tree}
 use Rattle.green_tree.specs.inner.FoundToken.{FindsToken, tokens_from}
-use Rattle.green_tree.proofs.FoundTokens.{none_found, way_found, tokens_from-all}
+use Rattle.green_tree.proofs.FoundTokens.{none_found, way_found, tokens_from-all, err_is_not_ok, ok_some_is_not_none}
 use Rattle.green_tree.proofs.tokens.first_token.Goals as goal
 
 pub returns-in_default-clause-path : goal.returns-in_default-clause-path
 returns-in_default-clause-path c =
-    let found : FindsToken (branch_tree c.args.node.now) (first_item (tokens_from (branch_tree c.args.node.now) (0 ∷ []))) c.new-path.result.items c.push_first_token.new.path.items None = rw (← c.in_default.is) c.in_ok-green.ensures in
+    let found : FindsToken (branch_tree c.args.node.now) (first_item (tokens_from (branch_tree c.args.node.now) (0 ∷ []))) c.new-way.result.items c.push_first_token.new.way.items None = rw (← c.in_default.is) c.in_ok-green.ensures.ok in
     sym (none_found found) ∙ ap first_item (tokens_from-all c.args.node.now)
 
 pub returns-clause-path : goal.returns-clause-path
 returns-clause-path c =
-    let found : FindsToken (branch_tree c.args.node.now) (first_item (tokens_from (branch_tree c.args.node.now) (0 ∷ []))) c.new-path.result.items c.push_first_token.new.path.items (Some c.in-Some.green) = rw (← c.in-Some.is) c.in_ok-green.ensures in
-    way_found (ap first_item (tokens_from-all c.args.node.now)) c.new-path.ensures.items found
+    let found : FindsToken (branch_tree c.args.node.now) (first_item (tokens_from (branch_tree c.args.node.now) (0 ∷ []))) c.new-way.result.items c.push_first_token.new.way.items (Some c.in-Some.green) = rw (← c.in-Some.is) c.in_ok-green.ensures.ok in
+    ap Some c.of_way.ensures.path ∙ way_found (ap first_item (tokens_from-all c.args.node.now)) c.new-way.ensures.items found
+
+pub returns-in_err-green-clause-none : goal.returns-in_err-green-clause-none
+returns-in_err-green-clause-none c nothing =
+    absurd (err_is_not_ok (c.in_err-green.ensures.none (ap first_item (tokens_from-all c.args.node.now) ∙ nothing)))
+
+pub returns-clause-none : goal.returns-clause-none
+returns-clause-none c nothing =
+    let none = c.in_ok-green.ensures.none (ap first_item (tokens_from-all c.args.node.now) ∙ nothing) in
+    absurd (ok_some_is_not_none (ap Ok c.in-Some.is) none)

@@ -12,8 +12,8 @@ loop-slot-preserved c =
     let there = child_there c.args.self.now (branch_tree c.self.inside.green) c.loop-slot.slot stands (omega arith) in
     elim c.match-branch-2.branch [
       | in-Some+in_ok-push w ↦
-          rw (w.all-is, w.in_ok-push.ensures.items, c.loop-slot.invariant) (one_more_child c.args.self.now c.loop-slot.slot w.in-Some.child (sym w.in-Some.is ∙ c.in_ok-child.ensures ∙ there))
-      | in_default w ↦ absurd (no_more_child c.args.self.now c.loop-slot.slot (sym w.in_default.is ∙ c.in_ok-child.ensures ∙ there))
+          rw (w.all-is, w.in_ok-push.ensures.items, c.loop-slot.invariant) (one_more_child c.args.self.now c.loop-slot.slot w.in-Some.child (sym w.in-Some.is ∙ c.in_ok-child.ensures.ok ∙ there))
+      | in_default w ↦ absurd (no_more_child c.args.self.now c.loop-slot.slot (sym w.in_default.is ∙ c.in_ok-child.ensures.ok ∙ there))
     ]
 
 pub returns : goal.returns

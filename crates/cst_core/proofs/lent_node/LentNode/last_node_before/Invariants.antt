@@ -1,6 +1,6 @@
 use Rattle.std.proofs.Common.{◌≡◌, ◌≤◌}
-use Rattle.cst_core.proofs.ChildSlots.{nodes_up_to}
-use Rattle.cst_core.proofs.node.SyntaxNode.last_node_before.Given as goal
+use Rattle.cst_core.specs.inner.ChildSlots.{nodes_up_to}
+use Rattle.cst_core.proofs.lent_node.LentNode.last_node_before.Given as goal
 
 abbrev pub invariant-loop-slot : goal.invariant-loop-slot
 invariant-loop-slot l = record {
