@@ -7,7 +7,7 @@ ghost use Rattle.stepping.specs.Stage.{old_tree, new_tree, IsStage, CanStep, Tak
 use crate::aim_target::AimTarget;
 use crate::done::Done;
 use crate::done_index::DoneIndex;
-use crate::put::put;
+use crate::put::{Splice, put};
 use green_tree::GreenElement;
 use rewriting::Aimed;
 use std::alloc::{AllocError, Global};
@@ -45,9 +45,10 @@ impl Stage {
 
     /// Carries out one change more: what it gives goes first into its gap, or stands for what it replaces.
     ///
-    /// The aim is one in the old element. Where its node, its gap or its first slot is not there, nothing changes, and of a range only what
-    /// is there is replaced. `builds` rises by the nodes that are built, up to its greatest number: the node whose children change,
-    /// and those above it. After a refusal the stage and the count are as they were.
+    /// The aim is one in the old element, and has a number of its own. Where its node, its gap or its first slot is not there, nothing
+    /// changes, and of a range only what is there is replaced. `builds` rises by the nodes that are built, up to its greatest number: the
+    /// node whose children change, and those above it. Each is made by one function, which counts it. After a refusal the stage and the
+    /// count are as they were.
     pub fn step(
         &mut self,
         alloc: Global,
@@ -62,18 +63,24 @@ impl Stage {
         ensures refused { OnErr result (StaysAs self.old self.new) }
         ensures refused_count { OnErr result (builds.new ≡ builds.old) }
     {
-        let _builds = *builds;
+        let mut count = *builds;
         let Some(target) = AimTarget::of(&self.original, aim) else {
             return Ok(());
         };
-        let new = put(alloc, &self.current, &self.done, &target, 0, given)?;
+        let splice = Splice {
+            alloc,
+            done: &self.done,
+            target: &target,
+            given,
+        };
+        let new = put(&splice, &self.current, 0, &mut count)?;
         let done = Done {
             at: target.at,
             width: given.len(),
         };
         self.done.add(alloc, target.parent, done)?;
         self.current = new;
-        *builds = builds.saturating_add(target.parent.len() as u64 + 1);
+        *builds = count;
         Ok(())
     }
 }
