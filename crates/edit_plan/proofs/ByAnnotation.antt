@@ -4,11 +4,11 @@
 --     followed-more                 one more registered element is followed
 --     is_rewritten                  the annotated paths of a plan, from where its registered elements lead to
 --     found-in                      what an edit has for an annotation is what the table has
-use Rattle.std.specs.Prelude.{◌≡◌, All, ℕ, ◌+◌, ◌<◌, true, false, cond, nat_eq, List, [], ◌∷◌, ◌++◌, map, flat_map, filter, take, length, Vec, Option, Some, IsSome, get_or, refl}
+use Rattle.std.specs.Prelude.{◌≡◌, All, ℕ, ◌+◌, ◌<◌, Bool, true, false, cond, nat_eq, List, [], ◌∷◌, ◌++◌, map, flat_map, filter, take, length, Vec, Option, Some, IsSome, get_or, refl}
 use Rattle.std.specs.Global.{Global}
 use Rattle.std.proofs.Common.{ap, ap₂, sym, subst, ◌∙◌}
 use Rattle.std.proofs.lemmas.List.{take_more, map-append, append-nil, append_assoc}
-use Rattle.std.proofs.lemmas.List.Elements.{All-get_or}
+use Rattle.std.proofs.lemmas.List.Elements.{All-get_or, All-from_recursion}
 use Rattle.cst_core.specs.Path.{Path}
 use Rattle.cst_core.specs.Tree.{SyntaxTree, at}
 use Rattle.cst_core.specs.Element.{Address, Element, NumbersTell, address}
@@ -18,10 +18,12 @@ use Rattle.cst_core.specs.declared.element.SyntaxElement.{SyntaxElement}
 use Rattle.std.specs.Map.{lookup}
 use Rattle.std.specs.Option.{option_map_or}
 use Rattle.std.specs.HashMap.{HashMap, get, get_by, Updates}
-use Rattle.std.proofs.lemmas.Bool.{cases_Bool, eqb-true}
+use Rattle.std.proofs.lemmas.Bool.{cases_Bool, eqb-true, eq-eqb, or_left, or_right}
 use mathlib.Core.Logic.{inl, inr}
 use Rattle.edit_plan.specs.AnnotationTable.{entries_of, found_for}
-use Rattle.edit_plan.specs.Plan.{Plan, registered_elements}
+use Rattle.edit_plan.specs.Plan.{Plan, registered_elements, is_registered}
+use Rattle.std.specs.List.{AllByRecursion, list_any}
+use Rattle.edit_change.proofs.Lists.{all-append}
 use Rattle.edit_stages.specs.NewTree.{OriginTree}
 use Rattle.edit_plan.specs.Engine.{IsRewritten}
 use Rattle.edit_plan.specs.inner.Marks.{numbered_paths}
@@ -90,6 +92,20 @@ module _ (p : Plan) (fs : List SyntaxElement) (made : OriginTree) (copies : List
       let rs = registered_elements p.registrations in
       is ∙ ap₂ (λ ms reached. numbered_paths ms (map (copies_of made) reached)) (sym (map-map (λ x. x.1) (λ x. (element_of x.0, x.1)) p.registrations)) (reached-are followed_are) ∙ ap (numbered_paths (map (λ x. x.1) rs)) (map-map (copies_of made) (λ x. address (followed p.mapping x.0)) rs) ∙ numbered-each (λ x. copies_of made (address (followed p.mapping x.0))) (λ x. x.1) rs
 
+-- each number of a path is that of a registration
+abbrev stands_in : List (SyntaxElement × ℕ) → ℕ → Bool
+stands_in rs a = list_any (λ r. nat_eq r.1 a) rs
+
+numbered-registered : {P : ℕ → Type 0} (rs : List (SyntaxElement × ℕ)) → ((a : ℕ) → stands_in rs a ≡ true → P a) → (ls : List (List Path)) → AllByRecursion (λ (n : ℕ × Path). P n.0) (numbered_paths (map (λ r. r.1) rs) ls)
+numbered-registered [] holds ls = tt
+numbered-registered (r ∷ rs) holds [] = tt
+numbered-registered {P} (r ∷ rs) holds (ps ∷ ls) =
+    all-append (λ n. P n.0) (map (λ p. (r.1, p)) ps) (numbered_paths (map (λ s. s.1) rs) ls) (each ps) (numbered-registered rs (λ a h. holds a (or_right (nat_eq r.1 a) (stands_in rs a) h)) ls)
+  where
+    each : (qs : List Path) → AllByRecursion (λ (n : ℕ × Path). P n.0) (map (λ p. (r.1, p)) qs)
+    each [] = tt
+    each (q ∷ qs) = (holds r.1 (or_left (nat_eq r.1 r.1) (stands_in rs r.1) (eq-eqb r.1 r.1 refl)), each qs)
+
 pub is_rewritten : (p : Plan) (fs : List SyntaxElement) (tree : SyntaxTree) (copies : List (List Path)) (paths : List Path) (ns : List (ℕ × Path)) → IsMade p fs tree copies paths → (All (Tells p.mapping) p.registrations → map element_of fs ≡ map (leads_to p.mapping) p.registrations) → ns ≡ numbered_paths (map (λ r. r.1) p.registrations) copies → IsRewritten p tree paths ns
 is_rewritten p fs tree copies paths ns is_made followed_are is =
     let numbered = numbered-are p fs is_made.made copies ns is_made.copies_are is in
@@ -98,6 +114,7 @@ is_rewritten p fs tree copies paths ns is_made followed_are is =
       would = is_made.would;
       tree_is = is_made.tree_is;
       changed_is = is_made.changed_is;
+      registered = subst (All (λ n. is_registered p n.0 ≡ true)) (sym numbered) (All-from_recursion (λ n. is_registered p n.0 ≡ true) (numbered_paths (map (λ r. r.1) p.registrations) (map (copies_of is_made.made) (map (λ e. address (element_of e)) fs))) (numbered-registered p.registrations (λ a h. h) (map (copies_of is_made.made) (map (λ e. address (element_of e)) fs))));
       leads = subst (All (λ n. IsSome (at tree n.1))) (sym numbered) (numbered-lead is_made.made tree (map (λ r. r.1) p.registrations) (map (λ e. address (element_of e)) fs) is_made.tree_is);
       annotated_is = λ tell. annotated-are p fs is_made.made copies ns numbered (followed_are (all-told p tell));
     }

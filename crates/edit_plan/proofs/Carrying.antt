@@ -3,7 +3,8 @@
 --     with-tree                     the same paths in a tree that was made otherwise
 --     too-long                      a tree whose text passes the limit is too long for the plan
 --     refuses                       the refusals of the new root, as those of the plan
-use Rattle.std.specs.Prelude.{◌≡◌, ℕ, ◌<◌, ◌≤◌, List, [], ◌∷◌, map, length, Some, IsSome, All, Result, Ok, Err, IfErr, refl}
+--     of-root, ran-before           none of them says that the text is too long; what a run of an engine came before
+use Rattle.std.specs.Prelude.{◌≡◌, ℕ, ◌<◌, ◌≤◌, nat_eq, cond, Bool, true, false, List, [], ◌∷◌, map, filter, length, Some, IsSome, All, Result, Ok, Err, IfErr, refl}
 use Rattle.std.specs.Result.{IsErrAnd}
 use Rattle.std.proofs.Common.{ap, sym, subst, ◌∙◌, arith}
 use Rattle.std.proofs.lemmas.Option.{same_Some}
@@ -15,18 +16,39 @@ use Rattle.cst_core.specs.SyntaxElement.{syntax_at}
 use Rattle.cst_core.specs.TreeError.{TreeError}
 use Rattle.cst_core.specs.TreeError.TheVariants as tree
 use Rattle.edit_plan.specs.AnnotationTable.{found_for}
-use Rattle.edit_plan.specs.Plan.{Plan, Edit, Makes, MakesTooLong, RunRefuses}
-use Rattle.edit_plan.specs.Engine.{annotated_path, IsRewritten, HasRewritten}
-use Rattle.edit_plan.specs.EditRefusal.{of_tree}
+use Rattle.edit_plan.specs.Plan.{Plan, Edit, Makes, MakesTooLong, RunRefuses, is_registered}
+use Rattle.edit_plan.specs.Engine.{annotated_path, IsRewritten, HasRewritten, RanBefore}
+use Rattle.edit_plan.specs.EditRefusal.{of_tree, of_engine}
 use Rattle.edit_plan.specs.Places.{ArePlaces}
 use Rattle.edit_plan.specs.Results.{paths_with}
 use Rattle.edit_stages.specs.NewTree.{plain, new_tree}
 use Rattle.edit_plan.specs.declared.rewritten.Rewritten.{Rewritten}
-use Rattle.edit_plan.specs.declared.edit_error.EditError.TheVariants.{NoTreeNumber}
+use Rattle.edit_plan.specs.declared.edit_error.EditError.{EditError}
+use Rattle.edit_plan.specs.declared.edit_error.EditError.TheVariants.{Intersecting, MissingMapping, TooLong, NoTreeNumber, Memory}
+use Rattle.edit_plan.specs.declared.engine_error.EngineError.{EngineError}
+use Rattle.edit_plan.specs.declared.engine_error.EngineError.TheVariants as engine
+use Rattle.edit_plan.specs.inner.PlanRun.{IsOfRoot}
+use Rattle.std.specs.List.{AllByRecursion}
+use Rattle.std.proofs.lemmas.Bool.{cases_Bool, eqb-true, false≢true}
+use Rattle.std.proofs.lemmas.List.Elements.{recursion_from_All}
+use mathlib.Core.Logic.{inl, inr}
 use Rattle.edit_plan.proofs.Filled.{text-relabelled}
+
+map-none : {X : Type 0} (xs : List X) → map (λ x. Some x) xs ≡ [] → xs ≡ []
+map-none [] is = refl
+map-none (x ∷ xs) is = absurd (cc)
 
 -- ---- what is put together of it
 module _ (p : Plan) (green : Branch) (paths : List Path) (annotations : List (ℕ × Path)) (r : IsRewritten p (branch_tree green) paths annotations) where
+  -- of an annotation that nothing is registered with there is no path
+  no-paths : (a : ℕ) → is_registered p a ≡ false → (ns : List (ℕ × Path)) → AllByRecursion (λ n. is_registered p n.0 ≡ true) ns → paths_with a ns ≡ []
+  no-paths a none [] all = refl
+  no-paths a none (n ∷ ns) all =
+      elim (cases_Bool (nat_eq n.0 a)) [
+        | inl same ↦ absurd (false≢true (sym none ∙ ap (is_registered p) (sym (eqb-true n.0 a same)) ∙ all.0))
+        | inr other ↦ ap (λ b. map (λ (m : ℕ × Path). m.1) (cond b (n ∷ filter (λ m. nat_eq m.0 a) ns) (filter (λ m. nat_eq m.0 a) ns))) other ∙ no-paths a none ns all.1
+      ]
+
   pub makes : (number : ℕ) (e : Edit) → e.old_root ≡ p.root → e.new_root ≡ record { number = number; root = branch_tree green; path = [] } → map Some e.changed ≡ map (syntax_at e.new_root) paths → ((a : ℕ) → map Some (found_for e.annotated a) ≡ map (syntax_at e.new_root) (paths_with a annotations)) → Makes p number e
   makes number e old new changed_are annotated_are = record {
     made = r.made;
@@ -38,6 +60,7 @@ module _ (p : Plan) (green : Branch) (paths : List Path) (annotations : List (�
     changed_are = changed_are ∙ ap (map (syntax_at e.new_root)) r.changed_is;
     annotated_paths = annotations;
     annotated_are = annotated_are;
+    unregistered = λ a none. map-none (found_for e.annotated a) (annotated_are a ∙ ap (map (syntax_at e.new_root)) (no-paths a none annotations (recursion_from_All (λ n. is_registered p n.0 ≡ true) annotations r.registered)));
     annotated_is = r.annotated_is;
   }
 
@@ -56,6 +79,25 @@ module _ (p : Plan) (green : Branch) (paths : List Path) (annotations : List (�
   refuses next tree.NoTreeNumber short long spent = let s = spent refl in no-number next s.0 s.1
   refuses next tree.Memory short long spent = tt
 
+-- none of them is that of a text that is too long
+pub of-root : (error : TreeError) (length : ℕ) → length < length_limit → (error ≡ tree.TooLong → length_limit ≤ length) → IsOfRoot (of_tree error)
+of-root tree.TooLong length short long = let l : length_limit ≤ length = long refl in absurd (omega (arith, short, l))
+of-root tree.NoTreeNumber length short long = tt
+of-root tree.Memory length short long = tt
+
+-- ---- what an engine did before a refusal
+pub ran-without : (ran : Bool → Type 0) (e : EngineError) → ran false → RanBefore ran (of_engine e)
+ran-without ran engine.TooLong r = r
+ran-without ran engine.Memory r = (false, r)
+
+pub ran-with : (ran : Bool → Type 0) → {T : Type 0} (r : Result T EditError) → IfErr r IsOfRoot → ran true → IfErr r (RanBefore ran)
+ran-with ran (Ok t) of r = tt
+ran-with ran (Err (Intersecting first second)) of r = absurd of
+ran-with ran (Err (MissingMapping change owner)) of r = absurd of
+ran-with ran (Err TooLong) of r = absurd of
+ran-with ran (Err NoTreeNumber) of r = r
+ran-with ran (Err Memory) of r = (true, r)
+
 -- a refusal that stands for another one
 pub err-gives : {T E : Type 0} (P : E → Type 0) (r : Result T E) (x : E) → IsErrAnd r (λ e. e ≡ x) → P x → IfErr r P
 err-gives P (Ok t) x is holds = tt
@@ -65,4 +107,4 @@ err-gives P (Err e) x is holds = subst P (sym is) holds
 pub with-tree : (p : Plan) (old new : Rewritten) (green shown : Branch) → HasRewritten p old → green ≡ shown → ((places : ℕ → Path) → ArePlaces p.mapping p.changes places → map plain (new_tree p.changes places p.root) ≡ branch_tree shown ∷ []) → new ≡ record { green = green; changed = old.changed; annotated = old.annotated } → HasRewritten p new
 with-tree p old new green shown r same made is =
     let one : plain r.made ≡ branch_tree green = same_Some (plain r.made) (branch_tree green) (ap first_item (ap (map plain) (sym r.would.is_new) ∙ made r.would.places r.would.are_places ∙ ap (λ b. branch_tree b ∷ []) (sym same))) in
-    subst (HasRewritten p) (sym is) (record { made = r.made; would = r.would; tree_is = sym one; changed_is = r.changed_is; leads = subst (λ t. All (λ n. IsSome (at t n.1)) (map annotated_path old.annotated.items)) (r.tree_is ∙ one) r.leads; annotated_is = r.annotated_is })
+    subst (HasRewritten p) (sym is) (record { made = r.made; would = r.would; tree_is = sym one; changed_is = r.changed_is; registered = r.registered; leads = subst (λ t. All (λ n. IsSome (at t n.1)) (map annotated_path old.annotated.items)) (r.tree_is ∙ one) r.leads; annotated_is = r.annotated_is })

@@ -45,3 +45,6 @@ pub mod MadeOf
 pub mod Counting
 pub mod AllBuilt
 pub mod AllTouched
+pub mod Agreed
+pub mod GapOrder
+pub mod HeldSwapped

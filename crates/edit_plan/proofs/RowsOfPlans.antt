@@ -1,4 +1,4 @@
--- Worked examples of whole answers: a rewriting with its places, and changes without one.
+-- Worked examples of whole answers: what plans make, with their places, and changes without one.
 use Rattle.std.specs.Prelude.{◌≡◌, ℕ, List, [], ◌∷◌, refl, ◌<◌, zero, suc, None}
 use Rattle.std.proofs.Common.{arith}
 use Rattle.std.proofs.lemmas.Option.{none-some}
@@ -8,8 +8,10 @@ use Rattle.cst_core.specs.Element.{address}
 use Rattle.edit_map.specs.Mapping.{IsRising}
 use Rattle.edit_map.proofs.Places.{StandsFor-unique}
 use Rattle.edit_map.proofs.Rows.{R, BB, M, NM, NR, N7, A3, mapping_4, row_4_place, mapping_7, row_7_place, mapping_shared, row_copy_is_payload, unmapped}
-use Rattle.edit_stages.specs.NewTree.{OriginTree, plain, new_tree}
-use Rattle.edit_plan.specs.Places.{FindsPlace, IsUnplaced, IsFirstUnplaced, IsRewriting}
+use Rattle.edit_stages.specs.NewTree.{OriginTree, is_free, new_tree}
+use Rattle.edit_plan.specs.Places.{FindsPlace, IsUnplaced, IsFirstUnplaced}
+use Rattle.edit_plan.specs.Plan.{WouldMake}
+use Rattle.edit_plan.specs.Results.{changed, annotated}
 use Rattle.edit_change.specs.declared.change.Change.{Change}
 use Rattle.edit_plan.proofs.RowChanges.{after, first_in, insert, replace, E, X, V}
 use Rattle.edit_plan.proofs.Rows.{changes_4, places_4, changes_7, places_7}
@@ -21,31 +23,32 @@ the_one (t ∷ ts) = t
 abbrev made_4 : OriginTree
 made_4 = the_one (new_tree changes_4 places_4 (BB []))
 
-rewriting_4 : IsRewriting (BB []) changes_4 [] mapping_4 (plain made_4) ((0 ∷ 2 ∷ []) ∷ []) []
-rewriting_4 = record {
+would_4 : WouldMake (record { root = BB []; changes = changes_4; registrations = []; mapping = mapping_4 }) made_4
+would_4 = record {
   places = places_4;
   are_places = All-from_recursion (FindsPlace mapping_4 changes_4 places_4) changes_4 (((row_4_place, refl), λ e _. cc), (((row_4_place, refl), λ e _. cc), (tt, tt)));
-  made = made_4;
   is_new = refl;
-  tree_is = refl;
-  changed_is = refl;
-  annotated_is = refl;
 }
+
+changed_4 : changed (is_free changes_4) made_4 ≡ (0 ∷ 2 ∷ []) ∷ []
+changed_4 = refl
 
 -- two annotated elements, one followed to its copy
 abbrev made_7 : OriginTree
 made_7 = the_one (new_tree changes_7 places_7 (M []))
 
-rewriting_7 : IsRewriting (M []) changes_7 ((NM, 1) ∷ (NR, 1) ∷ []) mapping_7 (plain made_7) ((4 ∷ []) ∷ []) ((1, 4 ∷ 0 ∷ 2 ∷ 2 ∷ 0 ∷ []) ∷ (1, 4 ∷ 0 ∷ 4 ∷ 1 ∷ []) ∷ [])
-rewriting_7 = record {
+would_7 : WouldMake (record { root = M []; changes = changes_7; registrations = []; mapping = mapping_7 }) made_7
+would_7 = record {
   places = places_7;
   are_places = All-from_recursion (FindsPlace mapping_7 changes_7 places_7) changes_7 (((row_7_place, refl), λ e _. cc), (tt, tt));
-  made = made_7;
   is_new = refl;
-  tree_is = refl;
-  changed_is = refl;
-  annotated_is = refl;
 }
+
+changed_7 : changed (is_free changes_7) made_7 ≡ (4 ∷ []) ∷ []
+changed_7 = refl
+
+annotated_7 : annotated mapping_7 ((NM, 1) ∷ (NR, 1) ∷ []) made_7 ≡ (1, 4 ∷ 0 ∷ 2 ∷ 2 ∷ 0 ∷ []) ∷ (1, 4 ∷ 0 ∷ 4 ∷ 1 ∷ []) ∷ []
+annotated_7 = refl
 
 -- ---- changes without a place
 nothing_rises : IsRising []

@@ -1,15 +1,16 @@
 -- What a run in code tells of its plan.
 --     begun-running, begun-both     at the beginning
 --     some-number, some-way, ready-told, complete-told, tree-shown, payload-shown      what its stages tell
+--     is-run                        what is true of every run
 --     ready-within, take-can, take-done, take-kept, take-counts      one change more
 --     carry-within, carry-can, carry-running, carry-counts, carry-aims      the same as code asks for it
 --     carried-tree                  the tree where all is done
-use Rattle.std.specs.Prelude.{◌≡◌, ◌<◌, ℕ, Bool, true, false, List, [], ◌∷◌, map, length, slice_get, Option, Some, None, MatchOption, IsSomeAnd, Result, Ok, Err, IfOk, OnOk, OnErr, Vec, refl}
+use Rattle.std.specs.Prelude.{◌≡◌, ◌<◌, ℕ, Bool, true, false, cond, List, [], ◌∷◌, map, length, slice_get, Option, Some, None, MatchOption, IsSomeAnd, Result, Ok, Err, IfOk, OnOk, OnErr, Vec, refl}
 use Rattle.std.specs.Global.{Global}
 use Rattle.std.specs.declared.alloc.AllocError.{AllocError}
 use Rattle.std.specs.Borrow.{Bor}
 use Rattle.std.proofs.Common.{ap, sym, subst, ◌∙◌, arith, get_or}
-use Rattle.std.proofs.Math.ListN.{set}
+use Rattle.std.proofs.Math.ListN.{set, get_or-map}
 use Rattle.std.proofs.lemmas.List.{length-map}
 use Rattle.std.proofs.lemmas.Option.{same_Some, slice_get_within}
 use Rattle.cst_core.specs.Path.{Path}
@@ -24,8 +25,14 @@ use Rattle.edit_change.specs.inner.AimFrom.{aim_from}
 use Rattle.edit_change.specs.declared.change.Change.{Change}
 use Rattle.edit_change.proofs.Clashes.{at-index}
 use Rattle.schedule.specs.Schedule.{is_ready, is_complete}
-use Rattle.schedule.specs.Waiting.{is_done}
-use Rattle.edit_stages.specs.NewTree.{plain, payload_of, dependents, only, new_tree, stage_payload}
+use Rattle.schedule.specs.Waiting.{IsWaiting, is_done}
+use Rattle.schedule.specs.inner.Waits.{standing_of}
+use Rattle.schedule.specs.declared.waiting.Standing.TheVariants.{Dropped, Undone, Done}
+use Rattle.schedule.proofs.Ordered.{waiting-ordered}
+use Rattle.edit_change.specs.Nesting.{is_dropped}
+use Rattle.std.proofs.lemmas.Bool.{cases_Bool, false≢true}
+use mathlib.Core.Logic.{inl, inr}
+use Rattle.edit_stages.specs.NewTree.{plain, payload_of, dependents, only, new_tree}
 use Rattle.edit_stages.specs.inner.Stages as stages
 use Rattle.edit_stages.specs.inner.Stages.{IsStages, Begins, HasNumber, CanTake, Takes, CountsTaken, Taking, builds_of, done_in, has_stage, staged_aim, tree_of}
 use Rattle.edit_stages.specs.declared.stages.Stages.{Stages}
@@ -71,18 +78,40 @@ module _ (p : Plan) (s : Stages) (running : IsRunning p s) where
   tree-shown t shows = λ places are.
       shows-tree p.changes places (told_done (done_in s)) p.root ∙ shows p.changes places (given_trees_of p places) (told_done (done_in s)) (subtree p.root) (gives-trees p.changes places) (running.stages places are)
 
-  abbrev At : (ℕ → Path) → ℕ → Option (Bor Branch) → Type 0
-  At places n x = MatchOption x (has_stage p.changes n ≡ false) (λ b. (has_stage p.changes n ≡ true) × (map plain (stage_payload p.changes places (told_done (done_in s)) n) ≡ branch_tree b.now ∷ []))
-
   abbrev Told : (ℕ → Path) → ℕ → Option (Bor Branch) → Type 0
   Told places n x = MatchOption x (has_stage p.changes n ≡ false) (λ b. (has_stage p.changes n ≡ true) × (map (rewritten kind_only (given_trees_of p places) (only (told_done (done_in s)) (dependents p.changes places n)) []) (map subtree (payload_of p.changes n)) ≡ branch_tree b.now ∷ []))
 
   pub payload-shown : (n : ℕ) (o : Option (Bor Branch)) → stages.ShowsPayload s n o → run.ShowsPayload (run_of p s) n o
-  payload-shown n o shows = λ places are. go places o (shows p.changes places (given_trees_of p places) (told_done (done_in s)) (subtree p.root) (gives-trees p.changes places) (running.stages places are))
+  payload-shown n o shows = go o (λ places are. shows p.changes places (given_trees_of p places) (told_done (done_in s)) (subtree p.root) (gives-trees p.changes places) (running.stages places are))
     where
-      go : (places : ℕ → Path) (x : Option (Bor Branch)) → Told places n x → At places n x
-      go places None h = h
-      go places (Some b) h = (h.0, shows-payload p.changes places (told_done (done_in s)) n ∙ h.1)
+      go : (x : Option (Bor Branch)) → ((places : ℕ → Path) → ArePlaces p.mapping p.changes places → Told places n x) → run.ShowsPayload (run_of p s) n x
+      go None told = record { is_there = sym (told running.is_plan.places running.is_plan.placed); tree = tt }
+      go (Some b) told = record {
+        is_there = sym (told running.is_plan.places running.is_plan.placed).0;
+        tree = λ places are. shows-payload p.changes places (told_done (done_in s)) n ∙ (told places are).1;
+      }
+
+  -- ---- what is true of every run
+  waits : IsWaiting p.changes (told_done (done_in s)) s.waiting
+  waits = here.waiting
+
+  told-standing : (n : ℕ) (c : Change) → slice_get p.changes n ≡ Some c → told_done (done_in s) n ≡ is_done (standing_of p.changes (told_done (done_in s)) n c)
+  told-standing n c at = get_or-map is_done s.waiting.standings.items n Dropped ∙ ap is_done (waits.stands n c at)
+
+  done-undropped : (n : ℕ) (c : Change) → slice_get p.changes n ≡ Some c → told_done (done_in s) n ≡ true → is_dropped p.changes c ≡ false
+  done-undropped n c at done =
+      elim (cases_Bool (is_dropped p.changes c)) [
+        | inl dropped ↦ absurd (false≢true (sym (ap (λ b. is_done (cond b Dropped (cond (told_done (done_in s) n) Done Undone))) dropped) ∙ sym (told-standing n c at) ∙ done))
+        | inr stays ↦ stays
+      ]
+
+  pub is-run : run.IsRun (run_of p s)
+  is-run = record {
+    planned = running.is_plan;
+    long = length-map s.waiting.standings.items is_done ∙ waits.long;
+    undropped = done-undropped;
+    before = λ m n c d at_m at_n stays comes done. waiting-ordered p.changes (told_done (done_in s)) s.waiting waits m n c d at_m at_n stays (done-undropped n d at_n done) comes done;
+  }
 
   -- ---- one change more
   abbrev Ready : ℕ → Change → Type 0

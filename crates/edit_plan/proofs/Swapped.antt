@@ -5,7 +5,7 @@
 --     rewritten-new                 the selected aims of the swapped list rewrite as those of the other one do
 --     renamed                       an origin with its change's number moved
 --     given-new, new_tree-new       what changes give, and the new tree
---     rewriting-swapped             the answers stay
+--     makes-swapped                 what a plan makes stays
 use Rattle.std.specs.Prelude.{◌≡◌, ℕ, ◌+◌, Bool, true, false, cond, not, ◌&&◌, ◌||◌, nat_eq, List, [], ◌∷◌, ◌++◌, length, map, filter, flat_map, filter_map, slice_get, unwrap_or, Some, None, option_map, is_none, IfSome, refl}
 use Rattle.std.specs.List.{AllByRecursion, list_any, enumerate_from}
 use Rattle.std.specs.Option.{option_map_or}
@@ -26,7 +26,11 @@ use Rattle.rewriting.specs.Rewriting.{NumberedAim, numbers, inserts_at, replacem
 use Rattle.edit_stages.specs.NewTree.{Origin, OriginTree, plain, origin, moved_aim, targets_of, payload_of, is_free, independents, dependents, given, Gives, new_tree}
 use Rattle.edit_plan.specs.Results.{is_brought, changed, copies_of, annotated}
 use Rattle.rewriting.specs.Topmost.{topmost}
-use Rattle.edit_plan.specs.Places.{HasPlace, FindsPlace, ArePlaces, IsRewriting}
+use Rattle.edit_plan.specs.Places.{HasPlace, FindsPlace, ArePlaces}
+use Rattle.edit_plan.specs.Plan.{Plan, Edit, Makes, registered_elements}
+use Rattle.edit_plan.specs.RewritingLaws.{with_changes}
+use Rattle.edit_plan.proofs.HeldSwapped.{told-swapped}
+use Rattle.cst_core.specs.SyntaxElement.{syntax_at}
 use Rattle.edit_change.specs.declared.change.Change.{Change}
 use Rattle.edit_change.proofs.Lists.{all_weaker}
 use Rattle.edit_plan.proofs.GapRule.{gap_order-map}
@@ -241,13 +245,21 @@ module _ (before : List Change) (c d : Change) (behind : List Change) (gaps : sa
         all_exchanged P (x ∷ xs) a = (a.0, all_exchanged P xs a.1)
 
   -- THE SWAP
-  pub rewriting-swapped : (root : Element) (registrations : List (Element × ℕ)) (m : Mapping) (tree : SyntaxTree) (changed_paths : List Path) (annotated_paths : List (ℕ × Path)) → IsRewriting root old registrations m tree changed_paths annotated_paths → IsRewriting root new registrations m tree changed_paths annotated_paths
-  rewriting-swapped root registrations m tree changed_paths annotated_paths r = record {
-    places = λ n. r.places (moves n);
-    are_places = places-new m r.places r.are_places;
+  pub makes-swapped : (p : Plan) (number : ℕ) (e : Edit) → Makes (with_changes p old) number e → Makes (with_changes p new) number e
+  makes-swapped p number e r = record {
     made = relabelled renamed r.made;
-    is_new = new_tree-new r.places root ∙ ap (map (relabelled renamed)) r.is_new;
+    would = record {
+      places = λ n. r.would.places (moves n);
+      are_places = places-new p.mapping r.would.places r.would.are_places;
+      is_new = new_tree-new r.would.places p.root ∙ ap (map (relabelled renamed)) r.would.is_new;
+    };
+    old_is = r.old_is;
+    number_is = r.number_is;
+    is_root = r.is_root;
     tree_is = r.tree_is ∙ sym (plain-new r.made);
-    changed_is = r.changed_is ∙ sym (changed-new r.made);
-    annotated_is = r.annotated_is ∙ sym (annotated-new m registrations r.made);
+    changed_are = r.changed_are ∙ ap (map (syntax_at e.new_root)) (sym (changed-new r.made));
+    annotated_paths = r.annotated_paths;
+    annotated_are = r.annotated_are;
+    unregistered = r.unregistered;
+    annotated_is = λ tell. r.annotated_is (told-swapped p.root before c d behind (registered_elements p.registrations) p.mapping tell) ∙ sym (annotated-new p.mapping (registered_elements p.registrations) r.made);
   }

@@ -3,8 +3,9 @@
 --     IsRewritten                   a tree with changed and annotated paths is what a plan makes
 --     HasRewritten                  the same, of values in code
 --     EngineRefuses                 why an engine does not carry a plan out
+--     RanBefore                     the one run of an engine that came before a refused edit: what it answered goes by the refusal
 --     CountsTouched, CountsRun      how carrying a plan out in one pass raises a count of nodes; what a run of such an engine does to its count
-use Rattle.std.specs.Prelude.{◌≡◌, ℕ, Bool, List, map, All, IsSome, MatchBool, Vec}
+use Rattle.std.specs.Prelude.{◌≡◌, ℕ, Bool, true, false, List, map, All, IsSome, MatchBool, Vec}
 use Rattle.std.specs.Global.{Global}
 use Rattle.cst_core.specs.Path.{Path}
 use Rattle.cst_core.specs.Tree.{SyntaxTree, at}
@@ -15,21 +16,25 @@ use Rattle.edit_stages.specs.NewTree.{OriginTree, plain, is_free}
 use Rattle.edit_plan.specs.Results.{changed, annotated}
 use Rattle.edit_plan.specs.Places.{ArePlaces, elements_held}
 use Rattle.edit_plan.specs.TouchedNodes.{touched_by, Raises}
-use Rattle.edit_plan.specs.Plan.{Plan, WouldMake, MakesTooLong, registered_elements}
+use Rattle.edit_plan.specs.Plan.{Plan, WouldMake, MakesTooLong, registered_elements, is_registered}
 use Rattle.edit_plan.specs.declared.rewritten.Rewritten.{Rewritten}
 use Rattle.edit_plan.specs.declared.engine_error.EngineError.{EngineError}
 use Rattle.edit_plan.specs.declared.engine_error.EngineError.TheVariants.{TooLong, Memory}
+use Rattle.edit_plan.specs.declared.edit_error.EditError.{EditError}
+use Rattle.edit_plan.specs.declared.edit_error.EditError.TheVariants as edit
 
 abbrev pub annotated_path : ℕ × Vec ℕ Global → ℕ × Path
 annotated_path n = (n.0, n.1.items)
 
--- The annotated paths are told where equal numbers have equal trees. They lead to elements of the tree in any case.
+-- The annotated paths are told where equal numbers have equal trees. In any case they lead to elements of the tree, and each stands with an
+-- annotation that something is registered with.
 pub record IsRewritten (p : Plan) (tree : SyntaxTree) (changed_paths : List Path) (annotated_paths : List (ℕ × Path)) : Type 0 where
   pub made : OriginTree
   pub would : WouldMake p made
   pub tree_is : tree ≡ plain made
   pub changed_is : changed_paths ≡ changed (is_free p.changes) made
   pub leads : All (λ n. IsSome (at tree n.1)) annotated_paths
+  pub registered : All (λ n. is_registered p n.0 ≡ true) annotated_paths
   pub annotated_is : NumbersTell (elements_held p.root p.changes (registered_elements p.registrations) p.mapping) → annotated_paths ≡ annotated p.mapping (registered_elements p.registrations) made
 
 abbrev pub HasRewritten : Plan → Rewritten → Type 0
@@ -38,6 +43,15 @@ HasRewritten p r = IsRewritten p (branch_tree r.green) (paths_of r.changed.items
 abbrev pub EngineRefuses : Plan → EngineError → Type 0
 EngineRefuses p TooLong = MakesTooLong p
 EngineRefuses p Memory = Unit {0}
+
+-- `ran` says what the run did to the engine, if this is whether it had an answer. What comes of the tree comes of a run without one, and
+-- a missing tree number is seen after a run with one. Memory may run out in the run or after it.
+abbrev pub RanBefore : (Bool → Type 0) → EditError → Type 0
+RanBefore ran (edit.Intersecting first second) = ⊥
+RanBefore ran (edit.MissingMapping change owner) = ⊥
+RanBefore ran edit.TooLong = ran false
+RanBefore ran edit.NoTreeNumber = ran true
+RanBefore ran edit.Memory = (answered : Bool) × ran answered
 
 -- The count is exact where equal numbers have equal trees. Else a change may aim at nothing in its owner's payload, and less is built.
 pub record CountsTouched (p : Plan) (before after : ℕ) : Type 0 where

@@ -5,10 +5,9 @@
 --     FindsPlace, ArePlaces         a change has its place where one is kept for each owner; each change does
 --     elements_held                 all element values that a plan holds, of which NumbersTell is the premise of every promise on the tree
 --     TextIsTooLong                 the new text passes the limit
---     IsRewriting                   a tree with changed and annotated paths is the simultaneous rewriting of the old tree
 use Rattle.std.specs.Prelude.{◌≡◌, ◌≢◌, ℕ, ◌<◌, ◌≤◌, List, [], ◌∷◌, ◌++◌, map, flat_map, slice_get, Some, None, IfSome, IsSome, IsSomeAnd, All}
 use Rattle.cst_core.specs.Path.{Path}
-use Rattle.cst_core.specs.Tree.{SyntaxTree, at, text_length}
+use Rattle.cst_core.specs.Tree.{at, text_length}
 use Rattle.cst_core.specs.Element.{Element, address, subtree}
 use Rattle.cst_core.specs.SyntaxElement.{element_of}
 use Rattle.cst_core.specs.Green.{length_limit}
@@ -17,8 +16,7 @@ use Rattle.edit_change.specs.Change.{elements}
 use Rattle.rewriting.specs.Aim.{Behind}
 use Rattle.edit_change.specs.ChangeAim.{aim, aim_path}
 use Rattle.edit_change.specs.Nesting.{owner}
-use Rattle.edit_stages.specs.NewTree.{OriginTree, plain, new_tree, is_free}
-use Rattle.edit_plan.specs.Results.{changed, annotated}
+use Rattle.edit_stages.specs.NewTree.{OriginTree}
 use Rattle.edit_change.specs.declared.change.Change.{Change}
 use Rattle.edit_change.specs.declared.change.Change.TheVariants.{Insert, InsertAll, Replace, ReplaceWithMany, ReplaceAll}
 
@@ -56,13 +54,3 @@ elements_held root changes registrations m = root ∷ flat_map elements changes 
 
 abbrev pub TextIsTooLong : OriginTree → Type 0
 TextIsTooLong t = length_limit ≤ text_length t
-
--- a registration is an element and the number of an annotation
-pub record IsRewriting (root : Element) (changes : List Change) (registrations : List (Element × ℕ)) (m : Mapping) (tree : SyntaxTree) (changed_paths : List Path) (annotated_paths : List (ℕ × Path)) : Type 0 where
-  pub places : ℕ → Path
-  pub are_places : ArePlaces m changes places
-  pub made : OriginTree
-  pub is_new : new_tree changes places root ≡ made ∷ []
-  pub tree_is : tree ≡ plain made
-  pub changed_is : changed_paths ≡ changed (is_free changes) made
-  pub annotated_is : annotated_paths ≡ annotated m registrations made

@@ -7,11 +7,13 @@
 --     new_edit                      the edit of these, where code has the list of the changed elements
 --     stand_in                   the element of the new tree that stands for an old one
 --     registered_elements                    registrations, by the values of their elements
+--     is_registered                 something is registered with the annotation
 --     WouldMake                     the tree that a plan makes, with its origins
 --     MakesTooLong                  the text of that tree passes the limit
 --     Makes                         the edit is what the plan makes of the old tree, under a tree number
 --     RunRefuses                    why a plan is not carried out, where this is the next tree number
-use Rattle.std.specs.Prelude.{◌≡◌, ℕ, List, [], ◌∷◌, map, Option, Some, None, option_map, All, Vec, refl}
+use Rattle.std.specs.Prelude.{◌≡◌, ℕ, nat_eq, Bool, false, List, [], ◌∷◌, map, Option, Some, None, option_map, All, Vec, refl}
+use Rattle.std.specs.List.{list_any}
 use Rattle.std.specs.Global.{Global}
 use Rattle.std.specs.Coded.{Coded, code_by, coded_ℕ, coded_list, coded×}
 use Rattle.cst_core.specs.Path.{Path}
@@ -80,6 +82,9 @@ stand_in e old = option_map (element_at e.new_root) (stand_in_path old e.new_roo
 abbrev pub registered_elements : List (SyntaxElement × ℕ) → List (Element × ℕ)
 registered_elements rs = map (λ r. (element_of r.0, r.1)) rs
 
+abbrev pub is_registered : Plan → ℕ → Bool
+is_registered p annotation = list_any (λ r. nat_eq r.1 annotation) p.registrations
+
 pub record WouldMake (p : Plan) (made : OriginTree) : Type 0 where
   pub places : ℕ → Path
   pub are_places : ArePlaces p.mapping p.changes places
@@ -88,7 +93,8 @@ pub record WouldMake (p : Plan) (made : OriginTree) : Type 0 where
 abbrev pub MakesTooLong : Plan → Type 0
 MakesTooLong p = (made : OriginTree) × WouldMake p made × TextIsTooLong made
 
--- What is said of the annotated paths rests on equal numbers having equal trees, since following goes by numbers; nothing else does.
+-- What is said of the annotated paths rests on equal numbers having equal trees, since following goes by numbers; nothing else does. In any
+-- case nothing is found for an annotation that nothing is registered with.
 pub record Makes (p : Plan) (number : ℕ) (e : Edit) : Type 0 where
   pub made : OriginTree
   pub would : WouldMake p made
@@ -99,6 +105,7 @@ pub record Makes (p : Plan) (number : ℕ) (e : Edit) : Type 0 where
   pub changed_are : map Some e.changed ≡ map (syntax_at e.new_root) (changed (is_free p.changes) made)
   pub annotated_paths : List (ℕ × Path)
   pub annotated_are : (a : ℕ) → map Some (found_for e.annotated a) ≡ map (syntax_at e.new_root) (paths_with a annotated_paths)
+  pub unregistered : (a : ℕ) → is_registered p a ≡ false → found_for e.annotated a ≡ []
   pub annotated_is : NumbersTell (elements_held p.root p.changes (registered_elements p.registrations) p.mapping) → annotated_paths ≡ annotated p.mapping (registered_elements p.registrations) made
 
 abbrev pub RunRefuses : Plan → ℕ → EditError → Type 0

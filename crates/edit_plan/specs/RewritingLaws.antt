@@ -1,4 +1,5 @@
 -- What the laws of places and of rewriting speak of.
+--     with_changes                  a plan with other changes
 --     StandsThere                   what stands at this path of a payload is there for a target; at the empty path for no insert after the target
 --     IsUntouched                   no change aims at a gap of the node at this path or of one below, or over an element below
 --     is_at_depth                   what is around a change is above this depth, and what it replaces is not
@@ -22,7 +23,11 @@ use Rattle.edit_change.specs.ChangeAim.{aim}
 use Rattle.edit_change.specs.Nesting.{region, surroundings}
 use Rattle.edit_stages.specs.NewTree.{payload_of, change_aims}
 use Rattle.schedule.specs.Schedule.{undropped}
+use Rattle.edit_plan.specs.Plan.{Plan}
 use Rattle.edit_change.specs.declared.change.Change.{Change}
+
+abbrev pub with_changes : Plan → List Change → Plan
+with_changes p changes = record p { changes = changes }
 
 -- ---- places
 abbrev pub StandsThere : Mapping → SyntaxElement → SyntaxElement → Change → Path → Type 0

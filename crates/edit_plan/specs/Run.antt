@@ -3,11 +3,13 @@
 --     run_code                      the code of a run, as a model's value
 --     new_run                       one in which nothing is done
 --     is_done                       the change at a number is done
+--     IsRun                         what is true of every run
 --     TellsReady, CanStep           an answer tells whether a change can be the next; it can be
---     ShowsTree, ShowsPayload       the tree at this stage; a payload at this stage, if it is one that other changes can be carried out in
+--     ShowsTree, IsPayloadAt         the tree at this stage; the payload of a change at this stage
+--     ShowsPayload                  the same of a payload in code, which there is exactly if other changes can be carried out in it
 --     way_length                    one more than the length of the path of the node whose children a change alters: 0 for a replaced root
 --     CountsWay, CountsStep         how a count rises by the way to a change; by a step
-use Rattle.std.specs.Prelude.{◌≡◌, ◌+◌, ℕ, Bool, true, false, List, [], ◌∷◌, map, length, sum_by, slice_get, slice_index_or, Option, Some, MatchOption, IsSomeAnd, refl}
+use Rattle.std.specs.Prelude.{◌≡◌, ◌+◌, ℕ, Bool, true, false, List, [], ◌∷◌, map, length, sum_by, slice_get, slice_index_or, Option, Some, is_some, IfSome, IsSomeAnd, refl}
 use Rattle.std.specs.Borrow.{Bor}
 use Rattle.std.specs.Coded.{Coded, code_by, coded_ℕ, coded_bool, coded_list, coded×}
 use Rattle.cst_core.specs.Path.{Path}
@@ -17,12 +19,13 @@ use Rattle.cst_core.specs.Element.{NumbersTell, subtree}
 use Rattle.rewriting.specs.Aim.{parents}
 use Rattle.rewriting.specs.Effort.{counted}
 use Rattle.stepping.specs.Stage.{step_builds}
-use Rattle.schedule.specs.Schedule.{is_ready}
+use Rattle.schedule.specs.Schedule.{comes_first, is_ready}
+use Rattle.edit_change.specs.Nesting.{is_dropped}
 use Rattle.edit_change.specs.declared.change.Change.{Change}
 use Rattle.edit_stages.specs.NewTree.{plain, stage_tree, stage_payload}
 use Rattle.edit_stages.specs.inner.Stages.{has_stage, staged_aim, tree_of}
 use Rattle.edit_plan.specs.Places.{ArePlaces, elements_held}
-use Rattle.edit_plan.specs.Plan.{Plan, plan_code, registered_elements}
+use Rattle.edit_plan.specs.Plan.{Plan, IsPlan, plan_code, registered_elements}
 
 pub record Run : Type 0 where
   pub plan : Plan
@@ -38,6 +41,13 @@ new_run p = record { plan = p; done = map (λ c. false) p.changes; builds = 0 }
 abbrev pub is_done : Run → ℕ → Bool
 is_done r n = slice_index_or r.done n false
 
+-- Of what is done all that must come before it is done too.
+pub record IsRun (r : Run) : Type 0 where
+  pub planned : IsPlan r.plan
+  pub long : length r.done ≡ length r.plan.changes
+  pub undropped : (n : ℕ) (c : Change) → slice_get r.plan.changes n ≡ Some c → is_done r n ≡ true → is_dropped r.plan.changes c ≡ false
+  pub before : (m n : ℕ) (c d : Change) → slice_get r.plan.changes m ≡ Some c → slice_get r.plan.changes n ≡ Some d → is_dropped r.plan.changes c ≡ false → comes_first r.plan.changes (m, c) (n, d) ≡ true → is_done r n ≡ true → is_done r m ≡ true
+
 -- ---- what can be next
 abbrev pub TellsReady : Run → ℕ → Bool → Type 0
 TellsReady r n answer = (c : Change) → slice_get r.plan.changes n ≡ Some c → answer ≡ is_ready r.plan.changes (is_done r) (n, c)
@@ -50,9 +60,13 @@ abbrev pub ShowsTree : Run → SyntaxTree → Type 0
 ShowsTree r t =
     (places : ℕ → Path) → ArePlaces r.plan.mapping r.plan.changes places → map plain (stage_tree r.plan.changes places (is_done r) r.plan.root) ≡ t ∷ []
 
-abbrev pub ShowsPayload : Run → ℕ → Option (Bor Branch) → Type 0
-ShowsPayload r n shown =
-    (places : ℕ → Path) → ArePlaces r.plan.mapping r.plan.changes places → MatchOption shown (has_stage r.plan.changes n ≡ false) (λ b. (has_stage r.plan.changes n ≡ true) × (map plain (stage_payload r.plan.changes places (is_done r) n) ≡ branch_tree b.now ∷ []))
+abbrev pub IsPayloadAt : Run → ℕ → SyntaxTree → Type 0
+IsPayloadAt r n t =
+    (places : ℕ → Path) → ArePlaces r.plan.mapping r.plan.changes places → map plain (stage_payload r.plan.changes places (is_done r) n) ≡ t ∷ []
+
+pub record ShowsPayload (r : Run) (n : ℕ) (shown : Option (Bor Branch)) : Type 0 where
+  pub is_there : is_some shown ≡ has_stage r.plan.changes n
+  pub tree : IfSome shown (λ b. IsPayloadAt r n (branch_tree b.now))
 
 -- ---- the count
 abbrev pub way_length : List Change → (ℕ → Path) → Change → ℕ

@@ -5,12 +5,13 @@ ghost use Rattle.cst_core.specs.Green.{branch_tree, length_limit};
 ghost use Rattle.cst_core.specs.Tree.{text_length};
 ghost use Rattle.schedule.specs.Schedule.{is_ready, is_complete};
 ghost use Rattle.edit_plan.specs.Plan.{Makes, RunRefuses};
-ghost use Rattle.edit_plan.specs.Engine.{HasRewritten, EngineRefuses};
-ghost use Rattle.edit_plan.specs.Run.{new_run, is_done, TellsReady, CanStep, ShowsTree, ShowsPayload, CountsStep};
+ghost use Rattle.edit_plan.specs.Engine.{HasRewritten, EngineRefuses, CountsTouched};
+ghost use Rattle.edit_plan.specs.Run.{IsRun, new_run, is_done, TellsReady, CanStep, ShowsTree, ShowsPayload, CountsStep};
 
 use crate::edit::SyntaxEdit;
 use crate::edit_error::EditError;
 use crate::engine_error::EngineError;
+use crate::one_pass_engine::OnePassEngine;
 use crate::plan::EditPlan;
 use crate::rewritten::Rewritten;
 use cst_core::{GreenNode, TreeIds};
@@ -54,6 +55,16 @@ impl<'a> EditRun<'a> {
             plan,
             stages: plan.stages(alloc)?,
         })
+    }
+
+    /// The plan that is carried out.
+    ///
+    /// What is done is never dropped, and all that must come before it is done.
+    pub fn plan(&self) -> &'a EditPlan
+        ensures value { result.now ≡ self.now.plan }
+        ensures run { IsRun self.now }
+    {
+        self.plan
     }
 
     /// Whether a change may be carried out next: it is not dropped, it is not done yet, and each change that must come before it is
@@ -111,6 +122,9 @@ impl<'a> EditRun<'a> {
 
     /// The edit that the steps made, under the next number of `ids`.
     ///
+    /// The tree is that of the steps. The paths of changed and annotated elements come from the one-pass walk of the plan, whose tree is
+    /// dropped; `finish_counting` counts the nodes that this walk builds.
+    ///
     /// `TooLong` comes where the text of the new tree passes 4,294,967,295 bytes, else `NoTreeNumber` where the source is spent; `Memory`
     /// may come at any time. None of them draws a number.
     pub fn finish(self, alloc: Global, ids: &mut TreeIds) -> Result<SyntaxEdit, EditError>
@@ -121,21 +135,50 @@ impl<'a> EditRun<'a> {
         ensures refused { IfErr result (RunRefuses self.entry.plan ids.old) }
         ensures err { OnErr result (ids.new ≡ ids.old) }
     {
-        let rewritten = self.rewritten_by_steps(alloc)?;
-        self.plan.edit_of(alloc, ids, rewritten)
+        self.finish_counting(alloc, ids, &mut OnePassEngine::new(alloc))
     }
 
-    // The tree that the steps made, with the paths of its changed and its annotated elements.
-    pub(crate) fn rewritten_by_steps(&self, alloc: Global) -> Result<Rewritten, EngineError>
+    /// The same as `finish`, where `walk` counts the nodes that the one-pass walk of the plan builds. A refusal leaves the count as it
+    /// was.
+    pub fn finish_counting(
+        self,
+        alloc: Global,
+        ids: &mut TreeIds,
+        walk: &mut OnePassEngine,
+    ) -> Result<SyntaxEdit, EditError>
+        requires { is_complete self.plan.changes (is_done self) ≡ true }
+        ensures ok { IfOk result (Makes self.entry.plan ids.old) }
+        ensures short { IfOk result (λ e. text_length e.new_root.root < length_limit) }
+        ensures drawn { OnOk result (ids.new ≡ ids.old + 1) }
+        ensures count { OnOk result (CountsTouched self.entry.plan walk.old walk.new) }
+        ensures refused { IfErr result (RunRefuses self.entry.plan ids.old) }
+        ensures err { OnErr result (ids.new ≡ ids.old) }
+        ensures count_err { OnErr result (walk.new ≡ walk.old) }
+    {
+        // A refusal counts nothing, so the count is put in place when nothing can fail any more.
+        let mut builds = walk.builds();
+        let rewritten = self.rewritten_by_steps(alloc, &mut builds)?;
+        let edit = self.plan.edit_of(alloc, ids, rewritten)?;
+        *walk = OnePassEngine::starting_at(alloc, builds);
+        Ok(edit)
+    }
+
+    // The tree that the steps made, with the paths of its changed and its annotated elements. `builds` counts the nodes that the walk for
+    // these paths builds.
+    pub(crate) fn rewritten_by_steps(
+        &self,
+        alloc: Global,
+        builds: &mut u64,
+    ) -> Result<Rewritten, EngineError>
         requires { is_complete self.now.plan.changes (is_done self.now) ≡ true }
         ensures ok { IfOk result (HasRewritten self.now.plan) }
         ensures short { IfOk result (λ r. text_length (branch_tree r.green) < length_limit) }
         ensures refused { IfErr result (EngineRefuses self.now.plan) }
+        ensures count { OnOk result (CountsTouched self.now.plan builds.old builds.new) }
     {
         let green = self.stages.green().share(alloc)?;
-        // Of this pass only the paths are kept, so what it builds is not counted.
-        let mut builds = 0;
-        let rewritten = self.plan.rewritten_tree(alloc, &mut builds)?;
+        // Of this walk only the paths are kept.
+        let rewritten = self.plan.rewritten_tree(alloc, builds)?;
         self.plan.within_limit(rewritten.with_tree(green))
     }
 }

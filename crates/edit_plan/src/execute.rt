@@ -32,7 +32,8 @@ impl EditPlan {
     /// Carries the changes out one at a time, in this order: every allowed order gives the same edit, that of `run_with`.
     ///
     /// Where the order is not allowed, `NotEachOnce`, `OwnerTooEarly`, `GapOutOfOrder` and `TokenTooEarly` are tested in this order,
-    /// each of the whole list. Then `TooLong` comes, then `NoTreeNumber`; `Memory` may come at any time. None of them draws a number.
+    /// each of the whole list. Only an allowed order may be refused for its edit: `TooLong` comes first, then `NoTreeNumber`. `Memory` may
+    /// come at any time. None of them draws a number.
     pub fn execute(
         &self,
         alloc: Global,

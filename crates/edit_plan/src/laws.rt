@@ -16,13 +16,14 @@ ghost use Rattle.edit_change.specs.ChangeAim.{aim};
 ghost use Rattle.edit_change.specs.Nesting.{owner, region};
 ghost use Rattle.rewriting.specs.Rewriting.{NumberedAim, gap, rewritten};
 ghost use Rattle.edit_stages.specs.NewTree.{Origin, OriginTree, origin, plain, payload_of, is_free, given, Gives, new_tree, stage_tree};
-ghost use Rattle.edit_plan.specs.Plan.{Plan, Edit, Makes};
+ghost use Rattle.edit_plan.specs.AnnotationTable.{found_for};
+ghost use Rattle.edit_plan.specs.Plan.{Plan, Edit, IsPlan, Makes, registered_elements};
 ghost use Rattle.edit_plan.specs.Results.{changed};
-ghost use Rattle.edit_plan.specs.Places.{HasPlace, elements_held, IsRewriting};
+ghost use Rattle.edit_plan.specs.Places.{HasPlace, elements_held};
 ghost use Rattle.schedule.specs.Schedule.{IsAllowed, index_in, is_ready};
-ghost use Rattle.edit_plan.specs.RewritingLaws.{StandsThere, IsUntouched, is_at_depth, changed_text};
+ghost use Rattle.edit_plan.specs.RewritingLaws.{StandsThere, IsUntouched, is_at_depth, changed_text, with_changes};
 
-use edit_map::laws::place_keeps_the_shape;
+use edit_map::laws::{pairs_rise, place_is_unique, place_keeps_the_shape};
 
 /// Without a change the new tree is the old one, and nothing in it is changed.
 pub fn no_change_makes_no_difference()
@@ -66,11 +67,17 @@ pub fn given_is_settled()
         → Gives changes places g → (c : ℕ) → g c ≡ given changes places c }
 {}
 
-/// At one gap, what is recorded first comes first, and the elements of one change keep their order.
+/// At one gap, what is recorded first comes first, whatever else is in the list, and the elements of one change keep their order.
 pub fn inserts_stand_in_order()
     ensures first_first { (label_at : Path → ℕ → Origin) (given : ℕ → List OriginTree) (cs : List NumberedAim)
         (c : NumberedAim) (p : Path) (i : ℕ) → IsTrue (aims_at_gap p i c.1)
         → gap label_at given (c ∷ cs) p i ≡ given c.0 ++ gap label_at given cs p i }
+    ensures of_two { (label_at : Path → ℕ → Origin) (given : ℕ → List OriginTree)
+        (before between after : List NumberedAim) (c d : NumberedAim) (p : Path) (i : ℕ)
+        → IsTrue (aims_at_gap p i c.1) → IsTrue (aims_at_gap p i d.1)
+        → gap label_at given (before ++ c ∷ between ++ d ∷ after) p i
+        ≡ gap label_at given before p i ++ given c.0 ++ gap label_at given between p i ++ given d.0
+        ++ gap label_at given after p i }
     ensures in_order { (changes : List Change) (places : ℕ → Path) (c : ℕ)
         → IsSomeAnd (slice_get changes c) (λ change. region change ≡ [])
         → map plain (given changes places c) ≡ map subtree (payload_of changes c) }
@@ -110,12 +117,27 @@ pub fn allowed_orders_agree()
         ≡ new_tree changes places root }
 {}
 
-/// Swapping two neighbours that aim at different gaps and share no target changes no answer.
+/// Swapping two neighbours that aim at different gaps and share no target changes nothing of the edit that a plan makes.
 pub fn neighbours_swap()
     ensures { (before : List Change) (c d : Change) (behind : List Change)
         → same_gap (aim c) (aim d) ≡ false → shared_targets c d ≡ false
-        → (root : Element) (registrations : List (Element × ℕ)) (m : Mapping)
-        → (tree : SyntaxTree) (changed_paths : List Path) (annotated_paths : List (ℕ × Path))
-        → IsRewriting root (before ++ c ∷ d ∷ behind) registrations m tree changed_paths annotated_paths
-        → IsRewriting root (before ++ d ∷ c ∷ behind) registrations m tree changed_paths annotated_paths }
+        → (plan : Plan) (number : ℕ) (edit : Edit)
+        → Makes (with_changes plan (before ++ c ∷ d ∷ behind)) number edit
+        → Makes (with_changes plan (before ++ d ∷ c ∷ behind)) number edit }
 {}
+
+/// A plan makes one tree. Any two edits that it makes under one tree number have the same new root and the same changed
+/// elements, and where equal numbers have equal trees, the same elements for each annotation.
+pub fn one_plan_makes_one_tree()
+    ensures root { (plan : Plan) (number : ℕ) (e f : Edit)
+        → IsPlan plan → Makes plan number e → Makes plan number f → e.new_root ≡ f.new_root }
+    ensures changed { (plan : Plan) (number : ℕ) (e f : Edit)
+        → IsPlan plan → Makes plan number e → Makes plan number f → e.changed ≡ f.changed }
+    ensures annotated { (plan : Plan) (number : ℕ) (e f : Edit)
+        → IsPlan plan → Makes plan number e → Makes plan number f
+        → NumbersTell (elements_held plan.root plan.changes (registered_elements plan.registrations) plan.mapping)
+        → (annotation : ℕ) → found_for e.annotated annotation ≡ found_for f.annotated annotation }
+{
+    place_is_unique();
+    pairs_rise();
+}

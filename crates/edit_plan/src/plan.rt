@@ -77,7 +77,8 @@ impl EditPlan {
 
     /// How many changes there are.
     pub fn len(&self) -> usize
-        ensures { result ≡ length self.now.changes }
+        ensures count { result ≡ length self.now.changes }
+        ensures planned { IsPlan self.now }
     {
         self.changes.len()
     }

@@ -1,6 +1,6 @@
 //! What finishing an edit does, in the order in which it happens.
 
-ghost use Rattle.std.specs.Prelude.{◌≡◌, ◌+◌, ◌<◌, ℕ, List, [], ◌∷◌, map, find, length, option_map, All, Some, IfOk, IfErr, OnOk, OnErr};
+ghost use Rattle.std.specs.Prelude.{◌≡◌, ◌+◌, ◌<◌, ℕ, List, [], ◌∷◌, map, find, length, option_map, All, Some, true, IfOk, IfErr, OnOk, OnErr};
 ghost use Rattle.cst_core.specs.Green.{branch_tree, length_limit};
 ghost use Rattle.cst_core.specs.Tree.{text_length};
 ghost use Rattle.cst_core.specs.Element.{Element, IsElement, element_at};
@@ -14,9 +14,9 @@ ghost use Rattle.edit_change.specs.inner.Fate.{fate};
 ghost use Rattle.edit_change.specs.Fits.{Fits};
 ghost use Rattle.edit_stages.specs.NewTree.{independents};
 ghost use Rattle.edit_plan.specs.Plan.{Makes, RunRefuses};
-ghost use Rattle.edit_plan.specs.Engine.{HasRewritten, EngineRefuses, CountsTouched};
+ghost use Rattle.edit_plan.specs.Engine.{HasRewritten, EngineRefuses, RanBefore, CountsTouched};
 ghost use Rattle.edit_plan.specs.inner.PlanRun.{AreOwned, FindsInRoot, HasMade, IsOneNode, KeepsTop};
-ghost use Rattle.edit_plan.specs.inner.PlanRun.{root_rewritten, CountsRoot};
+ghost use Rattle.edit_plan.specs.inner.PlanRun.{root_rewritten, CountsRoot, IsOfRoot};
 
 use crate::annotated::{annotated_paths, elements_by_annotation, registered_copies};
 use crate::dependent::{Dependent, dependents};
@@ -45,8 +45,8 @@ struct Made {
 impl EditPlan {
     /// Carries the plan out by an engine: the new tree under the next number of `ids`, and its changed elements.
     ///
-    /// `TooLong` comes first, then `NoTreeNumber`; `Memory` may come at any time. None of them draws a number, and the old tree is
-    /// as it was.
+    /// The engine runs once, whatever comes of it. `TooLong` comes of a run without an answer, and `NoTreeNumber` after one with an answer;
+    /// `Memory` may come at any time. None of them draws a number, and the old tree is as it was.
     pub fn run_with<E: EditEngine>(
         &self,
         alloc: Global,
@@ -58,6 +58,8 @@ impl EditPlan {
         ensures drawn { OnOk result (ids.new ≡ ids.old + 1) }
         ensures refused { IfErr result (RunRefuses self.now ids.old) }
         ensures err { OnErr result (ids.new ≡ ids.old) }
+        ensures engine { OnOk result (E.runs engine.old self.now true engine.new) }
+        ensures engine_err { IfErr result (RanBefore (λ answered. E.runs engine.old self.now answered engine.new)) }
     {
         let rewritten = engine.run(alloc, self)?;
         self.edit_of(alloc, ids, rewritten)
@@ -77,6 +79,7 @@ impl EditPlan {
         ensures drawn { OnOk result (ids.new ≡ ids.old + 1) }
         ensures refused { IfErr result (RunRefuses self.now ids.old) }
         ensures err { OnErr result (ids.new ≡ ids.old) }
+        ensures fits { IfErr result IsOfRoot }
     {
         let Rewritten {
             green,

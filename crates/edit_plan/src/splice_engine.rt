@@ -5,6 +5,9 @@ use crate::rewritten::Rewritten;
 use std::alloc::Global;
 
 /// An engine that carries the changes out one at a time, each by one splice, in the default order of a plan.
+///
+/// The tree is that of the splices. The paths of changed and annotated elements come from the one-pass walk of the plan, whose tree is
+/// dropped.
 #[derive(Drop)]
 pub struct SpliceEngine {}
 
@@ -23,6 +26,8 @@ impl EditEngine for SpliceEngine {
     fn run(&mut self, alloc: Global, plan: &EditPlan) -> Result<Rewritten, EngineError> {
         let order = plan.default_order(alloc)?;
         let run = plan.carried_out(alloc, &order)?;
-        run.rewritten_by_steps(alloc)
+        // What the walk for the paths builds is not the tree's, so nobody is told of it.
+        let mut builds = 0;
+        run.rewritten_by_steps(alloc, &mut builds)
     }
 }

@@ -1,6 +1,7 @@
 -- What a plan keeps beside its changes, and what carrying it out comes to before there is a root.
 --     IsPlanned, IsPlanKept         what becomes of each change, and the places of owners; the same of what code has
 --     IsNewRoot                     a root whose text is within the limit, as that of every edit is
+--     IsOfRoot                      a refusal that may come once there is a tree whose text is within the limit
 --     TellsOf                       equal tree numbers have equal trees, as far as a registered element and the mapping go
 --     IsOneNode, BringsNode         trees that are one node; a change that brings one node
 --     KeepsTop                      one node stands in the place of the root
@@ -40,6 +41,8 @@ use Rattle.edit_change.specs.declared.change.Change.{Change}
 use Rattle.edit_plan.specs.Places.{ArePlaces}
 use Rattle.edit_plan.specs.declared.dependent.Dependent.{Dependent}
 use Rattle.edit_plan.specs.declared.run.Made.{Made}
+use Rattle.edit_plan.specs.declared.edit_error.EditError.{EditError}
+use Rattle.edit_plan.specs.declared.edit_error.EditError.TheVariants.{Intersecting, MissingMapping, TooLong, NoTreeNumber, Memory}
 use Rattle.edit_plan.specs.declared.sought.SoughtIndex.{SoughtIndex}
 use Rattle.edit_change.specs.declared.fate.Fate.{Fate}
 
@@ -56,6 +59,13 @@ IsPlanKept root changes rs m fates places = IsPlanned (new_plan root changes rs 
 pub record IsNewRoot (e : Element) : Type 0 where
   pub is_root : e.path ≡ []
   pub fits : text_length e.root < length_limit
+
+abbrev pub IsOfRoot : EditError → Type 0
+IsOfRoot (Intersecting first second) = ⊥
+IsOfRoot (MissingMapping change owner) = ⊥
+IsOfRoot TooLong = ⊥
+IsOfRoot NoTreeNumber = Unit {0}
+IsOfRoot Memory = Unit {0}
 
 abbrev pub TellsOf : Plan → SyntaxElement × ℕ → Type 0
 TellsOf p r = NumbersTell (element_of r.0 ∷ mapped_elements p.mapping)

@@ -7,10 +7,10 @@ use Rattle.edit_map.proofs.stops.node_above.Goals as goal
 
 pub unreachable-requires : goal.unreachable-requires
 unreachable-requires c =
-    let node : c.in_ok-above.field-0 ≡ Some (variants.Node (element_at c.args.node.now (take c.args.depth c.args.node.now.path))) = c.in_ok-above.ensures ∙ rw (c.in_ok-top.ensures, c.slots.ensures) (node-above c.args.node.now c.args.depth c.requires c.kind.ensures.form) in
+    let node : c.in_ok-above.field-0 ≡ Some (variants.Node (element_at c.args.node.now (take c.args.depth c.args.node.now.path))) = c.in_ok-above.ensures.ok ∙ rw (c.in_ok-top.ensures, c.slots.ensures) (node-above c.args.node.now c.args.depth c.requires c.kind.ensures.form) in
     no-token c.in-Some-Token.field-0-0 (element_at c.args.node.now (take c.args.depth c.args.node.now.path)) (ap (λ e. Some e) (sym c.in-Some-Token.field-0-is) ∙ sym c.in-Some-Token.is ∙ node)
 
 pub unreachable-requires-in-None : goal.unreachable-requires-in-None
 unreachable-requires-in-None c =
-    let node : c.in_ok-above.field-0 ≡ Some (variants.Node (element_at c.args.node.now (take c.args.depth c.args.node.now.path))) = c.in_ok-above.ensures ∙ rw (c.in_ok-top.ensures, c.slots.ensures) (node-above c.args.node.now c.args.depth c.requires c.kind.ensures.form) in
+    let node : c.in_ok-above.field-0 ≡ Some (variants.Node (element_at c.args.node.now (take c.args.depth c.args.node.now.path))) = c.in_ok-above.ensures.ok ∙ rw (c.in_ok-top.ensures, c.slots.ensures) (node-above c.args.node.now c.args.depth c.requires c.kind.ensures.form) in
     none-some (variants.Node (element_at c.args.node.now (take c.args.depth c.args.node.now.path))) (sym c.in-None.is ∙ node)

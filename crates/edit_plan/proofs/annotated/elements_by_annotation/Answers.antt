@@ -15,7 +15,7 @@ unreachable-requires c =
     let root = c.args.root.now in
     let n = annotated_path (c.in-Some.annotation, c.in-Some.path) in
     let there = subst (λ ns. All (λ m. IsElement (element_at root m.1)) (map annotated_path ns)) c.in-Some.ensures.steps.0 c.loop-annotation.invariant.there in
-    leads root n.1 (All-head (λ m. IsElement (element_at root m.1)) n (map annotated_path c.next.new.self.rest.items) there) (sym c.in_ok-element.ensures ∙ c.in-None-2.is)
+    leads root n.1 (All-head (λ m. IsElement (element_at root m.1)) n (map annotated_path c.next.new.self.rest.items) there) (sym c.in_ok-element.ensures.ok ∙ c.in-None-2.is)
 
 pub loop-annotation-preserved : goal.loop-annotation-preserved
 loop-annotation-preserved c =
@@ -23,7 +23,7 @@ loop-annotation-preserved c =
     let rest = c.next.new.self.rest.items in
     let n = annotated_path (c.in-Some.annotation, c.in-Some.path) in
     let there = subst (λ ns. All (λ m. IsElement (element_at root m.1)) (map annotated_path ns)) c.in-Some.ensures.steps.0 c.loop-annotation.invariant.there in
-    let found : Some c.in-Some-2.element ≡ syntax_at root n.1 = sym c.in-Some-2.is ∙ c.in_ok-element.ensures in
+    let found : Some c.in-Some-2.element ≡ syntax_at root n.1 = sym c.in-Some-2.is ∙ c.in_ok-element.ensures.ok in
     record {
       there = All-tail (λ m. IsElement (element_at root m.1)) n (map annotated_path rest) there;
       found = λ a. one-less root a n (map annotated_path rest) c.in-Some-2.element (elements_at c.loop-annotation.table a) (elements_at c.add.new.self a) found (c.in_ok-add-in-Some-2.ensures a) ∙ ap (λ ns. map (λ x. Some x) (elements_at c.loop-annotation.table a) ++ map (syntax_at root) (paths_with a (map annotated_path ns))) (sym c.in-Some.ensures.steps.0) ∙ c.loop-annotation.invariant.found a;

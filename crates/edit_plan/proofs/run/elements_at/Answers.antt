@@ -11,14 +11,14 @@ pub unreachable-requires : goal.unreachable-requires
 unreachable-requires c =
     let root = c.args.root.now in
     let there = subst (λ vs. All (λ p. IsElement (element_at root p)) (paths_of vs)) c.in-Some.ensures.steps.0 c.loop-path.invariant.there in
-    leads root c.in-Some.path.items (All-head (λ p. IsElement (element_at root p)) c.in-Some.path.items (paths_of c.next.new.self.rest.items) there) (sym c.in_ok-element.ensures ∙ c.in-None-2.is)
+    leads root c.in-Some.path.items (All-head (λ p. IsElement (element_at root p)) c.in-Some.path.items (paths_of c.next.new.self.rest.items) there) (sym c.in_ok-element.ensures.ok ∙ c.in-None-2.is)
 
 pub loop-path-preserved : goal.loop-path-preserved
 loop-path-preserved c =
     let root = c.args.root.now in
     let rest = c.next.new.self.rest.items in
     let there = subst (λ vs. All (λ p. IsElement (element_at root p)) (paths_of vs)) c.in-Some.ensures.steps.0 c.loop-path.invariant.there in
-    let found : Some c.in-Some-2.element ≡ syntax_at root c.in-Some.path.items = sym c.in-Some-2.is ∙ c.in_ok-element.ensures in
+    let found : Some c.in-Some-2.element ≡ syntax_at root c.in-Some.path.items = sym c.in-Some-2.is ∙ c.in_ok-element.ensures.ok in
     record {
       found = ap (λ es. map (λ x. Some x) es ++ map (syntax_at root) (paths_of rest)) c.in_ok-push-in-Some-2.ensures.items ∙ ap (λ os. os ++ map (syntax_at root) (paths_of rest)) (map-append (λ x. Some x) c.loop-path.elements.items (c.in-Some-2.element ∷ [])) ∙ append_assoc (map (λ x. Some x) c.loop-path.elements.items) (Some c.in-Some-2.element ∷ []) (map (syntax_at root) (paths_of rest)) ∙ ap (λ o. map (λ x. Some x) c.loop-path.elements.items ++ o ∷ map (syntax_at root) (paths_of rest)) found ∙ ap (λ vs. map (λ x. Some x) c.loop-path.elements.items ++ map (syntax_at root) (paths_of vs)) (sym c.in-Some.ensures.steps.0) ∙ c.loop-path.invariant.found;
       there = All-tail (λ p. IsElement (element_at root p)) c.in-Some.path.items (paths_of rest) there;

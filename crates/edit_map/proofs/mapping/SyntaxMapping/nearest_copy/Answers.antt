@@ -9,14 +9,14 @@ returns-in-Some-clause-nearest c = λ e number.
 
 pub returns-in_default-2-clause-nearest : goal.returns-in_default-2-clause-nearest
 returns-in_default-2-clause-nearest c = λ e number.
-    c.up.invariant.same e number ∙ rw (← c.self.view_is) (nearest-passed c.self.inside.copies.entries c.up.here e (number ∙ sym c.up.invariant.number) c.in_default.ensures.value) ∙ ap (step_among c.args.self.now e) (above-none c.up.here (rw c.in_default-2.is at c.in_ok-parent.ensures))
+    c.up.invariant.same e number ∙ rw (← c.self.view_is) (nearest-passed c.self.inside.copies.entries c.up.here e (number ∙ sym c.up.invariant.number) c.in_default.ensures.value) ∙ ap (step_among c.args.self.now e) (above-none c.up.here (rw c.in_default-2.is at c.in_ok-parent.ensures.ok))
 
 pub up-smaller : goal.up-smaller
-up-smaller c = (parent-shorter c.up.here c.in-Some-2.parent (rw c.in-Some-2.is at c.in_ok-parent.ensures)).1
+up-smaller c = (parent-shorter c.up.here c.in-Some-2.parent (rw c.in-Some-2.is at c.in_ok-parent.ensures.ok)).1
 
 pub up-preserved : goal.up-preserved
 up-preserved c =
-    let is = rw c.in-Some-2.is at c.in_ok-parent.ensures in
+    let is = rw c.in-Some-2.is at c.in_ok-parent.ensures.ok in
     let shorter = parent-shorter c.up.here c.in-Some-2.parent is in
     record {
       number = shorter.0 ∙ c.up.invariant.number;

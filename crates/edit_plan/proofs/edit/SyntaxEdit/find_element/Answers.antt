@@ -18,7 +18,7 @@ unreachable-requires c =
     let e = c.self.inside.new_root in
     let some = rw c.in-Some.is at c.in_ok-path.ensures in
     let is : Some c.in-Some.path.items ≡ stand_in_path c.args.old.now e.root = as-found c.args.old.now e (branch_tree c.as_green-root.result.now) c.kind.result.0 c.text_start.result (Some c.in-Some.path.items) c.self.invariant.is_root c.as_green-root.ensures.tree c.kind.ensures.kind c.text_start.ensures some in
-    let none : None ≡ syntax_at e (e.path ++ c.in-Some.path.items) = sym c.in-None.is ∙ c.in_ok-element.ensures ∙ ap (λ q. syntax_at e (e.path ++ q)) c.deref.ensures.value in
+    let none : None ≡ syntax_at e (e.path ++ c.in-Some.path.items) = sym c.in-None.is ∙ c.in_ok-element.ensures.ok ∙ ap (λ q. syntax_at e (e.path ++ q)) c.deref.ensures.value in
     let nowhere = rw (← is) at (node-found c.args.old.now e c.in-Some.path.items None c.self.invariant.is_root is (ap (option_and_then node_of) none)) in
     absurd (cc)
 
@@ -27,5 +27,5 @@ returns c =
     let e = c.self.inside.new_root in
     let some = rw c.in-Some.is at c.in_ok-path.ensures in
     let is : Some c.in-Some.path.items ≡ stand_in_path c.args.old.now e.root = as-found c.args.old.now e (branch_tree c.as_green-root.result.now) c.kind.result.0 c.text_start.result (Some c.in-Some.path.items) c.self.invariant.is_root c.as_green-root.ensures.tree c.kind.ensures.kind c.text_start.ensures some in
-    let leads : Some c.in-Some-2.element ≡ syntax_at e (e.path ++ c.in-Some.path.items) = sym c.in-Some-2.is ∙ c.in_ok-element.ensures ∙ ap (λ q. syntax_at e (e.path ++ q)) c.deref.ensures.value in
+    let leads : Some c.in-Some-2.element ≡ syntax_at e (e.path ++ c.in-Some.path.items) = sym c.in-Some-2.is ∙ c.in_ok-element.ensures.ok ∙ ap (λ q. syntax_at e (e.path ++ q)) c.deref.ensures.value in
     rw (← c.self.view_is) (node-found c.args.old.now e c.in-Some.path.items c.into_node.result c.self.invariant.is_root is (c.into_node.ensures ∙ ap (option_and_then node_of) leads))

@@ -3,10 +3,11 @@ use Rattle.cst_core.specs.Green.{branch_tree, length_limit}
 use Rattle.cst_core.specs.Tree.{text_length}
 use Rattle.rewriting.specs.Topmost.{paths_of}
 use Rattle.edit_plan.specs.Plan.{RunRefuses}
+use Rattle.edit_plan.specs.inner.PlanRun.{IsOfRoot}
 use Rattle.edit_plan.specs.Engine.{annotated_path}
 use Rattle.edit_plan.specs.EditRefusal.{of_tree}
 use Rattle.edit_plan.proofs.ByAnnotation.{found-in}
-use Rattle.edit_plan.proofs.Carrying.{makes, refuses, err-gives}
+use Rattle.edit_plan.proofs.Carrying.{makes, refuses, of-root, err-gives}
 use Rattle.edit_plan.proofs.Leading.{changed-there, annotated-there}
 use Rattle.edit_plan.proofs.plan.EditPlan.edit_of.Goals as goal
 
@@ -26,6 +27,11 @@ returns-in_err-new_root-clause-refused c =
     let own : c.ahead-drawn.result ≡ c.args.ids.now = c.ahead-drawn.ensures in
     let r = refuses c.args.self.now rewritten.green (paths_of rewritten.changed.items) (map annotated_path rewritten.annotated.items) c.requires.rewritten c.args.ids.now c.in_err-new_root.field-0.0 c.requires.short (λ e. c.in_err-new_root.ensures.too_long.0 (ap Err e)) (λ e. let s = c.in_err-new_root.ensures.no_number.0 (ap Err e) in (sym own ∙ s.0, s.1)) in
     err-gives (RunRefuses c.args.self.now c.args.ids.now) c.from_residual.result (of_tree c.in_err-new_root.field-0.0) c.from_residual.ensures.1 r
+
+pub returns-in_err-new_root-clause-fits : goal.returns-in_err-new_root-clause-fits
+returns-in_err-new_root-clause-fits c =
+    let error = c.in_err-new_root.field-0.0 in
+    err-gives IsOfRoot c.from_residual.result (of_tree error) c.from_residual.ensures.1 (of-root error (text_length (branch_tree c.args.rewritten.green)) c.requires.short (λ e. c.in_err-new_root.ensures.too_long.0 (ap Err e)))
 
 pub returns-clause-ok : goal.returns-clause-ok
 returns-clause-ok c =

@@ -1,5 +1,9 @@
-use Rattle.std.proofs.Common.{rules}
+use Rattle.std.proofs.Common.{rules, subst}
+use Rattle.edit_plan.specs.Plan.{IsPlan}
 use Rattle.edit_plan.proofs.plan.EditPlan.len.Goals as goal
 
-pub returns : goal.returns
-returns c = search rules
+pub returns-clause-count : goal.returns-clause-count
+returns-clause-count c = search rules
+
+pub returns-clause-planned : goal.returns-clause-planned
+returns-clause-planned c = subst IsPlan c.self.view_is c.self.invariant.is_plan

@@ -1,4 +1,5 @@
 use Rattle.std.proofs.Common.{rules}
+use Rattle.edit_plan.proofs.Carrying.{ran-with}
 use Rattle.edit_plan.proofs.plan.EditPlan.run_with.Goals as goal
 
 pub returns-clause-ok : goal.returns-clause-ok
@@ -15,3 +16,10 @@ returns-clause-refused g c = search rules
 
 pub returns-clause-err : goal.returns-clause-err
 returns-clause-err g c = search rules
+
+pub returns-clause-engine : goal.returns-clause-engine
+returns-clause-engine g c = search rules
+
+pub returns-clause-engine_err : goal.returns-clause-engine_err
+returns-clause-engine_err g c =
+    ran-with (λ answered. g.E.EditEngine.runs c.args.engine.now c.args.self.now answered c.run.new.self) c.edit_of.result c.edit_of.ensures.fits c.in_ok-rewritten.ensures.engine

@@ -18,10 +18,10 @@ zero_read : (n : ℕ) (l : IndentLevel) → n ≡ 0 → l.0 ≡ 0 → ReadsLevel
 zero_read n l is zero = (ap is_too_deep is, zero ∙ sym is)
 
 pub returns-in_default : goal.returns-in_default
-returns-in_default c = zero_read _ c.zero.result (first _ c.back.current _ _ c.back.invariant c.breaks_line.ensures c.back-test.true c.in_ok-before.ensures c.in_default.is) c.zero.ensures
+returns-in_default c = zero_read _ c.zero.result (first _ c.back.current _ _ c.back.invariant c.breaks_line.ensures c.back-test.true c.in_ok-before.ensures.ok c.in_default.is) c.zero.ensures
 
 abbrev back : (c : goal.After-drop-current-inside-in-back-3) → OneBack c.back.current c.in-Some.before
-back c = back_one c.back.current c.in-Some.before _ _ c.breaks_line.ensures c.back-test.true c.in_ok-before.ensures c.in-Some.is
+back c = back_one c.back.current c.in-Some.before _ _ c.breaks_line.ensures c.back-test.true c.in_ok-before.ensures.ok c.in-Some.is
 
 pub back-smaller : goal.back-smaller
 back-smaller c = (back c).fewer
