@@ -1,4 +1,8 @@
 //! How many nodes an edit builds, beside how many the tree has.
+
+ghost use Rattle.std.specs.Prelude.{◌≡◌, IfOk};
+ghost use Rattle.syntax_editor.specs.Engine.{CountsTouched};
+
 use crate::case::Case;
 use crate::floor::Floor;
 use anyhow::Result;
@@ -16,7 +20,9 @@ pub(crate) struct Built {
 }
 
 impl Built {
-    fn of_edit(alloc: Global, case: Case, edit: &SyntaxEdit, builds: u64) -> Result<Built> {
+    fn of_edit(alloc: Global, case: Case, edit: &SyntaxEdit, builds: u64) -> Result<Built>
+        ensures { IfOk result (λ b. b.builds ≡ builds) }
+    {
         let least = Floor::of(alloc, edit, case.touches())?.len();
         let nodes = edit.old_root().descendants(alloc)?.len();
         Ok(Built {
@@ -26,7 +32,10 @@ impl Built {
         })
     }
 
-    fn of_plan(alloc: Global, case: Case, ids: &mut TreeIds, plan: &EditPlan) -> Result<Built> {
+    // The count is that of the engine's one run.
+    fn of_plan(alloc: Global, case: Case, ids: &mut TreeIds, plan: &EditPlan) -> Result<Built>
+        ensures { IfOk result (λ b. CountsTouched plan.now 0 b.builds) }
+    {
         let mut engine = OnePassEngine::new(alloc);
         let edit = plan.run_with(alloc, ids, &mut engine)?;
         Built::of_edit(alloc, case, &edit, engine.builds())

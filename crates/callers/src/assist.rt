@@ -24,7 +24,7 @@ fn remove(alloc: Global, editor: &mut SyntaxEditor, argument: &SyntaxNode) -> Re
     ensures { OnOk result (Records (removal COMMA (Node argument.now)) editor.old editor.new) }
 {
     let argument = SyntaxElement::Node(argument.try_clone(alloc)?);
-    Ok(remove_separated(editor, alloc, &argument, SyntaxKind::COMMA)?)
+    Ok(remove_separated(alloc, editor, &argument, SyntaxKind::COMMA)?)
 }
 
 // Each payload is taken as it was, so neither replacement sees the other.

@@ -1,65 +1,52 @@
 -- What a deletion of a range leaves of the text, where no other change is recorded.
---     text_of_made                 the text of a tree that is made
 --     IsDeletion                   a change deletes this run of children of the element at a path
---     text_alone                   the text of the new tree where it is the only change
+--     LeavesText, text_alone       none of these changes is owned, and they give this text; the text where such a change is the only one
 --     IsAccepted, accepted         what is known of a range that is not refused
 --     deletes_range, deletes_one   the change that is recorded for a range, for one element
 --     range_text                   the text after its deletion
-use Rattle.std.specs.Prelude.{◌≡◌, ℕ, zero, suc, ◌+◌, ◌-◌, ◌≤◌, ◌&&◌, ◌||◌, not, Bool, true, false, cond, List, [], ◌∷◌, ◌++◌, length, map, take, drop, flat_map, filter_map, unwrap_or, Option, Some, None, All, refl}
-use Rattle.std.specs.List.{AllByRecursion, list_any}
+--     whole                        the tree of a root
+use Rattle.std.specs.Prelude.{◌≡◌, ℕ, zero, suc, ◌+◌, ◌-◌, ◌≤◌, ◌&&◌, ◌||◌, not, Bool, true, false, cond, List, [], ◌∷◌, ◌++◌, length, map, take, drop, filter_map, unwrap_or, Option, Some, None, All, refl}
+use Rattle.std.specs.List.{AllByRecursion}
 use Rattle.std.specs.Option.{option_map_or}
 use Rattle.std.proofs.Common.{ap, ap₂, sym, subst, ◌∙◌, arith, append_assoc, length-append}
 use Rattle.std.proofs.lemmas.Bool.{and_parts, and_right, or_parts, or_cases, or_from, not-false, not-true, leb-true}
-use Rattle.std.proofs.lemmas.List.{append-nil}
 use Rattle.std.proofs.lemmas.List.Elements.{All-cons, All-nil}
 use Rattle.std.proofs.lemmas.List.Prefix.{front_rest}
 use mathlib.Core.Logic.{inl, inr}
 use Rattle.cst_core.specs.Path.{Path, same_path, has_path, parent_path, last_slot, above, counted_from, siblings, last_item}
-use Rattle.cst_core.specs.Tree.{Forest, Token, Node, end, more, SyntaxTree, at, text, forest_text, forest_relabelled, is_token}
+use Rattle.cst_core.specs.Tree.{Token, SyntaxTree, at, text, is_token}
 use Rattle.cst_core.specs.Element.{Element, subtree}
 use Rattle.cst_core.specs.Order.{start}
 use Rattle.cst_core.specs.SyntaxElement.{element_of}
 use Rattle.cst_core.specs.declared.element.SyntaxElement.{SyntaxElement}
 use Rattle.cst_core.specs.declared.element.SyntaxElement.TheVariants as element
-use Rattle.rewriting.specs.Aim.{Over}
-use Rattle.edit_change.specs.declared.change.Change.{Change}
-use Rattle.edit_change.specs.declared.change.Change.TheVariants.{Replace, ReplaceAll}
-use Rattle.edit_change.specs.Change.{payload}
-use Rattle.edit_change.specs.ChangeAim.{aim}
-use Rattle.edit_change.specs.Nesting.{region, region_at, region_of_one, surroundings, is_around, is_dropped, is_keeping, owner}
-use Rattle.edit_change.proofs.Around.{around-turned}
-use Rattle.edit_change.proofs.Lists.{all_weaker}
-use Rattle.edit_change.proofs.Paths.{same_path-true}
-use Rattle.edit_change.proofs.Positions.{all-fail}
-use Rattle.edit_plan.specs.Schedule.{undropped}
+use Rattle.syntax_editor.specs.Aim.{Over}
+use Rattle.syntax_editor.specs.ChangeForms.{Change}
+use Rattle.syntax_editor.specs.ChangeForms.TheVariants.{Replace, ReplaceAll}
+use Rattle.syntax_editor.specs.Change.{payload}
+use Rattle.syntax_editor.specs.ChangeAim.{aim}
+use Rattle.syntax_editor.specs.Nesting.{region, region_at, region_of_one, surroundings, is_around, is_dropped, is_keeping, owner}
 use Rattle.syntax_editor.specs.Recording.{are_one, delete}
-use Rattle.edit_plan.specs.Fits.{is_native, is_root, is_range, have_one_path, are_siblings}
-use Rattle.edit_plan.specs.NewTree.{Origin, OriginTree, plain, new_tree, change_aims}
-use Rattle.edit_plan.specs.RewritingLaws.{brought_text, text_filled}
+use Rattle.syntax_editor.specs.Fits.{is_native, is_root, is_range, have_one_path, are_siblings}
+use Rattle.syntax_editor.specs.NewTree.{change_aims}
+use Rattle.syntax_editor.specs.RewritingLaws.{brought_text, text_filled, changed_text}
 use Rattle.syntax_editor.specs.Table.{first_fit}
 use Rattle.syntax_editor.specs.RecordCall.{DeletingAll, recorded, refusal}
 use Rattle.syntax_editor.specs.declared.error.RecordError.TheVariants.{Foreign, BadRange, DeletesRoot}
 use Rattle.list_removal.specs.RemovalText.{end_of, text_without}
+use Rattle.list_removal.proofs.Apart.{same_path-true, all_weaker, none-is, apart}
 use Rattle.list_removal.proofs.Kept.{kept, filled_whole}
 use Rattle.list_removal.proofs.Siblings.{parent-push, slot-push}
 use Rattle.list_removal.proofs.Cut.{is_cut, top_stays, cut-is, IsCut, cut}
 
--- what the law of texts says
-abbrev pub TextIsFilled : Type 0
-TextIsFilled = (changes : List Change) (places : ℕ → Path) (root : Element) → All (λ c. owner changes c ≡ None) changes → flat_map text (new_tree changes places root) ≡ text_filled (brought_text changes) (change_aims (undropped changes)) (subtree root)
+-- the tree of a root
+pub whole : (root : Element) → root.path ≡ [] → subtree root ≡ root.root
+whole root top = ap (λ p. unwrap_or (at root.root p) (Token 0 [])) top
 
--- labels are no text
-mutual
-  text-plain : (t : OriginTree) → text (plain t) ≡ text t
-  text-plain (Token l s) = refl
-  text-plain (Node l f) = forest_text-plain f
-
-  forest_text-plain : (f : Forest Origin) → forest_text (forest_relabelled (λ o. o.kind) f) ≡ forest_text f
-  forest_text-plain end = refl
-  forest_text-plain (more t f) = ap₂ (λ x y. x ++ y) (text-plain t) (forest_text-plain f)
-
-pub text_of_made : (made : OriginTree) (ts : List OriginTree) → ts ≡ made ∷ [] → text (plain made) ≡ flat_map text ts
-text_of_made made ts is = text-plain made ∙ sym (append-nil (text made)) ∙ ap (flat_map text) (sym is)
+-- what the law of texts asks for, and what it gives
+pub record LeavesText (cs : List Change) (t : SyntaxTree) (s : List ℕ) : Type 0 where
+  pub unowned : All (λ c. owner cs c ≡ None) cs
+  pub text_is : changed_text cs t ≡ s
 
 -- ---- what is above a run
 under : (m : ℕ) (q : Path) (i n : ℕ) (ps : List Path) → AllByRecursion (λ p. is_cut q i n p ≡ false) ps → AllByRecursion (λ p. is_cut (m ∷ q) i n p ≡ false) (map (λ p. m ∷ p) ps)
@@ -73,10 +60,6 @@ above_stays (m ∷ q) i n k = (refl, under m q i n (above (q ++ k ∷ [])) (abov
 none_found : (f : Path → Option ℕ) (ps : List Path) → AllByRecursion (λ p. f p ≡ None) ps → filter_map f ps ≡ []
 none_found f [] all = refl
 none_found f (p ∷ ps) all = rw all.0 (none_found f ps all.1)
-
-any_fails : (f : Path → Bool) (ps : List Path) → AllByRecursion (λ p. f p ≡ false) ps → list_any f ps ≡ false
-any_fails f [] all = refl
-any_fails f (p ∷ ps) all = or_from _ _ all.0 (any_fails f ps all.1)
 
 cond_none : (b : Bool) → ◌≡◌ {A = Option ℕ} (cond b None None) None
 cond_none true = refl
@@ -95,23 +78,25 @@ module _ (c : Change) (q : Path) (i n : ℕ) (h : IsDeletion c q i n) where
       subst (AllByRecursion (λ p. has_path (region c) p ≡ false)) (sym h.under_these) (all_weaker (λ p. is_cut q i (suc n) p ≡ false) (λ p. has_path (region c) p ≡ false) (above (q ++ i ∷ [])) h.region_within (above_stays q i (suc n) i))
 
   stays : is_dropped (c ∷ []) c ≡ false
-  stays = or_from _ _ (and_right (not (is_keeping c)) (is_around c c) (around-turned (surroundings c) (region c) ∙ any_fails (has_path (region c)) (surroundings c) none_around)) refl
+  stays = or_from _ _ (and_right (not (is_keeping c)) (is_around c c) (apart (surroundings c) (region c) none_around)) refl
 
   no_owner : owner (c ∷ []) c ≡ None
   no_owner =
-      ap (λ ns. cond (is_dropped (c ∷ []) c) None (last_item ns)) (none_found (region_at (c ∷ [])) (surroundings c) (all_weaker (λ p. has_path (region c) p ≡ false) (λ p. region_at (c ∷ []) p ≡ None) (surroundings c) (λ p none. all-fail (λ r. has_path (region r) p) (c ∷ []) (none, tt)) none_around))
+      ap (λ ns. cond (is_dropped (c ∷ []) c) None (last_item ns)) (none_found (region_at (c ∷ [])) (surroundings c) (all_weaker (λ p. has_path (region c) p ≡ false) (λ p. region_at (c ∷ []) p ≡ None) (surroundings c) (λ p none. none-is (λ r. has_path (region r) p) c none) none_around))
       ∙ cond_none (is_dropped (c ∷ []) c)
 
   brings_nothing : (k : ℕ) → brought_text (c ∷ []) k ≡ []
   brings_nothing zero = rw h.brings refl
   brings_nothing (suc k) = refl
 
-  pub text_alone : TextIsFilled → (places : ℕ → Path) (root : Element) → flat_map text (new_tree (c ∷ []) places root) ≡ kept (is_cut q i (suc n)) (subtree root)
-  text_alone law places root =
-      law (c ∷ []) places root (All-cons (λ d. owner (c ∷ []) d ≡ None) c [] no_owner (All-nil (λ d. owner (c ∷ []) d ≡ None)))
-      ∙ ap (λ b. text_filled (brought_text (c ∷ [])) (change_aims (cond (not b) ((0, c) ∷ []) [])) (subtree root)) stays
-      ∙ ap (λ a. text_filled (brought_text (c ∷ [])) ((0, a) ∷ []) (subtree root)) h.aim_is
-      ∙ filled_whole (brought_text (c ∷ [])) brings_nothing (map (λ k. q ++ k ∷ []) (counted_from i (suc n))) (is_cut q i (suc n)) (subtree root) (cut-is q i (suc n)) (top_stays q i (suc n))
+  pub text_alone : (t : SyntaxTree) → LeavesText (c ∷ []) t (kept (is_cut q i (suc n)) t)
+  text_alone t =
+      record {
+        unowned = All-cons (λ d. owner (c ∷ []) d ≡ None) c [] no_owner (All-nil (λ d. owner (c ∷ []) d ≡ None));
+        text_is = ap (λ b. text_filled (brought_text (c ∷ [])) (change_aims (cond (not b) ((0, c) ∷ []) [])) t) stays
+            ∙ ap (λ a. text_filled (brought_text (c ∷ [])) ((0, a) ∷ []) t) h.aim_is
+            ∙ filled_whole (brought_text (c ∷ [])) brings_nothing (map (λ k. q ++ k ∷ []) (counted_from i (suc n))) (is_cut q i (suc n)) t (cut-is q i (suc n)) (top_stays q i (suc n));
+      }
 
 -- ---- a range that is not refused
 three_lines : {X : Type 0} (a b c : Bool) (x y z : X) → first_fit ((a, x) ∷ (b, y) ∷ (c, z) ∷ []) ≡ None → (a ≡ false) × (b ≡ false) × (c ≡ false)
@@ -224,19 +209,18 @@ left_of t q i n j c =
     let last : drop (end_of t (q ++ j ∷ [])) (text t) ≡ c.after = ap₂ drop c.ends c.whole ∙ back c.before c.inside c.after in
     c.left ∙ ap₂ (λ b a. b ++ a) (sym first) (sym last)
 
-module _ (law : TextIsFilled) (root : Element) (first last : SyntaxElement) (places : ℕ → Path) where
+module _ (root : Element) (first last : SyntaxElement) where
   module _ (h : IsAccepted root first last) where
     slots_one : (element_of first).path ≡ (element_of last).path → 0 ≡ h.to - h.from
     slots_one same =
         let slot : h.from ≡ h.to = sym (slot-push h.parent h.from) ∙ ap last_slot (sym h.first_path ∙ same ∙ h.last_path) ∙ slot-push h.parent h.to in
         omega arith
 
-    text_kept : (b : Bool) → are_one first last ≡ b → flat_map text (new_tree (cond b (delete first []) (ReplaceAll first last [] ∷ [])) places root) ≡ kept (is_cut h.parent h.from (suc (h.to - h.from))) (subtree root)
+    text_kept : (b : Bool) → are_one first last ≡ b → LeavesText (cond b (delete first []) (ReplaceAll first last [] ∷ [])) root.root (kept (is_cut h.parent h.from (suc (h.to - h.from))) root.root)
     text_kept true one =
-        text_alone (Replace first None) h.parent h.from 0 (deletes_one h.parent h.from first h.first_path) law places root
-        ∙ ap (λ n. kept (is_cut h.parent h.from (suc n)) (subtree root)) (slots_one (same_path-true _ _ (and_parts _ _ one).1))
+        subst (λ n. LeavesText (Replace first None ∷ []) root.root (kept (is_cut h.parent h.from (suc n)) root.root)) (slots_one (same_path-true _ _ (and_parts _ _ one).1)) (text_alone (Replace first None) h.parent h.from 0 (deletes_one h.parent h.from first h.first_path) root.root)
     text_kept false one =
-        text_alone (ReplaceAll first last []) h.parent h.from (h.to - h.from) (deletes_range h.parent h.from h.to h.slots first last h.first_path h.last_path) law places root
+        text_alone (ReplaceAll first last []) h.parent h.from (h.to - h.from) (deletes_range h.parent h.from h.to h.slots first last h.first_path h.last_path) root.root
 
     left_over : kept (is_cut h.parent h.from (suc (h.to - h.from))) root.root ≡ text_without root.root first last
     left_over =
@@ -245,9 +229,7 @@ module _ (law : TextIsFilled) (root : Element) (first last : SyntaxElement) (pla
         left_of root.root h.parent h.from (h.to - h.from) h.to (cut root.root h.parent h.from (h.to - h.from) h.to h.there.tree slots there)
         ∙ ap₂ (λ x y. take (start root.root x) (text root.root) ++ drop (end_of root.root y) (text root.root)) (sym h.first_path) (sym h.last_path)
 
-  pub range_text : root.path ≡ [] → refusal root (DeletingAll first last) ≡ None → flat_map text (new_tree (recorded (DeletingAll first last) []) places root) ≡ text_without root.root first last
-  range_text top none =
+  pub range_text : refusal root (DeletingAll first last) ≡ None → LeavesText (recorded (DeletingAll first last) []) root.root (text_without root.root first last)
+  range_text none =
       let h = accepted root first last none in
-      text_kept h (are_one first last) refl
-      ∙ ap (λ p. kept (is_cut h.parent h.from (suc (h.to - h.from))) (unwrap_or (at root.root p) (Token 0 []))) top
-      ∙ left_over h
+      subst (LeavesText (recorded (DeletingAll first last) []) root.root) (left_over h) (text_kept h (are_one first last) refl)

@@ -7,9 +7,9 @@ use Rattle.std.proofs.Common.{ap, ap₂, ◌∙◌, arith, append_assoc}
 use Rattle.std.proofs.lemmas.Bool.{cond-true, cond-false}
 use Rattle.cst_core.specs.Path.{Path, has_path}
 use Rattle.cst_core.specs.Tree.{Forest, Token, Node, end, more, SyntaxTree, text, forest_text}
-use Rattle.rewriting.specs.Aim.{Over}
-use Rattle.rewriting.specs.Rewriting.{NumberedAim, replacements_at, is_replaced}
-use Rattle.edit_plan.specs.RewritingLaws.{filled_text, filled_text_from, text_filled}
+use Rattle.syntax_editor.specs.Aim.{Over}
+use Rattle.syntax_editor.specs.Rewriting.{NumberedAim, replacements_at, is_replaced}
+use Rattle.syntax_editor.specs.RewritingLaws.{filled_text, filled_text_from, text_filled}
 
 abbrev mutual
   pub kept : (Path → Bool) → SyntaxTree → List ℕ

@@ -1,5 +1,6 @@
 mod Siblings
 mod Refused
+mod Apart
 mod Kept
 mod Cut
 mod Alone

@@ -14,7 +14,7 @@ use Rattle.cst_core.specs.SyntaxElement.{element_of, next_sibling, previous_sibl
 use Rattle.cst_core.specs.SyntaxKind.{SyntaxKind}
 use Rattle.cst_core.specs.declared.element.SyntaxElement.{SyntaxElement}
 use Rattle.cst_core.specs.declared.element.SyntaxElement.TheVariants.{Node, Token}
-use Rattle.edit_plan.specs.Fits.{is_native, is_root, is_range, are_siblings, have_one_path}
+use Rattle.syntax_editor.specs.Fits.{is_native, is_root, is_range, are_siblings, have_one_path}
 use Rattle.syntax_editor.specs.Table.{first_fit}
 use Rattle.syntax_editor.specs.RecordCall.{Deleting, refusal}
 use Rattle.syntax_editor.specs.declared.error.RecordError.{RecordError}

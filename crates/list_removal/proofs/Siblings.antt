@@ -20,7 +20,7 @@ use Rattle.cst_core.specs.Kinds.{WHITESPACE}
 use Rattle.cst_core.specs.SyntaxKind.{SyntaxKind}
 use Rattle.cst_core.specs.declared.element.SyntaxElement.{SyntaxElement}
 use Rattle.cst_core.specs.declared.element.SyntaxElement.TheVariants.{Node, Token}
-use Rattle.edit_plan.specs.Fits.{is_native}
+use Rattle.syntax_editor.specs.Fits.{is_native}
 use Rattle.list_removal.specs.Removal.{is_token_of, if_token_of, past_whitespace, with_whitespace_after}
 
 -- ---- paths

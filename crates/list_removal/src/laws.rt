@@ -6,14 +6,14 @@ ghost use Rattle.cst_core.specs.Element.{Element, NumbersTell};
 ghost use Rattle.cst_core.specs.SyntaxElement.{element_of};
 ghost use Rattle.cst_core.specs.SyntaxKind.{SyntaxKind};
 ghost use Rattle.cst_core.specs.declared.element.SyntaxElement.{SyntaxElement};
-ghost use Rattle.edit_plan.specs.Plan.{Edit, Makes};
+ghost use Rattle.syntax_editor.specs.Plan.{Edit, Makes};
 ghost use Rattle.syntax_editor.specs.RecordCall.{Deleting, refusal};
 ghost use Rattle.syntax_editor.specs.EditorLaws.{target_depth};
 ghost use Rattle.syntax_editor.specs.Editor.{Editor, IsEditor, Records, Takes, plan_of};
 ghost use Rattle.list_removal.specs.Removal.{removed_run, removal};
 ghost use Rattle.list_removal.specs.RemovalText.{text_without};
 
-use edit_plan::laws::text_is_filled;
+use syntax_editor::laws::edit_text_is_filled;
 
 /// A removal is refused as the deletion of the element alone is, where equal numbers have equal trees: as `Foreign` exactly
 /// if the element is not of the editor's tree, and else as `DeletesRoot` exactly if it is the root.
@@ -32,7 +32,7 @@ pub fn removal_cuts_the_text()
         → text edit.new_root.root
         ≡ text_without before.root.root (removed_run separator e).0 (removed_run separator e).1 }
 {
-    text_is_filled();
+    edit_text_is_filled();
 }
 
 /// A removal is a deletion at the depth of the element, so the law `calls_at_one_depth_own_nothing` takes it as such.

@@ -19,12 +19,12 @@ use syntax_editor::{RecordError, SyntaxEditor};
 ///
 /// ```text
 /// // In `(1, 2)`, `one` and `two` are the literals.
-/// remove_separated(&mut editor, alloc, &one, SyntaxKind::COMMA)?; // leaves `(2)`
-/// remove_separated(&mut editor, alloc, &two, SyntaxKind::COMMA)?; // alone, leaves `(1)`
+/// remove_separated(alloc, &mut editor, &one, SyntaxKind::COMMA)?; // leaves `(2)`
+/// remove_separated(alloc, &mut editor, &two, SyntaxKind::COMMA)?; // alone, leaves `(1)`
 /// ```
 pub fn remove_separated(
-    editor: &mut SyntaxEditor,
     alloc: Global,
+    editor: &mut SyntaxEditor,
     element: &SyntaxElement,
     separator: SyntaxKind,
 ) -> Result<(), RecordError>

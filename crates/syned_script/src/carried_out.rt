@@ -4,6 +4,7 @@ ghost use Rattle.std.specs.Prelude.{◌<◌, ◌^◌, IfOk};
 use crate::line::{Line, is_blank, read_line};
 use crate::session::{Editing, Session};
 use crate::stop::{Stop, Stopped};
+use crate::told::Told;
 use crate::words::Words;
 use cst_core::{SyntaxNode, TreeIds};
 use std::alloc::Global;
@@ -29,6 +30,8 @@ pub struct Recorded {
     pub order: Option<Vec<usize>>,
     /// The source of the script's tree numbers.
     pub ids: TreeIds,
+    /// What is registered and mapped.
+    pub told: Told,
 }
 
 /// Carries a script out to its end, or says at which line it ends, and why.
@@ -42,11 +45,11 @@ pub fn carry_out(alloc: Global, script: &str) -> Result<CarriedOut, Stopped> {
 /// refused, or memory is.
 pub fn record_script(alloc: Global, script: &str) -> Option<Recorded> {
     let mut session = Session::new(alloc);
-    go_to_finish(alloc, &mut session, script).ok()?;
-    what_is_recorded(session)
+    let told = go_to_finish(alloc, &mut session, script).ok()?;
+    what_is_recorded(session, told)
 }
 
-fn what_is_recorded(session: Session) -> Option<Recorded> {
+fn what_is_recorded(session: Session, told: Told) -> Option<Recorded> {
     let (
         Editing {
             editor,
@@ -61,6 +64,7 @@ fn what_is_recorded(session: Session) -> Option<Recorded> {
         editor,
         order,
         ids,
+        told,
     })
 }
 
@@ -77,10 +81,13 @@ fn go_through(alloc: Global, session: &mut Session, script: &str) -> Result<usiz
     Ok(number)
 }
 
-// The same, whatever follows.
-fn go_to_finish(alloc: Global, session: &mut Session, script: &str) -> Result<usize, Stopped> {
+// The same, whatever follows. It gives what the lines before `finish` tell.
+fn go_to_finish(alloc: Global, session: &mut Session, script: &str) -> Result<Told, Stopped> {
     let lines = lines(alloc, script)?;
-    record(alloc, session, &lines)
+    let number = record(alloc, session, &lines)?;
+    session
+        .told(&lines, number.saturating_sub(1))
+        .map_err(|stop| stop.at(number))
 }
 
 // Carries out the lines before `finish`, and tells the number of that one.

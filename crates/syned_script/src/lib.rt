@@ -8,8 +8,10 @@ mod reference;
 mod roots;
 mod session;
 mod stop;
+mod told;
 mod words;
 
 pub use carried_out::{CarriedOut, Recorded, carry_out, record_script};
 pub use stop::{Refusal, Stop, Stopped};
+pub use told::Told;
 pub use words::{Word, Words};

@@ -5,6 +5,7 @@ use crate::name::Name;
 use crate::reference::Reference;
 use crate::roots::Roots;
 use crate::stop::Stop;
+use crate::told::Told;
 use crate::words::Words;
 use cst_core::{GreenNode, SyntaxKind, SyntaxNode, TreeIds};
 use list_removal::remove_separated;
@@ -101,6 +102,15 @@ impl Session {
             ..
         } = self;
         Ok((editing.ok_or(Stop::Bad)?, ids, words))
+    }
+
+    /// What the first of these lines, so many of them, tell its editor beside the changes. It has carried them out.
+    pub(crate) fn told(&self, lines: &[&str], count: usize) -> Result<Told, Stop> {
+        let mut told = Told::new(self.alloc);
+        for text in lines.iter().take(count) {
+            told.add(self.alloc, &self.roots, &self.words, text)?;
+        }
+        Ok(told)
     }
 
     fn add_tree(&mut self, name: Name<'_>, root: GreenNode) -> Result<(), Stop> {
@@ -253,7 +263,7 @@ impl Session {
     fn remove(&mut self, element: &Reference<'_>, separator: SyntaxKind) -> Result<(), Stop> {
         let editor = editor_of(&mut self.editing)?;
         let element = self.roots.element(self.alloc, element)?;
-        Ok(remove_separated(editor, self.alloc, &element, separator)?)
+        Ok(remove_separated(self.alloc, editor, &element, separator)?)
     }
 
     fn order(&mut self, order: Vec<usize>) -> Result<(), Stop> {

@@ -42,6 +42,11 @@ impl Words {
         }
     }
 
+    /// The annotation of a word that was used before.
+    pub(crate) fn get(&self, word: Name<'_>) -> Option<SyntaxAnnotation> {
+        self.annotations.get(word.as_str()).copied()
+    }
+
     fn draw(&mut self, alloc: Global, word: Name<'_>) -> Result<SyntaxAnnotation, Stop> {
         // No script has as many words as there are annotations.
         let annotation = self.source.next().ok_or(Stop::Memory)?;

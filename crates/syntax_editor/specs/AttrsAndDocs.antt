@@ -7,7 +7,7 @@
 --     remove_attrs_and_docs     the list of changes after their deletion, in order
 --     without_attrs_and_docs    an editor after it
 --     is_foreign                the node, or one of these children, is not of the root's tree
---     RemovalRefuses            why they are not deleted
+--     RemovalRefuses            why they are not deleted; memory runs out only after the node was looked at
 use Rattle.std.specs.Prelude.{◌≡◌, ℕ, ◌-◌, ◌==◌, ◌&&◌, ◌||◌, not, Bool, true, false, List, [], ◌∷◌, length, map, filter, slice_get}
 use Rattle.std.specs.List.{fold, list_any}
 use Rattle.std.specs.Option.{option_map_or}
@@ -56,4 +56,4 @@ RemovalRefuses root n record_error.DeletesRoot = ⊥
 RemovalRefuses root n record_error.RootReplacement = ⊥
 RemovalRefuses root n record_error.LevelTooLarge = ⊥
 RemovalRefuses root n record_error.NoTreeNumber = ⊥
-RemovalRefuses root n record_error.Memory = Unit {0}
+RemovalRefuses root n record_error.Memory = is_native root (Node n) ≡ true

@@ -7,7 +7,7 @@
 --     LacksRootNumber               such a tree is to be made, and its source of numbers is spent
 --     after_call, Records           what a call that records leaves behind; it was carried out
 --     Takes, RecordRefuses          nothing speaks against a call; why it is refused
---     MemoryLast                    where all that a call is given is owned, memory runs out only after each reason was looked for
+--     MemoryLast                    where a call can look for its reasons without memory, as where all that it is given is owned, it runs out only where nothing speaks against the call
 --     HasPairs, Maps                a factory with these pairs, whose copies win over those that it had; an editor whose factory took them up
 --     with_registrations, registrations_of         an editor with more registrations, after those before; each of n elements with an annotation
 --     registered_with, Registers    an editor in which these elements are registered with an annotation, too; a call makes one of it
@@ -85,9 +85,9 @@ RecordRefuses call e record_error.LevelTooLarge = ⊥
 RecordRefuses call e record_error.NoTreeNumber = ⊥
 RecordRefuses call e record_error.Memory = Unit {0}
 
--- a call that is handed all by value looks for the reasons first
+-- where a call takes no memory to look for its reasons, as for what it is handed by value, it looks for them first
 abbrev pub MemoryLast : Bool → RecordCall → Editor → Result (Unit {0}) RecordError → Type 0
-MemoryLast owned call e r = IsTrue owned → r ≡ Err record_error.Memory → Takes e call
+MemoryLast without_memory call e r = IsTrue without_memory → r ≡ Err record_error.Memory → Takes e call
 
 -- ---- mapping
 -- a factory that kept no mappings has some then

@@ -38,6 +38,8 @@ pub use Rattle.edit_plan.specs.Plan
 pub use Rattle.edit_plan.specs.Engine
 pub use Rattle.edit_plan.specs.Run
 pub use Rattle.edit_plan.specs.ExecuteRefusal
+pub use Rattle.rewriting.specs.Aim
+pub use Rattle.rewriting.specs.Rewriting
 pub use Rattle.edit_plan.specs.RewritingLaws
 pub use Rattle.indentation.specs.declared.level.IndentLevel
 pub use Rattle.indentation.specs.declared.indent_error.IndentError

@@ -2,8 +2,8 @@
 --     insert_all_with_whitespace  the list of changes after such a call
 --     spaced_insert               the insert that it records
 --     spacing_refusal             why it is refused, if it is: the first of its reasons, in the order of the lines
---     SpacingRefuses              why it is refused, that memory ran out among it
-use Rattle.std.specs.Prelude.{◌≡◌, ◌+◌, ℕ, not, nat_lt, List, [], ◌∷◌, Option, Some}
+--     SpacingRefuses              why it is refused; memory runs out only after the position was looked at
+use Rattle.std.specs.Prelude.{◌≡◌, ◌+◌, ℕ, true, not, nat_lt, List, [], ◌∷◌, Option, Some}
 use Rattle.cst_core.specs.Element.{Element}
 use Rattle.cst_core.specs.TreeIds.{spent}
 use Rattle.cst_core.specs.declared.element.SyntaxElement.{SyntaxElement}
@@ -39,4 +39,4 @@ SpacingRefuses e number at es DeletesRoot = ⊥
 SpacingRefuses e number at es RootReplacement = ⊥
 SpacingRefuses e number at es LevelTooLarge = spacing_refusal e.root number at es ≡ Some LevelTooLarge
 SpacingRefuses e number at es NoTreeNumber = spacing_refusal e.root number at es ≡ Some NoTreeNumber
-SpacingRefuses e number at es Memory = Unit {0}
+SpacingRefuses e number at es Memory = is_native_position e.root at ≡ true

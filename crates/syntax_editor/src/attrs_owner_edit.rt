@@ -4,12 +4,13 @@ ghost use Rattle.std.specs.List.{list_any};
 ghost use Rattle.cst_core.specs.Tree.{children, label};
 ghost use Rattle.cst_core.specs.Green.{branch_tree};
 ghost use Rattle.cst_core.specs.Kinds.{ATTR, COMMENT, DOC_COMMENT};
+ghost use Rattle.cst_core.specs.declared.element.SyntaxElement.TheVariants.{Node};
 ghost use Rattle.edit_plan.specs.Fits.{is_native};
 ghost use Rattle.syntax_editor.specs.AttrsAndDocs.{is_attr_or_doc, is_whitespace, is_removed, removed_children, without_attrs_and_docs, is_foreign, RemovalRefuses};
 
 use crate::editor::SyntaxEditor;
 use crate::error::RecordError;
-use cst_core::{GreenNode, HasAttrs, SyntaxElement, SyntaxKind, SyntaxNode};
+use cst_core::{GreenElementRef, GreenNode, HasAttrs, SyntaxElement, SyntaxKind, SyntaxNode};
 use edit_plan::is_native;
 use std::alloc::{AllocError, Global};
 
@@ -19,7 +20,7 @@ pub trait AttrsOwnerEdit: HasAttrs {
     /// after one of them, as `SyntaxEditor::delete` deletes one element, in order.
     ///
     /// `Foreign` comes where the node or one of these children is of another tree, also where there is nothing to delete. `Memory`
-    /// may come before it. The editor is unchanged after each.
+    /// comes only where the node is of the editor's. The editor is unchanged after each.
     fn remove_attrs_and_docs(
         &self,
         alloc: Global,
@@ -44,12 +45,28 @@ impl SyntaxEditor {
         ensures refused { IfErr result (RemovalRefuses self.old.root node.now) }
         ensures unchanged { OnErr result (self.new ≡ self.old) }
     {
-        let owner = SyntaxElement::Node(node.try_clone(alloc)?);
+        if !is_native_node(&self.root, node) {
+            return Err(RecordError::Foreign);
+        }
         let removed = removed_children(alloc, node)?;
-        if !is_native(&self.root, &owner) || has_foreign(&self.root, &removed) {
+        if has_foreign(&self.root, &removed) {
             return Err(RecordError::Foreign);
         }
         Ok(self.changes.delete_each(alloc, removed)?)
+    }
+}
+
+// Whether a node is of the tree of `root`. It is borrowed, so the test takes no memory.
+fn is_native_node(root: &SyntaxNode, node: &SyntaxNode) -> bool
+    ensures { result ≡ is_native root.now (Node node.now) }
+{
+    if node.tree() != root.tree() {
+        return false;
+    }
+    match root.top_green().get(node.slots()) {
+        Some(GreenElementRef::Node(_)) => true,
+        Some(GreenElementRef::Token(_)) => false,
+        None => false,
     }
 }
 

@@ -4,7 +4,7 @@ ghost use Rattle.cst_core.specs.Tree.{text_length};
 ghost use Rattle.edit_plan.specs.Plan.{Makes, IsPlan, BuildRefuses};
 ghost use Rattle.std.specs.Borrow.{sem};
 ghost use Rattle.syntax_editor.specs.Lending.{LendsFactory};
-ghost use Rattle.syntax_editor.specs.Editor.{has_parent, edited_root, new_editor, plan_of, Maps, FinishRefuses, LacksRootNumber};
+ghost use Rattle.syntax_editor.specs.Editor.{IsEditor, has_parent, edited_root, new_editor, plan_of, Maps, FinishRefuses, LacksRootNumber};
 
 use crate::factory::SyntaxFactory;
 use change_list::ChangeList;
@@ -50,6 +50,7 @@ impl SyntaxEditor {
         root: SyntaxNode,
     ) -> Result<(SyntaxEditor, SyntaxNode), TreeError>
         ensures editor { IfOk result (λ r. r.0 ≡ new_editor ids.old root) }
+        ensures is_editor { IfOk result (λ r. IsEditor r.0) }
         ensures root { IfOk result (λ r. r.1 ≡ edited_root ids.old root) }
         ensures drawn { OnOk result (ids.new ≡ cond (has_parent root) (ids.old + 1) ids.old) }
         ensures fits { ¬ (result ≡ Err TreeError.TooLong) }
@@ -114,7 +115,8 @@ impl SyntaxEditor {
 
     /// The changes recorded so far, in order.
     pub fn changes(&self) -> &[Change]
-        ensures { result.now ≡ self.now.changes }
+        ensures list { result.now ≡ self.now.changes }
+        ensures is_editor { IsEditor self.now }
     {
         self.changes.as_slice()
     }

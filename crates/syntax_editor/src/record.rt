@@ -1,9 +1,10 @@
 //! The calls that record a change.
 ghost use Rattle.std.specs.Prelude.{◌≡◌, false, ◌&&◌, ◌||◌, not, [], ◌∷◌, ◌++◌, true, IfOk, IfErr, OnOk, OnErr};
 ghost use Rattle.cst_core.specs.Element.{Element};
-ghost use Rattle.edit_plan.specs.Fits.{Fits, is_native, is_root, is_one_node};
+ghost use Rattle.edit_plan.specs.Fits.{Fits, is_native, is_native_position, is_root, is_one_node};
 ghost use Rattle.change_list.specs.Recording.{is_deleted};
 ghost use Rattle.change_list.specs.ByPath.{is_replace};
+ghost use Rattle.syntax_editor.specs.declared.error.RecordError.{RecordError};
 ghost use Rattle.syntax_editor.specs.RecordCall.{Inserting, InsertingAll, Deleting, Replacing, ReplacingWithMany, DeletingAll, ReplacingAll};
 ghost use Rattle.syntax_editor.specs.Editor.{Records, Takes, RecordRefuses, MemoryLast};
 
@@ -16,8 +17,7 @@ use std::alloc::{AllocError, Global};
 impl SyntaxEditor {
     /// Inserts an element at a position.
     ///
-    /// `Foreign` comes where the position is of another tree. `Memory` may come before it. The editor is unchanged after
-    /// each.
+    /// `Foreign` comes where the position is of another tree, then `Memory`. The editor is unchanged after each.
     pub fn insert<E: Element>(
         &mut self,
         alloc: Global,
@@ -27,12 +27,11 @@ impl SyntaxEditor {
         ensures recorded { OnOk result (Records (Inserting at (E.element element)) self.old self.new) }
         ensures accepted { OnOk result (Takes self.old (Inserting at (E.element element))) }
         ensures refused { IfErr result (RecordRefuses (Inserting at (E.element element)) self.old) }
+        ensures memory_last { MemoryLast true (Inserting at (E.element element)) self.old result }
         ensures unchanged { OnErr result (self.new ≡ self.old) }
     {
+        self.test_position(&at)?;
         let element = element.syntax_element(alloc)?;
-        if !at.is_native(&self.root) {
-            return Err(RecordError::Foreign);
-        }
         Ok(self.record(Change::Insert(at, element))?)
     }
 
@@ -51,19 +50,19 @@ impl SyntaxEditor {
         ensures memory_last { MemoryLast true (InsertingAll at elements.items) self.old result }
         ensures unchanged { OnErr result (self.new ≡ self.old) }
     {
-        if !at.is_native(&self.root) {
-            return Err(RecordError::Foreign);
-        }
+        self.test_position(&at)?;
         Ok(self.record(Change::InsertAll(at, elements.into()))?)
     }
 
     /// Deletes an element. The first replacement of the same element becomes the deletion.
     ///
-    /// `Foreign` comes first, then `DeletesRoot`. `Memory` may come before them. The editor is unchanged after each.
+    /// `Foreign` comes first, then `DeletesRoot`, then `Memory`, which may come before them where the element is a reference. The
+    /// editor is unchanged after each.
     pub fn delete<E: Element>(&mut self, alloc: Global, element: E) -> Result<(), RecordError>
         ensures recorded { OnOk result (Records (Deleting (E.element element)) self.old self.new) }
         ensures accepted { OnOk result (Takes self.old (Deleting (E.element element))) }
         ensures refused { IfErr result (RecordRefuses (Deleting (E.element element)) self.old) }
+        ensures memory_last { MemoryLast E.is_owned (Deleting (E.element element)) self.old result }
         ensures unchanged { OnErr result (self.new ≡ self.old) }
     {
         let element = element.syntax_element(alloc)?;
@@ -94,8 +93,8 @@ impl SyntaxEditor {
     /// Replaces an element by another one. If the element already has a Replace, that change is updated; a deletion stays a
     /// deletion.
     ///
-    /// `Foreign` comes first, then `RootReplacement` (a root replaced by a token). `Memory` may come before them. The
-    /// editor is unchanged after each.
+    /// `Foreign` comes first, then `RootReplacement` (a root replaced by a token), then `Memory`, which may come before them where
+    /// one of the two is a reference. The editor is unchanged after each.
     pub fn replace<E: Element, F: Element>(
         &mut self,
         alloc: Global,
@@ -105,6 +104,8 @@ impl SyntaxEditor {
         ensures recorded { OnOk result (Records (Replacing (E.element element) (F.element new)) self.old self.new) }
         ensures accepted { OnOk result (Takes self.old (Replacing (E.element element) (F.element new))) }
         ensures refused { IfErr result (RecordRefuses (Replacing (E.element element) (F.element new)) self.old) }
+        ensures memory_last { MemoryLast (E.is_owned && F.is_owned)
+            (Replacing (E.element element) (F.element new)) self.old result }
         ensures unchanged { OnErr result (self.new ≡ self.old) }
     {
         let element = element.syntax_element(alloc)?;
@@ -114,8 +115,8 @@ impl SyntaxEditor {
 
     /// Replaces an element by others, in their order. It is always a change of its own.
     ///
-    /// `Foreign` comes first, then `RootReplacement` (a root replaced by other than one node). `Memory` may come before
-    /// them. The editor is unchanged after each.
+    /// `Foreign` comes first, then `RootReplacement` (a root replaced by other than one node), then `Memory`, which may come before
+    /// them where the element is a reference. The editor is unchanged after each.
     pub fn replace_with_many<E: Element>(
         &mut self,
         alloc: Global,
@@ -125,6 +126,7 @@ impl SyntaxEditor {
         ensures recorded { OnOk result (Records (ReplacingWithMany (E.element element) new.items) self.old self.new) }
         ensures accepted { OnOk result (Takes self.old (ReplacingWithMany (E.element element) new.items)) }
         ensures refused { IfErr result (RecordRefuses (ReplacingWithMany (E.element element) new.items) self.old) }
+        ensures memory_last { MemoryLast E.is_owned (ReplacingWithMany (E.element element) new.items) self.old result }
         ensures unchanged { OnErr result (self.new ≡ self.old) }
     {
         let element = element.syntax_element(alloc)?;
@@ -194,6 +196,7 @@ impl SyntaxEditor {
         ensures recorded { OnOk result (Records (Deleting element) self.old self.new) }
         ensures accepted { OnOk result (Takes self.old (Deleting element)) }
         ensures refused { IfErr result (RecordRefuses (Deleting element) self.old) }
+        ensures memory_last { MemoryLast true (Deleting element) self.old result }
         ensures unchanged { OnErr result (self.new ≡ self.old) }
     {
         if !is_native(&self.root, &element) {
@@ -214,6 +217,7 @@ impl SyntaxEditor {
         ensures recorded { OnOk result (Records (Replacing element new) self.old self.new) }
         ensures accepted { OnOk result (Takes self.old (Replacing element new)) }
         ensures refused { IfErr result (RecordRefuses (Replacing element new) self.old) }
+        ensures memory_last { MemoryLast true (Replacing element new) self.old result }
         ensures unchanged { OnErr result (self.new ≡ self.old) }
     {
         if !is_native(&self.root, &element) {
@@ -262,6 +266,18 @@ impl SyntaxEditor {
             return Ok(self.record(Change::ReplaceWithMany(first, new.into()))?);
         }
         Ok(self.record(Change::ReplaceAll(first, last, new.into()))?)
+    }
+
+    // Whether a position is of the editor's tree. It is borrowed, so that a refusal has nothing to let go.
+    pub(crate) fn test_position(&self, at: &Position) -> Result<(), RecordError>
+        ensures native { OnOk result (is_native_position self.now.root at.now ≡ true) }
+        ensures foreign { OnErr result (is_native_position self.now.root at.now ≡ false) }
+        ensures refused { IfErr result (λ e. e ≡ RecordError.Foreign) }
+    {
+        if !at.is_native(&self.root) {
+            return Err(RecordError::Foreign);
+        }
+        Ok(())
     }
 
     // Whether a deletion of siblings is taken. It borrows them, so that a refusal has nothing to let go.

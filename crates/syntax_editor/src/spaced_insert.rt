@@ -18,7 +18,7 @@ impl SyntaxEditor {
     ///
     /// Each whitespace token is in a tree of its own, under the next number of `ids`. `Foreign` comes first, where the position
     /// is of another tree, then `LevelTooLarge`, where a new line would have a level past 255, then `NoTreeNumber`; `Memory` may come
-    /// after the first test at any time. The editor is unchanged after each, and no number is drawn.
+    /// at any time after `Foreign`. The editor is unchanged after each, and no number is drawn.
     pub fn insert_all_with_whitespace(
         &mut self,
         alloc: Global,
@@ -33,9 +33,7 @@ impl SyntaxEditor {
         ensures unchanged { OnErr result (self.new ≡ self.old) }
         ensures err { OnErr result (ids.new ≡ ids.old) }
     {
-        if !at.is_native(&self.root) {
-            return Err(RecordError::Foreign);
-        }
+        self.test_position(&at)?;
         // The numbers are drawn last, when nothing can fail any more.
         let mut drawn = ids.ahead();
         let all = match elements_with_spaces(alloc, &mut drawn, &at, elements) {
@@ -49,7 +47,7 @@ impl SyntaxEditor {
 
     /// Inserts an element at a position, with whitespace round it, as `insert_all_with_whitespace` does.
     ///
-    /// The refusals are the same, but `Memory` may come before them.
+    /// The refusals are the same.
     pub fn insert_with_whitespace<E: Element>(
         &mut self,
         alloc: Global,
@@ -64,6 +62,7 @@ impl SyntaxEditor {
         ensures unchanged { OnErr result (self.new ≡ self.old) }
         ensures err { OnErr result (ids.new ≡ ids.old) }
     {
+        self.test_position(&at)?;
         let element = element.syntax_element(alloc)?;
         let mut elements = Vec::new(alloc);
         elements.push(element).map_err(|_| RecordError::Memory)?;

@@ -1,6 +1,6 @@
 //! An editor of a typed node.
 ghost use Rattle.std.specs.Prelude.{◌≡◌, ◌↔◌, ◌+◌, cond, IfOk, OnOk, OnErr};
-ghost use Rattle.syntax_editor.specs.Editor.{has_parent, edited_root, new_editor, LacksRootNumber};
+ghost use Rattle.syntax_editor.specs.Editor.{IsEditor, has_parent, edited_root, new_editor, LacksRootNumber};
 
 use crate::ast_node_edit::view_of;
 use crate::editor::SyntaxEditor;
@@ -17,6 +17,7 @@ impl SyntaxEditor {
         node: &N,
     ) -> Result<(SyntaxEditor, N), TreeError>
         ensures editor { IfOk result (λ r. r.0 ≡ new_editor ids.old (N.syntax_node node.now)) }
+        ensures is_editor { IfOk result (λ r. IsEditor r.0) }
         ensures root { IfOk result (λ r. N.syntax_node r.1 ≡ edited_root ids.old (N.syntax_node node.now)) }
         ensures drawn { OnOk result (ids.new ≡ cond (has_parent (N.syntax_node node.now)) (ids.old + 1) ids.old) }
         ensures fits { ¬ (result ≡ Err TreeError.TooLong) }

@@ -1,18 +1,19 @@
-use Rattle.std.specs.Prelude.{flat_map}
-use Rattle.std.proofs.Common.{ap, ◌∙◌}
-use Rattle.cst_core.specs.Tree.{text}
-use Rattle.edit_plan.specs.NewTree.{new_tree}
+use Rattle.std.specs.Prelude.{◌≡◌, [], None, All}
+use Rattle.std.proofs.Common.{ap, ap₂, sym, subst, ◌∙◌}
+use Rattle.cst_core.specs.Element.{subtree}
+use Rattle.syntax_editor.specs.Nesting.{owner}
+use Rattle.syntax_editor.specs.RewritingLaws.{changed_text}
 use Rattle.syntax_editor.specs.RecordCall.{recorded}
-use Rattle.syntax_editor.specs.Editor.{Editor}
+use Rattle.syntax_editor.specs.Editor.{Editor, plan_of}
 use Rattle.list_removal.specs.Removal.{removal, removed_run}
-use Rattle.list_removal.proofs.Alone.{text_of_made, range_text}
+use Rattle.list_removal.proofs.Alone.{range_text, whole}
 use Rattle.list_removal.proofs.laws.removal_cuts_the_text.Goals as goal
 
 pub returns : goal.returns
 returns c before after separator e number edit editor none takes records makes =
-    let places = makes.would.places in
-    ap text makes.tree_is
-    ∙ text_of_made makes.made (new_tree after.changes places after.root) makes.would.is_new
-    ∙ ap (λ (x : Editor). flat_map text (new_tree x.changes places x.root)) records
-    ∙ ap (λ cs. flat_map text (new_tree (recorded (removal separator e) cs) places before.root)) none
-    ∙ range_text c.text_is_filled.ensures before.root (removed_run separator e).0 (removed_run separator e).1 places editor.is_root takes
+    let told = range_text before.root (removed_run separator e).0 (removed_run separator e).1 takes in
+    let list : after.changes ≡ recorded (removal separator e) [] = ap (λ (x : Editor). x.changes) records ∙ ap (recorded (removal separator e)) none in
+    let tree : subtree after.root ≡ before.root.root = ap (λ (x : Editor). subtree x.root) records ∙ whole before.root editor.is_root in
+    c.edit_text_is_filled.ensures (plan_of after) number edit makes (subst (λ cs. All (λ d. owner cs d ≡ None) cs) (sym list) told.unowned)
+    ∙ ap₂ changed_text list tree
+    ∙ told.text_is

@@ -22,8 +22,8 @@ loop-slot-preserved c =
     let there = child_there n (branch_tree green) slot c.as_green-green.ensures.there (omega arith) in
     let goes : is_removed (subtree n) slot ≡ true = ap (λ t. is_removed t slot) (sym c.as_green-green.ensures.tree) ∙ sym c.is_removed.ensures ∙ c.if-not-is_removed.false in
     elim c.match-branch-2.branch [
-      | in-Some+in_ok-push w ↦ rw (w.removed-is, w.in_ok-push.ensures.items, c.loop-slot.invariant) (one_removed n slot w.in-Some.child goes (sym w.in-Some.is ∙ c.in_ok-child.ensures ∙ there))
-      | in_default w ↦ absurd (no_more_child n slot (sym w.in_default.is ∙ c.in_ok-child.ensures ∙ there))
+      | in-Some+in_ok-push w ↦ rw (w.removed-is, w.in_ok-push.ensures.items, c.loop-slot.invariant) (one_removed n slot w.in-Some.child goes (sym w.in-Some.is ∙ c.in_ok-child.ensures.ok ∙ there))
+      | in_default w ↦ absurd (no_more_child n slot (sym w.in_default.is ∙ c.in_ok-child.ensures.ok ∙ there))
     ]
 
 pub returns : goal.returns

@@ -1,4 +1,4 @@
-use Rattle.std.specs.Prelude.{◌≡◌, ℕ, ◌+◌, true, false, cond, ◌==◌, [], ◌∷◌, length, Option, Some, None, IsNone, IfSome, OnSome, ◌↔◌, Ok, Err, refl}
+use Rattle.std.specs.Prelude.{◌≡◌, ℕ, ◌+◌, true, false, cond, ◌==◌, [], ◌∷◌, length, Option, Some, None, IsNone, OnSome, ◌↔◌, Ok, Err, refl}
 use Rattle.std.proofs.Common.{sym, ◌∙◌}
 use Rattle.std.proofs.lemmas.Bool.{true≢false}
 use Rattle.cst_core.specs.Path.{Path, same_path}
