@@ -5,7 +5,9 @@
 - What docs/CALLING.md and README.md show of a caller, and docs/SCRIPTS.md of a script, is in its file, word for word.
 - docs/GUARANTEES.md names each public call once, and its contracts cite the definitions that the row names.
 - Each file that a page names is there. No line of a page is over 120 columns but in a table, README.md is one page, and it names the kit.
-- Each inner planted bug can be made, and was refused over the files that are there now, by the record in tests/inner_bugs.txt.
+- Each planted bug can be made. Each public function has one (tests/public_bugs.py). There are as many as tests/planted_bugs.txt says, a
+  number that never falls. Each inner one was refused over the files that are there now, by this kit, by the record in
+  tests/inner_bugs.txt; tests/all.sh tries a sample of them.
 """
 
 import re
@@ -14,7 +16,9 @@ import subprocess
 import sys
 from pathlib import Path
 
+import believed
 import inner_record
+import public_bugs
 import public_calls
 
 ROOT = Path(__file__).resolve().parent.parent
@@ -242,26 +246,39 @@ def compare_readme():
             wrong.append(f"README.md: does not name the kit as rt version does: {kit}")
 
 
+def compare_believed():
+    specs = believed.Specs()
+    lines = sum(len(it.lines) for it in believed.reached(specs) if it.name not in believed.TABLE)
+    print(f"docs: public clauses reach {lines} lines of definitions")
+    if f"{lines:,} lines" not in (ROOT / "docs/DEFINITIONS.md").read_text():
+        wrong.append(f"docs/DEFINITIONS.md: does not say that public clauses reach {lines:,} lines")
+
+
 def compare_planted_bugs():
-    """Each text that a bug of must-fail-inner takes away is there once in its file, as the earlier pairs of lines left it."""
-    for file in sorted(ROOT.glob("crates/*/must-fail-inner/*.edit")):
-        source, text, old = None, "", None
+    """Each text that a bug takes away is there once in its file, as the earlier pairs of lines left it, and another comes in its place."""
+    for file in sorted(ROOT.glob("crates/*/must-fail*/*")):
+        name, source, text, old, pairs = file.relative_to(ROOT), None, "", None, 0
         for line in file.read_text().splitlines():
             word, _, rest = line.partition(": ")
             if word == "file":
                 source = file.parent.parent / rest
-                text = source.read_text()
+                text = source.read_text() if source.is_relative_to(file.parent.parent / "src") and source.is_file() else ""
             elif word == "old":
                 old = rest
                 if text.count(old) != 1:
-                    wrong.append(f"{file.relative_to(ROOT)}: what it takes away is {text.count(old)} times in {source.name}")
-            elif word == "new":
-                text = text.replace(old, rest)
+                    wrong.append(f"{name}: what it takes away is {text.count(old)} times in its file")
+            elif word in ("new", "new:") and old != rest:
+                text, pairs = text.replace(old, rest), pairs + 1
+            else:
+                wrong.append(f"{name}: a line that says nothing: {line[:60]}")
+        if file.suffix != ".edit" or not pairs:
+            wrong.append(f"{name}: is no planted bug")
 
 
 def compare_record():
-    for crate in inner_record.not_tried(ROOT):
-        wrong.append(f"{crate}: its files are not those over which its inner planted bugs were refused: bash tests/inner_bugs.sh {crate}")
+    wrong.extend(inner_record.wrong_lines(ROOT))
+    wrong.extend(inner_record.wrong_count(ROOT))
+    wrong.extend(public_bugs.wrong_bugs())
 
 
 compare_tables()
@@ -272,6 +289,7 @@ compare_guarantees()
 compare_names()
 compare_widths()
 compare_readme()
+compare_believed()
 compare_planted_bugs()
 compare_record()
 for line in wrong:

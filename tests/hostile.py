@@ -24,6 +24,8 @@ from tables import table_rows
 SCRIPT_LIMIT = 1_048_576
 SPARE_STACK = 256
 DAMAGED = 20_000
+# After so many wrong answers the others are not asked for.
+MOST_WRONG = 20
 SEED = 20_260_101
 
 os.chdir(os.path.join(os.path.dirname(os.path.abspath(__file__)), ".."))
@@ -441,10 +443,17 @@ def trees_of(script):
     return {line for line in script.split(b"\n") if line.startswith(b"tree ")}
 
 
+def dotted(path):
+    return "." if path == "." else f"./{path}"
+
+
 def paths_of(answer):
-    """The changed paths of an answer, in the words of the model."""
-    line = answer.decode(errors="replace").split("\n")[1]
-    return "".join(" ." if path == "." else f" ./{path}" for path in line.split(" ")[1:])
+    """The changed and the annotated paths of an answer, in the words of the model."""
+    lines = answer.decode(errors="replace").split("\n")
+    changed = "".join(f" {dotted(path)}" for path in lines[1].split(" ")[1:])
+    notes = [line.split(" ")[2:] for line in lines[2:] if line.startswith("note ")]
+    noted = "".join(f" {number}{dotted(path)}" for number, paths in enumerate(notes) for path in paths)
+    return f" changed{changed} noted{noted}"
 
 
 def model_agrees(answer, model_status, model):
@@ -453,7 +462,8 @@ def model_agrees(answer, model_status, model):
     if model_status != 0:
         return False
     if status_of(answer) == 0:
-        return model.startswith("both: (") and model.endswith(f" changed{paths_of(answer)}\n")
+        found = re.escape(paths_of(answer)) + r" paths \d+ notes \d+\n\Z"
+        return model.startswith("both: (") and re.search(found, model) is not None
     refusal = answer.decode().removeprefix("refused ").rstrip("\n")
     if refusal.startswith(("Intersecting", "MissingMapping")):
         return model == f"both: {refusal}\n"
@@ -509,12 +519,19 @@ def needed_stack():
             enough = middle
         else:
             little = middle
+    if enough == 8192:
+        sys.exit("hostile: the edit below 200 levels has no answer")
     return enough
 
 
 def rows(pool):
     every = line_rows() + tree_rows() + length_rows() + BYTE_ROWS + end_rows() + many_rows() + beginning_rows()
-    wrong = [said for said in pool.imap(try_row, every, chunksize=16) if said]
+    wrong = []
+    for said in pool.imap(try_row, every, chunksize=16):
+        wrong += [said] if said else []
+        if len(wrong) == MOST_WRONG:
+            print(*wrong, "hostile: the other rows were not run", sep="\n")
+            return wrong
     print(*wrong, f"hostile: {len(every) - len(wrong)} of {len(every)} rows answer as expected", sep="\n")
     return wrong
 
@@ -526,7 +543,9 @@ def damage(pool, count):
             wrong.append(said)
         else:
             statuses[status] += 1
-    print(*wrong[:20], sep="\n", end="\n" if wrong else "")
+        if len(wrong) == MOST_WRONG:
+            break
+    print(*wrong, sep="\n", end="\n" if wrong else "")
     print(f"hostile: {count} damaged scripts: {statuses[0]} done, {statuses[1]} refused, {statuses[2]} bad, {statuses[3]} failed; "
           f"the model agrees to the first two; wrong: {len(wrong)}")
     return wrong + ["a run failed"] * statuses[3]
@@ -542,7 +561,7 @@ def main():
         if sys.argv[1:2] == ["damage"]:
             wrong = damage(pool, int(sys.argv[2]))
         else:
-            wrong = rows(pool) + damage(pool, DAMAGED)
+            wrong = rows(pool) or damage(pool, DAMAGED)
     sys.exit(bool(wrong))
 
 

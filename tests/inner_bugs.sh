@@ -1,18 +1,28 @@
 #!/usr/bin/env bash
 # inner_bugs.sh [CRATE..]: tries the inner planted bugs (crates/NAME/must-fail-inner) of these crates, or of all. The prover has to refuse
 # each. They are tried in a copy of the crates, in the place of the gate's planted bugs, over the proofs that the gate kept on this machine,
-# or over new ones. If all are refused, tests/inner_bugs.txt gets a checksum of the files; tests/docs.py fails if these files change.
+# or over new ones. If all are refused, tests/inner_bugs.txt gets what was tried and over which files; tests/docs.py fails if one of these
+# changes.
+#
+# inner_bugs.sh --sample: tries those of a few crates, at least 24 bugs, chosen by the hash of the commit, and writes nothing. tests/all.sh
+# calls it, so that a record which was written by hand is found out.
 set -euo pipefail
 cd "$(dirname "$0")/.."
 source tests/lanes.sh
+record=yes
+if [ "${1:-}" = --sample ]; then
+    record=no
+    set -- $(python3 tests/inner_record.py sample "$(git rev-parse HEAD)")
+    echo "inner planted bugs of this commit's sample: $(cd crates && ls $(printf '%s/must-fail-inner/*.edit ' "$@") | tr '\n' ' ')"
+fi
 copy=$(mktemp -d)
 trap 'rm -rf "$copy"' EXIT
 git ls-files -z crates crates.txt HANDLES | xargs -0 cp --parents -t "$copy"
 [ $# -gt 0 ] || set -- $(cd crates && dirname */must-fail-inner)
-tried=$(python3 tests/inner_record.py digests "$copy" "$@")
+tried=$(python3 tests/inner_record.py lines "$copy" "$@")
 rm -r "$copy"/crates/*/must-fail
 for crate; do
     mv "$copy/crates/$crate/must-fail-inner" "$copy/crates/$crate/must-fail"
 done
 (cd "$copy" && env RT_JOBS="${RT_JOBS:-$(lanes)}" rt ci "$@")
-python3 tests/inner_record.py write <<<"$tried"
+[ "$record" = no ] || python3 tests/inner_record.py write <<<"$tried"

@@ -1,22 +1,32 @@
 """The record of tests/inner_bugs.sh: over which files the inner planted bugs (crates/NAME/must-fail-inner) were last refused.
 
-tests/inner_bugs.txt has a line for each crate: its name, and a checksum of all that its planted bugs are tried over. That is the crate's
-sources, definitions, proofs and inner planted bugs, and the sources and definitions of all libraries below it.
+tests/inner_bugs.txt begins with the kit. Then come a line for each crate, with its name and a checksum of all that its bugs are tried over
+(its sources, definitions and proofs, and the sources and definitions of all libraries below it), and a line for each bug, with its crate,
+its name and a checksum of its file. tests/planted_bugs.txt has the number of all planted bugs, those of the gate too.
 
-    inner_record.py digests FOLDER CRATE..      prints these lines for the crates of a copy of the repository
-    inner_record.py write                       puts such lines, from standard input, in the record
+    inner_record.py lines FOLDER CRATE..     prints the lines of these crates of a copy of the repository
+    inner_record.py write                    puts such lines, from standard input, in the record
+    inner_record.py sample COMMIT            prints crates that have 24 inner planted bugs or more together, chosen by a commit's hash
 """
 
 import hashlib
+import re
+import subprocess
 import sys
 from pathlib import Path
 
 ROOT = Path(__file__).resolve().parent.parent
 RECORD = ROOT / "tests/inner_bugs.txt"
+COUNT = ROOT / "tests/planted_bugs.txt"
+SAMPLE = 24
 
 
 def crates_with_bugs(root):
     return sorted(folder.parent.name for folder in root.glob("crates/*/must-fail-inner"))
+
+
+def bugs_of(root, crate):
+    return sorted((root / "crates" / crate / "must-fail-inner").glob("*.edit"))
 
 
 def crates_below(root, crate):
@@ -32,40 +42,94 @@ def crates_below(root, crate):
     return sorted(below)
 
 
+def checksum(file):
+    return hashlib.sha256(file.read_bytes()).hexdigest()
+
+
 def digest(root, crate):
-    folders = [f"{crate}/{folder}" for folder in ("must-fail-inner", "proofs", "specs", "src")]
+    folders = [f"{crate}/{folder}" for folder in ("proofs", "specs", "src")]
     folders += [f"{name}/{folder}" for name in crates_below(root, crate) for folder in ("specs", "src")]
     total = hashlib.sha256()
     for folder in folders:
         for file in sorted((root / "crates" / folder).rglob("*")):
             if file.is_file():
-                total.update(f"{file.relative_to(root)}\n{hashlib.sha256(file.read_bytes()).hexdigest()}\n".encode())
+                total.update(f"{file.relative_to(root)}\n{checksum(file)}\n".encode())
     return total.hexdigest()
 
 
+def lines_of(root, crate):
+    """What the record says of a crate whose bugs were all refused: what was tried, and over what."""
+    return {crate: digest(root, crate)} | {f"{crate}/{bug.stem}": checksum(bug) for bug in bugs_of(root, crate)}
+
+
+def kit():
+    return subprocess.run(["rt", "version"], capture_output=True, text=True, check=True).stdout.strip()
+
+
 def recorded():
+    """The kit of the record, and its other lines."""
     lines = RECORD.read_text().splitlines() if RECORD.exists() else []
-    return dict(line.split() for line in lines)
+    said = [line.removeprefix("kit ") for line in lines if line.startswith("kit ")]
+    return (said or [""])[0], dict(line.split() for line in lines if not line.startswith("kit "))
 
 
-def not_tried(root):
-    """The crates whose inner planted bugs were not refused over the files that are there now."""
-    known = recorded()
-    return [crate for crate in crates_with_bugs(root) if known.get(crate) != digest(root, crate)]
+def wrong_lines(root):
+    """What the record doesn't say of the files that are there, or says of others."""
+    said_kit, said = recorded()
+    owed = {name: line for crate in crates_with_bugs(root) for name, line in lines_of(root, crate).items()}
+    stale = sorted({name.split("/")[0] for name in owed.keys() | said.keys() if owed.get(name) != said.get(name)})
+    wrong = [f"{crate}: its inner planted bugs were not refused over its files as they are: bash tests/inner_bugs.sh {crate}" for crate in stale]
+    if said_kit != kit():
+        wrong.append(f"tests/inner_bugs.txt: the inner planted bugs were refused by another kit, {said_kit}")
+    return wrong
+
+
+def counted(text):
+    """The number of planted bugs by a count, and the bugs that went, each with its reason."""
+    return int(re.search(r"^planted (\d+)$", text, re.M).group(1)), re.findall(r"^gone (\S+): \S.*$", text, re.M)
+
+
+def wrong_count(root):
+    """The number of planted bugs never falls, in the whole history of the count; one that went has a line that says why."""
+    number, gone = counted(COUNT.read_text())
+    there = {f"{file.parent.parent.name}/{file.stem}" for file in root.glob("crates/*/must-fail*/*.edit")}
+    wrong = [f"tests/planted_bugs.txt: {name} is there" for name in gone if name in there]
+    if len(there) + len(gone) != number:
+        wrong.append(f"tests/planted_bugs.txt: {len(there)} planted bugs are there and {len(gone)} are gone, of {number}")
+    history = ["git", "-C", str(root), "log", "-p", "--format=", "--", str(COUNT.relative_to(ROOT))]
+    past = subprocess.run(history, capture_output=True, text=True, check=False).stdout
+    if number < max(map(int, re.findall(r"^\+planted (\d+)$", past, re.M)), default=0):
+        wrong.append("tests/planted_bugs.txt: the number of planted bugs has fallen")
+    return wrong
+
+
+def sample(root, commit):
+    """Crates in an order that the commit's hash gives, as many as have 24 bugs together."""
+    chosen, bugs = [], 0
+    for crate in sorted(crates_with_bugs(root), key=lambda name: hashlib.sha256(f"{commit} {name}".encode()).hexdigest()):
+        if bugs < SAMPLE:
+            chosen.append(crate)
+            bugs += len(bugs_of(root, crate))
+    return chosen
 
 
 def write(lines):
-    known = recorded() | dict(line.split() for line in lines)
-    kept = [crate for crate in crates_with_bugs(ROOT) if crate in known]
-    RECORD.write_text("".join(f"{crate} {known[crate]}\n" for crate in kept))
+    new = dict(line.split() for line in lines)
+    crates = {name.split("/")[0] for name in new}
+    kept = {name: line for name, line in recorded()[1].items() if name.split("/")[0] not in crates}
+    there = crates_with_bugs(ROOT)
+    said = sorted((name, line) for name, line in (kept | new).items() if name.split("/")[0] in there)
+    RECORD.write_text(f"kit {kit()}\n" + "".join(f"{name} {line}\n" for name, line in said))
 
 
 if __name__ == "__main__":
-    if sys.argv[1] == "digests":
-        root = Path(sys.argv[2])
+    if sys.argv[1:2] == ["lines"]:
         for crate in sys.argv[3:]:
-            print(crate, digest(root, crate))
-    elif sys.argv[1] == "write":
+            for name, line in lines_of(Path(sys.argv[2]), crate).items():
+                print(name, line)
+    elif sys.argv[1:2] == ["write"]:
         write(sys.stdin)
+    elif sys.argv[1:2] == ["sample"]:
+        print(*sample(ROOT, sys.argv[2]))
     else:
         sys.exit(__doc__)

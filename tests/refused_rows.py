@@ -40,6 +40,7 @@ EXCEPT = {
     "OnePassEngine::new": "asks for nothing",
     "OnePassEngine::starting_at": "asks for nothing",
     "SpliceEngine::new": "asks for nothing",
+    "EditRun::finish_counting": "is all that EditRun::finish does, which has rows",
     "Change::green_payload": "gives a type that no user of edit_plan can name; EditPlan::run_with calls it, and has rows",
     "read_tree": "each row reads its trees by it, and ends where that is refused",
     "run": "is the whole of the program `syned`, which tests/refuse_growths.sh runs with each allocation made to fail",
@@ -68,8 +69,17 @@ def is_called_above(crate, name):
     return any(word.search(text) for other in libraries() if other != crate for _, text in sources(other))
 
 
+def beside(tokens):
+    """A row: how many nodes a replacement in a list builds, whose other element has so many tokens."""
+    literal = "(LITERAL" + ' INT_NUMBER"2"' * tokens + ")"
+    tree = f'(ARG_LIST L_PAREN"(" (LITERAL INT_NUMBER"1") COMMA"," {literal} R_PAREN")")'
+    return f"a replacement beside {tokens} tokens: tree R {tree} ; tree U U ; new R ; replace R/1 U/0 ; plan ; built = ok 1"
+
+
 def rows():
-    """Each row of the table, with the trees that it names: those of a question stand in lines before it."""
+    """Each row of the table, with the trees that it names: those of a question stand in lines before it. And two rows that are too long for
+    a table: the untouched part of a tree has a thousand tokens, or none."""
+    yield from ((beside(tokens), []) for tokens in (0, 1000))
     trees = {}
     with open(TABLE, encoding="utf-8", newline="\n") as table:
         for line in table.read().split("\n"):
@@ -109,6 +119,8 @@ def main():
                 wrong += 1
                 said = [it for it in out.split("\n") if not it.startswith("Memory: ")]
                 print(line, *said, sep="\n    ")
+            if wrong == 20:
+                sys.exit("test_rows: twenty wrong rows, so the others were not run")
     print(f"test_rows: {ran} rows, {growths} failed allocations, each answered")
     owed, below = owed_calls()
     for name in sorted(EXCEPT.keys() - owed):

@@ -1,5 +1,6 @@
 #!/usr/bin/env bash
-# Runs the program `syned` on scripts and compares what it prints and its exit status. tests/scripts has them:
+# scripts.sh [PART..]: runs the program `syned` on scripts and compares what it prints and its exit status; all of them, or the parts that
+# are named (the last functions of this file). tests/scripts has them:
 #   *.table            scripts with their answers
 #   bad_lines.txt      lines that are bad after three good ones, each in a script of its own
 #   bad_first_lines.txt, bad_ends.txt    lines that are bad as the first one, and after `finish`
@@ -26,6 +27,16 @@ status_of() {
     esac
 }
 
+# One more is wrong. After twenty the others are not run.
+is_wrong() {
+    wrong=$((wrong + 1))
+    echo "wrong: $1"
+    if [ "$wrong" -ge 20 ]; then
+        echo "scripts: twenty wrong answers, so the others were not run"
+        exit 1
+    fi
+}
+
 # Runs the script $room/script, whose answer is to be $room/answer; $1 says which script it is.
 try() {
     local status=0 wanted
@@ -33,10 +44,9 @@ try() {
     timeout 20 "$program" <"$room/script" >"$room/out" || status=$?
     ran=$((ran + 1))
     if [ "$status" -ne "$wanted" ] || ! cmp -s "$room/answer" "$room/out"; then
-        wrong=$((wrong + 1))
-        echo "wrong: $1: status $status, $wanted is wanted; it printed, and should have printed:"
         head -c 300 "$room/out"
         head -c 300 "$room/answer"
+        is_wrong "$1: status $status, $wanted is wanted; above is what it printed, and what it should have printed"
     fi
 }
 
@@ -193,6 +203,30 @@ limits() {
     } >"$room/answer" && within_a_second 'one long text of backslashes'
 }
 
+# A list with so many elements, of which each is replaced by the first one of the tree U.
+all_replaced() {
+    printf 'tree A (ARG_LIST'
+    printf '(ATTR)%.0s' $(seq "$1")
+    printf ')\nedit R A\n'
+    for ((slot = 0; slot < $1; slot++)); do printf 'replace R/%d U/0\n' "$slot"; done
+    printf 'finish\n'
+}
+
+# Answers of some 5,000 bytes, and one that would have 2^32: 16,384 elements are replaced by one of 262,144 bytes each.
+long_answers() {
+    { printf 'tree U (SOURCE_FILE UNDERSCORE"_")\n' && all_replaced 1000; } >"$room/script"
+    {
+        printf 'text "%s"\n' "$(head -c 1000 /dev/zero | tr '\0' _)"
+        printf 'changed %s\n' "$(seq -s ' ' 0 999)"
+    } >"$room/answer" && try 'a thousand replaced elements'
+    {
+        printf 'tree U (SOURCE_FILE IDENT"'
+        head -c 262144 /dev/zero | tr '\0' a
+        printf '")\n' && all_replaced 16384
+    } >"$room/script"
+    echo 'refused TooLong' >"$room/answer" && try 'a text that gets too long'
+}
+
 # Many replacements recorded, each of another element and then each again. What carries them out is another matter, so there is no end.
 recording() {
     local many=12000
@@ -211,8 +245,7 @@ within_a_second() {
     begun=$(date +%s%N)
     try "$1"
     if [ $(($(date +%s%N) - begun)) -gt 1000000000 ]; then
-        wrong=$((wrong + 1))
-        echo "wrong: $1 takes more than a second"
+        is_wrong "$1 takes more than a second"
     fi
 }
 
@@ -221,21 +254,16 @@ ends() {
     local status=0
     printf '%s\nfinish\n' "$opening" >"$room/script"
     "$program" </ >"$room/out" 2>&1 || status=$?
-    [ "$status" -eq 3 ] && [ ! -s "$room/out" ] || { wrong=$((wrong + 1)) && echo "wrong: a folder as input: status $status"; }
+    [ "$status" -eq 3 ] && [ ! -s "$room/out" ] || is_wrong "a folder as input: status $status"
     status=0
     "$program" <"$room/script" >/dev/full 2>"$room/out" || status=$?
-    [ "$status" -eq 3 ] && [ ! -s "$room/out" ] || { wrong=$((wrong + 1)) && echo "wrong: a full output: status $status"; }
+    [ "$status" -eq 3 ] && [ ! -s "$room/out" ] || is_wrong "a full output: status $status"
     ran=$((ran + 2))
 }
 
-tables
-examples
-corpus
-lines
-ends_of_lines
-beginnings
-limits
-recording
-ends
+[ $# -gt 0 ] || set -- tables examples corpus lines ends_of_lines beginnings limits long_answers recording ends
+for part; do
+    "$part"
+done
 echo "scripts: $((ran - wrong)) of $ran answers as expected"
-[ "$wrong" -eq 0 ]
+[ "$wrong" -eq 0 ] && [ "$ran" -gt 0 ]

@@ -58,8 +58,8 @@ fn insert_gap(alloc: Global, at: &Position) -> Result<Aim> {
     Ok(Aim::After(anchor.path(alloc)?))
 }
 
-// The path with `place` in the place of its first slots.
-fn moved_path(
+/// The path with `place` in the place of its first slots.
+pub fn moved_path(
     alloc: Global,
     path: &[usize],
     first_slots: usize,

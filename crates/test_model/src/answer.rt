@@ -1,13 +1,16 @@
+use crate::edited::Edited;
+use crate::found::{Found, changed_in, noted_in};
+use crate::made::Made;
 use crate::order::Clause;
-use crate::piece::{Piece, print_tree};
-use crate::rewriter::rewrite;
+use crate::piece::Piece;
+use crate::rewriter::{Source, rewrite};
 use anyhow::Result;
-use cst_core::{GreenElementRef, GreenNode, SyntaxElement, TreeIds};
+use cst_core::{GreenNode, TreeIds};
 use std::alloc::{AllocError, Global};
 use std::fmt::{self, Display, Formatter, Write};
 use syntax_editor::{EditError, ExecuteError, Rewritten, SyntaxEdit, SyntaxEditor};
 
-/// What comes of changes: a refusal, or the new tree with the changed paths, as they are printed.
+/// What comes of changes: a refusal, or the new tree with its changed and annotated paths.
 #[derive(PartialEq, Eq, Drop)]
 pub enum Answer {
     Intersecting { first: usize, second: usize },
@@ -16,62 +19,49 @@ pub enum Answer {
     NotAllowed(Clause),
     /// A stage is not the one of the model, which never answers so.
     OtherStage(String),
-    /// The engines make other trees, or other paths. The model never answers so.
-    EnginesDiffer,
-    Made(String),
-}
-
-fn print_path(out: &mut String, path: &[usize]) -> Result<(), AllocError> {
-    out.push_str(" .")?;
-    for slot in path {
-        write!(out, "/{slot}")?;
-    }
-    Ok(())
+    Made(Made),
 }
 
 impl Answer {
     pub fn of_pieces(
         alloc: Global,
+        edited: Edited<'_>,
         pieces: &[Piece],
-        changed: &[Vec<usize>],
+        found: Found<'_>,
     ) -> Result<Answer, AllocError> {
-        let mut out = String::new(alloc);
-        print_tree(&mut out, pieces)?;
-        out.push_str(" changed")?;
-        for path in changed {
-            print_path(&mut out, path.as_slice())?;
-        }
-        Ok(Answer::Made(out))
+        Ok(Answer::Made(Made::of(alloc, edited, pieces, found)?))
     }
 
-    // This tree, with these changed paths.
+    // This tree, with these paths.
     fn of_tree(
         alloc: Global,
+        edited: Edited<'_>,
         tree: &GreenNode,
-        changed: &[Vec<usize>],
+        found: Found<'_>,
     ) -> Result<Answer, AllocError> {
-        let pieces = rewrite(alloc, GreenElementRef::Node(tree), &[], false)?;
-        Answer::of_pieces(alloc, &pieces, changed)
+        let pieces = rewrite(alloc, Source::of_green(tree), &[], false)?;
+        Answer::of_pieces(alloc, edited, &pieces, found)
     }
 
     // What was made by the editor.
-    fn of_edit(alloc: Global, edit: &SyntaxEdit) -> Result<Answer> {
-        let changed = paths_of(alloc, edit.changed_elements())?;
-        Ok(Answer::of_tree(alloc, edit.new_root().as_green(), &changed)?)
+    fn of_edit(alloc: Global, edited: Edited<'_>, edit: &SyntaxEdit) -> Result<Answer, AllocError> {
+        let noted = noted_in(alloc, &edited.words(alloc)?, edit)?;
+        let changed = changed_in(alloc, edit)?;
+        let found = Found {
+            changed: &changed,
+            noted: &noted,
+        };
+        Answer::of_tree(alloc, edited, edit.new_root().as_green(), found)
     }
 
     /// What was made by an engine.
-    pub fn of_rewritten(alloc: Global, made: &Rewritten) -> Result<Answer, AllocError> {
-        Answer::of_tree(alloc, &made.green, &made.changed)
+    pub fn of_rewritten(
+        alloc: Global,
+        edited: Edited<'_>,
+        made: &Rewritten,
+    ) -> Result<Answer, AllocError> {
+        Answer::of_tree(alloc, edited, &made.green, Found::by_engine(made))
     }
-}
-
-fn paths_of(alloc: Global, elements: &[SyntaxElement]) -> Result<Vec<Vec<usize>>, AllocError> {
-    let mut paths = Vec::new(alloc);
-    for element in elements {
-        paths.push(element.path(alloc)?)?;
-    }
-    Ok(paths)
 }
 
 impl Display for Answer {
@@ -84,21 +74,29 @@ impl Display for Answer {
             ),
             Answer::NotAllowed(clause) => f.write_str(clause.name()),
             Answer::OtherStage(difference) => f.write_str(difference),
-            Answer::EnginesDiffer => f.write_str("the engines differ"),
-            Answer::Made(text) => f.write_str(text),
+            Answer::Made(made) => f.write_str(&made.text),
         }
     }
 }
 
 /// What the editor answers.
-pub fn editor_answer(alloc: Global, ids: &mut TreeIds, editor: SyntaxEditor) -> Result<Answer> {
-    answer_of(alloc, editor.finish(alloc, ids))
+pub fn editor_answer(
+    alloc: Global,
+    ids: &mut TreeIds,
+    edited: Edited<'_>,
+    editor: SyntaxEditor,
+) -> Result<Answer> {
+    answer_of(alloc, edited, editor.finish(alloc, ids))
 }
 
 /// What a call answered that makes an edit.
-pub fn answer_of(alloc: Global, made: Result<SyntaxEdit, EditError>) -> Result<Answer> {
+pub fn answer_of(
+    alloc: Global,
+    edited: Edited<'_>,
+    made: Result<SyntaxEdit, EditError>,
+) -> Result<Answer> {
     match made {
-        Ok(edit) => Answer::of_edit(alloc, &edit),
+        Ok(edit) => Ok(Answer::of_edit(alloc, edited, &edit)?),
         Err(refusal) => answer_of_refusal(refusal),
     }
 }
@@ -125,9 +123,13 @@ fn not_allowed(refusal: ExecuteError) -> Result<Answer> {
 }
 
 // What a call answered that carries changes out in an order.
-fn answer_of_executed(alloc: Global, executed: Result<SyntaxEdit, ExecuteError>) -> Result<Answer> {
+fn answer_of_executed(
+    alloc: Global,
+    edited: Edited<'_>,
+    executed: Result<SyntaxEdit, ExecuteError>,
+) -> Result<Answer> {
     match executed {
-        Ok(edit) => Answer::of_edit(alloc, &edit),
+        Ok(edit) => Ok(Answer::of_edit(alloc, edited, &edit)?),
         Err(refusal) => not_allowed(refusal),
     }
 }
@@ -136,11 +138,12 @@ fn answer_of_executed(alloc: Global, executed: Result<SyntaxEdit, ExecuteError>)
 pub fn ordered_answer(
     alloc: Global,
     ids: &mut TreeIds,
+    edited: Edited<'_>,
     editor: SyntaxEditor,
     order: &[usize],
 ) -> Result<Answer> {
     match editor.plan(alloc) {
-        Ok(plan) => answer_of_executed(alloc, plan.execute(alloc, ids, order)),
+        Ok(plan) => answer_of_executed(alloc, edited, plan.execute(alloc, ids, order)),
         Err(refusal) => answer_of_refusal(refusal),
     }
 }

@@ -1,39 +1,28 @@
 use crate::answer::{Answer, answer_of_refusal};
+use crate::edited::Edited;
 use anyhow::Result;
-use std::alloc::{AllocError, Global};
-use syntax_editor::{EditEngine, EditPlan, OnePassEngine, Rewritten, SpliceEngine, SyntaxEditor};
+use std::alloc::Global;
+use syntax_editor::{EditEngine, EditPlan, SyntaxEditor};
 
-fn answer_of_both(
+fn made_by<E: EditEngine>(
     alloc: Global,
-    one_pass: &Rewritten,
-    spliced: &Rewritten,
-) -> Result<Answer, AllocError> {
-    if !have_same_paths(one_pass, spliced) {
-        return Ok(Answer::EnginesDiffer);
-    }
-    let answer = Answer::of_rewritten(alloc, one_pass)?;
-    if answer == Answer::of_rewritten(alloc, spliced)? {
-        Ok(answer)
-    } else {
-        Ok(Answer::EnginesDiffer)
-    }
+    edited: Edited<'_>,
+    plan: &EditPlan,
+    engine: &mut E,
+) -> Result<Answer> {
+    let made = engine.run(alloc, plan)?;
+    Ok(Answer::of_rewritten(alloc, edited, &made)?)
 }
 
-// What both engines make of a plan, if they make the same.
-fn made_by_both(alloc: Global, plan: &EditPlan) -> Result<Answer> {
-    let one_pass = OnePassEngine::new(alloc).run(alloc, plan)?;
-    let spliced = SpliceEngine::new(alloc).run(alloc, plan)?;
-    Ok(answer_of_both(alloc, &one_pass, &spliced)?)
-}
-
-fn have_same_paths(one: &Rewritten, other: &Rewritten) -> bool {
-    one.changed == other.changed && one.annotated == other.annotated
-}
-
-/// What the engines answer to what an editor has recorded.
-pub fn engines_answer(alloc: Global, editor: SyntaxEditor) -> Result<Answer> {
+/// What an engine answers to what an editor has recorded.
+pub fn engine_answer<E: EditEngine>(
+    alloc: Global,
+    edited: Edited<'_>,
+    editor: SyntaxEditor,
+    engine: &mut E,
+) -> Result<Answer> {
     match editor.plan(alloc) {
-        Ok(plan) => made_by_both(alloc, &plan),
+        Ok(plan) => made_by(alloc, edited, &plan, engine),
         Err(refusal) => answer_of_refusal(refusal),
     }
 }

@@ -3,7 +3,7 @@
 use crate::fate::Fate;
 use crate::piece::{Piece, share_pieces};
 use crate::planned::Planned;
-use crate::rewriter::{Brought, rewrite};
+use crate::rewriter::{Brought, Source, rewrite};
 use cst_core::SyntaxElement;
 use std::alloc::{AllocError, Global};
 use syntax_editor::Change;
@@ -17,7 +17,7 @@ fn push_rewritten(
     element: &SyntaxElement,
     is_brought: bool,
 ) -> Result<(), AllocError> {
-    let pieces = rewrite(alloc, element.as_green(), &[], is_brought)?;
+    let pieces = rewrite(alloc, Source::of(element), &[], is_brought)?;
     share_pieces(alloc, out, &pieces)
 }
 
@@ -42,11 +42,11 @@ fn payload(
     is_brought: bool,
 ) -> Result<Vec<Piece>, AllocError> {
     match change {
-        Change::Insert(_, element) => rewrite(alloc, element.as_green(), brought, is_brought),
+        Change::Insert(_, element) => rewrite(alloc, Source::of(element), brought, is_brought),
         Change::InsertAll(_, list) => pieces_of(alloc, list.as_slice(), is_brought),
         Change::Replace(_, Some(element)) => rewrite(
             alloc,
-            element.as_green(),
+            Source::of(element),
             brought,
             is_brought,
         ),

@@ -1,25 +1,44 @@
+use crate::address::Address;
 use cst_core::{GreenToken, SyntaxKind};
 use std::alloc::{AllocError, Global};
 
 /// A tree is the list of its pieces: a token is one, and a node opens, holds the pieces of its children, and closes.
 ///
-/// An element is brought where a change without an owner brought it; all others are of the old tree, or came with a change that
+/// Each element is copied from one of another tree, or of the old one. It is brought where a change without an owner brought it; all others are of the old tree, or came with a change that
 /// moved.
 #[derive(Drop)]
 pub enum Piece {
-    Open { kind: SyntaxKind, is_brought: bool },
-    Token { token: GreenToken, is_brought: bool },
+    Open {
+        kind: SyntaxKind,
+        is_brought: bool,
+        from: Address,
+    },
+    Token {
+        token: GreenToken,
+        is_brought: bool,
+        from: Address,
+    },
     Close,
 }
 
 impl Piece {
     fn share(&self, alloc: Global) -> Result<Piece, AllocError> {
         match self {
-            Piece::Open { kind, is_brought } => Ok(Piece::Open {
+            Piece::Open {
+                kind,
+                is_brought,
+                from,
+            } => Ok(Piece::Open {
                 kind: *kind,
                 is_brought: *is_brought,
+                from: from.share(alloc)?,
             }),
-            Piece::Token { token, is_brought } => Ok(Piece::Token {
+            Piece::Token {
+                token,
+                is_brought,
+                from,
+            } => Ok(Piece::Token {
+                from: from.share(alloc)?,
                 token: token.share(alloc)?,
                 is_brought: *is_brought,
             }),

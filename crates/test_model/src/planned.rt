@@ -21,7 +21,8 @@ pub fn plan<'a>(alloc: Global, changes: &'a [Change]) -> Result<Vec<Planned<'a>>
     Ok(planned)
 }
 
-fn starts_with(path: &[usize], start: &[usize]) -> bool {
+/// Whether this path begins with all slots of another one.
+pub fn starts_with(path: &[usize], start: &[usize]) -> bool {
     start.len() <= path.len() && path.iter().zip(start.iter()).all(|(a, b)| *a == *b)
 }
 

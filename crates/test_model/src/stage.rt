@@ -6,8 +6,8 @@ use crate::given::payloads;
 use crate::model::tree_of;
 use crate::order::is_done;
 use crate::piece::{Piece, print_tree};
-use crate::rewriter::rewrite;
-use cst_core::{GreenElementRef, GreenNode, SyntaxNode};
+use crate::rewriter::{Source, rewrite};
+use cst_core::{GreenNode, SyntaxNode};
 use std::alloc::{AllocError, Global};
 
 /// A stage, as it is printed.
@@ -39,7 +39,7 @@ fn text_of(alloc: Global, pieces: &[Piece]) -> Result<String, AllocError> {
 
 /// A shared tree, printed as the trees of stages are.
 pub fn printed_green(alloc: Global, node: &GreenNode) -> Result<String, AllocError> {
-    let pieces = rewrite(alloc, GreenElementRef::Node(node), &[], false)?;
+    let pieces = rewrite(alloc, Source::of_green(node), &[], false)?;
     text_of(alloc, &pieces)
 }
 

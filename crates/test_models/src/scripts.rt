@@ -1,19 +1,33 @@
 //! Asks the editor and a plain model what comes of the changes of a script of `syned`: all at once, one at a time, by each engine, and in
 //! the order of the script where it says one.
 
+mod compared;
+
+use crate::scripts::compared::Compared;
 use anyhow::{Context, Result};
+use cst_core::SyntaxNode;
 use std::alloc::Global;
-use syned_script::{Recorded, record_script};
-use test_model::{Answers, answers_to, engines_answers, ordered_answers, stepped_answers};
+use syned_script::{Recorded, Told, record_script};
+use syntax_editor::{EditEngine, OnePassEngine, SpliceEngine};
+use test_model::{Answers, Edited, answers_to, engine_answers, ordered_answers, stepped_answers};
+
+fn edited<'a>(root: &'a SyntaxNode, told: &'a Told) -> Edited<'a> {
+    Edited {
+        root,
+        notes: told.notes.as_slice(),
+        copies: told.copies.as_slice(),
+    }
+}
 
 fn at_once(alloc: Global, recorded: Recorded) -> Result<Answers> {
     let Recorded {
         root,
         editor,
         mut ids,
+        told,
         ..
     } = recorded;
-    answers_to(alloc, &mut ids, &root, editor)
+    answers_to(alloc, &mut ids, edited(&root, &told), editor)
 }
 
 // One change at a time; both have recorded the same.
@@ -22,14 +36,20 @@ fn one_at_a_time(alloc: Global, recorded: Recorded, same: Recorded) -> Result<An
         root,
         editor,
         mut ids,
+        told,
         ..
     } = recorded;
-    stepped_answers(alloc, &mut ids, &root, editor, same.editor)
+    stepped_answers(alloc, &mut ids, edited(&root, &told), editor, same.editor)
 }
 
-fn by_engines(alloc: Global, recorded: Recorded) -> Result<Answers> {
-    let Recorded { root, editor, .. } = recorded;
-    engines_answers(alloc, &root, editor)
+fn by_engine<E: EditEngine>(alloc: Global, recorded: Recorded, engine: &mut E) -> Result<Answers> {
+    let Recorded {
+        root,
+        editor,
+        told,
+        ..
+    } = recorded;
+    engine_answers(alloc, edited(&root, &told), editor, engine)
 }
 
 // In the order of the script, where it says one.
@@ -39,9 +59,16 @@ fn in_order(alloc: Global, recorded: Recorded) -> Result<Option<Answers>> {
         editor,
         order,
         mut ids,
+        told,
     } = recorded;
     match order {
-        Some(order) => Ok(Some(ordered_answers(alloc, &mut ids, &root, editor, &order)?)),
+        Some(order) => Ok(Some(ordered_answers(
+            alloc,
+            &mut ids,
+            edited(&root, &told),
+            editor,
+            &order,
+        )?)),
         None => Ok(None),
     }
 }
@@ -56,39 +83,74 @@ fn stepped_again(alloc: Global, script: &str) -> Result<Answers> {
     one_at_a_time(alloc, recorded, again(alloc, script)?)
 }
 
-// Prints the answers if they differ, and says whether they agree.
-fn agree_how<R: Print>(rt: &R, how: &str, answers: &Answers) -> Result<bool> {
-    if !answers.agree() {
-        println!(rt; "{how}: {}, but {}", answers.editor, answers.model)?;
-    }
-    Ok(answers.agree())
+fn agree_stepped<R: Print>(
+    rt: &R,
+    alloc: Global,
+    script: &str,
+    compared: &mut Compared,
+) -> Result<bool> {
+    compared.agree_how(rt, "one at a time", &stepped_again(alloc, script)?)
 }
 
-fn agree_in_order<R: Print>(rt: &R, answers: Option<Answers>) -> Result<bool> {
-    match answers {
-        Some(answers) => agree_how(rt, "in the order", &answers),
+fn agree_by_engine<R: Print, E: EditEngine>(
+    rt: &R,
+    alloc: Global,
+    script: &str,
+    how: &str,
+    engine: &mut E,
+    compared: &mut Compared,
+) -> Result<bool> {
+    let answers = by_engine(alloc, again(alloc, script)?, engine)?;
+    compared.agree_how(rt, how, &answers)
+}
+
+fn agree_by_engines<R: Print>(
+    rt: &R,
+    alloc: Global,
+    script: &str,
+    compared: &mut Compared,
+) -> Result<bool> {
+    let one_pass = &mut OnePassEngine::new(alloc);
+    if !agree_by_engine(rt, alloc, script, "in one pass", one_pass, compared)? {
+        return Ok(false);
+    }
+    let splices = &mut SpliceEngine::new(alloc);
+    agree_by_engine(rt, alloc, script, "by splices", splices, compared)
+}
+
+fn agree_in_order<R: Print>(
+    rt: &R,
+    alloc: Global,
+    script: &str,
+    compared: &mut Compared,
+) -> Result<bool> {
+    match in_order(alloc, again(alloc, script)?)? {
+        Some(answers) => compared.agree_how(rt, "in the order", &answers),
         None => Ok(true),
     }
 }
 
 // Asks in every way, up to one in which they differ.
-fn all_agree<R: Print>(rt: &R, alloc: Global, script: &str, at_once: &Answers) -> Result<bool> {
+fn all_agree<R: Print>(
+    rt: &R,
+    alloc: Global,
+    script: &str,
+    at_once: &Answers,
+    compared: &mut Compared,
+) -> Result<bool> {
     Ok(
-        agree_how(rt, "at once", at_once)?
-            && agree_how(rt, "one at a time", &stepped_again(alloc, script)?)?
-            && agree_how(
-                rt,
-                "by the engines",
-                &by_engines(alloc, again(alloc, script)?)?,
-            )?
-            && agree_in_order(rt, in_order(alloc, again(alloc, script)?)?)?,
+        compared.agree_how(rt, "at once", at_once)?
+            && agree_stepped(rt, alloc, script, compared)?
+            && agree_by_engines(rt, alloc, script, compared)?
+            && agree_in_order(rt, alloc, script, compared)?,
     )
 }
 
 fn compare<R: Print>(rt: &R, alloc: Global, script: &str, answers: &Answers) -> Result<bool> {
-    let agree = all_agree(rt, alloc, script, answers)?;
+    let mut compared = Compared::new();
+    let agree = all_agree(rt, alloc, script, answers, &mut compared)?;
     if agree {
-        println!(rt; "both: {}", answers.model)?;
+        println!(rt; "both: {}{}", answers.model, compared)?;
     }
     Ok(agree)
 }

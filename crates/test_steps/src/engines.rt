@@ -3,13 +3,16 @@
 use crate::answers::{number_answer, refusal_text};
 use crate::edits::keep_edit;
 use crate::session::Session;
-use cst_core::{GreenNode, SyntaxNode, TreeIds, same_shape};
+use cst_core::{GreenElement, GreenNode, SyntaxNode, TreeIds, same_shape};
 use std::alloc::{AllocError, Global};
 use syntax_editor::{EditEngine, EditPlan, EngineError, OnePassEngine, Rewritten, SpliceEngine};
 use test_trees::{NoAnswer, Words, number_of, word};
 
 // Trees with texts up to this length are compared whole, longer ones by their lengths alone.
 const COMPARED: u64 = 100_000;
+
+// More elements than a tree of that length has in any row.
+const ELEMENTS: u32 = 1_000_000;
 
 /// What the step of this name answers, if it is one of these.
 pub fn answer(
@@ -110,8 +113,12 @@ fn spliced_too_long(alloc: Global, plan: &EditPlan) -> Made {
 }
 
 fn are_same(alloc: Global, one: &Rewritten, other: &Rewritten) -> Result<bool, NoAnswer> {
-    let have_paths = one.changed == other.changed && one.annotated == other.annotated;
-    Ok(have_paths && are_same_trees(alloc, &one.green, &other.green)?)
+    Ok(is_one_walk_repeated(one, other) && are_same_trees(alloc, &one.green, &other.green)?)
+}
+
+// Whether the walk that gives both engines their paths gave the same twice. It says nothing of which paths are right.
+fn is_one_walk_repeated(one: &Rewritten, other: &Rewritten) -> bool {
+    one.changed == other.changed && one.annotated == other.annotated
 }
 
 // Long trees by their lengths alone.
@@ -119,26 +126,78 @@ fn are_same_trees(alloc: Global, one: &GreenNode, other: &GreenNode) -> Result<b
     if one.length() > COMPARED || other.length() > COMPARED {
         return Ok(one.length() == other.length());
     }
+    Ok(have_same_shapes(alloc, one, other)? && have_same_tokens(alloc, one, other)?)
+}
+
+fn have_same_shapes(alloc: Global, one: &GreenNode, other: &GreenNode) -> Result<bool, NoAnswer> {
     let one = root_of(alloc, one)?;
-    is_same_root(alloc, &one, other)
+    is_shape_of(alloc, &one, other)
 }
 
-fn is_same_root(alloc: Global, one: &SyntaxNode, other: &GreenNode) -> Result<bool, NoAnswer> {
+fn is_shape_of(alloc: Global, one: &SyntaxNode, other: &GreenNode) -> Result<bool, NoAnswer> {
     let other = root_of(alloc, other)?;
-    Ok(same_shape(one, &other) && have_same_text(alloc, one, &other)?)
-}
-
-fn have_same_text(alloc: Global, one: &SyntaxNode, other: &SyntaxNode) -> Result<bool, AllocError> {
-    let text = one.text(alloc)?;
-    is_text_of(alloc, &text, other)
-}
-
-fn is_text_of(alloc: Global, text: &str, node: &SyntaxNode) -> Result<bool, AllocError> {
-    Ok(node.text(alloc)?.as_str() == text)
+    Ok(same_shape(one, &other))
 }
 
 // A root of this tree, in a numbering of its own.
 fn root_of(alloc: Global, green: &GreenNode) -> Result<SyntaxNode, NoAnswer> {
     let green = green.share(alloc)?;
     Ok(SyntaxNode::new_root(alloc, &mut TreeIds::new(1), green)?)
+}
+
+fn have_same_tokens(alloc: Global, one: &GreenNode, other: &GreenNode) -> Result<bool, NoAnswer> {
+    let texts = token_texts(alloc, one)?;
+    are_texts_of(alloc, &texts, other)
+}
+
+fn are_texts_of(alloc: Global, texts: &str, tree: &GreenNode) -> Result<bool, NoAnswer> {
+    Ok(token_texts(alloc, tree)?.as_str() == texts)
+}
+
+// The texts of a tree's tokens one by one, each after its length, so that no other texts are written alike.
+fn token_texts(alloc: Global, tree: &GreenNode) -> Result<String, NoAnswer> {
+    let mut texts = String::new(alloc);
+    push_texts(alloc, &mut texts, tree)?;
+    Ok(texts)
+}
+
+fn push_texts(alloc: Global, texts: &mut String, tree: &GreenNode) -> Result<(), NoAnswer> {
+    let mut left = Vec::new(alloc);
+    left.push(GreenElement::Node(tree.share(alloc)?))?;
+    for _ in 0..ELEMENTS {
+        let Some(next) = left.pop() else {
+            return Ok(());
+        };
+        push_next(alloc, texts, &mut left, &next)?;
+    }
+    Err(NoAnswer::Missing("a tree has too many elements"))
+}
+
+fn push_next(
+    alloc: Global,
+    texts: &mut String,
+    left: &mut Vec<GreenElement>,
+    next: &GreenElement,
+) -> Result<(), AllocError> {
+    match next {
+        GreenElement::Token(token) => push_text(texts, token.text()),
+        GreenElement::Node(node) => push_children(alloc, left, node),
+    }
+}
+
+fn push_text(texts: &mut String, text: &str) -> Result<(), AllocError> {
+    let length = text.len();
+    write!(texts, "{length}:{text}")
+}
+
+// The first one on top.
+fn push_children(
+    alloc: Global,
+    left: &mut Vec<GreenElement>,
+    node: &GreenNode,
+) -> Result<(), AllocError> {
+    for child in node.children().iter().rev() {
+        left.push(child.share(alloc)?)?;
+    }
+    Ok(())
 }

@@ -179,5 +179,5 @@ fn removed_with_separator(
         return Err(NoAnswer::Arguments);
     };
     let element = session.trees.element(alloc, element)?;
-    ok_or_refusal(alloc, remove_separated(editor, alloc, &element, separator))
+    ok_or_refusal(alloc, remove_separated(alloc, editor, &element, separator))
 }

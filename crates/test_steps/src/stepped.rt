@@ -74,6 +74,7 @@ impl<'a> Stepped<'a> {
             "ready" => self.push_ready(),
             "builds" => self.push_builds(),
             "complete" => self.push_complete(),
+            "plan" => self.push_plan(),
             _ => self.take_numbered(word),
         }
     }
@@ -129,6 +130,12 @@ impl<'a> Stepped<'a> {
     fn push_complete(&mut self) -> Result<(), NoAnswer> {
         let complete = self.run.is_complete();
         self.push(if complete { "true" } else { "false" })
+    }
+
+    // How many changes its plan has.
+    fn push_plan(&mut self) -> Result<(), NoAnswer> {
+        let changes = self.run.plan().len();
+        Ok(write!(self.answer, " {changes}")?)
     }
 
     fn push_tree(&mut self) -> Result<(), NoAnswer> {

@@ -5,7 +5,7 @@ use anyhow::{Context, Result};
 use cst_core::TreeIds;
 use std::alloc::Global;
 use syntax_editor::{SyntaxEditor, SyntaxMapping};
-use test_model::{Answers, answers_to, stepped_answers};
+use test_model::{Answers, Edited, answers_to, stepped_answers};
 
 /// A change with its number.
 #[derive(Clone, Copy)]
@@ -73,6 +73,10 @@ impl<'a> Trial<'a> {
         self.scenario
     }
 
+    fn edited(self) -> Edited<'a> {
+        Edited::without_notes(&self.trees.root)
+    }
+
     // An editor of the tree.
     fn editor(self, ids: &mut TreeIds) -> Result<SyntaxEditor> {
         let root = self.trees.root.try_clone(self.alloc)?;
@@ -121,13 +125,13 @@ impl<'a> Trial<'a> {
 
     fn at_once(self, ids: &mut TreeIds, pair: Pair<'_>) -> Result<Answers> {
         let editor = self.editor_with(ids, pair)?;
-        answers_to(self.alloc, ids, &self.trees.root, editor)
+        answers_to(self.alloc, ids, self.edited(), editor)
     }
 
     fn one_at_a_time(self, ids: &mut TreeIds, pair: Pair<'_>) -> Result<Answers> {
         let editor = self.editor_with(ids, pair)?;
         let same = self.editor_with(ids, pair)?;
-        stepped_answers(self.alloc, ids, &self.trees.root, editor, same)
+        stepped_answers(self.alloc, ids, self.edited(), editor, same)
     }
 
     /// What comes of a pair.
