@@ -1,8 +1,8 @@
 #!/usr/bin/env bash
 # inner_bugs.sh [CRATE..]: tries the inner planted bugs (crates/NAME/must-fail-inner) of these crates, or of all. The prover has to refuse
-# each. They are tried in a copy of the crates, in the place of the gate's planted bugs, over the proofs that the gate kept on this machine,
-# or over new ones. If all are refused, tests/inner_bugs.txt gets what was tried and over which files; tests/docs.py fails if one of these
-# changes.
+# each. They are tried in a copy of these crates and of those below, in the place of the gate's planted bugs, over the proofs that the gate
+# kept on this machine, or over new ones. If all are refused, tests/inner_bugs.txt gets what was tried and over which files; tests/docs.py
+# fails if one of these changes.
 #
 # inner_bugs.sh --sample: tries those of a few crates, at least 24 bugs, chosen by the hash of the commit, and writes nothing. tests/all.sh
 # calls it, so that a record which was written by hand is found out.
@@ -17,12 +17,14 @@ if [ "${1:-}" = --sample ]; then
 fi
 copy=$(mktemp -d)
 trap 'rm -rf "$copy"' EXIT
-git ls-files -z crates crates.txt HANDLES | xargs -0 cp --parents -t "$copy"
 [ $# -gt 0 ] || set -- $(cd crates && dirname */must-fail-inner)
+needed=$(python3 tests/inner_record.py needed "$@")
+git ls-files -z HANDLES $(printf 'crates/%s ' $needed) | xargs -0 cp --parents -t "$copy"
+grep -E "^(${needed// /|}):" crates.txt >"$copy/crates.txt"
 tried=$(python3 tests/inner_record.py lines "$copy" "$@")
-rm -r "$copy"/crates/*/must-fail
+rm -rf "$copy"/crates/*/must-fail
 for crate; do
     mv "$copy/crates/$crate/must-fail-inner" "$copy/crates/$crate/must-fail"
 done
-(cd "$copy" && env RT_JOBS="${RT_JOBS:-$(lanes)}" rt ci "$@")
+(cd "$copy" && env RT_JOBS="${RT_JOBS:-$(lanes)}" rt ci)
 [ "$record" = no ] || python3 tests/inner_record.py write <<<"$tried"

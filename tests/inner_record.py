@@ -6,6 +6,7 @@ its name and a checksum of its file. tests/planted_bugs.txt has the number of al
 
     inner_record.py lines FOLDER CRATE..     prints the lines of these crates of a copy of the repository
     inner_record.py write                    puts such lines, from standard input, in the record
+    inner_record.py needed CRATE..           prints these crates and all libraries below them
     inner_record.py sample COMMIT            prints crates that have 24 inner planted bugs or more together, chosen by a commit's hash
 """
 
@@ -129,6 +130,8 @@ if __name__ == "__main__":
                 print(name, line)
     elif sys.argv[1:2] == ["write"]:
         write(sys.stdin)
+    elif sys.argv[1:2] == ["needed"]:
+        print(*sorted(set(sys.argv[2:]).union(*(crates_below(ROOT, crate) for crate in sys.argv[2:]))))
     elif sys.argv[1:2] == ["sample"]:
         print(*sample(ROOT, sys.argv[2]))
     else:
