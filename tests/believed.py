@@ -4,8 +4,9 @@
     believed.py          how many lines they have, by crate; which of them are in inner/, and what stands outside inner/ and is not reached
     believed.py NAME     which definitions lead from a public clause to this one
 
-A public clause is a clause of a call that a user can name, of a law, or of a trait; so are the views of public types, but not their
-invariants, which a caller need not believe. Imports, comments and the table of the kinds' names don't count."""
+A public clause is a clause of a call that a user can name, of a law, or of a trait; so are the views of public types. What is proved of a
+type needs no belief: its invariant, that its size decreases, and the code by which it is a model's value, whose two ways are proved inverse.
+Imports, comments and the table of the kinds' names don't count."""
 
 import re
 import sys
@@ -16,7 +17,7 @@ import public_calls
 ROOT = Path(__file__).resolve().parent.parent
 WORD = re.compile(r"[^\s(){}\[\],;.]+")
 START = re.compile(r"^(\s*)(?:abbrev |unfoldable )?(?:pub )?(?:(record|data) )?([^\s(){}:]+)(?: [^=]*)? :(?: |$)")
-TABLE = {"kind_names"}
+TABLE = {"named_kinds"}
 
 
 class Definition:
@@ -137,7 +138,7 @@ def public_texts():
                 head = block.split("{")[0]
                 if not names & set(re.findall(r"\w+", head)):
                     continue
-                for ghost in re.findall(r"^    ghost (?!use |invariant|laws|respects_eq)([^;]*);", block, re.M):
+                for ghost in re.findall(r"^    ghost (?!use |invariant|laws|respects_eq|coded|size)([^;]*);", block, re.M):
                     yield ghost, uses
 
 

@@ -6,7 +6,7 @@ use Rattle.green_tree.specs.Path.{Path, counted_from}
 use Rattle.green_tree.specs.Tree.{Tree, Forest, SyntaxTree, at, children, trees, is_token}
 use Rattle.green_tree.specs.Tree as tree
 use Rattle.green_tree.specs.Order.{node_paths}
-use Rattle.green_tree.specs.Green.{size, forest_size}
+use Rattle.green_tree.specs.inner.TreeSize.{size, forest_size}
 use Rattle.cst_core.specs.Element.{Element, subtree, below}
 use Rattle.cst_core.specs.SyntaxElement.{syntax_as, syntax_of, node_of, child_nodes, descendants_of}
 use Rattle.cst_core.specs.declared.element.SyntaxElement.{SyntaxElement}

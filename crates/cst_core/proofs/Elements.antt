@@ -6,7 +6,7 @@ use Rattle.std.proofs.lemmas.Option.{slice_get-get_or}
 use Rattle.green_tree.specs.Path.{Path, counted_from}
 use Rattle.green_tree.specs.Tree.{Forest, SyntaxTree, at, children, trees, paths, paths_from}
 use Rattle.green_tree.specs.Tree as tree
-use Rattle.green_tree.specs.Green.{size, forest_size}
+use Rattle.green_tree.specs.inner.TreeSize.{size, forest_size}
 use Rattle.cst_core.specs.Element.{Element, subtree, below}
 use Rattle.cst_core.specs.SyntaxElement.{syntax_as, syntax_of, element_of, child_elements}
 use Rattle.cst_core.specs.Navigation.{elements_of}

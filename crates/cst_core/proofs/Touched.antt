@@ -5,8 +5,9 @@ use Rattle.green_tree.specs.Path.{Path, last_item}
 use Rattle.green_tree.specs.Tree.{SyntaxTree, Forest, at, children, trees, paths, paths_from}
 use Rattle.green_tree.specs.Tree as tree
 use Rattle.green_tree.specs.Order.{start, token_paths}
-use Rattle.green_tree.specs.Offsets as green
-use Rattle.green_tree.specs.Offsets.{touches, covers, covering}
+use Rattle.green_tree.specs.inner.TokensByOffset as green
+use Rattle.green_tree.specs.Offsets.{touches, covers}
+use Rattle.green_tree.specs.inner.TokensByOffset.{covering}
 use Rattle.green_tree.specs.Green.{leaf_tree}
 use Rattle.green_tree.specs.inner.FoundToken.{reached, reached_below}
 use Rattle.green_tree.specs.declared.tokens.FoundToken.{FoundToken}

@@ -2,18 +2,15 @@
 --     Address                          a tree's number and a path in it
 --     Element                          a value that stands for an element: the number, the whole tree, the path
 --     address, subtree                 its address, and the tree that it stands for
---     address_path                     an address as the path in a table of trees: the number first, then the slots
 --     same_address, same_element       equal numbers and paths
 --     IsElement, IsNode, IsToken       the path leads to an element; to a node; to a token
 --     IsChild                          the second is a child of the first
 --     element_at, below                the value of the same tree at a path; at a path that is counted from the element
 --     root_of, parent_of               the root of its tree; its parent, which a root has none of
 --     NumbersTell                      elements of equal tree numbers are of equal trees
---     element_code                     its code, as a model's value
-use Rattle.std.specs.Prelude.{◌≡◌, ◌≢◌, ℕ, AllPairs, Bool, true, false, ◌&&◌, List, [], ◌∷◌, ◌++◌, unwrap_or, nat_eq, Option, Some, None, option_map, IsSome, refl}
-use Rattle.std.specs.Coded.{Coded, code_by, coded_ℕ, coded_list, coded×}
+use Rattle.std.specs.Prelude.{◌≡◌, ◌≢◌, ℕ, AllPairs, Bool, true, false, ◌&&◌, List, [], ◌∷◌, ◌++◌, unwrap_or, nat_eq, Option, Some, None, option_map, IsSome}
 use Rattle.green_tree.specs.Path.{Path, same_path, parent_path}
-use Rattle.green_tree.specs.Tree.{Token, SyntaxTree, at, is_token, tree_code}
+use Rattle.green_tree.specs.Tree.{Token, SyntaxTree, at, is_token}
 
 pub record Address : Type 0 where
   pub number : ℕ
@@ -26,9 +23,6 @@ pub record Element : Type 0 where
 
 abbrev pub address : Element → Address
 address e = record { number = e.number; path = e.path }
-
-abbrev pub address_path : Address → Path
-address_path a = a.number ∷ a.path
 
 abbrev pub same_address : Address → Address → Bool
 same_address a b = nat_eq a.number b.number && same_path a.path b.path
@@ -70,7 +64,3 @@ IsChild parent e = (e.number ≡ parent.number) × (e.path ≢ []) × (parent_pa
 
 abbrev pub NumbersTell : List Element → Type 0
 NumbersTell es = AllPairs (λ e f. e.number ≡ f.number → e.root ≡ f.root) es
-
-abbrev pub element_code : Coded Element
-element_code =
-    code_by (ℕ × (SyntaxTree × List ℕ)) (coded× coded_ℕ (coded× (tree_code coded_ℕ) (coded_list coded_ℕ))) (λ e. (e.number, (e.root, e.path))) (λ p. record { number = p.0; root = p.1.0; path = p.1.1 }) (λ _. refl)

@@ -11,7 +11,6 @@ pub use Rattle.green_tree.specs.GreenElement
 pub use Rattle.green_tree.specs.GreenElementRef
 pub mod TreeIds
 pub mod Element
-pub mod InTree
 pub mod SyntaxElement
 pub mod Navigation
 pub mod Debug

@@ -1,2 +1,4 @@
 -- What private calls cite: no contract that a user calls by names any of it.
 pub mod ChildSlots
+pub mod InTree
+pub mod ElementCode

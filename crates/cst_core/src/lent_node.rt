@@ -22,8 +22,9 @@ pub(crate) struct LentNode<'a> {
 
 impl<'a> Model for LentNode<'a> {
     ghost use Rattle.green_tree.specs.Green.{branch_tree};
-    ghost use Rattle.cst_core.specs.Element.{Element, element_at, element_code};
-    ghost use Rattle.cst_core.specs.InTree.{IsInTreeAs};
+    ghost use Rattle.cst_core.specs.Element.{Element, element_at};
+    ghost use Rattle.cst_core.specs.inner.ElementCode.{element_code};
+    ghost use Rattle.cst_core.specs.inner.InTree.{IsInTreeAs};
 
     ghost Value = { Element };
 

@@ -32,8 +32,9 @@ pub(crate) struct Location {
 
 impl Model for Location {
     ghost use Rattle.green_tree.specs.Green.{branch_tree};
-    ghost use Rattle.cst_core.specs.Element.{Element, element_code};
-    ghost use Rattle.cst_core.specs.InTree.{IsInTree};
+    ghost use Rattle.cst_core.specs.Element.{Element};
+    ghost use Rattle.cst_core.specs.inner.ElementCode.{element_code};
+    ghost use Rattle.cst_core.specs.inner.InTree.{IsInTree};
 
     ghost Value = { Element };
 

@@ -28,8 +28,9 @@ pub struct SyntaxNode {
 
 impl Model for SyntaxNode {
     ghost use Rattle.green_tree.specs.Green.{branch_tree};
-    ghost use Rattle.cst_core.specs.Element.{Element, element_code};
-    ghost use Rattle.cst_core.specs.InTree.{IsInTreeAs};
+    ghost use Rattle.cst_core.specs.Element.{Element};
+    ghost use Rattle.cst_core.specs.inner.ElementCode.{element_code};
+    ghost use Rattle.cst_core.specs.inner.InTree.{IsInTreeAs};
 
     ghost Value = { Element };
 

@@ -30,8 +30,9 @@ pub struct SyntaxToken {
 
 impl Model for SyntaxToken {
     ghost use Rattle.green_tree.specs.Green.{leaf_tree};
-    ghost use Rattle.cst_core.specs.Element.{Element, element_code};
-    ghost use Rattle.cst_core.specs.InTree.{IsInTreeAs};
+    ghost use Rattle.cst_core.specs.Element.{Element};
+    ghost use Rattle.cst_core.specs.inner.ElementCode.{element_code};
+    ghost use Rattle.cst_core.specs.inner.InTree.{IsInTreeAs};
 
     ghost Value = { Element };
 

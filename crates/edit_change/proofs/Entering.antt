@@ -9,7 +9,7 @@ use Rattle.std.proofs.lemmas.Bool.{cases_Bool}
 use mathlib.Core.Logic.{inl, inr}
 use Rattle.cst_core.specs.Path.{Path, same_path, has_path, parent_path, last_slot, counted_from}
 use Rattle.cst_core.proofs.LastSlot.{last_slot-push}
-use Rattle.path_table.specs.PathTable.{cell_below, next_cell, cell_at, number_in, number_by_path, SameNumbers, IsPut, IsGrown}
+use Rattle.path_table.specs.inner.PathTable.{cell_below, next_cell, cell_at, number_in, number_by_path, SameNumbers, IsPut, IsGrown}
 use Rattle.path_table.specs.declared.table.PathTable.{PathTable}
 use Rattle.path_table.proofs.PathTables.{cell-push}
 use Rattle.edit_change.specs.inner.TargetIndex.{number_at, IsEntered, lesser, least}

@@ -5,7 +5,8 @@
 use Rattle.std.specs.Prelude.{◌≡◌, ◌⊎◌, refl}
 use Rattle.std.specs.Coded.{Coded, code_by, coded⊎}
 use mathlib.Core.Logic.{inl, inr}
-use Rattle.cst_core.specs.Element.{Element, element_code}
+use Rattle.cst_core.specs.Element.{Element}
+use Rattle.cst_core.specs.inner.ElementCode.{element_code}
 use Rattle.cst_core.specs.declared.element.SyntaxElement.{SyntaxElement}
 use Rattle.edit_change.specs.Codes.{syntax_element_code}
 

@@ -1,6 +1,6 @@
 ghost use Rattle.std.specs.Prelude.{◌≡◌, ◌≤◌, ◌++◌, ◌∷◌, [], Some, None, OnOk, IfOk, IfErr};
 ghost use Rattle.cst_core.specs.Path.{Path, siblings};
-ghost use Rattle.path_table.specs.PathTable.{cell_at, size, IsTree};
+ghost use Rattle.path_table.specs.inner.PathTable.{cell_at, size, IsTree};
 ghost use Rattle.edit_change.specs.Change.{targets};
 ghost use Rattle.edit_change.specs.inner.TargetIndex.{number_at, IsEntered, lesser, least, IsIndex};
 ghost use Rattle.edit_change.specs.Nesting.{first_clash};

@@ -16,7 +16,7 @@ use Rattle.cst_core.specs.Tree.{SyntaxTree, Node, Token, children, at, is_token}
 use Rattle.cst_core.specs.Element.{Address, Element, address, element_at, root_of, IsNode}
 use Rattle.cst_core.specs.SyntaxElement.{syntax_at, syntax_as}
 use Rattle.cst_core.specs.declared.element.SyntaxElement.TheVariants as variants
-use Rattle.path_table.specs.PathTable.{number_by_path, SameNumbers, IsPut}
+use Rattle.path_table.specs.inner.PathTable.{number_by_path, SameNumbers, IsPut}
 use Rattle.path_table.specs.declared.table.PathTable.{PathTable}
 use Rattle.edit_map.specs.Mapping.{Mapping, copy}
 use Rattle.edit_map.specs.Builder.{IsMadeOf}

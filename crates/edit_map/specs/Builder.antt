@@ -15,7 +15,8 @@ use Rattle.std.specs.Prelude.{◌≡◌, ◌≢◌, ◌<◌, ◌≤◌, List, �
 use Rattle.std.specs.List.{zip}
 use Rattle.std.specs.Coded.{Coded, code_by, coded_list, coded×}
 use Rattle.cst_core.specs.Tree.{SameShape}
-use Rattle.cst_core.specs.Element.{Address, Element, address, IsChild, IsNode, subtree, element_code}
+use Rattle.cst_core.specs.Element.{Address, Element, address, IsChild, IsNode, subtree}
+use Rattle.cst_core.specs.inner.ElementCode.{element_code}
 use Rattle.edit_map.specs.Mapping.{Mapping, copy, Rises}
 use Rattle.edit_map.specs.declared.map_error.MapError.{MapError}
 use Rattle.edit_map.specs.declared.map_error.MapError.TheVariants.{NotAChild, NotYounger, OtherShape, MoreInputs, Memory}

@@ -2,7 +2,7 @@
 
 ghost use Rattle.std.specs.Prelude.{◌≡◌, ◌≢◌, ◌≤◌, ◌<◌, ◌++◌, length, take, reverse, false, IfOk, OnOk};
 ghost use Rattle.cst_core.specs.Element.{Address, address, element_at};
-ghost use Rattle.path_table.specs.PathTable.{IsTree};
+ghost use Rattle.path_table.specs.inner.PathTable.{IsTree};
 ghost use Rattle.edit_map.specs.inner.Climbing.{IsFree, at_depth, IsStopAbove, StopsAll};
 
 use cst_core::{SyntaxElement, SyntaxNode};

@@ -19,7 +19,7 @@ use Rattle.cst_core.proofs.LastSlot.{parent-and-slot}
 use Rattle.green_tree.proofs.Lookup.{IsNodeThere, at_parent}
 use Rattle.rewriting.specs.Aim.{Aim, FirstIn, Behind, Over, replaces, parents}
 use Rattle.rewriting.specs.Rewriting.{NumberedAim, is_replaced}
-use Rattle.rewriting.specs.Effort.{IsBuilt, AreBuilt}
+use Rattle.rewriting.specs.inner.Built.{IsBuilt, AreBuilt}
 use Rattle.edit_map.specs.Mapping.{mapped_elements}
 use Rattle.edit_change.specs.Change.{payload, targets, elements}
 use Rattle.edit_change.specs.ChangeAim.{aim}

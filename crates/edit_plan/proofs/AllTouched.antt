@@ -5,7 +5,8 @@ use Rattle.std.specs.List.{enumerate_from}
 use Rattle.std.proofs.Common.{◌≡◌, arith}
 use Rattle.cst_core.specs.Path.{Path}
 use Rattle.cst_core.specs.Element.{NumbersTell, subtree}
-use Rattle.rewriting.specs.Effort.{touched, parents_of, AreBuilt}
+use Rattle.rewriting.specs.Effort.{touched, parents_of}
+use Rattle.rewriting.specs.inner.Built.{AreBuilt}
 use Rattle.edit_stages.specs.NewTree.{independents}
 use Rattle.edit_plan.specs.Places.{ArePlaces, elements_held}
 use Rattle.edit_plan.specs.Plan.{Plan, IsPlan, registered_elements}

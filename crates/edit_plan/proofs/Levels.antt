@@ -18,7 +18,7 @@ use Rattle.std.proofs.lemmas.List.{append-nil, length-map}
 use Rattle.std.proofs.lemmas.Option.{slice_get-get_or, get_or_from_slice_get, slice_get_within, none-some, same_Some}
 use mathlib.Core.Logic.{inl, inr}
 use Rattle.cst_core.specs.Path.{counted_from}
-use Rattle.rewriting.specs.Lists.{AreEmpty}
+use Rattle.rewriting.specs.inner.Lists.{AreEmpty}
 use Rattle.edit_plan.specs.inner.OwnerTables.{depth_of, dependents_in, owns_at, owners_at, AreOwners}
 use Rattle.edit_change.specs.declared.change.Change.{Change}
 use Rattle.edit_plan.specs.declared.dependent.Dependent.{Dependent}

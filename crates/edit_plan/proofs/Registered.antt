@@ -18,7 +18,7 @@ use Rattle.rewriting.specs.inner.Marked.{Marking, sought_as, sought_in, sought_f
 use Rattle.rewriting.specs.inner.OneMore.{HasOneMore, StaysElsewhere}
 use Rattle.cst_core.specs.Path.{Path, same_path, counted_from}
 use Rattle.cst_core.specs.Element.{Address, same_address}
-use Rattle.path_table.specs.PathTable.{cell_below, cell_at, size, IsGrown}
+use Rattle.path_table.specs.inner.PathTable.{cell_below, cell_at, size, IsGrown}
 use Rattle.path_table.specs.declared.table.PathTable.{PathTable}
 use Rattle.path_table.proofs.PathTables.{cell-push, path-is}
 use Rattle.edit_plan.specs.inner.Sought.{path_below, sought_one, sought_from}

@@ -17,7 +17,8 @@ use Rattle.std.specs.List.{list_any}
 use Rattle.std.specs.Global.{Global}
 use Rattle.std.specs.Coded.{Coded, code_by, coded_ℕ, coded_list, coded×}
 use Rattle.cst_core.specs.Path.{Path}
-use Rattle.cst_core.specs.Element.{Element, IsNode, NumbersTell, element_at, element_code}
+use Rattle.cst_core.specs.Element.{Element, IsNode, NumbersTell, element_at}
+use Rattle.cst_core.specs.inner.ElementCode.{element_code}
 use Rattle.cst_core.specs.SyntaxElement.{element_of, syntax_at}
 use Rattle.cst_core.specs.TreeIds.{IsSpent}
 use Rattle.cst_core.specs.declared.element.SyntaxElement.{SyntaxElement}

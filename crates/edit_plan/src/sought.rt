@@ -3,7 +3,7 @@
 ghost use Rattle.std.specs.Prelude.{◌≡◌, ◌≤◌, ◌<◌, ℕ, true, [], length, OnOk, IfOk};
 ghost use Rattle.cst_core.specs.Element.{Address, address};
 ghost use Rattle.cst_core.specs.SyntaxElement.{element_of};
-ghost use Rattle.path_table.specs.PathTable.{size};
+ghost use Rattle.path_table.specs.inner.PathTable.{size};
 ghost use Rattle.rewriting.specs.inner.Marked.{sought_as, sought_in};
 ghost use Rattle.rewriting.specs.inner.OneMore.{HasOneMore, StaysElsewhere};
 ghost use Rattle.edit_plan.specs.inner.Sought.{addresses, sought_from, sought_at, IsSoughtIndex};

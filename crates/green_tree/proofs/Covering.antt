@@ -9,7 +9,8 @@ use Rattle.std.proofs.Math.Seq.{take-length}
 use Rattle.green_tree.specs.Path.{Path, last_item}
 use Rattle.green_tree.specs.Tree.{Tree, SyntaxTree, at, paths, paths_from, forest, text_length}
 use Rattle.green_tree.specs.Order.{start}
-use Rattle.green_tree.specs.Offsets.{length_at, covers, covering}
+use Rattle.green_tree.specs.Offsets.{length_at, covers}
+use Rattle.green_tree.specs.inner.TokensByOffset.{covering}
 use Rattle.green_tree.specs.Green.{Leaf, leaf_tree, Branch, branch_tree, texts, length_limit, capped_length}
 use Rattle.green_tree.specs.GreenElement.{element_trees, element_tree}
 use Rattle.green_tree.specs.declared.green.GreenElement.{GreenElement}

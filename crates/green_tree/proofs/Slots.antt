@@ -5,7 +5,8 @@ use Rattle.std.proofs.lemmas.Grind.{common_steps}
 use Rattle.std.proofs.lemmas.Option.{slice_get-map, slice_get_read, slice_get_within, get_or_from_slice_get}
 use Rattle.green_tree.specs.Path.{Path}
 use Rattle.green_tree.specs.Tree.{at, trees, forest}
-use Rattle.green_tree.specs.Green.{Branch, branch_tree, size, forest_size}
+use Rattle.green_tree.specs.Green.{Branch, branch_tree}
+use Rattle.green_tree.specs.inner.TreeSize.{size, forest_size}
 use Rattle.green_tree.specs.GreenElement.{element_trees, element_tree}
 use Rattle.green_tree.specs.declared.green.GreenElement.{GreenElement}
 use Rattle.green_tree.proofs.Lookup.{at-child, trees-forest}

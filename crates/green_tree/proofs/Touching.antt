@@ -10,7 +10,8 @@ use Rattle.std.proofs.lemmas.Bool.Decides.{nat_tests}
 use Rattle.green_tree.specs.Path.{Path}
 use Rattle.green_tree.specs.Tree.{Tree, Forest, Token, Node, end, more, SyntaxTree, at, trees, forest, text, forest_text, text_length}
 use Rattle.green_tree.specs.Order.{token_paths, tokens_before, start}
-use Rattle.green_tree.specs.Offsets.{length_at, touches, tokens_touching}
+use Rattle.green_tree.specs.Offsets.{length_at, touches}
+use Rattle.green_tree.specs.inner.TokensByOffset.{tokens_touching}
 use Rattle.green_tree.specs.Green.{Leaf, leaf_tree, Branch, branch_tree, length_limit, capped_length}
 use Rattle.green_tree.specs.GreenElement.{element_trees, element_tree}
 use Rattle.green_tree.specs.inner.FoundToken.{reached_below}

@@ -6,11 +6,8 @@
 --     length_limit                the least length in bytes that no tree of an element value has
 --     IsTooLong                   a text has that length or a greater one
 --     capped_length               how many bytes a text has, as far as the limit
---     size, forest_size           how many elements a tree has; how many trees side by side have
---     branch_size, branch_code    how many a node has; its code, as a model's value
-use Rattle.std.specs.Prelude.{ℕ, ◌+◌, ◌++◌, ◌≤◌, min, take, drop, List, length, refl}
-use Rattle.std.specs.Coded.{Coded, coded_ℕ, coded_list, coded×, code_by}
-use Rattle.green_tree.specs.Tree.{Forest, SyntaxTree, Token, Node, end, more, node, forest, forest_text, tree_code}
+use Rattle.std.specs.Prelude.{ℕ, ◌+◌, ◌++◌, ◌≤◌, min, take, drop, List, length}
+use Rattle.green_tree.specs.Tree.{SyntaxTree, Token, node, forest, forest_text}
 
 pub record Leaf : Type 0 where
   pub kind : ℕ
@@ -40,19 +37,3 @@ IsTooLong s = length_limit ≤ length s
 
 abbrev pub capped_length : List ℕ → ℕ
 capped_length s = min (length s) length_limit
-
-abbrev mutual
-  pub size : SyntaxTree → ℕ
-  size (Token k s) = 1
-  size (Node k f) = forest_size f + 1
-
-  pub forest_size : Forest ℕ → ℕ
-  forest_size end = 0
-  forest_size (more t f) = size t + forest_size f
-
-abbrev pub branch_size : Branch → ℕ
-branch_size b = forest_size (forest b.children) + 1
-
--- the code by which a branch is a model's value
-abbrev pub branch_code : Coded Branch
-branch_code = code_by (ℕ × List SyntaxTree) (coded× coded_ℕ (coded_list (tree_code coded_ℕ))) (λ b. (b.kind, b.children)) (λ p. record { kind = p.0; children = p.1 }) (λ _. refl)

@@ -1,12 +1,10 @@
 -- The nodes and the tokens of a tree in document order.
 --     node_paths, token_paths             the paths of the nodes, and of the tokens
 --     tokens_before, tokens_after         the paths of the tokens that stand before the element at a path; after it
---     first_token, last_token             the path of the first token, of the last one
---     last_token_before, first_token_after      the path of the last token that stands before the element at a path; of the first one after it
 --     start                               where the element at a path starts: how many bytes the tokens before it have
-use Rattle.std.specs.Prelude.{ℕ, false, not, List, length, filter, sum_by, Option}
+use Rattle.std.specs.Prelude.{ℕ, false, not, List, length, filter, sum_by}
 use Rattle.std.specs.Option.{option_map_or}
-use Rattle.green_tree.specs.Path.{Path, precedes, first_item, last_item}
+use Rattle.green_tree.specs.Path.{Path, precedes}
 use Rattle.green_tree.specs.Tree.{Tree, at, paths, is_token, text}
 
 abbrev pub node_paths : {L : Type 0} → Tree L → List Path
@@ -20,18 +18,6 @@ tokens_before t p = filter (λ q. precedes q p) (token_paths t)
 
 abbrev pub tokens_after : {L : Type 0} → Tree L → Path → List Path
 tokens_after t p = filter (λ q. precedes p q) (token_paths t)
-
-abbrev pub first_token : {L : Type 0} → Tree L → Option Path
-first_token t = first_item (token_paths t)
-
-abbrev pub last_token : {L : Type 0} → Tree L → Option Path
-last_token t = last_item (token_paths t)
-
-abbrev pub last_token_before : {L : Type 0} → Tree L → Path → Option Path
-last_token_before t p = last_item (tokens_before t p)
-
-abbrev pub first_token_after : {L : Type 0} → Tree L → Path → Option Path
-first_token_after t p = first_item (tokens_after t p)
 
 abbrev pub start : {L : Type 0} → Tree L → Path → ℕ
 start t p = sum_by (λ q. option_map_or (λ c. length (text c)) (at t q) 0) (tokens_before t p)

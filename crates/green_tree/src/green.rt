@@ -59,13 +59,16 @@ pub struct GreenNode {
 
 impl Model for GreenNode {
     ghost use Rattle.std.specs.Prelude.{◌≡◌};
-    ghost use Rattle.green_tree.specs.Green.{Branch, branch_code, branch_size};
+    ghost use Rattle.green_tree.specs.Green.{Branch};
+    ghost use Rattle.green_tree.specs.inner.TreeSize.{branch_size};
+    ghost use Rattle.green_tree.specs.inner.TreeCode.{branch_code};
 
     ghost Value = { Branch };
 
     ghost coded = { branch_code };
 
-    ghost use Rattle.green_tree.specs.GreenElement.{element_trees, IsCappedLength};
+    ghost use Rattle.green_tree.specs.GreenElement.{element_trees};
+    ghost use Rattle.green_tree.specs.inner.CappedLength.{IsCappedLength};
 
     ghost view = { λ a. record { kind = a.data.value.kind.0; children = element_trees a.data.value.children.items } };
 

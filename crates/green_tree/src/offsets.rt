@@ -1,6 +1,6 @@
 ghost use Rattle.std.specs.Prelude.{◌≡◌, ◌<◌, ◌≤◌, ◌++◌, [], IfOk, IsOk, OnOk, Ok, Some, None, option_map};
 ghost use Rattle.green_tree.specs.Tree.{text_length};
-ghost use Rattle.green_tree.specs.Offsets.{covering, tokens_touching};
+ghost use Rattle.green_tree.specs.inner.TokensByOffset.{covering, tokens_touching};
 ghost use Rattle.green_tree.specs.Green.{branch_tree, length_limit};
 ghost use Rattle.green_tree.specs.inner.FoundToken.{FindsTouching};
 

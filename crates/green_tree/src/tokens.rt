@@ -1,6 +1,6 @@
 ghost use Rattle.std.specs.Prelude.{◌≡◌, ◌≤◌, [], ◌∷◌, length, reverse, IfOk, IfSome, IsSome, Ok, None};
 ghost use Rattle.green_tree.specs.Tree.{at};
-ghost use Rattle.green_tree.specs.Order.{first_token, last_token, last_token_before, first_token_after};
+ghost use Rattle.green_tree.specs.inner.Neighbors.{first_token, last_token, last_token_before, first_token_after};
 ghost use Rattle.green_tree.specs.Green.{branch_tree};
 ghost use Rattle.green_tree.specs.inner.FoundToken.{FindsFirstFrom, FindsFirstAfter, FindsLastBefore, IsTokenOf, first_from, path_found};
 

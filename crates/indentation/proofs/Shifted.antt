@@ -13,7 +13,7 @@ use Rattle.std.proofs.Math.Seq.{take-length}
 use Rattle.std.proofs.lemmas.List.Folds.{list_any_at}
 use mathlib.Core.Logic.{inl, inr}
 use Rattle.cst_core.specs.Tree.{Token, Node, more, SyntaxTree, node, forest, text, forest_text, text_length}
-use Rattle.cst_core.specs.Green.{size, forest_size}
+use Rattle.green_tree.specs.inner.TreeSize.{size, forest_size}
 use Rattle.cst_core.specs.Kinds.{WHITESPACE}
 use Rattle.indentation.specs.Level.{newline, is_newline, has_newline}
 use Rattle.indentation.specs.Indentation.{forest_with_texts}

@@ -7,6 +7,7 @@
 --     is-older                      a cell that was there is led to as before
 --     grown-on                      more cells, and more again
 --     grown-same                    the same steps and numbers
+--     same-steps                    steps of the same entries
 --     step-entered, grown-as        a step that was there, or is there now; with another name for the table
 --     tree-same                     the same cells, with other numbers
 --     within-at, path-is            a path leads to a cell that there is, which has this path
@@ -25,7 +26,7 @@ use Rattle.std.proofs.lemmas.Option.{none-some, same_Some, slice_get-get_or}
 use mathlib.Core.Logic.{inl, inr}
 use lib.Pointwise.{pointwise_decides}
 use Rattle.green_tree.specs.Path.{Path, same_path}
-use Rattle.path_table.specs.PathTable.{cell_below, next_cell, cell_further, cell_at, number_in, number_by_path, size, IsTree, IsGrown}
+use Rattle.path_table.specs.inner.PathTable.{cell_below, next_cell, cell_further, cell_at, number_in, number_by_path, size, SameSteps, IsTree, IsGrown}
 use Rattle.path_table.specs.declared.table.PathTable.{PathTable}
 
 pub cell-push : (t : PathTable) (o : Option ℕ) (p : Path) (i : ℕ) → cell_further t o (p ++ i ∷ []) ≡ next_cell t (cell_further t o p) i
@@ -48,6 +49,9 @@ empty-tree t no_steps no_numbers =
       numbers = λ n x h. absurd (none-some x (sym (ap (λ xs. option_flatten (slice_get xs n)) no_numbers) ∙ h));
       paths = (λ k. [], refl, λ n i m h. absurd (nothing n i m h));
     }
+
+pub same-steps : (t u : PathTable) → u.steps.entries ≡ t.steps.entries → SameSteps t u
+same-steps t u same n i = ap (lookup (λ k. nat_eq n k.0 && nat_eq i k.1)) same
 
 -- ---- steps that are added
 module _ (t u : PathTable) (steps : (n i m : ℕ) → cell_below t n i ≡ Some m → cell_below u n i ≡ Some m) where

@@ -1,1 +1,1 @@
-pub mod PathTable
+pub mod inner

@@ -1,7 +1,6 @@
-ghost use Rattle.std.specs.Prelude.{◌≡◌, ◌≤◌, ◌<◌, ℕ, Option, None, Some, OnOk, OnErr, IfOk, length};
+ghost use Rattle.std.specs.Prelude.{◌≡◌, ◌≤◌, ◌<◌, ◌+◌, ℕ, Option, None, Some, OnOk, OnErr, IfOk, length, unwrap_or};
 ghost use Rattle.green_tree.specs.Path.{Path};
-ghost use Rattle.path_table.specs.PathTable.{cell_below, next_cell, cell_further, cell_at, number_in, number_by_path};
-ghost use Rattle.path_table.specs.PathTable.{SameCells, SameNumbers, IsPut, size, IsTree, IsGrown};
+ghost use Rattle.path_table.specs.inner.PathTable.{cell_below, next_cell, cell_further, cell_at, number_in, number_by_path, SameSteps, SameCells, SameNumbers, IsPut, size, IsTree, IsGrown};
 
 use std::alloc::{AllocError, Global};
 use std::collections::HashMap;
@@ -86,7 +85,9 @@ impl PathTable {
         requires tree { IsTree self.old }
         requires here { cell ≤ size self.old }
         ensures leads { IfOk result (λ m. cell_below self.new cell slot ≡ Some m) }
+        ensures made { IfOk result (λ m. m ≡ unwrap_or (cell_below self.old cell slot) (size self.old + 1)) }
         ensures grown { IsGrown self.old self.new }
+        ensures unchanged { OnErr result (SameSteps self.old self.new) }
     {
         let next = self.steps.len() + 1;
         Ok(*self.steps.entry((cell, slot))?.or_insert(next))

@@ -14,7 +14,8 @@ use Rattle.rewriting.specs.inner.Aimed.{formed, of_formed, aims_of, some_path, h
 use Rattle.rewriting.specs.inner.Pass.{aims_inside, CountsBuilt, TouchesAtMost}
 use Rattle.green_tree.specs.GreenElement.{element_tree}
 use Rattle.green_tree.specs.declared.green.GreenElement.{GreenElement}
-use Rattle.rewriting.specs.Effort.{inside, touched, touched_from, parents_of, built, built_from, nodes_built, counted}
+use Rattle.rewriting.specs.Effort.{inside, touched, touched_from, parents_of, counted}
+use Rattle.rewriting.specs.inner.Built.{built, built_from, nodes_built}
 use Rattle.rewriting.proofs.Built.{above-below, above-formed, some-parents}
 use Rattle.rewriting.proofs.SeenBelow.{Shifted, below_shifted, aims-formed}
 

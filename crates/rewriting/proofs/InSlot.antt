@@ -12,7 +12,7 @@ use Rattle.green_tree.specs.Tree.{Tree, SyntaxTree}
 use Rattle.green_tree.specs.GreenElement.{element_tree}
 use Rattle.green_tree.specs.declared.green.GreenElement.{GreenElement}
 use Rattle.rewriting.specs.Rewriting.{is_replaced, slot, rewritten}
-use Rattle.rewriting.specs.Effort.{nodes_built}
+use Rattle.rewriting.specs.inner.Built.{nodes_built}
 use Rattle.rewriting.specs.declared.aimed.Aimed.{Aimed}
 use Rattle.rewriting.specs.declared.mark.Sought.{Sought}
 use Rattle.rewriting.specs.inner.Aimed.{aims_of, of_formed, formed, formed_below, alter_below}

@@ -19,7 +19,8 @@ use Rattle.green_tree.proofs.Lookup.{IsNodeThere}
 use Rattle.std.specs.Option.{option_map_or}
 use Rattle.rewriting.specs.Aim.{Aim, FirstIn, Behind, Over, parents}
 use Rattle.rewriting.specs.Rewriting.{NumberedAim, is_replaced}
-use Rattle.rewriting.specs.Effort.{inside, touched, touched_from, parents_of, built, built_from, nodes_built, nodes_built_whole, IsBuilt, AreBuilt, counted}
+use Rattle.rewriting.specs.Effort.{inside, touched, touched_from, parents_of, counted}
+use Rattle.rewriting.specs.inner.Built.{built, built_from, nodes_built, nodes_built_whole, IsBuilt, AreBuilt}
 use Rattle.rewriting.specs.declared.aimed.Aimed.{Aimed}
 use Rattle.rewriting.specs.inner.Aimed.{aims_of}
 use Rattle.rewriting.specs.inner.Pass.{CountsBuilt, CountsBuiltWhole, CountsTouched}

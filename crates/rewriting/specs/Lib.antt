@@ -2,5 +2,4 @@ pub mod Aim
 pub mod Rewriting
 pub mod Effort
 pub mod Topmost
-pub mod Lists
 pub mod inner

@@ -6,3 +6,5 @@ pub mod Few
 pub mod Given
 pub mod Pass
 pub mod Marked
+pub mod Built
+pub mod Lists

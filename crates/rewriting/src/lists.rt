@@ -1,7 +1,7 @@
 //! Lists of lists.
 
 ghost use Rattle.std.specs.Prelude.{◌≡◌, length, IfOk};
-ghost use Rattle.rewriting.specs.Lists.{AreEmpty};
+ghost use Rattle.rewriting.specs.inner.Lists.{AreEmpty};
 
 use std::alloc::{AllocError, Global};
 

@@ -14,7 +14,8 @@
 --     plan_of, FinishRefuses        the plan of an editor; why its changes are not carried out
 use Rattle.std.specs.Prelude.{◌≡◌, ℕ, Bool, true, false, cond, List, [], ◌++◌, map, Option, None, Some, unwrap_or, Result, Err, All, IsTrue, refl}
 use Rattle.std.specs.Coded.{Coded, code_by, coded_ℕ, coded_list, coded_option, coded×}
-use Rattle.cst_core.specs.Element.{Element, subtree, element_code}
+use Rattle.cst_core.specs.Element.{Element, subtree}
+use Rattle.cst_core.specs.inner.ElementCode.{element_code}
 use Rattle.cst_core.specs.Path.{same_path}
 use Rattle.cst_core.specs.TreeIds.{IsSpent}
 use Rattle.edit_map.specs.Builder.{mapping_code, IsMadeOf}

@@ -10,7 +10,7 @@ use Rattle.std.specs.List.{AllByRecursion}
 use Rattle.cst_core.specs.Path.{Path, has_path}
 use Rattle.edit_change.specs.Change.{targets, shared_targets}
 use Rattle.edit_change.specs.declared.change.Change.{Change}
-use Rattle.path_table.specs.PathTable.{number_by_path}
+use Rattle.path_table.specs.inner.PathTable.{number_by_path}
 use Rattle.edit_change.specs.declared.target_index.TargetIndex.{TargetIndex}
 
 abbrev pub number_at : TargetIndex → Path → Option ℕ

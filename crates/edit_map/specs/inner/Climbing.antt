@@ -9,8 +9,9 @@
 --     IsKept                         a mapping, and a table that has all that it maps
 use Rattle.std.specs.Prelude.{◌≡◌, ◌≢◌, ℕ, ◌<◌, take, length, Option, None, MatchOption, All}
 use Rattle.cst_core.specs.Path.{Path}
-use Rattle.cst_core.specs.Element.{Address, Element, address, address_path}
-use Rattle.path_table.specs.PathTable.{number_by_path, IsTree}
+use Rattle.cst_core.specs.Element.{Address, Element, address}
+use Rattle.cst_core.specs.inner.InTree.{address_path}
+use Rattle.path_table.specs.inner.PathTable.{number_by_path, IsTree}
 use Rattle.edit_map.specs.Mapping.{Mapping, copy}
 use Rattle.edit_map.specs.Builder.{IsMapping}
 use Rattle.edit_map.specs.declared.stops.Stops.{Stops}

@@ -20,7 +20,8 @@ use Rattle.cst_core.specs.SyntaxElement.{element_of}
 use Rattle.cst_core.specs.declared.element.SyntaxElement.{SyntaxElement}
 use Rattle.std.specs.List.{enumerate_from}
 use Rattle.rewriting.specs.Rewriting.{NumberedAim, rewritten}
-use Rattle.rewriting.specs.Effort.{touched, parents_of, AreBuilt}
+use Rattle.rewriting.specs.Effort.{touched, parents_of}
+use Rattle.rewriting.specs.inner.Built.{AreBuilt}
 use Rattle.rewriting.specs.inner.Aimed.{aims_of}
 use Rattle.rewriting.specs.inner.Marked.{MarkTree, marked, Finds}
 use Rattle.rewriting.specs.inner.Pass.{kind_only, IsMarked, AreMarkedIn, given_in}

@@ -35,7 +35,8 @@ use Rattle.rewriting.specs.Topmost.{paths_of}
 use Rattle.rewriting.specs.declared.aimed.Aimed.{Aimed}
 use Rattle.rewriting.specs.declared.mark.Mark.{Mark}
 use Rattle.rewriting.specs.Rewriting.{rewritten_whole}
-use Rattle.rewriting.specs.Effort.{touched, parents_of, AreBuilt}
+use Rattle.rewriting.specs.Effort.{touched, parents_of}
+use Rattle.rewriting.specs.inner.Built.{AreBuilt}
 use Rattle.edit_plan.specs.TouchedNodes.{Raises}
 use Rattle.edit_change.specs.declared.change.Change.{Change}
 use Rattle.edit_plan.specs.Places.{ArePlaces}

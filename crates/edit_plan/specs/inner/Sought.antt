@@ -14,10 +14,11 @@
 use Rattle.std.specs.Prelude.{◌≡◌, ◌<◌, ℕ, suc, nat_eq, cond, List, [], ◌∷◌, ◌++◌, map, Option, Some, None}
 use Rattle.std.specs.Option.{option_map_or}
 use Rattle.cst_core.specs.Path.{Path, same_path}
-use Rattle.cst_core.specs.Element.{Address, address, address_path}
+use Rattle.cst_core.specs.Element.{Address, address}
+use Rattle.cst_core.specs.inner.InTree.{address_path}
 use Rattle.cst_core.specs.SyntaxElement.{element_of}
 use Rattle.cst_core.specs.declared.element.SyntaxElement.{SyntaxElement}
-use Rattle.path_table.specs.PathTable.{cell_below, cell_at, size, IsTree, IsGrown}
+use Rattle.path_table.specs.inner.PathTable.{cell_below, cell_at, size, IsTree, IsGrown}
 use Rattle.rewriting.specs.inner.Marked.{Marking, sought_for, marks_at}
 use Rattle.edit_plan.specs.declared.sought.SoughtIndex.{SoughtIndex}
 

@@ -9,8 +9,9 @@
 use Rattle.std.specs.Prelude.{◌≡◌, ℕ, not, List, [], ◌++◌, reverse, map, filter, Option, Some, option_map, unwrap_or}
 use Rattle.green_tree.specs.Path.{Path, precedes, first_item}
 use Rattle.green_tree.specs.Tree.{Tree, SyntaxTree, at}
-use Rattle.green_tree.specs.Order.{token_paths, last_token_before, first_token_after}
-use Rattle.green_tree.specs.Offsets.{tokens_touching}
+use Rattle.green_tree.specs.Order.{token_paths}
+use Rattle.green_tree.specs.inner.Neighbors.{last_token_before, first_token_after}
+use Rattle.green_tree.specs.inner.TokensByOffset.{tokens_touching}
 use Rattle.green_tree.specs.Green.{Leaf, leaf_tree}
 use Rattle.green_tree.specs.declared.tokens.FoundToken.{FoundToken}
 

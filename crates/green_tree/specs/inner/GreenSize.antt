@@ -4,7 +4,7 @@ use Rattle.std.specs.Prelude.{◌+◌, ◌≤◌, List, [], ◌∷◌}
 use Rattle.std.proofs.Common.{arith}
 use denote.Param.Weighed.{most}
 use Rattle.green_tree.specs.Tree.{forest}
-use Rattle.green_tree.specs.Green.{size, forest_size}
+use Rattle.green_tree.specs.inner.TreeSize.{size, forest_size}
 use Rattle.green_tree.specs.GreenElement.{element_trees, element_tree}
 use Rattle.green_tree.specs.declared.green.GreenElement.{GreenElement}
 use Rattle.green_tree.specs.declared.green.GreenElement.TheVariants.{Node, Token}

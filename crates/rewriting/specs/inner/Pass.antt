@@ -32,7 +32,8 @@ use Rattle.green_tree.specs.Tree.{Tree, Token, Node, SyntaxTree, forest}
 use Rattle.rewriting.specs.inner.Given.{given_trees}
 use Rattle.green_tree.specs.GreenElement.{element_tree, element_trees}
 use Rattle.green_tree.specs.declared.green.GreenElement.{GreenElement}
-use Rattle.rewriting.specs.Effort.{touched, parents_of, built_from, nodes_built, nodes_built_whole, AreBuilt, counted}
+use Rattle.rewriting.specs.Effort.{touched, parents_of, counted}
+use Rattle.rewriting.specs.inner.Built.{built_from, nodes_built, nodes_built_whole, AreBuilt}
 use Rattle.rewriting.specs.Rewriting.{NumberedAim, inserts_at, replacements_at, is_replaced, gap_order, slot, rewritten, rewritten_from, rewritten_whole}
 use Rattle.rewriting.specs.inner.Aimed.{formed, of_formed, aims_of, formed_below}
 use Rattle.rewriting.specs.inner.Marked.{MarkTree, Marking, marked, marked_from, mark_below, marks_of, sought_in, wanted, Finds}

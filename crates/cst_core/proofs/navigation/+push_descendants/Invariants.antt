@@ -1,6 +1,6 @@
 use Rattle.std.proofs.Common.{◌≡◌, ◌++◌, drop}
 use Rattle.std.specs.Prelude.{flat_map}
-use Rattle.green_tree.specs.Green.{size}
+use Rattle.green_tree.specs.inner.TreeSize.{size}
 use Rattle.cst_core.specs.Element.{subtree}
 use Rattle.cst_core.specs.SyntaxElement.{descendants_of}
 use Rattle.cst_core.proofs.navigation.+push_descendants.Given as goal

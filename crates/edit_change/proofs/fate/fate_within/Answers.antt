@@ -1,7 +1,7 @@
 use Rattle.std.proofs.Common.{◌+◌, Some, [], take, sym, ◌∙◌, ap, refl}
 use Rattle.std.proofs.lemmas.List.{take_all}
 use Rattle.cst_core.specs.Path.{up_to}
-use Rattle.path_table.specs.PathTable.{number_in}
+use Rattle.path_table.specs.inner.PathTable.{number_in}
 use Rattle.path_table.proofs.PathTables.{cell-more}
 use Rattle.edit_change.specs.inner.Fate.{fate_within}
 use Rattle.edit_change.proofs.Walk.{up_to-more}

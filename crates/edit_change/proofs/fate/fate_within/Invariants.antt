@@ -1,7 +1,7 @@
 use Rattle.std.proofs.Common.{◌≡◌, take}
 use Rattle.cst_core.specs.Path.{up_to}
 use Rattle.edit_change.specs.inner.Fate.{fate_within}
-use Rattle.path_table.specs.PathTable.{cell_at}
+use Rattle.path_table.specs.inner.PathTable.{cell_at}
 use Rattle.edit_change.proofs.fate.fate_within.Given as goal
 
 abbrev pub invariant-loop-slot : goal.invariant-loop-slot

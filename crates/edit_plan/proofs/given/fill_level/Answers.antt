@@ -3,7 +3,7 @@ use Rattle.std.specs.Prelude.{All, sum_by}
 use Rattle.std.proofs.lemmas.List.Elements.{All-get_or}
 use Rattle.std.proofs.lemmas.List.Sums.{sum_by_more}
 use Rattle.cst_core.specs.Element.{subtree}
-use Rattle.rewriting.specs.Effort.{AreBuilt}
+use Rattle.rewriting.specs.inner.Built.{AreBuilt}
 use Rattle.edit_stages.specs.NewTree.{payload_of, dependents}
 use Rattle.edit_plan.specs.TouchedNodes.{touched_in}
 use Rattle.edit_plan.specs.inner.GivenTables.{CountsEach, ArePayloadsBuilt}

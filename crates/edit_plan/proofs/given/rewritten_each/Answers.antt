@@ -6,7 +6,8 @@ use Rattle.cst_core.specs.Element.{subtree}
 use Rattle.cst_core.specs.GreenElement.{element_tree, element_trees}
 use Rattle.cst_core.specs.SyntaxElement.{element_of}
 use Rattle.rewriting.specs.Rewriting.{rewritten}
-use Rattle.rewriting.specs.Effort.{touched, parents_of, AreBuilt}
+use Rattle.rewriting.specs.Effort.{touched, parents_of}
+use Rattle.rewriting.specs.inner.Built.{AreBuilt}
 use Rattle.rewriting.specs.inner.Aimed.{aims_of}
 use Rattle.rewriting.specs.inner.Marked.{marked, marks_of}
 use Rattle.rewriting.specs.inner.Pass.{kind_only, given_in}

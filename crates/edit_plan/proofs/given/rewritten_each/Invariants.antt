@@ -4,7 +4,7 @@ use Rattle.cst_core.specs.Element.{subtree}
 use Rattle.cst_core.specs.GreenElement.{element_trees}
 use Rattle.cst_core.specs.SyntaxElement.{element_of}
 use Rattle.rewriting.specs.Rewriting.{rewritten}
-use Rattle.rewriting.specs.Effort.{AreBuilt}
+use Rattle.rewriting.specs.inner.Built.{AreBuilt}
 use Rattle.rewriting.specs.inner.Aimed.{aims_of}
 use Rattle.rewriting.specs.inner.Marked.{MarkTree, marked, marks_of}
 use Rattle.rewriting.specs.inner.Pass.{kind_only, AreMarkedIn, given_in}

@@ -3,7 +3,8 @@ use Rattle.std.proofs.lemmas.List.{map-id}
 use Rattle.cst_core.specs.SyntaxElement.{element_of}
 use Rattle.cst_core.specs.GreenElement.{element_tree}
 use Rattle.rewriting.specs.Rewriting.{rewritten}
-use Rattle.rewriting.specs.Effort.{touched, parents_of, nodes_built, AreBuilt}
+use Rattle.rewriting.specs.Effort.{touched, parents_of}
+use Rattle.rewriting.specs.inner.Built.{nodes_built, AreBuilt}
 use Rattle.rewriting.specs.inner.Aimed.{aims_of}
 use Rattle.rewriting.specs.inner.Marked.{Marking, marked, mark_below, marks_of, wanted}
 use Rattle.rewriting.specs.inner.Pass.{kind_only, given_in}

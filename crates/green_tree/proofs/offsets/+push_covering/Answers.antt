@@ -2,7 +2,8 @@ use Rattle.std.proofs.Common.{◌≡◌, ◌≤◌, ◌+◌, ◌-◌, ◌++◌, 
 use Rattle.std.specs.Prelude.{filter, option_map}
 use Rattle.green_tree.specs.Tree.{text_length, paths_from, forest}
 use Rattle.green_tree.specs.Order.{start}
-use Rattle.green_tree.specs.Offsets.{covers, covering}
+use Rattle.green_tree.specs.Offsets.{covers}
+use Rattle.green_tree.specs.inner.TokensByOffset.{covering}
 use Rattle.green_tree.specs.Green.{branch_tree, leaf_tree}
 use Rattle.green_tree.specs.GreenElement.{element_tree}
 use Rattle.green_tree.proofs.Slots.{size_at}

@@ -4,7 +4,8 @@ use Rattle.std.proofs.lemmas.List.{map-append}
 use Rattle.std.specs.Prelude.{filter}
 use Rattle.green_tree.specs.Tree.{text_length}
 use Rattle.green_tree.specs.Order.{start, tokens_before}
-use Rattle.green_tree.specs.Offsets.{touches, tokens_touching}
+use Rattle.green_tree.specs.Offsets.{touches}
+use Rattle.green_tree.specs.inner.TokensByOffset.{tokens_touching}
 use Rattle.green_tree.specs.Green.{branch_tree, leaf_tree}
 use Rattle.green_tree.specs.GreenElement.{element_tree}
 use Rattle.green_tree.specs.inner.FoundToken.{reached, reached_below}

@@ -3,7 +3,7 @@ use Rattle.std.proofs.Common.{ap, sym, ◌∙◌, subst, arith, rules, get_or}
 use Rattle.std.proofs.lemmas.Grind.{common_steps}
 use Rattle.std.proofs.lemmas.List.{length-map, take-map}
 use Rattle.cst_core.specs.Tree.{SyntaxTree, node, text_length}
-use Rattle.cst_core.specs.Green.{size}
+use Rattle.green_tree.specs.inner.TreeSize.{size}
 use Rattle.cst_core.specs.GreenElement.{element_tree, element_trees}
 use Rattle.indentation.specs.inner.Shift.{shifted, ShiftRefuses}
 use Rattle.indentation.specs.declared.shift.Shift.{Shift}

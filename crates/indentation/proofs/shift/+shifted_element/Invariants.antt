@@ -1,4 +1,4 @@
-use Rattle.cst_core.specs.Green.{size}
+use Rattle.green_tree.specs.inner.TreeSize.{size}
 use Rattle.cst_core.specs.GreenElement.{element_tree, element_trees}
 use Rattle.indentation.proofs.Shifted.{Built}
 use Rattle.indentation.proofs.shift.+shifted_element.Given as goal

@@ -1,5 +1,5 @@
 use Rattle.std.proofs.Common.{◌≡◌, length}
-use Rattle.rewriting.specs.Lists.{AreEmpty}
+use Rattle.rewriting.specs.inner.Lists.{AreEmpty}
 use Rattle.rewriting.proofs.lists.empty_lists.Given as goal
 
 abbrev pub invariant-loop : goal.invariant-loop

@@ -1,6 +1,6 @@
 use Rattle.std.proofs.Common.{◌≡◌, ◌++◌, [], map}
 use Rattle.green_tree.specs.Tree.{forest}
-use Rattle.green_tree.specs.Green.{size}
+use Rattle.green_tree.specs.inner.TreeSize.{size}
 use Rattle.green_tree.specs.GreenElement.{element_tree, element_trees}
 use Rattle.rewriting.specs.Rewriting.{rewritten_from}
 use Rattle.rewriting.specs.inner.Marked.{marks_of, sought_in, marks_at, wanted}

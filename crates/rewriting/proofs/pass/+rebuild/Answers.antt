@@ -3,7 +3,8 @@ use Rattle.std.proofs.lemmas.List.{append-nil, append_assoc, map-append, length-
 use Rattle.green_tree.specs.Path.{Path}
 use Rattle.green_tree.specs.Tree.{SyntaxTree, Token, forest, node}
 use Rattle.green_tree.specs.GreenElement.{element_tree, element_trees}
-use Rattle.rewriting.specs.Effort.{counted, nodes_built}
+use Rattle.rewriting.specs.Effort.{counted}
+use Rattle.rewriting.specs.inner.Built.{nodes_built}
 use Rattle.rewriting.specs.Rewriting.{slot, gap_order, rewritten}
 use Rattle.rewriting.specs.inner.Aimed.{aims_of}
 use Rattle.rewriting.specs.inner.Marked.{MarkTree, Marking, marked, mark_below, marks_of, sought_in, marks_at, wanted, sought_for}

@@ -1,6 +1,6 @@
 use Rattle.std.proofs.Common.{◌≡◌, ℕ, ◌+◌, ◌*◌, ◌++◌, List, length}
 use Rattle.green_tree.specs.Tree.{forest}
-use Rattle.green_tree.specs.Green.{size, forest_size}
+use Rattle.green_tree.specs.inner.TreeSize.{size, forest_size}
 use Rattle.green_tree.specs.GreenElement.{element_tree, element_trees}
 use Rattle.rewriting.specs.Effort.{counted}
 use Rattle.rewriting.specs.inner.Aimed.{aims_of}

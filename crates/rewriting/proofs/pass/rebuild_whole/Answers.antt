@@ -2,7 +2,8 @@ use Rattle.std.proofs.Common.{◌≡◌, ◌∷◌, [], ◌++◌, ℕ, List, con
 use Rattle.std.proofs.lemmas.List.{append-nil, map-id}
 use Rattle.green_tree.specs.Tree.{SyntaxTree}
 use Rattle.green_tree.specs.GreenElement.{element_tree, element_trees}
-use Rattle.rewriting.specs.Effort.{counted, nodes_built}
+use Rattle.rewriting.specs.Effort.{counted}
+use Rattle.rewriting.specs.inner.Built.{nodes_built}
 use Rattle.rewriting.specs.Rewriting.{rewritten}
 use Rattle.rewriting.specs.inner.Aimed.{aims_of}
 use Rattle.rewriting.specs.inner.Marked.{MarkTree, Marking, marked, marked_from, mark_below, marks_of, sought_in, wanted}

@@ -2,7 +2,7 @@ use Rattle.std.proofs.Common.{◌≡◌, ◌-◌, ◌<◌, ◌≤◌, ◌++◌, 
 use Rattle.std.specs.Prelude.{IfOk, option_map}
 use Rattle.green_tree.specs.Tree.{at, text_length}
 use Rattle.green_tree.specs.Order.{start}
-use Rattle.green_tree.specs.Offsets.{covering}
+use Rattle.green_tree.specs.inner.TokensByOffset.{covering}
 use Rattle.green_tree.specs.Green.{branch_tree, length_limit}
 use Rattle.cst_core.specs.SyntaxElement.{syntax_at}
 use Rattle.cst_core.specs.AtOffset.{covering_of}

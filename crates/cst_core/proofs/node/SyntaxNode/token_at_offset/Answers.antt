@@ -1,7 +1,7 @@
 use Rattle.std.proofs.Common.{◌≡◌, ◌-◌, ◌<◌, ◌≤◌, [], map, length, get_or, Some, arith, ap, sym, ◌∙◌}
 use Rattle.green_tree.specs.Tree.{at, text_length}
 use Rattle.green_tree.specs.Order.{start}
-use Rattle.green_tree.specs.Offsets.{tokens_touching}
+use Rattle.green_tree.specs.inner.TokensByOffset.{tokens_touching}
 use Rattle.green_tree.specs.Green.{branch_tree, length_limit}
 use Rattle.green_tree.specs.inner.FoundToken.{reached, reached_below}
 use Rattle.cst_core.specs.Element.{below}

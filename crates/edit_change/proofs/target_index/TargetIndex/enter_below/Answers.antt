@@ -1,6 +1,6 @@
 use Rattle.std.proofs.Common.{◌≡◌, Some, [], ◌∷◌, ◌++◌}
 use Rattle.cst_core.specs.Path.{Path}
-use Rattle.path_table.specs.PathTable.{cell_at, number_in}
+use Rattle.path_table.specs.inner.PathTable.{cell_at, number_in}
 use Rattle.edit_change.specs.inner.TargetIndex.{number_at}
 use Rattle.edit_change.proofs.Entering.{before-one, entered-one, leads-below}
 use Rattle.edit_change.proofs.Lists.{if-ok-weaker, on-ok-weaker}

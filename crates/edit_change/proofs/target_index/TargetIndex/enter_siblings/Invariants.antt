@@ -1,7 +1,7 @@
 use Rattle.std.proofs.Common.{◌≡◌, ◌≤◌, suc, max}
 use Rattle.std.specs.Prelude.{Some}
 use Rattle.cst_core.specs.Path.{parent_path, last_slot}
-use Rattle.path_table.specs.PathTable.{cell_at, IsTree}
+use Rattle.path_table.specs.inner.PathTable.{cell_at, IsTree}
 use Rattle.edit_change.specs.inner.TargetIndex.{number_at, IsEntered, least}
 use Rattle.edit_change.proofs.Entering.{up_to_slot}
 use Rattle.edit_change.proofs.target_index.TargetIndex.enter_siblings.Given as goal

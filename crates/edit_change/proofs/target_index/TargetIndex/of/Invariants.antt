@@ -1,7 +1,7 @@
 use Rattle.std.proofs.Common.{◌≡◌, take}
 use Rattle.std.specs.Prelude.{find, None}
 use Rattle.edit_change.specs.Nesting.{pairs}
-use Rattle.path_table.specs.PathTable.{IsTree}
+use Rattle.path_table.specs.inner.PathTable.{IsTree}
 use Rattle.edit_change.specs.inner.TargetIndex.{IsIndex}
 use Rattle.edit_change.proofs.Clashes.{clash}
 use Rattle.edit_change.proofs.target_index.TargetIndex.of.Given as goal

@@ -1,6 +1,6 @@
 use Rattle.std.proofs.Common.{◌≡◌, ◌∷◌, take}
 use Rattle.cst_core.specs.Element.{address}
-use Rattle.path_table.specs.PathTable.{cell_at}
+use Rattle.path_table.specs.inner.PathTable.{cell_at}
 use Rattle.edit_map.specs.inner.Climbing.{IsFree, IsLastStop, Passes}
 use Rattle.edit_map.proofs.stops.Stops.above.Given as goal
 

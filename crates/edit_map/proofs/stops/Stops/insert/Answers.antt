@@ -1,6 +1,7 @@
 use Rattle.std.proofs.Common.{◌≡◌, OnOk, None, subst, refl}
-use Rattle.path_table.specs.PathTable.{number_by_path}
-use Rattle.cst_core.specs.Element.{address, address_path}
+use Rattle.path_table.specs.inner.PathTable.{number_by_path}
+use Rattle.cst_core.specs.Element.{address}
+use Rattle.cst_core.specs.inner.InTree.{address_path}
 use Rattle.edit_map.proofs.Passing.{put-free, put-taken}
 use Rattle.edit_map.proofs.stops.Stops.insert.Goals as goal
 

@@ -1,6 +1,6 @@
 use Rattle.std.proofs.Common.{take}
 use Rattle.cst_core.specs.Element.{Address}
-use Rattle.path_table.specs.PathTable.{IsTree}
+use Rattle.path_table.specs.inner.PathTable.{IsTree}
 use Rattle.edit_map.specs.inner.Climbing.{IsFree, StopsAll}
 use Rattle.edit_map.proofs.stops.Stops.insert_all.Given as goal
 

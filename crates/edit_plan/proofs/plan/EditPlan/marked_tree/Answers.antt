@@ -4,7 +4,8 @@ use Rattle.std.specs.List.{enumerate_from}
 use Rattle.cst_core.specs.Path.{Path}
 use Rattle.cst_core.specs.Element.{subtree}
 use Rattle.cst_core.specs.Green.{branch_tree}
-use Rattle.rewriting.specs.Effort.{touched, parents_of, AreBuilt}
+use Rattle.rewriting.specs.Effort.{touched, parents_of}
+use Rattle.rewriting.specs.inner.Built.{AreBuilt}
 use Rattle.edit_plan.specs.Plan.{IsPlan}
 use Rattle.edit_plan.specs.TouchedNodes.{touched_in, Raises}
 use Rattle.edit_plan.specs.inner.GivenTables.{ArePayloadsBuilt}

@@ -1,7 +1,8 @@
 use Rattle.std.proofs.Common.{ap, ap₂, subst, ◌∙◌}
 use Rattle.cst_core.specs.Element.{address, subtree}
 use Rattle.cst_core.specs.GreenElement.{element_tree}
-use Rattle.rewriting.specs.Effort.{touched, parents_of, nodes_built_whole, AreBuilt}
+use Rattle.rewriting.specs.Effort.{touched, parents_of}
+use Rattle.rewriting.specs.inner.Built.{nodes_built_whole, AreBuilt}
 use Rattle.rewriting.specs.inner.Aimed.{aims_of}
 use Rattle.rewriting.specs.inner.Marked.{marked_from, wanted}
 use Rattle.rewriting.specs.inner.Pass.{kind_only, given_in}

@@ -1,9 +1,9 @@
 use Rattle.std.proofs.Common.{◌≡◌, ℕ, ◌++◌, [], ◌∷◌, cond, Some, sym, subst}
 use Rattle.std.specs.Prelude.{nat_eq}
-use Rattle.path_table.specs.PathTable.{cell_below, IsGrown}
+use Rattle.path_table.specs.inner.PathTable.{cell_below, IsGrown}
 use Rattle.rewriting.specs.inner.Marked.{sought_as}
 use Rattle.edit_plan.specs.inner.Sought.{listed_at}
-use Rattle.cst_core.specs.Element.{address_path}
+use Rattle.cst_core.specs.inner.InTree.{address_path}
 use Rattle.edit_plan.proofs.Registered.{entered, entered-unused}
 use Rattle.edit_plan.proofs.sought.SoughtIndex.enter.Goals as goal
 

@@ -3,7 +3,7 @@ use Rattle.std.proofs.lemmas.List.{take_more}
 use Rattle.cst_core.specs.Path.{Path, counted_from}
 use Rattle.cst_core.specs.Element.{Address, address}
 use Rattle.cst_core.specs.SyntaxElement.{element_of}
-use Rattle.path_table.specs.PathTable.{cell_below, cell_at}
+use Rattle.path_table.specs.inner.PathTable.{cell_below, cell_at}
 use Rattle.path_table.proofs.PathTables.{within-at}
 use Rattle.edit_plan.specs.inner.Sought.{sought_at}
 use Rattle.edit_plan.proofs.Registered.{one_at, one-deeper, all-ancestors, leads-further}

@@ -2,7 +2,7 @@ use Rattle.std.proofs.Common.{◌≡◌, ◌+◌, ◌∷◌, ◌++◌, Some, tak
 use Rattle.cst_core.specs.Path.{counted_from}
 use Rattle.cst_core.specs.Element.{Address, address}
 use Rattle.cst_core.specs.SyntaxElement.{element_of}
-use Rattle.path_table.specs.PathTable.{cell_at}
+use Rattle.path_table.specs.inner.PathTable.{cell_at}
 use Rattle.edit_plan.specs.inner.Sought.{sought_at, IsSoughtIndex}
 use Rattle.edit_plan.proofs.Registered.{one_at}
 use Rattle.edit_plan.proofs.sought.SoughtIndex.register.Given as goal

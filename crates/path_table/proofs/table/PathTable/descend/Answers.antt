@@ -1,6 +1,6 @@
 use Rattle.std.proofs.Common.{◌∙◌, ap}
 use Rattle.std.proofs.lemmas.List.{take_all}
-use Rattle.path_table.specs.PathTable.{cell_further}
+use Rattle.path_table.specs.inner.PathTable.{cell_further}
 use Rattle.path_table.proofs.PathTables.{cell-more}
 use Rattle.path_table.proofs.table.PathTable.descend.Goals as goal
 

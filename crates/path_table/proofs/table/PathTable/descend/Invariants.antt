@@ -1,5 +1,5 @@
 use Rattle.std.proofs.Common.{◌≡◌, take}
-use Rattle.path_table.specs.PathTable.{cell_further}
+use Rattle.path_table.specs.inner.PathTable.{cell_further}
 use Rattle.path_table.proofs.table.PathTable.descend.Given as goal
 
 abbrev pub invariant-loop-slot : goal.invariant-loop-slot

@@ -1,6 +1,6 @@
 use Rattle.std.proofs.Common.{◌≡◌, take}
 use Rattle.std.specs.Prelude.{Some}
-use Rattle.path_table.specs.PathTable.{cell_at, IsGrown}
+use Rattle.path_table.specs.inner.PathTable.{cell_at, IsGrown}
 use Rattle.path_table.proofs.table.PathTable.enter_path.Given as goal
 
 abbrev pub invariant-loop-slot : goal.invariant-loop-slot

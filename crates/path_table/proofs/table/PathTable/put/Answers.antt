@@ -1,6 +1,6 @@
 use Rattle.std.proofs.Common.{◌≡◌, ◌<◌, Some, length, sym, ◌∙◌, ap, arith}
 use Rattle.std.specs.Vec.{with_item}
-use Rattle.path_table.specs.PathTable.{size}
+use Rattle.path_table.specs.inner.PathTable.{size}
 use Rattle.path_table.specs.declared.table.PathTable.{PathTable}
 use Rattle.path_table.proofs.PathTables.{tree-same, number-read, put-number, put-tree, entered}
 use Rattle.path_table.proofs.table.PathTable.put.Goals as goal

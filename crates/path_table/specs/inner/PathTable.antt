@@ -2,6 +2,7 @@
 --     cell_below, next_cell       the cell below a cell, at a slot; below a cell that may be missing
 --     cell_further, cell_at       the cell that a path leads to from a cell that may be missing; from the top, if there is one
 --     number_in, number_by_path     the number of a cell that may be missing; that of the cell of a path
+--     SameSteps                     each step of two tables leads to the same cell
 --     SameCells, SameNumbers       two tables lead each path to the same cell; they have the same number at each path
 --     IsPut                         one path has this number now, and the others what they had
 --     size                          how many cells there are below the top
@@ -32,6 +33,9 @@ number_in t cell = option_and_then (λ n. option_flatten (slice_get t.numbers.it
 
 abbrev pub number_by_path : PathTable → Path → Option ℕ
 number_by_path t p = number_in t (cell_at t p)
+
+abbrev pub SameSteps : PathTable → PathTable → Type 0
+SameSteps before after = (n i : ℕ) → cell_below after n i ≡ cell_below before n i
 
 abbrev pub SameCells : PathTable → PathTable → Type 0
 SameCells before after = (p : Path) → cell_at after p ≡ cell_at before p
