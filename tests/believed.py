@@ -1,11 +1,13 @@
 #!/usr/bin/env python3
 """What a reader has to believe: the definitions that public clauses reach, directly or through other definitions.
 
-    believed.py          how many lines they have, by crate; which of them are in inner/, and what stands outside inner/ and is not reached
+    believed.py          how many lines they have, by crate; which of them are in inner/, and what stands outside inner/ and is not reached.
+                         tests/docs.py fails if they have more than MOST lines, or if there is any of these two
     believed.py NAME     which definitions lead from a public clause to this one
 
 A public clause is a clause of a call that a user can name, of a law, or of a trait; so are the views of public types. What is proved of a
-type needs no belief: its invariant, that its size decreases, and the code by which it is a model's value, whose two ways are proved inverse.
+type needs no belief: its invariant, its size, which only has to decrease, and the code by which it is a model's value, which is proved to be
+one-to-one.
 Imports, comments and the table of the kinds' names don't count."""
 
 import re
@@ -18,6 +20,7 @@ ROOT = Path(__file__).resolve().parent.parent
 WORD = re.compile(r"[^\s(){}\[\],;.]+")
 START = re.compile(r"^(\s*)(?:abbrev |unfoldable )?(?:pub )?(?:(record|data) )?([^\s(){}:]+)(?: [^=]*)? :(?: |$)")
 TABLE = {"named_kinds"}
+MOST = 1500
 
 
 class Definition:
@@ -160,6 +163,26 @@ def reached(specs):
     return from_where
 
 
+def counted(from_where):
+    """How many lines the definitions have that are reached, by crate."""
+    lines = {}
+    for definition in from_where:
+        if definition.name not in TABLE:
+            lines[definition.crate] = lines.get(definition.crate, 0) + len(definition.lines)
+    return lines
+
+
+def reached_inside(from_where):
+    """The definitions of inner/ that public clauses reach: these belong outside."""
+    return sorted(str(it) for it in from_where if it.is_inner)
+
+
+def unreached_outside(specs, from_where):
+    """The definitions outside inner/ that no public clause reaches: these belong inside."""
+    every = {it for spec in specs.files.values() for it in spec.definitions.values()}
+    return sorted(str(it) for it in every - from_where.keys() if not it.is_inner)
+
+
 def main():
     specs = Specs()
     from_where = reached(specs)
@@ -170,18 +193,12 @@ def main():
                 definition = from_where[definition]
             print("    a public clause")
         return
-    lines = {}
-    for definition in from_where:
-        if definition.name not in TABLE:
-            lines[definition.crate] = lines.get(definition.crate, 0) + len(definition.lines)
+    lines = counted(from_where)
     for crate in sorted(lines):
         print(f"{crate}: {lines[crate]} lines")
     print(f"believed: {sum(lines.values())} lines of definitions are reached by public clauses")
-    inner = sorted(str(it) for it in from_where if it.is_inner)
-    every = {it for spec in specs.files.values() for it in spec.definitions.values()}
-    outside = sorted((str(it), len(it.lines)) for it in every - from_where.keys() if not it.is_inner)
-    print(f"in inner/, and reached: {len(inner)} definitions", *inner, sep="\n    ")
-    print(f"outside inner/, and not reached: {sum(count for _, count in outside)} lines", *(name for name, _ in outside), sep="\n    ")
+    print("in inner/, and reached:", *reached_inside(from_where), sep="\n    ")
+    print("outside inner/, and not reached:", *unreached_outside(specs, from_where), sep="\n    ")
 
 
 if __name__ == "__main__":

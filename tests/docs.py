@@ -247,11 +247,17 @@ def compare_readme():
 
 
 def compare_believed():
+    """What a reader has to believe is short, and stands outside inner/; what stands there is that, and no more."""
     specs = believed.Specs()
-    lines = sum(len(it.lines) for it in believed.reached(specs) if it.name not in believed.TABLE)
+    from_where = believed.reached(specs)
+    lines = sum(believed.counted(from_where).values())
     print(f"docs: public clauses reach {lines} lines of definitions")
+    if lines > believed.MOST:
+        wrong.append(f"public clauses reach {lines} lines of definitions, {believed.MOST} at most")
     if f"{lines:,} lines" not in (ROOT / "docs/DEFINITIONS.md").read_text():
         wrong.append(f"docs/DEFINITIONS.md: does not say that public clauses reach {lines:,} lines")
+    wrong.extend(f"{it}: a public clause reaches it, and it is in inner/" for it in believed.reached_inside(from_where))
+    wrong.extend(f"{it}: no public clause reaches it, and it is outside inner/" for it in believed.unreached_outside(specs, from_where))
 
 
 def compare_planted_bugs():
