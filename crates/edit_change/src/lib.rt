@@ -16,7 +16,9 @@ mod target_index;
 mod targets;
 
 pub use change::Change;
-pub use change_aims::slot_after;
+pub use change_aims::{
+    aim_path, depth, green_payload, node_for_root, numbered_aim, numbered_aim_from, slot_after,
+};
 pub use clash_error::ClashError;
 pub use element_like::Element;
 pub use element_list::ElementList;

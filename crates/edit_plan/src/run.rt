@@ -30,7 +30,7 @@ use crate::plan::EditPlan;
 use crate::rewritten::Rewritten;
 use crate::sought::SoughtIndex;
 use cst_core::{GreenElement, GreenNode, LENGTH_LIMIT, SyntaxElement, SyntaxNode, TreeIds};
-use edit_change::{Change, Fate};
+use edit_change::{Change, Fate, node_for_root, numbered_aim};
 use rewriting::{Aimed, GivenTable, Rebuilt, rebuild_whole};
 use std::alloc::{AllocError, Global};
 
@@ -206,7 +206,7 @@ impl EditPlan {
     {
         match replacing_root(&self.changes) {
             Some(change) => {
-                let _ = change.node_for_root();
+                let _ = node_for_root(change);
             }
             None => {}
         }
@@ -226,7 +226,7 @@ fn independent_aims<'a>(
     let mut aims = Vec::with_capacity(alloc, changes.len())?;
     for number in 0..changes.len() {
         if fates[number].is_independent() {
-            aims.push(changes[number].numbered_aim(number))?;
+            aims.push(numbered_aim(&changes[number], number))?;
         }
     }
     Ok(aims)

@@ -7,7 +7,7 @@ ghost use Rattle.edit_change.specs.inner.Fate.{fate};
 ghost use Rattle.edit_stages.specs.inner.Payload.{BeginsPayload, BeginPayloads, payload_trees};
 
 use cst_core::{GreenElement, SyntaxElement};
-use edit_change::{Change, Fate};
+use edit_change::{Change, Fate, green_payload};
 use rewriting::Given;
 use std::alloc::{AllocError, Global};
 use stepping::Stage;
@@ -74,6 +74,6 @@ pub(crate) fn given_elements(
 {
     match payload {
         Some(stage) => one(alloc, stage.element().share(alloc)?),
-        None => own_elements(alloc, change.green_payload(alloc)?),
+        None => own_elements(alloc, green_payload(alloc, change)?),
     }
 }

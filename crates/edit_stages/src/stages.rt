@@ -17,7 +17,7 @@ ghost use Rattle.edit_stages.specs.inner.Stages.{ShowsTree, ShowsPayload};
 
 use crate::payload::{given_elements, payload_stages};
 use cst_core::{GreenElement, GreenNode, SyntaxNode};
-use edit_change::{Change, Fate};
+use edit_change::{Change, Fate, node_for_root};
 use rewriting::Aimed;
 use schedule::Waiting;
 use std::alloc::{AllocError, Global};
@@ -215,7 +215,7 @@ impl Stages {
     {
         if change.replaces_root() {
             // It brings one node.
-            let _ = change.node_for_root();
+            let _ = node_for_root(change);
             self.new_root = only_node(given);
         }
         self.waiting.done(number);
