@@ -15,15 +15,15 @@ use Rattle.std.specs.Prelude.{◌≡◌, ℕ, Bool, false, not, ◌&&◌, ◌||�
 use Rattle.std.specs.List.{list_all, enumerate_from, position_or_len}
 use Rattle.std.specs.Option.{option_map_or}
 use Rattle.cst_core.specs.Path.{Path, last_item}
-use Rattle.cst_core.specs.declared.element.SyntaxElement.TheVariants.{Node, Token}
+use Rattle.cst_core.specs.declared.element.SyntaxElement.TheVariants.{Token}
 use Rattle.rewriting.specs.Aim.{same_gap, replaces}
 use Rattle.edit_change.specs.ChangeAim.{aim}
 use Rattle.edit_change.specs.Nesting.{is_dropped, has_owner}
 use Rattle.rewriting.specs.Rewriting.{gap_order}
 use Rattle.edit_change.specs.declared.position.Position.{Position}
-use Rattle.edit_change.specs.PositionForm.{FirstChild, After}
+use Rattle.edit_change.specs.PositionForm.{After}
 use Rattle.edit_change.specs.declared.change.Change.{Change}
-use Rattle.edit_change.specs.declared.change.Change.TheVariants.{Insert, InsertAll, Replace, ReplaceWithMany, ReplaceAll}
+use Rattle.edit_change.specs.declared.change.Change.TheVariants.{Insert, InsertAll}
 
 abbrev pub Numbered : Type 0
 Numbered = ℕ × Change
@@ -47,17 +47,14 @@ abbrev pub gap_first : Numbered → Numbered → Bool
 gap_first c d = same_gap (aim c.1) (aim d.1) && stands_last c.0 d.0
 
 abbrev pub token_before : Position → Option Path
-token_before (FirstChild n) = None
-token_before (After (Node n)) = None
 token_before (After (Token t)) = Some t.path
+token_before _ = None
 
 -- the token that an insert stands after
 abbrev pub anchor_token : Change → Option Path
 anchor_token (Insert at e) = token_before at
 anchor_token (InsertAll at es) = token_before at
-anchor_token (Replace t e) = None
-anchor_token (ReplaceWithMany t es) = None
-anchor_token (ReplaceAll first last es) = None
+anchor_token _ = None
 
 abbrev pub token_first : Numbered → Numbered → Bool
 token_first c d = option_map_or (λ p. replaces p (aim d.1)) (anchor_token c.1) false

@@ -42,7 +42,7 @@ use Rattle.edit_plan.specs.Places.{ArePlaces}
 use Rattle.edit_plan.specs.declared.dependent.Dependent.{Dependent}
 use Rattle.edit_plan.specs.declared.run.Made.{Made}
 use Rattle.edit_plan.specs.declared.edit_error.EditError.{EditError}
-use Rattle.edit_plan.specs.declared.edit_error.EditError.TheVariants.{Intersecting, MissingMapping, TooLong, NoTreeNumber, Memory}
+use Rattle.edit_plan.specs.declared.edit_error.EditError.TheVariants.{NoTreeNumber, Memory}
 use Rattle.edit_plan.specs.declared.sought.SoughtIndex.{SoughtIndex}
 use Rattle.edit_change.specs.declared.fate.Fate.{Fate}
 
@@ -61,11 +61,9 @@ pub record IsNewRoot (e : Element) : Type 0 where
   pub fits : text_length e.root < length_limit
 
 abbrev pub IsOfRoot : EditError → Type 0
-IsOfRoot (Intersecting first second) = ⊥
-IsOfRoot (MissingMapping change owner) = ⊥
-IsOfRoot TooLong = ⊥
 IsOfRoot NoTreeNumber = Unit {0}
 IsOfRoot Memory = Unit {0}
+IsOfRoot _ = ⊥
 
 abbrev pub TellsOf : Plan → SyntaxElement × ℕ → Type 0
 TellsOf p r = NumbersTell (element_of r.0 ∷ mapped_elements p.mapping)
