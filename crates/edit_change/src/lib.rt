@@ -24,6 +24,6 @@ pub use element_like::Element;
 pub use element_list::ElementList;
 pub use fate::{Fate, fates};
 pub use fits::{is_node, is_one_node, is_range, is_root};
-pub use native::is_native;
+pub use native::{is_native, is_native_node};
 pub use position::Position;
 pub use target_index::TargetIndex;

@@ -1,4 +1,4 @@
-ghost use Rattle.std.specs.Prelude.{◌≡◌, ◌<◌, ◌∷◌, [], None, true, false, map, length, slice_set, IfOk, OnOk, OnErr, IsSomeAnd};
+ghost use Rattle.std.specs.Prelude.{◌≡◌, ◌<◌, ◌∷◌, [], None, true, false, map, length, slice_set, IfOk, OnOk, OnErr};
 ghost use Rattle.green_tree.specs.Green.{branch_tree};
 ghost use Rattle.green_tree.specs.GreenElement.{element_tree, element_trees};
 ghost use Rattle.cst_core.specs.Element.{Element, subtree};
@@ -15,7 +15,7 @@ ghost use Rattle.edit_stages.specs.inner.Stages.{Begins, SomeWay, StaysAs, CanTa
 ghost use Rattle.edit_stages.specs.inner.Stages.{builds_of, done_in, HasNumber, TellsReady, TellsComplete};
 ghost use Rattle.edit_stages.specs.inner.Stages.{ShowsTree, ShowsPayload};
 
-use crate::payload::{given_elements, payload_stages};
+use crate::payload::{given_elements, only_node, payload_stages};
 use cst_core::{GreenElement, GreenNode, SyntaxNode};
 use edit_change::{Change, Fate, node_for_root};
 use rewriting::Aimed;
@@ -44,18 +44,6 @@ fn node(element: &GreenElement) -> &GreenNode
     match element {
         GreenElement::Node(node) => node,
         GreenElement::Token(_) => unreachable!(),
-    }
-}
-
-// The only element, a node.
-fn only_node(mut elements: Vec<GreenElement>) -> Option<GreenNode>
-    requires { IsOneNode (element_trees elements.items) }
-    ensures { IsSomeAnd result (λ node. element_trees elements.items ≡ branch_tree node ∷ []) }
-{
-    match elements.pop() {
-        Some(GreenElement::Node(node)) => Some(node),
-        Some(GreenElement::Token(_)) => unreachable!(),
-        None => unreachable!(),
     }
 }
 
@@ -216,7 +204,7 @@ impl Stages {
         if change.replaces_root() {
             // It brings one node.
             let _ = node_for_root(change);
-            self.new_root = only_node(given);
+            self.new_root = Some(only_node(given));
         }
         self.waiting.done(number);
     }
