@@ -34,7 +34,8 @@ use Rattle.std.proofs.lemmas.Bool.{cases_Bool, false≢true}
 use mathlib.Core.Logic.{inl, inr}
 use Rattle.edit_stages.specs.NewTree.{plain, payload_of, dependents, only, new_tree}
 use Rattle.edit_stages.specs.inner.Stages as stages
-use Rattle.edit_stages.specs.inner.Stages.{IsStages, Begins, HasNumber, CanTake, Takes, CountsTaken, Taking, builds_of, done_in, has_stage, staged_aim, tree_of}
+use Rattle.edit_stages.specs.inner.Stages.{IsStages, Begins, HasNumber, CanTake, Takes, CountsTaken, Taking, builds_of, done_in}
+use Rattle.edit_stages.specs.StagedChange.{has_stage, staged_aim, tree_of}
 use Rattle.edit_stages.specs.declared.stages.Stages.{Stages}
 use Rattle.edit_plan.specs.Places.{ArePlaces}
 use Rattle.edit_plan.specs.Plan.{Plan, IsPlan}

@@ -33,7 +33,8 @@ use Rattle.schedule.specs.Schedule.{is_complete}
 use Rattle.edit_change.proofs.Aiming.{own-aim}
 use Rattle.schedule.proofs.Undropped.{all-undropped}
 use Rattle.edit_stages.specs.NewTree.{plain, origin, targets_of, payload_of, moved_path, moved_aim, independents, dependents, only, given, new_tree, stage_tree, stage_payload}
-use Rattle.edit_stages.specs.inner.Stages.{GivesTrees, staged_aim}
+use Rattle.edit_stages.specs.inner.Stages.{GivesTrees}
+use Rattle.edit_stages.specs.StagedChange.{staged_aim}
 use Rattle.edit_stages.proofs.Altered.{fit_at}
 use Rattle.edit_stages.proofs.Owning.{owner-keeps, target-is}
 use Rattle.edit_stages.proofs.Taking.{all_grouped, only-all}

@@ -18,7 +18,7 @@ use Rattle.edit_change.specs.Nesting.{is_keeping, owner}
 use Rattle.edit_change.specs.declared.change.Change.{Change}
 use Rattle.edit_change.specs.declared.change.Change.TheVariants.{Insert, InsertAll, Replace, ReplaceWithMany, ReplaceAll}
 use Rattle.stepping.specs.Stage.{step_builds}
-use Rattle.edit_stages.specs.inner.Stages.{staged_aim, tree_of}
+use Rattle.edit_stages.specs.StagedChange.{staged_aim, tree_of}
 use Rattle.edit_stages.proofs.Altered.{fit_at, native_node, target_native}
 use Rattle.edit_stages.proofs.Live.{free-live, owned-live, target-root, tree_of-free, tree_of-owned}
 use Rattle.edit_stages.proofs.Owning.{owner-keeps}

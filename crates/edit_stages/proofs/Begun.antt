@@ -27,7 +27,8 @@ use Rattle.stepping.specs.Stage.{old_tree, IsStage}
 use Rattle.edit_stages.specs.NewTree.{independents, dependents, only}
 use Rattle.edit_stages.specs.inner.Payload.{BeginsPayload, BeginPayloads, keeps_payload, IsNodeTree}
 use Rattle.edit_stages.specs.inner.Splicing.{payload_at}
-use Rattle.edit_stages.specs.inner.Stages.{has_stage, IsPayloadStage, HasNewRoot, Begins}
+use Rattle.edit_stages.specs.inner.Stages.{IsPayloadStage, HasNewRoot, Begins}
+use Rattle.edit_stages.specs.StagedChange.{has_stage}
 use Rattle.edit_stages.specs.declared.stages.Stages.{Stages}
 
 -- the fate of a change, read from a list of all fates
