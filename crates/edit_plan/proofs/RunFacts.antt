@@ -20,12 +20,12 @@ use Rattle.cst_core.specs.Element.{subtree}
 use Rattle.rewriting.specs.Effort.{counted}
 use Rattle.rewriting.specs.Rewriting.{NumberedAim, rewritten}
 use Rattle.rewriting.specs.inner.Pass.{kind_only}
-use Rattle.stepping.specs.Stage.{step_builds}
+use Rattle.stepping.specs.StepCount.{step_builds}
 use Rattle.edit_change.specs.inner.AimFrom.{aim_from}
 use Rattle.edit_change.specs.declared.change.Change.{Change}
 use Rattle.edit_change.proofs.Clashes.{at-index}
 use Rattle.schedule.specs.Schedule.{is_ready, is_complete}
-use Rattle.schedule.specs.Waiting.{IsWaiting, is_done}
+use Rattle.schedule.specs.inner.Waiting.{IsWaiting, is_done}
 use Rattle.schedule.specs.inner.Waits.{standing_of}
 use Rattle.schedule.specs.declared.waiting.Standing.TheVariants.{Dropped, Undone, Done}
 use Rattle.schedule.proofs.Ordered.{waiting-ordered}

@@ -59,12 +59,8 @@ PlaceIsUnique =
     (m : Mapping) (payload target : Address) (p q : Path) → IsRising m → StandsFor m payload p target → StandsFor m payload q target → p ≡ q
 
 one-place : PlaceIsUnique → (m : Mapping) (o : Change) (p q : Path) → IsRising m → IsPlaceIn m o p → IsPlaceIn m o q → p ≡ q
-one-place unique m (Insert at e) p q rises h k = absurd h
-one-place unique m (InsertAll at es) p q rises h k = absurd h
-one-place unique m (Replace t None) p q rises h k = absurd h
 one-place unique m (Replace t (Some r)) p q rises h k = unique m _ _ p q rises h.0 k.0
-one-place unique m (ReplaceWithMany t es) p q rises h k = absurd h
-one-place unique m (ReplaceAll first last es) p q rises h k = absurd h
+one-place unique m _ p q rises h k = absurd h
 
 pub place-found : (m : Mapping) (cs : List Change) (places : ℕ → Path) → ArePlaces m cs places → (n o : ℕ) (c by : Change) → slice_get cs n ≡ Some c → owner cs c ≡ Some o → slice_get cs o ≡ Some by → HasPlace m by c (places o)
 place-found m cs places are n o c by at_n its at_o =

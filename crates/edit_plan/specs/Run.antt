@@ -18,7 +18,7 @@ use Rattle.cst_core.specs.Green.{Branch, branch_tree}
 use Rattle.cst_core.specs.Element.{NumbersTell, subtree}
 use Rattle.rewriting.specs.Aim.{parents}
 use Rattle.rewriting.specs.Effort.{counted}
-use Rattle.stepping.specs.Stage.{step_builds}
+use Rattle.stepping.specs.StepCount.{step_builds}
 use Rattle.schedule.specs.Schedule.{comes_first, is_ready}
 use Rattle.edit_change.specs.Nesting.{is_dropped}
 use Rattle.edit_change.specs.declared.change.Change.{Change}

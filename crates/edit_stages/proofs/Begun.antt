@@ -20,10 +20,10 @@ use Rattle.cst_core.specs.Path.{Path}
 use Rattle.cst_core.specs.Tree.{SyntaxTree}
 use Rattle.cst_core.specs.Element.{subtree}
 use Rattle.rewriting.specs.Rewriting.{NumberedAim}
-use Rattle.schedule.specs.Waiting.{IsWaiting}
+use Rattle.schedule.specs.inner.Waiting.{IsWaiting}
 use Rattle.schedule.proofs.Tables.{has_at}
 use Rattle.schedule.proofs.Undropped.{told-dropped}
-use Rattle.stepping.specs.Stage.{old_tree, IsStage}
+use Rattle.stepping.specs.inner.Stage.{old_tree, IsStage}
 use Rattle.edit_stages.specs.NewTree.{independents, dependents, only}
 use Rattle.edit_stages.specs.inner.Payload.{BeginsPayload, BeginPayloads, keeps_payload, IsNodeTree}
 use Rattle.edit_stages.specs.inner.Splicing.{payload_at}

@@ -36,9 +36,10 @@ use Rattle.edit_change.proofs.Regions.{owner-told}
 use Rattle.edit_change.proofs.Lists.{all_enumerated, all_filter, all_weaker}
 use Rattle.edit_change.proofs.Owners.{owner_cases, owner_from}
 use Rattle.schedule.specs.Schedule.{undropped, owned_first, gap_first, token_first, comes_first, is_ready}
-use Rattle.schedule.specs.Waiting.{IsWaiting, HasChange}
+use Rattle.schedule.specs.inner.Waiting.{IsWaiting, HasChange}
 use Rattle.schedule.proofs.Undropped.{all-undropped}
-use Rattle.stepping.specs.Stage.{old_tree, IsStage, step_builds}
+use Rattle.stepping.specs.inner.Stage.{old_tree, IsStage}
+use Rattle.stepping.specs.StepCount.{step_builds}
 use Rattle.stepping.specs.declared.stage.Stage.{Stage}
 use Rattle.edit_stages.specs.NewTree.{targets_of, payload_of, moved_aim, independents, dependents, only}
 use Rattle.edit_stages.specs.inner.Payload.{IsNodeTree, IsOneNode, BringsNode, payload_trees}

@@ -6,7 +6,7 @@ ghost use Rattle.rewriting.specs.inner.Aimed.{numbered};
 ghost use Rattle.edit_change.specs.Fits.{Fits};
 ghost use Rattle.edit_change.specs.Nesting.{first_clash};
 ghost use Rattle.edit_change.specs.inner.Fate.{fate};
-ghost use Rattle.schedule.specs.Waiting.{HasChange};
+ghost use Rattle.schedule.specs.inner.Waiting.{HasChange};
 ghost use Rattle.edit_stages.specs.inner.Payload.{BringsNode, IsNodeTree, IsOneNode};
 ghost use Rattle.edit_stages.specs.inner.Splicing.{CanStepIn, StepsIn, StaysIn, CountsStepIn, OthersStay};
 ghost use Rattle.edit_stages.specs.inner.Splicing.{CanSplice, Splices, SpliceStays, CountsSplice, RestStays};

@@ -10,7 +10,7 @@
 --     ListsEachOnce, respects       the order has each undropped change once and nothing else; it keeps to such a test
 --     IsAllowed                     an allowed order
 --     is_complete                   each change that is not dropped is in a set
---     is_ready, is_closed           what must come before a change is done, and it is not; a set of changes has, with each owner, what it owns
+--     is_ready                      what must come before a change is done, and it is not
 use Rattle.std.specs.Prelude.{◌≡◌, ℕ, Bool, false, not, ◌&&◌, ◌||◌, nat_eq, nat_lt, min, max, List, [], ◌∷◌, filter, count_by, Option, Some, None, IsTrue}
 use Rattle.std.specs.List.{list_all, enumerate_from, position_or_len}
 use Rattle.std.specs.Option.{option_map_or}
@@ -87,6 +87,3 @@ is_complete cs done = list_all (λ c. done c.0) (undropped cs)
 
 abbrev pub is_ready : List Change → (ℕ → Bool) → Numbered → Bool
 is_ready cs done d = not (is_dropped cs d.1) && not (done d.0) && list_all (λ c. not (comes_first cs c d) || done c.0) (undropped cs)
-
-abbrev pub is_closed : List Change → (ℕ → Bool) → Bool
-is_closed cs done = list_all (λ d. not (done d.0) || list_all (λ c. not (owned_first cs c d) || done c.0) (undropped cs)) (undropped cs)

@@ -27,9 +27,10 @@ use Rattle.edit_change.specs.Fits.{Fits}
 use Rattle.edit_change.specs.Nesting.{first_clash}
 use Rattle.edit_change.specs.declared.change.Change.{Change}
 use Rattle.schedule.specs.Schedule.{is_ready, is_complete}
-use Rattle.schedule.specs.Waiting.{IsWaiting, done_list}
+use Rattle.schedule.specs.inner.Waiting.{IsWaiting, done_list}
 use Rattle.rewriting.specs.Effort.{counted}
-use Rattle.stepping.specs.Stage.{old_tree, IsStage, step_builds}
+use Rattle.stepping.specs.inner.Stage.{old_tree, IsStage}
+use Rattle.stepping.specs.StepCount.{step_builds}
 use Rattle.stepping.specs.declared.stage.Stage.{Stage}
 use Rattle.edit_stages.specs.inner.Payload.{IsNodeTree}
 use Rattle.edit_stages.specs.NewTree.{payload_of, independents, dependents, only}
