@@ -29,11 +29,10 @@ elements (ReplaceAll first last es) = element_of first ∷ element_of last ∷ p
 
 -- All changes of a list are of one tree, so paths tell its elements apart.
 abbrev pub targets : Change → List Path
-targets (Insert at e) = []
-targets (InsertAll at es) = []
 targets (Replace t e) = (element_of t).path ∷ []
 targets (ReplaceWithMany t es) = (element_of t).path ∷ []
 targets (ReplaceAll first last es) = siblings (element_of first).path (element_of last).path
+targets _ = []
 
 abbrev pub shared_targets : Change → Change → Bool
 shared_targets c d = list_any (has_path (targets c)) (targets d)

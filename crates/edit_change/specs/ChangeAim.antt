@@ -18,9 +18,7 @@ position_aim (After e) = Behind (element_of e).path
 abbrev pub aim : Change → Aim
 aim (Insert at e) = position_aim at
 aim (InsertAll at es) = position_aim at
-aim (Replace t e) = Over (targets (Replace t e))
-aim (ReplaceWithMany t es) = Over (targets (ReplaceWithMany t es))
-aim (ReplaceAll first last es) = Over (targets (ReplaceAll first last es))
+aim c = Over (targets c)
 
 abbrev pub aim_path : Change → Path
 aim_path (Insert at e) = (anchor at).path

@@ -29,10 +29,7 @@ change_of_form (inr (inr (inr (inr f)))) = ReplaceAll f.0 f.1.0 f.1.1
 
 pub change_of_form-form_of_change : (c : Change) → change_of_form (form_of_change c) ≡ c
 change_of_form-form_of_change (Insert at e) = refl
-change_of_form-form_of_change (InsertAll at es) = refl
-change_of_form-form_of_change (Replace t e) = refl
-change_of_form-form_of_change (ReplaceWithMany t es) = refl
-change_of_form-form_of_change (ReplaceAll first last es) = refl
+change_of_form-form_of_change _ = refl
 
 abbrev pub change_code : Coded Change
 change_code =

@@ -40,10 +40,8 @@ abbrev pub is_range : SyntaxElement → SyntaxElement → Bool
 is_range first last = have_one_path first last || (are_siblings first last && nat_le (last_slot (element_of first).path) (last_slot (element_of last).path))
 
 abbrev pub is_one_node : List SyntaxElement → Bool
-is_one_node [] = false
 is_one_node (Node n ∷ []) = true
-is_one_node (Token t ∷ []) = false
-is_one_node (e ∷ f ∷ es) = false
+is_one_node _ = false
 
 abbrev pub fits : Element → Change → Bool
 fits root (Insert at e) = is_native_position root at

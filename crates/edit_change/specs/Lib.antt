@@ -7,5 +7,4 @@ pub mod ChangeAim
 pub mod Fits
 pub mod Nesting
 pub mod Display
-pub mod Clash
 pub mod inner

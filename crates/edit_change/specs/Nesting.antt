@@ -14,13 +14,13 @@ use Rattle.std.specs.Prelude.{ℕ, Bool, true, false, ◌&&◌, not, cond, nat_e
 use Rattle.std.specs.List.{list_any}
 use Rattle.std.specs.Option.{option_map_or}
 use Rattle.cst_core.specs.Path.{Path, has_path, up_to, above, counted_from, last_item}
-use Rattle.cst_core.specs.SyntaxElement.{element_of}
 use Rattle.cst_core.specs.declared.element.SyntaxElement.{SyntaxElement}
 use Rattle.cst_core.specs.declared.element.SyntaxElement.TheVariants.{Node, Token}
 use Rattle.edit_change.specs.Position.{anchor}
 use Rattle.edit_change.specs.Change.{targets, shared_targets}
+use Rattle.edit_change.specs.ChangeAim.{aim_path}
 use Rattle.edit_change.specs.declared.change.Change.{Change}
-use Rattle.edit_change.specs.declared.change.Change.TheVariants.{Insert, InsertAll, Replace, ReplaceWithMany, ReplaceAll}
+use Rattle.edit_change.specs.declared.change.Change.TheVariants.{Insert, InsertAll, Replace, ReplaceWithMany}
 
 -- ---- clashes
 abbrev pub pairs_with : ℕ → List (ℕ × ℕ)
@@ -41,29 +41,19 @@ region_of_one (Node n) = n.path ∷ []
 region_of_one (Token t) = []
 
 abbrev pub region : Change → List Path
-region (Insert at e) = []
-region (InsertAll at es) = []
 region (Replace t e) = region_of_one t
 region (ReplaceWithMany t es) = region_of_one t
-region (ReplaceAll first last es) = targets (ReplaceAll first last es)
+region c = targets c
 
 abbrev pub is_keeping : Change → Bool
-is_keeping (Insert at e) = false
-is_keeping (InsertAll at es) = false
-is_keeping (Replace t None) = false
-is_keeping (Replace (Token t) (Some e)) = false
-is_keeping (Replace (Node n) (Some (Token t))) = false
 is_keeping (Replace (Node n) (Some (Node r))) = true
-is_keeping (ReplaceWithMany t es) = false
-is_keeping (ReplaceAll first last es) = false
+is_keeping _ = false
 
 -- from the top down
 abbrev pub surroundings : Change → List Path
 surroundings (Insert at e) = up_to (anchor at).path
 surroundings (InsertAll at es) = up_to (anchor at).path
-surroundings (Replace t e) = above (element_of t).path
-surroundings (ReplaceWithMany t es) = above (element_of t).path
-surroundings (ReplaceAll first last es) = above (element_of first).path
+surroundings c = above (aim_path c)
 
 abbrev pub is_around : Change → Change → Bool
 is_around r c = list_any (has_path (surroundings c)) (region r)

@@ -4,3 +4,4 @@ pub mod AimFrom
 pub mod Targets
 pub mod TargetIndex
 pub mod Fate
+pub mod Clash

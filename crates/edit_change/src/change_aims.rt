@@ -45,19 +45,6 @@ impl Position {
 }
 
 impl Change {
-    /// The path that says where the change aims: of an insert's anchor, of the first element that a replacement replaces.
-    pub fn aim_path(&self) -> &[usize]
-        ensures { result.now ≡ aim_path self.now }
-    {
-        match self {
-            Change::Insert(position, _) => position.anchor(),
-            Change::InsertAll(position, _) => position.anchor(),
-            Change::Replace(target, _) => target.slots(),
-            Change::ReplaceWithMany(target, _) => target.slots(),
-            Change::ReplaceAll(first, _, _) => first.slots(),
-        }
-    }
-
     /// Whether it inserts after the element at a path.
     pub fn is_behind(&self, path: &[usize]) -> bool
         ensures { IsTrue result ↔ (aim self.now ≡ Behind path.now) }
@@ -69,43 +56,6 @@ impl Change {
             Change::ReplaceWithMany(_, _) => false,
             Change::ReplaceAll(_, _, _) => false,
         }
-    }
-
-    /// More than the lengths of the paths around the change, and no more than those of what it replaces.
-    pub fn depth(&self) -> usize
-        ensures value { result ≡ depth self.now }
-        ensures small { result < 2 ^ 62 }
-    {
-        match self {
-            Change::Insert(position, _) => position.anchor().len() + 1,
-            Change::InsertAll(position, _) => position.anchor().len() + 1,
-            Change::Replace(target, _) => target.slots().len(),
-            Change::ReplaceWithMany(target, _) => target.slots().len(),
-            Change::ReplaceAll(first, _, _) => first.slots().len(),
-        }
-    }
-
-    /// Where the change aims, with this number, and with another path in place of its own.
-    pub fn numbered_aim_from<'a>(&self, number: usize, path: &'a [usize]) -> Aimed<'a>
-        ensures { numbered result ≡ (number, aim_from path.now self.now) }
-    {
-        match self {
-            Change::Insert(position, _) => position.numbered_aim_from(number, path),
-            Change::InsertAll(position, _) => position.numbered_aim_from(number, path),
-            Change::Replace(_, _) => Aimed::over(number, path, 1),
-            Change::ReplaceWithMany(_, _) => Aimed::over(number, path, 1),
-            Change::ReplaceAll(first, last, _) => {
-                Aimed::over(number, path, count_of_range(first, last))
-            }
-        }
-    }
-
-    /// Where the change aims, with this number.
-    pub fn numbered_aim(&self, number: usize) -> Aimed<'_>
-        requires { (root : Element) × Fits root self.now }
-        ensures { numbered result ≡ (number, aim self.now) }
-    {
-        self.numbered_aim_from(number, self.aim_path())
     }
 
     /// Whether it replaces the root of its tree.
@@ -121,27 +71,6 @@ impl Change {
         }
     }
 
-    /// The node that takes the place of a root.
-    pub fn node_for_root(&self) -> &SyntaxNode
-        requires fits { (root : Element) × Fits root self.now }
-        requires root { has_path (targets self.now) [] ≡ true }
-        ensures brought { payload self.now ≡ result.now ∷ [] }
-        ensures node { IsNode result.now }
-    {
-        let node = match self {
-            Change::Insert(_, _) => unreachable!(),
-            Change::InsertAll(_, _) => unreachable!(),
-            Change::Replace(_, None) => unreachable!(),
-            Change::Replace(_, Some(SyntaxElement::Token(_))) => unreachable!(),
-            Change::Replace(_, Some(SyntaxElement::Node(node))) => node,
-            Change::ReplaceWithMany(_, elements) => one_node(elements.as_slice()),
-            Change::ReplaceAll(_, _, _) => unreachable!(),
-        };
-        // It is a node.
-        let _ = node.kind();
-        node
-    }
-
     /// The elements of the payload, in order.
     pub fn payload(&self) -> &[SyntaxElement]
         ensures { map element_of result.now ≡ payload self.now }
@@ -155,19 +84,90 @@ impl Change {
             Change::ReplaceAll(_, _, elements) => elements.as_slice(),
         }
     }
+}
 
-    /// The elements of the payload, as shared trees: one is borrowed, of several each is shared.
-    pub fn green_payload(&self, alloc: Global) -> Result<Given<'_>, AllocError>
-        ensures { IfOk result (λ g. given_trees g ≡ map subtree (payload self.now)) }
-    {
-        match self {
-            Change::Insert(_, element) => Ok(Given::Borrowed(element.as_green())),
-            Change::InsertAll(_, elements) => green_elements(alloc, elements.as_slice()),
-            Change::Replace(_, None) => Ok(Given::Shared(Vec::new(alloc))),
-            Change::Replace(_, Some(element)) => Ok(Given::Borrowed(element.as_green())),
-            Change::ReplaceWithMany(_, elements) => green_elements(alloc, elements.as_slice()),
-            Change::ReplaceAll(_, _, elements) => green_elements(alloc, elements.as_slice()),
+/// The path that says where the change aims: of an insert's anchor, of the first element that a replacement replaces.
+pub fn aim_path(change: &Change) -> &[usize]
+    ensures { result.now ≡ aim_path change.now }
+{
+    match change {
+        Change::Insert(position, _) => position.anchor(),
+        Change::InsertAll(position, _) => position.anchor(),
+        Change::Replace(target, _) => target.slots(),
+        Change::ReplaceWithMany(target, _) => target.slots(),
+        Change::ReplaceAll(first, _, _) => first.slots(),
+    }
+}
+
+/// More than the lengths of the paths around the change, and no more than those of what it replaces.
+pub fn depth(change: &Change) -> usize
+    ensures value { result ≡ depth change.now }
+    ensures small { result < 2 ^ 62 }
+{
+    match change {
+        Change::Insert(position, _) => position.anchor().len() + 1,
+        Change::InsertAll(position, _) => position.anchor().len() + 1,
+        Change::Replace(target, _) => target.slots().len(),
+        Change::ReplaceWithMany(target, _) => target.slots().len(),
+        Change::ReplaceAll(first, _, _) => first.slots().len(),
+    }
+}
+
+/// Where the change aims, with this number, and with another path in place of its own.
+pub fn numbered_aim_from<'a>(change: &Change, number: usize, path: &'a [usize]) -> Aimed<'a>
+    ensures { numbered result ≡ (number, aim_from path.now change.now) }
+{
+    match change {
+        Change::Insert(position, _) => position.numbered_aim_from(number, path),
+        Change::InsertAll(position, _) => position.numbered_aim_from(number, path),
+        Change::Replace(_, _) => Aimed::over(number, path, 1),
+        Change::ReplaceWithMany(_, _) => Aimed::over(number, path, 1),
+        Change::ReplaceAll(first, last, _) => {
+            Aimed::over(number, path, count_of_range(first, last))
         }
+    }
+}
+
+/// Where the change aims, with this number.
+pub fn numbered_aim(change: &Change, number: usize) -> Aimed<'_>
+    requires { (root : Element) × Fits root change.now }
+    ensures { numbered result ≡ (number, aim change.now) }
+{
+    numbered_aim_from(change, number, aim_path(change))
+}
+
+/// The node that takes the place of a root.
+pub fn node_for_root(change: &Change) -> &SyntaxNode
+    requires fits { (root : Element) × Fits root change.now }
+    requires root { has_path (targets change.now) [] ≡ true }
+    ensures brought { payload change.now ≡ result.now ∷ [] }
+    ensures node { IsNode result.now }
+{
+    let node = match change {
+        Change::Insert(_, _) => unreachable!(),
+        Change::InsertAll(_, _) => unreachable!(),
+        Change::Replace(_, None) => unreachable!(),
+        Change::Replace(_, Some(SyntaxElement::Token(_))) => unreachable!(),
+        Change::Replace(_, Some(SyntaxElement::Node(node))) => node,
+        Change::ReplaceWithMany(_, elements) => one_node(elements.as_slice()),
+        Change::ReplaceAll(_, _, _) => unreachable!(),
+    };
+    // It is a node.
+    let _ = node.kind();
+    node
+}
+
+/// The elements of the payload, as shared trees: one is borrowed, of several each is shared.
+pub fn green_payload(alloc: Global, change: &Change) -> Result<Given<'_>, AllocError>
+    ensures { IfOk result (λ g. given_trees g ≡ map subtree (payload change.now)) }
+{
+    match change {
+        Change::Insert(_, element) => Ok(Given::Borrowed(element.as_green())),
+        Change::InsertAll(_, elements) => green_elements(alloc, elements.as_slice()),
+        Change::Replace(_, None) => Ok(Given::Shared(Vec::new(alloc))),
+        Change::Replace(_, Some(element)) => Ok(Given::Borrowed(element.as_green())),
+        Change::ReplaceWithMany(_, elements) => green_elements(alloc, elements.as_slice()),
+        Change::ReplaceAll(_, _, elements) => green_elements(alloc, elements.as_slice()),
     }
 }
 

@@ -16,12 +16,14 @@ mod target_index;
 mod targets;
 
 pub use change::Change;
-pub use change_aims::slot_after;
+pub use change_aims::{
+    aim_path, depth, green_payload, node_for_root, numbered_aim, numbered_aim_from, slot_after,
+};
 pub use clash_error::ClashError;
 pub use element_like::Element;
 pub use element_list::ElementList;
 pub use fate::{Fate, fates};
 pub use fits::{is_node, is_one_node, is_range, is_root};
-pub use native::is_native;
+pub use native::{is_native, is_native_node};
 pub use position::Position;
 pub use target_index::TargetIndex;

@@ -15,7 +15,8 @@ pub fn is_native(root: &SyntaxNode, element: &SyntaxElement) -> bool
     }
 }
 
-fn is_native_node(root: &SyntaxNode, node: &SyntaxNode) -> bool
+/// Whether a node is of the tree of `root`, without a copy of it as an element.
+pub fn is_native_node(root: &SyntaxNode, node: &SyntaxNode) -> bool
     ensures { result ≡ is_native root.now (Node node.now) }
 {
     if node.tree() != root.tree() {

@@ -4,7 +4,7 @@ ghost use Rattle.path_table.specs.inner.PathTable.{cell_at, size, IsTree};
 ghost use Rattle.edit_change.specs.Change.{targets};
 ghost use Rattle.edit_change.specs.inner.TargetIndex.{number_at, IsEntered, lesser, least, IsIndex};
 ghost use Rattle.edit_change.specs.Nesting.{first_clash};
-ghost use Rattle.edit_change.specs.Clash.{ClashRefuses};
+ghost use Rattle.edit_change.specs.inner.Clash.{ClashRefuses};
 
 use crate::change::Change;
 use crate::clash_error::ClashError;

@@ -166,16 +166,10 @@ module _ (p : Plan) (is : IsPlan p) (keeps : KeepsShapes p) (tell : NumbersTell 
       moved-aims root.root (subtree r) n_path (places o) alike (aim c) (owned_below cs o c has) (fits-aims root c (fit_at root cs is.fit n c there))
 
   owned-aimed : (n : ℕ) (c d : Change) (k : ℕ) (e : Element) → slice_get p.changes n ≡ Some c → owner p.changes c ≡ Some o → slice_get p.changes o ≡ Some d → is_keeping d ≡ true → k < length (payload_of p.changes o) → AimsAt (subtree (get_or (payload_of p.changes o) k e)) (moved_aim (unwrap_or (first_item (targets_of p.changes o)) []) (places o) (aim c))
-  owned-aimed n c (Insert at_p x) k e there its by kept l = absurd (false≢true kept)
-  owned-aimed n c (InsertAll at_p x) k e there its by kept l = absurd (false≢true kept)
-  owned-aimed n c (Replace t None) k e there its by kept l = absurd (false≢true kept)
-  owned-aimed n c (Replace (Token t) (Some x)) k e there its by kept l = absurd (false≢true kept)
-  owned-aimed n c (Replace (Node t) (Some (Token r))) k e there its by kept l = absurd (false≢true kept)
   owned-aimed n c (Replace (Node t) (Some (Node r))) k e there its by kept l =
       let one : payload_of p.changes o ≡ r ∷ [] = ap (λ x. option_map_or payload x []) by in
       subst (λ x. AimsAt (subtree x) (moved_aim (unwrap_or (first_item (targets_of p.changes o)) []) (places o) (aim c))) (sym (only-item (payload_of p.changes o) r e k one l)) (in_payload n c t r (at (subtree r) (places o)) there its by refl (keeps tell places are n o c t r there its by))
-  owned-aimed n c (ReplaceWithMany t es) k e there its by kept l = absurd (false≢true kept)
-  owned-aimed n c (ReplaceAll first last es) k e there its by kept l = absurd (false≢true kept)
+  owned-aimed n c _ k e there its by kept l = absurd (false≢true kept)
 
   payload-built : All (λ e. AreBuilt (dependents p.changes places o) (subtree e)) (payload_of p.changes o)
   payload-built = λ k e l.

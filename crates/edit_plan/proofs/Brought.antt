@@ -24,7 +24,7 @@ use Rattle.edit_change.specs.Nesting.{owner, is_dropped, is_independent}
 use Rattle.edit_stages.specs.NewTree.{Origin, OriginTree, origin, payload_of, dependents, given, is_free}
 use Rattle.edit_plan.specs.Results.{is_brought}
 use Rattle.edit_change.specs.declared.change.Change.{Change}
-use Rattle.edit_plan.proofs.Edits.{Edits, below, filled, edits_of, remade, remade_from, rewritten_is}
+use Rattle.stepping.proofs.Edits.{Edits, below, filled, edits_of, remade, remade_from, rewritten_is}
 use Rattle.edit_change.proofs.Lists.{all-append}
 use Rattle.edit_plan.proofs.Owners.{rank, rank_less}
 use Rattle.edit_plan.proofs.Relabelled.{relabelled-rewritten, holds-relabelled, topmost-relabelled}

@@ -12,7 +12,7 @@ mod Levels
 mod Nested
 mod Placed
 mod GapRule
-mod Edits
+mod Untouched
 mod Owners
 mod Settled
 mod Untold

@@ -24,7 +24,8 @@ use Rattle.edit_plan.specs.Places.{ArePlaces}
 use Rattle.edit_plan.specs.Plan.{Plan}
 use Rattle.edit_plan.specs.inner.OwnerTables.{AreGiven}
 use Rattle.edit_plan.specs.inner.Marks.{IsTableOf, marks_given, with_marks, paths_of_mark, path_lists}
-use Rattle.edit_plan.specs.inner.PlanRun.{IsMade, IsOneNode, KeepsTop}
+use Rattle.edit_plan.specs.inner.PlanRun.{IsMade, KeepsTop}
+use Rattle.edit_stages.specs.inner.Payload.{IsOneNode}
 use Rattle.edit_plan.specs.inner.Sought.{addresses, sought_at}
 use Rattle.edit_plan.specs.declared.sought.SoughtIndex.{SoughtIndex}
 use Rattle.edit_plan.proofs.CopiesFound.{all-copies}

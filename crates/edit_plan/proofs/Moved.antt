@@ -158,11 +158,8 @@ owned-is-inside cs c r o by at_o =
     omega (arith, deep, own r keeps, up.2)
   where
     own : (r : Change) → is_keeping r ≡ true → depth r ≡ length (aim_path r)
-    own (Insert at e) h = absurd (false≢true h)
-    own (InsertAll at es) h = absurd (false≢true h)
     own (Replace t e) h = refl
-    own (ReplaceWithMany t es) h = absurd (false≢true h)
-    own (ReplaceAll first last es) h = absurd (false≢true h)
+    own _ h = absurd (false≢true h)
 
 -- ---- what stands at a number
 pub change-at : (cs : List Change) (n : ℕ) (c : Change) → n < length cs → c ≡ get_or cs n c → slice_get cs n ≡ Some c

@@ -23,7 +23,7 @@ use Rattle.edit_change.specs.declared.position.Position.{Position}
 use Rattle.edit_change.specs.Change.{payload, targets}
 use Rattle.edit_change.specs.Nesting.{first_clash, is_independent}
 use Rattle.edit_plan.specs.inner.OwnerTables.{AreGiven}
-use Rattle.edit_plan.specs.inner.PlanRun.{IsOneNode, BringsNode}
+use Rattle.edit_stages.specs.inner.Payload.{IsOneNode, BringsNode}
 use Rattle.edit_stages.specs.NewTree.{Origin, OriginTree, plain, origin, change_aims, payload_of, dependents, given, independents}
 use Rattle.edit_change.specs.declared.change.Change.{Change}
 use Rattle.edit_change.specs.declared.change.Change.TheVariants.{Insert, InsertAll, Replace, ReplaceWithMany, ReplaceAll}

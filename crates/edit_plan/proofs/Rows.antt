@@ -5,7 +5,7 @@ use Rattle.edit_map.proofs.RowTrees.{tree_L, tree_B, tree_BB, tree_M, tree_E, tr
 use Rattle.edit_map.proofs.Rows.{R, B, BB, N, O, M, NM, NR, W, N7, A3, mapping_7}
 use Rattle.edit_change.specs.Nesting.{first_clash, is_dropped}
 use Rattle.edit_stages.specs.NewTree.{new_tree}
-use Rattle.edit_plan.specs.Results.{annotated_as}
+use Rattle.edit_plan.specs.Results.{annotated, paths_with}
 use Rattle.edit_plan.specs.TouchedNodes.{touched_by}
 use Rattle.edit_change.specs.declared.change.Change.{Change}
 use Rattle.edit_plan.proofs.RowChanges.{outcome, owners, placed, no_places, after, before, first_in, last_in, insert, insert_all, delete, replace, replace_with_many, replace_all, E, F, Z, X, Y, U, V, S1, S3}
@@ -99,7 +99,7 @@ places_7 = placed 1 (0 ∷ 4 ∷ []) no_places
 row_7 : outcome changes_7 places_7 tree_M ≡ (codes "_ => {\n    let var_name = 2 + 2;\n    (var_name, true)\n},", (4 ∷ []) ∷ [])
 row_7 = refl
 
-row_7_note : flat_map (λ t. annotated_as mapping_7 ((NM, 1) ∷ (NR, 1) ∷ []) t 1) (new_tree changes_7 places_7 (M [])) ≡ (4 ∷ 0 ∷ 2 ∷ 2 ∷ 0 ∷ []) ∷ (4 ∷ 0 ∷ 4 ∷ 1 ∷ []) ∷ []
+row_7_note : flat_map (λ t. paths_with 1 (annotated mapping_7 ((NM, 1) ∷ (NR, 1) ∷ []) t)) (new_tree changes_7 places_7 (M [])) ≡ (4 ∷ 0 ∷ 2 ∷ 2 ∷ 0 ∷ []) ∷ (4 ∷ 0 ∷ 4 ∷ 1 ∷ []) ∷ []
 row_7_note = refl
 
 row_7_effort : touched_by changes_7 places_7 (M []) ≡ 4

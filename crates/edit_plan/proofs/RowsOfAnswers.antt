@@ -4,7 +4,7 @@ use Rattle.cst_core.specs.Path.{Path}
 use Rattle.cst_core.specs.Element.{Element, address}
 use Rattle.edit_map.proofs.Rows.{R}
 use Rattle.edit_stages.specs.NewTree.{plain, new_tree}
-use Rattle.edit_plan.specs.Results.{annotated_as, stand_in_path}
+use Rattle.edit_plan.specs.Results.{annotated, paths_with, stand_in_path}
 use Rattle.edit_plan.specs.inner.Sought.{sought_from}
 use Rattle.edit_change.specs.Display.{escape, change_text}
 use Rattle.edit_change.specs.declared.change.Change.{Change}
@@ -13,7 +13,7 @@ use Rattle.edit_plan.proofs.Rows.{changes_2}
 
 -- ---- the paths of an annotation, where nothing is mapped
 abbrev notes : List Element → List Change → List Path
-notes es cs = flat_map (λ t. annotated_as [] (map (λ e. (e, 1)) es) t 1) (new_tree cs no_places (R []))
+notes es cs = flat_map (λ t. paths_with 1 (annotated [] (map (λ e. (e, 1)) es) t)) (new_tree cs no_places (R []))
 
 row_two_notes : notes (R (4 ∷ []) ∷ R (1 ∷ []) ∷ []) [] ≡ (4 ∷ []) ∷ (1 ∷ []) ∷ []
 row_two_notes = refl

@@ -26,7 +26,8 @@ use Rattle.edit_plan.proofs.RowsOfLengths.{doubled, falling, long, longest, P, c
 use Rattle.edit_plan.proofs.Relabelled.{topmost-relabelled}
 use Rattle.edit_plan.proofs.Brought.{marked, alone}
 use Rattle.edit_plan.proofs.Whole.{changed-whole, not_given}
-use Rattle.edit_plan.proofs.Edits.{remade, remade_from, no_edits, untouched_is}
+use Rattle.edit_plan.proofs.Untouched.{no_edits, untouched_is}
+use Rattle.stepping.proofs.Edits.{remade, remade_from}
 use Rattle.edit_plan.proofs.Unowned.{text-unowned}
 
 -- ---- a child that no aim is at or below

@@ -7,7 +7,7 @@ use Rattle.edit_map.proofs.RowTrees.{tree_BB}
 use Rattle.edit_map.proofs.Rows.{R, BB}
 use Rattle.edit_stages.specs.NewTree.{stage_tree, stage_payload}
 use Rattle.schedule.specs.DefaultOrder.{default_first}
-use Rattle.schedule.specs.Schedule.{Numbered, ListsEachOnce, respects, owned_first, gap_first, token_first, IsAllowed, is_ready, is_closed}
+use Rattle.schedule.specs.Schedule.{Numbered, ListsEachOnce, respects, owned_first, gap_first, token_first, IsAllowed, is_ready}
 use Rattle.edit_change.specs.declared.change.Change.{Change}
 use Rattle.edit_plan.proofs.RowChanges.{no_places}
 use Rattle.edit_plan.proofs.Rows.{changes_2, changes_3, changes_4, places_4, changes_5, changes_8a, changes_8b, changes_14, changes_empty_token}
@@ -73,10 +73,6 @@ row_dropped_left_out n = refl
 
 row_dropped_in_order : ListsEachOnce changes_8a (0 ∷ 1 ∷ []) → ⊥
 row_dropped_in_order each = different 0 1 (omega arith) (sym (each 1))
-
--- an owner alone is no closed set
-row_closed : ◌≡◌ {A = List Bool} (is_closed changes_4 (only_one 1) ∷ is_closed changes_4 (only_one 2) ∷ []) (true ∷ false ∷ [])
-row_closed = refl
 
 -- ---- stages
 abbrev both : ℕ → Bool

@@ -20,12 +20,12 @@ use Rattle.cst_core.specs.Element.{subtree}
 use Rattle.rewriting.specs.Effort.{counted}
 use Rattle.rewriting.specs.Rewriting.{NumberedAim, rewritten}
 use Rattle.rewriting.specs.inner.Pass.{kind_only}
-use Rattle.stepping.specs.Stage.{step_builds}
+use Rattle.stepping.specs.StepCount.{step_builds}
 use Rattle.edit_change.specs.inner.AimFrom.{aim_from}
 use Rattle.edit_change.specs.declared.change.Change.{Change}
 use Rattle.edit_change.proofs.Clashes.{at-index}
 use Rattle.schedule.specs.Schedule.{is_ready, is_complete}
-use Rattle.schedule.specs.Waiting.{IsWaiting, is_done}
+use Rattle.schedule.specs.inner.Waiting.{IsWaiting, is_done}
 use Rattle.schedule.specs.inner.Waits.{standing_of}
 use Rattle.schedule.specs.declared.waiting.Standing.TheVariants.{Dropped, Undone, Done}
 use Rattle.schedule.proofs.Ordered.{waiting-ordered}
@@ -34,7 +34,8 @@ use Rattle.std.proofs.lemmas.Bool.{cases_Bool, false≢true}
 use mathlib.Core.Logic.{inl, inr}
 use Rattle.edit_stages.specs.NewTree.{plain, payload_of, dependents, only, new_tree}
 use Rattle.edit_stages.specs.inner.Stages as stages
-use Rattle.edit_stages.specs.inner.Stages.{IsStages, Begins, HasNumber, CanTake, Takes, CountsTaken, Taking, builds_of, done_in, has_stage, staged_aim, tree_of}
+use Rattle.edit_stages.specs.inner.Stages.{IsStages, Begins, HasNumber, CanTake, Takes, CountsTaken, Taking, builds_of, done_in}
+use Rattle.edit_stages.specs.StagedChange.{has_stage, staged_aim, tree_of}
 use Rattle.edit_stages.specs.declared.stages.Stages.{Stages}
 use Rattle.edit_plan.specs.Places.{ArePlaces}
 use Rattle.edit_plan.specs.Plan.{Plan, IsPlan}

@@ -33,7 +33,8 @@ use Rattle.schedule.specs.Schedule.{is_complete}
 use Rattle.edit_change.proofs.Aiming.{own-aim}
 use Rattle.schedule.proofs.Undropped.{all-undropped}
 use Rattle.edit_stages.specs.NewTree.{plain, origin, targets_of, payload_of, moved_path, moved_aim, independents, dependents, only, given, new_tree, stage_tree, stage_payload}
-use Rattle.edit_stages.specs.inner.Stages.{GivesTrees, staged_aim}
+use Rattle.edit_stages.specs.inner.Stages.{GivesTrees}
+use Rattle.edit_stages.specs.StagedChange.{staged_aim}
 use Rattle.edit_stages.proofs.Altered.{fit_at}
 use Rattle.edit_stages.proofs.Owning.{owner-keeps, target-is}
 use Rattle.edit_stages.proofs.Taking.{all_grouped, only-all}
@@ -58,12 +59,8 @@ PlaceIsUnique =
     (m : Mapping) (payload target : Address) (p q : Path) → IsRising m → StandsFor m payload p target → StandsFor m payload q target → p ≡ q
 
 one-place : PlaceIsUnique → (m : Mapping) (o : Change) (p q : Path) → IsRising m → IsPlaceIn m o p → IsPlaceIn m o q → p ≡ q
-one-place unique m (Insert at e) p q rises h k = absurd h
-one-place unique m (InsertAll at es) p q rises h k = absurd h
-one-place unique m (Replace t None) p q rises h k = absurd h
 one-place unique m (Replace t (Some r)) p q rises h k = unique m _ _ p q rises h.0 k.0
-one-place unique m (ReplaceWithMany t es) p q rises h k = absurd h
-one-place unique m (ReplaceAll first last es) p q rises h k = absurd h
+one-place unique m _ p q rises h k = absurd h
 
 pub place-found : (m : Mapping) (cs : List Change) (places : ℕ → Path) → ArePlaces m cs places → (n o : ℕ) (c by : Change) → slice_get cs n ≡ Some c → owner cs c ≡ Some o → slice_get cs o ≡ Some by → HasPlace m by c (places o)
 place-found m cs places are n o c by at_n its at_o =

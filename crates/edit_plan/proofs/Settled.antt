@@ -18,7 +18,8 @@ use Rattle.edit_stages.specs.NewTree.{OriginTree, origin, moved_aim, targets_of,
 use Rattle.edit_change.specs.declared.change.Change.{Change}
 use Rattle.edit_change.proofs.Lists.{all_filter, all_weaker, all_enumerated, flat_map-agree}
 use Rattle.edit_plan.proofs.GapRule.{all-gap_order}
-use Rattle.edit_plan.proofs.Edits.{taken, filled, slot-filled, rewritten-same, plain-untouched, untouched_by_none}
+use Rattle.edit_plan.proofs.Untouched.{rewritten-same, plain-untouched, untouched_by_none}
+use Rattle.stepping.proofs.Edits.{taken, filled, slot-filled}
 use Rattle.edit_change.proofs.Owners.{owner_from}
 use Rattle.edit_plan.proofs.Owners.{rank, rank-le, rank_less}
 

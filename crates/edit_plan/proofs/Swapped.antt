@@ -34,7 +34,8 @@ use Rattle.cst_core.specs.SyntaxElement.{syntax_at}
 use Rattle.edit_change.specs.declared.change.Change.{Change}
 use Rattle.edit_change.proofs.Lists.{all_weaker}
 use Rattle.edit_plan.proofs.GapRule.{gap_order-map}
-use Rattle.edit_plan.proofs.Edits.{taken, filled, slot-filled, rewritten-same}
+use Rattle.edit_plan.proofs.Untouched.{rewritten-same}
+use Rattle.stepping.proofs.Edits.{taken, filled, slot-filled}
 use Rattle.edit_plan.proofs.Settled.{given_is, given_unique}
 use Rattle.edit_plan.proofs.Exchanged.{exchanged, exchanged-twice, nat_eq-exchanged, last_item-map, filter_map-option_map, slice_get-exchanged, any-exchanged, position-exchanged, kept-exchanged}
 use Rattle.edit_plan.proofs.Relabelled.{relabelled-rewritten, map-rewritten_whole, paths-relabelled, holds-relabelled, relabelled-twice, topmost-relabelled}

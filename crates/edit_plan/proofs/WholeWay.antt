@@ -17,8 +17,8 @@ use Rattle.edit_change.specs.Fits.{Fits}
 use Rattle.edit_change.specs.Nesting.{is_keeping, owner}
 use Rattle.edit_change.specs.declared.change.Change.{Change}
 use Rattle.edit_change.specs.declared.change.Change.TheVariants.{Insert, InsertAll, Replace, ReplaceWithMany, ReplaceAll}
-use Rattle.stepping.specs.Stage.{step_builds}
-use Rattle.edit_stages.specs.inner.Stages.{staged_aim, tree_of}
+use Rattle.stepping.specs.StepCount.{step_builds}
+use Rattle.edit_stages.specs.StagedChange.{staged_aim, tree_of}
 use Rattle.edit_stages.proofs.Altered.{fit_at, native_node, target_native}
 use Rattle.edit_stages.proofs.Live.{free-live, owned-live, target-root, tree_of-free, tree_of-owned}
 use Rattle.edit_stages.proofs.Owning.{owner-keeps}
@@ -62,14 +62,8 @@ module _ (p : Plan) (is : IsPlan p) (keeps : KeepsShapes p) (tell : NumbersTell 
       ap (λ w. step_builds w (staged_aim p.changes places c)) (tree_of-owned p.changes (subtree p.root) c o t r by its) ∙ owned-live p.changes p.root is.fit places n o c t r by whole at_n its u place same
 
   owned : (o : ℕ) (d : Change) → owner p.changes c ≡ Some o → slice_get p.changes o ≡ Some d → is_keeping d ≡ true → BuildsWay
-  owned o (Insert at_p e) its by kept = absurd (false≢true kept)
-  owned o (InsertAll at_p es) its by kept = absurd (false≢true kept)
-  owned o (Replace t None) its by kept = absurd (false≢true kept)
-  owned o (Replace (Token t) (Some e)) its by kept = absurd (false≢true kept)
-  owned o (Replace (Node t) (Some (Token r))) its by kept = absurd (false≢true kept)
   owned o (Replace (Node t) (Some (Node r))) its by kept = in_payload o t r (at (subtree r) (places o)) its by refl (keeps tell places are n o c t r at_n its by)
-  owned o (ReplaceWithMany t es) its by kept = absurd (false≢true kept)
-  owned o (ReplaceAll first last es) its by kept = absurd (false≢true kept)
+  owned o _ its by kept = absurd (false≢true kept)
 
   pub way-whole : BuildsWay
   way-whole = go (owner p.changes c) refl

@@ -47,11 +47,10 @@ EngineRefuses p Memory = Unit {0}
 -- `ran` says what the run did to the engine, if this is whether it had an answer. What comes of the tree comes of a run without one, and
 -- a missing tree number is seen after a run with one. Memory may run out in the run or after it.
 abbrev pub RanBefore : (Bool → Type 0) → EditError → Type 0
-RanBefore ran (edit.Intersecting first second) = ⊥
-RanBefore ran (edit.MissingMapping change owner) = ⊥
 RanBefore ran edit.TooLong = ran false
 RanBefore ran edit.NoTreeNumber = ran true
 RanBefore ran edit.Memory = (answered : Bool) × ran answered
+RanBefore ran _ = ⊥
 
 -- The count is exact where equal numbers have equal trees. Else a change may aim at nothing in its owner's payload, and less is built.
 pub record CountsTouched (p : Plan) (before after : ℕ) : Type 0 where

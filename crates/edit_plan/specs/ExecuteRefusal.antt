@@ -1,6 +1,5 @@
 -- Why a plan is not carried out in an order.
 --     of_order                      the refusal that stands for one of the order
---     EditRefuses                   why an edit is refused: its tree is asked only of an allowed order
 --     ExecuteRefuses                the first clause of allowed orders that does not hold; else why the new tree is refused
 use Rattle.std.specs.Prelude.{ℕ, List}
 use Rattle.schedule.specs.OrderRefusal.{OrderRefuses}
@@ -8,8 +7,7 @@ use Rattle.schedule.specs.Schedule.{IsAllowed}
 use Rattle.schedule.specs.declared.order_error.OrderError.{OrderError}
 use Rattle.schedule.specs.declared.order_error.OrderError.TheVariants as order
 use Rattle.edit_plan.specs.Plan.{Plan, RunRefuses}
-use Rattle.edit_plan.specs.declared.edit_error.EditError.{EditError}
-use Rattle.edit_plan.specs.declared.edit_error.EditError.TheVariants.{Intersecting, MissingMapping, TooLong, NoTreeNumber, Memory}
+use Rattle.edit_plan.specs.declared.edit_error.EditError.TheVariants.{Memory}
 use Rattle.edit_plan.specs.declared.execute_error.ExecuteError.{ExecuteError}
 use Rattle.edit_plan.specs.declared.execute_error.ExecuteError.TheVariants.{NotEachOnce, OwnerTooEarly, GapOutOfOrder, TokenTooEarly, Edit}
 
@@ -20,17 +18,11 @@ of_order order.GapOutOfOrder = GapOutOfOrder
 of_order order.TokenTooEarly = TokenTooEarly
 of_order order.Memory = Edit Memory
 
--- `next` is the number that the source of tree numbers gives next. Of an edit's refusals those of building the plan do not come.
-abbrev pub EditRefuses : Plan → List ℕ → ℕ → EditError → Type 0
-EditRefuses p listed next (Intersecting first second) = ⊥
-EditRefuses p listed next (MissingMapping change owner) = ⊥
-EditRefuses p listed next TooLong = IsAllowed p.changes listed × RunRefuses p next TooLong
-EditRefuses p listed next NoTreeNumber = IsAllowed p.changes listed × RunRefuses p next NoTreeNumber
-EditRefuses p listed next Memory = Unit {0}
-
+-- `next` is the number that the source of tree numbers gives next. The new tree is asked only of an allowed order.
 abbrev pub ExecuteRefuses : Plan → List ℕ → ℕ → ExecuteError → Type 0
 ExecuteRefuses p listed next NotEachOnce = OrderRefuses p.changes listed order.NotEachOnce
 ExecuteRefuses p listed next OwnerTooEarly = OrderRefuses p.changes listed order.OwnerTooEarly
 ExecuteRefuses p listed next GapOutOfOrder = OrderRefuses p.changes listed order.GapOutOfOrder
 ExecuteRefuses p listed next TokenTooEarly = OrderRefuses p.changes listed order.TokenTooEarly
-ExecuteRefuses p listed next (Edit e) = EditRefuses p listed next e
+ExecuteRefuses p listed next (Edit Memory) = Unit {0}
+ExecuteRefuses p listed next (Edit e) = IsAllowed p.changes listed × RunRefuses p next e

@@ -5,7 +5,7 @@
 --     FindsPlace, ArePlaces         a change has its place where one is kept for each owner; each change does
 --     elements_held                 all element values that a plan holds, of which NumbersTell is the premise of every promise on the tree
 --     TextIsTooLong                 the new text passes the limit
-use Rattle.std.specs.Prelude.{◌≡◌, ◌≢◌, ℕ, ◌<◌, ◌≤◌, List, [], ◌∷◌, ◌++◌, map, flat_map, slice_get, Some, None, IfSome, IsSome, IsSomeAnd, All}
+use Rattle.std.specs.Prelude.{◌≡◌, ◌≢◌, ℕ, ◌<◌, ◌≤◌, List, [], ◌∷◌, ◌++◌, map, flat_map, slice_get, Some, IfSome, IsSome, IsSomeAnd, All}
 use Rattle.cst_core.specs.Path.{Path}
 use Rattle.cst_core.specs.Tree.{at, text_length}
 use Rattle.cst_core.specs.Element.{Element, address, subtree}
@@ -18,16 +18,12 @@ use Rattle.edit_change.specs.ChangeAim.{aim, aim_path}
 use Rattle.edit_change.specs.Nesting.{owner}
 use Rattle.edit_stages.specs.NewTree.{OriginTree}
 use Rattle.edit_change.specs.declared.change.Change.{Change}
-use Rattle.edit_change.specs.declared.change.Change.TheVariants.{Insert, InsertAll, Replace, ReplaceWithMany, ReplaceAll}
+use Rattle.edit_change.specs.declared.change.Change.TheVariants.{Replace}
 
 -- A payload has an element at each such path where equal numbers have equal trees.
 abbrev pub IsPlaceIn : Mapping → Change → Path → Type 0
 IsPlaceIn m (Replace t (Some r)) place = StandsFor m (address (element_of r)) place (address (element_of t)) × IsSome (at (subtree (element_of r)) place)
-IsPlaceIn m (Replace t None) place = ⊥
-IsPlaceIn m (Insert gap e) place = ⊥
-IsPlaceIn m (InsertAll gap es) place = ⊥
-IsPlaceIn m (ReplaceWithMany t es) place = ⊥
-IsPlaceIn m (ReplaceAll first last es) place = ⊥
+IsPlaceIn m _ place = ⊥
 
 -- An insert after the target itself has no gap where the payload stands in the target's place whole.
 abbrev pub HasPlace : Mapping → Change → Change → Path → Type 0

@@ -61,9 +61,8 @@ pub record IsPlan (p : Plan) : Type 0 where
 abbrev pub BuildRefuses : Plan → EditError → Type 0
 BuildRefuses p (Intersecting first second) = first_clash p.changes ≡ Some (first, second)
 BuildRefuses p (MissingMapping change owner) = (first_clash p.changes ≡ None) × IsFirstUnplaced p.mapping p.changes change owner
-BuildRefuses p TooLong = ⊥
-BuildRefuses p NoTreeNumber = ⊥
 BuildRefuses p Memory = Unit {0}
+BuildRefuses p _ = ⊥
 
 pub record Edit : Type 0 where
   pub old_root : Element
@@ -110,8 +109,7 @@ pub record Makes (p : Plan) (number : ℕ) (e : Edit) : Type 0 where
   pub annotated_is : NumbersTell (elements_held p.root p.changes (registered_elements p.registrations) p.mapping) → annotated_paths ≡ annotated p.mapping (registered_elements p.registrations) made
 
 abbrev pub RunRefuses : Plan → ℕ → EditError → Type 0
-RunRefuses p next (Intersecting first second) = ⊥
-RunRefuses p next (MissingMapping change owner) = ⊥
 RunRefuses p next TooLong = MakesTooLong p
 RunRefuses p next NoTreeNumber = (made : OriginTree) × WouldMake p made × (TextIsTooLong made → ⊥) × IsSpent next
 RunRefuses p next Memory = Unit {0}
+RunRefuses p next _ = ⊥

@@ -3,7 +3,7 @@
 --     changed                       the paths, in document order, of the brought elements whose parent is none
 --     copies_of                     the paths, in document order, of the elements copied from an address
 --     paths_with                    the paths that stand with an annotation
---     annotated, annotated_as       an annotation with each path, by registration and then in document order; the paths of one annotation
+--     annotated                     an annotation with each path, by registration and then in document order
 --     stands_like, stand_in_path            what is at a path has the kind of an old element and starts where that one does; the path of the first node, in document order, of the kind of an old one that starts where that one does
 use Rattle.std.specs.Prelude.{ℕ, nat_eq, ◌&&◌, Bool, false, List, map, filter, flat_map, find, Option}
 use Rattle.std.specs.Option.{option_map_or}
@@ -32,9 +32,6 @@ copies_of t a = filter (holds_at (λ o. same_address a o.address) t) (paths t)
 -- a registration is an element and the number of an annotation
 abbrev pub annotated : Mapping → List (Element × ℕ) → OriginTree → List (ℕ × Path)
 annotated m registrations t = flat_map (λ r. map (λ p. (r.1, p)) (copies_of t (address (followed m r.0)))) registrations
-
-abbrev pub annotated_as : Mapping → List (Element × ℕ) → OriginTree → ℕ → List Path
-annotated_as m registrations t annotation = paths_with annotation (annotated m registrations t)
 
 -- ---- finding a node again
 abbrev pub stands_like : Element → SyntaxTree → Path → Bool

@@ -18,12 +18,12 @@ use Rattle.cst_core.specs.Green.{Branch, branch_tree}
 use Rattle.cst_core.specs.Element.{NumbersTell, subtree}
 use Rattle.rewriting.specs.Aim.{parents}
 use Rattle.rewriting.specs.Effort.{counted}
-use Rattle.stepping.specs.Stage.{step_builds}
+use Rattle.stepping.specs.StepCount.{step_builds}
 use Rattle.schedule.specs.Schedule.{comes_first, is_ready}
 use Rattle.edit_change.specs.Nesting.{is_dropped}
 use Rattle.edit_change.specs.declared.change.Change.{Change}
 use Rattle.edit_stages.specs.NewTree.{plain, stage_tree, stage_payload}
-use Rattle.edit_stages.specs.inner.Stages.{has_stage, staged_aim, tree_of}
+use Rattle.edit_stages.specs.StagedChange.{has_stage, staged_aim, tree_of}
 use Rattle.edit_plan.specs.Places.{ArePlaces, elements_held}
 use Rattle.edit_plan.specs.Plan.{Plan, IsPlan, plan_code, registered_elements}
 

@@ -2,7 +2,7 @@ ghost use Rattle.std.specs.Prelude.{ℕ, ◌≡◌, ◌<◌, ◌++◌, [], ◌�
 ghost use Rattle.edit_plan.specs.inner.OwnerTables.{depth_of, owners_at, AreOwners, OwnersStay};
 
 use crate::dependent::Dependent;
-use edit_change::Change;
+use edit_change::{Change, depth};
 use rewriting::empty_lists;
 use std::alloc::{AllocError, Global};
 
@@ -12,7 +12,7 @@ pub(crate) fn levels(changes: &[Change]) -> usize
 {
     let mut levels = 0;
     for change in changes {
-        levels = levels.max(change.depth() + 1);
+        levels = levels.max(depth(change) + 1);
     }
     levels
 }
@@ -42,7 +42,7 @@ pub(crate) fn owners_by_depth(
     for owner in 0..changes.len() {
         let owned = dependents[owner].as_slice();
         if !owned.is_empty() {
-            enter(&mut owners, changes[owner].depth(), owner)?;
+            enter(&mut owners, depth(&changes[owner]), owner)?;
         }
     }
     Ok(owners)

@@ -9,7 +9,7 @@ ghost use Rattle.edit_stages.specs.NewTree.{moved_path};
 ghost use Rattle.edit_change.specs.inner.AimFrom.{depth};
 ghost use Rattle.edit_plan.specs.inner.OwnerTables.{aim_in_payload, places_in, moved_dependent, dependents_in, AimsFrom, AreDependents, OwnsOneMore, OthersOwnAsBefore};
 
-use edit_change::{Change, Fate};
+use edit_change::{Change, Fate, aim_path, numbered_aim_from};
 use rewriting::{Aimed, empty_lists};
 use std::alloc::{AllocError, Global};
 
@@ -46,9 +46,7 @@ pub(crate) fn moved_aims<'a, 'b>(
 {
     let mut aims = Vec::new(alloc);
     for dependent in dependents {
-        let aim = dependent
-            .change
-            .numbered_aim_from(dependent.number, &dependent.path);
+        let aim = numbered_aim_from(dependent.change, dependent.number, &dependent.path);
         aims.push(aim)?;
     }
     Ok(aims)
@@ -80,7 +78,7 @@ fn dependent_of<'a>(
     requires inside { length (aim_path owner.now) < depth change.now }
     ensures { IfOk result (λ d. moved_dependent d ≡ (number, aim_in_payload owner.now place.now change.now)) }
 {
-    let path = moved_path(alloc, owner.aim_path(), place, change.aim_path())?;
+    let path = moved_path(alloc, aim_path(owner), place, aim_path(change))?;
     Ok(Dependent {
         number,
         change,
@@ -124,10 +122,10 @@ pub(crate) fn staged_path(
     requires places { length places.now ≡ length changes.now }
     ensures { IfOk result (λ v. AimsFrom changes.now (places_in places.now) number v.items) }
 {
-    let path = changes[number].aim_path();
+    let path = aim_path(&changes[number]);
     match owner_of(changes, fates, number) {
         Some(owner) => {
-            let target = changes[owner].aim_path();
+            let target = aim_path(&changes[owner]);
             moved_path(alloc, target, place_at(places, owner), path)
         }
         None => Vec::from_slice(alloc, path),

@@ -20,7 +20,7 @@ use crate::by_depth::owners_by_depth;
 use crate::dependent::{Dependent, moved_aims};
 use crate::sought::SoughtIndex;
 use cst_core::{GreenElement, SyntaxElement};
-use edit_change::Change;
+use edit_change::{Change, green_payload};
 use rewriting::{Aimed, Given, GivenTable, Mark, MarkedGiven, rebuild};
 use std::alloc::{AllocError, Global};
 
@@ -84,7 +84,7 @@ fn marked_payload<'a>(
 {
     if index.is_empty() {
         return Ok(MarkedGiven {
-            elements: change.green_payload(alloc)?,
+            elements: green_payload(alloc, change)?,
             marks: Vec::new(alloc),
         });
     }

@@ -13,7 +13,7 @@ ghost use Rattle.edit_change.specs.declared.change.Change.{Change};
 use crate::dependent::owner_of;
 use crate::edit_error::EditError;
 use cst_core::{SyntaxElement, SyntaxNode};
-use edit_change::{Change, Fate};
+use edit_change::{Change, Fate, aim_path};
 use edit_map::SyntaxMapping;
 use edit_map::laws::place_is_unique;
 use std::alloc::{AllocError, Global};
@@ -83,7 +83,7 @@ fn has_place(change: &Change, owner: &Change, place: &Option<Vec<usize>>) -> boo
     ensures { TellsPlace place.now owner.now change.now result }
 {
     match place {
-        Some(path) => !path.is_empty() || !change.is_behind(owner.aim_path()),
+        Some(path) => !path.is_empty() || !change.is_behind(aim_path(owner)),
         None => false,
     }
 }

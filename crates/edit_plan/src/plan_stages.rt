@@ -7,6 +7,7 @@ ghost use Rattle.edit_plan.specs.inner.PlanStages.{AgreeOnPlaces, IsRunning, Kee
 
 use crate::dependent::staged_path;
 use crate::plan::EditPlan;
+use edit_change::numbered_aim_from;
 use edit_map::laws::{pairs_rise, place_is_unique, place_keeps_the_shape};
 use edit_stages::Stages;
 use std::alloc::{AllocError, Global};
@@ -58,7 +59,7 @@ impl EditPlan {
         self.agree_on_places();
         self.keep_shapes();
         let path = staged_path(alloc, &self.changes, &self.fates, &self.places, change)?;
-        let aim = self.changes[change].numbered_aim_from(change, &path);
+        let aim = numbered_aim_from(&self.changes[change], change, &path);
         stages.step(alloc, &self.changes, &self.fates, change, &aim)
     }
 }

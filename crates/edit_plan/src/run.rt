@@ -15,7 +15,7 @@ ghost use Rattle.edit_change.specs.Fits.{Fits};
 ghost use Rattle.edit_stages.specs.NewTree.{independents};
 ghost use Rattle.edit_plan.specs.Plan.{Makes, RunRefuses};
 ghost use Rattle.edit_plan.specs.Engine.{HasRewritten, EngineRefuses, RanBefore, CountsTouched};
-ghost use Rattle.edit_plan.specs.inner.PlanRun.{AreOwned, FindsInRoot, HasMade, IsOneNode, KeepsTop};
+ghost use Rattle.edit_plan.specs.inner.PlanRun.{AreOwned, FindsInRoot, HasMade, KeepsTop};
 ghost use Rattle.edit_plan.specs.inner.PlanRun.{root_rewritten, CountsRoot, IsOfRoot};
 
 use crate::annotated::{annotated_paths, elements_by_annotation, registered_copies};
@@ -29,8 +29,9 @@ use crate::mark_paths::mark_paths;
 use crate::plan::EditPlan;
 use crate::rewritten::Rewritten;
 use crate::sought::SoughtIndex;
-use cst_core::{GreenElement, GreenNode, LENGTH_LIMIT, SyntaxElement, SyntaxNode, TreeIds};
-use edit_change::{Change, Fate};
+use cst_core::{GreenNode, LENGTH_LIMIT, SyntaxElement, SyntaxNode, TreeIds};
+use edit_change::{Change, Fate, node_for_root, numbered_aim};
+use edit_stages::only_node;
 use rewriting::{Aimed, GivenTable, Rebuilt, rebuild_whole};
 use std::alloc::{AllocError, Global};
 
@@ -206,7 +207,7 @@ impl EditPlan {
     {
         match replacing_root(&self.changes) {
             Some(change) => {
-                let _ = change.node_for_root();
+                let _ = node_for_root(change);
             }
             None => {}
         }
@@ -226,7 +227,7 @@ fn independent_aims<'a>(
     let mut aims = Vec::with_capacity(alloc, changes.len())?;
     for number in 0..changes.len() {
         if fates[number].is_independent() {
-            aims.push(changes[number].numbered_aim(number))?;
+            aims.push(numbered_aim(&changes[number], number))?;
         }
     }
     Ok(aims)
@@ -237,18 +238,6 @@ fn replacing_root(changes: &[Change]) -> Option<&Change>
     ensures { option_map (λ c. c.now) result ≡ find (λ c. has_path (targets c) []) changes.now }
 {
     changes.iter().find(|change| change.replaces_root())
-}
-
-// The only element, a node.
-fn only_node(mut elements: Vec<GreenElement>) -> GreenNode
-    requires { IsOneNode (element_trees elements.items) }
-    ensures { element_trees elements.items ≡ branch_tree result ∷ [] }
-{
-    match elements.pop() {
-        Some(GreenElement::Node(node)) => node,
-        Some(GreenElement::Token(_)) => unreachable!(),
-        None => unreachable!(),
-    }
 }
 
 // The elements that these paths lead to, counted from a root.

@@ -38,6 +38,7 @@ use Rattle.edit_change.specs.declared.position.Position.{Position}
 use Rattle.edit_change.proofs.Aiming.{range-has-parent}
 use Rattle.edit_change.proofs.Paths.{same_path-true, same_path_from}
 use Rattle.edit_stages.proofs.Apart.{has_own, only_one}
+use Rattle.edit_stages.proofs.Owning.{has_left}
 
 -- ---- paths on the way
 has-map : (i : ℕ) (p : Path) (ps : List Path) → has_path ps p ≡ true → has_path (map (λ q. i ∷ q) ps) (i ∷ p) ≡ true
@@ -51,14 +52,6 @@ has-map i p (q ∷ ps) h =
 pub prefix_above : (s : Path) (j : ℕ) (r : Path) → has_path (above (s ++ j ∷ r)) s ≡ true
 prefix_above [] j r = refl
 prefix_above (i ∷ s) j r = has-map i s (above (s ++ j ∷ r)) (prefix_above s j r)
-
-has_left : (ps qs : List Path) (p : Path) → has_path ps p ≡ true → has_path (ps ++ qs) p ≡ true
-has_left [] qs p h = absurd (false≢true h)
-has_left (q ∷ ps) qs p h =
-    elim (or_cases (same_path p q) (has_path ps p) h) [
-      | inl here ↦ or_left (same_path p q) (has_path (ps ++ qs) p) here
-      | inr there ↦ or_right (same_path p q) (has_path (ps ++ qs) p) (has_left ps qs p there)
-    ]
 
 has_right : (ps qs : List Path) (p : Path) → has_path qs p ≡ true → has_path (ps ++ qs) p ≡ true
 has_right [] qs p h = h

@@ -207,14 +207,8 @@ below_surroundings (ReplaceAll first last es) n h = range_below n (element_of fi
 
 -- a keeping replacement has one target, and it is the region
 one_target : (r : Change) → is_keeping r ≡ true → (p : Path) × (region r ≡ p ∷ []) × (targets r ≡ p ∷ [])
-one_target (Insert at e) h = absurd (false≢true h)
-one_target (InsertAll at es) h = absurd (false≢true h)
-one_target (Replace t None) h = absurd (false≢true h)
-one_target (Replace (Token t) (Some e)) h = absurd (false≢true h)
-one_target (Replace (Node n) (Some (Token t))) h = absurd (false≢true h)
 one_target (Replace (Node n) (Some (Node r))) h = (n.path, refl, refl)
-one_target (ReplaceWithMany t es) h = absurd (false≢true h)
-one_target (ReplaceAll first last es) h = absurd (false≢true h)
+one_target _ h = absurd (false≢true h)
 
 pub none_at : {X : Type 0} (test : X → Bool) (xs : List X) (i : ℕ) (x : X) → list_any test xs ≡ false → slice_get xs i ≡ Some x → test x ≡ false
 none_at test [] i x h is = absurd (none-some x is)

@@ -20,14 +20,15 @@ use Rattle.cst_core.specs.Path.{Path}
 use Rattle.cst_core.specs.Tree.{SyntaxTree}
 use Rattle.cst_core.specs.Element.{subtree}
 use Rattle.rewriting.specs.Rewriting.{NumberedAim}
-use Rattle.schedule.specs.Waiting.{IsWaiting}
+use Rattle.schedule.specs.inner.Waiting.{IsWaiting}
 use Rattle.schedule.proofs.Tables.{has_at}
 use Rattle.schedule.proofs.Undropped.{told-dropped}
-use Rattle.stepping.specs.Stage.{old_tree, IsStage}
+use Rattle.stepping.specs.inner.Stage.{old_tree, IsStage}
 use Rattle.edit_stages.specs.NewTree.{independents, dependents, only}
 use Rattle.edit_stages.specs.inner.Payload.{BeginsPayload, BeginPayloads, keeps_payload, IsNodeTree}
 use Rattle.edit_stages.specs.inner.Splicing.{payload_at}
-use Rattle.edit_stages.specs.inner.Stages.{has_stage, IsPayloadStage, HasNewRoot, Begins}
+use Rattle.edit_stages.specs.inner.Stages.{IsPayloadStage, HasNewRoot, Begins}
+use Rattle.edit_stages.specs.StagedChange.{has_stage}
 use Rattle.edit_stages.specs.declared.stages.Stages.{Stages}
 
 -- the fate of a change, read from a list of all fates

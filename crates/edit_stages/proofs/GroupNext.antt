@@ -29,12 +29,12 @@ use Rattle.edit_change.specs.declared.position.Position.{Position}
 use Rattle.edit_change.proofs.Lists.{all_filter, all_weaker, all_enumerated}
 use Rattle.edit_change.proofs.Paths.{same_path-true, same_path_from, meets}
 use Rattle.schedule.specs.Schedule.{undropped, owned_first, gap_first, token_first, comes_first, is_ready}
-use Rattle.schedule.specs.Waiting.{IsWaiting}
+use Rattle.schedule.specs.inner.Waiting.{IsWaiting}
 use Rattle.schedule.specs.declared.waiting.Waiting.{Waiting}
 use Rattle.schedule.proofs.Carried.{replaces-targets}
 use Rattle.schedule.proofs.Gaps.{gap_first_from}
 use Rattle.schedule.proofs.Ordered.{waiting-ordered}
-use Rattle.stepping.specs.Stage.{IsNext}
+use Rattle.stepping.specs.inner.Stage.{IsNext}
 use Rattle.stepping.proofs.AimSteps.{stands_first-least}
 use Rattle.edit_stages.specs.NewTree.{moved_aim, only}
 use Rattle.edit_stages.proofs.Altered.{own_up_to, fit_at, no_replacing, region_has, altered, node_over}

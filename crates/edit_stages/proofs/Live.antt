@@ -34,9 +34,9 @@ use Rattle.edit_change.specs.declared.change.Change.{Change}
 use Rattle.edit_change.specs.declared.change.Change.TheVariants.{Insert, InsertAll, Replace, ReplaceWithMany, ReplaceAll}
 use Rattle.edit_change.specs.declared.position.Position.{Position}
 use Rattle.edit_change.proofs.Aiming.{range-has-parent}
-use Rattle.stepping.specs.Stage.{is_live, step_builds}
+use Rattle.stepping.specs.StepCount.{is_live, step_builds}
 use Rattle.edit_stages.specs.NewTree.{moved_path, moved_aim, targets_of, payload_of}
-use Rattle.edit_stages.specs.inner.Stages.{staged_aim, tree_of}
+use Rattle.edit_stages.specs.StagedChange.{staged_aim, tree_of}
 use Rattle.edit_stages.proofs.Altered.{fit_at, native_node, target_native, many_native, first_native}
 use Rattle.edit_stages.proofs.Apart.{IsUnder, IsBelow, moved-path, owned_below}
 

@@ -12,7 +12,7 @@ use Rattle.edit_change.specs.Fits.{Fits}
 use Rattle.edit_change.specs.Nesting.{first_clash, is_independent, owner, has_owner}
 use Rattle.edit_change.specs.declared.change.Change.{Change}
 use Rattle.schedule.specs.Schedule.{is_ready}
-use Rattle.schedule.specs.Waiting.{IsWaiting}
+use Rattle.schedule.specs.inner.Waiting.{IsWaiting}
 use Rattle.schedule.specs.declared.waiting.Waiting.{Waiting}
 use Rattle.edit_stages.specs.NewTree.{targets_of, moved_aim, independents, dependents}
 use Rattle.edit_stages.proofs.GroupNext.{group-next}

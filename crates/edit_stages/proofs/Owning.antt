@@ -1,5 +1,6 @@
 -- An owner: it replaces a node by a node and is not dropped.
 --     owner-keeps, target-is        an owner replaces a node by a node; its one target is where it aims
+--     has_left                      what a list has, it has with more behind it
 --     above-trans                   what is above a path that is above another one is above that
 --     surrounds-above               what is above a surrounding is a surrounding
 --     owner-undropped               an owner is not dropped
@@ -50,11 +51,8 @@ pub target-is : (cs : List Change) (c : ℕ) (r : Change) → slice_get cs c ≡
 target-is cs c r is keeps = ap (λ o. unwrap_or (first_item (option_map_or targets o [])) []) is ∙ one r keeps
   where
     one : (r : Change) → is_keeping r ≡ true → unwrap_or (first_item (targets r)) [] ≡ aim_path r
-    one (Insert at e) h = absurd (false≢true h)
-    one (InsertAll at es) h = absurd (false≢true h)
     one (Replace t e) h = refl
-    one (ReplaceWithMany t es) h = absurd (false≢true h)
-    one (ReplaceAll first last es) h = absurd (false≢true h)
+    one _ h = absurd (false≢true h)
 
 -- ---- an owner is not dropped
 has_map_cons : (i : ℕ) (p : Path) (ps : List Path) → has_path ps p ≡ true → has_path (map (λ q. i ∷ q) ps) (i ∷ p) ≡ true
@@ -77,7 +75,7 @@ above-trans (i ∷ a) (j ∷ x) (l ∷ p) h k =
     let there : has_path (above a) upper.0 ≡ true = above-trans a x upper.0 (ap (has_path (above a)) tail ∙ lower.2) upper.2 in
     ap (has_path (map (λ q. i ∷ q) (above a))) (upper.1 ∙ ap (λ n. n ∷ upper.0) slot) ∙ has_map_cons i upper.0 (above a) there
 
-has_left : (ps qs : List Path) (p : Path) → has_path ps p ≡ true → has_path (ps ++ qs) p ≡ true
+pub has_left : (ps qs : List Path) (p : Path) → has_path ps p ≡ true → has_path (ps ++ qs) p ≡ true
 has_left [] qs p h = absurd (false≢true h)
 has_left (q ∷ ps) qs p h =
     elim (or_cases (same_path p q) (has_path ps p) h) [
@@ -101,14 +99,8 @@ surrounds-above (ReplaceAll first last es) x p h k = above-trans (element_of fir
 
 -- a path of the region of a change that keeps, and what is around that change
 kept-region : (r : Change) (x : Path) → is_keeping r ≡ true → has_path (region r) x ≡ true → surroundings r ≡ above x
-kept-region (Insert at e) x keeps h = absurd (false≢true keeps)
-kept-region (InsertAll at es) x keeps h = absurd (false≢true keeps)
-kept-region (Replace t None) x keeps h = absurd (false≢true keeps)
-kept-region (Replace (Token t) (Some e)) x keeps h = absurd (false≢true keeps)
-kept-region (Replace (Node n) (Some (Token t))) x keeps h = absurd (false≢true keeps)
 kept-region (Replace (Node n) (Some (Node r))) x keeps h = ap above (sym (only_one x n.path h))
-kept-region (ReplaceWithMany t es) x keeps h = absurd (false≢true keeps)
-kept-region (ReplaceAll first last es) x keeps h = absurd (false≢true keeps)
+kept-region _ x keeps h = absurd (false≢true keeps)
 
 any-met : (ps qs : List Path) → list_any (has_path ps) qs ≡ true → (p : Path) × (has_path ps p ≡ true) × (has_path qs p ≡ true)
 any-met ps [] h = absurd (false≢true h)

@@ -36,14 +36,16 @@ use Rattle.edit_change.proofs.Regions.{owner-told}
 use Rattle.edit_change.proofs.Lists.{all_enumerated, all_filter, all_weaker}
 use Rattle.edit_change.proofs.Owners.{owner_cases, owner_from}
 use Rattle.schedule.specs.Schedule.{undropped, owned_first, gap_first, token_first, comes_first, is_ready}
-use Rattle.schedule.specs.Waiting.{IsWaiting, HasChange}
+use Rattle.schedule.specs.inner.Waiting.{IsWaiting, HasChange}
 use Rattle.schedule.proofs.Undropped.{all-undropped}
-use Rattle.stepping.specs.Stage.{old_tree, IsStage, step_builds}
+use Rattle.stepping.specs.inner.Stage.{old_tree, IsStage}
+use Rattle.stepping.specs.StepCount.{step_builds}
 use Rattle.stepping.specs.declared.stage.Stage.{Stage}
 use Rattle.edit_stages.specs.NewTree.{targets_of, payload_of, moved_aim, independents, dependents, only}
 use Rattle.edit_stages.specs.inner.Payload.{IsNodeTree, IsOneNode, BringsNode, payload_trees}
 use Rattle.edit_stages.specs.inner.Splicing.{payload_at, CanSplice, Splices, SpliceStays, CountsSplice, RestStays, TreesStay, WaitsOn, PutsRoot}
-use Rattle.edit_stages.specs.inner.Stages.{GivesTrees, staged_aim, has_stage, IsPayload, IsPayloadStage, HasNewRoot, HasTrees, IsStages, tree_of, builds_of, Taking, EachTaking, Takes, StaysAs}
+use Rattle.edit_stages.specs.inner.Stages.{GivesTrees, IsPayload, IsPayloadStage, HasNewRoot, HasTrees, IsStages, builds_of, Taking, EachTaking, Takes, StaysAs}
+use Rattle.edit_stages.specs.StagedChange.{staged_aim, has_stage, tree_of}
 use Rattle.edit_stages.specs.declared.stages.Stages.{Stages}
 use Rattle.edit_stages.proofs.Altered.{fit_at}
 use Rattle.edit_stages.proofs.Begun.{fate-read}

@@ -1,2 +1,3 @@
 pub mod NewTree
+pub mod StagedChange
 pub mod inner

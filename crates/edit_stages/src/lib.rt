@@ -4,4 +4,5 @@
 mod payload;
 mod stages;
 
+pub use payload::only_node;
 pub use stages::Stages;

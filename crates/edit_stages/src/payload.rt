@@ -1,13 +1,14 @@
 //! The payloads of changes, as shared trees: each payload on its own, and as it stands where changes that it owns are carried out.
 
 ghost use Rattle.std.specs.Prelude.{◌≡◌, [], ◌∷◌, map, IfOk};
+ghost use Rattle.green_tree.specs.Green.{branch_tree};
 ghost use Rattle.green_tree.specs.GreenElement.{element_tree, element_trees};
 ghost use Rattle.rewriting.specs.inner.Given.{given_trees};
 ghost use Rattle.edit_change.specs.inner.Fate.{fate};
-ghost use Rattle.edit_stages.specs.inner.Payload.{BeginsPayload, BeginPayloads, payload_trees};
+ghost use Rattle.edit_stages.specs.inner.Payload.{BeginsPayload, BeginPayloads, IsOneNode, payload_trees};
 
-use cst_core::{GreenElement, SyntaxElement};
-use edit_change::{Change, Fate};
+use cst_core::{GreenElement, GreenNode, SyntaxElement};
+use edit_change::{Change, Fate, green_payload};
 use rewriting::Given;
 use std::alloc::{AllocError, Global};
 use stepping::Stage;
@@ -45,6 +46,18 @@ pub(crate) fn payload_stages(
     Ok(stages)
 }
 
+/// The only element, a node.
+pub fn only_node(mut elements: Vec<GreenElement>) -> GreenNode
+    requires { IsOneNode (element_trees elements.items) }
+    ensures { element_trees elements.items ≡ branch_tree result ∷ [] }
+{
+    match elements.pop() {
+        Some(GreenElement::Node(node)) => node,
+        Some(GreenElement::Token(_)) => unreachable!(),
+        None => unreachable!(),
+    }
+}
+
 // One element as a list.
 fn one(alloc: Global, element: GreenElement) -> Result<Vec<GreenElement>, AllocError>
     ensures { IfOk result (λ v. element_trees v.items ≡ element_tree element ∷ []) }
@@ -74,6 +87,6 @@ pub(crate) fn given_elements(
 {
     match payload {
         Some(stage) => one(alloc, stage.element().share(alloc)?),
-        None => own_elements(alloc, change.green_payload(alloc)?),
+        None => own_elements(alloc, green_payload(alloc, change)?),
     }
 }

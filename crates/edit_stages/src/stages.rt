@@ -1,4 +1,4 @@
-ghost use Rattle.std.specs.Prelude.{◌≡◌, ◌<◌, ◌∷◌, [], None, true, false, map, length, slice_set, IfOk, OnOk, OnErr, IsSomeAnd};
+ghost use Rattle.std.specs.Prelude.{◌≡◌, ◌<◌, ◌∷◌, [], None, true, false, map, length, slice_set, IfOk, OnOk, OnErr};
 ghost use Rattle.green_tree.specs.Green.{branch_tree};
 ghost use Rattle.green_tree.specs.GreenElement.{element_tree, element_trees};
 ghost use Rattle.cst_core.specs.Element.{Element, subtree};
@@ -6,7 +6,7 @@ ghost use Rattle.rewriting.specs.inner.Aimed.{numbered};
 ghost use Rattle.edit_change.specs.Fits.{Fits};
 ghost use Rattle.edit_change.specs.Nesting.{first_clash};
 ghost use Rattle.edit_change.specs.inner.Fate.{fate};
-ghost use Rattle.schedule.specs.Waiting.{HasChange};
+ghost use Rattle.schedule.specs.inner.Waiting.{HasChange};
 ghost use Rattle.edit_stages.specs.inner.Payload.{BringsNode, IsNodeTree, IsOneNode};
 ghost use Rattle.edit_stages.specs.inner.Splicing.{CanStepIn, StepsIn, StaysIn, CountsStepIn, OthersStay};
 ghost use Rattle.edit_stages.specs.inner.Splicing.{CanSplice, Splices, SpliceStays, CountsSplice, RestStays};
@@ -15,9 +15,9 @@ ghost use Rattle.edit_stages.specs.inner.Stages.{Begins, SomeWay, StaysAs, CanTa
 ghost use Rattle.edit_stages.specs.inner.Stages.{builds_of, done_in, HasNumber, TellsReady, TellsComplete};
 ghost use Rattle.edit_stages.specs.inner.Stages.{ShowsTree, ShowsPayload};
 
-use crate::payload::{given_elements, payload_stages};
+use crate::payload::{given_elements, only_node, payload_stages};
 use cst_core::{GreenElement, GreenNode, SyntaxNode};
-use edit_change::{Change, Fate};
+use edit_change::{Change, Fate, node_for_root};
 use rewriting::Aimed;
 use schedule::Waiting;
 use std::alloc::{AllocError, Global};
@@ -44,18 +44,6 @@ fn node(element: &GreenElement) -> &GreenNode
     match element {
         GreenElement::Node(node) => node,
         GreenElement::Token(_) => unreachable!(),
-    }
-}
-
-// The only element, a node.
-fn only_node(mut elements: Vec<GreenElement>) -> Option<GreenNode>
-    requires { IsOneNode (element_trees elements.items) }
-    ensures { IsSomeAnd result (λ node. element_trees elements.items ≡ branch_tree node ∷ []) }
-{
-    match elements.pop() {
-        Some(GreenElement::Node(node)) => Some(node),
-        Some(GreenElement::Token(_)) => unreachable!(),
-        None => unreachable!(),
     }
 }
 
@@ -215,8 +203,8 @@ impl Stages {
     {
         if change.replaces_root() {
             // It brings one node.
-            let _ = change.node_for_root();
-            self.new_root = only_node(given);
+            let _ = node_for_root(change);
+            self.new_root = Some(only_node(given));
         }
         self.waiting.done(number);
     }

@@ -10,7 +10,7 @@ use Rattle.edit_change.specs.Nesting.{is_dropped}
 use Rattle.edit_change.specs.declared.change.Change.{Change}
 use Rattle.edit_change.proofs.Positions.{same-test}
 use Rattle.schedule.specs.Schedule.{is_complete}
-use Rattle.schedule.specs.Waiting.{IsWaiting}
+use Rattle.schedule.specs.inner.Waiting.{IsWaiting}
 use Rattle.schedule.specs.inner.Waits.{is_settled}
 use Rattle.schedule.specs.declared.waiting.Waiting.{Waiting}
 use Rattle.schedule.specs.declared.waiting.Standing.TheVariants.{Dropped, Undone, Done}

@@ -7,7 +7,7 @@ use mathlib.Core.Logic.{inl, inr}
 use Rattle.edit_change.specs.Nesting.{is_dropped}
 use Rattle.edit_change.specs.declared.change.Change.{Change}
 use Rattle.schedule.specs.Schedule.{Numbered, owned_first, gap_first, token_first, comes_first}
-use Rattle.schedule.specs.Waiting.{IsWaiting}
+use Rattle.schedule.specs.inner.Waiting.{IsWaiting}
 use Rattle.schedule.specs.inner.Followers.{steps, owner_link, gap_link, token_link}
 use Rattle.schedule.specs.inner.Waits.{IsCounted}
 use Rattle.schedule.specs.declared.waits.Waits.{Waits}

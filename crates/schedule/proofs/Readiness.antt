@@ -21,7 +21,7 @@ use Rattle.edit_change.specs.declared.fate.Fate.{Fate}
 use Rattle.edit_change.specs.declared.fate.Fate.TheVariants as fates
 use Rattle.edit_change.proofs.Positions.{same-test}
 use Rattle.schedule.specs.Schedule.{Numbered, undropped, owned_first, gap_first, token_first, comes_first, is_ready}
-use Rattle.schedule.specs.Waiting.{IsWaiting, is_done}
+use Rattle.schedule.specs.inner.Waiting.{IsWaiting, is_done}
 use Rattle.schedule.specs.inner.Followers.{link, steps, owner_link, gap_link, token_link, IsLinked}
 use Rattle.schedule.specs.inner.Waits.{one_if, points_at, waits_for, IsCounted, standing_in}
 use Rattle.schedule.specs.declared.waits.Waits.{Waits}

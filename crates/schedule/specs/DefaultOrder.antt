@@ -12,7 +12,7 @@ use Rattle.edit_change.specs.ChangeAim.{aim_path}
 use Rattle.edit_change.specs.declared.position.Position.{Position}
 use Rattle.edit_change.specs.PositionForm.{FirstChild, After}
 use Rattle.edit_change.specs.declared.change.Change.{Change}
-use Rattle.edit_change.specs.declared.change.Change.TheVariants.{Insert, InsertAll, Replace, ReplaceWithMany, ReplaceAll}
+use Rattle.edit_change.specs.declared.change.Change.TheVariants.{Insert, InsertAll}
 use Rattle.schedule.specs.Schedule.{Numbered, ListsEachOnce, respects, stands_last}
 
 -- the gap after an element is that before the next slot
@@ -23,16 +23,12 @@ gap_path (After e) = parent_path (element_of e).path ++ suc (last_slot (element_
 abbrev pub document_path : Change → Path
 document_path (Insert at e) = gap_path at
 document_path (InsertAll at es) = gap_path at
-document_path (Replace t e) = aim_path (Replace t e)
-document_path (ReplaceWithMany t es) = aim_path (ReplaceWithMany t es)
-document_path (ReplaceAll first last es) = aim_path (ReplaceAll first last es)
+document_path c = aim_path c
 
 abbrev pub fills_gap : Change → Bool
 fills_gap (Insert at e) = true
 fills_gap (InsertAll at es) = true
-fills_gap (Replace t e) = false
-fills_gap (ReplaceWithMany t es) = false
-fills_gap (ReplaceAll first last es) = false
+fills_gap _ = false
 
 abbrev pub stands_ahead : Change → Change → Bool
 stands_ahead c d =

@@ -10,20 +10,20 @@
 --     ListsEachOnce, respects       the order has each undropped change once and nothing else; it keeps to such a test
 --     IsAllowed                     an allowed order
 --     is_complete                   each change that is not dropped is in a set
---     is_ready, is_closed           what must come before a change is done, and it is not; a set of changes has, with each owner, what it owns
+--     is_ready                      what must come before a change is done, and it is not
 use Rattle.std.specs.Prelude.{◌≡◌, ℕ, Bool, false, not, ◌&&◌, ◌||◌, nat_eq, nat_lt, min, max, List, [], ◌∷◌, filter, count_by, Option, Some, None, IsTrue}
 use Rattle.std.specs.List.{list_all, enumerate_from, position_or_len}
 use Rattle.std.specs.Option.{option_map_or}
 use Rattle.cst_core.specs.Path.{Path, last_item}
-use Rattle.cst_core.specs.declared.element.SyntaxElement.TheVariants.{Node, Token}
+use Rattle.cst_core.specs.declared.element.SyntaxElement.TheVariants.{Token}
 use Rattle.rewriting.specs.Aim.{same_gap, replaces}
 use Rattle.edit_change.specs.ChangeAim.{aim}
 use Rattle.edit_change.specs.Nesting.{is_dropped, has_owner}
 use Rattle.rewriting.specs.Rewriting.{gap_order}
 use Rattle.edit_change.specs.declared.position.Position.{Position}
-use Rattle.edit_change.specs.PositionForm.{FirstChild, After}
+use Rattle.edit_change.specs.PositionForm.{After}
 use Rattle.edit_change.specs.declared.change.Change.{Change}
-use Rattle.edit_change.specs.declared.change.Change.TheVariants.{Insert, InsertAll, Replace, ReplaceWithMany, ReplaceAll}
+use Rattle.edit_change.specs.declared.change.Change.TheVariants.{Insert, InsertAll}
 
 abbrev pub Numbered : Type 0
 Numbered = ℕ × Change
@@ -47,17 +47,14 @@ abbrev pub gap_first : Numbered → Numbered → Bool
 gap_first c d = same_gap (aim c.1) (aim d.1) && stands_last c.0 d.0
 
 abbrev pub token_before : Position → Option Path
-token_before (FirstChild n) = None
-token_before (After (Node n)) = None
 token_before (After (Token t)) = Some t.path
+token_before _ = None
 
 -- the token that an insert stands after
 abbrev pub anchor_token : Change → Option Path
 anchor_token (Insert at e) = token_before at
 anchor_token (InsertAll at es) = token_before at
-anchor_token (Replace t e) = None
-anchor_token (ReplaceWithMany t es) = None
-anchor_token (ReplaceAll first last es) = None
+anchor_token _ = None
 
 abbrev pub token_first : Numbered → Numbered → Bool
 token_first c d = option_map_or (λ p. replaces p (aim d.1)) (anchor_token c.1) false
@@ -90,6 +87,3 @@ is_complete cs done = list_all (λ c. done c.0) (undropped cs)
 
 abbrev pub is_ready : List Change → (ℕ → Bool) → Numbered → Bool
 is_ready cs done d = not (is_dropped cs d.1) && not (done d.0) && list_all (λ c. not (comes_first cs c d) || done c.0) (undropped cs)
-
-abbrev pub is_closed : List Change → (ℕ → Bool) → Bool
-is_closed cs done = list_all (λ d. not (done d.0) || list_all (λ c. not (owned_first cs c d) || done c.0) (undropped cs)) (undropped cs)

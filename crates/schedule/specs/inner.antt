@@ -3,3 +3,4 @@ pub mod Followers
 pub mod GapTable
 pub mod Turns
 pub mod Waits
+pub mod Waiting

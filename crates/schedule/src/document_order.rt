@@ -4,7 +4,7 @@ ghost use Rattle.schedule.specs.Schedule.{IsAllowed, undropped};
 ghost use Rattle.schedule.specs.DefaultOrder.{document_path, gap_path, IsDefaultOrder};
 ghost use Rattle.schedule.specs.inner.Turns.{turn_of, turn_in, number_in, side_of};
 
-use edit_change::{Change, Fate, Position, slot_after};
+use edit_change::{Change, Fate, Position, aim_path, slot_after};
 use std::alloc::{AllocError, Global};
 
 /// Which of the two stands at a slot: its gap before it, or what is in it.
@@ -47,9 +47,9 @@ fn document_path(alloc: Global, change: &Change) -> Result<Vec<usize>, AllocErro
     match change {
         Change::Insert(position, _) => gap_path(alloc, position),
         Change::InsertAll(position, _) => gap_path(alloc, position),
-        Change::Replace(_, _) => Vec::from_slice(alloc, change.aim_path()),
-        Change::ReplaceWithMany(_, _) => Vec::from_slice(alloc, change.aim_path()),
-        Change::ReplaceAll(_, _, _) => Vec::from_slice(alloc, change.aim_path()),
+        Change::Replace(_, _) => Vec::from_slice(alloc, aim_path(change)),
+        Change::ReplaceWithMany(_, _) => Vec::from_slice(alloc, aim_path(change)),
+        Change::ReplaceAll(_, _, _) => Vec::from_slice(alloc, aim_path(change)),
     }
 }
 

@@ -4,7 +4,7 @@ ghost use Rattle.edit_change.specs.Nesting.{first_clash};
 ghost use Rattle.edit_change.specs.inner.Fate.{fate};
 ghost use Rattle.edit_change.specs.declared.change.Change.{Change};
 ghost use Rattle.schedule.specs.Schedule.{is_complete, is_ready};
-ghost use Rattle.schedule.specs.Waiting.{IsWaiting, HasChange, done_list};
+ghost use Rattle.schedule.specs.inner.Waiting.{IsWaiting, HasChange, done_list};
 ghost use Rattle.schedule.specs.inner.Waits.{is_settled, standing_in};
 
 use crate::followers::Followers;

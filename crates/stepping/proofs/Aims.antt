@@ -20,7 +20,7 @@ use Rattle.rewriting.specs.declared.aimed.AimForm.{AimForm}
 use Rattle.rewriting.specs.declared.aimed.AimForm.TheVariants as form
 use Rattle.rewriting.specs.inner.Aimed.{aim_in}
 use Rattle.rewriting.proofs.SeenBelow.{no_end}
-use Rattle.stepping.specs.Stage.{is_child, is_live}
+use Rattle.stepping.specs.StepCount.{is_child, is_live}
 use Rattle.stepping.specs.declared.done.Among.{Among}
 use Rattle.stepping.specs.declared.done.Among.TheVariants.{Gap, Slots}
 use Rattle.stepping.specs.declared.done.Done.{Done}

@@ -4,7 +4,7 @@ use Rattle.green_tree.specs.Path.{Path, same_path}
 use Rattle.green_tree.specs.Tree.{SyntaxTree, Token, node}
 use Rattle.rewriting.specs.Aim.{Behind}
 use Rattle.rewriting.specs.declared.aimed.AimForm.TheVariants as form
-use Rattle.stepping.specs.Stage.{step_builds}
+use Rattle.stepping.specs.StepCount.{step_builds}
 use Rattle.stepping.specs.declared.done.Among.TheVariants.{Gap, Slots}
 use Rattle.stepping.specs.declared.done.Done.{Done}
 use Rattle.stepping.specs.inner.CurrentPaths.{start, current_path}

@@ -16,7 +16,7 @@ use Rattle.green_tree.proofs.Lookup.{at-append}
 use Rattle.rewriting.specs.Aim.{Over, aims_at_gap, replaces, parents}
 use Rattle.rewriting.specs.Rewriting.{NumberedAim, inserts_at, is_replaced, rewritten}
 use Rattle.rewriting.specs.inner.Pass.{kind_only}
-use Rattle.stepping.specs.Stage.{IsNext}
+use Rattle.stepping.specs.inner.Stage.{IsNext}
 use Rattle.stepping.specs.declared.done.Among.{Among}
 use Rattle.stepping.specs.declared.done.Among.TheVariants.{Gap, Slots}
 use Rattle.stepping.specs.declared.done.Done.{Done}

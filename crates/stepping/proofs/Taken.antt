@@ -8,7 +8,8 @@ use Rattle.green_tree.specs.Path.{Path}
 use Rattle.green_tree.specs.Tree.{SyntaxTree}
 use Rattle.rewriting.specs.Aim.{Aim, parents}
 use Rattle.rewriting.specs.Rewriting.{NumberedAim}
-use Rattle.stepping.specs.Stage.{IsNext, is_live, step_builds}
+use Rattle.stepping.specs.inner.Stage.{IsNext}
+use Rattle.stepping.specs.StepCount.{is_live, step_builds}
 use Rattle.stepping.specs.declared.done.Among.{Among}
 use Rattle.stepping.specs.declared.done.Among.TheVariants.{Gap, Slots}
 use Rattle.stepping.specs.declared.done.Done.{Done}

@@ -4,3 +4,4 @@ pub mod Splices
 pub mod AimTargets
 pub mod Counts
 pub mod Putting
+pub mod Stage

@@ -2,7 +2,7 @@ ghost use Rattle.std.specs.Prelude.{◌≡◌, ℕ, List, [], IfOk, OnOk, OnErr}
 ghost use Rattle.green_tree.specs.Tree.{SyntaxTree};
 ghost use Rattle.green_tree.specs.GreenElement.{element_tree, element_trees};
 ghost use Rattle.rewriting.specs.inner.Aimed.{numbered};
-ghost use Rattle.stepping.specs.Stage.{old_tree, new_tree, IsStage, CanStep, TakesStep, StaysAs, CountsStep};
+ghost use Rattle.stepping.specs.inner.Stage.{old_tree, new_tree, IsStage, CanStep, TakesStep, StaysAs, CountsStep};
 
 use crate::aim_target::AimTarget;
 use crate::done::Done;

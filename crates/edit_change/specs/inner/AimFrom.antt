@@ -7,10 +7,11 @@ use Rattle.cst_core.specs.SyntaxElement.{element_of}
 use Rattle.rewriting.specs.Aim.{Aim, FirstIn, Behind, Over}
 use Rattle.rewriting.specs.inner.Aimed.{siblings_from}
 use Rattle.edit_change.specs.Position.{anchor}
+use Rattle.edit_change.specs.ChangeAim.{aim_path}
 use Rattle.edit_change.specs.declared.position.Position.{Position}
 use Rattle.edit_change.specs.PositionForm.{FirstChild, After}
 use Rattle.edit_change.specs.declared.change.Change.{Change}
-use Rattle.edit_change.specs.declared.change.Change.TheVariants.{Insert, InsertAll, Replace, ReplaceWithMany, ReplaceAll}
+use Rattle.edit_change.specs.declared.change.Change.TheVariants.{Insert, InsertAll, ReplaceAll}
 
 abbrev pub position_aim_from : Path → Position → Aim
 position_aim_from p (FirstChild n) = FirstIn p
@@ -19,13 +20,10 @@ position_aim_from p (After e) = Behind p
 abbrev pub aim_from : Path → Change → Aim
 aim_from p (Insert at e) = position_aim_from p at
 aim_from p (InsertAll at es) = position_aim_from p at
-aim_from p (Replace t e) = Over (siblings_from p 1)
-aim_from p (ReplaceWithMany t es) = Over (siblings_from p 1)
 aim_from p (ReplaceAll first last es) = Over (siblings_from p (suc (last_slot (element_of last).path) - last_slot (element_of first).path))
+aim_from p _ = Over (siblings_from p 1)
 
 abbrev pub depth : Change → ℕ
 depth (Insert at e) = suc (length (anchor at).path)
 depth (InsertAll at es) = suc (length (anchor at).path)
-depth (Replace t e) = length (element_of t).path
-depth (ReplaceWithMany t es) = length (element_of t).path
-depth (ReplaceAll first last es) = length (element_of first).path
+depth c = length (aim_path c)

@@ -26,16 +26,13 @@ abbrev pub fate_within : List Change → List Path → Fate
 fate_within cs ps = cond (list_any (drops_at cs) ps) Dropped (by_owner (last_item (filter_map (region_at cs) ps)))
 
 abbrev pub owner_in : Fate → Option ℕ
-owner_in Independent = None
-owner_in Dropped = None
 owner_in (Owned d) = Some d
+owner_in _ = None
 
 abbrev pub is_dropped_in : Fate → Bool
-is_dropped_in Independent = false
 is_dropped_in Dropped = true
-is_dropped_in (Owned d) = false
+is_dropped_in _ = false
 
 abbrev pub is_independent_in : Fate → Bool
 is_independent_in Independent = true
-is_independent_in Dropped = false
-is_independent_in (Owned d) = false
+is_independent_in _ = false

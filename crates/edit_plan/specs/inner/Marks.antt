@@ -14,11 +14,13 @@
 --     HasPathsMore                  a list has one path more if the mark is of this number
 --     AnnotatedPaths                paths with their annotations, in code
 --     Annotates, AreNumbered        one annotation with each of these paths goes to the end; each annotation with each path of its list
---     HasElementMore                an annotation has one element more
+--     elements_at, HasElementMore    the elements that a table in code has for an annotation; an annotation has one element more
 --     LeadByAnnotation              elements by annotation are those that annotated paths lead to
 --     TellOf, AreFollowed           equal numbers have equal trees, as far as each registered element and the mapping go; elements are those that registered ones are followed to
 use Rattle.std.specs.Prelude.{◌≡◌, ◌≢◌, ◌<◌, ℕ, ◌≤◌, cond, nat_eq, List, [], ◌∷◌, ◌++◌, map, filter, drop, length, get_or, All, Some, Vec}
 use Rattle.std.specs.Global.{Global}
+use Rattle.std.specs.HashMap.{get_by}
+use Rattle.std.specs.Option.{option_map_or}
 use Rattle.cst_core.specs.Path.{Path}
 use Rattle.cst_core.specs.Tree.{relabelled}
 use Rattle.cst_core.specs.Element.{Address, Element, address, subtree}
@@ -29,7 +31,6 @@ use Rattle.cst_core.specs.declared.element.SyntaxElement.{SyntaxElement}
 use Rattle.edit_map.specs.Mapping.{Mapping, followed, mapped_elements}
 use Rattle.rewriting.specs.inner.Marked.{MarkTree, Marking, mark_of, wanted}
 use Rattle.rewriting.specs.declared.mark.Mark.{Mark}
-use Rattle.edit_plan.specs.AnnotationTable.{elements_at}
 use Rattle.edit_plan.specs.Results.{paths_with}
 use Rattle.edit_plan.specs.Engine.{annotated_path}
 use Rattle.edit_plan.specs.declared.annotation_table.AnnotationTable.{AnnotationTable}
@@ -109,6 +110,9 @@ Annotates before after a ps =
 
 abbrev pub AreNumbered : List ℕ → List (Vec (Vec ℕ Global) Global) → AnnotatedPaths → Type 0
 AreNumbered ns copies found = map annotated_path found.items ≡ numbered_paths ns (path_lists copies)
+
+abbrev pub elements_at : AnnotationTable → ℕ → List SyntaxElement
+elements_at table a = option_map_or (λ v. v.items) (get_by (nat_eq a) table.lists) []
 
 abbrev pub HasElementMore : AnnotationTable → AnnotationTable → ℕ → SyntaxElement → Type 0
 HasElementMore before after annotation e =

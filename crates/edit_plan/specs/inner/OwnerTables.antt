@@ -37,7 +37,7 @@ use Rattle.edit_plan.specs.Places.{IsPlaceIn, HasPlace}
 use Rattle.edit_change.specs.Nesting.{owner}
 use Rattle.edit_stages.specs.NewTree.{moved_aim, plain, payload_of, dependents, given}
 use Rattle.edit_change.specs.declared.change.Change.{Change}
-use Rattle.edit_stages.specs.inner.Stages.{staged_aim}
+use Rattle.edit_stages.specs.StagedChange.{staged_aim}
 use Rattle.edit_plan.specs.declared.dependent.Dependent.{Dependent}
 
 -- ---- depth

@@ -5,11 +5,9 @@ use Rattle.edit_map.specs.Mapping.{Mapping}
 use Rattle.edit_plan.specs.Places.{IsFirstUnplaced}
 use Rattle.edit_change.specs.declared.change.Change.{Change}
 use Rattle.edit_plan.specs.declared.edit_error.EditError.{EditError}
-use Rattle.edit_plan.specs.declared.edit_error.EditError.TheVariants.{Intersecting, MissingMapping, TooLong, NoTreeNumber, Memory}
+use Rattle.edit_plan.specs.declared.edit_error.EditError.TheVariants.{MissingMapping, Memory}
 
 abbrev pub PlacesRefuse : Mapping → List Change → EditError → Type 0
-PlacesRefuse m changes (Intersecting first second) = ⊥
 PlacesRefuse m changes (MissingMapping change owner) = IsFirstUnplaced m changes change owner
-PlacesRefuse m changes TooLong = ⊥
-PlacesRefuse m changes NoTreeNumber = ⊥
 PlacesRefuse m changes Memory = Unit {0}
+PlacesRefuse m changes _ = ⊥

@@ -3,7 +3,6 @@
 --     IsNewRoot                     a root whose text is within the limit, as that of every edit is
 --     IsOfRoot                      a refusal that may come once there is a tree whose text is within the limit
 --     TellsOf                       equal tree numbers have equal trees, as far as a registered element and the mapping go
---     IsOneNode, BringsNode         trees that are one node; a change that brings one node
 --     KeepsTop                      one node stands in the place of the root
 --     IsMade                        the tree that a plan makes, without its origins, the changed paths in it, and those of the copies of each of some elements
 --     AreOwned                      a table has what each change of a plan owns, for some places
@@ -13,9 +12,9 @@
 use Rattle.std.specs.Prelude.{◌≡◌, ◌<◌, ℕ, List, [], ◌∷◌, map, length, Option, Vec}
 use Rattle.std.specs.Global.{Global}
 use Rattle.cst_core.specs.Path.{Path}
-use Rattle.cst_core.specs.Tree.{SyntaxTree, Forest, Node, text_length}
+use Rattle.cst_core.specs.Tree.{SyntaxTree, text_length}
 use Rattle.cst_core.specs.Green.{branch_tree, length_limit}
-use Rattle.cst_core.specs.Element.{Element, IsNode, NumbersTell, address, subtree}
+use Rattle.cst_core.specs.Element.{Element, NumbersTell, address, subtree}
 use Rattle.cst_core.specs.SyntaxElement.{element_of}
 use Rattle.cst_core.specs.declared.element.SyntaxElement.{SyntaxElement}
 use Rattle.edit_map.specs.Mapping.{Mapping, mapped_elements}
@@ -24,8 +23,8 @@ use Rattle.edit_change.specs.inner.Fate.{fate}
 use Rattle.edit_plan.specs.inner.Marks.{path_lists}
 use Rattle.edit_plan.specs.inner.Sought.{sought_at}
 use Rattle.edit_plan.specs.inner.OwnerTables.{places_in, AreDependents, AreGiven}
-use Rattle.edit_change.specs.Change.{payload}
 use Rattle.edit_plan.specs.Results.{changed, copies_of}
+use Rattle.edit_stages.specs.inner.Payload.{IsOneNode}
 use Rattle.edit_stages.specs.NewTree.{OriginTree, plain, is_free, independents}
 use Rattle.rewriting.specs.declared.marked_given.GivenTable.{GivenTable}
 use Rattle.rewriting.specs.inner.Pass.{kind_only, given_in, AreMarkedIn}
@@ -43,7 +42,7 @@ use Rattle.edit_plan.specs.Places.{ArePlaces}
 use Rattle.edit_plan.specs.declared.dependent.Dependent.{Dependent}
 use Rattle.edit_plan.specs.declared.run.Made.{Made}
 use Rattle.edit_plan.specs.declared.edit_error.EditError.{EditError}
-use Rattle.edit_plan.specs.declared.edit_error.EditError.TheVariants.{Intersecting, MissingMapping, TooLong, NoTreeNumber, Memory}
+use Rattle.edit_plan.specs.declared.edit_error.EditError.TheVariants.{NoTreeNumber, Memory}
 use Rattle.edit_plan.specs.declared.sought.SoughtIndex.{SoughtIndex}
 use Rattle.edit_change.specs.declared.fate.Fate.{Fate}
 
@@ -62,11 +61,9 @@ pub record IsNewRoot (e : Element) : Type 0 where
   pub fits : text_length e.root < length_limit
 
 abbrev pub IsOfRoot : EditError → Type 0
-IsOfRoot (Intersecting first second) = ⊥
-IsOfRoot (MissingMapping change owner) = ⊥
-IsOfRoot TooLong = ⊥
 IsOfRoot NoTreeNumber = Unit {0}
 IsOfRoot Memory = Unit {0}
+IsOfRoot _ = ⊥
 
 abbrev pub TellsOf : Plan → SyntaxElement × ℕ → Type 0
 TellsOf p r = NumbersTell (element_of r.0 ∷ mapped_elements p.mapping)
@@ -79,12 +76,6 @@ pub record IsMade (p : Plan) (es : List SyntaxElement) (tree : SyntaxTree) (copi
   pub changed_is : changed_paths ≡ changed (is_free p.changes) made
 
 -- ---- the root of the new tree
-abbrev pub IsOneNode : List SyntaxTree → Type 0
-IsOneNode ts = (kind : ℕ) × (f : Forest ℕ) × (ts ≡ Node kind f ∷ [])
-
-abbrev pub BringsNode : Change → Type 0
-BringsNode c = (e : Element) × (payload c ≡ e ∷ []) × IsNode e
-
 abbrev pub KeepsTop : Plan → Type 0
 KeepsTop p =
     (places : ℕ → Path) (table : GivenTable) → AreGiven p.changes places table → IsOneNode (rewritten_whole kind_only (given_in table) (independents p.changes) (subtree p.root))

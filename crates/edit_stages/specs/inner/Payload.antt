@@ -12,7 +12,7 @@ use Rattle.edit_change.specs.Nesting.{is_keeping}
 use Rattle.edit_change.specs.inner.Fate.{fate, is_dropped_in}
 use Rattle.edit_change.specs.declared.change.Change.{Change}
 use Rattle.edit_change.specs.declared.fate.Fate.{Fate}
-use Rattle.stepping.specs.Stage.{old_tree, new_tree, IsStage}
+use Rattle.stepping.specs.inner.Stage.{old_tree, new_tree, IsStage}
 use Rattle.stepping.specs.declared.stage.Stage.{Stage}
 
 abbrev pub IsNodeTree : SyntaxTree → Type 0

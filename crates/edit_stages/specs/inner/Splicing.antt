@@ -15,10 +15,10 @@ use Rattle.rewriting.specs.Rewriting.{NumberedAim}
 use Rattle.edit_change.specs.Change.{targets}
 use Rattle.edit_change.specs.declared.change.Change.{Change}
 use Rattle.schedule.specs.Schedule.{is_ready}
-use Rattle.schedule.specs.Waiting.{IsWaiting}
+use Rattle.schedule.specs.inner.Waiting.{IsWaiting}
 use Rattle.schedule.specs.declared.waiting.Waiting.{Waiting}
-use Rattle.stepping.specs.Stage.{old_tree, CanStep, TakesStep, CountsStep}
-use Rattle.stepping.specs.Stage as stage
+use Rattle.stepping.specs.inner.Stage.{old_tree, CanStep, TakesStep, CountsStep}
+use Rattle.stepping.specs.inner.Stage as stage
 use Rattle.stepping.specs.declared.stage.Stage.{Stage}
 use Rattle.edit_stages.specs.declared.stages.Stages.{Stages}
 

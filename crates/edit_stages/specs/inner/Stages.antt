@@ -1,7 +1,5 @@
 -- The tree and the payloads of changes, of which some are carried out.
 --     GivesTrees                     what each change gives, without origins: its payload, rewritten by what it owns
---     staged_aim                     where a change aims: in its owner's payload, or in the tree
---     has_stage                      of a number: the change replaces a node by a node and is not dropped
 --     IsPayload, IsPayloadStage      what is kept of a payload: it is rewritten by the changes that are done and that it owns
 --     IsNewRoot, HasNewRoot          what is kept of the new root: there is one where the change that replaces the root is done
 --     HasTrees                       where these are done: the old tree, rewritten by those of them without an owner, and the payloads
@@ -15,40 +13,32 @@
 --     ShowsTree, ShowsPayload        the tree, and a payload, as they stand now
 --     Taking                         of these changes, some of which are done, this one can be the next
 --     CanTake, EachTaking, Takes     there is a way to see it so; in each way of seeing it so; then it is done too
---     tree_of, CountsTaken           the tree in which a change is carried out; how a count rises by the nodes that this builds
-use Rattle.std.specs.Prelude.{◌≡◌, ◌<◌, ℕ, Bool, true, false, ◌&&◌, ◌||◌, not, nat_eq, List, [], ◌∷◌, map, length, slice_get, slice_index_or, unwrap_or, Option, Some, None, All, MatchOption}
-use Rattle.std.specs.Option.{option_map_or}
-use Rattle.green_tree.specs.Path.{Path, has_path, first_item}
+--     CountsTaken                    how a count rises by the nodes that this builds
+use Rattle.std.specs.Prelude.{◌≡◌, ◌<◌, ℕ, Bool, true, false, ◌||◌, nat_eq, List, [], ◌∷◌, map, length, slice_get, slice_index_or, Option, Some, None, All, MatchOption}
+use Rattle.green_tree.specs.Path.{Path, has_path}
 use Rattle.green_tree.specs.Tree.{SyntaxTree}
 use Rattle.std.specs.Borrow.{Bor}
 use Rattle.green_tree.specs.Green.{Branch, branch_tree}
 use Rattle.cst_core.specs.Element.{Element, subtree}
-use Rattle.rewriting.specs.Aim.{Aim}
 use Rattle.rewriting.specs.Rewriting.{NumberedAim, rewritten, rewritten_whole}
 use Rattle.rewriting.specs.inner.Pass.{kind_only}
 use Rattle.edit_change.specs.Change.{targets}
-use Rattle.edit_change.specs.ChangeAim.{aim}
 use Rattle.edit_change.specs.Fits.{Fits}
-use Rattle.edit_change.specs.Nesting.{first_clash, is_keeping, is_dropped, owner}
+use Rattle.edit_change.specs.Nesting.{first_clash}
 use Rattle.edit_change.specs.declared.change.Change.{Change}
 use Rattle.schedule.specs.Schedule.{is_ready, is_complete}
-use Rattle.schedule.specs.Waiting.{IsWaiting, done_list}
+use Rattle.schedule.specs.inner.Waiting.{IsWaiting, done_list}
 use Rattle.rewriting.specs.Effort.{counted}
-use Rattle.stepping.specs.Stage.{old_tree, IsStage, step_builds}
+use Rattle.stepping.specs.inner.Stage.{old_tree, IsStage}
+use Rattle.stepping.specs.StepCount.{step_builds}
 use Rattle.stepping.specs.declared.stage.Stage.{Stage}
 use Rattle.edit_stages.specs.inner.Payload.{IsNodeTree}
-use Rattle.edit_stages.specs.NewTree.{targets_of, payload_of, moved_aim, independents, dependents, only}
+use Rattle.edit_stages.specs.NewTree.{payload_of, independents, dependents, only}
+use Rattle.edit_stages.specs.StagedChange.{has_stage, staged_aim, tree_of}
 use Rattle.edit_stages.specs.declared.stages.Stages.{Stages}
 
 abbrev pub GivesTrees : List Change → (ℕ → Path) → (ℕ → List SyntaxTree) → Type 0
 GivesTrees cs places g = (c : ℕ) → g c ≡ map (rewritten kind_only g (dependents cs places c) []) (map subtree (payload_of cs c))
-
-abbrev pub staged_aim : List Change → (ℕ → Path) → Change → Aim
-staged_aim cs places c =
-    option_map_or (λ o. moved_aim (unwrap_or (first_item (targets_of cs o)) []) (places o) (aim c)) (owner cs c) (aim c)
-
-abbrev pub has_stage : List Change → ℕ → Bool
-has_stage cs n = option_map_or (λ c. is_keeping c && not (is_dropped cs c)) (slice_get cs n) false
 
 -- ---- the values of code
 module _ (cs : List Change) (places : ℕ → Path) (g : ℕ → List SyntaxTree) (done : ℕ → Bool) where
@@ -150,10 +140,6 @@ EachTaking cs n a s P =
 
 abbrev pub Takes : List Change → ℕ → NumberedAim → Stages → Stages → Type 0
 Takes cs n a before after = EachTaking cs n a before (λ places g done root c. IsStages cs places g (λ m. nat_eq n m || done m) (subtree root) after)
-
--- the tree in which a change is carried out: the payload of its owner, or the old one
-abbrev pub tree_of : List Change → SyntaxTree → Change → SyntaxTree
-tree_of cs root c = option_map_or (λ o. unwrap_or (first_item (map subtree (payload_of cs o))) root) (owner cs c) root
 
 abbrev pub CountsTaken : List Change → ℕ → NumberedAim → Stages → Stages → Type 0
 CountsTaken cs n a before after =

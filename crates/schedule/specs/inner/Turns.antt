@@ -5,7 +5,7 @@
 use Rattle.std.specs.Prelude.{ℕ}
 use Rattle.cst_core.specs.Path.{Path}
 use Rattle.edit_change.specs.declared.change.Change.{Change}
-use Rattle.edit_change.specs.declared.change.Change.TheVariants.{Insert, InsertAll, Replace, ReplaceWithMany, ReplaceAll}
+use Rattle.edit_change.specs.declared.change.Change.TheVariants.{Insert, InsertAll}
 use Rattle.schedule.specs.DefaultOrder.{document_path}
 use Rattle.schedule.specs.Schedule.{Numbered}
 use Rattle.schedule.specs.declared.document_order.Side.{Side}
@@ -20,9 +20,7 @@ pub record ShownTurn : Type 0 where
 abbrev pub side_of : Change → Side
 side_of (Insert at e) = Gap
 side_of (InsertAll at es) = Gap
-side_of (Replace t e) = Slot
-side_of (ReplaceWithMany t es) = Slot
-side_of (ReplaceAll first last es) = Slot
+side_of _ = Slot
 
 abbrev pub turn_of : Numbered → ShownTurn
 turn_of c = record { path = document_path c.1; side = side_of c.1; number = c.0 }

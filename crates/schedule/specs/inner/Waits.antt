@@ -34,14 +34,12 @@ pub record IsCounted (f : ℕ → Change → Option ℕ) (cs : List Change) (don
   pub closed : (n m : ℕ) → link w.links.items n ≡ Some m → done m ≡ true → done n ≡ true
 
 abbrev pub standing_in : Fate → Standing
-standing_in fates.Independent = Undone
 standing_in fates.Dropped = Dropped
-standing_in (fates.Owned d) = Undone
+standing_in _ = Undone
 
 abbrev pub is_settled : Standing → Bool
-is_settled Dropped = true
 is_settled Undone = false
-is_settled Done = true
+is_settled _ = true
 
 abbrev pub standing_of : List Change → (ℕ → Bool) → ℕ → Change → Standing
 standing_of cs done n c = cond (is_dropped cs c) Dropped (cond (done n) Done Undone)

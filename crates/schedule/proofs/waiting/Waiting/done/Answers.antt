@@ -1,6 +1,6 @@
 use Rattle.std.proofs.Common.{refl}
 use Rattle.std.proofs.lemmas.List.{map-set}
-use Rattle.schedule.specs.Waiting.{is_done}
+use Rattle.schedule.specs.inner.Waiting.{is_done}
 use Rattle.schedule.specs.declared.waiting.Standing.TheVariants.{Done}
 use Rattle.schedule.proofs.Readiness.{waiting-done}
 use Rattle.schedule.proofs.waiting.Waiting.done.Goals as goal

@@ -4,7 +4,7 @@ use Rattle.green_tree.specs.Path.{same_path}
 use Rattle.green_tree.specs.GreenElement.{element_tree, element_trees}
 use Rattle.rewriting.specs.Effort.{counted}
 use Rattle.rewriting.specs.inner.Aimed.{numbered, aim_in}
-use Rattle.stepping.specs.Stage.{old_tree}
+use Rattle.stepping.specs.inner.Stage.{old_tree}
 use Rattle.stepping.specs.declared.done.Done.{Done}
 use Rattle.stepping.specs.inner.CurrentPaths.{done_at}
 use Rattle.stepping.specs.inner.Putting.{CanPut, put}

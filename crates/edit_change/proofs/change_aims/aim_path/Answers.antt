@@ -1,5 +1,5 @@
 use Rattle.std.proofs.Common.{rules}
-use Rattle.edit_change.proofs.change.Change.green_payload.Goals as goal
+use Rattle.edit_change.proofs.change_aims.aim_path.Goals as goal
 
 pub returns-in-Insert : goal.returns-in-Insert
 returns-in-Insert c = search rules
@@ -7,11 +7,8 @@ returns-in-Insert c = search rules
 pub returns-in-InsertAll : goal.returns-in-InsertAll
 returns-in-InsertAll c = search rules
 
-pub returns-in-Replace-default-None : goal.returns-in-Replace-default-None
-returns-in-Replace-default-None c = search rules
-
-pub returns-in-Replace-default-Some : goal.returns-in-Replace-default-Some
-returns-in-Replace-default-Some c = search rules
+pub returns-in-Replace : goal.returns-in-Replace
+returns-in-Replace c = search rules
 
 pub returns-in-ReplaceWithMany : goal.returns-in-ReplaceWithMany
 returns-in-ReplaceWithMany c = search rules

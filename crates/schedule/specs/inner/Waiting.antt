@@ -9,7 +9,7 @@ use Rattle.schedule.specs.inner.Followers.{owner_link, gap_link, token_link}
 use Rattle.schedule.specs.inner.Waits.{IsCounted, standing_of}
 use Rattle.schedule.specs.declared.waiting.Waiting.{Waiting}
 use Rattle.schedule.specs.declared.waiting.Standing.{Standing}
-use Rattle.schedule.specs.declared.waiting.Standing.TheVariants.{Dropped, Undone, Done}
+use Rattle.schedule.specs.declared.waiting.Standing.TheVariants.{Dropped, Done}
 
 -- Of what is done all that must come before it is done too (`closed` of each part).
 pub record IsWaiting (cs : List Change) (done : ℕ → Bool) (w : Waiting) : Type 0 where
@@ -24,9 +24,8 @@ abbrev pub HasChange : Waiting → ℕ → Type 0
 HasChange w n = (cs : List Change) × (done : ℕ → Bool) × IsWaiting cs done w × (n < length cs)
 
 abbrev pub is_done : Standing → Bool
-is_done Dropped = false
-is_done Undone = false
 is_done Done = true
+is_done _ = false
 
 -- of what is dropped none is ever done
 abbrev pub done_list : Waiting → List Bool

@@ -5,17 +5,16 @@
 --     CanStep                       it is so of some aims that are done
 --     TakesStep                     whatever was done, that aim is done too, which gave these elements
 --     StaysAs                       whatever was done, nothing more is
---     is_child, is_live             there is such a child; an aim leads to a gap or a slot that is there
---     step_builds, CountsStep       how many nodes a step builds; how a count of these rises
-use Rattle.std.specs.Prelude.{◌≡◌, ◌+◌, ℕ, suc, Bool, true, false, cond, not, List, [], ◌∷◌, ◌++◌, length, sum_by, Some}
-use Rattle.std.specs.Option.{option_map_or}
+--     CountsStep                    how a count of built nodes rises
+use Rattle.std.specs.Prelude.{◌≡◌, ℕ, suc, true, false, List, [], ◌∷◌, ◌++◌, length, Some}
 use Rattle.green_tree.specs.Path.{Path}
-use Rattle.green_tree.specs.Tree.{Forest, Node, SyntaxTree, is_token, trees, at}
+use Rattle.green_tree.specs.Tree.{Forest, Node, SyntaxTree, trees, at}
 use Rattle.green_tree.specs.GreenElement.{element_tree}
-use Rattle.rewriting.specs.Aim.{Aim, FirstIn, Behind, Over, Gap, gap_of, replaces, parents}
+use Rattle.rewriting.specs.Aim.{Gap, gap_of, replaces, parents}
 use Rattle.rewriting.specs.Effort.{counted}
 use Rattle.rewriting.specs.Rewriting.{NumberedAim, inserts_at, is_replaced, gap_order, rewritten}
 use Rattle.rewriting.specs.inner.Pass.{kind_only}
+use Rattle.stepping.specs.StepCount.{step_builds}
 use Rattle.stepping.specs.declared.stage.Stage.{Stage}
 use Rattle.stepping.specs.inner.CurrentPaths.{done_at}
 use Rattle.stepping.specs.inner.Counts.{IsCounted}
@@ -54,19 +53,5 @@ abbrev pub StaysAs : Stage → Stage → Type 0
 StaysAs before after = (given : ℕ → List SyntaxTree) (cs : List NumberedAim) → IsStage given cs before → IsStage given cs after
 
 -- ---- how much it takes
-abbrev pub is_child : SyntaxTree → Path → Bool
-is_child t [] = false
-is_child t (i ∷ p) = option_map_or (λ e. true) (at t (i ∷ p)) false
-
-abbrev pub is_live : SyntaxTree → Aim → Bool
-is_live t (FirstIn p) = option_map_or (λ e. not (is_token e)) (at t p) false
-is_live t (Behind p) = is_child t p
-is_live t (Over []) = false
-is_live t (Over (p ∷ ps)) = is_child t p
-
--- those at and above the node whose children it alters
-abbrev pub step_builds : SyntaxTree → Aim → ℕ
-step_builds t a = cond (is_live t a) (sum_by (λ p. length p + 1) (parents a)) 0
-
 abbrev pub CountsStep : Stage → NumberedAim → ℕ → ℕ → Type 0
 CountsStep s c before after = after ≡ counted before (step_builds (old_tree s) c.1)
