@@ -27,7 +27,7 @@ impl Model for ChangeList {
     ghost use Rattle.std.specs.Prelude.{List};
     ghost use Rattle.std.specs.Coded.{coded_list};
     ghost use Rattle.edit_change.specs.declared.change.Change.{Change};
-    ghost use Rattle.edit_change.specs.ChangeCodes.{change_code};
+    ghost use Rattle.edit_change.specs.inner.ChangeCodes.{change_code};
     ghost use Rattle.change_list.specs.inner.Indexing.{Agrees};
 
     ghost Value = { List Change };
@@ -50,7 +50,7 @@ impl Model for Target {
     ghost use Rattle.std.specs.Prelude.{◌≡◌};
     ghost use Rattle.cst_core.specs.SyntaxElement.{element_of};
     ghost use Rattle.cst_core.specs.declared.element.SyntaxElement.{SyntaxElement};
-    ghost use Rattle.edit_change.specs.Codes.{syntax_element_code};
+    ghost use Rattle.edit_change.specs.inner.Codes.{syntax_element_code};
 
     ghost Value = { SyntaxElement };
 

@@ -1,8 +1,7 @@
-pub mod Codes
+pub mod PositionInCode
 pub mod PositionForm
 pub mod Position
 pub mod Change
-pub mod ChangeCodes
 pub mod ChangeAim
 pub mod Fits
 pub mod Nesting

@@ -1,7 +1,9 @@
 -- What private calls cite, and the crates above for theirs: no contract that a user calls by names any of it.
-pub mod PositionInCode
 pub mod AimFrom
 pub mod Targets
 pub mod TargetIndex
 pub mod Fate
 pub mod Clash
+pub mod PositionCode
+pub mod Codes
+pub mod ChangeCodes

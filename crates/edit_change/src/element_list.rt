@@ -13,7 +13,7 @@ impl Model for ElementList {
     ghost use Rattle.std.specs.Prelude.{List};
     ghost use Rattle.std.specs.Coded.{coded_list};
     ghost use Rattle.cst_core.specs.declared.element.SyntaxElement.{SyntaxElement};
-    ghost use Rattle.edit_change.specs.Codes.{syntax_element_code};
+    ghost use Rattle.edit_change.specs.inner.Codes.{syntax_element_code};
 
     ghost Value = { List SyntaxElement };
 

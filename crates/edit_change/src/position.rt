@@ -20,8 +20,9 @@ pub struct Position {
 }
 
 impl Model for Position {
-    ghost use Rattle.edit_change.specs.PositionForm.{PositionForm, position_code};
-    ghost use Rattle.edit_change.specs.inner.PositionInCode.{form_of};
+    ghost use Rattle.edit_change.specs.PositionForm.{PositionForm};
+    ghost use Rattle.edit_change.specs.inner.PositionCode.{position_code};
+    ghost use Rattle.edit_change.specs.PositionInCode.{form_of};
 
     ghost Value = { PositionForm };
 

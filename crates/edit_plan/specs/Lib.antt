@@ -1,8 +1,6 @@
-pub use Rattle.edit_change.specs.Codes
 pub use Rattle.edit_change.specs.PositionForm
 pub use Rattle.edit_change.specs.Position
 pub use Rattle.edit_change.specs.Change
-pub use Rattle.edit_change.specs.ChangeCodes
 pub use Rattle.edit_change.specs.ChangeAim
 pub use Rattle.edit_change.specs.Fits
 pub use Rattle.edit_change.specs.Nesting

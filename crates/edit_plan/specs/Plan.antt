@@ -1,7 +1,6 @@
 -- Plans and the edits that they make, as contracts see them, and what is refused.
 --     Plan, IsPlan                  the root, the changes, the registrations (elements with annotations) and the mapping; what is true of every plan
 --     new_plan                      the plan of these, where code has the lists
---     plan_code, edit_code          the codes of plans and of edits, as models' values
 --     BuildRefuses                  why a plan is not built
 --     Edit                          the old root, the new root, the changed elements, and for annotations the elements that are found
 --     new_edit                      the edit of these, where code has the list of the changed elements
@@ -12,18 +11,14 @@
 --     MakesTooLong                  the text of that tree passes the limit
 --     Makes                         the edit is what the plan makes of the old tree, under a tree number
 --     RunRefuses                    why a plan is not carried out, where this is the next tree number
-use Rattle.std.specs.Prelude.{◌≡◌, ℕ, nat_eq, Bool, false, List, [], ◌∷◌, map, Option, Some, None, option_map, All, Vec, refl}
+use Rattle.std.specs.Prelude.{◌≡◌, ℕ, nat_eq, Bool, false, List, [], ◌∷◌, map, Option, Some, None, option_map, All, Vec}
 use Rattle.std.specs.List.{list_any}
 use Rattle.std.specs.Global.{Global}
-use Rattle.std.specs.Coded.{Coded, code_by, coded_ℕ, coded_list, coded×}
 use Rattle.cst_core.specs.Path.{Path}
 use Rattle.cst_core.specs.Element.{Element, IsNode, NumbersTell, element_at}
-use Rattle.cst_core.specs.inner.ElementCode.{element_code}
 use Rattle.cst_core.specs.SyntaxElement.{element_of, syntax_at}
 use Rattle.cst_core.specs.TreeIds.{IsSpent}
 use Rattle.cst_core.specs.declared.element.SyntaxElement.{SyntaxElement}
-use Rattle.edit_change.specs.Codes.{syntax_element_code}
-use Rattle.edit_change.specs.ChangeCodes.{change_code}
 use Rattle.edit_change.specs.Fits.{Fits}
 use Rattle.edit_map.specs.Mapping.{Mapping}
 use Rattle.edit_map.specs.Builder.{IsMapping}
@@ -44,10 +39,6 @@ pub record Plan : Type 0 where
 
 abbrev pub new_plan : Element → Vec Change Global → Vec (SyntaxElement × ℕ) Global → Mapping → Plan
 new_plan root changes rs m = record { root = root; changes = changes.items; registrations = rs.items; mapping = m }
-
--- the code by which a plan is a model's value
-abbrev pub plan_code : Coded Plan
-plan_code = code_by (Element × (List Change × (List (SyntaxElement × ℕ) × Mapping))) (coded× element_code (coded× (coded_list change_code) (coded× (coded_list (coded× syntax_element_code coded_ℕ)) (coded_list (coded× element_code element_code))))) (λ p. (p.root, (p.changes, (p.registrations, p.mapping)))) (λ q. record { root = q.0; changes = q.1.0; registrations = q.1.1.0; mapping = q.1.1.1 }) (λ _. refl)
 
 pub record IsPlan (p : Plan) : Type 0 where
   pub is_root : p.root.path ≡ []
@@ -72,9 +63,6 @@ pub record Edit : Type 0 where
 
 abbrev pub new_edit : Element → Element → Vec SyntaxElement Global → List (ℕ × List SyntaxElement) → Edit
 new_edit old_root new_root changed annotated = record { old_root = old_root; new_root = new_root; changed = changed.items; annotated = annotated }
-
-abbrev pub edit_code : Coded Edit
-edit_code = code_by (Element × (Element × (List SyntaxElement × List (ℕ × List SyntaxElement)))) (coded× element_code (coded× element_code (coded× (coded_list syntax_element_code) (coded_list (coded× coded_ℕ (coded_list syntax_element_code)))))) (λ e. (e.old_root, (e.new_root, (e.changed, e.annotated)))) (λ q. record { old_root = q.0; new_root = q.1.0; changed = q.1.1.0; annotated = q.1.1.1 }) (λ _. refl)
 
 abbrev pub stand_in : Edit → Element → Option Element
 stand_in e old = option_map (element_at e.new_root) (stand_in_path old e.new_root.root)

@@ -1,6 +1,5 @@
 -- A plan that is carried out one change at a time, as contracts see it.
 --     Run                           the plan, of each change whether it is done, and how many nodes were built
---     run_code                      the code of a run, as a model's value
 --     new_run                       one in which nothing is done
 --     is_done                       the change at a number is done
 --     IsRun                         what is true of every run
@@ -9,9 +8,8 @@
 --     ShowsPayload                  the same of a payload in code, which there is exactly if other changes can be carried out in it
 --     way_length                    one more than the length of the path of the node whose children a change alters: 0 for a replaced root
 --     CountsWay, CountsStep         how a count rises by the way to a change; by a step
-use Rattle.std.specs.Prelude.{◌≡◌, ◌+◌, ℕ, Bool, true, false, List, [], ◌∷◌, map, length, sum_by, slice_get, slice_index_or, Option, Some, is_some, IfSome, IsSomeAnd, refl}
+use Rattle.std.specs.Prelude.{◌≡◌, ◌+◌, ℕ, Bool, true, false, List, [], ◌∷◌, map, length, sum_by, slice_get, slice_index_or, Option, Some, is_some, IfSome, IsSomeAnd}
 use Rattle.std.specs.Borrow.{Bor}
-use Rattle.std.specs.Coded.{Coded, code_by, coded_ℕ, coded_bool, coded_list, coded×}
 use Rattle.cst_core.specs.Path.{Path}
 use Rattle.cst_core.specs.Tree.{SyntaxTree}
 use Rattle.cst_core.specs.Green.{Branch, branch_tree}
@@ -25,15 +23,12 @@ use Rattle.edit_change.specs.declared.change.Change.{Change}
 use Rattle.edit_stages.specs.NewTree.{plain, stage_tree, stage_payload}
 use Rattle.edit_stages.specs.StagedChange.{has_stage, staged_aim, tree_of}
 use Rattle.edit_plan.specs.Places.{ArePlaces, elements_held}
-use Rattle.edit_plan.specs.Plan.{Plan, IsPlan, plan_code, registered_elements}
+use Rattle.edit_plan.specs.Plan.{Plan, IsPlan, registered_elements}
 
 pub record Run : Type 0 where
   pub plan : Plan
   pub done : List Bool
   pub builds : ℕ
-
-abbrev pub run_code : Coded Run
-run_code = code_by (Plan × (List Bool × ℕ)) (coded× plan_code (coded× (coded_list coded_bool) coded_ℕ)) (λ r. (r.plan, (r.done, r.builds))) (λ q. record { plan = q.0; done = q.1.0; builds = q.1.1 }) (λ _. refl)
 
 abbrev pub new_run : Plan → Run
 new_run p = record { plan = p; done = map (λ c. false) p.changes; builds = 0 }

@@ -7,3 +7,4 @@ pub mod PlanStages
 pub mod Sought
 pub mod Marks
 pub mod GivenTables
+pub mod Codes

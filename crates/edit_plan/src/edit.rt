@@ -19,7 +19,8 @@ pub struct SyntaxEdit {
 }
 
 impl Model for SyntaxEdit {
-    ghost use Rattle.edit_plan.specs.Plan.{Edit, new_edit, edit_code};
+    ghost use Rattle.edit_plan.specs.Plan.{Edit, new_edit};
+    ghost use Rattle.edit_plan.specs.inner.Codes.{edit_code};
     ghost use Rattle.edit_plan.specs.AnnotationTable.{entries_of};
 
     ghost Value = { Edit };

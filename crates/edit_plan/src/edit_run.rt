@@ -30,7 +30,8 @@ pub struct EditRun<'a> {
 }
 
 impl<'a> Model for EditRun<'a> {
-    ghost use Rattle.edit_plan.specs.Run.{Run, run_code};
+    ghost use Rattle.edit_plan.specs.Run.{Run};
+    ghost use Rattle.edit_plan.specs.inner.Codes.{run_code};
     ghost use Rattle.edit_stages.specs.inner.Stages.{builds_of, done_in};
 
     ghost Value = { Run };

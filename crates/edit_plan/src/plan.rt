@@ -28,7 +28,8 @@ pub struct EditPlan {
 }
 
 impl Model for EditPlan {
-    ghost use Rattle.edit_plan.specs.Plan.{Plan, new_plan, plan_code};
+    ghost use Rattle.edit_plan.specs.Plan.{Plan, new_plan};
+    ghost use Rattle.edit_plan.specs.inner.Codes.{plan_code};
     ghost use Rattle.edit_plan.specs.inner.PlanRun.{IsPlanKept};
 
     ghost Value = { Plan };

@@ -24,8 +24,8 @@ use Rattle.edit_change.specs.declared.change.Change.{Change}
 use Rattle.edit_plan.specs.declared.edit_error.EditError.{EditError}
 use Rattle.edit_plan.specs.declared.edit_error.EditError.TheVariants.{Intersecting, MissingMapping, TooLong, NoTreeNumber, Memory}
 use Rattle.cst_core.specs.declared.element.SyntaxElement.{SyntaxElement}
-use Rattle.edit_plan.specs.Codes.{syntax_element_code}
-use Rattle.edit_plan.specs.ChangeCodes.{change_code}
+use Rattle.edit_change.specs.inner.Codes.{syntax_element_code}
+use Rattle.edit_change.specs.inner.ChangeCodes.{change_code}
 use Rattle.edit_plan.specs.Plan.{Plan, IsPlan, BuildRefuses, RunRefuses}
 use Rattle.edit_plan.specs.Fits.{Fits}
 use Rattle.syntax_editor.specs.RecordCall.{RecordCall, recorded, refusal}

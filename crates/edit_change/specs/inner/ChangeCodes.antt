@@ -5,8 +5,9 @@ use Rattle.std.specs.Prelude.{◌≡◌, ◌⊎◌, List, Option, refl}
 use Rattle.std.specs.Coded.{Coded, code_by, coded⊎, coded×, coded_list, coded_option}
 use mathlib.Core.Logic.{inl, inr}
 use Rattle.cst_core.specs.declared.element.SyntaxElement.{SyntaxElement}
-use Rattle.edit_change.specs.Codes.{syntax_element_code}
-use Rattle.edit_change.specs.PositionForm.{PositionForm, position_code}
+use Rattle.edit_change.specs.inner.Codes.{syntax_element_code}
+use Rattle.edit_change.specs.PositionForm.{PositionForm}
+use Rattle.edit_change.specs.inner.PositionCode.{position_code}
 use Rattle.edit_change.specs.declared.change.Change.{Change}
 use Rattle.edit_change.specs.declared.change.Change.TheVariants.{Insert, InsertAll, Replace, ReplaceWithMany, ReplaceAll}
 

@@ -1,4 +1,4 @@
--- Codes, by which values are data that proofs can tell apart.
+-- The code by which a node or token is a model's value.
 --     syntax_element_code         of an element value by its form
 --     of_form-form_of             such a value is told by its form
 use Rattle.std.specs.Prelude.{◌≡◌, ◌⊎◌, refl}
