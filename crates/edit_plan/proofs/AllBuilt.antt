@@ -14,7 +14,7 @@ use Rattle.cst_core.specs.Path.{Path, parent_path, last_slot, first_item}
 use Rattle.cst_core.specs.Tree as tree
 use Rattle.cst_core.specs.Tree.{SyntaxTree, at, SameShape}
 use Rattle.cst_core.specs.Element.{Element, subtree, NumbersTell}
-use Rattle.cst_core.specs.declared.element.SyntaxElement.TheVariants.{Node, Token}
+use Rattle.cst_core.specs.declared.element.SyntaxElement.TheVariants.{Node}
 use Rattle.cst_core.proofs.LastSlot.{parent-and-slot}
 use Rattle.green_tree.proofs.Lookup.{IsNodeThere, at_parent}
 use Rattle.rewriting.specs.Aim.{Aim, FirstIn, Behind, Over, replaces, parents}
@@ -26,7 +26,7 @@ use Rattle.edit_change.specs.ChangeAim.{aim}
 use Rattle.edit_change.specs.Fits.{Fits}
 use Rattle.edit_change.specs.Nesting.{is_keeping, owner, is_independent, has_owner}
 use Rattle.edit_change.specs.declared.change.Change.{Change}
-use Rattle.edit_change.specs.declared.change.Change.TheVariants.{Insert, InsertAll, Replace, ReplaceWithMany, ReplaceAll}
+use Rattle.edit_change.specs.declared.change.Change.TheVariants.{Replace}
 use Rattle.edit_change.proofs.Lists.{all_filter, all_weaker, all_enumerated}
 use Rattle.edit_change.proofs.Owners.{owner_from}
 use Rattle.edit_stages.specs.NewTree.{targets_of, payload_of, moved_aim, independents, dependents}

@@ -28,7 +28,7 @@ use Rattle.edit_change.specs.Fits.{Fits}
 use Rattle.edit_change.specs.inner.AimFrom.{aim_from}
 use Rattle.edit_change.specs.Nesting.{is_keeping, is_dropped, is_independent, owner}
 use Rattle.edit_change.specs.declared.change.Change.{Change}
-use Rattle.edit_change.specs.declared.change.Change.TheVariants.{Insert, InsertAll, Replace, ReplaceWithMany, ReplaceAll}
+use Rattle.edit_change.specs.declared.change.Change.TheVariants.{Replace}
 use Rattle.schedule.specs.Schedule.{is_complete}
 use Rattle.edit_change.proofs.Aiming.{own-aim}
 use Rattle.schedule.proofs.Undropped.{all-undropped}

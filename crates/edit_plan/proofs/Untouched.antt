@@ -4,7 +4,7 @@
 --     untouched_is                  where no aim is at or below a path, the subtree is rewritten by nothing
 --     plain-untouched               it stays as it was
 --     untouched_by_none             no aims aim nowhere
-use Rattle.std.specs.Prelude.{◌≡◌, ℕ, suc, cond, List, [], ◌∷◌, ◌++◌, flat_map, Some, None, refl}
+use Rattle.std.specs.Prelude.{◌≡◌, ℕ, suc, cond, List, [], ◌∷◌, ◌++◌, flat_map, Option, Some, None, refl}
 use Rattle.std.proofs.Common.{ap, ap₂, sym, ◌∙◌}
 use Rattle.cst_core.specs.Path.{Path}
 use Rattle.cst_core.specs.Tree.{Tree, Forest, Token, Node, end, more, SyntaxTree, forest, forest_relabelled}

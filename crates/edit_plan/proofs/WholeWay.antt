@@ -9,14 +9,14 @@ use Rattle.std.proofs.lemmas.List.{append_assoc}
 use Rattle.cst_core.specs.Path.{Path}
 use Rattle.cst_core.specs.Tree.{SyntaxTree, at, SameShape}
 use Rattle.cst_core.specs.Element.{Element, address, subtree, IsElement, NumbersTell}
-use Rattle.cst_core.specs.declared.element.SyntaxElement.TheVariants.{Node, Token}
+use Rattle.cst_core.specs.declared.element.SyntaxElement.TheVariants.{Node}
 use Rattle.edit_map.specs.Mapping.{Mapping, StandsFor, mapped_elements}
 use Rattle.edit_map.specs.Builder.{ArePairs}
 use Rattle.edit_change.specs.Change.{elements}
 use Rattle.edit_change.specs.Fits.{Fits}
 use Rattle.edit_change.specs.Nesting.{is_keeping, owner}
 use Rattle.edit_change.specs.declared.change.Change.{Change}
-use Rattle.edit_change.specs.declared.change.Change.TheVariants.{Insert, InsertAll, Replace, ReplaceWithMany, ReplaceAll}
+use Rattle.edit_change.specs.declared.change.Change.TheVariants.{Replace}
 use Rattle.stepping.specs.StepCount.{step_builds}
 use Rattle.edit_stages.specs.StagedChange.{staged_aim, tree_of}
 use Rattle.edit_stages.proofs.Altered.{fit_at, native_node, target_native}

@@ -5,7 +5,7 @@
 --     surrounds-above               what is above a surrounding is a surrounding
 --     owner-undropped               an owner is not dropped
 --     owns-nothing                  a change that is none owns nothing
-use Rattle.std.specs.Prelude.{◌≡◌, ℕ, zero, suc, Bool, true, false, not, ◌&&◌, List, [], ◌∷◌, ◌++◌, map, slice_get, unwrap_or, Some, None, refl}
+use Rattle.std.specs.Prelude.{◌≡◌, ℕ, zero, suc, Bool, true, false, not, ◌&&◌, List, [], ◌∷◌, ◌++◌, map, slice_get, unwrap_or, Some, refl}
 use Rattle.std.specs.List.{AllByRecursion, list_any}
 use Rattle.std.specs.Option.{option_map_or}
 use Rattle.std.proofs.Common.{ap, sym, ◌∙◌}
@@ -14,7 +14,7 @@ use Rattle.std.proofs.lemmas.Option.{none-some, same_Some}
 use mathlib.Core.Logic.{inl, inr}
 use Rattle.cst_core.specs.Path.{Path, same_path, has_path, above, up_to, first_item}
 use Rattle.cst_core.specs.SyntaxElement.{element_of}
-use Rattle.cst_core.specs.declared.element.SyntaxElement.TheVariants.{Node, Token}
+use Rattle.cst_core.specs.declared.element.SyntaxElement.TheVariants.{Node}
 use Rattle.edit_change.specs.Position.{anchor}
 use Rattle.edit_change.specs.Change.{targets}
 use Rattle.edit_change.specs.ChangeAim.{aim_path}
