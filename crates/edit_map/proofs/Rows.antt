@@ -26,29 +26,29 @@ N p = element_of_tree 4 tree_BB p
 abbrev pub O : Path → Element
 O p = element_of_tree 5 tree_BBB p
 
-abbrev pub mapping_4 : Mapping
-mapping_4 = (BB (0 ∷ 2 ∷ []), N (0 ∷ 2 ∷ [])) ∷ []
+abbrev pub mapping_of_wrapping : Mapping
+mapping_of_wrapping = (BB (0 ∷ 2 ∷ []), N (0 ∷ 2 ∷ [])) ∷ []
 
-pub row_4_place : IsPlace mapping_4 (address (BB (0 ∷ 2 ∷ []))) (address (N [])) (Some (0 ∷ 2 ∷ []))
-row_4_place = (address (N (0 ∷ [])), refl, (address (BB (0 ∷ 2 ∷ [])), refl, refl))
+pub place_in_a_wrapping_block : IsPlace mapping_of_wrapping (address (BB (0 ∷ 2 ∷ []))) (address (N [])) (Some (0 ∷ 2 ∷ []))
+place_in_a_wrapping_block = (address (N (0 ∷ [])), refl, (address (BB (0 ∷ 2 ∷ [])), refl, refl))
 
-abbrev mapping_5 : Mapping
-mapping_5 = (BB [], O (0 ∷ 2 ∷ [])) ∷ (BB (0 ∷ 2 ∷ []), N (0 ∷ 2 ∷ [])) ∷ []
+abbrev mapping_of_wrapping_twice : Mapping
+mapping_of_wrapping_twice = (BB [], O (0 ∷ 2 ∷ [])) ∷ (BB (0 ∷ 2 ∷ []), N (0 ∷ 2 ∷ [])) ∷ []
 
-row_5_place_inner : IsPlace mapping_5 (address (BB (0 ∷ 2 ∷ []))) (address (N [])) (Some (0 ∷ 2 ∷ []))
-row_5_place_inner = (address (N (0 ∷ [])), refl, (address (BB (0 ∷ 2 ∷ [])), refl, refl))
+place_of_the_inner_of_two_wrapped : IsPlace mapping_of_wrapping_twice (address (BB (0 ∷ 2 ∷ []))) (address (N [])) (Some (0 ∷ 2 ∷ []))
+place_of_the_inner_of_two_wrapped = (address (N (0 ∷ [])), refl, (address (BB (0 ∷ 2 ∷ [])), refl, refl))
 
-row_5_place : IsPlace mapping_5 (address (BB [])) (address (O [])) (Some (0 ∷ 2 ∷ []))
-row_5_place = (address (O (0 ∷ [])), refl, (address (BB []), refl, refl))
+place_of_the_outer_of_two_wrapped : IsPlace mapping_of_wrapping_twice (address (BB [])) (address (O [])) (Some (0 ∷ 2 ∷ []))
+place_of_the_outer_of_two_wrapped = (address (O (0 ∷ [])), refl, (address (BB []), refl, refl))
 
 abbrev pub B : Path → Element
 B p = element_of_tree 1 tree_B p
 
-abbrev mapping_6 : Mapping
-mapping_6 = (B [], N (0 ∷ 2 ∷ [])) ∷ []
+abbrev mapping_of_wrapping_the_root : Mapping
+mapping_of_wrapping_the_root = (B [], N (0 ∷ 2 ∷ [])) ∷ []
 
-row_6_place : IsPlace mapping_6 (address (B [])) (address (N [])) (Some (0 ∷ 2 ∷ []))
-row_6_place = (address (N (0 ∷ [])), refl, (address (B []), refl, refl))
+place_of_a_wrapped_root : IsPlace mapping_of_wrapping_the_root (address (B [])) (address (N [])) (Some (0 ∷ 2 ∷ []))
+place_of_a_wrapped_root = (address (N (0 ∷ [])), refl, (address (B []), refl, refl))
 
 abbrev pub M : Path → Element
 M p = element_of_tree 1 tree_M p
@@ -62,19 +62,19 @@ NR = element_of_tree 3 tree_NR []
 abbrev pub W : Path → Element
 W p = element_of_tree 4 tree_W p
 
-abbrev pub mapping_7 : Mapping
-mapping_7 = (M (4 ∷ []), W (0 ∷ 4 ∷ [])) ∷ (M (4 ∷ 1 ∷ []), W (0 ∷ 2 ∷ 6 ∷ [])) ∷ (NM, W (0 ∷ 2 ∷ 2 ∷ 0 ∷ [])) ∷ []
+abbrev pub mapping_of_extracting : Mapping
+mapping_of_extracting = (M (4 ∷ []), W (0 ∷ 4 ∷ [])) ∷ (M (4 ∷ 1 ∷ []), W (0 ∷ 2 ∷ 6 ∷ [])) ∷ (NM, W (0 ∷ 2 ∷ 2 ∷ 0 ∷ [])) ∷ []
 
-pub row_7_place : IsPlace mapping_7 (address (M (4 ∷ []))) (address (W [])) (Some (0 ∷ 4 ∷ []))
-row_7_place = (address (W (0 ∷ [])), refl, (address (M (4 ∷ [])), refl, refl))
+pub place_in_the_block_of_an_extracted_variable : IsPlace mapping_of_extracting (address (M (4 ∷ []))) (address (W [])) (Some (0 ∷ 4 ∷ []))
+place_in_the_block_of_an_extracted_variable = (address (W (0 ∷ [])), refl, (address (M (4 ∷ [])), refl, refl))
 
 -- a payload that holds the target
-row_10_place : IsPlace [] (address (R (1 ∷ []))) (address (R [])) (Some (1 ∷ []))
-row_10_place = (address (R (1 ∷ [])), refl, refl)
+place_in_a_payload_that_holds_the_target : IsPlace [] (address (R (1 ∷ []))) (address (R [])) (Some (1 ∷ []))
+place_in_a_payload_that_holds_the_target = (address (R (1 ∷ [])), refl, refl)
 
 -- a target that is replaced by itself
-row_12b_place : IsPlace [] (address (R (1 ∷ []))) (address (R (1 ∷ []))) (Some [])
-row_12b_place = refl
+place_in_itself : IsPlace [] (address (R (1 ∷ []))) (address (R (1 ∷ []))) (Some [])
+place_in_itself = refl
 
 abbrev pub N7 : Path → Element
 N7 p = element_of_tree 7 tree_N7 p
@@ -83,11 +83,11 @@ N7 p = element_of_tree 7 tree_N7 p
 abbrev pub mapping_shared : Mapping
 mapping_shared = (R (4 ∷ []), N7 (1 ∷ [])) ∷ (R (1 ∷ []), N7 (1 ∷ [])) ∷ []
 
-row_shared_place : IsPlace mapping_shared (address (R (1 ∷ []))) (address (N7 [])) (Some (1 ∷ []))
-row_shared_place = (address (R (1 ∷ [])), refl, refl)
+place_of_the_first_copied_to_a_shared_one : IsPlace mapping_shared (address (R (1 ∷ []))) (address (N7 [])) (Some (1 ∷ []))
+place_of_the_first_copied_to_a_shared_one = (address (R (1 ∷ [])), refl, refl)
 
-row_shared_place_other : IsPlace mapping_shared (address (R (4 ∷ []))) (address (N7 [])) (Some (1 ∷ []))
-row_shared_place_other = (address (R (4 ∷ [])), refl, refl)
+place_of_the_second_copied_to_a_shared_one : IsPlace mapping_shared (address (R (4 ∷ []))) (address (N7 [])) (Some (1 ∷ []))
+place_of_the_second_copied_to_a_shared_one = (address (R (4 ∷ [])), refl, refl)
 
 -- through two copies in a row: R/1 is copied to N7/1, and N7 to the child 0 of the other tree
 abbrev other : Path → Element
@@ -96,8 +96,8 @@ other p = element_of_tree 9 tree_L p
 abbrev mapping_chain : Mapping
 mapping_chain = (N7 [], other (0 ∷ [])) ∷ (R (1 ∷ []), N7 (1 ∷ [])) ∷ []
 
-row_chain_place : IsPlace mapping_chain (address (R (1 ∷ []))) (address (other [])) (Some (0 ∷ 1 ∷ []))
-row_chain_place = (address (N7 []), refl, (address (R (1 ∷ [])), refl, refl))
+place_through_two_copies : IsPlace mapping_chain (address (R (1 ∷ []))) (address (other [])) (Some (0 ∷ 1 ∷ []))
+place_through_two_copies = (address (N7 []), refl, (address (R (1 ∷ [])), refl, refl))
 
 -- ---- no place
 module _ (m : Mapping) (r : Address) where
@@ -142,12 +142,12 @@ A3 = element_of_tree 5 tree_A3 []
 one_not_five : ◌≡◌ {A = ℕ} 1 5 → ⊥
 one_not_five e = omega (arith, e)
 
-row_26i_no_place : IsPlace [] (address (R (1 ∷ []))) (address A3) None
-row_26i_no_place = unmapped (address A3) (address (R (1 ∷ []))) one_not_five
+no_place_in_an_unmapped_payload : IsPlace [] (address (R (1 ∷ []))) (address A3) None
+no_place_in_an_unmapped_payload = unmapped (address A3) (address (R (1 ∷ []))) one_not_five
 
 -- a copy that is the payload itself is not found
-pub row_copy_is_payload : IsPlace mapping_shared (address (R (1 ∷ []))) (address (N7 (1 ∷ []))) None
-row_copy_is_payload p stands =
+pub no_place_where_the_copy_is_the_payload : IsPlace mapping_shared (address (R (1 ∷ []))) (address (N7 (1 ∷ []))) None
+no_place_where_the_copy_is_the_payload p stands =
     elim (one_up mapping_shared (address (N7 (1 ∷ []))) p (address (R (1 ∷ []))) (address (N7 [])) 1 refl stands) [
       | inl same ↦ one_not_seven (ap (λ a. a.number) same)
       | inr up ↦ root_is_no_child (ap (λ a. a.path) (at_root mapping_shared (address (N7 (1 ∷ []))) up.0 7 refl up.1))
@@ -161,17 +161,17 @@ row_copy_is_payload p stands =
 
 -- ---- following
 -- NM is mapped, NR is not
-row_7_followed : ◌≡◌ {A = List Element} (followed mapping_7 NM ∷ followed mapping_7 NR ∷ []) (W (0 ∷ 2 ∷ 2 ∷ 0 ∷ []) ∷ NR ∷ [])
-row_7_followed = refl
+followed_only_if_mapped : ◌≡◌ {A = List Element} (followed mapping_of_extracting NM ∷ followed mapping_of_extracting NR ∷ []) (W (0 ∷ 2 ∷ 2 ∷ 0 ∷ []) ∷ NR ∷ [])
+followed_only_if_mapped = refl
 
 -- the nearest of the mapped elements above counts: below M/4 is M/4/1
-row_nearest : followed mapping_7 (M (4 ∷ 1 ∷ 0 ∷ [])) ≡ W (0 ∷ 2 ∷ 6 ∷ 0 ∷ [])
-row_nearest = refl
+nearest_mapped_element_counts : followed mapping_of_extracting (M (4 ∷ 1 ∷ 0 ∷ [])) ≡ W (0 ∷ 2 ∷ 6 ∷ 0 ∷ [])
+nearest_mapped_element_counts = refl
 
 -- in two steps
-row_chain_followed : followed mapping_chain (R (1 ∷ 0 ∷ [])) ≡ other (0 ∷ 1 ∷ 0 ∷ [])
-row_chain_followed = refl
+followed_through_two_copies : followed mapping_chain (R (1 ∷ 0 ∷ [])) ≡ other (0 ∷ 1 ∷ 0 ∷ [])
+followed_through_two_copies = refl
 
 -- the later pair of an address stands
-row_later_pair : followed ((R (1 ∷ []), other (4 ∷ [])) ∷ (R (1 ∷ []), N7 (1 ∷ [])) ∷ []) (R (1 ∷ [])) ≡ other (4 ∷ [])
-row_later_pair = refl
+later_pair_stands : followed ((R (1 ∷ []), other (4 ∷ [])) ∷ (R (1 ∷ []), N7 (1 ∷ [])) ∷ []) (R (1 ∷ [])) ≡ other (4 ∷ [])
+later_pair_stands = refl

@@ -2,7 +2,7 @@
 use Rattle.std.specs.Prelude.{◌≡◌, ℕ, List, [], ◌∷◌, codes, flat_map, map, Option, Some, None, refl, Bool, true, false}
 use Rattle.cst_core.specs.Path.{Path}
 use Rattle.edit_map.proofs.RowTrees.{tree_L, tree_B, tree_BB, tree_M, tree_E, tree_F, tree_Z}
-use Rattle.edit_map.proofs.Rows.{R, B, BB, N, O, M, NM, NR, W, N7, A3, mapping_7}
+use Rattle.edit_map.proofs.Rows.{R, B, BB, N, O, M, NM, NR, W, N7, A3, mapping_of_extracting}
 use Rattle.edit_change.specs.Nesting.{first_clash, is_dropped}
 use Rattle.edit_stages.specs.NewTree.{new_tree}
 use Rattle.edit_plan.specs.Results.{annotated, paths_with}
@@ -10,246 +10,246 @@ use Rattle.edit_plan.specs.TouchedNodes.{touched_by}
 use Rattle.edit_change.specs.declared.change.Change.{Change}
 use Rattle.edit_plan.proofs.RowChanges.{outcome, owners, placed, no_places, after, before, first_in, last_in, insert, insert_all, delete, replace, replace_with_many, replace_all, E, F, Z, X, Y, U, V, S1, S3}
 
-row_no_change : outcome [] no_places tree_L ≡ (codes "(1, 2)", [])
-row_no_change = refl
+no_change : outcome [] no_places tree_L ≡ (codes "(1, 2)", [])
+no_change = refl
 
-row_no_change_effort : touched_by [] no_places (R []) ≡ 0
-row_no_change_effort = refl
+no_change_effort : touched_by [] no_places (R []) ≡ 0
+no_change_effort = refl
 
-abbrev changes_1a : List Change
-changes_1a = replace (R (1 ∷ [])) U ∷ []
+abbrev changes_of_one_literal : List Change
+changes_of_one_literal = replace (R (1 ∷ [])) U ∷ []
 
-row_1a : outcome changes_1a no_places tree_L ≡ (codes "(_, 2)", (1 ∷ []) ∷ [])
-row_1a = refl
+one_literal_replaced : outcome changes_of_one_literal no_places tree_L ≡ (codes "(_, 2)", (1 ∷ []) ∷ [])
+one_literal_replaced = refl
 
-row_1a_effort : touched_by changes_1a no_places (R []) ≡ 1
-row_1a_effort = refl
+one_literal_replaced_effort : touched_by changes_of_one_literal no_places (R []) ≡ 1
+one_literal_replaced_effort = refl
 
-row_1b : outcome (replace (R (1 ∷ [])) U ∷ replace (R (4 ∷ [])) U ∷ []) no_places tree_L ≡ (codes "(_, _)", (1 ∷ []) ∷ (4 ∷ []) ∷ [])
-row_1b = refl
+both_literals_replaced : outcome (replace (R (1 ∷ [])) U ∷ replace (R (4 ∷ [])) U ∷ []) no_places tree_L ≡ (codes "(_, _)", (1 ∷ []) ∷ (4 ∷ []) ∷ [])
+both_literals_replaced = refl
 
-row_1c : outcome (replace (R (1 ∷ [])) A3 ∷ replace (R (4 ∷ [])) A3 ∷ []) no_places tree_L ≡ (codes "(3, 3)", (1 ∷ []) ∷ (4 ∷ []) ∷ [])
-row_1c = refl
+both_literals_by_one_payload : outcome (replace (R (1 ∷ [])) A3 ∷ replace (R (4 ∷ [])) A3 ∷ []) no_places tree_L ≡ (codes "(3, 3)", (1 ∷ []) ∷ (4 ∷ []) ∷ [])
+both_literals_by_one_payload = refl
 
-abbrev pub changes_2 : List Change
-changes_2 = insert (before (R (1 ∷ []))) V ∷ insert (before (R (4 ∷ []))) V ∷ []
+abbrev pub changes_before_both_literals : List Change
+changes_before_both_literals = insert (before (R (1 ∷ []))) V ∷ insert (before (R (4 ∷ []))) V ∷ []
 
-row_2 : outcome changes_2 no_places tree_L ≡ (codes "(()1, ()2)", (1 ∷ []) ∷ (5 ∷ []) ∷ [])
-row_2 = refl
+inserts_before_both_literals : outcome changes_before_both_literals no_places tree_L ≡ (codes "(()1, ()2)", (1 ∷ []) ∷ (5 ∷ []) ∷ [])
+inserts_before_both_literals = refl
 
-row_2_effort : touched_by changes_2 no_places (R []) ≡ 1
-row_2_effort = refl
+inserts_before_both_literals_effort : touched_by changes_before_both_literals no_places (R []) ≡ 1
+inserts_before_both_literals_effort = refl
 
 -- ---- nested changes
-abbrev pub changes_3 : List Change
-changes_3 = insert (first_in (B (0 ∷ []))) S1 ∷ insert (after (B (0 ∷ 2 ∷ []))) S3 ∷ []
+abbrev pub changes_in_a_block : List Change
+changes_in_a_block = insert (first_in (B (0 ∷ []))) S1 ∷ insert (after (B (0 ∷ 2 ∷ []))) S3 ∷ []
 
-row_3 : outcome changes_3 no_places tree_B ≡ (codes "let first = 1;{\n    let second = 2;let third = 3;\n}", (0 ∷ 0 ∷ []) ∷ (0 ∷ 4 ∷ []) ∷ [])
-row_3 = refl
+inserts_in_a_block : outcome changes_in_a_block no_places tree_B ≡ (codes "let first = 1;{\n    let second = 2;let third = 3;\n}", (0 ∷ 0 ∷ []) ∷ (0 ∷ 4 ∷ []) ∷ [])
+inserts_in_a_block = refl
 
-row_3_effort : touched_by changes_3 no_places (B []) ≡ 2
-row_3_effort = refl
+inserts_in_a_block_effort : touched_by changes_in_a_block no_places (B []) ≡ 2
+inserts_in_a_block_effort = refl
 
-abbrev pub changes_4 : List Change
-changes_4 = insert (first_in (BB (0 ∷ 2 ∷ 0 ∷ []))) S1 ∷ insert (after (BB (0 ∷ 2 ∷ 0 ∷ 2 ∷ []))) S3 ∷ replace (BB (0 ∷ 2 ∷ [])) (N []) ∷ []
+abbrev pub changes_in_a_wrapped_block : List Change
+changes_in_a_wrapped_block = insert (first_in (BB (0 ∷ 2 ∷ 0 ∷ []))) S1 ∷ insert (after (BB (0 ∷ 2 ∷ 0 ∷ 2 ∷ []))) S3 ∷ replace (BB (0 ∷ 2 ∷ [])) (N []) ∷ []
 
-abbrev pub places_4 : ℕ → Path
-places_4 = placed 2 (0 ∷ 2 ∷ []) no_places
+abbrev pub places_in_a_wrapped_block : ℕ → Path
+places_in_a_wrapped_block = placed 2 (0 ∷ 2 ∷ []) no_places
 
-row_4 : outcome changes_4 places_4 tree_BB ≡ (codes "{\n    {\n    let first = 1;{\n    let second = 2;let third = 3;\n}\n}\n}", (0 ∷ 2 ∷ []) ∷ [])
-row_4 = refl
+inserts_move_into_a_wrapped_block : outcome changes_in_a_wrapped_block places_in_a_wrapped_block tree_BB ≡ (codes "{\n    {\n    let first = 1;{\n    let second = 2;let third = 3;\n}\n}\n}", (0 ∷ 2 ∷ []) ∷ [])
+inserts_move_into_a_wrapped_block = refl
 
-row_4_effort : touched_by changes_4 places_4 (BB []) ≡ 6
-row_4_effort = refl
+inserts_move_into_a_wrapped_block_effort : touched_by changes_in_a_wrapped_block places_in_a_wrapped_block (BB []) ≡ 6
+inserts_move_into_a_wrapped_block_effort = refl
 
-abbrev pub changes_5 : List Change
-changes_5 = insert (first_in (BB (0 ∷ 2 ∷ 0 ∷ []))) S1 ∷ replace (BB (0 ∷ 2 ∷ [])) (N []) ∷ replace (BB []) (O []) ∷ []
+abbrev pub changes_wrapping_twice : List Change
+changes_wrapping_twice = insert (first_in (BB (0 ∷ 2 ∷ 0 ∷ []))) S1 ∷ replace (BB (0 ∷ 2 ∷ [])) (N []) ∷ replace (BB []) (O []) ∷ []
 
-abbrev places_5 : ℕ → Path
-places_5 = placed 1 (0 ∷ 2 ∷ []) (placed 2 (0 ∷ 2 ∷ []) no_places)
+abbrev places_wrapping_twice : ℕ → Path
+places_wrapping_twice = placed 1 (0 ∷ 2 ∷ []) (placed 2 (0 ∷ 2 ∷ []) no_places)
 
 -- the replacement of R/0/2 owns the insert, and the replacement of R owns that replacement
-row_5_owners : owners changes_5 ≡ Some 1 ∷ Some 2 ∷ None ∷ []
-row_5_owners = refl
+owners_in_a_block_wrapped_twice : owners changes_wrapping_twice ≡ Some 1 ∷ Some 2 ∷ None ∷ []
+owners_in_a_block_wrapped_twice = refl
 
-row_5 : outcome changes_5 places_5 tree_BB ≡ (codes "{\n    {\n    {\n    let first = 1;{\n    let second = 2;\n}\n}\n}\n}", [] ∷ [])
-row_5 = refl
+insert_moves_into_a_block_wrapped_twice : outcome changes_wrapping_twice places_wrapping_twice tree_BB ≡ (codes "{\n    {\n    {\n    let first = 1;{\n    let second = 2;\n}\n}\n}\n}", [] ∷ [])
+insert_moves_into_a_block_wrapped_twice = refl
 
-row_5_effort : touched_by changes_5 places_5 (BB []) ≡ 8
-row_5_effort = refl
+insert_moves_into_a_block_wrapped_twice_effort : touched_by changes_wrapping_twice places_wrapping_twice (BB []) ≡ 8
+insert_moves_into_a_block_wrapped_twice_effort = refl
 
-abbrev changes_6 : List Change
-changes_6 = insert (first_in (B (0 ∷ []))) S1 ∷ replace (B []) (N []) ∷ []
+abbrev changes_wrapping_the_root : List Change
+changes_wrapping_the_root = insert (first_in (B (0 ∷ []))) S1 ∷ replace (B []) (N []) ∷ []
 
-abbrev places_6 : ℕ → Path
-places_6 = placed 1 (0 ∷ 2 ∷ []) no_places
+abbrev places_wrapping_the_root : ℕ → Path
+places_wrapping_the_root = placed 1 (0 ∷ 2 ∷ []) no_places
 
-row_6 : outcome changes_6 places_6 tree_B ≡ (codes "{\n    let first = 1;{\n    let second = 2;\n}\n}", [] ∷ [])
-row_6 = refl
+insert_moves_into_a_wrapped_root : outcome changes_wrapping_the_root places_wrapping_the_root tree_B ≡ (codes "{\n    let first = 1;{\n    let second = 2;\n}\n}", [] ∷ [])
+insert_moves_into_a_wrapped_root = refl
 
-row_6_effort : touched_by changes_6 places_6 (B []) ≡ 4
-row_6_effort = refl
+insert_moves_into_a_wrapped_root_effort : touched_by changes_wrapping_the_root places_wrapping_the_root (B []) ≡ 4
+insert_moves_into_a_wrapped_root_effort = refl
 
-abbrev pub changes_7 : List Change
-changes_7 = replace (M (4 ∷ 1 ∷ [])) NR ∷ replace (M (4 ∷ [])) (W []) ∷ []
+abbrev pub changes_extracting : List Change
+changes_extracting = replace (M (4 ∷ 1 ∷ [])) NR ∷ replace (M (4 ∷ [])) (W []) ∷ []
 
-abbrev pub places_7 : ℕ → Path
-places_7 = placed 1 (0 ∷ 4 ∷ []) no_places
+abbrev pub places_extracting : ℕ → Path
+places_extracting = placed 1 (0 ∷ 4 ∷ []) no_places
 
-row_7 : outcome changes_7 places_7 tree_M ≡ (codes "_ => {\n    let var_name = 2 + 2;\n    (var_name, true)\n},", (4 ∷ []) ∷ [])
-row_7 = refl
+variable_extracted : outcome changes_extracting places_extracting tree_M ≡ (codes "_ => {\n    let var_name = 2 + 2;\n    (var_name, true)\n},", (4 ∷ []) ∷ [])
+variable_extracted = refl
 
-row_7_note : flat_map (λ t. paths_with 1 (annotated mapping_7 ((NM, 1) ∷ (NR, 1) ∷ []) t)) (new_tree changes_7 places_7 (M [])) ≡ (4 ∷ 0 ∷ 2 ∷ 2 ∷ 0 ∷ []) ∷ (4 ∷ 0 ∷ 4 ∷ 1 ∷ []) ∷ []
-row_7_note = refl
+variable_extracted_notes : flat_map (λ t. paths_with 1 (annotated mapping_of_extracting ((NM, 1) ∷ (NR, 1) ∷ []) t)) (new_tree changes_extracting places_extracting (M [])) ≡ (4 ∷ 0 ∷ 2 ∷ 2 ∷ 0 ∷ []) ∷ (4 ∷ 0 ∷ 4 ∷ 1 ∷ []) ∷ []
+variable_extracted_notes = refl
 
-row_7_effort : touched_by changes_7 places_7 (M []) ≡ 4
-row_7_effort = refl
+variable_extracted_effort : touched_by changes_extracting places_extracting (M []) ≡ 4
+variable_extracted_effort = refl
 
 -- ---- regions, drops and gaps
-abbrev pub changes_8a : List Change
-changes_8a = delete (R (1 ∷ [])) ∷ insert (after (R (1 ∷ []))) X ∷ []
+abbrev pub changes_behind_a_deleted_node : List Change
+changes_behind_a_deleted_node = delete (R (1 ∷ [])) ∷ insert (after (R (1 ∷ []))) X ∷ []
 
-row_8a : outcome changes_8a no_places tree_L ≡ (codes "(, 2)", [])
-row_8a = refl
+insert_behind_a_deleted_node : outcome changes_behind_a_deleted_node no_places tree_L ≡ (codes "(, 2)", [])
+insert_behind_a_deleted_node = refl
 
-row_8a_dropped : map (is_dropped changes_8a) changes_8a ≡ false ∷ true ∷ []
-row_8a_dropped = refl
+insert_behind_a_deleted_node_dropped : map (is_dropped changes_behind_a_deleted_node) changes_behind_a_deleted_node ≡ false ∷ true ∷ []
+insert_behind_a_deleted_node_dropped = refl
 
-row_8a_effort : touched_by changes_8a no_places (R []) ≡ 1
-row_8a_effort = refl
+insert_behind_a_deleted_node_effort : touched_by changes_behind_a_deleted_node no_places (R []) ≡ 1
+insert_behind_a_deleted_node_effort = refl
 
-abbrev pub changes_8b : List Change
-changes_8b = delete (R (2 ∷ [])) ∷ insert (after (R (2 ∷ []))) X ∷ []
+abbrev pub changes_behind_a_deleted_token : List Change
+changes_behind_a_deleted_token = delete (R (2 ∷ [])) ∷ insert (after (R (2 ∷ []))) X ∷ []
 
-row_8b : outcome changes_8b no_places tree_L ≡ (codes "(1x 2)", (2 ∷ []) ∷ [])
-row_8b = refl
+insert_behind_a_deleted_token : outcome changes_behind_a_deleted_token no_places tree_L ≡ (codes "(1x 2)", (2 ∷ []) ∷ [])
+insert_behind_a_deleted_token = refl
 
-row_9 : outcome (replace (R (1 ∷ [])) (R (4 ∷ [])) ∷ replace (R (4 ∷ [])) (R (1 ∷ [])) ∷ []) no_places tree_L ≡ (codes "(2, 1)", (1 ∷ []) ∷ (4 ∷ []) ∷ [])
-row_9 = refl
+literals_exchanged : outcome (replace (R (1 ∷ [])) (R (4 ∷ [])) ∷ replace (R (4 ∷ [])) (R (1 ∷ [])) ∷ []) no_places tree_L ≡ (codes "(2, 1)", (1 ∷ []) ∷ (4 ∷ []) ∷ [])
+literals_exchanged = refl
 
-abbrev changes_10 : List Change
-changes_10 = insert (first_in (R (1 ∷ []))) X ∷ replace (R (1 ∷ [])) (R []) ∷ []
+abbrev changes_by_the_whole_tree : List Change
+changes_by_the_whole_tree = insert (first_in (R (1 ∷ []))) X ∷ replace (R (1 ∷ [])) (R []) ∷ []
 
-abbrev places_10 : ℕ → Path
-places_10 = placed 1 (1 ∷ []) no_places
+abbrev places_by_the_whole_tree : ℕ → Path
+places_by_the_whole_tree = placed 1 (1 ∷ []) no_places
 
-row_10 : outcome changes_10 places_10 tree_L ≡ (codes "((x1, 2), 2)", (1 ∷ []) ∷ [])
-row_10 = refl
+literal_by_the_whole_tree : outcome changes_by_the_whole_tree places_by_the_whole_tree tree_L ≡ (codes "((x1, 2), 2)", (1 ∷ []) ∷ [])
+literal_by_the_whole_tree = refl
 
-row_10_effort : touched_by changes_10 places_10 (R []) ≡ 3
-row_10_effort = refl
+literal_by_the_whole_tree_effort : touched_by changes_by_the_whole_tree places_by_the_whole_tree (R []) ≡ 3
+literal_by_the_whole_tree_effort = refl
 
-row_11 : first_clash (delete (E (1 ∷ [])) ∷ delete (E (1 ∷ [])) ∷ []) ≡ Some (0, 1)
-row_11 = refl
+deleted_twice_clashes : first_clash (delete (E (1 ∷ [])) ∷ delete (E (1 ∷ [])) ∷ []) ≡ Some (0, 1)
+deleted_twice_clashes = refl
 
-abbrev changes_12b : List Change
-changes_12b = replace (R (1 ∷ [])) (R (1 ∷ [])) ∷ insert (first_in (R (1 ∷ []))) X ∷ []
+abbrev changes_by_itself : List Change
+changes_by_itself = replace (R (1 ∷ [])) (R (1 ∷ [])) ∷ insert (first_in (R (1 ∷ []))) X ∷ []
 
-row_12b : outcome changes_12b no_places tree_L ≡ (codes "(x1, 2)", (1 ∷ []) ∷ [])
-row_12b = refl
+literal_by_itself : outcome changes_by_itself no_places tree_L ≡ (codes "(x1, 2)", (1 ∷ []) ∷ [])
+literal_by_itself = refl
 
-row_12b_effort : touched_by changes_12b no_places (R []) ≡ 2
-row_12b_effort = refl
+literal_by_itself_effort : touched_by changes_by_itself no_places (R []) ≡ 2
+literal_by_itself_effort = refl
 
-row_13 : outcome (delete (R (1 ∷ [])) ∷ []) no_places tree_L ≡ (codes "(, 2)", [])
-row_13 = refl
+literal_deleted : outcome (delete (R (1 ∷ [])) ∷ []) no_places tree_L ≡ (codes "(, 2)", [])
+literal_deleted = refl
 
-abbrev pub changes_14 : List Change
-changes_14 = insert (after (R (0 ∷ []))) X ∷ insert (after (R (0 ∷ []))) Y ∷ []
+abbrev pub changes_in_one_gap : List Change
+changes_in_one_gap = insert (after (R (0 ∷ []))) X ∷ insert (after (R (0 ∷ []))) Y ∷ []
 
-row_14a : outcome changes_14 no_places tree_L ≡ (codes "(xy1, 2)", (1 ∷ []) ∷ (2 ∷ []) ∷ [])
-row_14a = refl
+two_inserts_in_one_gap : outcome changes_in_one_gap no_places tree_L ≡ (codes "(xy1, 2)", (1 ∷ []) ∷ (2 ∷ []) ∷ [])
+two_inserts_in_one_gap = refl
 
-abbrev changes_17 : List Change
-changes_17 = delete (F (5 ∷ [])) ∷ delete (F (6 ∷ [])) ∷ delete (F (7 ∷ 0 ∷ 2 ∷ [])) ∷ []
+abbrev changes_deleting_three : List Change
+changes_deleting_three = delete (F (5 ∷ [])) ∷ delete (F (6 ∷ [])) ∷ delete (F (7 ∷ 0 ∷ 2 ∷ [])) ∷ []
 
-row_17 : outcome changes_17 no_places tree_F ≡ (codes "fn it() {\n    \n}", [])
-row_17 = refl
+three_deleted : outcome changes_deleting_three no_places tree_F ≡ (codes "fn it() {\n    \n}", [])
+three_deleted = refl
 
-row_17_effort : touched_by changes_17 no_places (F []) ≡ 3
-row_17_effort = refl
+three_deleted_effort : touched_by changes_deleting_three no_places (F []) ≡ 3
+three_deleted_effort = refl
 
-row_26ii : outcome (replace (R (1 ∷ 0 ∷ [])) X ∷ replace (R (1 ∷ [])) U ∷ []) no_places tree_L ≡ (codes "(_, 2)", (1 ∷ []) ∷ [])
-row_26ii = refl
+replacement_below_one_by_a_token : outcome (replace (R (1 ∷ 0 ∷ [])) X ∷ replace (R (1 ∷ [])) U ∷ []) no_places tree_L ≡ (codes "(_, 2)", (1 ∷ []) ∷ [])
+replacement_below_one_by_a_token = refl
 
 -- ---- the ends of a node
-row_insert_last : outcome (insert (last_in (R [])) X ∷ []) no_places tree_L ≡ (codes "(1, 2)x", (6 ∷ []) ∷ [])
-row_insert_last = refl
+insert_behind_the_last_child : outcome (insert (last_in (R [])) X ∷ []) no_places tree_L ≡ (codes "(1, 2)x", (6 ∷ []) ∷ [])
+insert_behind_the_last_child = refl
 
-row_insert_all : outcome (insert_all (after (R (0 ∷ []))) (X ∷ Y ∷ []) ∷ []) no_places tree_L ≡ (codes "(xy1, 2)", (1 ∷ []) ∷ (2 ∷ []) ∷ [])
-row_insert_all = refl
+two_inserted_as_one : outcome (insert_all (after (R (0 ∷ []))) (X ∷ Y ∷ []) ∷ []) no_places tree_L ≡ (codes "(xy1, 2)", (1 ∷ []) ∷ (2 ∷ []) ∷ [])
+two_inserted_as_one = refl
 
-row_first_in_empty : outcome (insert (first_in (E (1 ∷ []))) X ∷ []) no_places tree_E ≡ (codes "(x)", (1 ∷ 0 ∷ []) ∷ [])
-row_first_in_empty = refl
+first_in_empty : outcome (insert (first_in (E (1 ∷ []))) X ∷ []) no_places tree_E ≡ (codes "(x)", (1 ∷ 0 ∷ []) ∷ [])
+first_in_empty = refl
 
-row_last_in_empty : outcome (insert (last_in (E (1 ∷ []))) X ∷ []) no_places tree_E ≡ (codes "(x)", (1 ∷ 0 ∷ []) ∷ [])
-row_last_in_empty = refl
+last_in_empty : outcome (insert (last_in (E (1 ∷ []))) X ∷ []) no_places tree_E ≡ (codes "(x)", (1 ∷ 0 ∷ []) ∷ [])
+last_in_empty = refl
 
-row_behind_deleted_empty : outcome (delete (E (1 ∷ [])) ∷ insert (before (E (2 ∷ []))) X ∷ []) no_places tree_E ≡ (codes "()", [])
-row_behind_deleted_empty = refl
+behind_deleted_empty : outcome (delete (E (1 ∷ [])) ∷ insert (before (E (2 ∷ []))) X ∷ []) no_places tree_E ≡ (codes "()", [])
+behind_deleted_empty = refl
 
-row_before_deleted_empty : outcome (delete (E (1 ∷ [])) ∷ insert (before (E (1 ∷ []))) X ∷ []) no_places tree_E ≡ (codes "(x)", (1 ∷ []) ∷ [])
-row_before_deleted_empty = refl
+before_deleted_empty : outcome (delete (E (1 ∷ [])) ∷ insert (before (E (1 ∷ []))) X ∷ []) no_places tree_E ≡ (codes "(x)", (1 ∷ []) ∷ [])
+before_deleted_empty = refl
 
-row_beside_deleted_token : outcome (insert (after (E (0 ∷ []))) X ∷ delete (E (2 ∷ [])) ∷ []) no_places tree_E ≡ (codes "(x", (1 ∷ []) ∷ [])
-row_beside_deleted_token = refl
+beside_deleted_token : outcome (insert (after (E (0 ∷ []))) X ∷ delete (E (2 ∷ [])) ∷ []) no_places tree_E ≡ (codes "(x", (1 ∷ []) ∷ [])
+beside_deleted_token = refl
 
 -- ---- ranges and tokens
-row_range : outcome (replace_all (R (2 ∷ [])) (R (3 ∷ [])) (X ∷ []) ∷ insert (after (R (3 ∷ []))) Y ∷ []) no_places tree_L ≡ (codes "(1x2)", (2 ∷ []) ∷ [])
-row_range = refl
+insert_behind_a_range : outcome (replace_all (R (2 ∷ [])) (R (3 ∷ [])) (X ∷ []) ∷ insert (after (R (3 ∷ []))) Y ∷ []) no_places tree_L ≡ (codes "(1x2)", (2 ∷ []) ∷ [])
+insert_behind_a_range = refl
 
-row_before_range : outcome (replace_all (R (2 ∷ [])) (R (3 ∷ [])) (X ∷ []) ∷ insert (after (R (1 ∷ []))) Y ∷ []) no_places tree_L ≡ (codes "(1yx2)", (2 ∷ []) ∷ (3 ∷ []) ∷ [])
-row_before_range = refl
+insert_before_a_range : outcome (replace_all (R (2 ∷ [])) (R (3 ∷ [])) (X ∷ []) ∷ insert (after (R (1 ∷ []))) Y ∷ []) no_places tree_L ≡ (codes "(1yx2)", (2 ∷ []) ∷ (3 ∷ []) ∷ [])
+insert_before_a_range = refl
 
-row_token : outcome (replace (R (2 ∷ [])) X ∷ insert (after (R (2 ∷ []))) Y ∷ []) no_places tree_L ≡ (codes "(1xy 2)", (2 ∷ []) ∷ (3 ∷ []) ∷ [])
-row_token = refl
+insert_behind_a_replaced_token : outcome (replace (R (2 ∷ [])) X ∷ insert (after (R (2 ∷ []))) Y ∷ []) no_places tree_L ≡ (codes "(1xy 2)", (2 ∷ []) ∷ (3 ∷ []) ∷ [])
+insert_behind_a_replaced_token = refl
 
-row_token_by_two : outcome (replace_with_many (R (2 ∷ [])) (X ∷ Y ∷ []) ∷ insert (after (R (2 ∷ []))) V ∷ []) no_places tree_L ≡ (codes "(1xy() 2)", (2 ∷ []) ∷ (3 ∷ []) ∷ (4 ∷ []) ∷ [])
-row_token_by_two = refl
+insert_behind_a_token_replaced_by_two : outcome (replace_with_many (R (2 ∷ [])) (X ∷ Y ∷ []) ∷ insert (after (R (2 ∷ []))) V ∷ []) no_places tree_L ≡ (codes "(1xy() 2)", (2 ∷ []) ∷ (3 ∷ []) ∷ (4 ∷ []) ∷ [])
+insert_behind_a_token_replaced_by_two = refl
 
-abbrev pub changes_empty_token : List Change
-changes_empty_token = replace (Z (1 ∷ [])) X ∷ insert (after (Z (1 ∷ []))) Y ∷ []
+abbrev pub changes_of_a_comma : List Change
+changes_of_a_comma = replace (Z (1 ∷ [])) X ∷ insert (after (Z (1 ∷ []))) Y ∷ []
 
-row_empty_token : outcome changes_empty_token no_places tree_Z ≡ (codes "(xy)", (1 ∷ []) ∷ (2 ∷ []) ∷ [])
-row_empty_token = refl
+insert_behind_a_replaced_comma : outcome changes_of_a_comma no_places tree_Z ≡ (codes "(xy)", (1 ∷ []) ∷ (2 ∷ []) ∷ [])
+insert_behind_a_replaced_comma = refl
 
 -- ---- clashes
-row_clash : first_clash (delete (R (1 ∷ [])) ∷ replace_with_many (R (1 ∷ [])) (X ∷ Y ∷ []) ∷ []) ≡ Some (0, 1)
-row_clash = refl
+deletion_and_replacement_clash : first_clash (delete (R (1 ∷ [])) ∷ replace_with_many (R (1 ∷ [])) (X ∷ Y ∷ []) ∷ []) ≡ Some (0, 1)
+deletion_and_replacement_clash = refl
 
-row_ranges_clash : first_clash (replace_all (R (1 ∷ [])) (R (3 ∷ [])) [] ∷ replace_all (R (3 ∷ [])) (R (4 ∷ [])) [] ∷ []) ≡ Some (0, 1)
-row_ranges_clash = refl
+ranges_clash : first_clash (replace_all (R (1 ∷ [])) (R (3 ∷ [])) [] ∷ replace_all (R (3 ∷ [])) (R (4 ∷ [])) [] ∷ []) ≡ Some (0, 1)
+ranges_clash = refl
 
 -- of two clashes the one with the least second change counts, not the one with the least first
-row_least_second : first_clash (delete (R (1 ∷ [])) ∷ delete (R (4 ∷ [])) ∷ delete (R (4 ∷ [])) ∷ delete (R (1 ∷ [])) ∷ []) ≡ Some (1, 2)
-row_least_second = refl
+least_second_change_counts : first_clash (delete (R (1 ∷ [])) ∷ delete (R (4 ∷ [])) ∷ delete (R (4 ∷ [])) ∷ delete (R (1 ∷ [])) ∷ []) ≡ Some (1, 2)
+least_second_change_counts = refl
 
 -- one replacement around another is no clash
-row_no_clash : first_clash (replace (R (1 ∷ 0 ∷ [])) X ∷ replace (R (1 ∷ [])) U ∷ []) ≡ None
-row_no_clash = refl
+replacement_around_another_is_no_clash : first_clash (replace (R (1 ∷ 0 ∷ [])) X ∷ replace (R (1 ∷ [])) U ∷ []) ≡ None
+replacement_around_another_is_no_clash = refl
 
 -- ---- roots
-row_root_replaced : outcome (replace (R []) V ∷ []) no_places tree_L ≡ (codes "()", [] ∷ [])
-row_root_replaced = refl
+root_replaced : outcome (replace (R []) V ∷ []) no_places tree_L ≡ (codes "()", [] ∷ [])
+root_replaced = refl
 
-row_root_by_itself : outcome (replace (R []) (R []) ∷ insert (first_in (R [])) X ∷ []) no_places tree_L ≡ (codes "x(1, 2)", [] ∷ [])
-row_root_by_itself = refl
+root_by_itself : outcome (replace (R []) (R []) ∷ insert (first_in (R [])) X ∷ []) no_places tree_L ≡ (codes "x(1, 2)", [] ∷ [])
+root_by_itself = refl
 
-row_below_root_by_itself : outcome (replace (R []) (R []) ∷ replace (R (1 ∷ [])) X ∷ []) no_places tree_L ≡ (codes "(x, 2)", [] ∷ [])
-row_below_root_by_itself = refl
+below_root_by_itself : outcome (replace (R []) (R []) ∷ replace (R (1 ∷ [])) X ∷ []) no_places tree_L ≡ (codes "(x, 2)", [] ∷ [])
+below_root_by_itself = refl
 
 abbrev changes_root_drops : List Change
 changes_root_drops = replace_with_many (R []) (V ∷ []) ∷ delete (R (1 ∷ [])) ∷ []
 
-row_root_drops : outcome changes_root_drops no_places tree_L ≡ (codes "()", [] ∷ [])
-row_root_drops = refl
+replaced_root : outcome changes_root_drops no_places tree_L ≡ (codes "()", [] ∷ [])
+replaced_root = refl
 
-row_root_drops_dropped : map (is_dropped changes_root_drops) changes_root_drops ≡ false ∷ true ∷ []
-row_root_drops_dropped = refl
+replaced_root_drops_the_rest : map (is_dropped changes_root_drops) changes_root_drops ≡ false ∷ true ∷ []
+replaced_root_drops_the_rest = refl
 
 -- ---- payloads
-row_copied : outcome (insert (first_in (R (1 ∷ []))) X ∷ replace (R (1 ∷ [])) (N7 []) ∷ []) (placed 1 (1 ∷ []) no_places) tree_L ≡ (codes "((x7), 2)", (1 ∷ []) ∷ [])
-row_copied = refl
+insert_moves_to_the_copy : outcome (insert (first_in (R (1 ∷ []))) X ∷ replace (R (1 ∷ [])) (N7 []) ∷ []) (placed 1 (1 ∷ []) no_places) tree_L ≡ (codes "((x7), 2)", (1 ∷ []) ∷ [])
+insert_moves_to_the_copy = refl
 
 -- one payload under two owners: each copy has the changes of its own owner
 abbrev changes_shared : List Change
@@ -258,19 +258,19 @@ changes_shared = insert (first_in (R (1 ∷ []))) X ∷ insert (first_in (R (4 �
 abbrev places_shared : ℕ → Path
 places_shared = placed 2 (1 ∷ []) (placed 3 (1 ∷ []) no_places)
 
-row_shared : outcome changes_shared places_shared tree_L ≡ (codes "((x7), (y7))", (1 ∷ []) ∷ (4 ∷ []) ∷ [])
-row_shared = refl
+one_payload_of_two_owners : outcome changes_shared places_shared tree_L ≡ (codes "((x7), (y7))", (1 ∷ []) ∷ (4 ∷ []) ∷ [])
+one_payload_of_two_owners = refl
 
-row_shared_effort : touched_by changes_shared places_shared (R []) ≡ 5
-row_shared_effort = refl
+one_payload_of_two_owners_effort : touched_by changes_shared places_shared (R []) ≡ 5
+one_payload_of_two_owners_effort = refl
 
 -- a payload of the edited tree is taken as it was
-row_payload_as_it_was : outcome (replace (R (1 ∷ [])) (R (4 ∷ [])) ∷ insert (first_in (R (4 ∷ []))) X ∷ []) no_places tree_L ≡ (codes "(2, x2)", (1 ∷ []) ∷ (4 ∷ 0 ∷ []) ∷ [])
-row_payload_as_it_was = refl
+payload_as_it_was : outcome (replace (R (1 ∷ [])) (R (4 ∷ [])) ∷ insert (first_in (R (4 ∷ []))) X ∷ []) no_places tree_L ≡ (codes "(2, x2)", (1 ∷ []) ∷ (4 ∷ 0 ∷ []) ∷ [])
+payload_as_it_was = refl
 
 -- a keeping replacement in a deleted node is dropped, and so is what lies in it
 abbrev changes_below_deleted : List Change
 changes_below_deleted = delete (F (7 ∷ [])) ∷ replace (F (7 ∷ 0 ∷ [])) (F (7 ∷ 0 ∷ [])) ∷ insert (first_in (F (7 ∷ 0 ∷ []))) X ∷ []
 
-row_below_deleted : ◌≡◌ {A = List Bool × List (Option ℕ)} (map (is_dropped changes_below_deleted) changes_below_deleted, owners changes_below_deleted) (false ∷ true ∷ true ∷ [], None ∷ None ∷ None ∷ [])
-row_below_deleted = refl
+dropped_below_deleted : ◌≡◌ {A = List Bool × List (Option ℕ)} (map (is_dropped changes_below_deleted) changes_below_deleted, owners changes_below_deleted) (false ∷ true ∷ true ∷ [], None ∷ None ∷ None ∷ [])
+dropped_below_deleted = refl

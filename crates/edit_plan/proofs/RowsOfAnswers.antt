@@ -9,34 +9,34 @@ use Rattle.edit_plan.specs.inner.Sought.{sought_from}
 use Rattle.edit_change.specs.Display.{escape, change_text}
 use Rattle.edit_change.specs.declared.change.Change.{Change}
 use Rattle.edit_plan.proofs.RowChanges.{no_places, after, insert, delete, replace, replace_with_many, replace_all, X}
-use Rattle.edit_plan.proofs.Rows.{changes_2}
+use Rattle.edit_plan.proofs.Rows.{changes_before_both_literals}
 
 -- ---- the paths of an annotation, where nothing is mapped
 abbrev notes : List Element → List Change → List Path
 notes es cs = flat_map (λ t. paths_with 1 (annotated [] (map (λ e. (e, 1)) es) t)) (new_tree cs no_places (R []))
 
-row_two_notes : notes (R (4 ∷ []) ∷ R (1 ∷ []) ∷ []) [] ≡ (4 ∷ []) ∷ (1 ∷ []) ∷ []
-row_two_notes = refl
+notes_of_two : notes (R (4 ∷ []) ∷ R (1 ∷ []) ∷ []) [] ≡ (4 ∷ []) ∷ (1 ∷ []) ∷ []
+notes_of_two = refl
 
-row_note_deleted : notes (R (1 ∷ []) ∷ []) (delete (R (1 ∷ [])) ∷ []) ≡ []
-row_note_deleted = refl
+note_of_a_deleted_element : notes (R (1 ∷ []) ∷ []) (delete (R (1 ∷ [])) ∷ []) ≡ []
+note_of_a_deleted_element = refl
 
-row_note_copied : notes (R (1 ∷ []) ∷ []) (insert (after (R (4 ∷ []))) (R (1 ∷ [])) ∷ []) ≡ (1 ∷ []) ∷ (5 ∷ []) ∷ []
-row_note_copied = refl
+note_of_a_copied_element : notes (R (1 ∷ []) ∷ []) (insert (after (R (4 ∷ []))) (R (1 ∷ [])) ∷ []) ≡ (1 ∷ []) ∷ (5 ∷ []) ∷ []
+note_of_a_copied_element = refl
 
-row_note_exchanged : notes (R (1 ∷ []) ∷ []) (replace (R (1 ∷ [])) (R (4 ∷ [])) ∷ replace (R (4 ∷ [])) (R (1 ∷ [])) ∷ []) ≡ (4 ∷ []) ∷ []
-row_note_exchanged = refl
+note_of_an_exchanged_element : notes (R (1 ∷ []) ∷ []) (replace (R (1 ∷ [])) (R (4 ∷ [])) ∷ replace (R (4 ∷ [])) (R (1 ∷ [])) ∷ []) ≡ (4 ∷ []) ∷ []
+note_of_an_exchanged_element = refl
 
-row_note_moved : notes (R (4 ∷ []) ∷ []) (replace (R (1 ∷ [])) (R (4 ∷ [])) ∷ replace (R (4 ∷ [])) X ∷ []) ≡ (1 ∷ []) ∷ []
-row_note_moved = refl
+note_of_a_moved_element : notes (R (4 ∷ []) ∷ []) (replace (R (1 ∷ [])) (R (4 ∷ [])) ∷ replace (R (4 ∷ [])) X ∷ []) ≡ (1 ∷ []) ∷ []
+note_of_a_moved_element = refl
 
 -- ---- registered elements, as they are sought at one of them
-row_sought : sought_from 0 (map address (R [] ∷ R (1 ∷ []) ∷ R (1 ∷ 0 ∷ []) ∷ [])) (address (R (1 ∷ []))) ≡ (1, []) ∷ (2, 0 ∷ []) ∷ []
-row_sought = refl
+sought_at_one_of_them : sought_from 0 (map address (R [] ∷ R (1 ∷ []) ∷ R (1 ∷ 0 ∷ []) ∷ [])) (address (R (1 ∷ []))) ≡ (1, []) ∷ (2, 0 ∷ []) ∷ []
+sought_at_one_of_them = refl
 
--- ---- a node found again in the tree of row 2
-row_27 : ◌≡◌ {A = List (Option Path)} (flat_map (λ t. stand_in_path (R []) (plain t) ∷ stand_in_path (R (4 ∷ [])) (plain t) ∷ []) (new_tree changes_2 no_places (R []))) (Some [] ∷ None ∷ [])
-row_27 = refl
+-- ---- a node found again in the new tree
+root_found_again : ◌≡◌ {A = List (Option Path)} (flat_map (λ t. stand_in_path (R []) (plain t) ∷ stand_in_path (R (4 ∷ [])) (plain t) ∷ []) (new_tree changes_before_both_literals no_places (R []))) (Some [] ∷ None ∷ [])
+root_found_again = refl
 
 -- ---- texts
 abbrev red : List ℕ → List ℕ
@@ -48,8 +48,8 @@ green s = escape ∷ codes "[42m" ++ s
 abbrev plain_again : List ℕ → List ℕ
 plain_again s = escape ∷ codes "[0m" ++ escape ∷ codes "[K" ++ s
 
-row_20 : ◌≡◌ {A = List (List ℕ)} (map change_text (delete (R (1 ∷ [])) ∷ insert (after (R (0 ∷ []))) X ∷ [])) (red (codes "1" ++ plain_again []) ∷ (codes "(" ++ green (codes "x" ++ plain_again (codes "1, 2)"))) ∷ [])
-row_20 = refl
+texts_of_a_deletion_and_an_insert : ◌≡◌ {A = List (List ℕ)} (map change_text (delete (R (1 ∷ [])) ∷ insert (after (R (0 ∷ []))) X ∷ [])) (red (codes "1" ++ plain_again []) ∷ (codes "(" ++ green (codes "x" ++ plain_again (codes "1, 2)"))) ∷ [])
+texts_of_a_deletion_and_an_insert = refl
 
-row_range_texts : ◌≡◌ {A = List (List ℕ)} (map change_text (replace_all (R (1 ∷ [])) (R (3 ∷ [])) [] ∷ replace_with_many (R (1 ∷ [])) [] ∷ [])) ((codes "(" ++ red (codes "1, " ++ green (plain_again (codes "2)")))) ∷ red (codes "1" ++ green (plain_again [])) ∷ [])
-row_range_texts = refl
+texts_of_ranges : ◌≡◌ {A = List (List ℕ)} (map change_text (replace_all (R (1 ∷ [])) (R (3 ∷ [])) [] ∷ replace_with_many (R (1 ∷ [])) [] ∷ [])) ((codes "(" ++ red (codes "1, " ++ green (plain_again (codes "2)")))) ∷ red (codes "1" ++ green (plain_again [])) ∷ [])
+texts_of_ranges = refl

@@ -147,15 +147,15 @@ text-exchanged : flat_map text (new_tree changes_exchanged no_places (P [])) ≡
 unfolding long falling doubled
 text-exchanged = text-unowned changes_exchanged no_places (P []) (refl, (refl, tt)) ∙ filled-falling (brought_text changes_exchanged) (behind_last ∷ over_last ∷ []) aside-both 31 0 refl
 
-row_more_too_long : (made : OriginTree) → new_tree changes_more no_places (P []) ≡ made ∷ [] → TextIsTooLong made
-row_more_too_long made is =
+more_is_too_long : (made : OriginTree) → new_tree changes_more no_places (P []) ≡ made ∷ [] → TextIsTooLong made
+more_is_too_long made is =
     let all : length (text made) ≡ length (above 31 ++ codes "ax") = ap length (sym (append-nil (text made)) ∙ ap (flat_map text) (sym is) ∙ text-more) in
     let sum = length-append (above 31) (codes "ax") in
     let two : length (codes "ax") ≡ 2 = refl in
     omega (arith, all, sum, two, length-above_all)
 
-row_exchanged : length (flat_map text (new_tree changes_exchanged no_places (P []))) ≡ 4294967295
-row_exchanged =
+exchanged_is_of_the_greatest_length : length (flat_map text (new_tree changes_exchanged no_places (P []))) ≡ 4294967295
+exchanged_is_of_the_greatest_length =
     let sum = length-append (above 31) (codes "x") in
     let one : length (codes "x") ≡ 1 = refl in
     ap length text-exchanged ∙ omega (arith, sum, one, length-above_all)
@@ -175,13 +175,13 @@ tops-falling (suc k) i e =
     let none : topmost (λ b. b) r ≡ [] = ap (topmost (λ b. b)) (untouched_is not_given g cs (i ∷ []) a.untouched (doubled (suc k)) ∙ none-given (doubled (suc k))) ∙ none-topmost (doubled (suc k)) in
     ap₂ (λ ns b. tops (λ b. b) i ((flat_map g (gap_order ns) ++ cond b (flat_map g (replacements_at cs (i ∷ []))) (r ∷ [])) ++ rest)) a.no_inserts a.not_replaced ∙ ap₂ (λ ps qs. map (λ p. i ∷ p) ps ++ qs) none (tops-falling k (suc i) (omega (arith, e)))
 
-row_exchanged_changed : flat_map (changed (is_free changes_exchanged)) (new_tree changes_exchanged no_places (P [])) ≡ (31 ∷ []) ∷ []
+exchanged_child_is_changed : flat_map (changed (is_free changes_exchanged)) (new_tree changes_exchanged no_places (P [])) ≡ (31 ∷ []) ∷ []
 unfolding long
-row_exchanged_changed =
+exchanged_child_is_changed =
     changed-whole changes_exchanged no_places (P []) ∙ append-nil _ ∙ top-children (λ b. b) false (rewritten_from not_given (marked changes_exchanged no_places) (behind_last ∷ over_last ∷ []) [] 0 (forest (falling 31))) refl ∙ tops-falling 31 0 refl
 
 -- the whole tree put first, and all the rest deleted
-row_emptied_changed : flat_map (changed (is_free changes_emptied)) (new_tree changes_emptied no_places (P [])) ≡ (0 ∷ []) ∷ []
+whole_tree_put_first_is_changed : flat_map (changed (is_free changes_emptied)) (new_tree changes_emptied no_places (P [])) ≡ (0 ∷ []) ∷ []
 unfolding long falling
-row_emptied_changed =
+whole_tree_put_first_is_changed =
     changed-whole changes_emptied no_places (P []) ∙ append-nil _ ∙ top-children (λ b. b) false (marked changes_emptied no_places 0) refl ∙ tops-alone (λ b. b) 0 (marked changes_emptied no_places 0) (alone changes_emptied no_places 0)

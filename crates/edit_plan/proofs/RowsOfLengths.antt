@@ -72,8 +72,8 @@ with_two s = simp (append-nil, length-append) (omega arith)
 length-two : (t : SyntaxTree) → length (flat_map text (new_tree (changes_two t) no_places (R []))) ≡ 4 + text_length t + text_length t
 length-two t = ap length (text-unowned (changes_two t) no_places (R []) (refl, (refl, tt))) ∙ with_two (text t)
 
-row_two_too_long : (made : OriginTree) → new_tree (changes_two (long 31)) no_places (R []) ≡ made ∷ [] → TextIsTooLong made
-row_two_too_long made is =
+two_payloads_are_too_long : (made : OriginTree) → new_tree (changes_two (long 31)) no_places (R []) ≡ made ∷ [] → TextIsTooLong made
+two_payloads_are_too_long made is =
     let all : length (text made) ≡ 4 + text_length (long 31) + text_length (long 31) = ap length (sym (append-nil (text made)) ∙ ap (flat_map text) (sym is)) ∙ length-two (long 31) in
     omega (arith, longest)
 
@@ -91,5 +91,5 @@ text-emptied : flat_map text (new_tree changes_emptied no_places (P [])) ≡ tex
 unfolding long falling
 text-emptied = text-unowned changes_emptied no_places (P []) (refl, (refl, tt)) ∙ nothing_added (text (long 31))
 
-row_emptied : length (flat_map text (new_tree changes_emptied no_places (P []))) ≡ 4294967295
-row_emptied = ap length text-emptied ∙ longest
+emptied_is_of_the_greatest_length : length (flat_map text (new_tree changes_emptied no_places (P []))) ≡ 4294967295
+emptied_is_of_the_greatest_length = ap length text-emptied ∙ longest

@@ -10,14 +10,14 @@ use Rattle.edit_change.specs.PositionForm.{FirstChild, After}
 use Rattle.edit_plan.proofs.RowChanges.{E, after, before, last_in}
 
 -- there is no gap beside a root
-row_beside_root : ◌≡◌ {A = List (Option Position)} (place.before (syntax_of (R [])) ∷ place.after (syntax_of (R [])) ∷ []) (None ∷ None ∷ [])
-row_beside_root = refl
+no_gap_beside_a_root : ◌≡◌ {A = List (Option Position)} (place.before (syntax_of (R [])) ∷ place.after (syntax_of (R [])) ∷ []) (None ∷ None ∷ [])
+no_gap_beside_a_root = refl
 
-row_before : ◌≡◌ {A = List Position} (before (R (0 ∷ [])) ∷ before (R (1 ∷ [])) ∷ []) (FirstChild (R []) ∷ After (syntax_of (R (0 ∷ []))) ∷ [])
-row_before = refl
+before_a_child : ◌≡◌ {A = List Position} (before (R (0 ∷ [])) ∷ before (R (1 ∷ [])) ∷ []) (FirstChild (R []) ∷ After (syntax_of (R (0 ∷ []))) ∷ [])
+before_a_child = refl
 
-row_last : ◌≡◌ {A = List Position} (last_in (R []) ∷ last_in (E (1 ∷ [])) ∷ []) (After (syntax_of (R (5 ∷ []))) ∷ FirstChild (E (1 ∷ [])) ∷ [])
-row_last = refl
+last_in_a_node : ◌≡◌ {A = List Position} (last_in (R []) ∷ last_in (E (1 ∷ [])) ∷ []) (After (syntax_of (R (5 ∷ []))) ∷ FirstChild (E (1 ∷ [])) ∷ [])
+last_in_a_node = refl
 
-row_gaps : ◌≡◌ {A = List (Option Gap)} (map (λ p. gap_of (position_aim p)) (before (R (0 ∷ [])) ∷ after (R (3 ∷ [])) ∷ after (R (4 ∷ 0 ∷ [])) ∷ [])) (Some (record { node = []; index = 0 }) ∷ Some (record { node = []; index = 4 }) ∷ Some (record { node = 4 ∷ []; index = 1 }) ∷ [])
-row_gaps = refl
+gaps_of_positions : ◌≡◌ {A = List (Option Gap)} (map (λ p. gap_of (position_aim p)) (before (R (0 ∷ [])) ∷ after (R (3 ∷ [])) ∷ after (R (4 ∷ 0 ∷ [])) ∷ [])) (Some (record { node = []; index = 0 }) ∷ Some (record { node = []; index = 4 }) ∷ Some (record { node = 4 ∷ []; index = 1 }) ∷ [])
+gaps_of_positions = refl

@@ -40,51 +40,51 @@ space = Token WHITESPACE.0 (codes " ")
 abbrev tree_L : List SyntaxTree
 tree_L = Token L_PAREN.0 (codes "(") ∷ one ∷ comma ∷ space ∷ two ∷ Token R_PAREN.0 (codes ")") ∷ []
 
-row_after : run COMMA tree_L 1 ≡ (1 ∷ [], 3 ∷ [])
+separator_after_the_first : run COMMA tree_L 1 ≡ (1 ∷ [], 3 ∷ [])
 unfolding chars
-row_after = refl
+separator_after_the_first = refl
 
-row_before : run COMMA tree_L 4 ≡ (2 ∷ [], 4 ∷ [])
+separator_before_the_last : run COMMA tree_L 4 ≡ (2 ∷ [], 4 ∷ [])
 unfolding chars
-row_before = refl
+separator_before_the_last = refl
 
-row_none : run SEMICOLON tree_L 1 ≡ (1 ∷ [], 1 ∷ [])
+no_separator : run SEMICOLON tree_L 1 ≡ (1 ∷ [], 1 ∷ [])
 unfolding chars
-row_none = refl
+no_separator = refl
 
-row_texts : left COMMA tree_L 1 ∷ left COMMA tree_L 4 ∷ left SEMICOLON tree_L 1 ∷ [] ≡ codes "(2)" ∷ codes "(1)" ∷ codes "(, 2)" ∷ []
+texts_left : left COMMA tree_L 1 ∷ left COMMA tree_L 4 ∷ left SEMICOLON tree_L 1 ∷ [] ≡ codes "(2)" ∷ codes "(1)" ∷ codes "(, 2)" ∷ []
 unfolding chars
-row_texts = refl
+texts_left = refl
 
 -- the root of a tree
-row_root : removed_run COMMA (syntax_of (element tree_L [])) ≡ (syntax_of (element tree_L []), syntax_of (element tree_L []))
-row_root = refl
+root_alone : removed_run COMMA (syntax_of (element tree_L [])) ≡ (syntax_of (element tree_L []), syntax_of (element tree_L []))
+root_alone = refl
 
 -- whitespace before the separator: `1 , 2`
-row_spaced : map (run COMMA (one ∷ space ∷ comma ∷ space ∷ two ∷ [])) (0 ∷ 4 ∷ []) ≡ (0 ∷ [], 3 ∷ []) ∷ (2 ∷ [], 4 ∷ []) ∷ []
+whitespace_before_the_separator : map (run COMMA (one ∷ space ∷ comma ∷ space ∷ two ∷ [])) (0 ∷ 4 ∷ []) ≡ (0 ∷ [], 3 ∷ []) ∷ (2 ∷ [], 4 ∷ []) ∷ []
 unfolding chars
-row_spaced = refl
+whitespace_before_the_separator = refl
 
 -- two whitespace tokens are not skipped, and of two after the separator one goes
-row_two_spaces : run COMMA (one ∷ space ∷ space ∷ comma ∷ two ∷ []) 0 ≡ (0 ∷ [], 0 ∷ [])
+two_whitespace_tokens_not_skipped : run COMMA (one ∷ space ∷ space ∷ comma ∷ two ∷ []) 0 ≡ (0 ∷ [], 0 ∷ [])
 unfolding chars
-row_two_spaces = refl
+two_whitespace_tokens_not_skipped = refl
 
-row_two_after : run COMMA (one ∷ comma ∷ space ∷ space ∷ two ∷ []) 0 ≡ (0 ∷ [], 2 ∷ [])
+one_of_two_whitespace_tokens_goes : run COMMA (one ∷ comma ∷ space ∷ space ∷ two ∷ []) 0 ≡ (0 ∷ [], 2 ∷ [])
 unfolding chars
-row_two_after = refl
+one_of_two_whitespace_tokens_goes = refl
 
 -- between two separators
-row_between : run COMMA (one ∷ comma ∷ two ∷ comma ∷ one ∷ []) 2 ≡ (2 ∷ [], 3 ∷ [])
+between_two_separators : run COMMA (one ∷ comma ∷ two ∷ comma ∷ one ∷ []) 2 ≡ (2 ∷ [], 3 ∷ [])
 unfolding chars
-row_between = refl
+between_two_separators = refl
 
 -- whitespace as the separator: the one beside the element is skipped first
-row_whitespace : map (run WHITESPACE (one ∷ space ∷ two ∷ space ∷ space ∷ one ∷ [])) (0 ∷ 2 ∷ 5 ∷ []) ≡ (0 ∷ [], 0 ∷ []) ∷ (2 ∷ [], 4 ∷ []) ∷ (3 ∷ [], 5 ∷ []) ∷ []
+whitespace_as_the_separator : map (run WHITESPACE (one ∷ space ∷ two ∷ space ∷ space ∷ one ∷ [])) (0 ∷ 2 ∷ 5 ∷ []) ≡ (0 ∷ [], 0 ∷ []) ∷ (2 ∷ [], 4 ∷ []) ∷ (3 ∷ [], 5 ∷ []) ∷ []
 unfolding chars
-row_whitespace = refl
+whitespace_as_the_separator = refl
 
 -- nodes of the kinds of whitespace and of the separator count for neither
-row_nodes : map (run COMMA (one ∷ node COMMA.0 [] ∷ two ∷ node WHITESPACE.0 [] ∷ comma ∷ node WHITESPACE.0 [] ∷ one ∷ [])) (0 ∷ 2 ∷ 3 ∷ []) ≡ (0 ∷ [], 0 ∷ []) ∷ (2 ∷ [], 2 ∷ []) ∷ (3 ∷ [], 4 ∷ []) ∷ []
+nodes_are_neither : map (run COMMA (one ∷ node COMMA.0 [] ∷ two ∷ node WHITESPACE.0 [] ∷ comma ∷ node WHITESPACE.0 [] ∷ one ∷ [])) (0 ∷ 2 ∷ 3 ∷ []) ≡ (0 ∷ [], 0 ∷ []) ∷ (2 ∷ [], 2 ∷ []) ∷ (3 ∷ [], 4 ∷ []) ∷ []
 unfolding chars
-row_nodes = refl
+nodes_are_neither = refl

@@ -13,25 +13,25 @@ use Rattle.spacing.specs.Spacing.{Space, OneSpace, NoSpace, NewLine, between, sp
 abbrev between_kinds : List (SyntaxKind × SyntaxKind) → List Space
 between_kinds ks = map (λ k. between (record { kind = k.0.0; level = 1 }) (record { kind = k.1.0; level = 2 })) ks
 
-row_none : between_kinds ((WHITESPACE, USE) ∷ (ATTR, WHITESPACE) ∷ (NAME, SEMICOLON) ∷ (NAME, COMMA) ∷ (L_ANGLE, NAME) ∷ (NAME, R_ANGLE) ∷ (AMP, LIFETIME) ∷ (NAME, GENERIC_ARG_LIST) ∷ (ATTR, COMMA) ∷ [])
+no_space_between : between_kinds ((WHITESPACE, USE) ∷ (ATTR, WHITESPACE) ∷ (NAME, SEMICOLON) ∷ (NAME, COMMA) ∷ (L_ANGLE, NAME) ∷ (NAME, R_ANGLE) ∷ (AMP, LIFETIME) ∷ (NAME, GENERIC_ARG_LIST) ∷ (ATTR, COMMA) ∷ [])
     ≡ NoSpace ∷ NoSpace ∷ NoSpace ∷ NoSpace ∷ NoSpace ∷ NoSpace ∷ NoSpace ∷ NoSpace ∷ NoSpace ∷ []
-row_none = refl
+no_space_between = refl
 
-row_new_line : between_kinds ((NAME, USE) ∷ (USE, USE) ∷ (ATTR, USE) ∷ (ATTR, NAME) ∷ (ATTR, ATTR) ∷ []) ≡ NewLine 1 ∷ NewLine 2 ∷ NewLine 1 ∷ NewLine 2 ∷ NewLine 2 ∷ []
-row_new_line = refl
+new_line_between : between_kinds ((NAME, USE) ∷ (USE, USE) ∷ (ATTR, USE) ∷ (ATTR, NAME) ∷ (ATTR, ATTR) ∷ []) ≡ NewLine 1 ∷ NewLine 2 ∷ NewLine 1 ∷ NewLine 2 ∷ NewLine 2 ∷ []
+new_line_between = refl
 
-row_one_space : between_kinds ((NAME, NAME) ∷ (AMP, NAME) ∷ (NAME, LIFETIME) ∷ (USE, NAME) ∷ (NAME, ATTR) ∷ (L_CURLY, FN) ∷ []) ≡ OneSpace ∷ OneSpace ∷ OneSpace ∷ OneSpace ∷ OneSpace ∷ OneSpace ∷ []
-row_one_space = refl
+one_space_between : between_kinds ((NAME, NAME) ∷ (AMP, NAME) ∷ (NAME, LIFETIME) ∷ (USE, NAME) ∷ (NAME, ATTR) ∷ (L_CURLY, FN) ∷ []) ≡ OneSpace ∷ OneSpace ∷ OneSpace ∷ OneSpace ∷ OneSpace ∷ OneSpace ∷ []
+one_space_between = refl
 
 -- ---- behind an opening brace
 abbrev opened : SyntaxKind → SyntaxKind → Space
 opened parent first = space_before (After (syntax_of (element_of_tree 1 (branch parent (token L_CURLY (codes "{") ∷ [])) (0 ∷ [])))) (element_of_tree 2 (branch first []) [])
 
-row_opened : ◌≡◌ {A = List Space} (opened ITEM_LIST USE ∷ opened STMT_LIST USE ∷ opened STMT_LIST FN ∷ opened STMT_LIST EXPR_STMT ∷ []) (NewLine 1 ∷ NewLine 1 ∷ NewLine 1 ∷ NewLine 1 ∷ [])
+new_line_behind_an_opening_brace : ◌≡◌ {A = List Space} (opened ITEM_LIST USE ∷ opened STMT_LIST USE ∷ opened STMT_LIST FN ∷ opened STMT_LIST EXPR_STMT ∷ []) (NewLine 1 ∷ NewLine 1 ∷ NewLine 1 ∷ NewLine 1 ∷ [])
 unfolding chars
-row_opened = refl
+new_line_behind_an_opening_brace = refl
 
 -- an item in the braces of items, a literal, an import in another node's braces
-row_not_opened : ◌≡◌ {A = List Space} (opened ITEM_LIST FN ∷ opened STMT_LIST LITERAL ∷ opened BLOCK_EXPR USE ∷ []) (OneSpace ∷ OneSpace ∷ NewLine 0 ∷ [])
+as_between_behind_other_braces : ◌≡◌ {A = List Space} (opened ITEM_LIST FN ∷ opened STMT_LIST LITERAL ∷ opened BLOCK_EXPR USE ∷ []) (OneSpace ∷ OneSpace ∷ NewLine 0 ∷ [])
 unfolding chars
-row_not_opened = refl
+as_between_behind_other_braces = refl

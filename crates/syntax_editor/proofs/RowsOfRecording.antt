@@ -19,47 +19,47 @@ use Rattle.syntax_editor.specs.declared.error.RecordError.TheVariants.{Foreign, 
 use Rattle.syntax_editor.proofs.RowEdits.{outcome, in_tree, R, U, V, X, Y, tree_H}
 
 -- ---- one change for each replaced element
-abbrev calls_13 : List RecordCall
-calls_13 = Replacing (R (1 ∷ [])) X ∷ Deleting (R (1 ∷ [])) ∷ Replacing (R (1 ∷ [])) Y ∷ []
+abbrev calls_on_one_element : List RecordCall
+calls_on_one_element = Replacing (R (1 ∷ [])) X ∷ Deleting (R (1 ∷ [])) ∷ Replacing (R (1 ∷ [])) Y ∷ []
 
-row_13 : all_recorded calls_13 ≡ Replace (R (1 ∷ [])) None ∷ []
-row_13 = refl
+deletion_stands : all_recorded calls_on_one_element ≡ Replace (R (1 ∷ [])) None ∷ []
+deletion_stands = refl
 
-row_13_outcome : outcome (all_recorded calls_13) tree_L ≡ (codes "(, 2)", [])
-row_13_outcome = refl
+deletion_stands_outcome : outcome (all_recorded calls_on_one_element) tree_L ≡ (codes "(, 2)", [])
+deletion_stands_outcome = refl
 
-row_13_deleted : is_deleted (R (1 ∷ [])) (all_recorded calls_13) ≡ true
-row_13_deleted = refl
+deletion_stands_deleted : is_deleted (R (1 ∷ [])) (all_recorded calls_on_one_element) ≡ true
+deletion_stands_deleted = refl
 
 -- a deleted range deletes no element
-row_13_range : is_deleted (R (1 ∷ [])) (all_recorded (DeletingAll (R (1 ∷ [])) (R (3 ∷ [])) ∷ [])) ≡ false
-row_13_range = refl
+deleted_range_deletes_no_element : is_deleted (R (1 ∷ [])) (all_recorded (DeletingAll (R (1 ∷ [])) (R (3 ∷ [])) ∷ [])) ≡ false
+deleted_range_deletes_no_element = refl
 
-row_last_stands : all_recorded (Replacing (R (1 ∷ [])) X ∷ Replacing (R (4 ∷ [])) X ∷ Replacing (R (1 ∷ [])) Y ∷ []) ≡ Replace (R (1 ∷ [])) (Some Y) ∷ Replace (R (4 ∷ [])) (Some X) ∷ []
-row_last_stands = refl
+last_replacement_stands : all_recorded (Replacing (R (1 ∷ [])) X ∷ Replacing (R (4 ∷ [])) X ∷ Replacing (R (1 ∷ [])) Y ∷ []) ≡ Replace (R (1 ∷ [])) (Some Y) ∷ Replace (R (4 ∷ [])) (Some X) ∷ []
+last_replacement_stands = refl
 
 -- a range of one element is that element
-row_one_element : all_recorded (DeletingAll (R (1 ∷ [])) (R (1 ∷ [])) ∷ ReplacingAll (R (4 ∷ [])) (R (4 ∷ [])) (X ∷ []) ∷ Deleting (R (1 ∷ [])) ∷ []) ≡ Replace (R (1 ∷ [])) None ∷ ReplaceWithMany (R (4 ∷ [])) (X ∷ []) ∷ []
-row_one_element = refl
+range_of_one_element : all_recorded (DeletingAll (R (1 ∷ [])) (R (1 ∷ [])) ∷ ReplacingAll (R (4 ∷ [])) (R (4 ∷ [])) (X ∷ []) ∷ Deleting (R (1 ∷ [])) ∷ []) ≡ Replace (R (1 ∷ [])) None ∷ ReplaceWithMany (R (4 ∷ [])) (X ∷ []) ∷ []
+range_of_one_element = refl
 
 -- nothing but a Replace is taken up
-row_not_taken_up : all_recorded (ReplacingWithMany (R (1 ∷ [])) (X ∷ []) ∷ Deleting (R (1 ∷ [])) ∷ ReplacingWithMany (R (1 ∷ [])) [] ∷ []) ≡ ReplaceWithMany (R (1 ∷ [])) (X ∷ []) ∷ Replace (R (1 ∷ [])) None ∷ ReplaceWithMany (R (1 ∷ [])) [] ∷ []
-row_not_taken_up = refl
+not_taken_up : all_recorded (ReplacingWithMany (R (1 ∷ [])) (X ∷ []) ∷ Deleting (R (1 ∷ [])) ∷ ReplacingWithMany (R (1 ∷ [])) [] ∷ []) ≡ ReplaceWithMany (R (1 ∷ [])) (X ∷ []) ∷ Replace (R (1 ∷ [])) None ∷ ReplaceWithMany (R (1 ∷ [])) [] ∷ []
+not_taken_up = refl
 
 -- ---- two editors
-abbrev changes_11 : List Change
-changes_11 = merged (delete (R (1 ∷ [])) []) (delete (R (1 ∷ [])) [])
+abbrev changes_of_two_editors : List Change
+changes_of_two_editors = merged (delete (R (1 ∷ [])) []) (delete (R (1 ∷ [])) [])
 
-row_11 : changes_11 ≡ Replace (R (1 ∷ [])) None ∷ Replace (R (1 ∷ [])) None ∷ []
-row_11 = refl
+deleted_by_two_editors : changes_of_two_editors ≡ Replace (R (1 ∷ [])) None ∷ Replace (R (1 ∷ [])) None ∷ []
+deleted_by_two_editors = refl
 
-row_11_clash : first_clash changes_11 ≡ Some (0, 1)
-row_11_clash = refl
+deleted_by_two_editors_clash : first_clash changes_of_two_editors ≡ Some (0, 1)
+deleted_by_two_editors_clash = refl
 
 -- after a merge the first one takes a replacement up
-row_after_merge : ◌≡◌ {A = List (List Change)} (map (replace (R (1 ∷ [])) Y) (merged (replace (R (1 ∷ [])) X []) (delete (R (1 ∷ [])) []) ∷ changes_11 ∷ []))
-    ((Replace (R (1 ∷ [])) (Some Y) ∷ Replace (R (1 ∷ [])) None ∷ []) ∷ changes_11 ∷ [])
-row_after_merge = refl
+replaced_after_a_merge : ◌≡◌ {A = List (List Change)} (map (replace (R (1 ∷ [])) Y) (merged (replace (R (1 ∷ [])) X []) (delete (R (1 ∷ [])) []) ∷ changes_of_two_editors ∷ []))
+    ((Replace (R (1 ∷ [])) (Some Y) ∷ Replace (R (1 ∷ [])) None ∷ []) ∷ changes_of_two_editors ∷ [])
+replaced_after_a_merge = refl
 
 -- ---- refused calls
 abbrev root : Element
@@ -68,42 +68,42 @@ root = element_of (R [])
 abbrev refused : List RecordCall → List (Option RecordError)
 refused calls = map (refusal root) calls
 
-row_24 : refused (Deleting (R []) ∷ Replacing (R []) U ∷ ReplacingWithMany (R []) (V ∷ V ∷ []) ∷ DeletingAll (R (4 ∷ [])) (R (1 ∷ [])) ∷ DeletingAll (R (0 ∷ [])) (R (1 ∷ 0 ∷ [])) ∷ Inserting (FirstChild (element_of V)) X ∷ [])
+calls_refused : refused (Deleting (R []) ∷ Replacing (R []) U ∷ ReplacingWithMany (R []) (V ∷ V ∷ []) ∷ DeletingAll (R (4 ∷ [])) (R (1 ∷ [])) ∷ DeletingAll (R (0 ∷ [])) (R (1 ∷ 0 ∷ [])) ∷ Inserting (FirstChild (element_of V)) X ∷ [])
     ≡ Some DeletesRoot ∷ Some RootReplacement ∷ Some RootReplacement ∷ Some BadRange ∷ Some BadRange ∷ Some Foreign ∷ []
-row_24 = refl
+calls_refused = refl
 
 -- a range of the root alone is the root
-row_root_range : refused (DeletingAll (R []) (R []) ∷ ReplacingAll (R []) (R []) (V ∷ V ∷ []) ∷ ReplacingAll (R []) (R []) (V ∷ []) ∷ DeletingAll (R []) (R (1 ∷ [])) ∷ []) ≡ Some DeletesRoot ∷ Some RootReplacement ∷ None ∷ Some BadRange ∷ []
-row_root_range = refl
+range_of_the_root : refused (DeletingAll (R []) (R []) ∷ ReplacingAll (R []) (R []) (V ∷ V ∷ []) ∷ ReplacingAll (R []) (R []) (V ∷ []) ∷ DeletingAll (R []) (R (1 ∷ [])) ∷ []) ≡ Some DeletesRoot ∷ Some RootReplacement ∷ None ∷ Some BadRange ∷ []
+range_of_the_root = refl
 
 -- a path that leads nowhere, and a token where there is a node
-row_no_such_element : refused (Deleting (Token (element_at root (9 ∷ []))) ∷ Deleting (Token (element_at root (1 ∷ []))) ∷ Deleting (Node (element_at root (1 ∷ []))) ∷ []) ≡ Some Foreign ∷ Some Foreign ∷ None ∷ []
-row_no_such_element = refl
+no_such_element : refused (Deleting (Token (element_at root (9 ∷ []))) ∷ Deleting (Token (element_at root (1 ∷ []))) ∷ Deleting (Node (element_at root (1 ∷ []))) ∷ []) ≡ Some Foreign ∷ Some Foreign ∷ None ∷ []
+no_such_element = refl
 
 -- what is foreign is refused first
-row_first_refusal : refused (DeletingAll (R (4 ∷ [])) V ∷ DeletingAll V (R (4 ∷ [])) ∷ ReplacingAll (R (1 ∷ [])) (R (3 ∷ [])) (U ∷ V ∷ []) ∷ []) ≡ Some Foreign ∷ Some Foreign ∷ None ∷ []
-row_first_refusal = refl
+foreign_is_refused_first : refused (DeletingAll (R (4 ∷ [])) V ∷ DeletingAll V (R (4 ∷ [])) ∷ ReplacingAll (R (1 ∷ [])) (R (3 ∷ [])) (U ∷ V ∷ []) ∷ []) ≡ Some Foreign ∷ Some Foreign ∷ None ∷ []
+foreign_is_refused_first = refl
 
-row_replaced_root : ◌≡◌ {A = List Change} (all_recorded (ReplacingWithMany (R []) (V ∷ []) ∷ Deleting (R (1 ∷ [])) ∷ [])) (ReplaceWithMany (R []) (V ∷ []) ∷ Replace (R (1 ∷ [])) None ∷ [])
-row_replaced_root = refl
+recorded_below_a_replaced_root : ◌≡◌ {A = List Change} (all_recorded (ReplacingWithMany (R []) (V ∷ []) ∷ Deleting (R (1 ∷ [])) ∷ [])) (ReplaceWithMany (R []) (V ∷ []) ∷ Replace (R (1 ∷ [])) None ∷ [])
+recorded_below_a_replaced_root = refl
 
-row_fits : map (fits root) (Replace (R []) None ∷ Replace (R []) (Some V) ∷ Replace (R []) (Some U) ∷ ReplaceAll (R (1 ∷ [])) (R (1 ∷ [])) [] ∷ ReplaceAll (R (1 ∷ [])) (R (3 ∷ [])) [] ∷ InsertAll (After (R (1 ∷ []))) [] ∷ Insert (FirstChild (element_of V)) X ∷ []) ≡ false ∷ true ∷ false ∷ false ∷ true ∷ true ∷ false ∷ []
-row_fits = refl
+changes_that_fit : map (fits root) (Replace (R []) None ∷ Replace (R []) (Some V) ∷ Replace (R []) (Some U) ∷ ReplaceAll (R (1 ∷ [])) (R (1 ∷ [])) [] ∷ ReplaceAll (R (1 ∷ [])) (R (3 ∷ [])) [] ∷ InsertAll (After (R (1 ∷ []))) [] ∷ Insert (FirstChild (element_of V)) X ∷ []) ≡ false ∷ true ∷ false ∷ false ∷ true ∷ true ∷ false ∷ []
+changes_that_fit = refl
 
 -- ---- attributes and comments
-row_21_slots : removed_slots tree_H ≡ 0 ∷ 1 ∷ 2 ∷ 3 ∷ []
-row_21_slots = refl
+slots_of_attributes_and_comments : removed_slots tree_H ≡ 0 ∷ 1 ∷ 2 ∷ 3 ∷ []
+slots_of_attributes_and_comments = refl
 
-row_21 : remove_attrs_and_docs (element_of (in_tree tree_H [])) [] ≡ Replace (in_tree tree_H (0 ∷ [])) None ∷ Replace (in_tree tree_H (1 ∷ [])) None ∷ Replace (in_tree tree_H (2 ∷ [])) None ∷ Replace (in_tree tree_H (3 ∷ [])) None ∷ []
-row_21 = refl
+attributes_and_comments_deleted : remove_attrs_and_docs (element_of (in_tree tree_H [])) [] ≡ Replace (in_tree tree_H (0 ∷ [])) None ∷ Replace (in_tree tree_H (1 ∷ [])) None ∷ Replace (in_tree tree_H (2 ∷ [])) None ∷ Replace (in_tree tree_H (3 ∷ [])) None ∷ []
+attributes_and_comments_deleted = refl
 
-row_21_outcome : outcome (remove_attrs_and_docs (element_of (in_tree tree_H [])) []) tree_H ≡ (codes "fn f() {}", [])
-row_21_outcome = refl
+attributes_and_comments_deleted_outcome : outcome (remove_attrs_and_docs (element_of (in_tree tree_H [])) []) tree_H ≡ (codes "fn f() {}", [])
+attributes_and_comments_deleted_outcome = refl
 
 -- only what is of the kind WHITESPACE directly behind an attribute or a comment goes with it, a node too
 abbrev spaced_out : SyntaxTree
 spaced_out =
     branch FN (token WHITESPACE (codes " ") ∷ branch ATTR [] ∷ token WHITESPACE (codes " ") ∷ token WHITESPACE (codes " ") ∷ token DOC_COMMENT (codes "///") ∷ branch WHITESPACE [] ∷ token FN_KW (codes "fn") ∷ token WHITESPACE (codes " ") ∷ [])
 
-row_removed_slots : removed_slots spaced_out ≡ 1 ∷ 2 ∷ 4 ∷ 5 ∷ []
-row_removed_slots = refl
+slots_of_whitespace_directly_behind : removed_slots spaced_out ≡ 1 ∷ 2 ∷ 4 ∷ 5 ∷ []
+slots_of_whitespace_directly_behind = refl

@@ -18,51 +18,51 @@ use Rattle.syntax_editor.proofs.RowEdits.{outcome, in_tree, R, A3, S1, G, V, has
 abbrev inserted : Position → SyntaxElement → List Change
 inserted at e = insert_all_with_whitespace 20 at (e ∷ []) []
 
-row_19i : outcome (inserted (After (R (2 ∷ []))) A3) tree_L ≡ (codes "(1, 3 2)", (3 ∷ []) ∷ (4 ∷ []) ∷ [])
+space_behind_a_new_element : outcome (inserted (After (R (2 ∷ []))) A3) tree_L ≡ (codes "(1, 3 2)", (3 ∷ []) ∷ (4 ∷ []) ∷ [])
 unfolding chars
-row_19i = refl
+space_behind_a_new_element = refl
 
-row_19ii : outcome (inserted (FirstChild (element_of (R []))) A3) tree_L ≡ (codes "3 (1, 2)", (0 ∷ []) ∷ (1 ∷ []) ∷ [])
+space_behind_a_new_first_child : outcome (inserted (FirstChild (element_of (R []))) A3) tree_L ≡ (codes "3 (1, 2)", (0 ∷ []) ∷ (1 ∷ []) ∷ [])
 unfolding chars
-row_19ii = refl
+space_behind_a_new_first_child = refl
 
-row_19iii : outcome (inserted (After (in_tree tree_B (0 ∷ 0 ∷ []))) S1) tree_B ≡ (codes "{\n    let first = 1;\n    let second = 2;\n}", (0 ∷ 1 ∷ []) ∷ (0 ∷ 2 ∷ []) ∷ [])
+new_line_before_a_new_statement : outcome (inserted (After (in_tree tree_B (0 ∷ 0 ∷ []))) S1) tree_B ≡ (codes "{\n    let first = 1;\n    let second = 2;\n}", (0 ∷ 1 ∷ []) ∷ (0 ∷ 2 ∷ []) ∷ [])
 unfolding chars
-row_19iii = refl
+new_line_before_a_new_statement = refl
 
-row_19iv : outcome (inserted (After (in_tree tree_J (0 ∷ []))) G) tree_J ≡ (codes "{\n    use }", (1 ∷ []) ∷ (2 ∷ []) ∷ (3 ∷ []) ∷ [])
+new_line_behind_an_opening_brace : outcome (inserted (After (in_tree tree_J (0 ∷ []))) G) tree_J ≡ (codes "{\n    use }", (1 ∷ []) ∷ (2 ∷ []) ∷ (3 ∷ []) ∷ [])
 unfolding chars
-row_19iv = refl
+new_line_behind_an_opening_brace = refl
 
-row_attributes : outcome (inserted (After (in_tree tree_hash_fn (0 ∷ []))) hash) tree_hash_fn ≡ (codes "#\n#\nfn", (1 ∷ []) ∷ (2 ∷ []) ∷ (3 ∷ []) ∷ [])
+new_lines_round_a_new_attribute : outcome (inserted (After (in_tree tree_hash_fn (0 ∷ []))) hash) tree_hash_fn ≡ (codes "#\n#\nfn", (1 ∷ []) ∷ (2 ∷ []) ∷ (3 ∷ []) ∷ [])
 unfolding chars
-row_attributes = refl
+new_lines_round_a_new_attribute = refl
 
 -- nothing goes round no elements
-row_no_elements : insert_all_with_whitespace 20 (After (R (2 ∷ []))) [] [] ≡ InsertAll (After (R (2 ∷ []))) [] ∷ []
-row_no_elements = refl
+no_elements : insert_all_with_whitespace 20 (After (R (2 ∷ []))) [] [] ≡ InsertAll (After (R (2 ∷ []))) [] ∷ []
+no_elements = refl
 
-row_no_elements_outcome : outcome (insert_all_with_whitespace 20 (After (R (2 ∷ []))) [] []) tree_L ≡ (codes "(1, 2)", [])
-row_no_elements_outcome = refl
+no_elements_outcome : outcome (insert_all_with_whitespace 20 (After (R (2 ∷ []))) [] []) tree_L ≡ (codes "(1, 2)", [])
+no_elements_outcome = refl
 
 -- ---- refused calls
 -- J stands at level 255, and what opens it is one deeper
-row_too_deep : spacing_refusal (element_of (in_tree tree_deep [])) 20 (After (in_tree tree_deep (1 ∷ 0 ∷ []))) (G ∷ []) ≡ Some LevelTooLarge
+too_deep : spacing_refusal (element_of (in_tree tree_deep [])) 20 (After (in_tree tree_deep (1 ∷ 0 ∷ []))) (G ∷ []) ≡ Some LevelTooLarge
 unfolding chars
-row_too_deep = refl
+too_deep = refl
 
 -- two numbers are needed, and one or two are left
 abbrev refusal_at : ℕ → Option RecordError
 refusal_at number = spacing_refusal (element_of (in_tree tree_hash_fn [])) number (After (in_tree tree_hash_fn (0 ∷ []))) (hash ∷ [])
 
-row_numbers : numbers_needed (After (in_tree tree_hash_fn (0 ∷ []))) (hash ∷ []) ≡ 2
+two_numbers_needed : numbers_needed (After (in_tree tree_hash_fn (0 ∷ []))) (hash ∷ []) ≡ 2
 unfolding chars
-row_numbers = refl
+two_numbers_needed = refl
 
-row_spent : ◌≡◌ {A = List (Option RecordError)} (map refusal_at (18446744073709551614 ∷ 18446744073709551613 ∷ [])) (Some NoTreeNumber ∷ None ∷ [])
+numbers_spent : ◌≡◌ {A = List (Option RecordError)} (map refusal_at (18446744073709551614 ∷ 18446744073709551613 ∷ [])) (Some NoTreeNumber ∷ None ∷ [])
 unfolding chars
-row_spent = refl
+numbers_spent = refl
 
-row_foreign : spacing_refusal (element_of (R [])) 20 (FirstChild (element_of V)) (A3 ∷ []) ≡ Some Foreign
+position_elsewhere : spacing_refusal (element_of (R [])) 20 (FirstChild (element_of V)) (A3 ∷ []) ≡ Some Foreign
 unfolding chars
-row_foreign = refl
+position_elsewhere = refl
