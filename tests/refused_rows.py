@@ -40,7 +40,6 @@ EXCEPT = {
     "OnePassEngine::new": "asks for nothing",
     "OnePassEngine::starting_at": "asks for nothing",
     "SpliceEngine::new": "asks for nothing",
-    "EditRun::finish_counting": "is all that EditRun::finish does, which has rows",
     "Change::green_payload": "gives a type that no user of edit_plan can name; EditPlan::run_with calls it, and has rows",
     "read_tree": "each row reads its trees by it, and ends where that is refused",
     "run": "is the whole of the program `syned`, which tests/refuse_growths.sh runs with each allocation made to fail",

@@ -276,6 +276,11 @@ pub const OWED: &[Owed] = &[
         answers: &["ok", "TooLong", "NoTreeNumber"],
     },
     Owed {
+        call: "finish_counting",
+        name: "EditRun::finish_counting",
+        answers: &["ok", "TooLong", "NoTreeNumber"],
+    },
+    Owed {
         call: "is_dropped",
         name: "EditPlan::is_dropped",
         answers: &["true", "false"],

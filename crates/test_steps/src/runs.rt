@@ -5,7 +5,7 @@ use crate::edits::keep_edit;
 use crate::session::Session;
 use crate::stepped::Stepped;
 use std::alloc::Global;
-use syntax_editor::EditPlan;
+use syntax_editor::{EditError, EditPlan, OnePassEngine, SyntaxEdit};
 use test_trees::{NoAnswer, Words, word};
 
 /// What the step of this name answers, if it is one of these.
@@ -20,6 +20,7 @@ pub fn answer(
         "execute" => execute(alloc, session, words),
         "stepped" => step_through(alloc, session, words),
         "finish_run" => finish_run(alloc, session, words),
+        "finish_counting" => finish_counting(alloc, session, words),
         _ => return None,
     };
     Some(answer)
@@ -54,27 +55,70 @@ fn step_through(
     session: &mut Session,
     words: &mut Words,
 ) -> Result<String, NoAnswer> {
-    let plan = last(&session.plans)?;
-    let mut stepped = Stepped::new(alloc, plan)?;
-    stepped.take_all(words)?;
+    let stepped = stepped(alloc, &session.plans, words)?;
     let refused = stepped.refused_call();
     let answer = stepped.into_answer();
+    note_refused(session, refused);
+    Ok(answer)
+}
+
+// A run of the last plan by these steps.
+fn stepped<'a>(
+    alloc: Global,
+    plans: &'a [EditPlan],
+    words: &mut Words,
+) -> Result<Stepped<'a>, NoAnswer> {
+    let mut stepped = Stepped::new(alloc, last(plans)?)?;
+    stepped.take_all(words)?;
+    Ok(stepped)
+}
+
+fn note_refused(session: &mut Session, refused: Option<&'static str>) {
     if refused.is_some() {
         session.refused = refused;
     }
-    Ok(answer)
 }
 
 // A run by these steps, and the edit that it gives where it is complete.
 fn finish_run(alloc: Global, session: &mut Session, words: &mut Words) -> Result<String, NoAnswer> {
-    let plan = last(&session.plans)?;
-    let mut stepped = Stepped::new(alloc, plan)?;
-    stepped.take_all(words)?;
+    let stepped = stepped(alloc, &session.plans, words)?;
     let refused = stepped.refused_call();
     let edit = stepped.finish(&mut session.ids);
-    if refused.is_some() {
-        session.refused = refused;
+    note_refused(session, refused);
+    keep_finished(alloc, session, edit)
+}
+
+// The same, with the count of the walk that gives the edit its paths. The count begins at the first number.
+fn finish_counting(
+    alloc: Global,
+    session: &mut Session,
+    words: &mut Words,
+) -> Result<String, NoAnswer> {
+    let first = words.number()?;
+    let mut walk = OnePassEngine::starting_at(alloc, first);
+    let stepped = stepped(alloc, &session.plans, words)?;
+    let refused = stepped.refused_call();
+    let edit = stepped.finish_counting(&mut session.ids, &mut walk);
+    note_refused(session, refused);
+    let answer = keep_finished(alloc, session, edit)?;
+    with_count(answer, first, walk.builds())
+}
+
+// An edit with the count after it. Where there is none the count must be as it was.
+fn with_count(mut answer: String, first: u64, builds: u64) -> Result<String, NoAnswer> {
+    if answer.starts_with("ok") {
+        write!(answer, ", built {builds}")?;
+    } else if builds != first {
+        return Err(NoAnswer::Changed);
     }
+    Ok(answer)
+}
+
+fn keep_finished(
+    alloc: Global,
+    session: &mut Session,
+    edit: Option<Result<SyntaxEdit, EditError>>,
+) -> Result<String, NoAnswer> {
     match edit {
         Some(edit) => keep_edit(alloc, session, edit),
         None => word(alloc, "not complete"),

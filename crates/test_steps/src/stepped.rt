@@ -3,7 +3,7 @@ ghost use Rattle.std.specs.Prelude.{◌≡◌, ◌<◌, length, IfOk};
 use crate::standing::run_standing;
 use cst_core::{GreenNode, TreeIds};
 use std::alloc::{AllocError, Global};
-use syntax_editor::{EditError, EditPlan, EditRun, SyntaxEdit};
+use syntax_editor::{EditError, EditPlan, EditRun, OnePassEngine, SyntaxEdit};
 use test_trees::{NoAnswer, Words, quote};
 
 // Texts up to this length are shown.
@@ -193,6 +193,19 @@ impl<'a> Stepped<'a> {
             return None;
         }
         Some(run.finish(alloc, ids))
+    }
+
+    /// The same edit, where the walk that gives its paths is counted.
+    pub fn finish_counting(
+        self,
+        ids: &mut TreeIds,
+        walk: &mut OnePassEngine,
+    ) -> Option<Result<SyntaxEdit, EditError>> {
+        let Stepped { alloc, run, .. } = self;
+        if !run.is_complete() {
+            return None;
+        }
+        Some(run.finish_counting(alloc, ids, walk))
     }
 }
 
