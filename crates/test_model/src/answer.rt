@@ -2,7 +2,6 @@ use crate::edited::Edited;
 use crate::found::{Found, changed_in, noted_in};
 use crate::made::Made;
 use crate::order::Clause;
-use crate::piece::Piece;
 use crate::rewriter::{Source, rewrite};
 use anyhow::Result;
 use cst_core::{GreenNode, TreeIds};
@@ -23,15 +22,6 @@ pub enum Answer {
 }
 
 impl Answer {
-    pub fn of_pieces(
-        alloc: Global,
-        edited: Edited<'_>,
-        pieces: &[Piece],
-        found: Found<'_>,
-    ) -> Result<Answer, AllocError> {
-        Ok(Answer::Made(Made::of(alloc, edited, pieces, found)?))
-    }
-
     // This tree, with these paths.
     fn of_tree(
         alloc: Global,
@@ -40,7 +30,7 @@ impl Answer {
         found: Found<'_>,
     ) -> Result<Answer, AllocError> {
         let pieces = rewrite(alloc, Source::of_green(tree), &[], false)?;
-        Answer::of_pieces(alloc, edited, &pieces, found)
+        Ok(Answer::Made(Made::of(alloc, edited, &pieces, found)?))
     }
 
     // What was made by the editor.

@@ -8,6 +8,7 @@ use crate::fate::{Fate, first_lost};
 use crate::fated::Fated;
 use crate::found::Found;
 use crate::given::{payloads, staying};
+use crate::made::Made;
 use crate::piece::Piece;
 use crate::planned::{Planned, clash};
 use crate::rewriter::{Source, rewrite};
@@ -38,7 +39,7 @@ fn answer_of_tree(
         changed: &changed,
         noted: &noted,
     };
-    Answer::of_pieces(alloc, edited, pieces, found)
+    Ok(Answer::Made(Made::of(alloc, edited, pieces, found)?))
 }
 
 impl Fated<'_> {

@@ -6,7 +6,7 @@ use cst_core::{
     SyntaxToken, TreeError,
 };
 use std::alloc::{AllocError, Global};
-use test_trees::{NoAnswer, RowError, number, push_path, push_quoted, word};
+use test_trees::{NoAnswer, RowError, number, push_children, push_path, push_quoted, word};
 
 /// What an argument between quotes stands for: `\n`, `\r`, `\t`, `\"` and `\\` are escapes.
 pub fn unquote(alloc: Global, quoted: &str) -> Result<String, NoAnswer> {
@@ -128,18 +128,6 @@ pub fn text_of(alloc: Global, tree: &GreenNode) -> Result<String, AllocError> {
         }
     }
     Ok(text)
-}
-
-// The first one on top.
-fn push_children(
-    alloc: Global,
-    left: &mut Vec<GreenElement>,
-    node: &GreenNode,
-) -> Result<(), AllocError> {
-    for child in node.children().iter().rev() {
-        left.push(child.share(alloc)?)?;
-    }
-    Ok(())
 }
 
 /// Kind, length and text of a shared tree, and of a node how many children it has.

@@ -6,7 +6,7 @@ use crate::session::Session;
 use cst_core::{GreenElement, GreenNode, SyntaxNode, TreeIds, same_shape};
 use std::alloc::{AllocError, Global};
 use syntax_editor::{EditEngine, EditPlan, EngineError, OnePassEngine, Rewritten, SpliceEngine};
-use test_trees::{NoAnswer, Words, number_of, word};
+use test_trees::{NoAnswer, Words, number_of, push_children, word};
 
 // Trees with texts up to this length are compared whole, longer ones by their lengths alone.
 const COMPARED: u64 = 100_000;
@@ -188,16 +188,4 @@ fn push_next(
 fn push_text(texts: &mut String, text: &str) -> Result<(), AllocError> {
     let length = text.len();
     write!(texts, "{length}:{text}")
-}
-
-// The first one on top.
-fn push_children(
-    alloc: Global,
-    left: &mut Vec<GreenElement>,
-    node: &GreenNode,
-) -> Result<(), AllocError> {
-    for child in node.children().iter().rev() {
-        left.push(child.share(alloc)?)?;
-    }
-    Ok(())
 }

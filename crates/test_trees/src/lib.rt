@@ -3,6 +3,7 @@
 //! What the calls give is looked at by tests alone, so they have no contracts.
 #![tactic(auto)]
 
+mod children;
 mod doubling;
 mod expression;
 mod long;
@@ -13,6 +14,7 @@ mod shown;
 mod trees;
 mod words;
 
+pub use children::push_children;
 pub use doubling::{halves, p};
 pub use no_answer::NoAnswer;
 pub use row_error::RowError;
