@@ -3,7 +3,6 @@
 
 mod child_pairs;
 mod indent_error;
-pub mod laws;
 mod level;
 mod roots;
 mod shift;
