@@ -14,10 +14,11 @@ ghost use Rattle.callers.specs.Rearranged.{calls, after_calls, Rearranges, IsRea
 use crate::tree::{new_text, root_of};
 use anyhow::{Result, anyhow};
 use cst_core::{SyntaxElement, SyntaxKind, SyntaxNode, TreeIds};
+use edit_plan::laws::edit_text_is_filled;
 use list_removal::laws::removal_is_at_the_depth_of_the_element;
 use list_removal::remove_separated;
 use std::alloc::Global;
-use syntax_editor::laws::{calls_at_one_depth_own_nothing, edit_text_is_filled};
+use syntax_editor::laws::calls_at_one_depth_own_nothing;
 use syntax_editor::{SyntaxEdit, SyntaxEditor};
 
 fn remove(alloc: Global, editor: &mut SyntaxEditor, argument: &SyntaxNode) -> Result<()>

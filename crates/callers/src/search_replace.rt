@@ -11,8 +11,8 @@ ghost use Rattle.callers.specs.Rewritten.{is_match, wrapper, ReplacesMatches, Wr
 use crate::tree::{new_text, root_of};
 use anyhow::{Context, Result};
 use cst_core::{GreenElement, GreenNode, GreenToken, SyntaxKind, SyntaxNode, TreeIds};
+use edit_plan::laws::edit_text_is_filled;
 use std::alloc::Global;
-use syntax_editor::laws::edit_text_is_filled;
 use syntax_editor::{SyntaxEdit, SyntaxEditor, SyntaxMappingBuilder};
 
 // A match has the pattern's kind and its text.

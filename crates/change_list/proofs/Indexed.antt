@@ -24,7 +24,7 @@ use Rattle.edit_change.specs.declared.change.Change.{Change}
 use Rattle.edit_change.specs.declared.change.Change.TheVariants.{Insert, InsertAll, Replace, ReplaceWithMany, ReplaceAll}
 use Rattle.change_list.specs.declared.replace_index.Replaced.{Replaced}
 use Rattle.change_list.specs.Recording.{with_replacement}
-use Rattle.change_list.specs.ByPath.{is_replace, replacement_at, replacements_at, is_replace_at, replace_at, delete_at}
+use Rattle.change_list.specs.inner.ByPath.{is_replace, replacement_at, replacements_at, is_replace_at, replace_at, delete_at}
 use Rattle.change_list.specs.inner.Indexing.{replaced_at, as_deleted}
 use Rattle.change_list.proofs.Addresses.{same_path-true, same_path_from}
 use Rattle.change_list.proofs.TakenUp.{taken, answered, filter_map-taken, filter_map-passed, test_of}

@@ -16,7 +16,7 @@ use Rattle.cst_core.specs.declared.element.SyntaxElement.{SyntaxElement}
 use Rattle.edit_change.specs.declared.change.Change.{Change}
 use Rattle.edit_change.specs.declared.change.Change.TheVariants.{Insert, InsertAll, Replace, ReplaceWithMany, ReplaceAll}
 use Rattle.change_list.specs.declared.replace_index.Replaced.{Replaced}
-use Rattle.change_list.specs.ByPath.{is_replace, replacement_at, replacements_at, is_replace_at}
+use Rattle.change_list.specs.inner.ByPath.{is_replace, replacement_at, replacements_at, is_replace_at}
 use Rattle.change_list.specs.inner.Indexing.{replaced_at, as_deleted}
 use Rattle.change_list.proofs.Addresses.{same_path-true}
 use Rattle.change_list.proofs.Indexed.{stated, unsaid, here, there, nothing-said, something-said, added-agrees}

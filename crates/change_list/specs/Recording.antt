@@ -23,11 +23,8 @@ abbrev pub are_one : SyntaxElement → SyntaxElement → Bool
 are_one e f = same_element (element_of e) (element_of f)
 
 abbrev pub replacement_of : SyntaxElement → Change → Option (Option SyntaxElement)
-replacement_of e (Insert at f) = None
-replacement_of e (InsertAll at fs) = None
 replacement_of e (Replace t new) = cond (are_one t e) (Some new) None
-replacement_of e (ReplaceWithMany t fs) = None
-replacement_of e (ReplaceAll first last fs) = None
+replacement_of e _ = None
 
 abbrev pub replacements_of : SyntaxElement → List Change → List (Option SyntaxElement)
 replacements_of e cs = filter_map (replacement_of e) cs
@@ -38,11 +35,8 @@ is_deleted e cs = list_any is_none (replacements_of e cs)
 -- ---- a Replace that takes another one up
 -- a Replace with what h makes of the element that it brings
 abbrev pub with_replacement : (Option SyntaxElement → Option SyntaxElement) → Change → Change
-with_replacement h (Insert at f) = Insert at f
-with_replacement h (InsertAll at fs) = InsertAll at fs
 with_replacement h (Replace t new) = Replace t (h new)
-with_replacement h (ReplaceWithMany t fs) = ReplaceWithMany t fs
-with_replacement h (ReplaceAll first last fs) = ReplaceAll first last fs
+with_replacement h c = c
 
 abbrev pub is_replace_of : SyntaxElement → Change → Bool
 is_replace_of e c = is_some (replacement_of e c)

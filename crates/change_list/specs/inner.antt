@@ -1,2 +1,3 @@
 -- What private calls cite.
 pub mod Indexing
+pub mod ByPath

@@ -6,7 +6,7 @@ ghost use Rattle.cst_core.specs.declared.element.SyntaxElement.{SyntaxElement};
 ghost use Rattle.edit_change.specs.declared.change.Change.{Change};
 ghost use Rattle.edit_change.specs.declared.change.Change.TheVariants.{Replace};
 ghost use Rattle.change_list.specs.Recording.{with_replacement, merged};
-ghost use Rattle.change_list.specs.ByPath.{is_replace, is_replace_at, replacements_at, replace_at, delete_at, delete_each_at};
+ghost use Rattle.change_list.specs.inner.ByPath.{is_replace, is_replace_at, replacements_at, replace_at, delete_at, delete_each_at};
 ghost use Rattle.change_list.specs.inner.Indexing.{room, Agrees, Notes, NotesReplace};
 
 use crate::replace_index::{ReplaceIndex, Replaced};

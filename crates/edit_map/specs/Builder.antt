@@ -83,8 +83,6 @@ abbrev refuses_one : Element → List Element → List Element → MapError → 
 refuses_one parent inputs outputs e = (length inputs ≤ length outputs) × RefusesFirst parent (zip inputs outputs) e
 
 abbrev pub RefusesChildren : Element → List Element → List Element → MapError → Type 0
-RefusesChildren parent inputs outputs NotAChild = refuses_one parent inputs outputs NotAChild
-RefusesChildren parent inputs outputs NotYounger = refuses_one parent inputs outputs NotYounger
-RefusesChildren parent inputs outputs OtherShape = refuses_one parent inputs outputs OtherShape
 RefusesChildren parent inputs outputs MoreInputs = length outputs < length inputs
 RefusesChildren parent inputs outputs Memory = length inputs ≤ length outputs
+RefusesChildren parent inputs outputs reason = refuses_one parent inputs outputs reason

@@ -3,9 +3,8 @@
 --     step_among                     the lowest of the ancestors at these paths that has a copy, exchanged for it
 --     syntax_step                    the nearest mapped one of these exchanged for its copy, if there is one and the path below leads on in it
 --     LeadsTo                        an element is followed to this one, where equal tree numbers have equal trees
---     IsNearest                      the copy of the nearest mapped one of a node and those above it, and how many slots lead to that one
 --     SyntaxSteps, IsReached         n of these steps lead from one element to another; some do, and no further one is possible
-use Rattle.std.specs.Prelude.{◌≡◌, ℕ, zero, suc, List, ◌∷◌, ◌++◌, drop, filter_map, Option, None, option_map, option_and_then, IsSomeAnd}
+use Rattle.std.specs.Prelude.{◌≡◌, ℕ, zero, suc, List, ◌∷◌, filter_map, Option, None, option_map, option_and_then, IsSomeAnd}
 use Rattle.cst_core.specs.Path.{Path, above, up_to, last_item}
 use Rattle.cst_core.specs.Element.{Element, NumbersTell}
 use Rattle.cst_core.specs.SyntaxElement.{element_of, syntax_at}
@@ -35,6 +34,3 @@ abbrev pub LeadsTo : Mapping → SyntaxElement → SyntaxElement → Type 0
 LeadsTo m e f = NumbersTell (element_of e ∷ mapped_elements m) → element_of f ≡ followed m (element_of e)
 
 -- what such a copy and n slots make of any element at the node or below it is the step of that element among these
-abbrev pub IsNearest : Mapping → Element → Option (Element × ℕ) → Type 0
-IsNearest m node nearest =
-    (e : Element) → e.number ≡ node.number → step_among m e (up_to node.path) ≡ option_map (λ f. record f.0 { path = f.0.path ++ drop f.1 e.path }) nearest

@@ -4,7 +4,8 @@ ghost use Rattle.std.specs.Prelude.{◌≡◌, ◌≤◌, [], length, IfOk, IfSo
 ghost use Rattle.cst_core.specs.Path.{up_to};
 ghost use Rattle.cst_core.specs.SyntaxElement.{element_of};
 ghost use Rattle.edit_map.specs.Builder.{IsMapping};
-ghost use Rattle.edit_map.specs.Following.{asked_paths, syntax_step, IsNearest, IsReached, LeadsTo};
+ghost use Rattle.edit_map.specs.Following.{asked_paths, syntax_step, IsReached, LeadsTo};
+ghost use Rattle.edit_map.specs.inner.Nearest.{IsNearest};
 
 use crate::mapping::SyntaxMapping;
 use cst_core::{SyntaxElement, SyntaxNode};

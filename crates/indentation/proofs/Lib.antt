@@ -5,4 +5,4 @@ mod TokensBefore
 mod Dedented
 mod Shifted
 pub mod ChildPairs
-mod Restored
+pub mod Restored

@@ -3,7 +3,9 @@
 --     level_of_token               the level of a token as an element
 --     level_here                   the level of a whitespace token that breaks the line
 --     level_before, level_first    the level of any other token: that of the token before it, and 0 where there is none
-use Rattle.std.specs.Prelude.{◌≡◌, ℕ, suc, ◌<◌, ◌≤◌, Bool, true, false, cond, List, [], ◌∷◌, ◌++◌, length, map, filter, Option, Some, None, option_map, unwrap_or, refl}
+--     back_one, zero_first         the same, as calls answer it
+--     zero_read                    level 0 is no deep one
+use Rattle.std.specs.Prelude.{◌≡◌, ℕ, suc, ◌<◌, ◌≤◌, Bool, true, false, cond, List, [], ◌∷◌, ◌++◌, length, map, filter, Option, Some, None, Ok, option_map, unwrap_or, refl}
 use Rattle.std.specs.List.{AllByRecursion}
 use Rattle.std.specs.Option.{option_map_or}
 use Rattle.std.proofs.Common.{ap, sym, ◌∙◌, subst, arith}
@@ -16,7 +18,9 @@ use Rattle.cst_core.specs.Tree.{Forest, Token, Node, end, more, SyntaxTree, at, 
 use Rattle.cst_core.specs.Order.{token_paths, tokens_before}
 use Rattle.cst_core.specs.Element.{Element, IsToken, element_at, below, subtree}
 use Rattle.cst_core.specs.SyntaxElement.{token_before}
-use Rattle.indentation.specs.Level.{breaks_line, tokens_up_to, level_behind, token_level, level}
+use Rattle.indentation.specs.Level.{breaks_line, tokens_up_to, level_behind, token_level, level, is_too_deep}
+use Rattle.indentation.specs.LevelCalls.{ReadsLevel}
+use Rattle.indentation.specs.declared.level.IndentLevel.{IndentLevel}
 
 -- ---- document order
 precedes-self : (p : Path) → precedes p p ≡ false
@@ -248,3 +252,13 @@ level_before e b not is = at (last_item (before e)) refl is
       where
         some_same : (x : Element) → Some x ≡ Some b → x ≡ b
         some_same x h = cc
+
+-- ---- as the walk finds it
+pub back_one : (e b : Element) (breaks : Bool) (r : Option Element) → breaks ≡ breaks_line e → breaks ≡ false → r ≡ token_before e → r ≡ Some b → OneBack e b
+back_one e b breaks r is not before there = level_before e b (sym is ∙ not) (sym before ∙ there)
+
+pub zero_first : (n : ℕ) (e : Element) (breaks : Bool) (r : Option Element) → n ≡ token_level e → breaks ≡ breaks_line e → breaks ≡ false → r ≡ token_before e → r ≡ None → n ≡ 0
+zero_first n e breaks r same is not before none = same ∙ level_first e (sym is ∙ not) (sym before ∙ none)
+
+pub zero_read : (n : ℕ) (l : IndentLevel) → n ≡ 0 → l.0 ≡ 0 → ReadsLevel n (Ok l)
+zero_read n l is zero = (ap is_too_deep is, zero ∙ sym is)

@@ -1,14 +1,11 @@
 -- What is mapped along with a copy of a node.
 --     is_behind, is_too_old       a node with a child node, and a copy whose number is not greater; and mappings are kept
 --     MapsAlong                   what mappings become, where some are kept
---     AlongRefuses                why they stay, where this says that the copy is too old
-use Rattle.std.specs.Prelude.{◌≡◌, ◌&&◌, not, nat_le, nat_eq, ℕ, Bool, true, List, ◌++◌, length, reverse, Option, Some, None, is_some}
+use Rattle.std.specs.Prelude.{◌≡◌, ◌&&◌, not, nat_le, nat_eq, ℕ, Bool, List, ◌++◌, length, reverse, Option, Some, None, is_some}
 use Rattle.cst_core.specs.Element.{Element}
 use Rattle.cst_core.specs.SyntaxElement.{child_nodes}
 use Rattle.edit_map.specs.Mapping.{Mapping}
 use Rattle.edit_map.specs.Builder.{IsMadeOf}
-use Rattle.indentation.specs.declared.indent_error.IndentError.{IndentError}
-use Rattle.indentation.specs.declared.indent_error.IndentError.TheVariants.{LevelTooLarge, TooLong, NoTreeNumber, NotYounger, Memory}
 
 -- where nothing would be mapped, any number will do
 abbrev pub is_behind : Element → ℕ → Bool
@@ -21,10 +18,3 @@ abbrev pub MapsAlong : List (Element × Element) → Option Mapping → Option M
 MapsAlong pairs None after = after ≡ None
 MapsAlong pairs (Some m) None = ⊥
 MapsAlong pairs (Some m) (Some after) = IsMadeOf (reverse pairs ++ m) after
-
-abbrev pub AlongRefuses : Bool → IndentError → Type 0
-AlongRefuses old LevelTooLarge = ⊥
-AlongRefuses old TooLong = ⊥
-AlongRefuses old NoTreeNumber = ⊥
-AlongRefuses old NotYounger = old ≡ true
-AlongRefuses old Memory = Unit {0}

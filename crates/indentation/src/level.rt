@@ -3,9 +3,10 @@ ghost use Rattle.std.specs.Prelude.{◌≡◌, ◌+◌, ◌≤◌, ◌==◌, tru
 ghost use Rattle.std.specs.Str.{chars};
 ghost use Rattle.std.specs.Fmt.{styled_text};
 ghost use Rattle.cst_core.specs.SyntaxElement.{element_of};
+ghost use Rattle.cst_core.specs.declared.element.SyntaxElement.TheVariants.{Node, Token};
 ghost use Rattle.cst_core.specs.Tree.{text};
 ghost use Rattle.indentation.specs.Level.{space, level_text, has_newline, breaks_line, level_behind, token_level, level};
-ghost use Rattle.indentation.specs.LevelCalls.{ReadsLevel};
+ghost use Rattle.indentation.specs.LevelCalls.{ReadsLevel, ReadsAtOnce};
 ghost use Rattle.indentation.specs.inner.LastLine.{last_line};
 
 use crate::indent_error::IndentError;
@@ -91,9 +92,10 @@ impl IndentLevel {
 
     /// The level of an element: that of its first token, and 0 where it has none.
     ///
-    /// `LevelTooLarge` comes exactly where it passes 255; else only `Memory` comes.
+    /// `LevelTooLarge` comes exactly where it passes 255; else only `Memory` comes, and not where `from_node` or `from_token` takes none.
     pub fn from_element(alloc: Global, element: &SyntaxElement) -> Result<IndentLevel, IndentError>
-        ensures { ReadsLevel (level (element_of element.now)) result }
+        ensures level { ReadsLevel (level (element_of element.now)) result }
+        ensures at_once { ReadsAtOnce element.now result }
     {
         match element {
             SyntaxElement::Node(node) => IndentLevel::from_node(alloc, node),
@@ -105,9 +107,10 @@ impl IndentLevel {
         }
     }
 
-    /// The level of a node, as of an element.
+    /// The level of a node, as of an element. A node without tokens is answered without memory.
     pub fn from_node(alloc: Global, node: &SyntaxNode) -> Result<IndentLevel, IndentError>
-        ensures { ReadsLevel (level node.now) result }
+        ensures level { ReadsLevel (level node.now) result }
+        ensures at_once { ReadsAtOnce (Node node.now) result }
     {
         match node.first_token(alloc)? {
             Some(token) => IndentLevel::from_token(alloc, &token),
@@ -118,18 +121,19 @@ impl IndentLevel {
     /// The level of a token: of the nearest whitespace token that holds a newline, at it or before it, each four characters
     /// after the last newline; 0 if there is no such token. It looks no further than that token.
     ///
-    /// `LevelTooLarge` comes exactly where the level passes 255; else only `Memory` comes.
+    /// `LevelTooLarge` comes exactly where the level passes 255; else only `Memory` comes, and not of a token that is such a
+    /// whitespace token or the first of its tree.
     pub fn from_token(alloc: Global, token: &SyntaxToken) -> Result<IndentLevel, IndentError>
-        ensures { ReadsLevel (token_level token.now) result }
+        ensures level { ReadsLevel (token_level token.now) result }
+        ensures at_once { ReadsAtOnce (Token token.now) result }
     {
-        let mut current = token.try_clone(alloc)?;
-        'back: while !breaks_line(&current) {
-            let Some(before) = current.prev_token(alloc)? else {
-                return Ok(IndentLevel::zero());
-            };
-            current = before;
+        if breaks_line(token) {
+            return level_behind(token.text());
         }
-        level_behind(current.text())
+        match token.prev_token(alloc)? {
+            Some(before) => level_back(alloc, before),
+            None => Ok(IndentLevel::zero()),
+        }
     }
 
     /// The spaces of the level: four times as many as its number.
@@ -171,10 +175,25 @@ fn count_chars(text: &str) -> usize
     text.chars().count()
 }
 
+// The level of a token, read from it on back.
+fn level_back(alloc: Global, token: SyntaxToken) -> Result<IndentLevel, IndentError>
+    ensures { ReadsLevel (token_level token) result }
+{
+    let mut current = token;
+    'back: while !breaks_line(&current) {
+        let Some(before) = current.prev_token(alloc)? else {
+            return Ok(IndentLevel::zero());
+        };
+        current = before;
+    }
+    level_behind(current.text())
+}
+
 // The level of what stands after a text that holds a newline.
 fn level_behind(text: &str) -> Result<IndentLevel, IndentError>
     requires { has_newline text.now ≡ true }
-    ensures { ReadsLevel (level_behind text.now) result }
+    ensures level { ReadsLevel (level_behind text.now) result }
+    ensures without_memory { ¬ (result ≡ Err IndentError.Memory) }
 {
     let Some(line) = last_line(text) else {
         unreachable!();

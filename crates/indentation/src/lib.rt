@@ -3,12 +3,11 @@
 
 mod child_pairs;
 mod indent_error;
-pub mod laws;
 mod level;
 mod roots;
 mod shift;
 
-pub use child_pairs::map_children;
+pub use child_pairs::{is_behind, map_children};
 pub use indent_error::IndentError;
 pub use level::IndentLevel;
 pub use roots::{dedent, indent};

@@ -13,8 +13,8 @@ use Rattle.cst_core.specs.Path.{Path, same_path, has_path, counted_from}
 use Rattle.cst_core.specs.Tree.{Forest, Token, Node, end, more, SyntaxTree, at, trees, text, forest_text, text_length}
 use Rattle.cst_core.specs.Order.{start}
 use Rattle.cst_core.specs.Green.{texts}
-use Rattle.green_tree.proofs.Starts.{start-top, start-node}
 use Rattle.list_removal.specs.RemovalText.{end_of}
+use Rattle.list_removal.proofs.Starts.{start-top, start-node}
 use Rattle.list_removal.proofs.Kept.{kept, kept_from, kept-all, kept_from-all, slot_stays}
 
 -- ---- slots

@@ -2,6 +2,7 @@ mod Siblings
 mod Refused
 mod Apart
 mod Kept
+mod Starts
 mod Cut
 mod Alone
 mod RowsOfRemovals

@@ -16,7 +16,7 @@ use Rattle.cst_core.specs.declared.element.SyntaxElement.{SyntaxElement}
 use Rattle.cst_core.specs.declared.element.SyntaxElement.TheVariants.{Node, Token}
 use Rattle.syntax_editor.specs.RecordCall.{RecordCall, DeletingAll, refusal}
 use Rattle.syntax_editor.specs.declared.error.RecordError.{RecordError}
-use Rattle.syntax_editor.specs.declared.error.RecordError.TheVariants.{Foreign, BadRange, DeletesRoot, RootReplacement, LevelTooLarge, NoTreeNumber, Memory}
+use Rattle.syntax_editor.specs.declared.error.RecordError.TheVariants.{Foreign, DeletesRoot, Memory}
 
 -- ---- tokens of a kind
 -- a node is none, whatever its kind
@@ -56,9 +56,6 @@ removal separator e = DeletingAll (removed_run separator e).0 (removed_run separ
 
 abbrev pub RemovalRefuses : Element → SyntaxKind → SyntaxElement → RecordError → Type 0
 RemovalRefuses root separator e Foreign = refusal root (removal separator e) ≡ Some Foreign
-RemovalRefuses root separator e BadRange = ⊥
 RemovalRefuses root separator e DeletesRoot = refusal root (removal separator e) ≡ Some DeletesRoot
-RemovalRefuses root separator e RootReplacement = ⊥
-RemovalRefuses root separator e LevelTooLarge = ⊥
-RemovalRefuses root separator e NoTreeNumber = ⊥
 RemovalRefuses root separator e Memory = Unit {0}
+RemovalRefuses root separator e _ = ⊥

@@ -1,4 +1,3 @@
 pub mod Table
 pub mod Spacing
-pub mod SpacedRefusal
 pub mod inner

@@ -14,16 +14,17 @@
 --     space_elements               whitespace as such a token, or as nothing
 --     space_in_front, space_at_end  the whitespace round a list of new elements
 --     is_deep_round                there is such a new line among these two
---     spaced                       new elements with that whitespace, whose tokens have the tree numbers from this one on
+--     with_spaces, spaced          new elements between two whitespaces, whose tokens have the tree numbers from this one on; with that at a position
 --     numbers_needed               how many such tokens there are
-use Rattle.std.specs.Prelude.{◌<◌, ℕ, suc, ◌+◌, ◌==◌, ◌&&◌, ◌||◌, Bool, false, cond, max, List, [], ◌∷◌, ◌++◌, length, unwrap_or, Option}
+--     space_refusal                why new elements get no whitespace, if they do not: the first of the reasons
+use Rattle.std.specs.Prelude.{◌<◌, ℕ, suc, ◌+◌, ◌==◌, ◌&&◌, ◌||◌, Bool, false, cond, max, nat_lt, List, [], ◌∷◌, ◌++◌, length, unwrap_or, Option}
 use Rattle.std.specs.List.{list_any}
 use Rattle.std.specs.Option.{option_map_or}
 use Rattle.cst_core.specs.Path.{parent_path, first_item, last_item}
 use Rattle.cst_core.specs.Tree as tree
 use Rattle.cst_core.specs.Tree.{SyntaxTree, node, label}
 use Rattle.cst_core.specs.Green.{length_limit}
-use Rattle.cst_core.specs.TreeIds.{IsSpent}
+use Rattle.cst_core.specs.TreeIds.{spent, IsSpent}
 use Rattle.cst_core.specs.Element.{Element, subtree, element_at}
 use Rattle.cst_core.specs.SyntaxElement.{element_of, child_elements, next_sibling}
 use Rattle.cst_core.specs.SyntaxKind.{SyntaxKind}
@@ -33,6 +34,8 @@ use Rattle.cst_core.specs.declared.element.SyntaxElement.TheVariants.{Token}
 use Rattle.edit_change.specs.declared.position.Position.{Position}
 use Rattle.edit_change.specs.PositionForm.{FirstChild, After}
 use Rattle.spacing.specs.Table.{first_fit}
+use Rattle.spacing.specs.declared.space_error.SpaceError.{SpaceError}
+use Rattle.spacing.specs.declared.space_error.SpaceError.TheVariants.{LevelTooLarge, NoTreeNumber}
 use Rattle.indentation.specs.Level.{newline, space, level_text, level, is_too_deep}
 
 pub data Space : Type 0 where
@@ -98,9 +101,8 @@ abbrev pub space_after : Position → Element → Space
 space_after at last = option_map_or (λ next. between (neighbor last) (neighbor (element_of next))) (next_of at) NoSpace
 
 abbrev pub is_deep : Space → Bool
-is_deep NoSpace = false
-is_deep OneSpace = false
 is_deep (NewLine level) = is_too_deep level
+is_deep _ = false
 
 -- ---- as elements
 abbrev pub space_text : Space → List ℕ
@@ -119,8 +121,7 @@ LacksTokenNumber number s = IsSpent number × (length s < length_limit)
 
 abbrev pub space_elements : ℕ → Space → List SyntaxElement
 space_elements number NoSpace = []
-space_elements number OneSpace = whitespace number (space_text OneSpace) ∷ []
-space_elements number (NewLine level) = whitespace number (space_text (NewLine level)) ∷ []
+space_elements number space = whitespace number (space_text space) ∷ []
 
 -- ---- round a list of new elements: none where there are no elements
 abbrev pub space_in_front : Position → List SyntaxElement → Space
@@ -132,10 +133,22 @@ space_at_end at es = option_map_or (λ e. space_after at (element_of e)) (last_i
 abbrev pub is_deep_round : Position → List SyntaxElement → Bool
 is_deep_round at es = is_deep (space_in_front at es) || is_deep (space_at_end at es)
 
+-- new elements between these two, whose tokens have the tree numbers from this one on
+abbrev pub with_spaces : ℕ → Space → List SyntaxElement → Space → List SyntaxElement
+with_spaces number front es end =
+    let first = space_elements number front in
+    first ++ es ++ space_elements (number + length first) end
+
 abbrev pub spaced : ℕ → Position → List SyntaxElement → List SyntaxElement
-spaced number at es =
-    let front = space_elements number (space_in_front at es) in
-    front ++ es ++ space_elements (number + length front) (space_at_end at es)
+spaced number at es = with_spaces number (space_in_front at es) es (space_at_end at es)
 
 abbrev pub numbers_needed : Position → List SyntaxElement → ℕ
 numbers_needed at es = length (space_elements 0 (space_in_front at es)) + length (space_elements 0 (space_at_end at es))
+
+-- a new line that is too deep comes first, then numbers that are not there
+abbrev pub space_refusal : ℕ → Position → List SyntaxElement → Option SpaceError
+space_refusal number at es =
+    first_fit (
+    (is_deep_round at es, LevelTooLarge) ∷
+    (nat_lt spent (number + numbers_needed at es), NoTreeNumber) ∷
+    [])

@@ -1,8 +1,7 @@
-ghost use Rattle.std.specs.Prelude.{◌≡◌, ◌+◌, ◌∷◌, [], ◌++◌, ◌≤◌, false, IfOk, IfErr, OnOk, OnErr, string_bytes};
+ghost use Rattle.std.specs.Prelude.{◌≡◌, ◌+◌, ◌∷◌, [], ◌++◌, ◌≤◌, None, IfOk, IfErr, OnOk, OnErr, string_bytes};
 ghost use Rattle.cst_core.specs.TreeIds.{spent};
-ghost use Rattle.spacing.specs.Spacing.{space_text, space_elements, spaced, numbers_needed, is_deep_round};
-ghost use Rattle.spacing.specs.SpacedRefusal.{SpacedRefuses};
-ghost use Rattle.spacing.specs.inner.SpaceInCode.{space_of, with_spaces, numbers_of, NumbersRefuse, IsRound, RoundRefuses};
+ghost use Rattle.spacing.specs.Spacing.{space_text, space_elements, with_spaces, spaced, numbers_needed, space_refusal};
+ghost use Rattle.spacing.specs.inner.SpaceInCode.{space_of, numbers_of, NumbersRefuse, IsRound, RoundRefuses, SpacedRefuses};
 
 use crate::space::{Space, space_at_end, space_in_front};
 use crate::space_error::SpaceError;
@@ -103,9 +102,8 @@ pub fn elements_with_spaces(
     new: Vec<SyntaxElement>,
 ) -> Result<Vec<SyntaxElement>, SpaceError>
     ensures ok { IfOk result (λ all. all.items ≡ spaced ids.old at.now new.items) }
-    ensures shallow { OnOk result (is_deep_round at.now new.items ≡ false) }
+    ensures accepted { OnOk result (space_refusal ids.old at.now new.items ≡ None) }
     ensures drawn { OnOk result (ids.new ≡ ids.old + numbers_needed at.now new.items) }
-    ensures given { OnOk result (ids.new ≤ spent) }
     ensures refused { IfErr result (SpacedRefuses ids.old at.now new.items) }
     ensures err { OnErr result (ids.new ≡ ids.old) }
 {

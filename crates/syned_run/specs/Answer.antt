@@ -58,7 +58,7 @@ abbrev pub IsPrinted : ℕ → List ℕ → Type 0
 IsPrinted zero bytes = IsEditText bytes
 IsPrinted (suc zero) bytes = IsRefusalText bytes
 IsPrinted (suc (suc zero)) bytes = (line : ℕ) × (bytes ≡ bad_text line)
-IsPrinted (suc (suc (suc n))) bytes = ⊥
+IsPrinted _ bytes = ⊥
 
 abbrev pub IsAnswer : List ℕ → ℕ → List ℕ → Type 0
 IsAnswer script status bytes = IsPrinted status bytes × ((SCRIPT_LIMIT < length script) ⊎ ¬ (IsUtf8 script) → (status ≡ 2) × (bytes ≡ bad_text 0))

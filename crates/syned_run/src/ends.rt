@@ -1,7 +1,8 @@
 //! The ends of a run: what is read and what is written.
 ghost use Rattle.std.specs.Prelude.{ℕ, ◌≡◌, ◌+◌, ◌<◌, IfOk, OnOk, IfSome, take};
 ghost use Rattle.std.specs.Io.KnownBytes.{Appends, Consumes};
-ghost use Rattle.syned_run.specs.Ends.{IsFrontOf, ReadsFrom, TakesAtMost};
+ghost use Rattle.syned_run.specs.Ends.{IsFrontOf, TakesAtMost};
+ghost use Rattle.syned_run.specs.inner.ReadOn.{ReadsFrom};
 
 use std::alloc::{AllocError, Global};
 use std::io;

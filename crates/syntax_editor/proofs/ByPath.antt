@@ -15,7 +15,7 @@ use Rattle.edit_change.specs.declared.change.Change.{Change}
 use Rattle.edit_change.specs.declared.change.Change.TheVariants.{Insert, InsertAll, Replace, ReplaceWithMany, ReplaceAll}
 use Rattle.edit_plan.specs.Fits.{Fits}
 use Rattle.change_list.specs.Recording.{replacement_of, is_replace_of, with_replacement, replace, delete, is_deleted}
-use Rattle.change_list.specs.ByPath.{replacement_at, replacements_at, is_replace_at, replace_at, delete_at}
+use Rattle.change_list.specs.inner.ByPath.{replacement_at, replacements_at, is_replace_at, replace_at, delete_at}
 use Rattle.change_list.proofs.Positions.{taken-alike, filter_map-alike}
 use Rattle.syntax_editor.proofs.Fitting.{native_number, native_target}
 

@@ -25,7 +25,7 @@ use Rattle.edit_plan.specs.Fits.{Fits, is_native, is_root}
 use Rattle.change_list.specs.Recording.{delete}
 use Rattle.syntax_editor.specs.RecordCall.{Deleting, refusal}
 use Rattle.syntax_editor.specs.declared.error.RecordError.TheVariants.{Foreign, DeletesRoot}
-use Rattle.change_list.specs.ByPath.{delete_each_at}
+use Rattle.change_list.specs.inner.ByPath.{delete_each_at}
 use Rattle.syntax_editor.specs.AttrsAndDocs.{is_removed, removed_slots, removed_children}
 use Rattle.syntax_editor.proofs.Fitting.{recorded_fits, native_number, no-line}
 use Rattle.syntax_editor.proofs.ByPath.{delete-by-path}

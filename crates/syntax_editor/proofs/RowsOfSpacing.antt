@@ -9,14 +9,15 @@ use Rattle.edit_change.specs.declared.change.Change.{Change}
 use Rattle.edit_change.specs.declared.change.Change.TheVariants.{InsertAll}
 use Rattle.edit_map.proofs.RowTrees.{tree_L, tree_B}
 use Rattle.spacing.specs.Spacing.{numbers_needed}
-use Rattle.syntax_editor.specs.SpacingCalls.{insert_all_with_whitespace, spacing_refusal}
+use Rattle.syntax_editor.specs.SpacingCalls.{spaced_insert, spacing_refusal}
+use Rattle.syntax_editor.specs.RecordCall.{recorded}
 use Rattle.syntax_editor.specs.declared.error.RecordError.{RecordError}
 use Rattle.syntax_editor.specs.declared.error.RecordError.TheVariants.{Foreign, LevelTooLarge, NoTreeNumber}
 use Rattle.syntax_editor.proofs.RowEdits.{outcome, in_tree, R, A3, S1, G, V, hash, tree_J, tree_deep, tree_hash_fn}
 
 -- one new element, of the tree 2 at the earliest; the whitespace is of the trees from 20 on
 abbrev inserted : Position → SyntaxElement → List Change
-inserted at e = insert_all_with_whitespace 20 at (e ∷ []) []
+inserted at e = recorded (spaced_insert 20 at (e ∷ [])) []
 
 space_behind_a_new_element : outcome (inserted (After (R (2 ∷ []))) A3) tree_L ≡ (codes "(1, 3 2)", (3 ∷ []) ∷ (4 ∷ []) ∷ [])
 unfolding chars
@@ -39,10 +40,10 @@ unfolding chars
 new_lines_round_a_new_attribute = refl
 
 -- nothing goes round no elements
-no_elements : insert_all_with_whitespace 20 (After (R (2 ∷ []))) [] [] ≡ InsertAll (After (R (2 ∷ []))) [] ∷ []
+no_elements : recorded (spaced_insert 20 (After (R (2 ∷ []))) []) [] ≡ InsertAll (After (R (2 ∷ []))) [] ∷ []
 no_elements = refl
 
-no_elements_outcome : outcome (insert_all_with_whitespace 20 (After (R (2 ∷ []))) [] []) tree_L ≡ (codes "(1, 2)", [])
+no_elements_outcome : outcome (recorded (spaced_insert 20 (After (R (2 ∷ []))) []) []) tree_L ≡ (codes "(1, 2)", [])
 no_elements_outcome = refl
 
 -- ---- refused calls

@@ -51,9 +51,5 @@ is_foreign root n = list_any (λ e. not (is_native root e)) (Node n ∷ removed_
 
 abbrev pub RemovalRefuses : Element → Element → RecordError → Type 0
 RemovalRefuses root n record_error.Foreign = is_foreign root n ≡ true
-RemovalRefuses root n record_error.BadRange = ⊥
-RemovalRefuses root n record_error.DeletesRoot = ⊥
-RemovalRefuses root n record_error.RootReplacement = ⊥
-RemovalRefuses root n record_error.LevelTooLarge = ⊥
-RemovalRefuses root n record_error.NoTreeNumber = ⊥
 RemovalRefuses root n record_error.Memory = is_native root (Node n) ≡ true
+RemovalRefuses root n _ = ⊥

@@ -22,7 +22,7 @@ use Rattle.edit_map.specs.Builder.{mapping_code, IsMadeOf}
 use Rattle.edit_map.specs.Mapping.{Mapping}
 use Rattle.edit_change.specs.declared.change.Change.{Change}
 use Rattle.edit_plan.specs.declared.edit_error.EditError.{EditError}
-use Rattle.edit_plan.specs.declared.edit_error.EditError.TheVariants.{Intersecting, MissingMapping, TooLong, NoTreeNumber, Memory}
+use Rattle.edit_plan.specs.declared.edit_error.EditError.TheVariants.{TooLong, NoTreeNumber}
 use Rattle.cst_core.specs.declared.element.SyntaxElement.{SyntaxElement}
 use Rattle.edit_change.specs.inner.Codes.{syntax_element_code}
 use Rattle.edit_change.specs.inner.ChangeCodes.{change_code}
@@ -78,13 +78,10 @@ Takes e call = refusal e.root call ≡ None
 
 -- A call is refused for its first reason, or because memory ran out: what it is given may ask for some before any reason is looked for.
 abbrev pub RecordRefuses : RecordCall → Editor → RecordError → Type 0
-RecordRefuses call e record_error.Foreign = refusal e.root call ≡ Some record_error.Foreign
-RecordRefuses call e record_error.BadRange = refusal e.root call ≡ Some record_error.BadRange
-RecordRefuses call e record_error.DeletesRoot = refusal e.root call ≡ Some record_error.DeletesRoot
-RecordRefuses call e record_error.RootReplacement = refusal e.root call ≡ Some record_error.RootReplacement
+RecordRefuses call e record_error.Memory = Unit {0}
 RecordRefuses call e record_error.LevelTooLarge = ⊥
 RecordRefuses call e record_error.NoTreeNumber = ⊥
-RecordRefuses call e record_error.Memory = Unit {0}
+RecordRefuses call e reason = refusal e.root call ≡ Some reason
 
 -- where a call takes no memory to look for its reasons, as for what it is handed by value, it looks for them first
 abbrev pub MemoryLast : Bool → RecordCall → Editor → Result (Unit {0}) RecordError → Type 0
@@ -121,8 +118,6 @@ plan_of e = record { root = e.root; changes = e.changes; registrations = e.regis
 
 -- Only a list that is a plan gets as far as the new tree: a clash comes first, then a place that is missing.
 abbrev pub FinishRefuses : Editor → ℕ → EditError → Type 0
-FinishRefuses e next (Intersecting first second) = BuildRefuses (plan_of e) (Intersecting first second)
-FinishRefuses e next (MissingMapping change owner) = BuildRefuses (plan_of e) (MissingMapping change owner)
 FinishRefuses e next TooLong = IsPlan (plan_of e) × RunRefuses (plan_of e) next TooLong
 FinishRefuses e next NoTreeNumber = IsPlan (plan_of e) × RunRefuses (plan_of e) next NoTreeNumber
-FinishRefuses e next Memory = Unit {0}
+FinishRefuses e next reason = BuildRefuses (plan_of e) reason

@@ -10,17 +10,14 @@ use Rattle.syntax_editor.specs.Editor.{Editor}
 use Rattle.cst_core.specs.SyntaxElement.{element_of}
 use Rattle.cst_core.specs.declared.element.SyntaxElement.{SyntaxElement}
 use Rattle.change_list.specs.Recording.{are_one}
-use Rattle.syntax_editor.specs.RecordCall.{RecordCall, Inserting, InsertingAll, Deleting, Replacing, ReplacingWithMany, DeletingAll, ReplacingAll}
+use Rattle.syntax_editor.specs.RecordCall.{RecordCall, Deleting, Replacing, ReplacingWithMany, DeletingAll, ReplacingAll}
 
 -- ---- calls
 abbrev pub asked_for : SyntaxElement → RecordCall → Option (Option SyntaxElement)
-asked_for e (Inserting at f) = None
-asked_for e (InsertingAll at fs) = None
 asked_for e (Deleting t) = cond (are_one t e) (Some None) None
 asked_for e (Replacing t new) = cond (are_one t e) (Some (Some new)) None
-asked_for e (ReplacingWithMany t fs) = None
 asked_for e (DeletingAll first last) = cond (are_one first last && are_one first e) (Some None) None
-asked_for e (ReplacingAll first last fs) = None
+asked_for e _ = None
 
 abbrev pub all_asked_for : SyntaxElement → List RecordCall → List (Option SyntaxElement)
 all_asked_for e calls = filter_map (asked_for e) calls
@@ -30,13 +27,12 @@ abbrev depth_of : SyntaxElement → Option ℕ
 depth_of e = Some (length (element_of e).path)
 
 abbrev pub target_depth : RecordCall → Option ℕ
-target_depth (Inserting at e) = None
-target_depth (InsertingAll at es) = None
 target_depth (Deleting t) = depth_of t
 target_depth (Replacing t e) = depth_of t
 target_depth (ReplacingWithMany t es) = depth_of t
 target_depth (DeletingAll first last) = depth_of first
 target_depth (ReplacingAll first last es) = depth_of first
+target_depth _ = None
 
 -- ---- mappings
 abbrev pub copy_by : Editor → Address → Option Element

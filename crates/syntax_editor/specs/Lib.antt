@@ -62,3 +62,4 @@ pub mod Merging
 pub mod TypedIndents
 pub mod Lending
 pub mod EditorLaws
+pub mod inner

@@ -1,6 +1,5 @@
 -- Merging one editor into another.
 --     AreMergeable                  the roots are one element, and each change of the other editor fits the own root
---     taken_over                    an editor with the other's changes and registrations after the own ones
 --     IsMerged                      the other's changes and registrations after the own ones; of what both map, the other's copy wins
 --     MergeRefuses                  why an editor is not merged
 use Rattle.std.specs.Prelude.{◌≡◌, true, [], ◌++◌, Some, unwrap_or, All}
@@ -16,9 +15,6 @@ use Rattle.syntax_editor.specs.declared.error.MergeError.TheVariants.{OtherRoot,
 pub record AreMergeable (own other : Editor) : Type 0 where
   pub one_root : same_element own.root other.root ≡ true
   pub fit : All (Fits own.root) other.changes
-
-abbrev pub taken_over : Editor → Editor → Editor
-taken_over own other = record own { changes = merged own.changes other.changes; registrations = merged own.registrations other.registrations }
 
 pub record IsMerged (own other new : Editor) : Type 0 where
   pub root : new.root ≡ own.root

@@ -4,7 +4,8 @@ ghost use Rattle.cst_core.specs.Tree.{SameShape};
 ghost use Rattle.cst_core.specs.Element.{subtree};
 ghost use Rattle.edit_map.specs.Builder.{IsMadeOf};
 ghost use Rattle.indentation.specs.Indentation.{mapped_children};
-ghost use Rattle.indentation.specs.MappedAlong.{is_too_old, MapsAlong, AlongRefuses};
+ghost use Rattle.indentation.specs.MappedAlong.{is_too_old, MapsAlong};
+ghost use Rattle.indentation.specs.inner.AlongRefusal.{AlongRefuses};
 ghost use Rattle.cst_core.specs.Green.{length_limit};
 ghost use Rattle.cst_core.specs.declared.element.SyntaxElement.TheVariants.{Token};
 ghost use Rattle.spacing.specs.Spacing.{whitespace, LacksTokenNumber};
@@ -13,7 +14,7 @@ ghost use Rattle.syntax_editor.specs.Lending.{LendsMappings};
 
 use cst_core::{SyntaxNode, SyntaxToken, TreeError, TreeIds};
 use edit_map::{SyntaxMapping, SyntaxMappingBuilder};
-use indentation::{IndentError, map_children};
+use indentation::{IndentError, is_behind, map_children};
 use spacing::whitespace;
 use std::alloc::{AllocError, Global};
 use std::marker::Model;
@@ -118,6 +119,13 @@ impl SyntaxFactory {
         ensures err { OnErr result (ids.new ≡ ids.old) }
     {
         whitespace(alloc, ids, text)
+    }
+
+    /// Whether the factory keeps mappings, and a copy of a node under a number is too old for its child nodes to be mapped along.
+    pub(crate) fn is_too_old(&self, node: &SyntaxNode, number: u64) -> bool
+        ensures { result ≡ is_too_old self.now node.now number }
+    {
+        self.mappings.is_some() && is_behind(node, number)
     }
 
     // Maps each child node of a node as the copy of which the child node of another one at the same index is, where the factory

@@ -4,9 +4,12 @@ ghost use Rattle.std.specs.Prelude.{ℕ, ◌≡◌, ◌<◌, ◌+◌, List, [], 
 ghost use Rattle.std.specs.List.{list_any};
 ghost use Rattle.std.specs.Option.{option_or};
 ghost use Rattle.cst_core.specs.Path.{last_item};
+ghost use Rattle.cst_core.specs.Tree.{SyntaxTree};
 ghost use Rattle.cst_core.specs.Element.{Address, Element};
 ghost use Rattle.cst_core.specs.declared.element.SyntaxElement.{SyntaxElement};
 ghost use Rattle.edit_change.specs.declared.change.Change.{Change};
+ghost use Rattle.indentation.specs.Indentation.{indented, dedented};
+ghost use Rattle.indentation.specs.Restorable.{HasRestorableTexts};
 ghost use Rattle.change_list.specs.Recording.{replacements_of};
 ghost use Rattle.edit_plan.specs.Fits.{Fits};
 ghost use Rattle.edit_plan.specs.Nesting.{owner};
@@ -17,8 +20,6 @@ ghost use Rattle.syntax_editor.specs.EditorLaws.{target_depth, all_asked_for, co
 
 use edit_map::laws::newer_copies_stand;
 use edit_plan::laws::changes_of_one_depth_own_nothing;
-pub use edit_plan::laws::edit_text_is_filled;
-pub use indentation::laws::dedent_restores;
 
 /// Before any merge a list holds one Replace of an element at most. It is a deletion where a call deleted the element, and
 /// else brings what the last call asked for.
@@ -63,3 +64,8 @@ pub fn merge_keeps_both()
 {
     newer_copies_stand();
 }
+
+/// Dedenting an indented tree by the same level restores it.
+pub fn dedent_restores()
+    ensures { (l : ℕ) (t : SyntaxTree) → HasRestorableTexts l t → dedented l (indented l t) ≡ t }
+{}

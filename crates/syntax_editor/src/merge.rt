@@ -2,7 +2,8 @@
 ghost use Rattle.std.specs.Prelude.{◌≡◌, ◌↔◌, [], ◌++◌, IsTrue, IfOk, IfErr, OnOk, OnErr, All, unwrap_or};
 ghost use Rattle.edit_map.specs.Builder.{IsMadeOf};
 ghost use Rattle.edit_plan.specs.Fits.{Fits};
-ghost use Rattle.syntax_editor.specs.Merging.{AreMergeable, IsMerged, MergeRefuses, taken_over};
+ghost use Rattle.syntax_editor.specs.Merging.{AreMergeable, IsMerged, MergeRefuses};
+ghost use Rattle.syntax_editor.specs.inner.TakenOver.{taken_over};
 
 use crate::editor::SyntaxEditor;
 use crate::error::MergeError;

@@ -1,9 +1,9 @@
 //! The calls that record a change.
-ghost use Rattle.std.specs.Prelude.{◌≡◌, false, ◌&&◌, ◌||◌, not, [], ◌∷◌, ◌++◌, true, IfOk, IfErr, OnOk, OnErr};
+ghost use Rattle.std.specs.Prelude.{◌≡◌, false, ◌&&◌, ◌||◌, not, [], ◌∷◌, ◌++◌, true, IsTrue, IsOk, IfOk, IfErr, OnOk, OnErr};
 ghost use Rattle.cst_core.specs.Element.{Element};
 ghost use Rattle.edit_plan.specs.Fits.{Fits, is_native, is_native_position, is_root, is_one_node};
 ghost use Rattle.change_list.specs.Recording.{is_deleted};
-ghost use Rattle.change_list.specs.ByPath.{is_replace};
+ghost use Rattle.change_list.specs.inner.ByPath.{is_replace};
 ghost use Rattle.syntax_editor.specs.declared.error.RecordError.{RecordError};
 ghost use Rattle.syntax_editor.specs.RecordCall.{Inserting, InsertingAll, Deleting, Replacing, ReplacingWithMany, DeletingAll, ReplacingAll};
 ghost use Rattle.syntax_editor.specs.Editor.{Records, Takes, RecordRefuses, MemoryLast};
@@ -165,9 +165,11 @@ impl SyntaxEditor {
         self.replace_range(first, last, new)
     }
 
-    /// Whether an element is deleted by a call that named it alone. A range that it lies in does not count.
+    /// Whether an element is deleted by a call that named it alone. A range that it lies in does not count. An element that is
+    /// passed by value is answered without memory.
     pub fn deleted<E: Element>(&self, alloc: Global, element: E) -> Result<bool, AllocError>
-        ensures { IfOk result (λ b. b ≡ is_deleted (E.element element) self.now.changes) }
+        ensures value { IfOk result (λ b. b ≡ is_deleted (E.element element) self.now.changes) }
+        ensures owned { IsTrue E.is_owned → IsOk result }
     {
         let element = element.syntax_element(alloc)?;
         Ok(self.is_deleted(&element))

@@ -3,7 +3,8 @@ use Rattle.std.proofs.Common.{◌≡◌, ℕ, ◌+◌, ◌-◌, ◌≤◌, ◌<�
 use Rattle.cst_core.specs.Tree.{SyntaxTree, forest}
 use Rattle.cst_core.specs.GreenElement.{element_trees}
 use Rattle.tree_text.specs.declared.open_node.OpenNode.{OpenNode}
-use Rattle.tree_text.specs.Depth.{depth, forest_depth, open_depth}
+use Rattle.tree_text.specs.Depth.{depth, forest_depth}
+use Rattle.tree_text.specs.inner.OpenDepth.{open_depth}
 
 -- how deep the children of an open node are
 abbrev pub filled : OpenNode → ℕ

@@ -1,7 +1,8 @@
 ghost use Rattle.std.specs.Prelude.{◌≡◌, ◌+◌, ◌-◌, ◌≤◌, IfOk, IsTrue, ◌↔◌, length, []};
 ghost use Rattle.cst_core.specs.Green.{branch_tree};
 ghost use Rattle.cst_core.specs.GreenElement.{element_tree};
-ghost use Rattle.tree_text.specs.Depth.{depth, open_depth};
+ghost use Rattle.tree_text.specs.Depth.{depth};
+ghost use Rattle.tree_text.specs.inner.OpenDepth.{open_depth};
 ghost use Rattle.tree_text.specs.declared.open_nodes.TheConstants.{DEPTH_LIMIT};
 
 use crate::error::ExpressionError;

@@ -14,7 +14,7 @@ use Rattle.cst_core.specs.Path.{Path, same_path}
 use Rattle.cst_core.specs.declared.element.SyntaxElement.{SyntaxElement}
 use Rattle.edit_change.specs.declared.change.Change.{Change}
 use Rattle.edit_change.specs.declared.change.Change.TheVariants.{Replace}
-use Rattle.change_list.specs.ByPath.{replacements_at, is_replace_at}
+use Rattle.change_list.specs.inner.ByPath.{replacements_at, is_replace_at}
 use Rattle.change_list.specs.declared.replace_index.Replaced.{Replaced}
 use Rattle.change_list.specs.declared.replace_index.ReplaceIndex.{ReplaceIndex}
 

@@ -7,7 +7,7 @@ use Rattle.std.specs.Prelude.{◌≡◌, ℕ, ◌≤◌, List, [], ◌∷◌, �
 use Rattle.cst_core.specs.Tree.{SyntaxTree, node}
 use Rattle.cst_core.specs.Green.{Branch, length_limit}
 use Rattle.indentation.specs.declared.indent_error.IndentError.{IndentError}
-use Rattle.indentation.specs.declared.indent_error.IndentError.TheVariants.{LevelTooLarge, TooLong, NoTreeNumber, NotYounger, Memory}
+use Rattle.indentation.specs.declared.indent_error.IndentError.TheVariants.{TooLong, Memory}
 use Rattle.indentation.specs.Indentation.{indented_text, dedented_text, in_whitespace}
 use Rattle.indentation.specs.declared.shift.Shift.{Shift}
 use Rattle.indentation.specs.declared.shift.Shift.TheVariants.{Indent, Dedent}
@@ -29,8 +29,6 @@ abbrev pub with_rest : {E : Type 0} → (E → SyntaxTree) → Branch → List E
 with_rest tree_of old built = node old.kind (map tree_of built ++ drop (length built) old.children)
 
 abbrev pub ShiftRefuses : ℕ → IndentError → Type 0
-ShiftRefuses size LevelTooLarge = ⊥
 ShiftRefuses size TooLong = length_limit ≤ size
-ShiftRefuses size NoTreeNumber = ⊥
-ShiftRefuses size NotYounger = ⊥
 ShiftRefuses size Memory = Unit {0}
+ShiftRefuses size _ = ⊥

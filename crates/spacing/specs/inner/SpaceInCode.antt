@@ -3,9 +3,9 @@
 --     DeepOrMemory, FindsLevel    a level is too deep or memory was refused; a level that is found, or why it is not
 --     FindsSpace                  whitespace that is found, or why it is not
 --     IsRound, RoundRefuses       the whitespace on both sides, where no level is too deep; why it is not found
---     with_spaces                 new elements between two whitespaces
 --     numbers_of, NumbersRefuse   how many numbers whitespace needs; n are not there
-use Rattle.std.specs.Prelude.{◌≡◌, ◌<◌, ◌+◌, ℕ, true, false, List, ◌++◌, length, Result, Ok, Err}
+--     SpacedRefuses               why new elements get no whitespace round them
+use Rattle.std.specs.Prelude.{◌≡◌, ◌<◌, ◌+◌, ℕ, true, false, List, length, Result, Ok, Err, Some}
 use Rattle.cst_core.specs.TreeIds.{spent}
 use Rattle.cst_core.specs.declared.element.SyntaxElement.{SyntaxElement}
 use Rattle.edit_change.specs.declared.position.Position.{Position}
@@ -15,7 +15,7 @@ use Rattle.spacing.specs.declared.space.Space as code
 use Rattle.spacing.specs.declared.space.Space.TheVariants as code_space
 use Rattle.spacing.specs.declared.space_error.SpaceError.{SpaceError}
 use Rattle.spacing.specs.declared.space_error.SpaceError.TheVariants.{LevelTooLarge, NoTreeNumber, Memory}
-use Rattle.spacing.specs.Spacing.{Space, NoSpace, OneSpace, NewLine, is_deep, space_elements, space_in_front, space_at_end, is_deep_round}
+use Rattle.spacing.specs.Spacing.{Space, NoSpace, OneSpace, NewLine, is_deep, space_elements, space_in_front, space_at_end, is_deep_round, space_refusal}
 
 abbrev pub space_of : code.Space → Space
 space_of code_space.Nothing = NoSpace
@@ -44,12 +44,6 @@ pub record IsRound (at : Position) (es : List SyntaxElement) (spaces : code.Spac
 abbrev pub RoundRefuses : Position → List SyntaxElement → SpaceError → Type 0
 RoundRefuses at es e = DeepOrMemory (is_deep_round at es ≡ true) e
 
--- new elements between these two, whose tokens have the tree numbers from this one on; and how many numbers these are
-abbrev pub with_spaces : ℕ → Space → List SyntaxElement → Space → List SyntaxElement
-with_spaces number front es end =
-    let first = space_elements number front in
-    first ++ es ++ space_elements (number + length first) end
-
 abbrev pub numbers_of : Space → ℕ
 numbers_of space = length (space_elements 0 space)
 
@@ -58,3 +52,8 @@ abbrev pub NumbersRefuse : ℕ → ℕ → SpaceError → Type 0
 NumbersRefuse number needed LevelTooLarge = ⊥
 NumbersRefuse number needed NoTreeNumber = spent < number + needed
 NumbersRefuse number needed Memory = Unit {0}
+
+-- the first reason, or memory ran out
+abbrev pub SpacedRefuses : ℕ → Position → List SyntaxElement → SpaceError → Type 0
+SpacedRefuses number at es Memory = Unit {0}
+SpacedRefuses number at es reason = space_refusal number at es ≡ Some reason

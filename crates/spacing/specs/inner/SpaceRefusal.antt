@@ -11,12 +11,10 @@ use Rattle.spacing.specs.declared.space_error.SpaceError.TheVariants as space_er
 
 abbrev pub of_level : IndentError → Option SpaceError
 of_level indent.LevelTooLarge = Some space_error.LevelTooLarge
-of_level indent.TooLong = None
-of_level indent.NoTreeNumber = None
-of_level indent.NotYounger = None
 of_level indent.Memory = Some space_error.Memory
+of_level _ = None
 
 abbrev pub of_whitespace : TreeError → Option SpaceError
-of_whitespace tree.TooLong = None
 of_whitespace tree.NoTreeNumber = Some space_error.NoTreeNumber
 of_whitespace tree.Memory = Some space_error.Memory
+of_whitespace _ = None

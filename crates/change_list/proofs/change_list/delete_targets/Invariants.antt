@@ -1,6 +1,6 @@
 use Rattle.std.proofs.Common.{◌≡◌, ◌≤◌, ◌+◌, length}
 use Rattle.std.specs.Vec.{vec_len, vec_capacity}
-use Rattle.change_list.specs.ByPath.{delete_each_at}
+use Rattle.change_list.specs.inner.ByPath.{delete_each_at}
 use Rattle.change_list.specs.inner.Indexing.{room, Agrees}
 use Rattle.change_list.proofs.change_list.delete_targets.Given as goal
 

@@ -1,7 +1,7 @@
 use Rattle.std.proofs.Common.{◌≡◌, ◌++◌, ◌∷◌, [], Bool, true, false, not, Option, None, Some, is_some, is_none, position, length, arith, refl, sym, ◌∙◌, ap}
 use Rattle.cst_core.specs.SyntaxElement.{element_of}
 use Rattle.edit_change.specs.declared.change.Change.TheVariants.{Replace}
-use Rattle.change_list.specs.ByPath.{is_replace_at}
+use Rattle.change_list.specs.inner.ByPath.{is_replace_at}
 use Rattle.change_list.specs.inner.Indexing.{replaced_at, entry_at}
 use Rattle.change_list.proofs.Indexed.{added-agrees}
 use Rattle.change_list.proofs.change_list.ChangeList.add_replace.Goals as goal

@@ -1,6 +1,6 @@
 use Rattle.std.proofs.Common.{◌≡◌, None, is_none, sym, ◌∙◌, ap}
 use Rattle.std.specs.List.{list_any}
-use Rattle.change_list.specs.ByPath.{replacements_at}
+use Rattle.change_list.specs.inner.ByPath.{replacements_at}
 use Rattle.change_list.specs.inner.Indexing.{replaced_at}
 use Rattle.change_list.proofs.Indexed.{nothing-deleted}
 use Rattle.change_list.proofs.change_list.ChangeList.has_deletion.Goals as goal

@@ -2,7 +2,7 @@ use Rattle.std.proofs.Common.{◌≡◌, None, Some, OnOk, position, option_map,
 use Rattle.cst_core.specs.SyntaxElement.{element_of}
 use Rattle.edit_change.specs.declared.change.Change.TheVariants.{Replace}
 use Rattle.change_list.specs.Recording.{with_replacement}
-use Rattle.change_list.specs.ByPath.{is_replace_at, replace_at}
+use Rattle.change_list.specs.inner.ByPath.{is_replace_at, replace_at}
 use Rattle.change_list.specs.inner.Indexing.{replaced_at, entry_at}
 use Rattle.change_list.proofs.TakenUp.{taken-set, taken-none}
 use Rattle.change_list.proofs.Indexed.{nothing-said, something-said, said-replaced}

@@ -5,8 +5,8 @@ use Rattle.indentation.specs.LevelCalls.{ReadsLevel}
 use Rattle.indentation.proofs.TokensBefore.{level_of_token}
 use Rattle.indentation.proofs.level.IndentLevel.from_element.Goals as goal
 
-pub returns-in-Token : goal.returns-in-Token
-returns-in-Token c =
+pub returns-in-Token-clause-level : goal.returns-in-Token-clause-level
+returns-in-Token-clause-level c =
     subst (λ n. ReadsLevel n c.from_token.result)
     (sym (level_of_token c.in-Token.token c.kind.ensures.form) ∙ ap (λ e. level (element_of e)) (sym c.in-Token.is))
-    c.from_token.ensures
+    c.from_token.ensures.level

@@ -1,7 +1,7 @@
 use Rattle.std.proofs.Common.{◌≡◌, false, not, All, sym, ◌∙◌, ap, subst}
 use Rattle.std.specs.List.{list_any}
 use Rattle.edit_plan.specs.Fits.{Fits, is_native}
-use Rattle.change_list.specs.ByPath.{delete_each_at}
+use Rattle.change_list.specs.inner.ByPath.{delete_each_at}
 use Rattle.syntax_editor.specs.AttrsAndDocs.{removed_children, remove_attrs_and_docs}
 use Rattle.syntax_editor.proofs.Removed.{removed_native, kept_fitting}
 use Rattle.syntax_editor.proofs.Called.{exchanged}

@@ -1,6 +1,6 @@
 use Rattle.std.specs.Prelude.{ℕ, Result, Ok, Err, IfErr}
 use Rattle.std.proofs.Common.{subst}
-use Rattle.edit_plan.specs.Plan.{Plan, IsPlan, RunRefuses}
+use Rattle.edit_plan.specs.Plan.{IsPlan, RunRefuses}
 use Rattle.edit_plan.specs.declared.edit_error.EditError.{EditError}
 use Rattle.edit_plan.specs.declared.edit_error.EditError.TheVariants.{Intersecting, MissingMapping, TooLong, NoTreeNumber, Memory}
 use Rattle.syntax_editor.specs.Editor.{Editor, plan_of, FinishRefuses}

@@ -4,7 +4,7 @@ use Rattle.std.specs.Prelude.{is_none}
 use Rattle.std.specs.List.{list_any}
 use Rattle.cst_core.specs.SyntaxElement.{element_of}
 use Rattle.change_list.specs.Recording.{is_deleted}
-use Rattle.change_list.specs.ByPath.{replacements_at}
+use Rattle.change_list.specs.inner.ByPath.{replacements_at}
 use Rattle.syntax_editor.proofs.ByPath.{deleted-by-path, deleted-elsewhere}
 use Rattle.syntax_editor.proofs.editor.SyntaxEditor.is_deleted.Goals as goal
 

@@ -11,22 +11,16 @@ use Rattle.cst_core.specs.Path.{Path, same_path}
 use Rattle.cst_core.specs.SyntaxElement.{element_of}
 use Rattle.cst_core.specs.declared.element.SyntaxElement.{SyntaxElement}
 use Rattle.edit_change.specs.declared.change.Change.{Change}
-use Rattle.edit_change.specs.declared.change.Change.TheVariants.{Insert, InsertAll, Replace, ReplaceWithMany, ReplaceAll}
+use Rattle.edit_change.specs.declared.change.Change.TheVariants.{Replace}
 use Rattle.change_list.specs.Recording.{with_replacement}
 
 abbrev pub is_replace : Change → Bool
-is_replace (Insert at e) = false
-is_replace (InsertAll at es) = false
 is_replace (Replace t new) = true
-is_replace (ReplaceWithMany t es) = false
-is_replace (ReplaceAll first last es) = false
+is_replace _ = false
 
 abbrev pub replacement_at : Path → Change → Option (Option SyntaxElement)
-replacement_at p (Insert at e) = None
-replacement_at p (InsertAll at es) = None
 replacement_at p (Replace t new) = cond (same_path (element_of t).path p) (Some new) None
-replacement_at p (ReplaceWithMany t es) = None
-replacement_at p (ReplaceAll first last es) = None
+replacement_at p _ = None
 
 abbrev pub replacements_at : Path → List Change → List (Option SyntaxElement)
 replacements_at p cs = filter_map (replacement_at p) cs

@@ -1,7 +1,7 @@
 use Rattle.std.proofs.Common.{◌≡◌, length}
 use Rattle.indentation.specs.Level.{token_level}
 use Rattle.indentation.proofs.TokensBefore.{before}
-use Rattle.indentation.proofs.level.IndentLevel.from_token.Given as goal
+use Rattle.indentation.proofs.level.level_back.Given as goal
 
 -- The level is that of the token that is looked at.
 abbrev pub invariant-back : goal.invariant-back

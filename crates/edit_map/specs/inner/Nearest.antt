@@ -1,0 +1,11 @@
+-- The nearest mapped node on the way up.
+--     IsNearest                      the copy of the nearest mapped one of a node and those above it, and how many slots lead to that one
+use Rattle.std.specs.Prelude.{◌≡◌, ℕ, ◌++◌, drop, Option, option_map}
+use Rattle.cst_core.specs.Path.{up_to}
+use Rattle.cst_core.specs.Element.{Element}
+use Rattle.edit_map.specs.Mapping.{Mapping}
+use Rattle.edit_map.specs.Following.{step_among}
+
+abbrev pub IsNearest : Mapping → Element → Option (Element × ℕ) → Type 0
+IsNearest m node nearest =
+    (e : Element) → e.number ≡ node.number → step_among m e (up_to node.path) ≡ option_map (λ f. record f.0 { path = f.0.path ++ drop f.1 e.path }) nearest

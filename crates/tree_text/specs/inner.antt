@@ -1,0 +1,2 @@
+-- What private calls cite.
+pub mod OpenDepth
