@@ -1,28 +1,22 @@
 -- How mappings are made.
---     mapping_code                   the code of a mapping, as a model's value
 --     SameCopies                     two mappings give each address the same copy
 --     IsMadeOf                       the mapping is what these pairs make, the newest first: the newest pair of an address stands
 --     IsPair, ArePairs               a pair of nodes that rises; each pair of a mapping is one
 --     AreDistinct                    no address has two pairs
 --     IsMapping                      what is true of every mapping in code: both of these
---     Builder, builder_code          the parent of the copies, and the pairs so far, the newest first; its code
+--     Builder                        the parent of the copies, and the pairs so far, the newest first
 --     with_pairs                     a builder with more pairs, the newest of them last
 --     IsPairUnder, ArePairsUnder     what a builder with this parent asks of a pair; each pair of a builder is such a pair
 --     RefusesPair                    why it refuses one: the first of these that is missing
 --     RefusesFirst                   why it refuses the first pair that it does not take
 --     RefusesChildren                why it refuses inputs and outputs
-use Rattle.std.specs.Prelude.{◌≡◌, ◌≢◌, ◌<◌, ◌≤◌, List, ◌∷◌, ◌++◌, length, reverse, All, AllPairs, Contains, refl}
+use Rattle.std.specs.Prelude.{◌≡◌, ◌≢◌, ◌<◌, ◌≤◌, List, ◌∷◌, ◌++◌, length, reverse, All, AllPairs, Contains}
 use Rattle.std.specs.List.{zip}
-use Rattle.std.specs.Coded.{Coded, code_by, coded_list, coded×}
 use Rattle.cst_core.specs.Tree.{SameShape}
 use Rattle.cst_core.specs.Element.{Address, Element, address, IsChild, IsNode, subtree}
-use Rattle.cst_core.specs.inner.ElementCode.{element_code}
 use Rattle.edit_map.specs.Mapping.{Mapping, copy, Rises}
 use Rattle.edit_map.specs.declared.map_error.MapError.{MapError}
 use Rattle.edit_map.specs.declared.map_error.MapError.TheVariants.{NotAChild, NotYounger, OtherShape, MoreInputs, Memory}
-
-abbrev pub mapping_code : Coded Mapping
-mapping_code = coded_list (coded× element_code element_code)
 
 abbrev pub SameCopies : Mapping → Mapping → Type 0
 SameCopies m n = (x : Address) → copy m x ≡ copy n x
@@ -49,9 +43,6 @@ pub record IsMapping (m : Mapping) : Type 0 where
 pub record Builder : Type 0 where
   pub parent : Element
   pub pairs : Mapping
-
-abbrev pub builder_code : Coded Builder
-builder_code = code_by (Element × Mapping) (coded× element_code mapping_code) (λ b. (b.parent, b.pairs)) (λ q. record { parent = q.0; pairs = q.1 }) (λ _. refl)
 
 abbrev pub with_pairs : Builder → List (Element × Element) → Builder
 with_pairs b pairs = record b { pairs = reverse pairs ++ b.pairs }

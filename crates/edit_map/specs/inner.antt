@@ -1,3 +1,4 @@
 -- What private calls cite, and the crates above for theirs: no contract that a user calls by names any of it.
 pub mod Climbing
 pub mod Nearest
+pub mod Codes

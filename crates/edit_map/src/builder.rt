@@ -19,7 +19,8 @@ pub struct SyntaxMappingBuilder {
 
 impl Model for SyntaxMappingBuilder {
     ghost use Rattle.std.specs.Prelude.{reverse, All};
-    ghost use Rattle.edit_map.specs.Builder.{Builder, IsPairUnder, builder_code};
+    ghost use Rattle.edit_map.specs.Builder.{Builder, IsPairUnder};
+    ghost use Rattle.edit_map.specs.inner.Codes.{builder_code};
 
     ghost Value = { Builder };
 

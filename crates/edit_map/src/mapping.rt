@@ -24,7 +24,7 @@ pub struct SyntaxMapping {
 
 impl Model for SyntaxMapping {
     ghost use Rattle.edit_map.specs.Mapping.{Mapping};
-    ghost use Rattle.edit_map.specs.Builder.{mapping_code};
+    ghost use Rattle.edit_map.specs.inner.Codes.{mapping_code};
     ghost use Rattle.edit_map.specs.inner.Climbing.{IsKept};
 
     ghost Value = { Mapping };

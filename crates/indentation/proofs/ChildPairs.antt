@@ -2,25 +2,22 @@
 --     with_texts-shape             other texts do not change the shape
 --     InPairs, in_pairs            there are equally many, and those at one place are of one shape
 --     all_children                 each is a child of its node, and of its tree
---     has_nodes                    whether a node has a child node, by its children in code
---     behind-some, behind-none     so whether a copy of this number is behind
 --     all_at                       what is true of all pairs is true of one
 --     nodes_in                     the pairs of two nodes
---     enough, no_stranger, no_other_shape, behind      what a builder makes of them
---     comes, along                 what it can refuse them for where the copy is young enough, and why a node is not indented then
-use Rattle.std.specs.Prelude.{◌≡◌, ◌≢◌, ℕ, zero, suc, ◌+◌, ◌<◌, ◌≤◌, ◌&&◌, ◌||◌, not, nat_eq, nat_le, Bool, true, false, List, [], ◌∷◌, ◌++◌, length, map, filter_map, slice_get, zip, Option, Some, None, option_map, option_and_then, unwrap_or, IsSome, refl}
-use Rattle.std.specs.List.{AllByRecursion, list_any}
+--     enough, no_stranger, no_other_shape, behind, ahead      what a builder makes of them
+--     comes, along                 what it can refuse them for, and why a node is not indented then
+use Rattle.std.specs.Prelude.{◌≡◌, ◌≢◌, ℕ, zero, suc, ◌<◌, ◌≤◌, ◌&&◌, not, nat_eq, nat_le, Bool, true, false, All, List, [], ◌∷◌, ◌++◌, length, map, filter_map, slice_get, zip, Option, Some, None, option_map, option_and_then, unwrap_or, IsSome, refl}
+use Rattle.std.specs.List.{AllByRecursion}
 use Rattle.std.proofs.Common.{ap, ap₂, sym, ◌∙◌, subst, arith}
 use Rattle.std.proofs.lemmas.Bool.Decides.{nat_tests}
 use Rattle.std.proofs.lemmas.Option.{same_Some}
+use Rattle.std.proofs.lemmas.List.Elements.{recursion_from_All}
 use Rattle.cst_core.specs.Path.{Path, parent_path, counted_from}
 use Rattle.cst_core.specs.Tree.{Forest, Token, Node, end, more, SyntaxTree, at, is_token, children, trees, without_texts, forest_without_texts, SameShape}
-use Rattle.cst_core.specs.Green.{Branch, branch_tree}
-use Rattle.green_tree.proofs.Lookup.{children-branch_tree}
 use Rattle.cst_core.specs.Element.{Element, IsNode, IsChild, below, subtree}
 use Rattle.cst_core.specs.SyntaxElement.{node_of, syntax_as, syntax_of, child_nodes}
 use Rattle.cst_core.specs.declared.element.SyntaxElement.{SyntaxElement}
-use Rattle.edit_map.specs.Builder.{RefusesFirst, RefusesChildren}
+use Rattle.edit_map.specs.Builder.{IsPairUnder, RefusesFirst, RefusesChildren}
 use Rattle.edit_map.specs.declared.map_error.MapError.{MapError}
 use Rattle.edit_map.specs.declared.map_error.MapError.TheVariants.{NotAChild, NotYounger, OtherShape, MoreInputs, Memory}
 use Rattle.indentation.specs.MappedAlong.{is_behind}
@@ -162,54 +159,6 @@ module _ (e f : Element) where
       let count : length (children (subtree e)) ≡ length (children (subtree f)) = counts (subtree e) (subtree f) is in
       subst (λ n. InPairs (child_nodes e) (nodes f (counted_from 0 n))) count (nodes_in_pairs (counted_from 0 (length (children (subtree e)))) slots)
 
--- ---- whether there is one
-abbrev is_node : SyntaxTree → Bool
-is_node t = not (is_token t)
-
-any-map : {X : Type 0} (test : SyntaxTree → Bool) (tree_of : X → SyntaxTree) (xs : List X) → list_any (λ x. test (tree_of x)) xs ≡ list_any test (map tree_of xs)
-any-map test tree_of [] = refl
-any-map test tree_of (x ∷ xs) = ap (λ b. test (tree_of x) || b) (any-map test tree_of xs)
-
-not_none : (n : ℕ) → true ≡ not (nat_eq (suc n) 0)
-not_none n = grind (arith, nat_tests)
-
-module _ (e : Element) where
-  abbrev some_node_in : List ℕ → Bool
-  some_node_in slots = not (nat_eq (length (nodes e slots)) 0)
-
-  any_node : (ts : List SyntaxTree) (k : ℕ) → ((j : ℕ) → subtree (below e ((k + j) ∷ [])) ≡ unwrap_or (slice_get ts j) (Token 0 [])) → list_any is_node ts ≡ some_node_in (counted_from k (length ts))
-  any_node [] k is = refl
-  any_node (t ∷ ts) k is = at_form t (subst (λ i. subtree (below e (i ∷ [])) ≡ t) here (is 0)) (any_node ts (suc k) (λ j. subst (λ i. subtree (below e (i ∷ [])) ≡ unwrap_or (slice_get ts j) (Token 0 [])) (next j) (is (suc j))))
-    where
-      here : k + 0 ≡ k
-      here = omega arith
-
-      next : (j : ℕ) → k + suc j ≡ suc k + j
-      next j = omega arith
-
-      seen : SyntaxTree → Bool
-      seen u = not (nat_eq (length (filter_map node_of (syntax_as u (below e (k ∷ [])) ∷ map (element e) (counted_from (suc k) (length ts))))) 0)
-
-      at_form : (u : SyntaxTree) → subtree (below e (k ∷ [])) ≡ u → list_any is_node ts ≡ some_node_in (counted_from (suc k) (length ts)) → list_any is_node (u ∷ ts) ≡ seen (subtree (below e (k ∷ [])))
-      at_form (Token l s) there rest = rest ∙ ap seen (sym there)
-      at_form (Node l f) there rest = not_none (length (nodes e (counted_from (suc k) (length ts)))) ∙ ap seen (sym there)
-
-  pub has_nodes : {X : Type 0} (tree_of : X → SyntaxTree) (xs : List X) (b : Branch) → map tree_of xs ≡ b.children → branch_tree b ≡ subtree e → at e.root e.path ≡ Some (branch_tree b) → list_any (λ x. is_node (tree_of x)) xs ≡ not (nat_eq (length (child_nodes e)) 0)
-  has_nodes tree_of xs b same is there =
-      let all : children (branch_tree b) ≡ b.children = children-branch_tree b in
-      any-map is_node tree_of xs ∙ ap (list_any is_node) same ∙ any_node b.children 0 (λ j. subst (λ i. subtree (below e (i ∷ [])) ≡ unwrap_or (slice_get b.children j) (Token 0 [])) (from_0 j) (child_is e (branch_tree b) there j ∙ ap (λ ts. unwrap_or (slice_get ts j) (Token 0 [])) all))
-      ∙ ap (λ n. some_node_in (counted_from 0 n)) (ap length (sym all) ∙ ap (λ t. length (children t)) is)
-    where
-      from_0 : (j : ℕ) → j ≡ 0 + j
-      from_0 j = omega arith
-
-  -- what is true of it where there is one, and where there is none
-  pub behind-some : (number tree : ℕ) (le : Bool) → not (nat_eq (length (child_nodes e)) 0) ≡ true → tree ≡ e.number → le ≡ nat_le number tree → le ≡ is_behind e number
-  behind-some number tree le some is leq = leq ∙ ap (nat_le number) is ∙ ap (λ b. b && nat_le number e.number) (sym some)
-
-  pub behind-none : (number : ℕ) (none : Bool) → none ≡ not (nat_eq (length (child_nodes e)) 0) → none ≡ false → none ≡ is_behind e number
-  behind-none number none is not_there = not_there ∙ ap (λ b. b && nat_le number e.number) (sym not_there ∙ is)
-
 pub all_at : {X : Type 0} (P : X → Type 0) (before : List X) (x : X) (after : List X) → AllByRecursion P (before ++ x ∷ after) → P x
 all_at P [] x after all = all.0
 all_at P (y ∷ before) x after all = all_at P before x after all.1
@@ -239,7 +188,19 @@ zip_some (x ∷ xs) ys before p after is = omega arith
 yes_behind : (n a b : ℕ) → 0 < n → a ≤ b → (not (nat_eq n 0) && nat_le a b) ≡ true
 yes_behind n a b some le = grind (arith, nat_tests)
 
+not_behind : (n a b : ℕ) → b < a → (not (nat_eq n 0) && nat_le a b) ≡ false
+not_behind n a b less = grind (arith, nat_tests)
+
 module _ (old new : Element) where
+  risen : (xs ys : List Element) → length xs ≡ length ys → AllByRecursion (IsPair old new) (zip xs ys) → AllByRecursion (IsPairUnder new) (zip xs ys) → (not (nat_eq (length xs) 0) && nat_le new.number old.number) ≡ false
+  risen [] ys count pairs taken = refl
+  risen (x ∷ xs) [] count pairs taken = absurd (omega arith)
+  risen (x ∷ xs) (y ∷ ys) count pairs taken =
+      let less = taken.0.is_pair.rises.0 in
+      let own = pairs.0.2 in
+      let copy = pairs.0.3 in
+      not_behind (length (x ∷ xs)) new.number old.number (omega arith)
+
   module _ (parent : Element) (xs ys : List Element) (is_parent : parent ≡ new) (is_in : xs ≡ child_nodes old) (is_out : ys ≡ child_nodes new) (pairs : InPairs old new (child_nodes old) (child_nodes new)) where
     all : AllByRecursion (IsPair old new) (zip xs ys)
     all = subst (λ zs. AllByRecursion (IsPair old new) zs) (sym (ap₂ zip is_in is_out)) pairs.all_alike
@@ -268,32 +229,22 @@ module _ (old new : Element) where
         let copy = pair.3 in
         yes_behind (length (child_nodes old)) new.number old.number some (omega arith)
 
-    not_both : (b : Bool) → b ≡ false → b ≡ true → ⊥
-    not_both b is_false is_true = cc
+    pub ahead : All (IsPairUnder parent) (zip xs ys) → is_behind old new.number ≡ false
+    ahead taken =
+        subst (λ zs. (not (nat_eq (length zs) 0) && nat_le new.number old.number) ≡ false) is_in
+        (risen xs ys count all (recursion_from_All (IsPairUnder new) (zip xs ys) (subst (λ p. All (IsPairUnder p) (zip xs ys)) is_parent taken)))
 
     -- what a builder can refuse them for, as why a node is not indented with a mapping
-    pub comes : is_behind old new.number ≡ false → (e : MapError) → RefusesChildren parent xs ys e → IsSome (of_pairs e)
-    comes young NotAChild r = absurd (no_stranger r.1)
-    comes young NotYounger r = absurd (not_both (is_behind old new.number) young (behind r.1))
-    comes young OtherShape r = absurd (no_other_shape r.1)
-    comes young MoreInputs r = absurd (enough r)
-    comes young Memory r = refl
+    pub comes : (e : MapError) → RefusesChildren parent xs ys e → IsSome (of_pairs e)
+    comes NotAChild r = absurd (no_stranger r.1)
+    comes NotYounger r = refl
+    comes OtherShape r = absurd (no_other_shape r.1)
+    comes MoreInputs r = absurd (enough r)
+    comes Memory r = refl
 
-  pub along : is_behind old new.number ≡ false → (e : MapError) (f : IndentError) → of_pairs e ≡ Some f → AlongRefuses (is_behind old new.number) f
-  along young NotAChild f is = absurd (nothing is)
-    where
-      nothing : ◌≡◌ {A = Option IndentError} None (Some f) → ⊥
-      nothing h = cc
-  along young NotYounger f is = absurd (nothing is)
-    where
-      nothing : ◌≡◌ {A = Option IndentError} None (Some f) → ⊥
-      nothing h = cc
-  along young OtherShape f is = absurd (nothing is)
-    where
-      nothing : ◌≡◌ {A = Option IndentError} None (Some f) → ⊥
-      nothing h = cc
-  along young MoreInputs f is = absurd (nothing is)
-    where
-      nothing : ◌≡◌ {A = Option IndentError} None (Some f) → ⊥
-      nothing h = cc
-  along young Memory f is = subst (AlongRefuses (is_behind old new.number)) (same_Some indent.Memory f is) young
+    pub along : (e : MapError) (f : IndentError) → RefusesChildren parent xs ys e → of_pairs e ≡ Some f → AlongRefuses (is_behind old new.number) f
+    along NotAChild f r is = absurd (no_stranger r.1)
+    along NotYounger f r is = subst (AlongRefuses (is_behind old new.number)) (same_Some indent.NotYounger f is) (behind r.1)
+    along OtherShape f r is = absurd (no_other_shape r.1)
+    along MoreInputs f r is = absurd (enough r)
+    along Memory f r is = subst (AlongRefuses (is_behind old new.number)) (same_Some indent.Memory f is) tt

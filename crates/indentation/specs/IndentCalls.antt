@@ -21,25 +21,23 @@ fresh_root number t = record { number = number; root = t; path = [] }
 abbrev pub CanBeRoot : SyntaxTree → ℕ → Type 0
 CanBeRoot t number = (text_length t < length_limit) × (IsSpent number → ⊥)
 
--- The source is looked at first, which takes no memory.
 abbrev pub RootRefuses : SyntaxTree → ℕ → IndentError → Type 0
-RootRefuses t number NoTreeNumber = IsSpent number
-RootRefuses t number TooLong = (IsSpent number → ⊥) × (length_limit ≤ text_length t)
-RootRefuses t number Memory = IsSpent number → ⊥
+RootRefuses t number TooLong = length_limit ≤ text_length t
+RootRefuses t number NoTreeNumber = (text_length t < length_limit) × IsSpent number
+RootRefuses t number Memory = Unit {0}
 RootRefuses t number _ = ⊥
 
 abbrev pub ResetRefuses : Element → ℕ → IndentError → Type 0
-ResetRefuses e number LevelTooLarge = (IsSpent number → ⊥) × (is_too_deep (level e) ≡ true)
-ResetRefuses e number TooLong = (is_too_deep (level e) ≡ false) × RootRefuses (reset e) number TooLong
-ResetRefuses e number reason = RootRefuses (reset e) number reason
+ResetRefuses e number LevelTooLarge = is_too_deep (level e) ≡ true
+ResetRefuses e number Memory = Unit {0}
+ResetRefuses e number reason = (is_too_deep (level e) ≡ false) × RootRefuses (reset e) number reason
 
 -- what comes next after a refusal to map along, of which one spends a number
 abbrev pub next_after : IndentError → ℕ → ℕ
 next_after NotYounger number = number + 1
 next_after _ number = number
 
--- Why a node is not indented with a mapping, where this says that its number is not greater. The source and then the number are looked at first.
+-- why a node is not indented with a mapping, where this says that its number is not greater
 abbrev pub MappingRefuses : Bool → SyntaxTree → ℕ → IndentError → Type 0
-MappingRefuses old t number NoTreeNumber = IsSpent number
-MappingRefuses old t number NotYounger = (IsSpent number → ⊥) × (old ≡ true)
-MappingRefuses old t number reason = (old ≡ false) × RootRefuses t number reason
+MappingRefuses old t number NotYounger = CanBeRoot t number × (old ≡ true)
+MappingRefuses old t number reason = RootRefuses t number reason

@@ -1,8 +1,6 @@
 //! The child nodes of a node, mapped as those of another one of its shape are copies of them.
-ghost use Rattle.std.specs.Prelude.{◌≡◌, ◌++◌, not, reverse, false, IfOk, IfErr, OnOk, OnErr};
-ghost use Rattle.std.specs.List.{list_any};
-ghost use Rattle.cst_core.specs.Tree.{SameShape, is_token};
-ghost use Rattle.cst_core.specs.GreenElement.{element_tree};
+ghost use Rattle.std.specs.Prelude.{◌≡◌, ◌++◌, reverse, false, IfOk, IfErr, OnOk, OnErr};
+ghost use Rattle.cst_core.specs.Tree.{SameShape};
 ghost use Rattle.cst_core.specs.Element.{subtree};
 ghost use Rattle.edit_map.specs.Builder.{IsMadeOf};
 ghost use Rattle.indentation.specs.Indentation.{mapped_children};
@@ -10,15 +8,15 @@ ghost use Rattle.indentation.specs.MappedAlong.{is_behind};
 ghost use Rattle.indentation.specs.inner.AlongRefusal.{AlongRefuses};
 
 use crate::indent_error::IndentError;
-use cst_core::{GreenElement, SyntaxNode};
+use cst_core::SyntaxNode;
 use edit_map::{SyntaxMapping, SyntaxMappingBuilder};
 use std::alloc::Global;
 
 /// Maps each child node of a node as the copy of which the child node at the same index of another node of its shape is, in
 /// front of the pairs that the mapping has.
 ///
-/// `NotYounger` comes first, exactly where there is a child node and the number of the new node is not greater than that of the
-/// old one, and then `Memory`. The mapping is unchanged after each.
+/// `NotYounger` comes exactly where there is a child node and the number of the new node is not greater than that of the old one;
+/// else only `Memory` comes. The mapping is unchanged after each.
 pub fn map_children(
     alloc: Global,
     old: &SyntaxNode,
@@ -35,30 +33,6 @@ pub fn map_children(
     Ok(builder.finish(alloc, mapping)?)
 }
 
-/// Whether a node has a child node, and a number is not greater than that of its tree: in a tree of this number, a copy of the
-/// node is too old for its child nodes to be mapped along. It takes no memory to look.
-pub fn is_behind(old: &SyntaxNode, number: u64) -> bool
-    ensures { result ≡ is_behind old.now number }
-{
-    has_node(old.as_green().children()) && number <= old.tree()
-}
-
-// Whether one of these elements is a node.
-fn has_node(elements: &[GreenElement]) -> bool
-    ensures { result ≡ list_any (λ e. not (is_token (element_tree e))) elements.now }
-{
-    elements.iter().any(|element| is_node(element))
-}
-
-fn is_node(element: &GreenElement) -> bool
-    ensures { result ≡ not (is_token (element_tree element.now)) }
-{
-    match element {
-        GreenElement::Node(_) => true,
-        GreenElement::Token(_) => false,
-    }
-}
-
 // A builder of these pairs.
 fn children_builder(
     alloc: Global,
@@ -70,9 +44,6 @@ fn children_builder(
     ensures accepted { OnOk result (is_behind old.now new.now.number ≡ false) }
     ensures refused { IfErr result (AlongRefuses (is_behind old.now new.now.number)) }
 {
-    if is_behind(old, new.tree()) {
-        return Err(IndentError::NotYounger);
-    }
     // What stands at their paths are nodes.
     let _ = (old.kind(), new.kind());
     let inputs = old.children(alloc)?;

@@ -64,14 +64,14 @@ impl From<TreeError> for IndentError {
 }
 
 impl IndentError {
-    /// Why a node is not indented with a mapping where the pairs of its child nodes and their younger copies were not taken up.
+    /// Why a node is not indented with a mapping where the pairs of its child nodes and their copies were not taken up.
     pub(crate) fn of_pairs(error: MapError) -> IndentError
         requires { IsSome (of_pairs error) }
         ensures { of_pairs error ≡ Some result }
     {
         match error {
             MapError::NotAChild => unreachable!(),
-            MapError::NotYounger => unreachable!(),
+            MapError::NotYounger => IndentError::NotYounger,
             MapError::OtherShape => unreachable!(),
             MapError::MoreInputs => unreachable!(),
             MapError::Memory => IndentError::Memory,

@@ -7,7 +7,7 @@ mod level;
 mod roots;
 mod shift;
 
-pub use child_pairs::{is_behind, map_children};
+pub use child_pairs::map_children;
 pub use indent_error::IndentError;
 pub use level::IndentLevel;
 pub use roots::{dedent, indent};

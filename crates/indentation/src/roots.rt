@@ -24,9 +24,6 @@ fn shifted_root(
     ensures refused { IfErr result (RootRefuses (shifted shift (subtree node.now)) ids.old) }
     ensures err { OnErr result (ids.new ≡ ids.old) }
 {
-    if ids.is_spent() {
-        return Err(IndentError::NoTreeNumber);
-    }
     let green = shifted_node(alloc, shift, node.as_green())?;
     match SyntaxNode::new_root(alloc, ids, green) {
         Ok(root) => Ok(root),
@@ -37,8 +34,8 @@ fn shifted_root(
 /// The node indented by a level, as the root of a tree of its own under the next number of `ids`: spaces are added to the
 /// end of each whitespace token that holds a newline. Parts without such a token are shared.
 ///
-/// `NoTreeNumber` comes first; then `TooLong`, where the new text passes 4,294,967,295 bytes, or `Memory`. None of them draws a
-/// number.
+/// `TooLong` comes first, where the new text passes 4,294,967,295 bytes, then `NoTreeNumber`; `Memory` may come at any time.
+/// None of them draws a number.
 pub fn indent(
     alloc: Global,
     node: &SyntaxNode,
@@ -57,8 +54,8 @@ pub fn indent(
 /// The node dedented by a level, as the root of a tree of its own under the next number of `ids`: the level's spaces are removed
 /// after each newline in whitespace that is followed by at least as many. Parts without such a token are shared.
 ///
-/// `NoTreeNumber` comes first; then `TooLong`, where the new text passes 4,294,967,295 bytes, or `Memory`. None of them draws a
-/// number.
+/// `TooLong` comes first, where the new text passes 4,294,967,295 bytes, then `NoTreeNumber`; `Memory` may come at any time.
+/// None of them draws a number.
 pub fn dedent(
     alloc: Global,
     node: &SyntaxNode,

@@ -1,7 +1,6 @@
 -- Editors as contracts see them.
 --     Editor, IsEditor              the root that is edited, the changes recorded so far, the registrations (elements with annotations) and the factory's mappings; what is true of every editor
 --     editor_of                     an editor of these parts
---     factory_code, editor_code     the code of a factory's mappings; that of an editor
 --     has_parent                    an element is not the root of its tree
 --     edited_root, new_editor       the root that a new editor edits, one of a tree of its own where it has a parent; that editor
 --     LacksRootNumber               such a tree is to be made, and its source of numbers is spent
@@ -12,20 +11,16 @@
 --     with_registrations, registrations_of         an editor with more registrations, after those before; each of n elements with an annotation
 --     registered_with, Registers    an editor in which these elements are registered with an annotation, too; a call makes one of it
 --     plan_of, FinishRefuses        the plan of an editor; why its changes are not carried out
-use Rattle.std.specs.Prelude.{◌≡◌, ℕ, Bool, true, false, cond, List, [], ◌++◌, map, Option, None, Some, unwrap_or, Result, Err, All, IsTrue, refl}
-use Rattle.std.specs.Coded.{Coded, code_by, coded_ℕ, coded_list, coded_option, coded×}
+use Rattle.std.specs.Prelude.{◌≡◌, ℕ, Bool, true, false, cond, List, [], ◌++◌, map, Option, None, Some, unwrap_or, Result, Err, All, IsTrue}
 use Rattle.cst_core.specs.Element.{Element, subtree}
-use Rattle.cst_core.specs.inner.ElementCode.{element_code}
 use Rattle.cst_core.specs.Path.{same_path}
 use Rattle.cst_core.specs.TreeIds.{IsSpent}
-use Rattle.edit_map.specs.Builder.{mapping_code, IsMadeOf}
+use Rattle.edit_map.specs.Builder.{IsMadeOf}
 use Rattle.edit_map.specs.Mapping.{Mapping}
 use Rattle.edit_change.specs.declared.change.Change.{Change}
 use Rattle.edit_plan.specs.declared.edit_error.EditError.{EditError}
 use Rattle.edit_plan.specs.declared.edit_error.EditError.TheVariants.{TooLong, NoTreeNumber}
 use Rattle.cst_core.specs.declared.element.SyntaxElement.{SyntaxElement}
-use Rattle.edit_change.specs.inner.Codes.{syntax_element_code}
-use Rattle.edit_change.specs.inner.ChangeCodes.{change_code}
 use Rattle.edit_plan.specs.Plan.{Plan, IsPlan, BuildRefuses, RunRefuses}
 use Rattle.edit_plan.specs.Fits.{Fits}
 use Rattle.syntax_editor.specs.RecordCall.{RecordCall, recorded, refusal}
@@ -40,13 +35,6 @@ pub record Editor : Type 0 where
 
 abbrev pub editor_of : Element → List Change → List (SyntaxElement × ℕ) → Option Mapping → Editor
 editor_of root changes registrations factory = record { root = root; changes = changes; registrations = registrations; factory = factory }
-
--- the mappings of a factory, if it keeps some
-abbrev pub factory_code : Coded (Option Mapping)
-factory_code = coded_option mapping_code
-
-abbrev pub editor_code : Coded Editor
-editor_code = code_by (Element × (List Change × (List (SyntaxElement × ℕ) × Option Mapping))) (coded× element_code (coded× (coded_list change_code) (coded× (coded_list (coded× syntax_element_code coded_ℕ)) factory_code))) (λ e. (e.root, (e.changes, (e.registrations, e.factory)))) (λ q. record { root = q.0; changes = q.1.0; registrations = q.1.1.0; factory = q.1.1.1 }) (λ _. refl)
 
 pub record IsEditor (e : Editor) : Type 0 where
   pub is_root : e.root.path ≡ []

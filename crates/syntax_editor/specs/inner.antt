@@ -1,2 +1,3 @@
 -- What private calls cite.
 pub mod TakenOver
+pub mod Codes

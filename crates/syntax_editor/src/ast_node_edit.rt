@@ -30,7 +30,7 @@ pub trait AstNodeEdit: AstNode {
 
     /// The node indented by a level: spaces are added to the end of each whitespace token that holds a newline.
     ///
-    /// `NoTreeNumber` comes first; then `TooLong`, where the new text passes 4,294,967,295 bytes, or `Memory`.
+    /// `TooLong` comes first, where the new text passes 4,294,967,295 bytes, then `NoTreeNumber`; `Memory` may come at any time.
     fn indent(
         &self,
         alloc: Global,
@@ -66,8 +66,7 @@ pub trait AstNodeEdit: AstNode {
 
     /// The node dedented by its own level.
     ///
-    /// `NoTreeNumber` comes first, then `LevelTooLarge`, where the level passes 255, then `TooLong`; `Memory` may come at any time
-    /// after `NoTreeNumber`.
+    /// `LevelTooLarge` comes first, where that passes 255, then the refusals of `dedent`.
     fn reset_indent(&self, alloc: Global, ids: &mut TreeIds) -> Result<Self, IndentError>
         ensures ok { IfOk result (λ n. Self.syntax_node n ≡ fresh_root ids.old (reset (Self.syntax_node self.now))) }
         ensures drawn { OnOk result (ids.new ≡ ids.old + 1) }
@@ -76,9 +75,6 @@ pub trait AstNodeEdit: AstNode {
         ensures refused { IfErr result (ResetRefuses (Self.syntax_node self.now) ids.old) }
         ensures err { OnErr result (ids.new ≡ ids.old) }
     {
-        if ids.is_spent() {
-            return Err(IndentError::NoTreeNumber);
-        }
         let own = IndentLevel::from_node(alloc, self.syntax())?;
         Ok(view_of(dedent(alloc, self.syntax(), ids, own)?))
     }
@@ -86,9 +82,9 @@ pub trait AstNodeEdit: AstNode {
     /// The node indented by a level, as `indent` makes it. Where the factory keeps mappings, each child node of the new node is
     /// mapped as the copy of the child node of this one at the same index.
     ///
-    /// `NoTreeNumber` comes first, then `NotYounger`; then `TooLong` or `Memory`. `NotYounger` comes where the factory keeps mappings,
-    /// this node has a child node and the next number is not greater than its own; that number is spent then, and none by any
-    /// other refusal. The mappings are unchanged after each.
+    /// `TooLong` comes first, then `NoTreeNumber`, then `NotYounger`; `Memory` may come at any time. `NotYounger` comes where the factory keeps
+    /// mappings, this node has a child node and the number drawn is not greater than its own; one number is spent then, and
+    /// none by any other refusal. The mappings are unchanged after each.
     fn indent_with_mapping(
         &self,
         alloc: Global,
@@ -128,19 +124,20 @@ fn indent_along(
     ensures spent { IfErr result (λ e. ids.new ≡ next_after e ids.old) }
     ensures unchanged { OnErr result (factory.new ≡ factory.old) }
 {
-    let Some(number) = ids.peek() else {
-        return Err(IndentError::NoTreeNumber);
-    };
-    if factory.is_too_old(node, number) {
-        ids.next();
-        return Err(IndentError::NotYounger);
-    }
     // The number is drawn last, when memory cannot be refused any more.
     let mut drawn = ids.ahead();
     let new = indent(alloc, node, &mut drawn, level)?;
-    factory.map_children(alloc, node, &new)?;
-    *ids = drawn;
-    Ok(new)
+    match factory.map_children(alloc, node, &new) {
+        Ok(()) => {
+            *ids = drawn;
+            Ok(new)
+        }
+        Err(IndentError::NotYounger) => {
+            *ids = drawn;
+            Err(IndentError::NotYounger)
+        }
+        Err(error) => Err(error),
+    }
 }
 
 // The view of a node of a kind that has one.

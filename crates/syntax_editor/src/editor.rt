@@ -28,7 +28,8 @@ pub struct SyntaxEditor {
 }
 
 impl Model for SyntaxEditor {
-    ghost use Rattle.syntax_editor.specs.Editor.{Editor, IsEditor, editor_of, editor_code};
+    ghost use Rattle.syntax_editor.specs.Editor.{Editor, IsEditor, editor_of};
+    ghost use Rattle.syntax_editor.specs.inner.Codes.{editor_code};
 
     ghost Value = { Editor };
 

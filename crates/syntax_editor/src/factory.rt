@@ -14,7 +14,7 @@ ghost use Rattle.syntax_editor.specs.Lending.{LendsMappings};
 
 use cst_core::{SyntaxNode, SyntaxToken, TreeError, TreeIds};
 use edit_map::{SyntaxMapping, SyntaxMappingBuilder};
-use indentation::{IndentError, is_behind, map_children};
+use indentation::{IndentError, map_children};
 use spacing::whitespace;
 use std::alloc::{AllocError, Global};
 use std::marker::Model;
@@ -28,7 +28,7 @@ pub struct SyntaxFactory {
 impl Model for SyntaxFactory {
     ghost use Rattle.std.specs.Prelude.{Option};
     ghost use Rattle.edit_map.specs.Mapping.{Mapping};
-    ghost use Rattle.syntax_editor.specs.Editor.{factory_code};
+    ghost use Rattle.syntax_editor.specs.inner.Codes.{factory_code};
 
     ghost Value = { Option Mapping };
 
@@ -119,13 +119,6 @@ impl SyntaxFactory {
         ensures err { OnErr result (ids.new ≡ ids.old) }
     {
         whitespace(alloc, ids, text)
-    }
-
-    /// Whether the factory keeps mappings, and a copy of a node under a number is too old for its child nodes to be mapped along.
-    pub(crate) fn is_too_old(&self, node: &SyntaxNode, number: u64) -> bool
-        ensures { result ≡ is_too_old self.now node.now number }
-    {
-        self.mappings.is_some() && is_behind(node, number)
     }
 
     // Maps each child node of a node as the copy of which the child node of another one at the same index is, where the factory
