@@ -4,13 +4,13 @@ ghost use Rattle.std.specs.List.{list_any};
 ghost use Rattle.cst_core.specs.Tree.{children, label};
 ghost use Rattle.cst_core.specs.Green.{branch_tree};
 ghost use Rattle.cst_core.specs.Kinds.{ATTR, COMMENT, DOC_COMMENT};
-ghost use Rattle.cst_core.specs.declared.element.SyntaxElement.TheVariants.{Node};
 ghost use Rattle.edit_plan.specs.Fits.{is_native};
 ghost use Rattle.syntax_editor.specs.AttrsAndDocs.{is_attr_or_doc, is_whitespace, is_removed, removed_children, without_attrs_and_docs, is_foreign, RemovalRefuses};
 
 use crate::editor::SyntaxEditor;
 use crate::error::RecordError;
-use cst_core::{GreenElementRef, GreenNode, HasAttrs, SyntaxElement, SyntaxKind, SyntaxNode};
+use cst_core::{GreenNode, HasAttrs, SyntaxElement, SyntaxKind, SyntaxNode};
+use edit_change::is_native_node;
 use edit_plan::is_native;
 use std::alloc::{AllocError, Global};
 
@@ -53,20 +53,6 @@ impl SyntaxEditor {
             return Err(RecordError::Foreign);
         }
         Ok(self.changes.delete_each(alloc, removed)?)
-    }
-}
-
-// Whether a node is of the tree of `root`. It is borrowed, so the test takes no memory.
-fn is_native_node(root: &SyntaxNode, node: &SyntaxNode) -> bool
-    ensures { result ≡ is_native root.now (Node node.now) }
-{
-    if node.tree() != root.tree() {
-        return false;
-    }
-    match root.top_green().get(node.slots()) {
-        Some(GreenElementRef::Node(_)) => true,
-        Some(GreenElementRef::Token(_)) => false,
-        None => false,
     }
 }
 
