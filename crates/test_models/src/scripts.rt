@@ -19,26 +19,37 @@ fn edited<'a>(root: &'a SyntaxNode, told: &'a Told) -> Edited<'a> {
     }
 }
 
-fn at_once(alloc: Global, mut recorded: Recorded) -> Result<Answers> {
-    let edited = edited(&recorded.root, &recorded.told);
-    answers_to(alloc, &mut recorded.ids, edited, recorded.editor)
+fn at_once(alloc: Global, recorded: Recorded) -> Result<Answers> {
+    let Recorded {
+        root,
+        editor,
+        mut ids,
+        told,
+        ..
+    } = recorded;
+    answers_to(alloc, &mut ids, edited(&root, &told), editor)
 }
 
 // One change at a time; both have recorded the same.
-fn one_at_a_time(alloc: Global, mut recorded: Recorded, same: Recorded) -> Result<Answers> {
-    let edited = edited(&recorded.root, &recorded.told);
-    stepped_answers(
-        alloc,
-        &mut recorded.ids,
-        edited,
-        recorded.editor,
-        same.editor,
-    )
+fn one_at_a_time(alloc: Global, recorded: Recorded, same: Recorded) -> Result<Answers> {
+    let Recorded {
+        root,
+        editor,
+        mut ids,
+        told,
+        ..
+    } = recorded;
+    stepped_answers(alloc, &mut ids, edited(&root, &told), editor, same.editor)
 }
 
 fn by_engine<E: EditEngine>(alloc: Global, recorded: Recorded, engine: &mut E) -> Result<Answers> {
-    let edited = edited(&recorded.root, &recorded.told);
-    engine_answers(alloc, edited, recorded.editor, engine)
+    let Recorded {
+        root,
+        editor,
+        told,
+        ..
+    } = recorded;
+    engine_answers(alloc, edited(&root, &told), editor, engine)
 }
 
 // In the order of the script, where it says one.
