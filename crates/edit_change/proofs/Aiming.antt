@@ -11,8 +11,8 @@ use Rattle.cst_core.specs.Element.{Element}
 use Rattle.cst_core.specs.SyntaxElement.{element_of}
 use Rattle.cst_core.specs.declared.element.SyntaxElement.{SyntaxElement}
 use Rattle.cst_core.proofs.LastSlot.{parent-and-slot}
-use Rattle.rewriting.specs.Aim.{Over}
-use Rattle.rewriting.specs.inner.Aimed.{siblings_from}
+use Rattle.edit_change.specs.Aim.{Over}
+use Rattle.edit_change.specs.inner.Aimed.{siblings_from}
 use Rattle.edit_change.specs.ChangeAim.{position_aim, aim, aim_path}
 use Rattle.edit_change.specs.inner.AimFrom.{position_aim_from, aim_from}
 use Rattle.edit_change.specs.Fits.{Fits, is_native, is_root, is_range}

@@ -3,7 +3,7 @@ use Rattle.std.specs.Prelude.{◌≡◌, ◌≢◌, ◌<◌, ℕ, zero, suc, ◌
 use Rattle.std.specs.List.{AllByRecursion, enumerate_from}
 use Rattle.std.proofs.Common.{ap, ap₂, sym, subst, ◌∙◌, arith}
 use Rattle.std.proofs.lemmas.Bool.{cases_Bool}
-use Rattle.std.proofs.lemmas.Option.{same_Some}
+use Rattle.std.proofs.lemmas.Option.{none-some, same_Some}
 use Rattle.std.proofs.Math.ListN.{set}
 use mathlib.Core.Logic.{inl, inr}
 use Rattle.cst_core.specs.Path.{last_item}
@@ -65,3 +65,9 @@ if-ok-weaker P Q h (Err e) a = tt
 pub on-ok-weaker : {T E : Type 0} {A B : Type 0} (r : Result T E) → (A → B) → OnOk r A → OnOk r B
 on-ok-weaker (Ok t) h a = h a
 on-ok-weaker (Err e) h a = tt
+
+-- what holds of all, holds of the one at a number
+pub all_at : {X : Type 0} (P : X → Type 0) (xs : List X) (i : ℕ) (x : X) → AllByRecursion P xs → slice_get xs i ≡ Some x → P x
+all_at P [] i x a is = absurd (none-some x is)
+all_at P (y ∷ xs) zero x a is = subst P (same_Some y x is) a.0
+all_at P (y ∷ xs) (suc i) x a is = all_at P xs i x a.1 is

@@ -3,7 +3,7 @@
 --     aim_path                      the path that says where a change aims: of an insert's anchor, of the first element that is replaced
 use Rattle.cst_core.specs.Path.{Path}
 use Rattle.cst_core.specs.SyntaxElement.{element_of}
-use Rattle.rewriting.specs.Aim.{Aim, FirstIn, Behind, Over}
+use Rattle.edit_change.specs.Aim.{Aim, FirstIn, Behind, Over}
 use Rattle.edit_change.specs.Position.{anchor}
 use Rattle.edit_change.specs.Change.{targets}
 use Rattle.edit_change.specs.declared.position.Position.{Position}

@@ -8,10 +8,11 @@
 --     surroundings                  an insert's anchor and the elements above it; the elements above a replacement's targets
 --     is_around                     a region is around a change
 --     is_dropped                    some dropping region is around it
+--     Numbered, undropped           a change with its number; the changes that are not dropped, with their numbers
 --     owner                         of a change that is not dropped: the replacement with the deepest region around it
 --     is_independent, has_owner     neither dropped nor owned; owned by this change
-use Rattle.std.specs.Prelude.{ℕ, Bool, true, false, ◌&&◌, not, cond, nat_eq, List, [], ◌∷◌, map, length, flat_map, filter_map, position, find, slice_get, Option, Some, None, is_none}
-use Rattle.std.specs.List.{list_any}
+use Rattle.std.specs.Prelude.{ℕ, Bool, true, false, ◌&&◌, not, cond, nat_eq, List, [], ◌∷◌, map, length, flat_map, filter_map, position, find, slice_get, Option, Some, None, is_none, filter}
+use Rattle.std.specs.List.{list_any, enumerate_from}
 use Rattle.std.specs.Option.{option_map_or}
 use Rattle.cst_core.specs.Path.{Path, has_path, up_to, above, counted_from, last_item}
 use Rattle.cst_core.specs.declared.element.SyntaxElement.{SyntaxElement}
@@ -61,6 +62,12 @@ is_around r c = list_any (has_path (surroundings c)) (region r)
 -- ---- dropped and owned changes
 abbrev pub is_dropped : List Change → Change → Bool
 is_dropped cs c = list_any (λ r. not (is_keeping r) && is_around r c) cs
+
+abbrev pub Numbered : Type 0
+Numbered = ℕ × Change
+
+abbrev pub undropped : List Change → List Numbered
+undropped cs = filter (λ c. not (is_dropped cs c.1)) (enumerate_from 0 cs)
 
 -- the change whose region has this path
 abbrev pub region_at : List Change → Path → Option ℕ

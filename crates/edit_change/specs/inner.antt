@@ -1,9 +1,14 @@
 -- What private calls cite, and the crates above for theirs: no contract that a user calls by names any of it.
+pub mod Aimed
 pub mod AimFrom
 pub mod Targets
 pub mod TargetIndex
 pub mod Fate
 pub mod Clash
+pub mod OwnerPlaces
+pub mod OneNode
+pub mod Given
+pub mod KindOnly
 pub mod PositionCode
 pub mod Codes
 pub mod ChangeCodes

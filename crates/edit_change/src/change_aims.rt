@@ -4,20 +4,21 @@ ghost use Rattle.cst_core.specs.declared.element.SyntaxElement.TheVariants.{Node
 ghost use Rattle.cst_core.specs.GreenElement.{element_trees};
 ghost use Rattle.cst_core.specs.SyntaxElement.{element_of};
 ghost use Rattle.cst_core.specs.Path.{has_path, last_slot};
-ghost use Rattle.rewriting.specs.inner.Aimed.{numbered};
-ghost use Rattle.rewriting.specs.inner.Given.{given_trees};
-ghost use Rattle.rewriting.specs.Aim.{Behind};
+ghost use Rattle.edit_change.specs.inner.Aimed.{numbered};
+ghost use Rattle.edit_change.specs.inner.Given.{given_trees};
+ghost use Rattle.edit_change.specs.Aim.{Behind};
 ghost use Rattle.edit_change.specs.ChangeAim.{position_aim, aim, aim_path};
 ghost use Rattle.edit_change.specs.Change.{payload, targets};
 ghost use Rattle.edit_change.specs.Fits.{Fits, is_one_node};
 ghost use Rattle.edit_change.specs.inner.AimFrom.{aim_from, position_aim_from, depth};
 
+use crate::aimed::Aimed;
 use crate::change::Change;
 use crate::fits::is_root;
+use crate::given::Given;
 use crate::position::Position;
 use crate::targets::parent;
 use cst_core::{GreenElementRef, SyntaxElement, SyntaxNode};
-use rewriting::{Aimed, Given};
 use std::alloc::{AllocError, Global};
 use std::slice;
 

@@ -1,6 +1,7 @@
 //! Changes of a tree: where each aims, its payload and what it replaces, and which lie inside which.
 #![tactic(auto)]
 
+mod aimed;
 mod change;
 mod change_aims;
 mod change_nesting;
@@ -10,11 +11,16 @@ mod element_like;
 mod element_list;
 mod fate;
 mod fits;
+mod given;
 mod native;
+mod one_node;
+mod planned;
 mod position;
+mod staged;
 mod target_index;
 mod targets;
 
+pub use aimed::{AimForm, Aimed};
 pub use change::Change;
 pub use change_aims::{
     aim_path, depth, green_payload, node_for_root, numbered_aim, numbered_aim_from, slot_after,
@@ -24,6 +30,10 @@ pub use element_like::Element;
 pub use element_list::ElementList;
 pub use fate::{Fate, fates};
 pub use fits::{is_node, is_one_node, is_range, is_root};
+pub use given::Given;
 pub use native::{is_native, is_native_node};
+pub use one_node::only_node;
+pub use planned::Planned;
 pub use position::Position;
+pub use staged::{moved_path, owner_of, place_at, staged_path};
 pub use target_index::TargetIndex;

@@ -10,19 +10,19 @@ use Rattle.cst_core.specs.Path.{Path, first_item}
 use Rattle.cst_core.specs.Element.{Element, NumbersTell, address, subtree}
 use Rattle.cst_core.specs.SyntaxElement.{syntax_at}
 use Rattle.edit_map.specs.Mapping.{IsRising}
-use Rattle.rewriting.specs.Rewriting.{rewritten_whole}
+use Rattle.edit_change.specs.Rewriting.{rewritten_whole}
 use Rattle.edit_change.specs.ChangeAim.{aim}
 use Rattle.edit_change.specs.Nesting.{owner, has_owner}
 use Rattle.edit_change.specs.declared.change.Change.{Change}
 use Rattle.edit_change.proofs.Lists.{all_filter, all_weaker, all_enumerated}
 use Rattle.edit_change.proofs.Owners.{owner_from}
-use Rattle.edit_stages.specs.NewTree.{OriginTree, plain, is_free, origin, moved_aim, targets_of, payload_rewritten, independents, dependents, given, new_tree}
+use Rattle.edit_change.specs.NewTree.{OriginTree, plain, is_free, origin, moved_aim, targets_of, payload_rewritten, independents, dependents, given, new_tree}
 use Rattle.edit_plan.specs.AnnotationTable.{found_for}
-use Rattle.edit_plan.specs.Places.{elements_held}
+use Rattle.edit_change.specs.Places.{elements_held}
 use Rattle.edit_plan.specs.Plan.{Plan, Edit, Makes, WouldMake, registered_elements}
-use Rattle.edit_plan.specs.Results.{changed, annotated, paths_with}
+use Rattle.edit_change.specs.Results.{changed, annotated, paths_with}
 use Rattle.edit_plan.proofs.Running.{PlaceIsUnique, places-agree}
-use Rattle.edit_plan.proofs.Settled.{given_is, given_unique}
+use Rattle.edit_change.proofs.Settled.{given_is, given_unique}
 
 map-agree : {X Y : Type 0} (f g : X → Y) (xs : List X) → AllByRecursion (λ x. f x ≡ g x) xs → map f xs ≡ map g xs
 map-agree f g [] all = refl

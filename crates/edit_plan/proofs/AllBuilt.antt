@@ -17,9 +17,9 @@ use Rattle.cst_core.specs.Element.{Element, subtree, NumbersTell}
 use Rattle.cst_core.specs.declared.element.SyntaxElement.TheVariants.{Node}
 use Rattle.cst_core.proofs.LastSlot.{parent-and-slot}
 use Rattle.green_tree.proofs.Lookup.{IsNodeThere, at_parent}
-use Rattle.rewriting.specs.Aim.{Aim, FirstIn, Behind, Over, replaces, parents}
-use Rattle.rewriting.specs.Rewriting.{NumberedAim, is_replaced}
-use Rattle.rewriting.specs.inner.Built.{IsBuilt, AreBuilt}
+use Rattle.edit_change.specs.Aim.{Aim, FirstIn, Behind, Over, replaces, parents}
+use Rattle.edit_change.specs.Rewriting.{NumberedAim, is_replaced}
+use Rattle.one_pass.specs.inner.Built.{IsBuilt, AreBuilt}
 use Rattle.edit_map.specs.Mapping.{mapped_elements}
 use Rattle.edit_change.specs.Change.{payload, targets, elements}
 use Rattle.edit_change.specs.ChangeAim.{aim}
@@ -29,18 +29,19 @@ use Rattle.edit_change.specs.declared.change.Change.{Change}
 use Rattle.edit_change.specs.declared.change.Change.TheVariants.{Replace}
 use Rattle.edit_change.proofs.Lists.{all_filter, all_weaker, all_enumerated}
 use Rattle.edit_change.proofs.Owners.{owner_from}
-use Rattle.edit_stages.specs.NewTree.{targets_of, payload_of, moved_aim, independents, dependents}
-use Rattle.edit_stages.proofs.Altered.{one_item, no_item, parents-inv, fit_at, region_has, altered, node_over, native_node, target_native}
-use Rattle.edit_stages.proofs.Apart.{moved-path, owned-at, owned_below}
-use Rattle.edit_stages.proofs.Below.{ComesFrom, moved_replaces, targets_under}
-use Rattle.edit_stages.proofs.Deepest.{unowned}
-use Rattle.edit_stages.proofs.Groups.{IsGroup, free_group, owned_group, group_aims, moved-nowhere, independents-moved, from_target, unmoved_parents}
-use Rattle.edit_stages.proofs.Live.{is_node, is_there, AimsAt, fits-aims, AreAlike, alike_from, moved-aims, target-root}
-use Rattle.edit_stages.proofs.Owning.{owner-keeps}
-use Rattle.edit_stages.proofs.Splits.{all_map, none_any}
-use Rattle.edit_plan.specs.Places.{ArePlaces, elements_held}
+use Rattle.edit_change.specs.NewTree.{targets_of, payload_of, moved_aim, independents, dependents}
+use Rattle.edit_steps.proofs.Altered.{one_item, no_item, parents-inv, region_has, altered, node_over, native_node, target_native}
+use Rattle.edit_change.proofs.Moved.{fit_at}
+use Rattle.edit_change.proofs.Apart.{moved-path, owned-at, owned_below}
+use Rattle.edit_steps.proofs.Below.{ComesFrom, moved_replaces, targets_under}
+use Rattle.edit_steps.proofs.Deepest.{unowned}
+use Rattle.edit_steps.proofs.Groups.{IsGroup, free_group, owned_group, group_aims, moved-nowhere, independents-moved, from_target, unmoved_parents}
+use Rattle.edit_steps.proofs.Live.{is_node, is_there, AimsAt, fits-aims, AreAlike, alike_from, moved-aims, target-root}
+use Rattle.edit_change.proofs.Owning.{owner-keeps}
+use Rattle.edit_steps.proofs.Splits.{all_map, none_any}
+use Rattle.edit_change.specs.Places.{ArePlaces, elements_held}
 use Rattle.edit_plan.specs.Plan.{Plan, IsPlan, registered_elements}
-use Rattle.edit_plan.specs.inner.GivenTables.{ArePayloadsBuilt}
+use Rattle.one_pass.specs.inner.GivenTables.{ArePayloadsBuilt}
 use Rattle.edit_plan.specs.inner.PlanStages.{KeepsShapes}
 
 -- ---- the node that an aim alters

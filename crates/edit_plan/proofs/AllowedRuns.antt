@@ -9,11 +9,11 @@ use Rattle.std.proofs.lemmas.Bool.{le-ltb}
 use Rattle.std.proofs.lemmas.List.{length-map, length-set}
 use Rattle.std.proofs.lemmas.Option.{slice_get-get_or, slice_get_within}
 use Rattle.edit_change.specs.declared.change.Change.{Change}
-use Rattle.schedule.specs.Schedule.{IsAllowed, index_in, is_ready}
-use Rattle.schedule.proofs.AllowedSteps.{OnTheWay, allowed-step, next-done, allowed-complete}
-use Rattle.schedule.specs.OrderRefusal.{OrderRefuses}
-use Rattle.schedule.specs.declared.order_error.OrderError.{OrderError}
-use Rattle.schedule.specs.declared.order_error.OrderError.TheVariants.{NotEachOnce, OwnerTooEarly, GapOutOfOrder, TokenTooEarly, Memory}
+use Rattle.edit_steps.specs.Schedule.{IsAllowed, index_in, is_ready}
+use Rattle.edit_steps.proofs.AllowedSteps.{OnTheWay, allowed-step, next-done, allowed-complete}
+use Rattle.edit_steps.specs.OrderRefusal.{OrderRefuses}
+use Rattle.edit_steps.specs.declared.order.order_error.OrderError.{OrderError}
+use Rattle.edit_steps.specs.declared.order.order_error.OrderError.TheVariants.{NotEachOnce, OwnerTooEarly, GapOutOfOrder, TokenTooEarly, Memory}
 use Rattle.edit_plan.specs.ExecuteRefusal.{of_order, ExecuteRefuses}
 use Rattle.edit_plan.specs.Plan.{Plan}
 use Rattle.edit_plan.specs.Run.{Run, new_run, is_done, CanStep}

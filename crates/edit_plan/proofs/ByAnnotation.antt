@@ -24,11 +24,12 @@ use Rattle.edit_plan.specs.AnnotationTable.{entries_of, found_for}
 use Rattle.edit_plan.specs.Plan.{Plan, registered_elements, is_registered}
 use Rattle.std.specs.List.{AllByRecursion, list_any}
 use Rattle.edit_change.proofs.Lists.{all-append}
-use Rattle.edit_stages.specs.NewTree.{OriginTree}
+use Rattle.edit_change.specs.NewTree.{OriginTree}
 use Rattle.edit_plan.specs.Engine.{IsRewritten}
-use Rattle.edit_plan.specs.inner.Marks.{numbered_paths}
-use Rattle.edit_plan.specs.inner.PlanRun.{IsMade}
-use Rattle.edit_plan.specs.Results.{annotated, copies_of, paths_with}
+use Rattle.edit_plan.specs.inner.Annotating.{numbered_paths}
+use Rattle.one_pass.specs.inner.Root.{TellsNewTree}
+use Rattle.edit_change.specs.Places.{ArePlaces}
+use Rattle.edit_change.specs.Results.{annotated, copies_of, paths_with}
 use Rattle.edit_plan.proofs.Leading.{numbered-lead}
 use Rattle.edit_plan.proofs.Told.{all-told}
 use mathlib.Core.List.{map-map}
@@ -106,12 +107,12 @@ numbered-registered {P} (r ∷ rs) holds (ps ∷ ls) =
     each [] = tt
     each (q ∷ qs) = (holds r.1 (or_left (nat_eq r.1 r.1) (stands_in rs r.1) (eq-eqb r.1 r.1 refl)), each qs)
 
-pub is_rewritten : (p : Plan) (fs : List SyntaxElement) (tree : SyntaxTree) (copies : List (List Path)) (paths : List Path) (ns : List (ℕ × Path)) → IsMade p fs tree copies paths → (All (Tells p.mapping) p.registrations → map element_of fs ≡ map (leads_to p.mapping) p.registrations) → ns ≡ numbered_paths (map (λ r. r.1) p.registrations) copies → IsRewritten p tree paths ns
-is_rewritten p fs tree copies paths ns is_made followed_are is =
+pub is_rewritten : (p : Plan) (fs : List SyntaxElement) (tree : SyntaxTree) (copies : List (List Path)) (paths : List Path) (ns : List (ℕ × Path)) (places : ℕ → Path) → ArePlaces p.mapping p.changes places → TellsNewTree p.root p.changes places fs tree copies paths → (All (Tells p.mapping) p.registrations → map element_of fs ≡ map (leads_to p.mapping) p.registrations) → ns ≡ numbered_paths (map (λ r. r.1) p.registrations) copies → IsRewritten p tree paths ns
+is_rewritten p fs tree copies paths ns places are is_made followed_are is =
     let numbered = numbered-are p fs is_made.made copies ns is_made.copies_are is in
     record {
       made = is_made.made;
-      would = is_made.would;
+      would = record { places = places; are_places = are; is_new = is_made.is_new };
       tree_is = is_made.tree_is;
       changed_is = is_made.changed_is;
       registered = subst (All (λ n. is_registered p n.0 ≡ true)) (sym numbered) (All-from_recursion (λ n. is_registered p n.0 ≡ true) (numbered_paths (map (λ r. r.1) p.registrations) (map (copies_of is_made.made) (map (λ e. address (element_of e)) fs))) (numbered-registered p.registrations (λ a h. h) (map (copies_of is_made.made) (map (λ e. address (element_of e)) fs))));

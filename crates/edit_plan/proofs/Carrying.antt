@@ -19,9 +19,9 @@ use Rattle.edit_plan.specs.AnnotationTable.{found_for}
 use Rattle.edit_plan.specs.Plan.{Plan, Edit, Makes, MakesTooLong, RunRefuses, is_registered}
 use Rattle.edit_plan.specs.Engine.{annotated_path, IsRewritten, HasRewritten, RanBefore}
 use Rattle.edit_plan.specs.EditRefusal.{of_tree, of_engine}
-use Rattle.edit_plan.specs.Places.{ArePlaces}
-use Rattle.edit_plan.specs.Results.{paths_with}
-use Rattle.edit_stages.specs.NewTree.{plain, new_tree}
+use Rattle.edit_change.specs.Places.{ArePlaces}
+use Rattle.edit_change.specs.Results.{paths_with}
+use Rattle.edit_change.specs.NewTree.{plain, new_tree}
 use Rattle.edit_plan.specs.declared.rewritten.Rewritten.{Rewritten}
 use Rattle.edit_plan.specs.declared.edit_error.EditError.{EditError}
 use Rattle.edit_plan.specs.declared.edit_error.EditError.TheVariants.{Intersecting, MissingMapping, TooLong, NoTreeNumber, Memory}

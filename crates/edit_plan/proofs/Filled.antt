@@ -8,8 +8,8 @@ use Rattle.std.proofs.lemmas.List.{append-nil}
 use Rattle.std.proofs.lemmas.Grind.{flat_map-append}
 use Rattle.cst_core.specs.Path.{Path}
 use Rattle.cst_core.specs.Tree.{Tree, Forest, Token, Node, end, more, SyntaxTree, forest, text, forest_text, relabelled, forest_relabelled}
-use Rattle.rewriting.specs.Rewriting.{NumberedAim, inserts_at, replacements_at, is_replaced, gap_order, gap, slot, rewritten, rewritten_from, rewritten_whole}
-use Rattle.edit_plan.specs.RewritingLaws.{filled_text, filled_text_from, text_filled}
+use Rattle.edit_change.specs.Rewriting.{NumberedAim, inserts_at, replacements_at, is_replaced, gap_order, gap, slot, rewritten, rewritten_from, rewritten_whole}
+use Rattle.edit_change.specs.RewritingLaws.{filled_text, filled_text_from, text_filled}
 
 pub flat_map-text : {L : Type 0} (ts : List (Tree L)) → flat_map text ts ≡ forest_text (forest ts)
 flat_map-text [] = refl

@@ -8,9 +8,9 @@ use Rattle.std.proofs.lemmas.List.{append_assoc, map-append}
 use Rattle.std.proofs.lemmas.List.Elements.{filter-append}
 use Rattle.cst_core.specs.Path.{Path}
 use Rattle.cst_core.specs.Tree.{Tree}
-use Rattle.rewriting.specs.Aim.{aims_at_gap}
-use Rattle.rewriting.specs.Rewriting.{NumberedAim, numbers, inserts_at, gap_order, gap}
-use Rattle.edit_plan.proofs.GapRule.{gap_order-append, gap_order-first}
+use Rattle.edit_change.specs.Aim.{aims_at_gap}
+use Rattle.edit_change.specs.Rewriting.{NumberedAim, numbers, inserts_at, gap_order, gap}
+use Rattle.edit_change.proofs.GapRule.{gap_order-append, gap_order-first}
 
 module _ {L : Type 0} (l : Path → ℕ → L) (g : ℕ → List (Tree L)) (p : Path) (i : ℕ) where
   abbrev held : List NumberedAim → List (Tree L)

@@ -8,7 +8,7 @@ use Rattle.cst_core.specs.Element.{Element, NumbersTell}
 use Rattle.edit_map.specs.Mapping.{Mapping, mapped_elements}
 use Rattle.edit_change.specs.Change.{elements}
 use Rattle.edit_change.specs.declared.change.Change.{Change}
-use Rattle.edit_plan.specs.Places.{elements_held}
+use Rattle.edit_change.specs.Places.{elements_held}
 
 -- ---- members
 abbrev IsIn : Element → List Element → Type 0

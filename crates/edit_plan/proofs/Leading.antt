@@ -13,14 +13,14 @@ use Rattle.cst_core.specs.Path.{Path}
 use Rattle.cst_core.specs.Tree.{Tree, SyntaxTree, label, at, paths, relabelled}
 use Rattle.cst_core.specs.Element.{Address, Element, IsElement, element_at, same_address}
 use Rattle.cst_core.specs.SyntaxElement.{syntax_as, syntax_at}
-use Rattle.rewriting.specs.Topmost.{holds_at, parent_holds, topmost}
+use Rattle.edit_change.specs.Topmost.{holds_at, parent_holds, topmost}
 use Rattle.edit_plan.specs.Plan.{Plan}
 use Rattle.edit_plan.specs.Engine.{IsRewritten}
-use Rattle.edit_stages.specs.NewTree.{OriginTree, plain, is_free}
-use Rattle.edit_plan.specs.inner.Marks.{numbered_paths}
-use Rattle.edit_plan.specs.Results.{is_brought, copies_of}
+use Rattle.edit_change.specs.NewTree.{OriginTree, plain, is_free}
+use Rattle.edit_plan.specs.inner.Annotating.{numbered_paths}
+use Rattle.edit_change.specs.Results.{is_brought, copies_of}
 use Rattle.edit_change.proofs.Lists.{all_filter, all_weaker}
-use Rattle.edit_plan.proofs.Relabelled.{at-relabelled}
+use Rattle.edit_change.proofs.Relabelled.{at-relabelled}
 
 all-any : {X : Type 0} (xs : List X) → AllByRecursion (λ x. Unit {0}) xs
 all-any [] = tt

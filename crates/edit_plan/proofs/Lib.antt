@@ -1,50 +1,31 @@
-mod RowChanges
-mod Rows
-mod RowsOfPlans
-mod RowsOfSchedules
-mod RowsOfAnswers
-mod RowsOfPositions
-mod RowsOfLengths
-mod RowsOfGreatest
-mod Carried
-mod Moved
-mod Levels
-mod Nested
-mod Placed
-mod GapRule
-mod Untouched
-mod Owners
-mod Settled
-mod Untold
-mod Filled
-mod Unowned
-mod OneDepth
-mod Brought
-mod Whole
-mod Running
-mod WholeWay
-mod RunFacts
+mod Agreed
+mod AllBuilt
+mod AllTouched
 mod AllowedRuns
+mod ByAnnotation
 mod Carrying
-mod Leading
-pub mod Exchanged
-mod Relabelled
-mod Swapped
-mod Registered
-mod ByLevel
-mod MarksFilled
-mod CopiesFound
+mod Exchanged
+mod Filled
 mod FirstNode
 mod FoundNodes
-mod ByAnnotation
+mod GapOrder
+mod HeldSwapped
+mod Leading
+mod OneDepth
+mod Placed
+mod RowChanges
+mod Rows
+mod RowsOfAnswers
+mod RowsOfGreatest
+mod RowsOfLengths
+mod RowsOfPlans
+mod RowsOfPositions
+mod RowsOfSchedules
+mod RunFacts
+mod Running
+mod Swapped
 mod Told
-mod Rooted
 mod ToldTarget
-pub mod MarksTold
-pub mod MadeOf
-pub mod Counting
-pub mod AllBuilt
-pub mod AllTouched
-pub mod Agreed
-pub mod GapOrder
-pub mod HeldSwapped
+mod Unowned
+mod Untold
+mod WholeWay

@@ -11,7 +11,7 @@ use Rattle.edit_change.specs.Nesting.{region, region_at, surroundings, is_droppe
 use Rattle.edit_change.proofs.Lists.{all_weaker}
 use Rattle.edit_change.proofs.Paths.{same_path-true}
 use Rattle.edit_change.proofs.Positions.{all-fail}
-use Rattle.edit_plan.specs.RewritingLaws.{is_at_depth}
+use Rattle.edit_change.specs.RewritingLaws.{is_at_depth}
 
 -- a path above a depth is none that is not
 other_depth : (n : ℕ) (p q : Path) → nat_lt (length p) n ≡ true → not (nat_lt (length q) n) ≡ true → same_path p q ≡ false

@@ -13,10 +13,11 @@ use mathlib.Core.Logic.{inl, inr}
 use Rattle.cst_core.specs.Path.{Path}
 use Rattle.edit_map.specs.Mapping.{path_in, Mapping}
 use Rattle.edit_change.specs.Nesting.{is_keeping, owner}
-use Rattle.edit_plan.specs.inner.OwnerTables.{path_at, places_in, IsPlaceOf, FoundSoFar}
-use Rattle.edit_plan.specs.Places.{HasPlace, IsUnplaced, IsFirstUnplaced, FindsPlace}
+use Rattle.edit_change.specs.inner.OwnerPlaces.{path_at, places_in}
+use Rattle.edit_plan.specs.inner.PlaceTables.{IsPlaceOf, FoundSoFar}
+use Rattle.edit_change.specs.Places.{HasPlace, IsUnplaced, IsFirstUnplaced, FindsPlace}
 use Rattle.edit_change.specs.declared.change.Change.{Change}
-use Rattle.edit_stages.proofs.Owning.{owner-keeps}
+use Rattle.edit_change.proofs.Owning.{owner-keeps}
 
 abbrev pub HasOwner : List Change → ℕ → ℕ → Type 0
 HasOwner cs n e = (d : Change) × (slice_get cs n ≡ Some d) × (owner cs d ≡ Some e)

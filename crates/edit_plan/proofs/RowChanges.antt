@@ -8,8 +8,8 @@ use Rattle.edit_map.proofs.Rows.{element_of_tree}
 use Rattle.edit_map.proofs.RowTrees.{tree_U, tree_X, tree_Y, tree_V, tree_E, tree_F, tree_Z, tree_S1, tree_S3}
 use Rattle.edit_change.specs.Position as place
 use Rattle.edit_change.specs.Nesting.{owner}
-use Rattle.edit_stages.specs.NewTree.{new_tree, is_free}
-use Rattle.edit_plan.specs.Results.{changed}
+use Rattle.edit_change.specs.NewTree.{new_tree, is_free}
+use Rattle.edit_change.specs.Results.{changed}
 use Rattle.edit_change.specs.declared.position.Position.{Position}
 use Rattle.edit_change.specs.PositionForm.{FirstChild}
 use Rattle.edit_change.specs.declared.change.Change.{Change}

@@ -4,9 +4,9 @@ use Rattle.cst_core.specs.Path.{Path}
 use Rattle.edit_map.proofs.RowTrees.{tree_L, tree_B, tree_BB, tree_M, tree_E, tree_F, tree_Z}
 use Rattle.edit_map.proofs.Rows.{R, B, BB, N, O, M, NM, NR, W, N7, A3, mapping_of_extracting}
 use Rattle.edit_change.specs.Nesting.{first_clash, is_dropped}
-use Rattle.edit_stages.specs.NewTree.{new_tree}
-use Rattle.edit_plan.specs.Results.{annotated, paths_with}
-use Rattle.edit_plan.specs.TouchedNodes.{touched_by}
+use Rattle.edit_change.specs.NewTree.{new_tree}
+use Rattle.edit_change.specs.Results.{annotated, paths_with}
+use Rattle.edit_change.specs.TouchedNodes.{touched_by}
 use Rattle.edit_change.specs.declared.change.Change.{Change}
 use Rattle.edit_plan.proofs.RowChanges.{outcome, owners, placed, no_places, after, before, first_in, last_in, insert, insert_all, delete, replace, replace_with_many, replace_all, E, F, Z, X, Y, U, V, S1, S3}
 

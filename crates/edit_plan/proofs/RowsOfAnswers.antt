@@ -3,9 +3,9 @@ use Rattle.std.specs.Prelude.{◌≡◌, ℕ, List, [], ◌∷◌, ◌++◌, cod
 use Rattle.cst_core.specs.Path.{Path}
 use Rattle.cst_core.specs.Element.{Element, address}
 use Rattle.edit_map.proofs.Rows.{R}
-use Rattle.edit_stages.specs.NewTree.{plain, new_tree}
-use Rattle.edit_plan.specs.Results.{annotated, paths_with, stand_in_path}
-use Rattle.edit_plan.specs.inner.Sought.{sought_from}
+use Rattle.edit_change.specs.NewTree.{plain, new_tree}
+use Rattle.edit_change.specs.Results.{annotated, paths_with, stand_in_path}
+use Rattle.one_pass.specs.inner.Sought.{sought_from}
 use Rattle.edit_change.specs.Display.{escape, change_text}
 use Rattle.edit_change.specs.declared.change.Change.{Change}
 use Rattle.edit_plan.proofs.RowChanges.{no_places, after, insert, delete, replace, replace_with_many, replace_all, X}

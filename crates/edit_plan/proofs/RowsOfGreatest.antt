@@ -10,24 +10,24 @@ use Rattle.cst_core.specs.Tree.{Forest, Token, Node, end, more, SyntaxTree, fore
 use Rattle.cst_core.specs.declared.element.SyntaxElement.TheVariants.{Token as token_value}
 use Rattle.edit_map.proofs.RowTrees.{tree_X}
 use Rattle.edit_map.proofs.Rows.{element_of_tree}
-use Rattle.rewriting.specs.Aim.{Behind, Over}
-use Rattle.rewriting.specs.Rewriting.{NumberedAim, numbers, inserts_at, replacements_at, is_replaced, gap_order, rewritten, rewritten_from}
-use Rattle.rewriting.specs.Topmost.{holds_at, parent_holds, topmost}
-use Rattle.rewriting.proofs.Tops.{tops, top-children, tops-alone}
-use Rattle.edit_stages.specs.NewTree.{OriginTree, new_tree, is_free}
-use Rattle.edit_plan.specs.Results.{changed}
-use Rattle.edit_plan.specs.Places.{TextIsTooLong}
-use Rattle.edit_plan.specs.RewritingLaws.{IsUntouched, brought_text, filled_text, filled_text_from}
+use Rattle.edit_change.specs.Aim.{Behind, Over}
+use Rattle.edit_change.specs.Rewriting.{NumberedAim, numbers, inserts_at, replacements_at, is_replaced, gap_order, rewritten, rewritten_from}
+use Rattle.edit_change.specs.Topmost.{holds_at, parent_holds, topmost}
+use Rattle.one_pass.proofs.Tops.{tops, top-children, tops-alone}
+use Rattle.edit_change.specs.NewTree.{OriginTree, new_tree, is_free}
+use Rattle.edit_change.specs.Results.{changed}
+use Rattle.edit_change.specs.Places.{TextIsTooLong}
+use Rattle.edit_change.specs.RewritingLaws.{IsUntouched, brought_text, filled_text, filled_text_from}
 use Rattle.edit_change.specs.PositionForm.{After as place_after}
 use Rattle.edit_change.specs.declared.change.Change.{Change}
 use Rattle.edit_change.specs.declared.change.Change.TheVariants.{Insert, Replace}
 use Rattle.edit_plan.proofs.RowChanges.{no_places}
 use Rattle.edit_plan.proofs.RowsOfLengths.{doubled, falling, long, longest, P, changes_emptied}
-use Rattle.edit_plan.proofs.Relabelled.{topmost-relabelled}
-use Rattle.edit_plan.proofs.Brought.{marked, alone}
-use Rattle.edit_plan.proofs.Whole.{changed-whole, not_given}
-use Rattle.edit_plan.proofs.Untouched.{no_edits, untouched_is}
-use Rattle.stepping.proofs.Edits.{remade, remade_from}
+use Rattle.edit_change.proofs.Relabelled.{topmost-relabelled}
+use Rattle.edit_change.proofs.Brought.{marked, alone}
+use Rattle.one_pass.proofs.Whole.{changed-whole, not_given}
+use Rattle.edit_change.proofs.RewrittenAlike.{no_edits, untouched_is}
+use Rattle.edit_change.proofs.Edits.{remade, remade_from}
 use Rattle.edit_plan.proofs.Unowned.{text-unowned}
 
 -- ---- a child that no aim is at or below

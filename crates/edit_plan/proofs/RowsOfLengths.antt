@@ -10,8 +10,8 @@ use Rattle.cst_core.specs.Kinds.{IDENT, LITERAL, SOURCE_FILE}
 use Rattle.cst_core.specs.declared.element.SyntaxElement.TheVariants.{Node as node_value, Token as token_value}
 use Rattle.edit_map.proofs.RowTrees.{token, branch}
 use Rattle.edit_map.proofs.Rows.{element_of_tree, R}
-use Rattle.edit_stages.specs.NewTree.{OriginTree, new_tree}
-use Rattle.edit_plan.specs.Places.{TextIsTooLong}
+use Rattle.edit_change.specs.NewTree.{OriginTree, new_tree}
+use Rattle.edit_change.specs.Places.{TextIsTooLong}
 use Rattle.edit_change.specs.declared.change.Change.{Change}
 use Rattle.edit_change.specs.declared.change.Change.TheVariants.{Insert, Replace, ReplaceAll}
 use Rattle.edit_plan.proofs.RowChanges.{first_in, no_places}

@@ -8,10 +8,10 @@ use Rattle.cst_core.specs.Element.{address}
 use Rattle.edit_map.specs.Mapping.{IsRising}
 use Rattle.edit_map.proofs.Places.{StandsFor-unique}
 use Rattle.edit_map.proofs.Rows.{R, BB, M, NM, NR, N7, A3, mapping_of_wrapping, place_in_a_wrapping_block, mapping_of_extracting, place_in_the_block_of_an_extracted_variable, mapping_shared, no_place_where_the_copy_is_the_payload, unmapped}
-use Rattle.edit_stages.specs.NewTree.{OriginTree, is_free, new_tree}
-use Rattle.edit_plan.specs.Places.{FindsPlace, IsUnplaced, IsFirstUnplaced}
+use Rattle.edit_change.specs.NewTree.{OriginTree, is_free, new_tree}
+use Rattle.edit_change.specs.Places.{FindsPlace, IsUnplaced, IsFirstUnplaced}
 use Rattle.edit_plan.specs.Plan.{WouldMake}
-use Rattle.edit_plan.specs.Results.{changed, annotated}
+use Rattle.edit_change.specs.Results.{changed, annotated}
 use Rattle.edit_change.specs.declared.change.Change.{Change}
 use Rattle.edit_plan.proofs.RowChanges.{after, first_in, insert, replace, E, X, V}
 use Rattle.edit_plan.proofs.Rows.{changes_in_a_wrapped_block, places_in_a_wrapped_block, changes_extracting, places_extracting}

@@ -3,7 +3,7 @@ use Rattle.std.specs.Prelude.{◌≡◌, List, [], ◌∷◌, map, Option, Some,
 use Rattle.cst_core.specs.SyntaxElement.{syntax_of}
 use Rattle.edit_map.proofs.Rows.{R}
 use Rattle.edit_change.specs.Position as place
-use Rattle.rewriting.specs.Aim.{Gap, gap_of}
+use Rattle.edit_change.specs.Aim.{Gap, gap_of}
 use Rattle.edit_change.specs.ChangeAim.{position_aim}
 use Rattle.edit_change.specs.declared.position.Position.{Position}
 use Rattle.edit_change.specs.PositionForm.{FirstChild, After}

@@ -5,9 +5,10 @@ use Rattle.std.proofs.Common.{arith, sym}
 use Rattle.cst_core.specs.Tree.{text}
 use Rattle.edit_map.proofs.RowTrees.{tree_BB}
 use Rattle.edit_map.proofs.Rows.{R, BB}
-use Rattle.edit_stages.specs.NewTree.{stage_tree, stage_payload}
-use Rattle.schedule.specs.DefaultOrder.{default_first}
-use Rattle.schedule.specs.Schedule.{Numbered, ListsEachOnce, respects, owned_first, gap_first, token_first, IsAllowed, is_ready}
+use Rattle.edit_change.specs.NewTree.{stage_tree, stage_payload}
+use Rattle.edit_steps.specs.DefaultOrder.{default_first}
+use Rattle.edit_change.specs.Nesting.{Numbered}
+use Rattle.edit_steps.specs.Schedule.{ListsEachOnce, respects, owned_first, gap_first, token_first, IsAllowed, is_ready}
 use Rattle.edit_change.specs.declared.change.Change.{Change}
 use Rattle.edit_plan.proofs.RowChanges.{no_places}
 use Rattle.edit_plan.proofs.Rows.{changes_before_both_literals, changes_in_a_block, changes_in_a_wrapped_block, places_in_a_wrapped_block, changes_wrapping_twice, changes_behind_a_deleted_node, changes_behind_a_deleted_token, changes_in_one_gap, changes_of_a_comma}

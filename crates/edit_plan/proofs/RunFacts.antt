@@ -17,31 +17,31 @@ use Rattle.cst_core.specs.Path.{Path}
 use Rattle.cst_core.specs.Tree.{SyntaxTree}
 use Rattle.cst_core.specs.Green.{Branch, branch_tree}
 use Rattle.cst_core.specs.Element.{subtree}
-use Rattle.rewriting.specs.Effort.{counted}
-use Rattle.rewriting.specs.Rewriting.{NumberedAim, rewritten}
-use Rattle.rewriting.specs.inner.Pass.{kind_only}
-use Rattle.stepping.specs.StepCount.{step_builds}
+use Rattle.edit_change.specs.Effort.{counted}
+use Rattle.edit_change.specs.Rewriting.{NumberedAim, rewritten}
+use Rattle.edit_change.specs.inner.KindOnly.{kind_only}
+use Rattle.edit_steps.specs.StepCount.{step_builds}
 use Rattle.edit_change.specs.inner.AimFrom.{aim_from}
 use Rattle.edit_change.specs.declared.change.Change.{Change}
 use Rattle.edit_change.proofs.Clashes.{at-index}
-use Rattle.schedule.specs.Schedule.{is_ready, is_complete}
-use Rattle.schedule.specs.inner.Waiting.{IsWaiting, is_done}
-use Rattle.schedule.specs.inner.Waits.{standing_of}
-use Rattle.schedule.specs.declared.waiting.Standing.TheVariants.{Dropped, Undone, Done}
-use Rattle.schedule.proofs.Ordered.{waiting-ordered}
+use Rattle.edit_steps.specs.Schedule.{is_ready, is_complete}
+use Rattle.edit_steps.specs.inner.Waiting.{IsWaiting, is_done}
+use Rattle.edit_steps.specs.inner.Waits.{standing_of}
+use Rattle.edit_steps.specs.declared.order.waiting.Standing.TheVariants.{Dropped, Undone, Done}
+use Rattle.edit_steps.proofs.Ordered.{waiting-ordered}
 use Rattle.edit_change.specs.Nesting.{is_dropped}
 use Rattle.std.proofs.lemmas.Bool.{cases_Bool, false≢true}
 use mathlib.Core.Logic.{inl, inr}
-use Rattle.edit_stages.specs.NewTree.{plain, payload_of, dependents, only, new_tree}
-use Rattle.edit_stages.specs.inner.Stages as stages
-use Rattle.edit_stages.specs.inner.Stages.{IsStages, Begins, HasNumber, CanTake, Takes, CountsTaken, Taking, builds_of, done_in}
-use Rattle.edit_stages.specs.StagedChange.{has_stage, staged_aim, tree_of}
-use Rattle.edit_stages.specs.declared.stages.Stages.{Stages}
-use Rattle.edit_plan.specs.Places.{ArePlaces}
+use Rattle.edit_change.specs.NewTree.{plain, payload_of, dependents, only, new_tree}
+use Rattle.edit_steps.specs.inner.Stages as stages
+use Rattle.edit_steps.specs.inner.Stages.{IsStages, Begins, HasNumber, CanTake, Takes, CountsTaken, Taking, builds_of, done_in}
+use Rattle.edit_change.specs.StagedChange.{has_stage, staged_aim, tree_of}
+use Rattle.edit_steps.specs.declared.stages.Stages.{Stages}
+use Rattle.edit_change.specs.Places.{ArePlaces}
 use Rattle.edit_plan.specs.Plan.{Plan, IsPlan}
 use Rattle.edit_plan.specs.Run as run
 use Rattle.edit_plan.specs.Run.{Run}
-use Rattle.edit_plan.specs.inner.OwnerTables.{places_in, AimsFrom}
+use Rattle.edit_change.specs.inner.OwnerPlaces.{places_in, AimsFrom}
 use Rattle.edit_plan.specs.inner.PlanStages.{given_trees_of, told_done, IsRunning, run_of, AgreeOnPlaces, KeepsShapes}
 use Rattle.edit_plan.proofs.WholeWay.{way-whole}
 use Rattle.edit_plan.proofs.Running.{staged-agree, gives-trees, shows-tree, shows-payload, all-carried, none-told, one-more-told}

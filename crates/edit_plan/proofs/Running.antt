@@ -1,7 +1,6 @@
 -- A plan that is carried out one change at a time, by its stages.
 --     places-agree                  any two tables of places agree on owners
 --     staged-agree                  so a change aims where it does by either
---     aims-free, aims-owned         the path from which a change aims
 --     gives-trees                   what changes give, without origins, is what the stages are told
 --     shows-tree, shows-payload     the tree and the payloads at a stage, without origins
 --     told-false, none-told, one-more-told      what is told as done: at the beginning, and after one change more
@@ -21,29 +20,23 @@ use Rattle.cst_core.specs.Path.{Path, first_item}
 use Rattle.cst_core.specs.Tree.{SyntaxTree}
 use Rattle.cst_core.specs.Element.{Address, Element, address, subtree}
 use Rattle.edit_map.specs.Mapping.{Mapping, IsRising, StandsFor}
-use Rattle.rewriting.specs.Rewriting.{rewritten, rewritten_whole}
-use Rattle.rewriting.specs.inner.Pass.{kind_only}
-use Rattle.edit_change.specs.ChangeAim.{aim, aim_path}
-use Rattle.edit_change.specs.Fits.{Fits}
-use Rattle.edit_change.specs.inner.AimFrom.{aim_from}
-use Rattle.edit_change.specs.Nesting.{is_keeping, is_dropped, is_independent, owner}
+use Rattle.edit_change.specs.Rewriting.{rewritten, rewritten_whole}
+use Rattle.edit_change.specs.inner.KindOnly.{kind_only}
+use Rattle.edit_change.specs.ChangeAim.{aim}
+use Rattle.edit_change.specs.Nesting.{is_dropped, is_independent, owner}
 use Rattle.edit_change.specs.declared.change.Change.{Change}
 use Rattle.edit_change.specs.declared.change.Change.TheVariants.{Replace}
-use Rattle.schedule.specs.Schedule.{is_complete}
-use Rattle.edit_change.proofs.Aiming.{own-aim}
-use Rattle.schedule.proofs.Undropped.{all-undropped}
-use Rattle.edit_stages.specs.NewTree.{plain, origin, targets_of, payload_of, moved_path, moved_aim, independents, dependents, only, given, new_tree, stage_tree, stage_payload}
-use Rattle.edit_stages.specs.inner.Stages.{GivesTrees}
-use Rattle.edit_stages.specs.StagedChange.{staged_aim}
-use Rattle.edit_stages.proofs.Altered.{fit_at}
-use Rattle.edit_stages.proofs.Owning.{owner-keeps, target-is}
-use Rattle.edit_stages.proofs.Taking.{all_grouped, only-all}
-use Rattle.edit_plan.specs.Places.{ArePlaces, FindsPlace, HasPlace, IsPlaceIn}
+use Rattle.edit_steps.specs.Schedule.{is_complete}
+use Rattle.edit_steps.proofs.Undropped.{all-undropped}
+use Rattle.edit_change.specs.NewTree.{plain, origin, targets_of, payload_of, moved_aim, independents, dependents, only, given, new_tree, stage_tree, stage_payload}
+use Rattle.edit_steps.specs.inner.Stages.{GivesTrees}
+use Rattle.edit_change.specs.StagedChange.{staged_aim}
+use Rattle.edit_change.proofs.Owning.{owner-keeps}
+use Rattle.edit_steps.proofs.Taking.{all_grouped, only-all}
+use Rattle.edit_change.specs.Places.{ArePlaces, FindsPlace, HasPlace, IsPlaceIn}
 use Rattle.edit_plan.specs.inner.PlanStages.{told_done}
-use Rattle.edit_plan.specs.inner.OwnerTables.{AimsFrom}
-use Rattle.edit_plan.proofs.Moved.{moved-own, owned-is-inside}
-use Rattle.edit_plan.proofs.Brought.{given-labelled}
-use Rattle.edit_plan.proofs.Relabelled.{relabelled-rewritten, map-rewritten_whole}
+use Rattle.edit_change.proofs.Brought.{given-labelled}
+use Rattle.edit_change.proofs.Relabelled.{relabelled-rewritten, map-rewritten_whole}
 
 -- ---- places
 all-at : {X : Type 0} (P : X → Type 0) (xs : List X) → All P xs → (i : ℕ) (x : X) → slice_get xs i ≡ Some x → P x
@@ -83,23 +76,6 @@ staged-agree cs a b c agree = go (owner cs c) refl
     go (Some o) is =
         let f : (ℕ → Path) → Option ℕ → _ = λ p x. option_map_or (λ d. moved_aim (unwrap_or (first_item (targets_of cs d)) []) (p d) (aim c)) x (aim c) in
         ap (f a) is ∙ ap (λ p. moved_aim (unwrap_or (first_item (targets_of cs o)) []) p (aim c)) (agree o is) ∙ sym (ap (f b) is)
-
--- the path of a change by itself, or exchanged into its owner's payload
-pub aims-free : (cs : List Change) (places : ℕ → Path) (root : Element) (n : ℕ) (d : Change) (p : Path) → All (Fits root) cs → slice_get cs n ≡ Some d → owner cs d ≡ None → p ≡ aim_path d → AimsFrom cs places n p
-aims-free cs places root n d p fit at free is = λ c at_c.
-    let same : d ≡ c = same_Some d c (sym at ∙ at_c) in
-    let own : aim_from p d ≡ aim d = ap (λ q. aim_from q d) is ∙ own-aim root d (fit_at root cs fit n d at) in
-    let staged : staged_aim cs places d ≡ aim d = ap (λ x. option_map_or (λ o. moved_aim (unwrap_or (first_item (targets_of cs o)) []) (places o) (aim d)) x (aim d)) free in
-    subst (λ e. aim_from p e ≡ staged_aim cs places e) same (own ∙ sym staged)
-
-pub aims-owned : (cs : List Change) (places : ℕ → Path) (root : Element) (n o : ℕ) (d r : Change) (p : Path) → All (Fits root) cs → slice_get cs n ≡ Some d → owner cs d ≡ Some o → slice_get cs o ≡ Some r → p ≡ moved_path (aim_path r) (places o) (aim_path d) → AimsFrom cs places n p
-aims-owned cs places root n o d r p fit at its at_o is = λ c at_c.
-    let same : d ≡ c = same_Some d c (sym at ∙ at_c) in
-    let by = owner-keeps cs d o its in
-    let keeps : is_keeping r ≡ true = ap is_keeping (same_Some r by.0 (sym at_o ∙ by.1)) ∙ by.2 in
-    let own : aim_from p d ≡ moved_aim (aim_path r) (places o) (aim d) = ap (λ q. aim_from q d) is ∙ moved-own root (aim_path r) (places o) d (fit_at root cs fit n d at) (owned-is-inside cs d r o its at_o) in
-    let staged : staged_aim cs places d ≡ moved_aim (aim_path r) (places o) (aim d) = ap (λ x. option_map_or (λ e. moved_aim (unwrap_or (first_item (targets_of cs e)) []) (places e) (aim d)) x (aim d)) its ∙ ap (λ t. moved_aim t (places o) (aim d)) (target-is cs o r at_o keeps) in
-    subst (λ e. aim_from p e ≡ staged_aim cs places e) same (own ∙ sym staged)
 
 -- ---- without origins
 module _ (cs : List Change) (places : ℕ → Path) where

@@ -19,27 +19,26 @@ use Rattle.cst_core.specs.Tree.{SyntaxTree, Tree, relabelled}
 use Rattle.cst_core.specs.Element.{Address, Element, address, same_address, subtree}
 use Rattle.edit_map.specs.Mapping.{Mapping, followed}
 use Rattle.edit_change.specs.Change.{payload, targets, shared_targets}
-use Rattle.rewriting.specs.Aim.{Aim, aims_at_gap, same_gap, starts_at, replaces}
+use Rattle.edit_change.specs.Aim.{Aim, aims_at_gap, same_gap, starts_at, replaces}
 use Rattle.edit_change.specs.ChangeAim.{aim}
 use Rattle.edit_change.specs.Nesting.{region, is_keeping, surroundings, is_around, is_dropped, region_at, owner, is_independent, has_owner}
-use Rattle.rewriting.specs.Rewriting.{NumberedAim, numbers, inserts_at, replacements_at, is_replaced, gap_order, gap, rewritten, rewritten_whole}
-use Rattle.edit_stages.specs.NewTree.{Origin, OriginTree, plain, origin, moved_aim, targets_of, payload_of, is_free, independents, dependents, given, Gives, new_tree}
-use Rattle.edit_plan.specs.Results.{is_brought, changed, copies_of, annotated}
-use Rattle.rewriting.specs.Topmost.{topmost}
-use Rattle.edit_plan.specs.Places.{HasPlace, FindsPlace, ArePlaces}
-use Rattle.edit_plan.specs.Plan.{Plan, Edit, Makes, registered_elements}
-use Rattle.edit_plan.specs.RewritingLaws.{with_changes}
+use Rattle.edit_change.specs.Rewriting.{NumberedAim, numbers, inserts_at, replacements_at, is_replaced, gap_order, gap, rewritten, rewritten_whole}
+use Rattle.edit_change.specs.NewTree.{Origin, OriginTree, plain, origin, moved_aim, targets_of, payload_of, is_free, independents, dependents, given, Gives, new_tree}
+use Rattle.edit_change.specs.Results.{is_brought, changed, copies_of, annotated}
+use Rattle.edit_change.specs.Topmost.{topmost}
+use Rattle.edit_change.specs.Places.{HasPlace, FindsPlace, ArePlaces}
+use Rattle.edit_plan.specs.Plan.{Plan, Edit, Makes, registered_elements, with_changes}
 use Rattle.edit_plan.proofs.HeldSwapped.{told-swapped}
 use Rattle.cst_core.specs.SyntaxElement.{syntax_at}
 use Rattle.edit_change.specs.declared.change.Change.{Change}
 use Rattle.edit_change.proofs.Lists.{all_weaker}
-use Rattle.edit_plan.proofs.GapRule.{gap_order-map}
-use Rattle.edit_plan.proofs.Untouched.{rewritten-same}
-use Rattle.stepping.proofs.Edits.{taken, filled, slot-filled}
-use Rattle.edit_plan.proofs.Settled.{given_is, given_unique}
+use Rattle.edit_change.proofs.GapRule.{gap_order-map}
+use Rattle.edit_change.proofs.RewrittenAlike.{rewritten-same}
+use Rattle.edit_change.proofs.Edits.{taken, filled, slot-filled}
+use Rattle.edit_change.proofs.Settled.{given_is, given_unique}
 use Rattle.edit_plan.proofs.Exchanged.{exchanged, exchanged-twice, nat_eq-exchanged, last_item-map, filter_map-option_map, slice_get-exchanged, any-exchanged, position-exchanged, kept-exchanged}
-use Rattle.edit_plan.proofs.Relabelled.{relabelled-rewritten, map-rewritten_whole, paths-relabelled, holds-relabelled, relabelled-twice, topmost-relabelled}
-use Rattle.edit_stages.proofs.Apart.{same_gap_from, start_of, starts, shared_from_start, shared_from_region, moved-same_gap, moved-start_of, owned_below}
+use Rattle.edit_change.proofs.Relabelled.{relabelled-rewritten, map-rewritten_whole, paths-relabelled, holds-relabelled, relabelled-twice, topmost-relabelled}
+use Rattle.edit_change.proofs.Apart.{same_gap_from, start_of, starts, shared_from_start, shared_from_region, moved-same_gap, moved-start_of, owned_below}
 
 -- ---- the aims of the changes that pass
 abbrev selected : (Change → Bool) → (Change → Aim) → List (ℕ × Change) → List NumberedAim

@@ -9,7 +9,7 @@ use Rattle.cst_core.specs.SyntaxElement.{element_of}
 use Rattle.cst_core.specs.declared.element.SyntaxElement.{SyntaxElement}
 use Rattle.edit_map.specs.Mapping.{mapped_elements}
 use Rattle.edit_change.specs.Change.{elements}
-use Rattle.edit_plan.specs.Places.{elements_held}
+use Rattle.edit_change.specs.Places.{elements_held}
 use Rattle.edit_plan.specs.Plan.{Plan, registered_elements}
 use Rattle.edit_plan.specs.inner.PlanRun.{TellsOf}
 

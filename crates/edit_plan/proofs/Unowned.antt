@@ -1,24 +1,19 @@
 -- Lists of changes none of which is owned: each change gives its payload as it was.
-use Rattle.std.specs.Prelude.{◌≡◌, ℕ, zero, suc, ◌+◌, Bool, true, false, cond, not, ◌&&◌, List, [], ◌∷◌, map, filter, flat_map, slice_get, Some, None, is_none, ◌++◌, refl}
+use Rattle.std.specs.Prelude.{◌≡◌, ℕ, ◌+◌, Bool, true, false, cond, not, ◌&&◌, List, [], ◌∷◌, map, filter, flat_map, None, is_none, ◌++◌, refl}
 use Rattle.std.specs.List.{AllByRecursion, enumerate_from}
-use Rattle.std.proofs.Common.{ap, ap₂, sym, subst, ◌∙◌}
+use Rattle.std.proofs.Common.{ap, ap₂, sym, ◌∙◌}
 use Rattle.std.proofs.lemmas.List.{append-nil}
-use Rattle.std.proofs.lemmas.Option.{none-some, same_Some}
+use Rattle.std.proofs.lemmas.Option.{none-some}
 use Rattle.cst_core.specs.Tree.{text}
 use Rattle.cst_core.specs.Element.{Element, address, subtree}
 use Rattle.cst_core.specs.Path.{Path}
-use Rattle.edit_change.specs.Nesting.{is_dropped, owner, is_independent}
-use Rattle.edit_stages.specs.NewTree.{OriginTree, origin, plain, change_aims, independents, payload_of, given, new_tree}
-use Rattle.schedule.specs.Schedule.{undropped}
-use Rattle.edit_plan.specs.RewritingLaws.{brought_text, text_filled}
+use Rattle.edit_change.specs.Nesting.{is_dropped, owner, is_independent, undropped}
+use Rattle.edit_change.specs.NewTree.{OriginTree, origin, plain, change_aims, independents, payload_of, given, new_tree}
+use Rattle.edit_change.specs.RewritingLaws.{brought_text, text_filled}
 use Rattle.edit_change.specs.declared.change.Change.{Change}
-use Rattle.edit_plan.proofs.Settled.{owns_nothing, plain-given}
+use Rattle.edit_change.proofs.Lists.{all_at}
+use Rattle.edit_change.proofs.Settled.{owns_nothing, plain-given}
 use Rattle.edit_plan.proofs.Filled.{flat_map-text, text-relabelled, text-rewritten_whole}
-
-pub all_at : {X : Type 0} (P : X → Type 0) (xs : List X) (i : ℕ) (x : X) → AllByRecursion P xs → slice_get xs i ≡ Some x → P x
-all_at P [] i x a is = absurd (none-some x is)
-all_at P (y ∷ xs) zero x a is = subst P (same_Some y x is) a.0
-all_at P (y ∷ xs) (suc i) x a is = all_at P xs i x a.1 is
 
 -- the independent ones are those that are not dropped
 kept_alike : (changes : List Change) (k : ℕ) (cs : List Change) → AllByRecursion (λ c. owner changes c ≡ None) cs → filter (λ d. is_independent changes d.1) (enumerate_from k cs) ≡ filter (λ d. not (is_dropped changes d.1)) (enumerate_from k cs)

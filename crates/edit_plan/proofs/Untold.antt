@@ -5,9 +5,9 @@ use Rattle.std.proofs.Common.{ap, ap₂, ◌∙◌}
 use mathlib.Core.Path.{fun_ext}
 use Rattle.cst_core.specs.Path.{Path}
 use Rattle.cst_core.specs.Tree.{at, paths, label}
-use Rattle.edit_stages.specs.NewTree.{Origin, OriginTree}
-use Rattle.rewriting.specs.Topmost.{holds_at, parent_holds}
-use Rattle.edit_plan.specs.Results.{is_brought, changed}
+use Rattle.edit_change.specs.NewTree.{Origin, OriginTree}
+use Rattle.edit_change.specs.Topmost.{holds_at, parent_holds}
+use Rattle.edit_change.specs.Results.{is_brought, changed}
 
 filter-none : {X : Type 0} (xs : List X) → filter (λ x. false) xs ≡ []
 filter-none [] = refl

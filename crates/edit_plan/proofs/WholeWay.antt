@@ -17,12 +17,13 @@ use Rattle.edit_change.specs.Fits.{Fits}
 use Rattle.edit_change.specs.Nesting.{is_keeping, owner}
 use Rattle.edit_change.specs.declared.change.Change.{Change}
 use Rattle.edit_change.specs.declared.change.Change.TheVariants.{Replace}
-use Rattle.stepping.specs.StepCount.{step_builds}
-use Rattle.edit_stages.specs.StagedChange.{staged_aim, tree_of}
-use Rattle.edit_stages.proofs.Altered.{fit_at, native_node, target_native}
-use Rattle.edit_stages.proofs.Live.{free-live, owned-live, target-root, tree_of-free, tree_of-owned}
-use Rattle.edit_stages.proofs.Owning.{owner-keeps}
-use Rattle.edit_plan.specs.Places.{ArePlaces, HasPlace, elements_held}
+use Rattle.edit_steps.specs.StepCount.{step_builds}
+use Rattle.edit_change.specs.StagedChange.{staged_aim, tree_of}
+use Rattle.edit_change.proofs.Moved.{fit_at}
+use Rattle.edit_steps.proofs.Altered.{native_node, target_native}
+use Rattle.edit_steps.proofs.Live.{free-live, owned-live, target-root, tree_of-free, tree_of-owned}
+use Rattle.edit_change.proofs.Owning.{owner-keeps}
+use Rattle.edit_change.specs.Places.{ArePlaces, HasPlace, elements_held}
 use Rattle.edit_plan.specs.Plan.{Plan, IsPlan, registered_elements}
 use Rattle.edit_plan.specs.Run.{way_length}
 use Rattle.edit_plan.specs.inner.PlanStages.{KeepsShapes}

@@ -11,11 +11,11 @@ use Rattle.cst_core.specs.Path.{Path}
 use Rattle.cst_core.specs.Tree.{SyntaxTree, at}
 use Rattle.cst_core.specs.Green.{branch_tree}
 use Rattle.cst_core.specs.Element.{NumbersTell}
-use Rattle.rewriting.specs.Topmost.{paths_of}
-use Rattle.edit_stages.specs.NewTree.{OriginTree, plain, is_free}
-use Rattle.edit_plan.specs.Results.{changed, annotated}
-use Rattle.edit_plan.specs.Places.{ArePlaces, elements_held}
-use Rattle.edit_plan.specs.TouchedNodes.{touched_by, Raises}
+use Rattle.edit_change.specs.Topmost.{paths_of}
+use Rattle.edit_change.specs.NewTree.{OriginTree, plain, is_free}
+use Rattle.edit_change.specs.Results.{changed, annotated}
+use Rattle.edit_change.specs.Places.{ArePlaces, elements_held}
+use Rattle.edit_change.specs.TouchedNodes.{touched_by, Raises}
 use Rattle.edit_plan.specs.Plan.{Plan, WouldMake, MakesTooLong, registered_elements, is_registered}
 use Rattle.edit_plan.specs.declared.rewritten.Rewritten.{Rewritten}
 use Rattle.edit_plan.specs.declared.engine_error.EngineError.{EngineError}

@@ -2,10 +2,10 @@
 --     of_order                      the refusal that stands for one of the order
 --     ExecuteRefuses                the first clause of allowed orders that does not hold; else why the new tree is refused
 use Rattle.std.specs.Prelude.{ℕ, List}
-use Rattle.schedule.specs.OrderRefusal.{OrderRefuses}
-use Rattle.schedule.specs.Schedule.{IsAllowed}
-use Rattle.schedule.specs.declared.order_error.OrderError.{OrderError}
-use Rattle.schedule.specs.declared.order_error.OrderError.TheVariants as order
+use Rattle.edit_steps.specs.OrderRefusal.{OrderRefuses}
+use Rattle.edit_steps.specs.Schedule.{IsAllowed}
+use Rattle.edit_steps.specs.declared.order.order_error.OrderError.{OrderError}
+use Rattle.edit_steps.specs.declared.order.order_error.OrderError.TheVariants as order
 use Rattle.edit_plan.specs.Plan.{Plan, RunRefuses}
 use Rattle.edit_plan.specs.declared.edit_error.EditError.TheVariants.{Memory}
 use Rattle.edit_plan.specs.declared.execute_error.ExecuteError.{ExecuteError}

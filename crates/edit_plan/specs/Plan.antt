@@ -1,6 +1,7 @@
 -- Plans and the edits that they make, as contracts see them, and what is refused.
 --     Plan, IsPlan                  the root, the changes, the registrations (elements with annotations) and the mapping; what is true of every plan
 --     new_plan                      the plan of these, where code has the lists
+--     with_changes                  a plan with other changes
 --     BuildRefuses                  why a plan is not built
 --     Edit                          the old root, the new root, the changed elements, and for annotations the elements that are found
 --     new_edit                      the edit of these, where code has the list of the changed elements
@@ -23,10 +24,10 @@ use Rattle.edit_change.specs.Fits.{Fits}
 use Rattle.edit_map.specs.Mapping.{Mapping}
 use Rattle.edit_map.specs.Builder.{IsMapping}
 use Rattle.edit_change.specs.Nesting.{first_clash}
-use Rattle.edit_stages.specs.NewTree.{OriginTree, plain, is_free, new_tree}
-use Rattle.edit_plan.specs.Results.{changed, annotated, paths_with, stand_in_path}
+use Rattle.edit_change.specs.NewTree.{OriginTree, plain, is_free, new_tree}
+use Rattle.edit_change.specs.Results.{changed, annotated, paths_with, stand_in_path}
 use Rattle.edit_plan.specs.AnnotationTable.{found_for}
-use Rattle.edit_plan.specs.Places.{IsFirstUnplaced, ArePlaces, TextIsTooLong, elements_held}
+use Rattle.edit_change.specs.Places.{IsFirstUnplaced, ArePlaces, TextIsTooLong, elements_held}
 use Rattle.edit_change.specs.declared.change.Change.{Change}
 use Rattle.edit_plan.specs.declared.edit_error.EditError.{EditError}
 use Rattle.edit_plan.specs.declared.edit_error.EditError.TheVariants.{Intersecting, MissingMapping, TooLong, NoTreeNumber, Memory}
@@ -39,6 +40,9 @@ pub record Plan : Type 0 where
 
 abbrev pub new_plan : Element → Vec Change Global → Vec (SyntaxElement × ℕ) Global → Mapping → Plan
 new_plan root changes rs m = record { root = root; changes = changes.items; registrations = rs.items; mapping = m }
+
+abbrev pub with_changes : Plan → List Change → Plan
+with_changes p changes = record p { changes = changes }
 
 pub record IsPlan (p : Plan) : Type 0 where
   pub is_root : p.root.path ≡ []

@@ -14,15 +14,15 @@ use Rattle.cst_core.specs.Path.{Path}
 use Rattle.cst_core.specs.Tree.{SyntaxTree}
 use Rattle.cst_core.specs.Green.{Branch, branch_tree}
 use Rattle.cst_core.specs.Element.{NumbersTell, subtree}
-use Rattle.rewriting.specs.Aim.{parents}
-use Rattle.rewriting.specs.Effort.{counted}
-use Rattle.stepping.specs.StepCount.{step_builds}
-use Rattle.schedule.specs.Schedule.{comes_first, is_ready}
+use Rattle.edit_change.specs.Aim.{parents}
+use Rattle.edit_change.specs.Effort.{counted}
+use Rattle.edit_steps.specs.StepCount.{step_builds}
+use Rattle.edit_steps.specs.Schedule.{comes_first, is_ready}
 use Rattle.edit_change.specs.Nesting.{is_dropped}
 use Rattle.edit_change.specs.declared.change.Change.{Change}
-use Rattle.edit_stages.specs.NewTree.{plain, stage_tree, stage_payload}
-use Rattle.edit_stages.specs.StagedChange.{has_stage, staged_aim, tree_of}
-use Rattle.edit_plan.specs.Places.{ArePlaces, elements_held}
+use Rattle.edit_change.specs.NewTree.{plain, stage_tree, stage_payload}
+use Rattle.edit_change.specs.StagedChange.{has_stage, staged_aim, tree_of}
+use Rattle.edit_change.specs.Places.{ArePlaces, elements_held}
 use Rattle.edit_plan.specs.Plan.{Plan, IsPlan, registered_elements}
 
 pub record Run : Type 0 where

@@ -1,10 +1,8 @@
 -- What private calls cite, and the crates above for theirs: no contract that a user calls by names any of it.
 pub mod FirstNode
-pub mod OwnerTables
+pub mod PlaceTables
 pub mod PlacesRefusal
 pub mod PlanRun
 pub mod PlanStages
-pub mod Sought
-pub mod Marks
-pub mod GivenTables
+pub mod Annotating
 pub mod Codes

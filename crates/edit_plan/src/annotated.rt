@@ -3,8 +3,8 @@
 ghost use Rattle.std.specs.Prelude.{map, All, IfOk, OnOk};
 ghost use Rattle.cst_core.specs.Element.{IsElement, element_at};
 ghost use Rattle.edit_plan.specs.Engine.{annotated_path};
-ghost use Rattle.edit_plan.specs.inner.Marks.{Annotates, AreNumbered, LeadByAnnotation};
-ghost use Rattle.edit_plan.specs.inner.Marks.{TellOf, AreFollowed};
+ghost use Rattle.edit_plan.specs.inner.Annotating.{Annotates, AreNumbered, LeadByAnnotation};
+ghost use Rattle.edit_plan.specs.inner.Annotating.{TellOf, AreFollowed};
 
 use crate::annotation::SyntaxAnnotation;
 use crate::annotation_table::AnnotationTable;

@@ -1,7 +1,7 @@
 //! The elements of the new tree that are found for each annotation.
 
 ghost use Rattle.std.specs.Prelude.{ℕ, ◌≡◌, [], IfOk, OnOk};
-ghost use Rattle.edit_plan.specs.inner.Marks.{elements_at, HasElementMore};
+ghost use Rattle.edit_plan.specs.inner.Annotating.{elements_at, HasElementMore};
 
 use crate::annotation::SyntaxAnnotation;
 use cst_core::SyntaxElement;

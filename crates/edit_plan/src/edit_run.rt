@@ -3,7 +3,7 @@
 ghost use Rattle.std.specs.Prelude.{◌≡◌, ◌+◌, ◌<◌, Some, true, slice_set, length, slice_get, IfOk, IfErr, OnOk, OnErr};
 ghost use Rattle.cst_core.specs.Green.{branch_tree, length_limit};
 ghost use Rattle.cst_core.specs.Tree.{text_length};
-ghost use Rattle.schedule.specs.Schedule.{is_ready, is_complete};
+ghost use Rattle.edit_steps.specs.Schedule.{is_ready, is_complete};
 ghost use Rattle.edit_plan.specs.Plan.{Makes, RunRefuses};
 ghost use Rattle.edit_plan.specs.Engine.{HasRewritten, EngineRefuses, CountsTouched};
 ghost use Rattle.edit_plan.specs.Run.{IsRun, new_run, is_done, TellsReady, CanStep, ShowsTree, ShowsPayload, CountsStep};
@@ -15,7 +15,7 @@ use crate::one_pass_engine::OnePassEngine;
 use crate::plan::EditPlan;
 use crate::rewritten::Rewritten;
 use cst_core::{GreenNode, TreeIds};
-use edit_stages::Stages;
+use edit_steps::Stages;
 use std::alloc::{AllocError, Global};
 use std::marker::Model;
 
@@ -32,7 +32,7 @@ pub struct EditRun<'a> {
 impl<'a> Model for EditRun<'a> {
     ghost use Rattle.edit_plan.specs.Run.{Run};
     ghost use Rattle.edit_plan.specs.inner.Codes.{run_code};
-    ghost use Rattle.edit_stages.specs.inner.Stages.{builds_of, done_in};
+    ghost use Rattle.edit_steps.specs.inner.Stages.{builds_of, done_in};
 
     ghost Value = { Run };
 

@@ -3,8 +3,8 @@
 ghost use Rattle.std.specs.Prelude.{◌≡◌, ◌+◌, ◌<◌, IfOk, IfErr, OnOk, OnErr};
 ghost use Rattle.cst_core.specs.Green.{length_limit};
 ghost use Rattle.cst_core.specs.Tree.{text_length};
-ghost use Rattle.schedule.specs.Schedule.{IsAllowed};
-ghost use Rattle.schedule.specs.DefaultOrder.{IsDefaultOrder};
+ghost use Rattle.edit_steps.specs.Schedule.{IsAllowed};
+ghost use Rattle.edit_steps.specs.DefaultOrder.{IsDefaultOrder};
 ghost use Rattle.edit_plan.specs.Plan.{Makes};
 ghost use Rattle.edit_plan.specs.ExecuteRefusal.{ExecuteRefuses};
 ghost use Rattle.edit_plan.specs.inner.PlanStages.{IsCarriedOut};
@@ -14,7 +14,7 @@ use crate::edit_run::EditRun;
 use crate::execute_error::ExecuteError;
 use crate::plan::EditPlan;
 use cst_core::TreeIds;
-use schedule::{check, default_order};
+use edit_steps::{check, default_order};
 use std::alloc::{AllocError, Global};
 
 impl EditPlan {

@@ -1,5 +1,5 @@
 use crate::edit_error::EditError;
-use schedule::OrderError;
+use edit_steps::OrderError;
 use std::alloc::{AllocError, AllocFailed};
 use thiserror::Error;
 

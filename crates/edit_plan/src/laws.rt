@@ -11,17 +11,18 @@ ghost use Rattle.edit_change.specs.declared.change.Change.TheVariants.{Replace};
 ghost use Rattle.edit_map.specs.Mapping.{Mapping, mapped_elements};
 ghost use Rattle.edit_map.specs.Builder.{ArePairs};
 ghost use Rattle.edit_change.specs.Change.{shared_targets};
-ghost use Rattle.rewriting.specs.Aim.{aims_at_gap, same_gap};
+ghost use Rattle.edit_change.specs.Aim.{aims_at_gap, same_gap};
 ghost use Rattle.edit_change.specs.ChangeAim.{aim};
 ghost use Rattle.edit_change.specs.Nesting.{owner, region};
-ghost use Rattle.rewriting.specs.Rewriting.{NumberedAim, gap, rewritten};
-ghost use Rattle.edit_stages.specs.NewTree.{Origin, OriginTree, origin, plain, payload_of, is_free, given, Gives, new_tree, stage_tree};
+ghost use Rattle.edit_change.specs.Rewriting.{NumberedAim, gap, rewritten};
+ghost use Rattle.edit_change.specs.NewTree.{Origin, OriginTree, origin, plain, payload_of, is_free, given, Gives, new_tree, stage_tree};
 ghost use Rattle.edit_plan.specs.AnnotationTable.{found_for};
 ghost use Rattle.edit_plan.specs.Plan.{Plan, Edit, IsPlan, Makes, registered_elements};
-ghost use Rattle.edit_plan.specs.Results.{changed};
-ghost use Rattle.edit_plan.specs.Places.{HasPlace, elements_held};
-ghost use Rattle.schedule.specs.Schedule.{IsAllowed, index_in, is_ready};
-ghost use Rattle.edit_plan.specs.RewritingLaws.{StandsThere, IsUntouched, is_at_depth, changed_text, with_changes};
+ghost use Rattle.edit_change.specs.Results.{changed};
+ghost use Rattle.edit_change.specs.Places.{HasPlace, elements_held};
+ghost use Rattle.edit_steps.specs.Schedule.{IsAllowed, index_in, is_ready};
+ghost use Rattle.edit_change.specs.RewritingLaws.{StandsThere, IsUntouched, is_at_depth, changed_text};
+ghost use Rattle.edit_plan.specs.Plan.{with_changes};
 
 use edit_map::laws::{pairs_rise, place_is_unique, place_keeps_the_shape};
 

@@ -4,8 +4,6 @@
 mod annotated;
 mod annotation;
 mod annotation_table;
-mod by_depth;
-mod dependent;
 mod edit;
 mod edit_error;
 mod edit_run;
@@ -14,16 +12,13 @@ mod engine_error;
 mod execute;
 mod execute_error;
 mod first_node;
-mod given;
 pub mod laws;
-mod mark_paths;
 mod one_pass_engine;
 mod places;
 mod plan;
 mod plan_stages;
 mod rewritten;
 mod run;
-mod sought;
 mod splice_engine;
 
 pub use annotation::{Annotations, SyntaxAnnotation};

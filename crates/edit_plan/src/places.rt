@@ -3,17 +3,17 @@
 ghost use Rattle.std.specs.Prelude.{ℕ, true, ◌≡◌, ◌<◌, map, length, slice_get, None, Some, IfOk, IfErr, OnOk};
 ghost use Rattle.edit_change.specs.inner.Fate.{fate};
 ghost use Rattle.edit_change.specs.Nesting.{is_keeping};
-ghost use Rattle.edit_plan.specs.Places.{ArePlaces};
+ghost use Rattle.edit_change.specs.Places.{ArePlaces};
 ghost use Rattle.edit_map.specs.Mapping.{path_in};
-ghost use Rattle.edit_plan.specs.inner.OwnerTables.{path_at, places_in, IsPlaceOf, IsPlaced, replaced_by};
-ghost use Rattle.edit_plan.specs.inner.OwnerTables.{IsFoundPlace, PlacesStay, TellsPlace};
+ghost use Rattle.edit_change.specs.inner.OwnerPlaces.{path_at, places_in};
+ghost use Rattle.edit_plan.specs.inner.PlaceTables.{IsPlaceOf, IsPlaced, replaced_by};
+ghost use Rattle.edit_plan.specs.inner.PlaceTables.{IsFoundPlace, PlacesStay, TellsPlace};
 ghost use Rattle.edit_plan.specs.inner.PlacesRefusal.{PlacesRefuse};
 ghost use Rattle.edit_change.specs.declared.change.Change.{Change};
 
-use crate::dependent::owner_of;
 use crate::edit_error::EditError;
 use cst_core::{SyntaxElement, SyntaxNode};
-use edit_change::{Change, Fate, aim_path};
+use edit_change::{Change, Fate, aim_path, owner_of};
 use edit_map::SyntaxMapping;
 use edit_map::laws::place_is_unique;
 use std::alloc::{AllocError, Global};

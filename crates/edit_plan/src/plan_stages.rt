@@ -1,15 +1,14 @@
 //! The stages of a plan: before anything is done, and after one change more.
 
 ghost use Rattle.std.specs.Prelude.{◌≡◌, true, false, map, slice_set, IfOk, OnOk, OnErr};
-ghost use Rattle.edit_stages.specs.inner.Stages.{builds_of, done_in};
+ghost use Rattle.edit_steps.specs.inner.Stages.{builds_of, done_in};
 ghost use Rattle.edit_plan.specs.Run.{CanStep, CountsStep};
 ghost use Rattle.edit_plan.specs.inner.PlanStages.{AgreeOnPlaces, IsRunning, KeepsShapes, run_of};
 
-use crate::dependent::staged_path;
 use crate::plan::EditPlan;
-use edit_change::numbered_aim_from;
+use edit_change::{numbered_aim_from, staged_path};
 use edit_map::laws::{pairs_rise, place_is_unique, place_keeps_the_shape};
-use edit_stages::Stages;
+use edit_steps::Stages;
 use std::alloc::{AllocError, Global};
 
 impl EditPlan {

@@ -1,47 +1,26 @@
 //! What finishing an edit does, in the order in which it happens.
 
-ghost use Rattle.std.specs.Prelude.{◌≡◌, ◌+◌, ◌<◌, ℕ, List, [], ◌∷◌, map, find, length, option_map, All, Some, true, IfOk, IfErr, OnOk, OnErr};
+ghost use Rattle.std.specs.Prelude.{◌≡◌, ◌+◌, ◌<◌, map, length, All, Some, true, IfOk, IfErr, OnOk, OnErr};
 ghost use Rattle.cst_core.specs.Green.{branch_tree, length_limit};
 ghost use Rattle.cst_core.specs.Tree.{text_length};
-ghost use Rattle.cst_core.specs.Element.{Element, IsElement, element_at};
-ghost use Rattle.cst_core.specs.GreenElement.{element_trees};
+ghost use Rattle.cst_core.specs.Element.{IsElement, element_at};
 ghost use Rattle.cst_core.specs.SyntaxElement.{syntax_at};
-ghost use Rattle.cst_core.specs.Path.{has_path};
-ghost use Rattle.rewriting.specs.inner.Aimed.{aims_of};
-ghost use Rattle.rewriting.specs.Topmost.{paths_of};
-ghost use Rattle.edit_change.specs.Change.{targets};
-ghost use Rattle.edit_change.specs.inner.Fate.{fate};
-ghost use Rattle.edit_change.specs.Fits.{Fits};
-ghost use Rattle.edit_stages.specs.NewTree.{independents};
+ghost use Rattle.edit_change.specs.Topmost.{paths_of};
 ghost use Rattle.edit_plan.specs.Plan.{Makes, RunRefuses};
 ghost use Rattle.edit_plan.specs.Engine.{HasRewritten, EngineRefuses, RanBefore, CountsTouched};
-ghost use Rattle.edit_plan.specs.inner.PlanRun.{AreOwned, FindsInRoot, HasMade, KeepsTop};
-ghost use Rattle.edit_plan.specs.inner.PlanRun.{root_rewritten, CountsRoot, IsOfRoot};
+ghost use Rattle.edit_plan.specs.inner.PlanRun.{IsOfRoot, IsPlanned};
 
 use crate::annotated::{annotated_paths, elements_by_annotation, registered_copies};
-use crate::dependent::{Dependent, dependents};
 use crate::edit::SyntaxEdit;
 use crate::edit_error::EditError;
 use crate::engine::EditEngine;
 use crate::engine_error::EngineError;
-use crate::given::given_table;
-use crate::mark_paths::mark_paths;
 use crate::plan::EditPlan;
 use crate::rewritten::Rewritten;
-use crate::sought::SoughtIndex;
-use cst_core::{GreenNode, LENGTH_LIMIT, SyntaxElement, SyntaxNode, TreeIds};
-use edit_change::{Change, Fate, node_for_root, numbered_aim};
-use edit_stages::only_node;
-use rewriting::{Aimed, GivenTable, Rebuilt, rebuild_whole};
+use cst_core::{LENGTH_LIMIT, SyntaxElement, SyntaxNode, TreeIds};
+use edit_change::Planned;
+use one_pass::{OnePass, rewrite};
 use std::alloc::{AllocError, Global};
-
-// A tree that is not a root's yet, for each of some elements the paths of its copies, and the paths of the elements that changes brought.
-#[derive(Drop)]
-struct Made {
-    green: GreenNode,
-    copies: Vec<Vec<Vec<usize>>>,
-    changed: Vec<Vec<usize>>,
-}
 
 impl EditPlan {
     /// Carries the plan out by an engine: the new tree under the next number of `ids`, and its changed elements.
@@ -116,6 +95,20 @@ impl EditPlan {
         Ok(rewritten)
     }
 
+    // What an engine is told of the plan.
+    fn planned(&self) -> Planned<'_>
+        ensures root { result.root.now ≡ self.now.root }
+        ensures changes { result.changes.now ≡ self.now.changes }
+        ensures is { IsPlanned self.now result.fates.now result.places.now }
+    {
+        Planned {
+            root: &self.root,
+            changes: &self.changes,
+            fates: &self.fates,
+            places: &self.places,
+        }
+    }
+
     // The new tree, and the paths of its changed and annotated elements. `builds` counts the nodes that are built.
     pub(crate) fn rewritten_tree(
         &self,
@@ -125,12 +118,13 @@ impl EditPlan {
         ensures made { IfOk result (HasRewritten self.now) }
         ensures count { OnOk result (CountsTouched self.now builds.old builds.new) }
     {
+        self.keep_shapes();
         let registered = registered_copies(alloc, &self.mapping, &self.registrations)?;
-        let Made {
+        let OnePass {
             green,
             copies,
             changed,
-        } = self.marked_tree(alloc, &registered, builds)?;
+        } = rewrite(alloc, self.planned(), &registered, builds)?;
         let annotated = annotated_paths(alloc, &self.registrations, copies)?;
         Ok(Rewritten {
             green,
@@ -138,106 +132,6 @@ impl EditPlan {
             annotated,
         })
     }
-
-    // The new tree, the paths of the copies of each of these elements, and those of changed elements. The number of each element is its
-    // mark, and the next one is that of what changes without an owner give.
-    fn marked_tree(
-        &self,
-        alloc: Global,
-        registered: &[SyntaxElement],
-        builds: &mut u64,
-    ) -> Result<Made, AllocError>
-        ensures count { OnOk result (CountsTouched self.now builds.old builds.new) }
-        ensures made { IfOk result (HasMade self.now registered.now) }
-    {
-        let aims = self.aims(alloc)?;
-        let dependents = self.dependents(alloc)?;
-        let index = SoughtIndex::of(alloc, registered)?;
-        let mut given = given_table(alloc, &self.changes, &dependents, &index, builds)?;
-        given.top = Some(registered.len());
-        let Rebuilt { elements, marks } = self.rebuilt_root(alloc, &aims, &index, &given, builds)?;
-        self.keep_top();
-        self.keep_shapes();
-        let paths = mark_paths(alloc, marks, registered.len())?;
-        Ok(Made {
-            green: only_node(elements),
-            copies: paths.lists,
-            changed: paths.others,
-        })
-    }
-
-    // The changes without an owner, by where they aim.
-    fn aims(&self, alloc: Global) -> Result<Vec<Aimed<'_>>, AllocError>
-        ensures { IfOk result (λ v. aims_of v.items ≡ independents self.now.changes) }
-    {
-        independent_aims(alloc, &self.changes, &self.fates)
-    }
-
-    // What each change owns, by its number.
-    fn dependents(&self, alloc: Global) -> Result<Vec<Vec<Dependent<'_>>>, AllocError>
-        ensures long { IfOk result (λ v. length v.items ≡ length self.now.changes) }
-        ensures dependents { IfOk result (λ v. AreOwned self.now v.items) }
-    {
-        dependents(alloc, &self.changes, &self.fates, &self.places)
-    }
-
-    // What stands in the place of the root, with the marks of it: those of a table, and those of what changes give.
-    fn rebuilt_root(
-        &self,
-        alloc: Global,
-        aims: &[Aimed],
-        index: &SoughtIndex,
-        given: &GivenTable,
-        builds: &mut u64,
-    ) -> Result<Rebuilt, AllocError>
-        ensures count { OnOk result (CountsRoot self.now aims.now builds.old builds.new) }
-        ensures trees { IfOk result (λ r. element_trees r.elements.items ≡ root_rewritten self.now given.now aims.now) }
-        ensures marks { IfOk result (λ r. FindsInRoot self.now given.now aims.now index.now r.marks) }
-    {
-        let root = SyntaxElement::Node(self.root.try_clone(alloc)?);
-        let old = root.green(alloc)?;
-        let sought = index.at(&root);
-        let rebuilt = rebuild_whole(alloc, &old, aims, sought, given, builds)?;
-        Ok(rebuilt)
-    }
-
-    // One node stands in the place of the root: the root itself, or the node that replaces it.
-    fn keep_top(&self)
-        ensures { KeepsTop self.now }
-    {
-        match replacing_root(&self.changes) {
-            Some(change) => {
-                let _ = node_for_root(change);
-            }
-            None => {}
-        }
-    }
-}
-
-// The changes without an owner, by where they aim.
-fn independent_aims<'a>(
-    alloc: Global,
-    changes: &'a [Change],
-    fates: &[Fate],
-) -> Result<Vec<Aimed<'a>>, AllocError>
-    requires fit { (root : Element) × All (Fits root) changes.now }
-    requires fates { fates.now ≡ map (fate changes.now) changes.now }
-    ensures { IfOk result (λ v. aims_of v.items ≡ independents changes.now) }
-{
-    let mut aims = Vec::with_capacity(alloc, changes.len())?;
-    for number in 0..changes.len() {
-        if fates[number].is_independent() {
-            aims.push(numbered_aim(&changes[number], number))?;
-        }
-    }
-    Ok(aims)
-}
-
-// The change that replaces the root, if one does.
-fn replacing_root(changes: &[Change]) -> Option<&Change>
-    ensures { option_map (λ c. c.now) result ≡ find (λ c. has_path (targets c) []) changes.now }
-{
-    changes.iter().find(|change| change.replaces_root())
 }
 
 // The elements that these paths lead to, counted from a root.

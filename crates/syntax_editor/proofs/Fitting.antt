@@ -10,7 +10,7 @@ use Rattle.cst_core.specs.declared.element.SyntaxElement.{SyntaxElement}
 use Rattle.cst_core.specs.declared.element.SyntaxElement.TheVariants.{Node, Token}
 use Rattle.edit_change.specs.declared.change.Change.{Change}
 use Rattle.edit_change.specs.declared.change.Change.TheVariants.{Insert, InsertAll, Replace, ReplaceWithMany, ReplaceAll}
-use Rattle.spacing.specs.Table.{first_fit}
+use Rattle.whitespace.specs.Table.{first_fit}
 use Rattle.change_list.specs.Recording.{with_replacement, is_replace_of, delete, replace}
 use Rattle.edit_plan.specs.Fits.{is_native, is_native_position, is_root, is_one_node, is_range, Fits}
 use Rattle.syntax_editor.specs.RecordCall.{RecordCall, Inserting, InsertingAll, Deleting, Replacing, ReplacingWithMany, DeletingAll, ReplacingAll, recorded, refusal}

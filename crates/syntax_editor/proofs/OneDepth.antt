@@ -15,7 +15,7 @@ use Rattle.edit_change.specs.declared.change.Change.{Change}
 use Rattle.edit_change.specs.declared.change.Change.TheVariants.{Insert, InsertAll, Replace, ReplaceWithMany, ReplaceAll}
 use Rattle.edit_change.specs.Nesting.{region_of_one}
 use Rattle.edit_change.proofs.Positions.{lt-step}
-use Rattle.edit_plan.specs.RewritingLaws.{is_at_depth}
+use Rattle.edit_change.specs.RewritingLaws.{is_at_depth}
 use Rattle.change_list.specs.Recording.{are_one, with_replacement, is_replace_of, delete, replace}
 use Rattle.change_list.proofs.TakenUp.{all-taken}
 use Rattle.syntax_editor.specs.RecordCall.{RecordCall, Inserting, InsertingAll, Deleting, Replacing, ReplacingWithMany, DeletingAll, ReplacingAll, recorded}

@@ -9,9 +9,9 @@ use Rattle.edit_map.proofs.RowTrees.{token, branch, tree_U, tree_V, tree_X, tree
 use Rattle.edit_map.proofs.Rows as edited
 use Rattle.edit_map.proofs.Rows.{element_of_tree}
 use Rattle.edit_plan.specs.NewTree.{new_tree, is_free}
-use Rattle.edit_plan.specs.Results.{changed}
+use Rattle.edit_change.specs.Results.{changed}
 use Rattle.edit_change.specs.declared.change.Change.{Change}
-use Rattle.indentation.specs.Level.{newline, space}
+use Rattle.whitespace.specs.Level.{newline, space}
 
 -- ---- trees
 abbrev pub tree_J : SyntaxTree

@@ -8,7 +8,7 @@ use Rattle.edit_plan.specs.PositionForm.{FirstChild, After}
 use Rattle.edit_change.specs.declared.change.Change.{Change}
 use Rattle.edit_change.specs.declared.change.Change.TheVariants.{InsertAll}
 use Rattle.edit_map.proofs.RowTrees.{tree_L, tree_B}
-use Rattle.spacing.specs.Spacing.{numbers_needed}
+use Rattle.whitespace.specs.Spacing.{numbers_needed}
 use Rattle.syntax_editor.specs.SpacingCalls.{spaced_insert, spacing_refusal}
 use Rattle.syntax_editor.specs.RecordCall.{recorded}
 use Rattle.syntax_editor.specs.declared.error.RecordError.{RecordError}

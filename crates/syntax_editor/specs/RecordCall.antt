@@ -8,7 +8,7 @@ use Rattle.cst_core.specs.Element.{Element}
 use Rattle.cst_core.specs.declared.element.SyntaxElement.{SyntaxElement}
 use Rattle.edit_change.specs.declared.position.Position.{Position}
 use Rattle.edit_change.specs.declared.change.Change.{Change}
-use Rattle.spacing.specs.Table.{first_fit}
+use Rattle.whitespace.specs.Table.{first_fit}
 use Rattle.change_list.specs.Recording.{delete, replace, insert, insert_all, replace_with_many, delete_all, replace_all}
 use Rattle.edit_plan.specs.Fits.{is_native, is_native_position, is_root, is_range, is_one_node}
 use Rattle.syntax_editor.specs.declared.error.RecordError.{RecordError}

@@ -1,7 +1,7 @@
 -- Refusals of what a call that records stands on, as why nothing is recorded.
 --     of_space                      why new elements get no whitespace round them
-use Rattle.spacing.specs.declared.space_error.SpaceError.{SpaceError}
-use Rattle.spacing.specs.declared.space_error.SpaceError.TheVariants as space
+use Rattle.whitespace.specs.declared.space_error.SpaceError.{SpaceError}
+use Rattle.whitespace.specs.declared.space_error.SpaceError.TheVariants as space
 use Rattle.syntax_editor.specs.declared.error.RecordError.{RecordError}
 use Rattle.syntax_editor.specs.declared.error.RecordError.TheVariants as record_error
 

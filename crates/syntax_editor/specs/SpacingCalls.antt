@@ -7,7 +7,7 @@ use Rattle.cst_core.specs.Element.{Element}
 use Rattle.cst_core.specs.declared.element.SyntaxElement.{SyntaxElement}
 use Rattle.edit_change.specs.declared.position.Position.{Position}
 use Rattle.edit_plan.specs.Fits.{is_native_position}
-use Rattle.spacing.specs.Spacing.{spaced, space_refusal}
+use Rattle.whitespace.specs.Spacing.{spaced, space_refusal}
 use Rattle.syntax_editor.specs.declared.error.RecordError.{RecordError}
 use Rattle.syntax_editor.specs.declared.error.RecordError.TheVariants.{Foreign, BadRange, DeletesRoot, RootReplacement, Memory}
 use Rattle.syntax_editor.specs.Editor.{Editor}

@@ -5,10 +5,10 @@
 use Rattle.std.specs.Prelude.{ℕ, Option}
 use Rattle.cst_core.specs.Element.{Element, subtree}
 use Rattle.edit_map.specs.Mapping.{Mapping}
-use Rattle.indentation.specs.Indentation.{indented, dedented, mapped_children}
-use Rattle.indentation.specs.IndentCalls.{fresh_root, MappingRefuses}
-use Rattle.indentation.specs.MappedAlong.{is_too_old, MapsAlong}
-use Rattle.indentation.specs.declared.indent_error.IndentError.{IndentError}
+use Rattle.whitespace.specs.Indentation.{indented, dedented, mapped_children}
+use Rattle.whitespace.specs.IndentCalls.{fresh_root, MappingRefuses}
+use Rattle.whitespace.specs.MappedAlong.{is_too_old, MapsAlong}
+use Rattle.whitespace.specs.declared.indent_error.IndentError.{IndentError}
 
 abbrev pub indented_root : ℕ → ℕ → Element → Element
 indented_root number level n = fresh_root number (indented level (subtree n))

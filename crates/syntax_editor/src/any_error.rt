@@ -2,7 +2,7 @@ use crate::error::{MergeError, RecordError};
 use cst_core::TreeError;
 use edit_map::MapError;
 use edit_plan::{EditError, ExecuteError};
-use indentation::IndentError;
+use whitespace::IndentError;
 use std::alloc::{AllocError, AllocFailed};
 use thiserror::Error;
 

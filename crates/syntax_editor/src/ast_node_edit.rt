@@ -3,16 +3,16 @@ ghost use Rattle.std.specs.Prelude.{◌≡◌, ◌+◌, false, IsTrue, IfOk, IfE
 ghost use Rattle.cst_core.specs.Tree.{label};
 ghost use Rattle.cst_core.specs.Element.{subtree};
 ghost use Rattle.cst_core.specs.declared.element.SyntaxElement.TheVariants.{Node};
-ghost use Rattle.indentation.specs.Level.{level, is_too_deep};
-ghost use Rattle.indentation.specs.LevelCalls.{ReadsLevel, ReadsAtOnce};
-ghost use Rattle.indentation.specs.Indentation.{indented, dedented, reset, mapped_children};
-ghost use Rattle.indentation.specs.IndentCalls.{fresh_root, CanBeRoot, RootRefuses, ResetRefuses, next_after};
-ghost use Rattle.indentation.specs.MappedAlong.{is_too_old, MapsAlong};
+ghost use Rattle.whitespace.specs.Level.{level, is_too_deep};
+ghost use Rattle.whitespace.specs.LevelCalls.{ReadsLevel, ReadsAtOnce};
+ghost use Rattle.whitespace.specs.Indentation.{indented, dedented, reset, mapped_children};
+ghost use Rattle.whitespace.specs.IndentCalls.{fresh_root, CanBeRoot, RootRefuses, ResetRefuses, next_after};
+ghost use Rattle.whitespace.specs.MappedAlong.{is_too_old, MapsAlong};
 ghost use Rattle.syntax_editor.specs.TypedIndents.{indented_root, dedented_root, MapsChildren, IndentRefuses};
 
 use crate::factory::SyntaxFactory;
 use cst_core::{AstNode, SyntaxNode, TreeIds};
-use indentation::{IndentError, IndentLevel, dedent, indent};
+use whitespace::{IndentError, IndentLevel, dedent, indent};
 use std::alloc::Global;
 
 /// Levels and indentation of typed nodes. What is indented or dedented is the root of a tree of its own, under the next

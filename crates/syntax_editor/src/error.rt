@@ -1,7 +1,7 @@
 ghost use Rattle.std.specs.Prelude.{◌≡◌};
 ghost use Rattle.syntax_editor.specs.RecordRefusal.{of_space};
 
-use spacing::SpaceError;
+use whitespace::SpaceError;
 use std::alloc::{AllocError, AllocFailed};
 use thiserror::Error;
 

@@ -3,19 +3,19 @@ ghost use Rattle.std.specs.Borrow.{sem};
 ghost use Rattle.cst_core.specs.Tree.{SameShape};
 ghost use Rattle.cst_core.specs.Element.{subtree};
 ghost use Rattle.edit_map.specs.Builder.{IsMadeOf};
-ghost use Rattle.indentation.specs.Indentation.{mapped_children};
-ghost use Rattle.indentation.specs.MappedAlong.{is_too_old, MapsAlong};
-ghost use Rattle.indentation.specs.inner.AlongRefusal.{AlongRefuses};
+ghost use Rattle.whitespace.specs.Indentation.{mapped_children};
+ghost use Rattle.whitespace.specs.MappedAlong.{is_too_old, MapsAlong};
+ghost use Rattle.whitespace.specs.inner.AlongRefusal.{AlongRefuses};
 ghost use Rattle.cst_core.specs.Green.{length_limit};
 ghost use Rattle.cst_core.specs.declared.element.SyntaxElement.TheVariants.{Token};
-ghost use Rattle.spacing.specs.Spacing.{whitespace, LacksTokenNumber};
+ghost use Rattle.whitespace.specs.Spacing.{whitespace, LacksTokenNumber};
 ghost use Rattle.syntax_editor.specs.Editor.{HasPairs};
 ghost use Rattle.syntax_editor.specs.Lending.{LendsMappings};
 
 use cst_core::{SyntaxNode, SyntaxToken, TreeError, TreeIds};
 use edit_map::{SyntaxMapping, SyntaxMappingBuilder};
-use indentation::{IndentError, map_children};
-use spacing::whitespace;
+use whitespace::{IndentError, map_children};
+use whitespace::whitespace;
 use std::alloc::{AllocError, Global};
 use std::marker::Model;
 

@@ -26,4 +26,4 @@ pub use edit_plan::{
 pub use editor::SyntaxEditor;
 pub use error::{MergeError, RecordError};
 pub use factory::SyntaxFactory;
-pub use indentation::{IndentError, IndentLevel, indent};
+pub use whitespace::{IndentError, IndentLevel, indent};

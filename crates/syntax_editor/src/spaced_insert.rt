@@ -1,6 +1,6 @@
 //! Inserting elements with the whitespace that goes round them.
 ghost use Rattle.std.specs.Prelude.{◌≡◌, ◌+◌, ◌∷◌, [], None, IfErr, OnOk, OnErr};
-ghost use Rattle.spacing.specs.Spacing.{numbers_needed};
+ghost use Rattle.whitespace.specs.Spacing.{numbers_needed};
 ghost use Rattle.syntax_editor.specs.SpacingCalls.{spaced_insert, spacing_refusal, SpacingRefuses};
 ghost use Rattle.syntax_editor.specs.Editor.{Records};
 
@@ -8,7 +8,7 @@ use crate::editor::SyntaxEditor;
 use crate::error::RecordError;
 use cst_core::{SyntaxElement, TreeIds};
 use edit_plan::{Element, Position};
-use spacing::elements_with_spaces;
+use whitespace::elements_with_spaces;
 use std::alloc::Global;
 
 impl SyntaxEditor {

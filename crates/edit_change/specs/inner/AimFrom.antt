@@ -4,8 +4,8 @@
 use Rattle.std.specs.Prelude.{ℕ, suc, ◌-◌, length}
 use Rattle.cst_core.specs.Path.{Path, last_slot}
 use Rattle.cst_core.specs.SyntaxElement.{element_of}
-use Rattle.rewriting.specs.Aim.{Aim, FirstIn, Behind, Over}
-use Rattle.rewriting.specs.inner.Aimed.{siblings_from}
+use Rattle.edit_change.specs.Aim.{Aim, FirstIn, Behind, Over}
+use Rattle.edit_change.specs.inner.Aimed.{siblings_from}
 use Rattle.edit_change.specs.Position.{anchor}
 use Rattle.edit_change.specs.ChangeAim.{aim_path}
 use Rattle.edit_change.specs.declared.position.Position.{Position}

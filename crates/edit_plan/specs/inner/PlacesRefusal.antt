@@ -2,7 +2,7 @@
 --     PlacesRefuse                  a change has no place in its owner's payload: the first one
 use Rattle.std.specs.Prelude.{List}
 use Rattle.edit_map.specs.Mapping.{Mapping}
-use Rattle.edit_plan.specs.Places.{IsFirstUnplaced}
+use Rattle.edit_change.specs.Places.{IsFirstUnplaced}
 use Rattle.edit_change.specs.declared.change.Change.{Change}
 use Rattle.edit_plan.specs.declared.edit_error.EditError.{EditError}
 use Rattle.edit_plan.specs.declared.edit_error.EditError.TheVariants.{MissingMapping, Memory}

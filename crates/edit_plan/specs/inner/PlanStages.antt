@@ -14,11 +14,11 @@ use Rattle.cst_core.specs.declared.element.SyntaxElement.TheVariants.{Node}
 use Rattle.edit_change.specs.Nesting.{owner}
 use Rattle.edit_change.specs.declared.change.Change.{Change}
 use Rattle.edit_change.specs.declared.change.Change.TheVariants.{Replace}
-use Rattle.schedule.specs.Schedule.{is_complete}
-use Rattle.edit_stages.specs.NewTree.{plain, given}
-use Rattle.edit_stages.specs.declared.stages.Stages.{Stages}
-use Rattle.edit_stages.specs.inner.Stages.{IsStages, builds_of, done_in}
-use Rattle.edit_plan.specs.Places.{ArePlaces, elements_held}
+use Rattle.edit_steps.specs.Schedule.{is_complete}
+use Rattle.edit_change.specs.NewTree.{plain, given}
+use Rattle.edit_steps.specs.declared.stages.Stages.{Stages}
+use Rattle.edit_steps.specs.inner.Stages.{IsStages, builds_of, done_in}
+use Rattle.edit_change.specs.Places.{ArePlaces, elements_held}
 use Rattle.edit_plan.specs.Plan.{Plan, IsPlan, registered_elements}
 use Rattle.edit_plan.specs.Run.{Run, is_done}
 

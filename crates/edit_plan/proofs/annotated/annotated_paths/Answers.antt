@@ -1,9 +1,10 @@
 use Rattle.std.proofs.Common.{◌≡◌, ◌++◌, ℕ, List, [], ◌∷◌, map, ap, ap₂, sym, ◌∙◌, refl, inl, inr, append-nil}
 use Rattle.std.proofs.lemmas.List.{append_assoc, nil_from_length}
 use Rattle.cst_core.specs.Path.{Path}
-use Rattle.rewriting.specs.Topmost.{paths_of}
+use Rattle.edit_change.specs.Topmost.{paths_of}
 use Rattle.edit_plan.specs.Engine.{annotated_path}
-use Rattle.edit_plan.specs.inner.Marks.{numbered_paths, path_lists}
+use Rattle.edit_plan.specs.inner.Annotating.{numbered_paths}
+use Rattle.one_pass.specs.inner.Marks.{path_lists}
 use Rattle.edit_plan.proofs.annotated.annotated_paths.Goals as goal
 
 none-numbered : (ns : List ℕ) → numbered_paths ns [] ≡ []

@@ -1,6 +1,7 @@
 use Rattle.std.proofs.Common.{◌≡◌, ◌++◌, map}
 use Rattle.edit_plan.specs.Engine.{annotated_path}
-use Rattle.edit_plan.specs.inner.Marks.{numbered_paths, path_lists}
+use Rattle.edit_plan.specs.inner.Annotating.{numbered_paths}
+use Rattle.one_pass.specs.inner.Marks.{path_lists}
 use Rattle.edit_plan.proofs.annotated.annotated_paths.Given as goal
 
 abbrev pub invariant-loop-registration : goal.invariant-loop-registration

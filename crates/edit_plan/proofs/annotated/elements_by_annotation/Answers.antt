@@ -3,9 +3,9 @@ use Rattle.std.proofs.lemmas.List.{nil_from_length}
 use Rattle.std.proofs.lemmas.List.Elements.{All-head, All-tail}
 use Rattle.cst_core.specs.Element.{IsElement, element_at}
 use Rattle.cst_core.specs.SyntaxElement.{syntax_at}
-use Rattle.edit_plan.specs.inner.Marks.{elements_at}
+use Rattle.edit_plan.specs.inner.Annotating.{elements_at}
 use Rattle.edit_plan.specs.Engine.{annotated_path}
-use Rattle.edit_plan.specs.Results.{paths_with}
+use Rattle.edit_change.specs.Results.{paths_with}
 use Rattle.edit_plan.proofs.ByAnnotation.{one-less}
 use Rattle.edit_plan.proofs.Leading.{leads}
 use Rattle.edit_plan.proofs.annotated.elements_by_annotation.Goals as goal

@@ -1,9 +1,9 @@
 use Rattle.std.proofs.Common.{◌≡◌, ℕ, ◌++◌, map, All, Some}
 use Rattle.cst_core.specs.Element.{IsElement, element_at}
 use Rattle.cst_core.specs.SyntaxElement.{syntax_at}
-use Rattle.edit_plan.specs.inner.Marks.{elements_at}
+use Rattle.edit_plan.specs.inner.Annotating.{elements_at}
 use Rattle.edit_plan.specs.Engine.{annotated_path}
-use Rattle.edit_plan.specs.Results.{paths_with}
+use Rattle.edit_change.specs.Results.{paths_with}
 use Rattle.edit_plan.proofs.annotated.elements_by_annotation.Given as goal
 
 abbrev pub invariant-loop-annotation : goal.invariant-loop-annotation

@@ -1,6 +1,6 @@
 use Rattle.std.proofs.Common.{◌++◌, ◌∷◌, [], map, ap, sym, ◌∙◌, append_assoc}
 use Rattle.std.proofs.lemmas.List.{map-append}
-use Rattle.rewriting.specs.Topmost.{paths_of}
+use Rattle.edit_change.specs.Topmost.{paths_of}
 use Rattle.edit_plan.specs.Engine.{annotated_path}
 use Rattle.edit_plan.proofs.annotated.push_annotated.Goals as goal
 

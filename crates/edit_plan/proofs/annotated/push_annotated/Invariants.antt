@@ -1,5 +1,5 @@
 use Rattle.std.proofs.Common.{◌≡◌, ◌++◌, map}
-use Rattle.rewriting.specs.Topmost.{paths_of}
+use Rattle.edit_change.specs.Topmost.{paths_of}
 use Rattle.edit_plan.specs.Engine.{annotated_path}
 use Rattle.edit_plan.proofs.annotated.push_annotated.Given as goal
 

@@ -1,8 +1,8 @@
 use Rattle.std.specs.Prelude.{ℕ, Bool, nat_lt, length, refl}
 use Rattle.std.proofs.Common.{ap, sym, ◌∙◌, arith}
 use Rattle.std.proofs.lemmas.Option.{same_Some}
-use Rattle.schedule.specs.Schedule.{index_in, is_ready}
-use Rattle.schedule.proofs.AllowedSteps.{allowed-step, allowed-complete}
+use Rattle.edit_steps.specs.Schedule.{index_in, is_ready}
+use Rattle.edit_steps.proofs.AllowedSteps.{allowed-step, allowed-complete}
 use Rattle.edit_plan.proofs.Running.{all-carried}
 use Rattle.edit_plan.proofs.laws.allowed_orders_agree.Goals as goal
 

@@ -1,6 +1,6 @@
 use Rattle.std.specs.Prelude.{◌≡◌, true}
 use Rattle.std.proofs.lemmas.List.Elements.{recursion_from_All}
-use Rattle.edit_plan.specs.RewritingLaws.{is_at_depth}
+use Rattle.edit_change.specs.RewritingLaws.{is_at_depth}
 use Rattle.edit_plan.proofs.OneDepth.{own_nothing}
 use Rattle.edit_plan.proofs.laws.changes_of_one_depth_own_nothing.Goals as goal
 

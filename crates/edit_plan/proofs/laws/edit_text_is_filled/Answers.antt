@@ -3,7 +3,7 @@ use Rattle.std.proofs.Common.{ap, ◌∙◌}
 use Rattle.std.proofs.lemmas.List.Elements.{recursion_from_All}
 use Rattle.cst_core.specs.Tree.{text}
 use Rattle.edit_change.specs.Nesting.{owner}
-use Rattle.edit_stages.specs.NewTree.{new_tree}
+use Rattle.edit_change.specs.NewTree.{new_tree}
 use Rattle.edit_plan.proofs.Unowned.{text-unowned, text_of_made}
 use Rattle.edit_plan.proofs.laws.edit_text_is_filled.Goals as goal
 

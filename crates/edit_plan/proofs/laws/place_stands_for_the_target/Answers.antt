@@ -1,6 +1,5 @@
-use Rattle.std.proofs.Common.{Option, Some, None, IsSome, IsSomeAnd, refl}
+use Rattle.std.proofs.Common.{Option, Some, None, IsSome, IsSomeAnd, refl, subst, map, flat_map, ◌∷◌}
 use Rattle.std.proofs.lemmas.List.{append_assoc}
-use Rattle.std.proofs.Common.{subst, map, flat_map, ◌∷◌}
 use Rattle.cst_core.specs.Tree.{SyntaxTree, at, SameShape}
 use Rattle.cst_core.specs.Element.{subtree, NumbersTell}
 use Rattle.cst_core.specs.SyntaxElement.{element_of}

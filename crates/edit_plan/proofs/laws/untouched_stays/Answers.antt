@@ -1,4 +1,4 @@
-use Rattle.edit_plan.proofs.Untouched.{plain-untouched}
+use Rattle.edit_change.proofs.RewrittenAlike.{plain-untouched}
 use Rattle.edit_plan.proofs.laws.untouched_stays.Goals as goal
 
 pub returns : goal.returns

@@ -1,5 +1,5 @@
 use Rattle.std.proofs.Common.{◌≡◌, ℕ, length, None}
-use Rattle.edit_plan.specs.inner.OwnerTables.{path_at}
+use Rattle.edit_change.specs.inner.OwnerPlaces.{path_at}
 use Rattle.edit_plan.proofs.places.no_places.Given as goal
 
 abbrev pub invariant-loop : goal.invariant-loop

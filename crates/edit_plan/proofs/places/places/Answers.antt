@@ -1,9 +1,9 @@
 use Rattle.std.proofs.Common.{◌<◌, ◌+◌, ◌∙◌, length, Some, IsSomeAnd, sym, ap, subst}
 use Rattle.std.proofs.lemmas.Bool.{false≢true}
 use Rattle.edit_map.specs.Mapping.{path_in}
-use Rattle.edit_plan.specs.inner.OwnerTables.{IsPlaceOf, IsPlaced, FoundSoFar}
-use Rattle.edit_plan.specs.Places.{HasPlace}
-use Rattle.edit_plan.proofs.Moved.{change-at, owner-is}
+use Rattle.edit_plan.specs.inner.PlaceTables.{IsPlaceOf, IsPlaced, FoundSoFar}
+use Rattle.edit_change.specs.Places.{HasPlace}
+use Rattle.edit_change.proofs.Moved.{change-at, owner-is}
 use Rattle.edit_plan.proofs.Placed.{keeps-at, path-at-is, first-unplaced, found-more, none-found, all-found}
 use Rattle.edit_plan.proofs.places.places.Goals as goal
 use Rattle.edit_plan.proofs.places.places.Goals.{in-Some+in_ok-settle+else-not-has_place, in_default}

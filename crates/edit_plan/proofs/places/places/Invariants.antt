@@ -1,5 +1,5 @@
 use Rattle.std.proofs.Common.{◌≡◌, length}
-use Rattle.edit_plan.specs.inner.OwnerTables.{IsPlaced, FoundSoFar}
+use Rattle.edit_plan.specs.inner.PlaceTables.{IsPlaced, FoundSoFar}
 use Rattle.edit_plan.proofs.places.places.Given as goal
 
 abbrev pub invariant-loop-number : goal.invariant-loop-number

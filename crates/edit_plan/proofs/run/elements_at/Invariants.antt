@@ -1,7 +1,7 @@
 use Rattle.std.proofs.Common.{◌≡◌, ◌++◌, map, All, Some}
 use Rattle.cst_core.specs.Element.{IsElement, element_at}
 use Rattle.cst_core.specs.SyntaxElement.{syntax_at}
-use Rattle.rewriting.specs.Topmost.{paths_of}
+use Rattle.edit_change.specs.Topmost.{paths_of}
 use Rattle.edit_plan.proofs.run.elements_at.Given as goal
 
 abbrev pub invariant-loop-path : goal.invariant-loop-path

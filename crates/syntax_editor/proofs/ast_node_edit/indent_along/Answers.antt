@@ -1,7 +1,7 @@
 use Rattle.std.proofs.Common.{rules, sym, subst}
 use Rattle.cst_core.specs.Tree.{SameShape}
 use Rattle.cst_core.specs.Element.{subtree}
-use Rattle.indentation.proofs.ChildPairs.{with_texts-shape}
+use Rattle.whitespace.proofs.ChildPairs.{with_texts-shape}
 use Rattle.syntax_editor.proofs.ast_node_edit.indent_along.Goals as goal
 
 pub map_children-requires : goal.map_children-requires

@@ -1,6 +1,6 @@
 use Rattle.std.specs.Prelude.{◌≡◌, [], true}
 use Rattle.std.proofs.lemmas.List.Elements.{All-nil}
-use Rattle.edit_plan.specs.RewritingLaws.{is_at_depth}
+use Rattle.edit_change.specs.RewritingLaws.{is_at_depth}
 use Rattle.syntax_editor.specs.RecordCall.{all_recorded}
 use Rattle.syntax_editor.proofs.OneDepth.{calls_at}
 use Rattle.syntax_editor.proofs.laws.calls_at_one_depth_own_nothing.Goals as goal

@@ -1,4 +1,4 @@
-use Rattle.indentation.proofs.Restored.{tree_restored}
+use Rattle.whitespace.proofs.Restored.{tree_restored}
 use Rattle.syntax_editor.proofs.laws.dedent_restores.Goals as goal
 
 pub returns : goal.returns

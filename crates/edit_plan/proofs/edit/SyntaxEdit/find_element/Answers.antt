@@ -3,7 +3,7 @@ use Rattle.std.specs.Prelude.{option_map, option_and_then}
 use Rattle.cst_core.specs.Element.{element_at}
 use Rattle.cst_core.specs.Green.{branch_tree}
 use Rattle.cst_core.specs.SyntaxElement.{node_of, syntax_at}
-use Rattle.edit_plan.specs.Results.{stand_in_path}
+use Rattle.edit_change.specs.Results.{stand_in_path}
 use Rattle.edit_plan.proofs.FoundNodes.{as-found, node-found}
 use Rattle.edit_plan.proofs.edit.SyntaxEdit.find_element.Goals as goal
 

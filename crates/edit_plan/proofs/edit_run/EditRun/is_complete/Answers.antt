@@ -1,5 +1,5 @@
 use Rattle.std.proofs.Common.{◌≡◌, subst}
-use Rattle.schedule.specs.Schedule.{is_complete}
+use Rattle.edit_steps.specs.Schedule.{is_complete}
 use Rattle.edit_plan.specs.Run.{is_done}
 use Rattle.edit_plan.proofs.RunFacts.{complete-told}
 use Rattle.edit_plan.proofs.edit_run.EditRun.is_complete.Goals as goal

@@ -1,6 +1,6 @@
 use Rattle.std.proofs.Common.{rules, ◌≡◌, sym, subst}
 use Rattle.std.specs.Prelude.{true}
-use Rattle.schedule.specs.Schedule.{is_complete}
+use Rattle.edit_steps.specs.Schedule.{is_complete}
 use Rattle.edit_plan.specs.Run.{is_done}
 use Rattle.edit_plan.proofs.RunFacts.{some-way, tree-shown, carried-tree}
 use Rattle.edit_plan.proofs.Carrying.{with-tree}

@@ -1,8 +1,8 @@
 use Rattle.std.proofs.Common.{map, length, sym, ◌∙◌, ap, subst, rules}
 use Rattle.edit_change.specs.inner.Fate.{fate}
 use Rattle.edit_change.specs.Nesting.{first_clash}
-use Rattle.edit_plan.specs.inner.OwnerTables.{places_in}
-use Rattle.edit_plan.specs.Places.{ArePlaces}
+use Rattle.edit_change.specs.inner.OwnerPlaces.{places_in}
+use Rattle.edit_change.specs.Places.{ArePlaces}
 use Rattle.edit_plan.proofs.plan.EditPlan.build.Goals as goal
 
 pub invariant_of-result : goal.invariant_of-result

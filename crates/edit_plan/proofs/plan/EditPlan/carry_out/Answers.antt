@@ -1,7 +1,7 @@
 use Rattle.std.proofs.Common.{◌<◌, length, subst, sym, ap, arith}
 use Rattle.edit_change.specs.Fits.{Fits}
 use Rattle.std.specs.Prelude.{All}
-use Rattle.edit_plan.specs.inner.OwnerTables.{places_in}
+use Rattle.edit_change.specs.inner.OwnerPlaces.{places_in}
 use Rattle.edit_plan.proofs.RunFacts.{carry-within, carry-can, carry-running, carry-counts, carry-aims}
 use Rattle.edit_plan.proofs.plan.EditPlan.carry_out.Goals as goal
 

@@ -1,7 +1,7 @@
 use Rattle.std.proofs.Common.{◌≡◌, ◌<◌, [], map, Err, Some, sym, ◌∙◌, ap, subst}
 use Rattle.cst_core.specs.Green.{branch_tree, length_limit}
 use Rattle.cst_core.specs.Tree.{text_length}
-use Rattle.rewriting.specs.Topmost.{paths_of}
+use Rattle.edit_change.specs.Topmost.{paths_of}
 use Rattle.edit_plan.specs.Plan.{RunRefuses}
 use Rattle.edit_plan.specs.inner.PlanRun.{IsOfRoot}
 use Rattle.edit_plan.specs.Engine.{annotated_path}

@@ -1,7 +1,7 @@
 use Rattle.std.proofs.Common.{subst, ◌≡◌, map, false}
 use Rattle.std.specs.Prelude.{IfOk}
 use Rattle.cst_core.specs.Element.{subtree}
-use Rattle.edit_stages.specs.inner.Stages.{Begins, done_in}
+use Rattle.edit_steps.specs.inner.Stages.{Begins, done_in}
 use Rattle.edit_plan.proofs.RunFacts.{begun-both}
 use Rattle.edit_plan.proofs.plan.EditPlan.stages.Goals as goal
 

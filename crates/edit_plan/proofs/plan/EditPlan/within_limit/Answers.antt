@@ -2,7 +2,7 @@ use Rattle.std.specs.Prelude.{◌≡◌, ◌≤◌, map, min}
 use Rattle.std.proofs.Common.{arith}
 use Rattle.cst_core.specs.Green.{branch_tree, length_limit}
 use Rattle.cst_core.specs.Tree.{text_length}
-use Rattle.rewriting.specs.Topmost.{paths_of}
+use Rattle.edit_change.specs.Topmost.{paths_of}
 use Rattle.edit_plan.specs.Engine.{annotated_path}
 use Rattle.edit_plan.proofs.Carrying.{too-long}
 use Rattle.edit_plan.proofs.plan.EditPlan.within_limit.Goals as goal

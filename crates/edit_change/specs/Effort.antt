@@ -1,0 +1,31 @@
+-- How many nodes a pass from the leaves up builds anew.
+--     inside                        of these paths, those that begin with a slot, without it
+--     touched, touched_from         the nodes of a tree that are above one of these paths, or at one; those of children from a slot on
+--     parents_of                    the nodes whose children are altered
+--     counted                       a count after n more: at the greatest number it stays
+use Rattle.std.specs.Prelude.{ℕ, suc, ◌+◌, ◌-◌, ◌^◌, min, nat_eq, cond, List, [], ◌∷◌, flat_map}
+use Rattle.green_tree.specs.Path.{Path}
+use Rattle.green_tree.specs.Tree.{Tree, Forest, Token, Node, end, more}
+use Rattle.edit_change.specs.Aim.{parents}
+use Rattle.edit_change.specs.Rewriting.{NumberedAim}
+
+abbrev pub inside : ℕ → List Path → List Path
+inside i [] = []
+inside i ([] ∷ ps) = inside i ps
+inside i ((j ∷ p) ∷ ps) = cond (nat_eq j i) (p ∷ inside i ps) (inside i ps)
+
+abbrev mutual
+  pub touched : {L : Type 0} → Tree L → List Path → ℕ
+  touched t [] = 0
+  touched (Token l s) (p ∷ ps) = 1
+  touched (Node l f) (p ∷ ps) = 1 + touched_from 0 f (p ∷ ps)
+
+  pub touched_from : {L : Type 0} → ℕ → Forest L → List Path → ℕ
+  touched_from i end ps = 0
+  touched_from i (more t f) ps = touched t (inside i ps) + touched_from (suc i) f ps
+
+abbrev pub parents_of : List NumberedAim → List Path
+parents_of cs = flat_map (λ c. parents c.1) cs
+
+abbrev pub counted : ℕ → ℕ → ℕ
+counted n further = min (n + further) (2 ^ 64 - 1)

@@ -1,0 +1,110 @@
+-- The tree that a set of changes makes of an old one, all of them at once.
+--     change_aims                       the aims of numbered changes
+--     Origin, OriginTree            a label with the address that an element was copied from, and the change that brought it
+--     plain                         the tree without its origins
+--     origin                        of what is kept below an address
+--     moved_path, moved_aim         a path, an aim, exchanged into a payload
+--     only                          of numbered aims, those whose changes pass a test
+--     targets_of, payload_of        the targets and the payload of the change at a number
+--     is_free                       that change has no owner and is not dropped
+--     independents, dependents      the changes without an owner; the changes that a change owns, moved into its payload
+--     payload_rewritten             the payload of a change, each element rewritten
+--     given, given_within           what a change gives: its payload, rewritten by the moved changes that it owns; with owners nested at most so deep
+--     Gives                         the equation that `given` meets, and no other function
+--     tree_rewritten                the old tree rewritten by some changes, which give what they give
+--     new_tree                      the old tree rewritten by the changes without an owner
+--     stage_tree, stage_payload     the same by those of the changes that are done; the payload of a keeping replacement then
+use Rattle.std.specs.Prelude.{◌≡◌, ℕ, zero, suc, Bool, false, List, [], ◌++◌, map, length, drop, filter, slice_get, unwrap_or, Option, Some, None}
+use Rattle.std.specs.List.{enumerate_from}
+use Rattle.std.specs.Option.{option_map_or}
+use Rattle.cst_core.specs.Path.{Path, first_item}
+use Rattle.cst_core.specs.Tree.{Tree, SyntaxTree, relabelled}
+use Rattle.cst_core.specs.Element.{Address, Element, address, subtree}
+use Rattle.edit_change.specs.Aim.{Aim, FirstIn, Behind, Over}
+use Rattle.edit_change.specs.Rewriting.{NumberedAim, rewritten, rewritten_whole}
+use Rattle.edit_change.specs.Change.{payload, targets}
+use Rattle.edit_change.specs.ChangeAim.{aim}
+use Rattle.edit_change.specs.Nesting.{is_independent, has_owner}
+use Rattle.edit_change.specs.declared.change.Change.{Change}
+
+-- ---- aims of changes
+abbrev pub change_aims : List (ℕ × Change) → List NumberedAim
+change_aims ds = map (λ d. (d.0, aim d.1)) ds
+
+-- ---- origins
+pub record Origin : Type 0 where
+  pub kind : ℕ
+  pub address : Address
+  pub change : Option ℕ
+
+abbrev pub OriginTree : Type 0
+OriginTree = Tree Origin
+
+abbrev pub plain : OriginTree → SyntaxTree
+plain t = relabelled (λ o. o.kind) t
+
+abbrev pub origin : Address → Option ℕ → Path → ℕ → Origin
+origin a change p k = record { kind = k; address = record { number = a.number; path = a.path ++ p }; change = change }
+
+-- ---- into a payload
+-- the path n and what is below it, exchanged for the path q
+abbrev pub moved_path : Path → Path → Path → Path
+moved_path n q p = q ++ drop (length n) p
+
+abbrev pub moved_aim : Path → Path → Aim → Aim
+moved_aim n q (FirstIn p) = FirstIn (moved_path n q p)
+moved_aim n q (Behind p) = Behind (moved_path n q p)
+moved_aim n q (Over ps) = Over (map (moved_path n q) ps)
+
+-- ---- what each change gives
+abbrev pub only : (ℕ → Bool) → List NumberedAim → List NumberedAim
+only done cs = filter (λ c. done c.0) cs
+
+module _ (changes : List Change) where
+  abbrev pub targets_of : ℕ → List Path
+  targets_of c = option_map_or targets (slice_get changes c) []
+
+  abbrev pub payload_of : ℕ → List Element
+  payload_of c = option_map_or payload (slice_get changes c) []
+
+  abbrev pub is_free : ℕ → Bool
+  is_free c = option_map_or (is_independent changes) (slice_get changes c) false
+
+  abbrev pub independents : List NumberedAim
+  independents = change_aims (filter (λ d. is_independent changes d.1) (enumerate_from 0 changes))
+
+  abbrev pub payload_rewritten : (ℕ → List OriginTree) → List NumberedAim → ℕ → List OriginTree
+  payload_rewritten given cs c = map (λ e. rewritten (origin (address e) (Some c)) given cs [] (subtree e)) (payload_of c)
+
+-- `places` has the place of each keeping replacement's target in its payload, by the replacement's number
+module _ (changes : List Change) (places : ℕ → Path) where
+  abbrev pub dependents : ℕ → List NumberedAim
+  dependents c =
+      let target = unwrap_or (first_item (targets_of changes c)) [] in
+      map (λ d. (d.0, moved_aim target (places c) (aim d.1))) (filter (λ d. has_owner changes c d.1) (enumerate_from 0 changes))
+
+  -- with the changes nested in it down to this depth
+  abbrev pub given_within : ℕ → ℕ → List OriginTree
+  given_within zero c = payload_rewritten changes (λ _. []) [] c
+  given_within (suc depth) c = payload_rewritten changes (given_within depth) (dependents c) c
+
+  -- Changes are never nested deeper than there are changes.
+  abbrev pub given : ℕ → List OriginTree
+  given c = given_within (length changes) c
+
+  abbrev pub Gives : (ℕ → List OriginTree) → Type 0
+  Gives g = (c : ℕ) → g c ≡ payload_rewritten changes g (dependents c) c
+
+  -- ---- the new tree
+  abbrev pub tree_rewritten : List NumberedAim → Element → List OriginTree
+  tree_rewritten cs root = rewritten_whole (origin (address root) None) given cs (subtree root)
+
+  abbrev pub new_tree : Element → List OriginTree
+  new_tree root = tree_rewritten (independents changes) root
+
+  -- ---- the stage where these changes are done
+  abbrev pub stage_tree : (ℕ → Bool) → Element → List OriginTree
+  stage_tree done root = tree_rewritten (only done (independents changes)) root
+
+  abbrev pub stage_payload : (ℕ → Bool) → ℕ → List OriginTree
+  stage_payload done c = payload_rewritten changes given (only done (dependents c)) c

@@ -1,0 +1,30 @@
+-- How many nodes a pass from the leaves up builds anew for a plan.
+--     touched_each                  the nodes touched in several elements by the same aims
+--     touched_in                    the nodes touched in the payload of a change by what it owns
+--     touched_by                    the nodes touched, over the old tree and the payload of each owner
+--     Raises                        a count is raised by no more than this, by just this where a premise holds; at the greatest number it stays
+use Rattle.std.specs.Prelude.{◌≡◌, ℕ, ◌+◌, ◌≤◌, List, sum_by}
+use Rattle.std.specs.List.{enumerate_from}
+use Rattle.cst_core.specs.Path.{Path}
+use Rattle.cst_core.specs.Element.{Element, subtree}
+use Rattle.edit_change.specs.Effort.{touched, parents_of, counted}
+use Rattle.edit_change.specs.Rewriting.{NumberedAim}
+use Rattle.edit_change.specs.NewTree.{independents, dependents, payload_of}
+use Rattle.edit_change.specs.declared.change.Change.{Change}
+
+abbrev pub touched_each : List NumberedAim → List Element → ℕ
+touched_each aims es = sum_by (λ e. touched (subtree e) (parents_of aims)) es
+
+-- a change that owns nothing adds nothing
+abbrev pub touched_in : List Change → (ℕ → Path) → ℕ → ℕ
+touched_in changes places c = touched_each (dependents changes places c) (payload_of changes c)
+
+abbrev pub touched_by : List Change → (ℕ → Path) → Element → ℕ
+touched_by changes places root =
+    touched (subtree root) (parents_of (independents changes)) + sum_by (λ c. touched_in changes places c.0) (enumerate_from 0 changes)
+
+pub record Raises (premise : Type 0) (most before after : ℕ) : Type 0 where
+  pub further : ℕ
+  pub at_most : further ≤ most
+  pub raised : after ≡ counted before further
+  pub exact : premise → after ≡ counted before most

@@ -1,0 +1,178 @@
+ghost use Rattle.std.specs.Prelude.{ℕ, ◌<◌, ◌≤◌, ◌+◌, ◌≡◌, Bool, true, false, [], ◌∷◌, suc, not};
+ghost use Rattle.edit_change.specs.Aim.{FirstIn, Behind, Over, aims_at_gap, starts_at, replaces};
+ghost use Rattle.edit_change.specs.inner.Aimed.{aim_in, siblings_from, formed, numbered, option_formed, seen_from, has_parent};
+ghost use Rattle.edit_change.specs.inner.Aimed.{concerns};
+
+/// Where something aims, from the element at a path.
+#[derive(Clone, Copy)]
+pub enum AimForm {
+    /// Before the first child of the node there.
+    FirstIn,
+    /// After the element there, among its siblings.
+    Behind,
+    /// Over the element there and the siblings after it, `count` of them with the first.
+    Over(usize),
+}
+
+/// A change by its number, and where it aims: first in a node, after an element, or over some siblings. Paths are borrowed.
+#[derive(Clone, Copy)]
+pub struct Aimed<'a> {
+    /// The number of the change.
+    pub change: usize,
+    /// The child slots on the way to the element from which it aims.
+    pub path: &'a [usize],
+    /// Where it aims from there.
+    pub form: AimForm,
+}
+
+impl<'a> Aimed<'a> {
+    /// Inserts before the first child of the node at this path.
+    pub fn first_in(change: usize, node: &'a [usize]) -> Aimed<'a>
+        ensures { numbered result ≡ (change, FirstIn node.now) }
+    {
+        Aimed {
+            change,
+            path: node,
+            form: AimForm::FirstIn,
+        }
+    }
+
+    /// Inserts after the element at this path. After the top there is no gap, so nothing comes of that.
+    pub fn behind(change: usize, element: &'a [usize]) -> Aimed<'a>
+        ensures { numbered result ≡ (change, Behind element.now) }
+    {
+        Aimed {
+            change,
+            path: element,
+            form: AimForm::Behind,
+        }
+    }
+
+    /// Replaces the element at this path and the siblings after it, `count` of them with the first. The top has no siblings.
+    pub fn over(change: usize, first: &'a [usize], count: usize) -> Aimed<'a>
+        ensures { numbered result ≡ (change, Over (siblings_from first.now count)) }
+    {
+        Aimed {
+            change,
+            path: first,
+            form: AimForm::Over(count),
+        }
+    }
+
+    // The number of the change.
+    pub fn change(&self) -> usize
+        ensures { result ≡ self.now.change }
+    {
+        self.change
+    }
+
+    // Whether it alters the children of a node. A replaced top, the gap after the top and no siblings at all alter none.
+    pub fn has_parent(&self) -> bool
+        ensures { result ≡ has_parent (numbered self.now) }
+    {
+        match self.form {
+            AimForm::FirstIn => true,
+            AimForm::Behind => !self.path.is_empty(),
+            AimForm::Over(count) => !self.path.is_empty() && count > 0,
+        }
+    }
+
+    // Whether it replaces the top itself.
+    pub fn replaces_top(&self) -> bool
+        ensures over { result ≡ replaces [] (aim_in self.now.path.now self.now.form) }
+        ensures start { result ≡ starts_at [] (aim_in self.now.path.now self.now.form) }
+    {
+        match self.form {
+            AimForm::FirstIn => false,
+            AimForm::Behind => false,
+            AimForm::Over(count) => self.path.is_empty() && count > 0,
+        }
+    }
+
+    // Whether it inserts into this gap of the top.
+    pub fn inserts_at(&self, gap: usize) -> bool
+        ensures { result ≡ aims_at_gap [] gap (aim_in self.now.path.now self.now.form) }
+    {
+        match self.form {
+            AimForm::FirstIn => self.path.is_empty() && gap == 0,
+            AimForm::Behind => {
+                let [slot] = self.path else {
+                    return false;
+                };
+                gap > 0 && gap - 1 == *slot
+            }
+            AimForm::Over(_) => false,
+        }
+    }
+
+    // Whether it replaces from this child of the top on.
+    pub fn starts_at(&self, slot: usize) -> bool
+        ensures { result ≡ starts_at (slot ∷ []) (aim_in self.now.path.now self.now.form) }
+    {
+        match self.form {
+            AimForm::FirstIn => false,
+            AimForm::Behind => false,
+            AimForm::Over(count) => {
+                let [first] = self.path else {
+                    return false;
+                };
+                slot == *first && count > 0
+            }
+        }
+    }
+
+    // Whether it replaces this child of the top.
+    pub fn replaces(&self, slot: usize) -> bool
+        ensures { result ≡ replaces (slot ∷ []) (aim_in self.now.path.now self.now.form) }
+    {
+        match self.form {
+            AimForm::FirstIn => false,
+            AimForm::Behind => false,
+            AimForm::Over(count) => {
+                let [first] = self.path else {
+                    return false;
+                };
+                if slot < *first {
+                    return false;
+                }
+                slot - *first < count
+            }
+        }
+    }
+
+    // The first child of the top that it matters for, and how many there are: those that it replaces, or the one that it
+    // is after or below.
+    pub fn reach(&self) -> (usize, usize)
+        ensures inside { (k : ℕ) → result.0 ≤ k → k < result.0 + result.1 → concerns k self.now ≡ true }
+        ensures before { (k : ℕ) → k < result.0 → concerns k self.now ≡ false }
+        ensures behind { (k : ℕ) → result.0 + result.1 ≤ k → concerns k self.now ≡ false }
+    {
+        let [slot, ..] = self.path else {
+            return (0, 0);
+        };
+        let AimForm::Over(count) = self.form else {
+            return (*slot, 1);
+        };
+        if self.path.len() > 1 {
+            return (*slot, 1);
+        }
+        (*slot, count.max(1))
+    }
+
+    // The same as it is seen from this child of the top, if its path leads to the child or below.
+    pub fn seen_from(&self, slot: usize) -> Option<Aimed<'a>>
+        ensures { option_formed result ≡ seen_from slot (formed self.now) }
+    {
+        let [first, rest @ ..] = self.path else {
+            return None;
+        };
+        if slot == *first {
+            return Some(Aimed {
+                change: self.change,
+                path: rest,
+                form: self.form,
+            });
+        }
+        None
+    }
+}

@@ -1,0 +1,15 @@
+use crate::change::Change;
+use crate::fate::Fate;
+use cst_core::SyntaxNode;
+
+/// The changes of a tree, and what is known of them before any is carried out.
+#[derive(Clone, Copy)]
+pub struct Planned<'a> {
+    /// The root of the old tree.
+    pub root: &'a SyntaxNode,
+    pub changes: &'a [Change],
+    /// What becomes of each change.
+    pub fates: &'a [Fate],
+    /// For each owner, the place of its target in its payload.
+    pub places: &'a [Option<Vec<usize>>],
+}

@@ -1,0 +1,76 @@
+//! Where a change is carried out: in the payload of its owner, if it has one, and else in the tree.
+
+ghost use Rattle.std.specs.Prelude.{◌≡◌, ◌<◌, map, length, slice_get, option_and_then, All, IfOk, IfSome};
+ghost use Rattle.cst_core.specs.Element.{Element};
+ghost use Rattle.edit_change.specs.Fits.{Fits};
+ghost use Rattle.edit_change.specs.Nesting.{owner};
+ghost use Rattle.edit_change.specs.NewTree.{moved_path};
+ghost use Rattle.edit_change.specs.inner.Fate.{fate};
+ghost use Rattle.edit_change.specs.inner.OwnerPlaces.{places_in, AimsFrom};
+
+use crate::change::Change;
+use crate::change_aims::aim_path;
+use crate::fate::Fate;
+use std::alloc::{AllocError, Global};
+
+/// A path at or below a target, exchanged into a payload where that target has this place.
+pub fn moved_path(
+    alloc: Global,
+    target: &[usize],
+    place: &[usize],
+    path: &[usize],
+) -> Result<Vec<usize>, AllocError>
+    ensures { IfOk result (λ v. v.items ≡ moved_path target.now place.now path.now) }
+{
+    let mut moved = Vec::from_slice(alloc, place)?;
+    if let Some(below) = path.get(target.len()..) {
+        moved.extend_from_slice(below)?;
+    }
+    Ok(moved)
+}
+
+/// The owner of a change, if it has one.
+pub fn owner_of(changes: &[Change], fates: &[Fate], number: usize) -> Option<usize>
+    requires there { number < length changes.now }
+    requires fates { fates.now ≡ map (fate changes.now) changes.now }
+    ensures owner { result ≡ option_and_then (owner changes.now) (slice_get changes.now number) }
+    ensures there { IfSome result (λ o. o < length changes.now) }
+{
+    fates[number].owner()
+}
+
+/// The place of an owner's target, from a table.
+pub fn place_at(places: &[Option<Vec<usize>>], owner: usize) -> &[usize]
+    requires { owner < length places.now }
+    ensures { result.now ≡ places_in places.now owner }
+{
+    match &places[owner] {
+        Some(place) => place.as_slice(),
+        None => &[],
+    }
+}
+
+/// The path from which a change aims: in the payload of its owner, if it has one, and else in the tree. `fates` has what becomes of each
+/// change, and `places` the place of each owner's target in its payload.
+pub fn staged_path(
+    alloc: Global,
+    changes: &[Change],
+    fates: &[Fate],
+    places: &[Option<Vec<usize>>],
+    number: usize,
+) -> Result<Vec<usize>, AllocError>
+    requires there { number < length changes.now }
+    requires fit { (root : Element) × All (Fits root) changes.now }
+    requires fates { fates.now ≡ map (fate changes.now) changes.now }
+    requires places { length places.now ≡ length changes.now }
+    ensures { IfOk result (λ v. AimsFrom changes.now (places_in places.now) number v.items) }
+{
+    let path = aim_path(&changes[number]);
+    match owner_of(changes, fates, number) {
+        Some(owner) => {
+            let target = aim_path(&changes[owner]);
+            moved_path(alloc, target, place_at(places, owner), path)
+        }
+        None => Vec::from_slice(alloc, path),
+    }
+}

@@ -1,8 +1,0 @@
-use Rattle.std.proofs.Common.{rules}
-use Rattle.edit_stages.proofs.payload.given_elements.Goals as goal
-
-pub returns-in_ok-share-in-Some : goal.returns-in_ok-share-in-Some
-returns-in_ok-share-in-Some c = search rules
-
-pub returns-in_ok-green_payload-in-None : goal.returns-in_ok-green_payload-in-None
-returns-in_ok-green_payload-in-None c = search rules

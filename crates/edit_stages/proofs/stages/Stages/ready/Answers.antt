@@ -1,5 +1,0 @@
-use Rattle.std.proofs.Common.{rules}
-use Rattle.edit_stages.proofs.stages.Stages.ready.Goals as goal
-
-pub returns : goal.returns
-returns c = search rules

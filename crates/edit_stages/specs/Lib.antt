@@ -1,3 +1,0 @@
-pub mod NewTree
-pub mod StagedChange
-pub mod inner

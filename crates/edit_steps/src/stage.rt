@@ -1,0 +1,91 @@
+ghost use Rattle.std.specs.Prelude.{◌≡◌, ℕ, List, [], IfOk, OnOk, OnErr};
+ghost use Rattle.green_tree.specs.Tree.{SyntaxTree};
+ghost use Rattle.green_tree.specs.GreenElement.{element_tree, element_trees};
+ghost use Rattle.edit_change.specs.inner.Aimed.{numbered};
+ghost use Rattle.edit_steps.specs.inner.Stage.{old_tree, new_tree, IsStage, CanStep, TakesStep, StaysAs, CountsStep};
+
+mod aim_target;
+mod done;
+mod done_index;
+mod put;
+
+use crate::stage::aim_target::AimTarget;
+use crate::stage::done::Done;
+use crate::stage::done_index::DoneIndex;
+use crate::stage::put::{Splice, put};
+use green_tree::GreenElement;
+use edit_change::Aimed;
+use std::alloc::{AllocError, Global};
+
+/// An element with some changes carried out, one at a time.
+///
+/// It keeps the old element, the element as it stands now, and of each change that is done where it aimed and how many elements it gave. So
+/// a later step finds where it goes from the changes that are done at the nodes on its way, in whatever order they came.
+#[derive(Drop)]
+pub struct Stage {
+    original: GreenElement,
+    current: GreenElement,
+    done: DoneIndex,
+}
+
+impl Stage {
+    /// The element itself, of which nothing is done.
+    pub fn new(alloc: Global, element: GreenElement) -> Result<Stage, AllocError>
+        ensures old { IfOk result (λ s. old_tree s ≡ element_tree element) }
+        ensures stage { IfOk result (λ s. (given : ℕ → List SyntaxTree) → IsStage given [] s) }
+    {
+        Ok(Stage {
+            original: element.share(alloc)?,
+            current: element,
+            done: DoneIndex::new(alloc),
+        })
+    }
+
+    /// The element as it stands now.
+    pub fn element(&self) -> &GreenElement
+        ensures { element_tree result.now ≡ new_tree self.now }
+    {
+        &self.current
+    }
+
+    /// Carries out one change more: what it gives goes first into its gap, or stands for what it replaces.
+    ///
+    /// The aim is one in the old element, and has a number of its own. Where its node, its gap or its first slot is not there, nothing
+    /// changes, and of a range only what is there is replaced. `builds` rises by the nodes that are built, up to its greatest number: the
+    /// node whose children change, and those above it. Each is made by one function, which counts it. After a refusal the stage and the
+    /// count are as they were.
+    pub fn step(
+        &mut self,
+        alloc: Global,
+        aim: &Aimed,
+        given: &[GreenElement],
+        builds: &mut u64,
+    ) -> Result<(), AllocError>
+        requires { CanStep self.old (numbered aim.now) }
+        ensures old { old_tree self.new ≡ old_tree self.old }
+        ensures done { OnOk result (TakesStep self.old self.new (numbered aim.now) (element_trees given.now)) }
+        ensures count { OnOk result (CountsStep self.old (numbered aim.now) builds.old builds.new) }
+        ensures refused { OnErr result (StaysAs self.old self.new) }
+        ensures refused_count { OnErr result (builds.new ≡ builds.old) }
+    {
+        let mut count = *builds;
+        let Some(target) = AimTarget::of(&self.original, aim) else {
+            return Ok(());
+        };
+        let splice = Splice {
+            alloc,
+            done: &self.done,
+            target: &target,
+            given,
+        };
+        let new = put(&splice, &self.current, 0, &mut count)?;
+        let done = Done {
+            at: target.at,
+            width: given.len(),
+        };
+        self.done.add(alloc, target.parent, done)?;
+        self.current = new;
+        *builds = count;
+        Ok(())
+    }
+}

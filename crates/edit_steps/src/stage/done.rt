@@ -1,0 +1,72 @@
+ghost use Rattle.std.specs.Prelude.{◌≡◌};
+ghost use Rattle.edit_steps.specs.inner.CurrentPaths.{index_of, count_of, is_before, removed_before, added_before};
+
+/// Where a change alters the children of a node.
+#[derive(Clone, Copy)]
+pub(crate) enum Among {
+    /// In the gap before the child in this slot, or, past the last child, after it.
+    Gap(usize),
+    /// How many children, from the child in the first of these slots on.
+    Slots { first: usize, count: usize },
+}
+
+impl Among {
+    // The slot before which it begins.
+    pub(crate) fn index(self) -> usize
+        ensures { result ≡ index_of self }
+    {
+        match self {
+            Among::Gap(index) => index,
+            Among::Slots { first, .. } => first,
+        }
+    }
+
+    // How many children it replaces.
+    pub(crate) fn count(self) -> usize
+        ensures { result ≡ count_of self }
+    {
+        match self {
+            Among::Gap(_) => 0,
+            Among::Slots { count, .. } => count,
+        }
+    }
+
+    // Whether it begins before the other. A gap is before the slot of its number, and after the slots of lesser ones.
+    fn is_before(self, other: Among) -> bool
+        ensures { result ≡ is_before self other }
+    {
+        match (self, other) {
+            (Among::Gap(gap), Among::Slots { first, .. }) => gap <= first,
+            (Among::Gap(gap), Among::Gap(other)) => gap < other,
+            (Among::Slots { first, .. }, _) => first < other.index(),
+        }
+    }
+}
+
+/// A change that is carried out, as it is seen from the node whose children it altered.
+#[derive(Clone, Copy)]
+pub(crate) struct Done {
+    /// Where it aimed, among the old children.
+    pub(crate) at: Among,
+    /// How many elements it gave.
+    pub(crate) width: usize,
+}
+
+impl Done {
+    // How many of the old children before this slot it replaced.
+    pub(crate) fn removed_before(&self, slot: usize) -> usize
+        ensures { result ≡ removed_before slot self.now }
+    {
+        match self.at {
+            Among::Gap(_) => 0,
+            Among::Slots { first, count } => count.min(slot.saturating_sub(first)),
+        }
+    }
+
+    // How many elements that it gave stand before what aims there.
+    pub(crate) fn added_before(&self, at: Among) -> usize
+        ensures { result ≡ added_before at self.now }
+    {
+        if self.at.is_before(at) { self.width } else { 0 }
+    }
+}

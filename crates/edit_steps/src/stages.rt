@@ -1,0 +1,212 @@
+ghost use Rattle.std.specs.Prelude.{◌≡◌, ◌<◌, ◌∷◌, [], None, true, false, map, length, slice_set, IfOk, OnOk, OnErr};
+ghost use Rattle.green_tree.specs.Green.{branch_tree};
+ghost use Rattle.green_tree.specs.GreenElement.{element_tree, element_trees};
+ghost use Rattle.cst_core.specs.Element.{Element, subtree};
+ghost use Rattle.edit_change.specs.inner.Aimed.{numbered};
+ghost use Rattle.edit_change.specs.Fits.{Fits};
+ghost use Rattle.edit_change.specs.Nesting.{first_clash};
+ghost use Rattle.edit_change.specs.inner.Fate.{fate};
+ghost use Rattle.edit_steps.specs.inner.Waiting.{HasChange};
+ghost use Rattle.edit_change.specs.inner.OneNode.{BringsNode, IsNodeTree, IsOneNode};
+ghost use Rattle.edit_steps.specs.inner.Splicing.{CanStepIn, StepsIn, StaysIn, CountsStepIn, OthersStay};
+ghost use Rattle.edit_steps.specs.inner.Splicing.{CanSplice, Splices, SpliceStays, CountsSplice, RestStays};
+ghost use Rattle.edit_steps.specs.inner.Splicing.{TreesStay, WaitsOn, PutsRoot};
+ghost use Rattle.edit_steps.specs.inner.Stages.{Begins, SomeWay, StaysAs, CanTake, Takes, CountsTaken};
+ghost use Rattle.edit_steps.specs.inner.Stages.{builds_of, done_in, HasNumber, TellsReady, TellsComplete};
+ghost use Rattle.edit_steps.specs.inner.Stages.{ShowsTree, ShowsPayload};
+
+mod payload;
+
+use crate::order::Waiting;
+use crate::stage::Stage;
+use crate::stages::payload::{given_elements, payload_stages};
+use cst_core::{GreenElement, GreenNode, SyntaxNode};
+use edit_change::{Aimed, Change, Fate, node_for_root, only_node};
+use std::alloc::{AllocError, Global};
+
+/// The tree of some changes, and the payloads of those that own others, with some of the changes carried out, one at a time.
+#[derive(Drop)]
+pub struct Stages {
+    // The old root with the changes that have no owner.
+    tree: Stage,
+    // The node that replaced the root, once that is done.
+    new_root: Option<GreenNode>,
+    // Of each change the payload with the changes that it owns, if it replaces a node by a node and is not dropped.
+    payloads: Vec<Option<Stage>>,
+    waiting: Waiting,
+    builds: u64,
+}
+
+// The node that an element is.
+fn node(element: &GreenElement) -> &GreenNode
+    requires { IsNodeTree (element_tree element.now) }
+    ensures { branch_tree result.now ≡ element_tree element.now }
+{
+    match element {
+        GreenElement::Node(node) => node,
+        GreenElement::Token(_) => unreachable!(),
+    }
+}
+
+// Carries out one change more in the payload of its owner.
+fn step_in_payload(
+    alloc: Global,
+    payloads: &mut Vec<Option<Stage>>,
+    owner: usize,
+    aim: &Aimed,
+    given: &[GreenElement],
+    builds: &mut u64,
+) -> Result<(), AllocError>
+    requires there { owner < length payloads.now.items }
+    requires can { CanStepIn payloads.now.items owner (numbered aim.now) }
+    ensures others { OthersStay payloads.old.items payloads.new.items owner }
+    ensures done { OnOk result (StepsIn payloads.old.items payloads.new.items owner
+        (numbered aim.now) (element_trees given.now)) }
+    ensures count { OnOk result (CountsStepIn payloads.old.items owner (numbered aim.now) builds.old builds.new) }
+    ensures refused { OnErr result (StaysIn payloads.old.items payloads.new.items owner) }
+    ensures refused_count { OnErr result (builds.new ≡ builds.old) }
+{
+    match &mut payloads[owner] {
+        Some(stage) => stage.step(alloc, aim, given, builds),
+        None => unreachable!(),
+    }
+}
+
+impl Stages {
+    /// The tree with this root and the changes with these fates. None of them is done yet.
+    pub fn new(
+        alloc: Global,
+        root: &SyntaxNode,
+        changes: &[Change],
+        fates: &[Fate],
+    ) -> Result<Stages, AllocError>
+        requires apart { first_clash changes.now ≡ None }
+        requires fates { fates.now ≡ map (fate changes.now) changes.now }
+        ensures stages { IfOk result (Begins changes.now (subtree root.now)) }
+        ensures none_done { IfOk result (λ s. done_in s ≡ map (λ c. false) changes.now) }
+        ensures none_built { IfOk result (λ s. builds_of s ≡ 0) }
+    {
+        let green = GreenElement::Node(root.green(alloc)?);
+        Ok(Stages {
+            tree: Stage::new(alloc, green)?,
+            new_root: None,
+            payloads: payload_stages(alloc, changes, fates)?,
+            waiting: Waiting::new(alloc, changes, fates)?,
+            builds: 0,
+        })
+    }
+
+    /// Whether a change may be carried out next: it is neither dropped nor done, and all that must come before it is done.
+    pub fn ready(&self, number: usize) -> bool
+        requires { HasNumber self.now number }
+        ensures { TellsReady self.now number result }
+    {
+        self.waiting.ready(number)
+    }
+
+    /// Whether each change that is not dropped is done.
+    pub fn is_complete(&self) -> bool
+        ensures { TellsComplete self.now result }
+    {
+        self.waiting.is_complete()
+    }
+
+    /// How many nodes were built.
+    pub fn builds(&self) -> u64
+        ensures { result ≡ builds_of self.now }
+    {
+        self.builds
+    }
+
+    /// The tree as it stands now.
+    pub fn green(&self) -> &GreenNode
+        requires { SomeWay self.now (λ cs. Unit {0}) }
+        ensures { ShowsTree self.now (branch_tree result.now) }
+    {
+        match &self.new_root {
+            Some(node) => node,
+            None => node(self.tree.element()),
+        }
+    }
+
+    /// The payload of a change as it stands now, if changes that it owns can be carried out in it.
+    pub fn payload(&self, number: usize) -> Option<&GreenNode>
+        requires { HasNumber self.now number }
+        ensures { ShowsPayload self.now number result }
+    {
+        match &self.payloads[number] {
+            Some(stage) => Some(node(stage.element())),
+            None => None,
+        }
+    }
+
+    /// Carries out one change more, which aims there: in its owner's payload, if it has one, and else in the tree.
+    ///
+    /// The count of built nodes rises by those on the way to it. After a refusal nothing has changed, the count included.
+    pub fn step(
+        &mut self,
+        alloc: Global,
+        changes: &[Change],
+        fates: &[Fate],
+        number: usize,
+        aim: &Aimed,
+    ) -> Result<(), AllocError>
+        requires fates { fates.now ≡ map (fate changes.now) changes.now }
+        requires can { CanTake changes.now number (numbered aim.now) self.old }
+        ensures done { OnOk result (Takes changes.now number (numbered aim.now) self.old self.new) }
+        ensures list { OnOk result (done_in self.new ≡ slice_set (done_in self.old) number true) }
+        ensures count { OnOk result (CountsTaken changes.now number (numbered aim.now) self.old self.new) }
+        ensures refused { OnErr result (StaysAs self.old self.new) }
+        ensures refused_list { OnErr result (done_in self.new ≡ done_in self.old) }
+        ensures refused_count { OnErr result (builds_of self.new ≡ builds_of self.old) }
+    {
+        let change = &changes[number];
+        let given = given_elements(alloc, change, &self.payloads[number])?;
+        let owner = fates[number].owner();
+        self.splice(alloc, owner, aim, &given)?;
+        self.settle(change, number, given);
+        Ok(())
+    }
+
+    // Puts what a change gives where it aims, in the payload of this owner or in the tree.
+    fn splice(
+        &mut self,
+        alloc: Global,
+        owner: Option<usize>,
+        aim: &Aimed,
+        given: &[GreenElement],
+    ) -> Result<(), AllocError>
+        requires { CanSplice self.old owner (numbered aim.now) }
+        ensures done { OnOk result (Splices self.old self.new owner (numbered aim.now) (element_trees given.now)) }
+        ensures count { OnOk result (CountsSplice self.old self.new owner (numbered aim.now)) }
+        ensures refused { OnErr result (SpliceStays self.old self.new owner) }
+        ensures refused_count { OnErr result (builds_of self.new ≡ builds_of self.old) }
+        ensures rest { RestStays self.old self.new }
+    {
+        match owner {
+            Some(owner) => {
+                let payloads = &mut self.payloads;
+                step_in_payload(alloc, payloads, owner, aim, given, &mut self.builds)
+            }
+            None => self.tree.step(alloc, aim, given, &mut self.builds),
+        }
+    }
+
+    // A change, which gave these elements, is done.
+    fn settle(&mut self, change: &Change, number: usize, given: Vec<GreenElement>)
+        requires waiting { HasChange self.old.waiting number }
+        requires fits { (root : Element) × Fits root change.now }
+        requires root { BringsNode change.now → IsOneNode (element_trees given.items) }
+        ensures trees { TreesStay self.old self.new }
+        ensures waits { WaitsOn self.old.waiting self.new.waiting number }
+        ensures list { done_in self.new ≡ slice_set (done_in self.old) number true }
+        ensures root { PutsRoot change.now (element_trees given.items) self.old.new_root self.new.new_root }
+    {
+        if change.replaces_root() {
+            // It brings one node.
+            let _ = node_for_root(change);
+            self.new_root = Some(only_node(given));
+        }
+        self.waiting.done(number);
+    }
+}

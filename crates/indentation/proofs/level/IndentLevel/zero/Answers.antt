@@ -1,5 +1,0 @@
-use Rattle.std.proofs.Common.{rules}
-use Rattle.indentation.proofs.level.IndentLevel.zero.Goals as goal
-
-pub returns : goal.returns
-returns c = search rules

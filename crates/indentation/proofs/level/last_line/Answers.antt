@@ -1,8 +1,0 @@
-use Rattle.indentation.proofs.LastLines.{behind_found, behind_none}
-use Rattle.indentation.proofs.level.last_line.Goals as goal
-
-pub returns-in-Some : goal.returns-in-Some
-returns-in-Some c = behind_found _ _ _ c.in-Some.ensures.cases
-
-pub returns-in-None : goal.returns-in-None
-returns-in-None c = behind_none _ c.in-None.ensures.cases

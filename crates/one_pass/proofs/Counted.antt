@@ -1,0 +1,124 @@
+-- The exact count of the nodes that are built.
+--     built-inside                  for a child, as it is seen from the node above
+--     counts-at_most                no more nodes are built than are touched
+--     still, in_slot                how many are still to come from a slot on; for one slot
+use Rattle.std.specs.Prelude.{◌≡◌, ℕ, suc, ◌+◌, ◌<◌, ◌≤◌, true, false, cond, List, [], ◌∷◌, ◌++◌, map, length, drop, refl}
+use Rattle.std.specs.List.{list_any}
+use Rattle.std.proofs.Common.{ap, ap₂, sym, ◌∙◌, get_or, arith}
+use Rattle.std.proofs.lemmas.List.{at_drop_more, at_drop_all}
+use Rattle.green_tree.specs.Path.{Path}
+use Rattle.green_tree.specs.Tree.{SyntaxTree, Forest, Token, Node, end, more, forest, node}
+use Rattle.edit_change.specs.Rewriting.{NumberedAim, is_replaced}
+use Rattle.edit_change.specs.declared.aimed.Aimed.{Aimed}
+use Rattle.edit_change.specs.inner.Aimed.{formed, of_formed, aims_of, some_path, has_parent}
+use Rattle.one_pass.specs.inner.Pass.{aims_inside, CountsBuilt, TouchesAtMost}
+use Rattle.green_tree.specs.GreenElement.{element_tree}
+use Rattle.green_tree.specs.declared.green.GreenElement.{GreenElement}
+use Rattle.edit_change.specs.Effort.{inside, touched, touched_from, parents_of, counted}
+use Rattle.one_pass.specs.inner.Built.{built, built_from, nodes_built}
+use Rattle.edit_change.proofs.Built.{above-below, above-formed, some-parents}
+use Rattle.edit_change.proofs.SeenBelow.{Shifted, below_shifted, aims-formed}
+
+-- ---- as it is seen from a child
+module _ (cs ds : List NumberedAim) (i : ℕ) (same : Shifted cs ds i) where
+  mutual
+    pub built-shifted : (p : Path) (t : SyntaxTree) (ps : List Path) → built cs (i ∷ p) t ps ≡ built ds p t ps
+    built-shifted p (Token k s) ps = refl
+    built-shifted p (Node k f) [] = refl
+    built-shifted p (Node k f) (q ∷ ps) = ap (λ n. 1 + n) (built_from-shifted p 0 f (q ∷ ps))
+
+    built_from-shifted : (p : Path) (j : ℕ) (f : Forest ℕ) (ps : List Path) → built_from cs (i ∷ p) j f ps ≡ built_from ds p j f ps
+    built_from-shifted p j end ps = refl
+    built_from-shifted p j (more t f) ps =
+        ap₂ (λ m n. m + n) (ap₂ (λ b n. cond b 0 n) (same.replaced p j) (built-shifted (p ++ j ∷ []) t (inside j ps))) (built_from-shifted p (suc j) f ps)
+
+pub built-inside : (xs : List Aimed) (i : ℕ) (t : SyntaxTree) → nodes_built (aims_inside xs i) t ≡ built (aims_of xs) (i ∷ []) t (inside i (parents_of (aims_of xs)))
+built-inside xs i t =
+    sym (built-shifted (map of_formed (map formed xs)) (aims_inside xs i) i (below_shifted (map formed xs) i) [] t (parents_of (aims_inside xs i))) ∙ ap₂ (λ cs ps. built cs (i ∷ []) t ps) (aims-formed xs) (sym (above-below i (map formed xs)) ∙ ap (inside i) (above-formed xs))
+
+-- ---- no more is built than is touched
+module _ (cs : List NumberedAim) where
+  mutual
+    pub built-touched : (p : Path) (t : SyntaxTree) (ps : List Path) → built cs p t ps ≤ touched t ps
+    built-touched p (Token k s) ps = omega arith
+    built-touched p (Node k f) [] = omega arith
+    built-touched p (Node k f) (q ∷ ps) = omega (arith, built_from-touched p 0 f (q ∷ ps))
+
+    built_from-touched : (p : Path) (i : ℕ) (f : Forest ℕ) (ps : List Path) → built_from cs p i f ps ≤ touched_from i f ps
+    built_from-touched p i end ps = omega arith
+    built_from-touched p i (more t f) ps =
+        let own = built-touched (p ++ i ∷ []) t (inside i ps) in
+        let rest = built_from-touched p (suc i) f ps in
+        elim (is_replaced cs (p ++ i ∷ [])) as (λ b. cond b 0 (built cs (p ++ i ∷ []) t (inside i ps)) + built_from cs p (suc i) f ps ≤ touched t (inside i ps) + touched_from (suc i) f ps) [
+          | true ↦ omega (arith, rest)
+          | false ↦ omega (arith, own, rest)
+        ]
+
+at_most : (now own most next : ℕ) → own ≤ most → next ≡ counted now own → next ≤ now + most
+at_most now own most next l h = omega (arith, l, h)
+
+pub counts-at_most : (aims : List Aimed) (e : GreenElement) (before after : ℕ) → CountsBuilt aims e before after → TouchesAtMost aims e before after
+counts-at_most aims e before after h =
+    let ps = parents_of (aims_of aims) in
+    at_most before (built (aims_of aims) [] (element_tree e) ps) (touched (element_tree e) ps) after (built-touched (aims_of aims) [] (element_tree e) ps) h
+
+-- ---- what is still to come from slot i on
+module _ (cs : List NumberedAim) where
+  abbrev pub still : ℕ → List SyntaxTree → ℕ
+  still i ts = built_from cs [] i (forest (drop i ts)) (parents_of cs)
+
+  -- what a slot adds
+  abbrev pub in_slot : ℕ → SyntaxTree → ℕ
+  in_slot i t = cond (is_replaced cs (i ∷ [])) 0 (built cs (i ∷ []) t (inside i (parents_of cs)))
+
+  pub still-step : (i : ℕ) (ts : List SyntaxTree) (d t : SyntaxTree) → i < length ts → t ≡ get_or ts i d → still i ts ≡ in_slot i t + still (i + 1) ts
+  still-step i ts d t l is =
+      let next : suc i ≡ i + 1 = omega arith in
+      at_drop_more (λ us. built_from cs [] i (forest us) (parents_of cs)) ts i d l ∙ ap₂ (λ j u. in_slot i u + built_from cs [] j (forest (drop (i + 1) ts)) (parents_of cs)) next (sym is)
+
+  pub still-none : (i : ℕ) (ts : List SyntaxTree) → length ts ≤ i → still i ts ≡ 0
+  still-none i ts l = at_drop_all (λ us. built_from cs [] i (forest us) (parents_of cs)) ts i l
+
+  own_paths : (ps : List Path) (k : ℕ) (ts : List SyntaxTree) → some_path ps ≡ true → built cs [] (node k ts) ps ≡ 1 + built_from cs [] 0 (forest ts) ps
+  own_paths [] k ts h = absurd (cc)
+  own_paths (p ∷ ps) k ts h = refl
+
+  -- the node itself, where some child list is altered
+  pub counted-own : (k : ℕ) (ts : List SyntaxTree) → list_any has_parent cs ≡ true → nodes_built cs (node k ts) ≡ 1 + still 0 ts
+  counted-own k ts h = own_paths (parents_of cs) k ts (some-parents cs ∙ h)
+
+  no_paths : (ps : List Path) (t : SyntaxTree) → some_path ps ≡ false → built cs [] t ps ≡ 0
+  no_paths ps (Token k s) h = refl
+  no_paths [] (Node k f) h = refl
+  no_paths (p ∷ ps) (Node k f) h = absurd (cc)
+
+  -- where none is, nothing is built
+  pub counted-none : (t : SyntaxTree) → list_any has_parent cs ≡ false → nodes_built cs t ≡ 0
+  counted-none t h = no_paths (parents_of cs) t (some-parents cs ∙ h)
+
+-- ---- a count that stays at the greatest number
+-- a slot, and then what is still to come
+pub count-step : (now next own rest left : ℕ) → ((further : ℕ) → counted next further ≡ counted now (own + further)) → left ≡ own + rest → (further : ℕ) → counted next (rest + further) ≡ counted now (left + further)
+count-step now next own rest left h is further =
+    let whole : own + (rest + further) ≡ left + further = omega (arith, is) in
+    h (rest + further) ∙ ap (counted now) whole
+
+-- where nothing was counted
+pub count-nothing : (now own : ℕ) → own ≡ 0 → (further : ℕ) → counted now further ≡ counted now (own + further)
+count-nothing now own none further =
+    let same : further ≡ own + further = omega (arith, none) in
+    ap (counted now) same
+
+-- nothing more is to come
+pub count-all : (start now own left : ℕ) → left ≡ 0 → ((further : ℕ) → counted now (left + further) ≡ counted start (own + further)) → (further : ℕ) → counted now further ≡ counted start (own + further)
+count-all start now own left none h further = count-nothing now left none further ∙ h further
+
+-- what was counted as a whole
+pub count-on : (now next own : ℕ) → next ≡ counted now own → (further : ℕ) → counted next further ≡ counted now (own + further)
+count-on now next own h further = omega (arith, h)
+
+-- the node itself, after its children
+pub count-one : (start now own all next : ℕ) → next ≡ counted now 1 → ((further : ℕ) → counted now further ≡ counted start (own + further)) → all ≡ 1 + own → next ≡ counted start all
+count-one start now own all next n h is =
+    let whole : own + 1 ≡ all = omega (arith, is) in
+    n ∙ h 1 ∙ ap (counted start) whole

@@ -1,0 +1,28 @@
+mod Alike
+mod AllCounted
+mod BelowSlot
+mod ByLevel
+mod ByNumber
+mod ChildByChild
+mod Children
+mod CopiesFound
+mod Counted
+pub mod Counting
+mod Dependents
+mod InGroups
+mod InSlot
+mod Levels
+mod MadeOf
+mod Marks
+mod MarksFilled
+mod MarksGiven
+mod MarksKept
+mod MarksTold
+mod Nested
+mod Passing
+mod Registered
+mod Rooted
+mod Rows
+pub mod Tops
+mod Touched
+pub mod Whole

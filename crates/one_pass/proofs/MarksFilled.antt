@@ -1,0 +1,219 @@
+-- The marks of what changes give, entered into a table from the deepest changes up.
+--     seen-from                     what is sought below an address, seen from there
+--     listed, unsought              an entry with the marks of each; one where nothing is sought
+--     entry                         an entry exchanged
+--     AreLevelled                   so far as one level is entered, with all that is deeper
+--     level-begins, level-ends, level-filled      before its first owner, behind its last one, and one owner more
+--     from-payloads, to-the-top     before the deepest level, and behind the last one
+--     IsBrought, AreBrought         an entry has the payload of a change; so have those of the first so many
+--     one-brought, all-brought      one change more; all of them
+use Rattle.std.specs.Prelude.{◌≡◌, ℕ, zero, suc, ◌+◌, ◌<◌, ◌≤◌, true, false, ◌&&◌, cond, nat_eq, List, [], ◌∷◌, ◌++◌, map, filter, length, slice_get, get_or, Option, Some, None, option_map, Vec, refl}
+use Rattle.std.specs.Global.{Global}
+use Rattle.std.specs.Option.{option_map_or}
+use Rattle.std.proofs.Common.{ap, ap₂, sym, subst, ◌∙◌, arith}
+use Rattle.std.proofs.Math.ListN.{get_or-append, set}
+use Rattle.std.proofs.lemmas.Bool.{cases_eq, cases_lt, eq-eqb, ne_eqb}
+use Rattle.std.proofs.lemmas.List.{map-append, length-map, length-append, get_or_push}
+use Rattle.std.proofs.lemmas.List.Elements.{filter-append}
+use Rattle.std.proofs.lemmas.Option.{slice_get-get_or, slice_get-map, slice_get_past, none-some, same_Some}
+use mathlib.Core.Logic.{inl, inr}
+use mathlib.Core.Path.{fun_ext}
+use Rattle.cst_core.specs.Path.{Path, same_path, counted_from}
+use Rattle.cst_core.specs.Element.{Address, Element, address, subtree}
+use Rattle.edit_change.specs.Rewriting.{NumberedAim, rewritten}
+use Rattle.one_pass.specs.inner.Marked.{MarkTree, Marking, marked, marks_of, marks_at, wanted}
+use Rattle.edit_change.specs.inner.Given.{given_trees}
+use Rattle.one_pass.specs.inner.Pass.{IsMarked, IsMarkedIn, AreMarkedIn}
+use Rattle.one_pass.specs.declared.mark.Mark.{Mark}
+use Rattle.one_pass.specs.declared.marked_given.GivenTable.{GivenTable}
+use Rattle.one_pass.specs.declared.marked_given.MarkedGiven.{MarkedGiven}
+use Rattle.one_pass.proofs.Marks.{marks-none}
+use Rattle.edit_change.proofs.Untouched.{untouched}
+use Rattle.edit_change.specs.Change.{payload}
+use Rattle.edit_change.specs.Nesting.{owner}
+use Rattle.edit_change.specs.inner.OwnerPlaces.{depth_of}
+use Rattle.one_pass.specs.inner.OwnerTables.{owns_at, AreDependents, AreOwners}
+use Rattle.edit_change.specs.NewTree.{origin, payload_of, dependents}
+use Rattle.one_pass.specs.inner.Sought.{path_below, sought_one, sought_from, sought_at, registered_at}
+use Rattle.one_pass.specs.inner.Marks.{marks_given, IsTableOf, element_sought, payload_sought, with_answer, AreMarksFrom}
+use Rattle.edit_change.specs.declared.change.Change.{Change}
+use Rattle.one_pass.specs.declared.dependent.Dependent.{Dependent}
+use Rattle.one_pass.specs.declared.sought.SoughtIndex.{SoughtIndex}
+use Rattle.edit_change.proofs.Brought.{given-labelled}
+use Rattle.one_pass.proofs.ByLevel.{LevelledBy, begins, ends, entered, from-alone}
+use Rattle.edit_change.proofs.Lists.{slice_get-set_same, slice_get-set_other}
+use Rattle.edit_change.proofs.Settled.{all_owned, rewritten-agree}
+
+-- ---- what is sought, seen from an address
+pub at-append : (ms ns : List Marking) (p : Path) → marks_at (ms ++ ns) p ≡ marks_at ms p ++ marks_at ns p
+at-append ms ns p = ap (map (λ m. m.0)) (filter-append (λ m. same_path p m.1) ms ns) ∙ map-append (λ m. m.0) (filter (λ m. same_path p m.1) ms) (filter (λ m. same_path p m.1) ns)
+
+turned : (i j : ℕ) → nat_eq i j ≡ nat_eq j i
+turned i j =
+    elim (cases_eq i j) [
+      | inl same ↦ eq-eqb i j same ∙ sym (eq-eqb j i (sym same))
+      | inr differs ↦ ne_eqb i j differs ∙ sym (ne_eqb j i (λ e. differs (sym e)))
+    ]
+
+module _ (n : ℕ) where
+  abbrev pub found : Option Path → List Marking
+  found o = option_map_or (λ p. (n, p) ∷ []) o []
+
+  pub exact : (p s : Path) → marks_at ((n, s) ∷ []) p ≡ marks_at (found (path_below p s)) []
+  exact [] [] = refl
+  exact [] (j ∷ s) = refl
+  exact (i ∷ p) [] = refl
+  exact (i ∷ p) (j ∷ s) =
+      ap (λ b. map (λ (m : Marking). m.0) (cond (b && same_path p s) ((n, j ∷ s) ∷ []) [])) (turned i j) ∙ elim (nat_eq j i) as (λ b. map (λ (m : Marking). m.0) (cond (b && same_path p s) ((n, j ∷ s) ∷ []) []) ≡ marks_at (found (cond b (path_below p s) None)) []) [
+        | true ↦ (elim (same_path p s) as (λ b. map (λ (m : Marking). m.0) (cond b ((n, j ∷ s) ∷ []) []) ≡ map (λ (m : Marking). m.0) (cond b ((n, s) ∷ []) [])) [ true ↦ refl | false ↦ refl ]) ∙ exact p s
+        | false ↦ refl
+      ]
+
+  seen-path : (q p s : Path) → marks_at (found (path_below q s)) p ≡ marks_at (found (path_below (q ++ p) s)) []
+  seen-path [] p s = exact p s
+  seen-path (i ∷ q) p [] = refl
+  seen-path (i ∷ q) p (j ∷ s) =
+      elim (nat_eq j i) as (λ b. marks_at (found (cond b (path_below q s) None)) p ≡ marks_at (found (cond b (path_below (q ++ p) s) None)) []) [
+        | true ↦ seen-path q p s
+        | false ↦ refl
+      ]
+
+  seen-one : (a r : Address) (p : Path) → marks_at (sought_one a n r) p ≡ marks_at (sought_one (record { number = a.number; path = a.path ++ p }) n r) []
+  seen-one a r p =
+      elim (nat_eq r.number a.number) as (λ b. marks_at (cond b (found (path_below a.path r.path)) []) p ≡ marks_at (cond b (found (path_below (a.path ++ p) r.path)) []) []) [
+        | true ↦ seen-path a.path p r.path
+        | false ↦ refl
+      ]
+
+pub seen-from : (n : ℕ) (rs : List Address) (a : Address) (p : Path) → marks_at (sought_from n rs a) p ≡ marks_at (sought_from n rs (record { number = a.number; path = a.path ++ p })) []
+seen-from n [] a p = refl
+seen-from n (r ∷ rs) a p =
+    let b : Address = record { number = a.number; path = a.path ++ p } in
+    at-append (sought_one a n r) (sought_from (suc n) rs a) p ∙ ap₂ (λ ms ns. ms ++ ns) (seen-one n a r p) (seen-from (suc n) rs a p) ∙ sym (at-append (sought_one b n r) (sought_from (suc n) rs b) [])
+
+-- ---- one entry
+value : (o : Option (Vec Mark Global)) (x : List Marking) → option_map (λ v. marks_of v.items) o ≡ Some x → x ≡ option_map_or (λ v. marks_of v.items) o []
+value None x e = absurd (none-some x e)
+value (Some v) x e = sym (same_Some (marks_of v.items) x e)
+
+-- where a list has the marks of each
+pub listed : (g : MarkedGiven) (ts : List MarkTree) → length ts ≡ length (given_trees g.elements) → map (λ v. marks_of v.items) g.marks.items ≡ map marked ts → IsMarked None g ts
+listed g ts l h = record {
+  count = l;
+  each = λ i d within. value (slice_get g.marks.items i) (marked (get_or ts i d)) (sym (slice_get-map (λ v. marks_of v.items) g.marks.items i) ∙ ap (λ xs. slice_get xs i) h ∙ slice_get-map marked ts i ∙ ap (option_map marked) (slice_get-get_or ts i d within));
+}
+
+-- where nothing is sought
+unsought-at : (index : SoughtIndex) → ((a : Address) → sought_at index a ≡ []) → (es : List Element) (i : ℕ) (d : MarkTree) → i < length (payload_sought index (λ n. []) [] es) → marked (get_or (payload_sought index (λ n. []) [] es) i d) ≡ []
+unsought-at index none [] i d l = absurd (omega (arith, l))
+unsought-at index none (e ∷ es) zero d l = ap (λ ms. marked (rewritten (wanted ms) (λ c. []) [] [] (subtree e))) (none (address e)) ∙ ap marked (untouched (λ k. []) (λ c. []) [] refl [] (subtree e)) ∙ marks-none (subtree e)
+unsought-at index none (e ∷ es) (suc i) d l = unsought-at index none es i d (omega (arith, l))
+
+pub unsought : (index : SoughtIndex) → ((a : Address) → sought_at index a ≡ []) → (g : MarkedGiven) (es : List Element) → g.marks.items ≡ [] → given_trees g.elements ≡ map subtree es → IsMarked None g (payload_sought index (λ n. []) [] es)
+unsought index none g es empty are = record {
+  count = length-map es (element_sought index (λ n. []) []) ∙ sym (ap length are ∙ length-map es subtree);
+  each = λ i d l. unsought-at index none es i d l ∙ sym (ap (λ vs. option_map_or (λ v. marks_of v.items) (slice_get vs i) []) empty);
+}
+
+pub entry : (cs : List Change) (c : ℕ) (change : Change) (index : SoughtIndex) (owned : List NumberedAim) (table : GivenTable) (g : MarkedGiven) → c < length cs → c < length table.entries.items → change ≡ get_or cs c change → table.top ≡ None → (trees : ℕ → List MarkTree) → AreMarkedIn table trees → IsMarked None g (payload_sought index trees owned (payload change)) → (n : ℕ) → IsMarkedIn table.top (slice_get (set table.entries.items c g) n) (with_answer trees c (payload_sought index trees owned (payload_of cs c)) n)
+entry cs c change index owned table g there long is none trees are marks n =
+    let es = table.entries.items in
+    let top = table.top in
+    let own : payload_of cs c ≡ payload change = ap (λ o. option_map_or payload o []) (slice_get-get_or cs c change there ∙ ap (λ x. Some x) (sym is)) in
+    let ts : List MarkTree = payload_sought index trees owned (payload_of cs c) in
+    let here : IsMarkedIn top (Some g) ts = subst (λ top. IsMarkedIn top (Some g) ts) (sym none) (subst (λ xs. IsMarked None g (payload_sought index trees owned xs)) (sym own) marks) in
+    elim (cases_eq n c) [
+      | inl same ↦ subst (λ b. IsMarkedIn top (slice_get (set es c g) n) (cond b ts (trees n))) (sym (eq-eqb n c same)) (subst (λ o. IsMarkedIn top o ts) (sym (ap (slice_get (set es c g)) same ∙ slice_get-set_same es c g long)) here)
+      | inr differs ↦ subst (λ b. IsMarkedIn top (slice_get (set es c g) n) (cond b ts (trees n))) (sym (ne_eqb n c differs)) (subst (λ o. IsMarkedIn top o (trees n)) (sym (slice_get-set_other es c n g differs)) (are n))
+    ]
+
+-- ---- what changes give
+module _ (rs : List Address) (cs : List Change) (places : ℕ → Path) where
+  abbrev has_given : (ℕ → List MarkTree) → ℕ → Type 0
+  has_given trees c = trees c ≡ marks_given rs cs places c
+
+  -- the payload of a change, rewritten by what those that it owns give
+  payload-given : (c : ℕ) (index : SoughtIndex) → IsTableOf rs index → payload_sought index (marks_given rs cs places) (dependents cs places c) (payload_of cs c) ≡ marks_given rs cs places c
+  payload-given c index table =
+      let labels : (e : Element) → wanted (sought_at index (address e)) ≡ (λ q k. registered_at rs (origin (address e) (Some c) q k).address) = λ e. fun_ext (λ q. fun_ext (λ k. ap (λ ms. marks_at ms q) (table (address e)) ∙ seen-from 0 rs (address e) q)) in
+      ap (λ f. map f (payload_of cs c)) (fun_ext (λ e. ap (λ l. rewritten l (marks_given rs cs places) (dependents cs places c) [] (subtree e)) (labels e))) ∙ sym (given-labelled cs places (λ o. registered_at rs o.address) c)
+
+  agreed : (c : ℕ) (index : SoughtIndex) (trees : ℕ → List MarkTree) → ((n : ℕ) (d : Change) → slice_get cs n ≡ Some d → owner cs d ≡ Some c → has_given trees n) → payload_sought index trees (dependents cs places c) (payload_of cs c) ≡ payload_sought index (marks_given rs cs places) (dependents cs places c) (payload_of cs c)
+  agreed c index trees holds =
+      ap (λ f. map f (payload_of cs c)) (fun_ext (λ e. rewritten-agree (wanted (sought_at index (address e))) trees (marks_given rs cs places) (dependents cs places c) (all_owned cs places (has_given trees) c holds) (subtree e)))
+
+  pub record AreLevelled (level : ℕ) (owners : List ℕ) (i : ℕ) (table : GivenTable) : Type 0 where
+    pub trees : ℕ → List MarkTree
+    pub are : AreMarkedIn table trees
+    pub by : LevelledBy cs places (has_given trees) level owners i
+
+  pub level-begins : (level : ℕ) (owners : List ℕ) (table : GivenTable) → AreMarksFrom rs cs places (suc level) table → AreLevelled level owners 0 table
+  level-begins level owners table a = record { trees = a.trees; are = a.are; by = begins cs places (has_given a.trees) level owners a.deep a.own_nothing }
+
+  pub level-ends : (level i : ℕ) (owned : List (Vec Dependent Global)) (owners : List ℕ) (table : GivenTable) → AreDependents cs places owned → owners ≡ filter (owns_at cs owned level) (counted_from 0 (length cs)) → length owners ≤ i → AreLevelled level owners i table → AreMarksFrom rs cs places level table
+  level-ends level i owned owners table are all long a = record { trees = a.trees; are = a.are; deep = ends cs places (has_given a.trees) level i owned owners are all long a.by; own_nothing = a.by.own_nothing }
+
+  pub level-filled : (level i o : ℕ) (owners : List ℕ) (index : SoughtIndex) (table after : GivenTable) (owned : List NumberedAim) → IsTableOf rs index → AreLevelled level owners i table → slice_get owners i ≡ Some o → depth_of cs o ≡ level → owned ≡ dependents cs places o → ((trees : ℕ → List MarkTree) → AreMarkedIn table trees → AreMarkedIn after (with_answer trees o (payload_sought index trees owned (payload_of cs o)))) → AreLevelled level owners (i + 1) after
+  level-filled level i o owners index table after owned sought a stands at_level own fills =
+      let ts : List MarkTree = payload_sought index a.trees owned (payload_of cs o) in
+      let now = with_answer a.trees o ts in
+      record {
+        trees = now;
+        are = fills a.trees a.are;
+        by = entered cs places (has_given a.trees) (has_given now) level i o owners a.by stands at_level (λ all. ap (λ b. cond b ts (a.trees o)) (eq-eqb o o refl) ∙ ap (λ ds. payload_sought index a.trees ds (payload_of cs o)) own ∙ agreed o index a.trees all ∙ payload-given o index sought) (λ c differs h. ap (λ b. cond b ts (a.trees c)) (ne_eqb c o differs) ∙ h);
+      }
+
+  -- ---- all levels
+  alone : (c : ℕ) (index : SoughtIndex) → IsTableOf rs index → dependents cs places c ≡ [] → payload_sought index (λ n. []) [] (payload_of cs c) ≡ marks_given rs cs places c
+  alone c index sought none =
+      ap (λ f. map f (payload_of cs c)) (fun_ext (λ e. rewritten-agree (wanted (sought_at index (address e))) (λ n. []) (marks_given rs cs places) [] tt (subtree e))) ∙ ap (λ ds. payload_sought index (marks_given rs cs places) ds (payload_of cs c)) (sym none) ∙ payload-given c index sought
+
+  pub from-payloads : (owned : List (Vec Dependent Global)) (owners : List (Vec ℕ Global)) (index : SoughtIndex) (table : GivenTable) → IsTableOf rs index → AreMarkedIn table (λ c. payload_sought index (λ n. []) [] (payload_of cs c)) → AreDependents cs places owned → AreOwners cs owned owners → AreMarksFrom rs cs places (length owners) table
+  from-payloads owned owners index table sought marked_are are levels = record {
+    trees = λ c. payload_sought index (λ n. []) [] (payload_of cs c);
+    are = marked_are;
+    deep = from-alone cs places (has_given (λ c. payload_sought index (λ n. []) [] (payload_of cs c))) owned owners are levels (λ c none. alone c index sought none);
+    own_nothing = λ c none. alone c index sought none;
+  }
+
+  pub to-the-top : (level : ℕ) (table : GivenTable) → level ≤ 0 → AreMarksFrom rs cs places level table → AreMarkedIn table (marks_given rs cs places)
+  to-the-top level table none a c = subst (λ ts. IsMarkedIn table.top (slice_get table.entries.items c) ts) (a.deep c (omega (arith, none))) (a.are c)
+
+-- ---- the payloads alone
+module _ (index : SoughtIndex) where
+  -- an entry has the payload of a change
+  pub record IsBrought (o : Option MarkedGiven) (es : List Element) : Type 0 where
+    pub trees : option_map_or (λ g. given_trees g.elements) o [] ≡ map subtree es
+    pub marks : IsMarkedIn None o (payload_sought index (λ n. []) [] es)
+
+  abbrev pub AreBrought : List MarkedGiven → List Change → ℕ → Type 0
+  AreBrought entries cs n = (c : ℕ) → c < n → IsBrought (slice_get entries c) (payload_of cs c)
+
+  pub one-brought : (entries : List MarkedGiven) (g : MarkedGiven) (cs : List Change) (n : ℕ) (change : Change) → length entries ≡ n → n < length cs → change ≡ get_or cs n change → given_trees g.elements ≡ map subtree (payload change) → IsMarked None g (payload_sought index (λ n. []) [] (payload change)) → AreBrought entries cs n → AreBrought (entries ++ g ∷ []) cs (n + 1)
+  one-brought entries g cs n change long there is trees marks before c l =
+      let own : payload_of cs n ≡ payload change = ap (λ o. option_map_or payload o []) (slice_get-get_or cs n change there ∙ ap (λ x. Some x) (sym is)) in
+      let more : length (entries ++ g ∷ []) ≡ n + 1 = length-append entries (g ∷ []) ∙ ap (λ k. k + 1) long in
+      let within : c < length (entries ++ g ∷ []) = subst (λ k. c < k) (sym more) l in
+      elim (cases_lt c n) [
+        | inl less ↦
+            let inside : c < length entries = subst (λ k. c < k) (sym long) less in
+            let same : slice_get (entries ++ g ∷ []) c ≡ slice_get entries c = slice_get-get_or (entries ++ g ∷ []) c g within ∙ ap (λ x. Some x) (get_or-append entries (g ∷ []) g c inside) ∙ sym (slice_get-get_or entries c g inside) in
+            subst (λ o. IsBrought o (payload_of cs c)) (sym same) (before c less)
+        | inr past ↦
+            let last : c ≡ n = omega (arith, l, past) in
+            let at : slice_get (entries ++ g ∷ []) c ≡ Some g = slice_get-get_or (entries ++ g ∷ []) c g within ∙ ap (λ x. Some x) (get_or_push entries g g c (long ∙ sym last)) in
+            subst (λ k. IsBrought (slice_get (entries ++ g ∷ []) c) (payload_of cs k)) (sym last) (subst (λ o. IsBrought o (payload_of cs n)) (sym at) (subst (λ es. IsBrought (Some g) es) (sym own) (record { trees = trees; marks = marks })))
+      ]
+
+  pub all-brought : (entries : List MarkedGiven) (cs : List Change) (n : ℕ) → length entries ≡ n → length cs ≤ n → n ≤ length cs → AreBrought entries cs n → (c : ℕ) → IsBrought (slice_get entries c) (payload_of cs c)
+  all-brought entries cs n long past within are c =
+      elim (cases_lt c n) [
+        | inl less ↦ are c less
+        | inr more ↦
+            let none : slice_get entries c ≡ None = slice_get_past entries c (omega (arith, long, more)) in
+            let no_change : payload_of cs c ≡ [] = ap (λ o. option_map_or payload o []) (slice_get_past cs c (omega (arith, more, within))) in
+            subst (λ o. IsBrought o (payload_of cs c)) (sym none) (subst (λ es. IsBrought None es) (sym no_change) (record { trees = refl; marks = refl }))
+      ]
+
+pub none-marked : (table : GivenTable) → table.entries.items ≡ [] → AreMarkedIn table (λ n. [])
+none-marked table empty c = subst (λ es. IsMarkedIn table.top (slice_get es c) []) (sym empty) refl

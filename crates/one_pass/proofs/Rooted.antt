@@ -1,0 +1,109 @@
+-- The root of a new tree is a node.
+--     kept-node, brought-node       a node that is kept is one in the new tree, and so is one that is brought
+--     stays-a-node                  what stands in the place of the root is one node
+--     takes-its-place               the node that a change brings which replaces the root
+--     found-fits                    of a change that is found, what is true of all, and that it replaces the root
+use Rattle.std.specs.Prelude.{◌≡◌, ℕ, ◌+◌, true, false, cond, List, [], ◌∷◌, map, flat_map, filter, find, slice_get, unwrap_or, option_map, All, Some, None, refl}
+use Rattle.std.specs.List.{AllByRecursion, list_any, enumerate_from}
+use Rattle.std.specs.Option.{option_map_or}
+use Rattle.std.proofs.Common.{ap, sym, subst, ◌∙◌}
+use Rattle.std.proofs.lemmas.Bool.{or_from, or_parts, true≢false}
+use Rattle.std.proofs.lemmas.Option.{none-some, same_Some, slice_get_within, get_or_from_slice_get}
+use Rattle.std.proofs.lemmas.List.{append-nil}
+use Rattle.cst_core.specs.Path.{Path, has_path}
+use Rattle.cst_core.specs.Tree.{SyntaxTree, Forest, Node, Token, at, is_token, forest, forest_relabelled}
+use Rattle.cst_core.specs.Element.{Element, IsNode, subtree, address}
+use Rattle.edit_change.specs.Aim.{replaces}
+use Rattle.edit_change.specs.inner.KindOnly.{kind_only}
+use Rattle.one_pass.specs.inner.Pass.{given_in}
+use Rattle.edit_change.specs.Rewriting.{NumberedAim, replacements_at, is_replaced, rewritten, rewritten_from, rewritten_whole}
+use Rattle.one_pass.specs.declared.marked_given.GivenTable.{GivenTable}
+use Rattle.edit_change.specs.ChangeAim.{position_aim, aim}
+use Rattle.edit_change.specs.PositionForm.{FirstChild, After}
+use Rattle.edit_change.specs.declared.position.Position.{Position}
+use Rattle.edit_change.specs.Change.{payload, targets}
+use Rattle.edit_change.specs.Nesting.{first_clash, is_independent}
+use Rattle.one_pass.specs.inner.OwnerTables.{AreGiven}
+use Rattle.edit_change.specs.inner.OneNode.{IsOneNode, BringsNode}
+use Rattle.edit_change.specs.NewTree.{Origin, OriginTree, plain, origin, change_aims, payload_of, dependents, given, independents}
+use Rattle.edit_change.specs.declared.change.Change.{Change}
+use Rattle.edit_change.specs.declared.change.Change.TheVariants.{Insert, InsertAll, Replace, ReplaceWithMany, ReplaceAll}
+use Rattle.edit_change.proofs.RootAlone.{none-passes, found-at, root-alone, some-starts}
+use Rattle.edit_change.proofs.Settled.{given_is}
+
+-- ---- what stands there
+-- a node, whatever its label and its children
+tree-of-node : (e : Element) → IsNode e → (k : ℕ) × (f : Forest ℕ) × (subtree e ≡ Node k f)
+tree-of-node e node =
+    (elim (at e.root e.path) as (λ o. option_map is_token o ≡ Some false → (k : ℕ) × (f : Forest ℕ) × (unwrap_or o (Token 0 []) ≡ Node k f)) [
+      | None ↦ λ h. absurd (none-some false h)
+      | Some t ↦ λ h. shown t (same_Some (is_token t) false h)
+    ]) node
+  where
+    shown : (t : SyntaxTree) → is_token t ≡ false → (k : ℕ) × (f : Forest ℕ) × (t ≡ Node k f)
+    shown (Token k s) h = absurd (true≢false h)
+    shown (Node k f) h = (k, f, refl)
+
+kept-node : (table : ℕ → List SyntaxTree) (cs : List NumberedAim) (t : SyntaxTree) (k : ℕ) (f : Forest ℕ) → t ≡ Node k f → IsOneNode (rewritten kind_only table cs [] t ∷ [])
+kept-node table cs t k f is = (k, forest (rewritten_from kind_only table cs [] 0 f), ap (λ u. rewritten kind_only table cs [] u ∷ []) is)
+
+brought-node : (o : Path → ℕ → Origin) (g : ℕ → List OriginTree) (cs : List NumberedAim) (t : SyntaxTree) (k : ℕ) (f : Forest ℕ) → t ≡ Node k f → IsOneNode (plain (rewritten o g cs [] t) ∷ [])
+brought-node o g cs t k f is =
+    ((o [] k).kind, forest_relabelled (λ l. l.kind) (forest (rewritten_from o g cs [] 0 f)), ap (λ u. plain (rewritten o g cs [] u) ∷ []) is)
+
+no-replacement : (at : Position) → replaces [] (position_aim at) ≡ false
+no-replacement (FirstChild n) = refl
+no-replacement (After e) = refl
+
+module _ (cs : List Change) (places : ℕ → Path) (table : GivenTable) (are : AreGiven cs places table) (root : Element) where
+  top-kept : IsNode root → list_any (λ c. has_path (targets c) []) cs ≡ false → IsOneNode (rewritten_whole kind_only (given_in table) (independents cs) (subtree root))
+  top-kept node none =
+      let t = tree-of-node root node in
+      subst IsOneNode (sym (ap (λ b. cond b (flat_map (given_in table) (replacements_at (independents cs) [])) (rewritten kind_only (given_in table) (independents cs) [] (subtree root) ∷ [])) (none-replaced cs 0 none))) (kept-node (given_in table) (independents cs) (subtree root) t.0 t.1 t.2)
+    where
+      not-there : (c : Change) → has_path (targets c) [] ≡ false → replaces [] (aim c) ≡ false
+      not-there (Insert at e) h = no-replacement at
+      not-there (InsertAll at es) h = no-replacement at
+      not-there (Replace t e) h = h
+      not-there (ReplaceWithMany t es) h = h
+      not-there (ReplaceAll first last es) h = h
+
+      none-replaced : (ds : List Change) (k : ℕ) → list_any (λ c. has_path (targets c) []) ds ≡ false → is_replaced (change_aims (filter (λ d. is_independent cs d.1) (enumerate_from k ds))) [] ≡ false
+      none-replaced [] k h = refl
+      none-replaced (d ∷ ds) k h =
+          let both = or_parts (has_path (targets d) []) (list_any (λ c. has_path (targets c) []) ds) h in
+          let rest = none-replaced ds (k + 1) both.1 in
+          elim (is_independent cs d) as (λ b. is_replaced (change_aims (cond b ((k, d) ∷ filter (λ d. is_independent cs d.1) (enumerate_from (k + 1) ds)) (filter (λ d. is_independent cs d.1) (enumerate_from (k + 1) ds)))) [] ≡ false) [
+            | true ↦ or_from (replaces [] (aim d)) _ (not-there d both.0) rest
+            | false ↦ rest
+          ]
+
+  top-brought : (i : ℕ) (c : Change) → first_clash cs ≡ None → slice_get cs i ≡ Some c → has_path (targets c) [] ≡ true → BringsNode c → IsOneNode (rewritten_whole kind_only (given_in table) (independents cs) (subtree root))
+  top-brought i c apart at_i h brings =
+      let alone = root-alone cs i c apart at_i h in
+      let t = tree-of-node brings.0 brings.2 in
+      let own = origin (address brings.0) (Some i) in
+      let payload_is : payload_of cs i ≡ brings.0 ∷ [] = ap (λ o. option_map_or payload o []) at_i ∙ brings.1 in
+      let given_is_one : given_in table i ≡ plain (rewritten own (given cs places) (dependents cs places i) [] (subtree brings.0)) ∷ [] = are i ∙ ap (map plain) (given_is cs places i ∙ ap (map (λ e. rewritten (origin (address e) (Some i)) (given cs places) (dependents cs places i) [] (subtree e))) payload_is) in
+      let whole : rewritten_whole kind_only (given_in table) (independents cs) (subtree root) ≡ given_in table i = ap (λ b. cond b (flat_map (given_in table) (replacements_at (independents cs) [])) (rewritten kind_only (given_in table) (independents cs) [] (subtree root) ∷ [])) (some-starts (independents cs) [] i alone) ∙ ap (flat_map (given_in table)) alone ∙ append-nil (given_in table i) in
+      subst IsOneNode (sym (whole ∙ given_is_one)) (brought-node own (given cs places) (dependents cs places i) (subtree brings.0) t.0 t.1 t.2)
+
+-- where a search for a change that replaces the root ends
+pub stays-a-node : (cs : List Change) (root : Element) → IsNode root → find (λ c. has_path (targets c) []) cs ≡ None → (places : ℕ → Path) (table : GivenTable) → AreGiven cs places table → IsOneNode (rewritten_whole kind_only (given_in table) (independents cs) (subtree root))
+stays-a-node cs root node none places table are =
+    top-kept cs places table are root node (any-none cs (none-passes (λ c. has_path (targets c) []) cs none))
+  where
+    any-none : (ds : List Change) → AllByRecursion (λ c. has_path (targets c) [] ≡ false) ds → list_any (λ c. has_path (targets c) []) ds ≡ false
+    any-none [] h = refl
+    any-none (d ∷ ds) h = or_from (has_path (targets d) []) _ h.0 (any-none ds h.1)
+
+pub takes-its-place : (cs : List Change) (root : Element) (c : Change) → first_clash cs ≡ None → find (λ c. has_path (targets c) []) cs ≡ Some c → BringsNode c → (places : ℕ → Path) (table : GivenTable) → AreGiven cs places table → IsOneNode (rewritten_whole kind_only (given_in table) (independents cs) (subtree root))
+takes-its-place cs root c apart found brings places table are =
+    let there = found-at (λ c. has_path (targets c) []) cs c found in
+    top-brought cs places table are root there.0 c apart there.1 there.2 brings
+
+-- a change that is found has what all have
+pub found-fits : (P : Change → Type 0) (cs : List Change) (c : Change) → All P cs → find (λ c. has_path (targets c) []) cs ≡ Some c → P c × (has_path (targets c) [] ≡ true)
+found-fits P cs c all found =
+    let there = found-at (λ c. has_path (targets c) []) cs c found in
+    (subst P (get_or_from_slice_get cs there.0 c c there.1) (all there.0 c (slice_get_within cs there.0 c there.1)), there.2)

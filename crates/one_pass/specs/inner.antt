@@ -1,0 +1,13 @@
+-- What private calls cite, and the crates above for theirs: no contract that a user calls by names any of it.
+pub mod OneMore
+pub mod Groups
+pub mod Few
+pub mod Pass
+pub mod Marked
+pub mod Built
+pub mod Lists
+pub mod Sought
+pub mod OwnerTables
+pub mod GivenTables
+pub mod Marks
+pub mod Root

@@ -1,0 +1,80 @@
+-- Where registered elements stand in what changes give and in the new tree, as marks.
+--     with_marks                    a tree labelled by the numbers of the registered elements that its elements were copied from
+--     marks_given                   what a change gives, so labelled
+--     IsTableOf                     a table of registered elements has at each address what it should
+--     element_sought, payload_sought      an element, rewritten, with what a table has there as marks; several
+--     with_answer                     another answer for one change
+--     paths_of_mark                 of marks in the trees that stand in a place, the paths of one mark in its tree
+--     path_lists                    lists of paths in code
+--     AreMarksFrom                  a table has the marks of what changes of this depth or more give, and of those that own nothing
+--     ArePathsOf                    n lists have the paths of these marks, each those of its number
+--     HasPathMore, PathsStay        a list has one path more at its end; the others are as they were
+--     IsDealtOut                    the path of one mark went to the list of its number, if there is one
+--     HasPathsMore                  a list has one path more if the mark is of this number
+use Rattle.std.specs.Prelude.{◌≡◌, ◌≢◌, ◌<◌, ℕ, ◌≤◌, cond, nat_eq, List, [], ◌∷◌, ◌++◌, map, filter, drop, length, get_or, Vec}
+use Rattle.std.specs.Global.{Global}
+use Rattle.cst_core.specs.Path.{Path}
+use Rattle.cst_core.specs.Tree.{relabelled}
+use Rattle.cst_core.specs.Element.{Address, Element, address, subtree}
+use Rattle.edit_change.specs.Rewriting.{NumberedAim, rewritten}
+use Rattle.one_pass.specs.inner.Marked.{MarkTree, Marking, mark_of, wanted}
+use Rattle.one_pass.specs.declared.mark.Mark.{Mark}
+use Rattle.one_pass.specs.inner.Pass.{AreMarkedIn}
+use Rattle.edit_change.specs.Topmost.{paths_of}
+use Rattle.one_pass.specs.declared.marked_given.GivenTable.{GivenTable}
+use Rattle.edit_change.specs.inner.OwnerPlaces.{depth_of}
+use Rattle.edit_change.specs.NewTree.{OriginTree, dependents, given}
+use Rattle.one_pass.specs.inner.Sought.{sought_from, sought_at, registered_at}
+use Rattle.edit_change.specs.declared.change.Change.{Change}
+use Rattle.one_pass.specs.declared.sought.SoughtIndex.{SoughtIndex}
+
+abbrev pub with_marks : List Address → OriginTree → MarkTree
+with_marks rs t = relabelled (λ o. registered_at rs o.address) t
+
+abbrev pub marks_given : List Address → List Change → (ℕ → Path) → ℕ → List MarkTree
+marks_given rs changes places c = map (with_marks rs) (given changes places c)
+
+abbrev pub IsTableOf : List Address → SoughtIndex → Type 0
+IsTableOf rs index = (a : Address) → sought_at index a ≡ sought_from 0 rs a
+
+abbrev pub element_sought : SoughtIndex → (ℕ → List MarkTree) → List NumberedAim → Element → MarkTree
+element_sought index trees cs e = rewritten (wanted (sought_at index (address e))) trees cs [] (subtree e)
+
+abbrev pub payload_sought : SoughtIndex → (ℕ → List MarkTree) → List NumberedAim → List Element → List MarkTree
+payload_sought index trees cs es = map (element_sought index trees cs) es
+
+abbrev pub with_answer : (ℕ → List MarkTree) → ℕ → List MarkTree → ℕ → List MarkTree
+with_answer trees c ts n = cond (nat_eq n c) ts (trees n)
+
+pub record AreMarksFrom (rs : List Address) (changes : List Change) (places : ℕ → Path) (level : ℕ) (table : GivenTable) : Type 0 where
+  pub trees : ℕ → List MarkTree
+  pub are : AreMarkedIn table trees
+  pub deep : (c : ℕ) → level ≤ depth_of changes c → trees c ≡ marks_given rs changes places c
+  pub own_nothing : (c : ℕ) → dependents changes places c ≡ [] → trees c ≡ marks_given rs changes places c
+
+-- ---- dealt out
+abbrev pub paths_of_mark : ℕ → List Marking → List Path
+paths_of_mark n ms = map (λ m. drop 1 m.1) (filter (λ m. nat_eq n m.0) ms)
+
+abbrev pub path_lists : List (Vec (Vec ℕ Global) Global) → List (List Path)
+path_lists ls = map (λ l. paths_of l.items) ls
+
+-- ---- lists of paths, for one number after another
+abbrev pub ArePathsOf : List Marking → ℕ → List (Vec (Vec ℕ Global) Global) → Type 0
+ArePathsOf ms count lists =
+    (k : ℕ) (d : Vec (Vec ℕ Global) Global) → k < count → paths_of (get_or lists k d).items ≡ paths_of_mark k ms
+
+module _ (before after : List (Vec (Vec ℕ Global) Global)) where
+  abbrev pub HasPathMore : ℕ → Vec ℕ Global → Type 0
+  HasPathMore n p = (d : Vec (Vec ℕ Global) Global) → (get_or after n d).items ≡ (get_or before n d).items ++ p ∷ []
+
+  abbrev pub PathsStay : ℕ → Type 0
+  PathsStay n = (k : ℕ) (d : Vec (Vec ℕ Global) Global) → k ≢ n → (get_or after k d).items ≡ (get_or before k d).items
+
+  abbrev pub IsDealtOut : Mark → Type 0
+  IsDealtOut m =
+      (k : ℕ) (d : Vec (Vec ℕ Global) Global) → k < length before →
+      paths_of (get_or after k d).items ≡ paths_of (get_or before k d).items ++ paths_of_mark k (mark_of m ∷ [])
+
+abbrev pub HasPathsMore : ℕ → Vec (Vec ℕ Global) Global → Vec (Vec ℕ Global) Global → Mark → Type 0
+HasPathsMore n before after m = paths_of after.items ≡ paths_of before.items ++ paths_of_mark n (mark_of m ∷ [])

@@ -1,0 +1,195 @@
+-- What the pass is told: what is kept is labelled by its kind alone, and of what changes give, elements and their marks.
+--     own_marks                     the mark of a top, if there is one
+--     marks_there                   the marks of the given element at an index: that of its top, and those of a list, if it goes so far
+--     IsMarked                      these trees are as many as the given elements, and each has the marks of its own
+--     IsMarkedIn, AreMarkedIn       the same of an entry of a table, where no entry gives nothing; of all changes, by their numbers
+--     given_in                      what a change gives, from a table by its number: nothing where the table has none
+--     gap_changes                   the inserts of a gap of the top, in the order in which they stand there
+--     slot_changes, top_changes     what replaces from a child of the top on; what replaces the top
+--     topped                        a tree with one mark more at its top
+--     marks_at_path                 the marks of the given element at an index, which stands at a path
+--     Puts                          trees that are put after others
+--     FindsGiven, FindsChange, FindsAll          where the marks of what is put next are found: of an entry, of a change, of several
+--     TouchesAtMost, CountsBuilt, CountsBuiltWhole      how a count of built nodes rises
+--     CountsTouched                 how it rises where all that is touched is built
+--     remade, remade_whole          the tree that a pass makes; what stands in the place of an element
+--     kept_marks                    an untouched element, labelled by the marks that are sought in it
+--     FindsKept, FindsChild         where the marks of an untouched element are found; of one that is put next
+--     aims_inside                   the aims at a child slot or below, as they are seen from the child
+--     child_made, slot_made         what is made of a child; what stands in its slot
+--     children_made                 what is made of all children
+--     PutsAltered, PutsSlot, PutsChildren        that is put after others
+--     CountsOn                      a count rose by so many nodes, whatever is counted after
+--     child_built, slot_built, children_built    how many nodes are built of a child that is kept; in a slot; of all children
+--     FindsAltered, FindsSlot, FindsChildren     where the marks of a child made anew are found; in a slot; of all children
+--     FindsRebuilt, FindsWhole      where the marks of a rebuilt element are found; of what stands in its place
+use Rattle.edit_change.specs.inner.KindOnly.{kind_only}
+use Rattle.std.specs.Prelude.{◌≡◌, ◌<◌, ◌≤◌, ◌+◌, ℕ, cond, List, [], ◌∷◌, ◌++◌, map, flat_map, length, get_or, slice_get, Option, Some, None, Vec}
+use Rattle.std.specs.Global.{Global}
+use Rattle.std.specs.Option.{option_map_or}
+use Rattle.green_tree.specs.Path.{Path}
+use Rattle.green_tree.specs.Tree.{Tree, Token, Node, SyntaxTree, forest}
+use Rattle.edit_change.specs.inner.Given.{given_trees}
+use Rattle.green_tree.specs.GreenElement.{element_tree, element_trees}
+use Rattle.green_tree.specs.declared.green.GreenElement.{GreenElement}
+use Rattle.edit_change.specs.Effort.{touched, parents_of, counted}
+use Rattle.one_pass.specs.inner.Built.{built_from, nodes_built, nodes_built_whole, AreBuilt}
+use Rattle.edit_change.specs.Rewriting.{NumberedAim, inserts_at, replacements_at, is_replaced, gap_order, slot, rewritten, rewritten_from, rewritten_whole}
+use Rattle.edit_change.specs.inner.Aimed.{formed, of_formed, aims_of, formed_below}
+use Rattle.one_pass.specs.inner.Marked.{MarkTree, Marking, marked, marked_from, mark_below, marks_of, sought_in, wanted, Finds}
+use Rattle.edit_change.specs.declared.aimed.Aimed.{Aimed}
+use Rattle.one_pass.specs.declared.mark.Mark.{Mark}
+use Rattle.one_pass.specs.declared.mark.Sought.{Sought}
+use Rattle.one_pass.specs.declared.marked_given.MarkedGiven.{MarkedGiven}
+use Rattle.one_pass.specs.declared.marked_given.GivenTable.{GivenTable}
+
+abbrev pub own_marks : Option ℕ → List Marking
+own_marks None = []
+own_marks (Some n) = (n, []) ∷ []
+
+abbrev pub marks_there : Option ℕ → MarkedGiven → ℕ → List Marking
+marks_there top g i = own_marks top ++ option_map_or (λ v. marks_of v.items) (slice_get g.marks.items i) []
+
+pub record IsMarked (top : Option ℕ) (g : MarkedGiven) (ts : List MarkTree) : Type 0 where
+  pub count : length ts ≡ length (given_trees g.elements)
+  pub each : (i : ℕ) (d : MarkTree) → i < length ts → marked (get_or ts i d) ≡ marks_there top g i
+
+abbrev pub IsMarkedIn : Option ℕ → Option MarkedGiven → List MarkTree → Type 0
+IsMarkedIn top None ts = ts ≡ []
+IsMarkedIn top (Some g) ts = IsMarked top g ts
+
+abbrev pub AreMarkedIn : GivenTable → (ℕ → List MarkTree) → Type 0
+AreMarkedIn table trees = (c : ℕ) → IsMarkedIn table.top (slice_get table.entries.items c) (trees c)
+
+abbrev pub given_in : GivenTable → ℕ → List SyntaxTree
+given_in table c = option_map_or (λ g. given_trees g.elements) (slice_get table.entries.items c) []
+
+abbrev pub gap_changes : List Aimed → ℕ → List ℕ
+gap_changes aims gap = gap_order (inserts_at (aims_of aims) [] gap)
+
+abbrev pub slot_changes : List Aimed → ℕ → List ℕ
+slot_changes aims slot = replacements_at (aims_of aims) (slot ∷ [])
+
+abbrev pub top_changes : List Aimed → List ℕ
+top_changes aims = replacements_at (aims_of aims) []
+
+abbrev pub topped : ℕ → MarkTree → MarkTree
+topped n (Token l s) = Token (n ∷ l) s
+topped n (Node l f) = Node (n ∷ l) f
+
+-- ---- what is put into the new tree, and found
+abbrev pub marks_at_path : Path → Option ℕ → MarkedGiven → ℕ → List Marking
+marks_at_path path top g i = map (mark_below path) (marks_there top g i)
+
+abbrev pub Puts : Vec GreenElement Global → Vec GreenElement Global → List SyntaxTree → Type 0
+Puts before after ts = element_trees after.items ≡ element_trees before.items ++ ts
+
+abbrev pub kept_marks : List Sought → GreenElement → MarkTree
+kept_marks sought e = rewritten (wanted (sought_in sought)) (λ c. []) [] [] (element_tree e)
+
+-- below the node at a path, which has these children so far
+module _ (path : Vec ℕ Global) (out : Vec GreenElement Global) (before after : Vec Mark Global) where
+  abbrev stands_from_here : List MarkTree → List Marking
+  stands_from_here ts = map (mark_below path.items) (marked_from (length out.items) ts)
+
+  abbrev pub FindsGiven : Option ℕ → MarkedGiven → Type 0
+  FindsGiven top g = (ts : List MarkTree) → IsMarked top g ts → Finds before after (stands_from_here ts)
+
+  abbrev pub FindsChange : GivenTable → ℕ → Type 0
+  FindsChange table c =
+      (trees : ℕ → List MarkTree) → AreMarkedIn table trees → Finds before after (stands_from_here (trees c))
+
+  abbrev pub FindsAll : GivenTable → List ℕ → Type 0
+  FindsAll table cs =
+      (trees : ℕ → List MarkTree) → AreMarkedIn table trees → Finds before after (stands_from_here (flat_map trees cs))
+
+  abbrev pub FindsChild : List Sought → GreenElement → Type 0
+  FindsChild sought e = Finds before after (stands_from_here (kept_marks sought e ∷ []))
+
+-- ---- what the pass makes of the children of a node, each by the aims that concern it
+abbrev pub aims_inside : List Aimed → ℕ → List NumberedAim
+aims_inside aims i = map of_formed (formed_below i (map formed aims))
+
+module _ {L : Type 0} (label_at : Path → ℕ → L) (given : ℕ → List (Tree L)) (aims : List Aimed) where
+  abbrev pub child_made : ℕ → GreenElement → Tree L
+  child_made i e = rewritten label_at given (aims_inside aims i) [] (element_tree e)
+
+  abbrev pub slot_made : ℕ → GreenElement → List (Tree L)
+  slot_made i e = slot label_at given (aims_of aims) (i ∷ []) (child_made i e)
+
+  abbrev pub children_made : List GreenElement → List (Tree L)
+  children_made es = rewritten_from label_at given (aims_of aims) [] 0 (forest (element_trees es))
+
+module _ (before after : Vec GreenElement Global) (table : GivenTable) (aims : List Aimed) where
+  abbrev pub PutsAltered : ℕ → GreenElement → Type 0
+  PutsAltered i e = Puts before after (child_made kind_only (given_in table) aims i e ∷ [])
+
+  abbrev pub PutsSlot : ℕ → GreenElement → Type 0
+  PutsSlot i e = Puts before after (slot_made kind_only (given_in table) aims i e)
+
+  abbrev pub PutsChildren : List GreenElement → Type 0
+  PutsChildren es = Puts before after (children_made kind_only (given_in table) aims es)
+
+-- whatever is counted after, from before it is n more
+abbrev pub CountsOn : ℕ → ℕ → ℕ → Type 0
+CountsOn before after n = (further : ℕ) → counted after further ≡ counted before (n + further)
+
+module _ (aims : List Aimed) where
+  abbrev pub child_built : ℕ → GreenElement → ℕ
+  child_built i e = nodes_built (aims_inside aims i) (element_tree e)
+
+  abbrev pub slot_built : ℕ → GreenElement → ℕ
+  slot_built i e = cond (is_replaced (aims_of aims) (i ∷ [])) 0 (child_built i e)
+
+  abbrev pub children_built : List GreenElement → ℕ
+  children_built es = built_from (aims_of aims) [] 0 (forest (element_trees es)) (parents_of (aims_of aims))
+
+module _ (path : Vec ℕ Global) (out : Vec GreenElement Global) (before after : Vec Mark Global) (table : GivenTable) (aims : List Aimed) where
+  -- where what stands here depends on what the changes give
+  abbrev FindsHere : ((ℕ → List MarkTree) → List MarkTree) → Type 0
+  FindsHere made =
+      (trees : ℕ → List MarkTree) → AreMarkedIn table trees → Finds before after (map (mark_below path.items) (marked_from (length out.items) (made trees)))
+
+  abbrev pub FindsAltered : ℕ → List Sought → GreenElement → Type 0
+  FindsAltered i sought e = FindsHere (λ trees. child_made (wanted (sought_in sought)) trees aims i e ∷ [])
+
+  abbrev pub FindsSlot : ℕ → List Sought → GreenElement → Type 0
+  FindsSlot i sought e = FindsHere (λ trees. slot_made (wanted (sought_in sought)) trees aims i e)
+
+  abbrev pub FindsChildren : List Sought → List GreenElement → Type 0
+  FindsChildren sought es = FindsHere (λ trees. children_made (wanted (sought_in sought)) trees aims es)
+
+-- ---- what the pass makes of an element
+abbrev pub TouchesAtMost : List Aimed → GreenElement → ℕ → ℕ → Type 0
+TouchesAtMost aims e before after = after ≤ before + touched (element_tree e) (parents_of (aims_of aims))
+
+abbrev pub CountsBuilt : List Aimed → GreenElement → ℕ → ℕ → Type 0
+CountsBuilt aims e before after = after ≡ counted before (nodes_built (aims_of aims) (element_tree e))
+
+abbrev pub CountsBuiltWhole : List Aimed → GreenElement → ℕ → ℕ → Type 0
+CountsBuiltWhole aims e before after = after ≡ counted before (nodes_built_whole (aims_of aims) (element_tree e))
+
+abbrev pub CountsTouched : List Aimed → GreenElement → ℕ → ℕ → Type 0
+CountsTouched aims e before after =
+    AreBuilt (aims_of aims) (element_tree e) → after ≡ counted before (touched (element_tree e) (parents_of (aims_of aims)))
+
+abbrev pub remade : GivenTable → List Aimed → GreenElement → SyntaxTree
+remade table aims e = rewritten kind_only (given_in table) (aims_of aims) [] (element_tree e)
+
+abbrev pub remade_whole : GivenTable → List Aimed → GreenElement → List SyntaxTree
+remade_whole table aims e = rewritten_whole kind_only (given_in table) (aims_of aims) (element_tree e)
+
+-- ---- where its marks are
+abbrev pub FindsKept : List Sought → GreenElement → Vec ℕ Global → Vec Mark Global → Vec Mark Global → Type 0
+FindsKept sought e path before after = Finds before after (map (mark_below path.items) (marked (kept_marks sought e)))
+
+module _ (table : GivenTable) (aims : List Aimed) (sought : List Sought) (e : GreenElement) where
+  abbrev pub FindsRebuilt : Vec ℕ Global → Vec Mark Global → Vec Mark Global → Type 0
+  FindsRebuilt path before after =
+      (trees : ℕ → List MarkTree) → AreMarkedIn table trees →
+      Finds before after (map (mark_below path.items) (marked (rewritten (wanted (sought_in sought)) trees (aims_of aims) [] (element_tree e))))
+
+  abbrev pub FindsWhole : Vec Mark Global → Type 0
+  FindsWhole found =
+      (trees : ℕ → List MarkTree) → AreMarkedIn table trees →
+      marks_of found.items ≡ marked_from 0 (rewritten_whole (wanted (sought_in sought)) trees (aims_of aims) (element_tree e))

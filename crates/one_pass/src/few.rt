@@ -1,0 +1,9 @@
+use edit_change::Aimed;
+use crate::lone::Lone;
+
+/// One aim, or several, of which only several take memory of their own.
+#[derive(Drop)]
+pub(crate) enum Few<'a> {
+    One(Lone<'a>),
+    Many(Vec<Aimed<'a>>),
+}

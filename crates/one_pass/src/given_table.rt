@@ -1,0 +1,214 @@
+//! What each change gives, with what it owns carried out in its payload, and where registered elements stand in it.
+
+ghost use Rattle.std.specs.Prelude.{ℕ, None, [], ◌≡◌, ◌<◌, map, length, All, IfOk, OnOk};
+ghost use Rattle.cst_core.specs.Element.{subtree};
+ghost use Rattle.cst_core.specs.SyntaxElement.{element_of};
+ghost use Rattle.cst_core.specs.GreenElement.{element_tree};
+ghost use Rattle.edit_change.specs.inner.Aimed.{aims_of};
+ghost use Rattle.edit_change.specs.inner.Given.{given_trees};
+ghost use Rattle.one_pass.specs.inner.Pass.{IsMarked, given_in};
+ghost use Rattle.edit_change.specs.Change.{payload};
+ghost use Rattle.edit_change.specs.NewTree.{payload_of};
+ghost use Rattle.one_pass.specs.inner.GivenTables.{element_rewritten, each_rewritten, FindsElement, IsMarkedEach};
+ghost use Rattle.one_pass.specs.inner.GivenTables.{HasPayloadMarks, FillsMarks, FillsLevel, FillsLevelMarks};
+ghost use Rattle.one_pass.specs.inner.GivenTables.{TellsGiven, TellsMarks};
+ghost use Rattle.one_pass.specs.inner.GivenTables.{CountsElement, CountsEach, CountsOwner, CountsLevel, CountsPayloads};
+ghost use Rattle.one_pass.specs.inner.Marks.{payload_sought};
+ghost use Rattle.one_pass.specs.inner.OwnerTables.{moved_dependent, IsFilled};
+
+use crate::by_depth::owners_by_depth;
+use crate::dependent::{Dependent, moved_aims};
+use crate::sought::SoughtIndex;
+use cst_core::{GreenElement, SyntaxElement};
+use crate::mark::Mark;
+use crate::marked_given::{GivenTable, MarkedGiven};
+use crate::pass::rebuild;
+use edit_change::{Aimed, Change, Given, green_payload};
+use std::alloc::{AllocError, Global};
+
+// An element, rewritten. Its marks go to the end of a list, and the nodes that are built are counted.
+fn rewritten_element(
+    alloc: Global,
+    found: &mut Vec<Mark>,
+    element: &SyntaxElement,
+    aims: &[Aimed],
+    index: &SoughtIndex,
+    given: &GivenTable,
+    builds: &mut u64,
+) -> Result<GreenElement, AllocError>
+    ensures count { OnOk result (CountsElement aims.now element.now builds.old builds.new) }
+    ensures tree { IfOk result (λ e. element_tree e ≡ element_rewritten given.now aims.now element.now) }
+    ensures marks { OnOk result (FindsElement given.now aims.now index.now element.now found.old found.new) }
+{
+    let old = element.green(alloc)?;
+    let sought = index.at(element);
+    let mut path = Vec::new(alloc);
+    let new = rebuild(alloc, found, &mut path, &old, aims, sought, given, builds)?;
+    Ok(new)
+}
+
+// These elements, each rewritten, with their marks.
+fn rewritten_each<'a>(
+    alloc: Global,
+    elements: &[SyntaxElement],
+    aims: &[Aimed],
+    index: &SoughtIndex,
+    given: &GivenTable,
+    builds: &mut u64,
+) -> Result<MarkedGiven<'a>, AllocError>
+    ensures count { OnOk result (CountsEach (aims_of aims.now) (map element_of elements.now) builds.old builds.new) }
+    ensures trees { IfOk result (λ g. given_trees g.elements ≡ each_rewritten given.now aims.now elements.now) }
+    ensures marks { IfOk result (IsMarkedEach given.now aims.now index.now elements.now) }
+{
+    let _count = *builds;
+    let mut greens = Vec::with_capacity(alloc, elements.len())?;
+    let mut marks = Vec::new(alloc);
+    for element in elements {
+        let mut own = Vec::new(alloc);
+        let green = rewritten_element(alloc, &mut own, element, aims, index, given, builds)?;
+        greens.push(green)?;
+        marks.push(own)?;
+    }
+    Ok(MarkedGiven {
+        elements: Given::Shared(greens),
+        marks,
+    })
+}
+
+// A change's payload, with its marks. Where nothing is registered, nothing is looked for.
+fn marked_payload<'a>(
+    alloc: Global,
+    change: &'a Change,
+    index: &SoughtIndex,
+) -> Result<MarkedGiven<'a>, AllocError>
+    ensures trees { IfOk result (λ g. given_trees g.elements ≡ map subtree (payload change.now)) }
+    ensures marks { IfOk result (λ g. IsMarked None g (payload_sought index.now (λ n. []) [] (payload change.now))) }
+{
+    if index.is_empty() {
+        return Ok(MarkedGiven {
+            elements: green_payload(alloc, change)?,
+            marks: Vec::new(alloc),
+        });
+    }
+    let nothing = GivenTable {
+        entries: Vec::new(alloc),
+        top: None,
+    };
+    // Nothing aims into it, so nothing is built.
+    let mut builds = 0;
+    rewritten_each(alloc, change.payload(), &[], index, &nothing, &mut builds)
+}
+
+// The payload of each change, by its number.
+fn payloads<'a>(
+    alloc: Global,
+    changes: &'a [Change],
+    index: &SoughtIndex,
+) -> Result<GivenTable<'a>, AllocError>
+    ensures top { IfOk result (λ t. t.top ≡ None) }
+    ensures long { IfOk result (λ t. length t.entries.items ≡ length changes.now) }
+    ensures payloads { IfOk result (λ t. (c : ℕ) → given_in t c ≡ map subtree (payload_of changes.now c)) }
+    ensures marks { IfOk result (HasPayloadMarks index.now changes.now) }
+{
+    let mut entries = Vec::with_capacity(alloc, changes.len())?;
+    for change in changes {
+        entries.push(marked_payload(alloc, change, index)?)?;
+    }
+    Ok(GivenTable { entries, top: None })
+}
+
+// Enters what a change gives, where what it owns has been entered.
+fn fill(
+    alloc: Global,
+    changes: &[Change],
+    owner: usize,
+    dependents: &[Dependent],
+    index: &SoughtIndex,
+    given: &mut GivenTable,
+    builds: &mut u64,
+) -> Result<(), AllocError>
+    requires there { owner < length changes.now }
+    requires long { length given.now.entries.items ≡ length changes.now }
+    requires top { given.now.top ≡ None }
+    ensures long { OnOk result (length given.new.entries.items ≡ length changes.now) }
+    ensures top { OnOk result (given.new.top ≡ None) }
+    ensures count { OnOk result (CountsOwner changes.now owner dependents.now builds.old builds.new) }
+    ensures filled { OnOk result (IsFilled changes.now owner (map moved_dependent dependents.now) given.old given.new) }
+    ensures marks { OnOk result (FillsMarks index.now changes.now given.old given.new owner dependents.now) }
+{
+    let aims = moved_aims(alloc, dependents)?;
+    let payload = changes[owner].payload();
+    let rewritten = rewritten_each(alloc, payload, &aims, index, given, builds)?;
+    given.entries[owner] = rewritten;
+    Ok(())
+}
+
+// Enters what the owners of one depth give, where all that is deeper has been entered.
+fn fill_level(
+    alloc: Global,
+    changes: &[Change],
+    dependents: &[Vec<Dependent>],
+    owners: &[usize],
+    index: &SoughtIndex,
+    given: &mut GivenTable,
+    builds: &mut u64,
+) -> Result<(), AllocError>
+    requires owned { length dependents.now ≡ length changes.now }
+    requires there { All (λ c. c < length changes.now) owners.now }
+    requires long { length given.now.entries.items ≡ length changes.now }
+    requires top { given.now.top ≡ None }
+    ensures long { OnOk result (length given.new.entries.items ≡ length changes.now) }
+    ensures top { OnOk result (given.new.top ≡ None) }
+    ensures count { OnOk result (CountsLevel changes.now dependents.now owners.now builds.old builds.new) }
+    ensures filled { OnOk result (FillsLevel changes.now dependents.now owners.now given.old given.new) }
+    ensures marks { OnOk result (FillsLevelMarks changes.now dependents.now index.now owners.now given.old given.new) }
+{
+    let _count = *builds;
+    for owner in owners {
+        fill(
+            alloc,
+            changes,
+            *owner,
+            &dependents[*owner],
+            index,
+            given,
+            builds,
+        )?;
+    }
+    Ok(())
+}
+
+/// What each change gives, by its number, with the marks of the elements that a table has, where another one has what each change owns.
+/// `builds` counts the nodes that are built in the owners' payloads.
+///
+/// An owner comes after all that is deeper. Takes time linear in the changes and the depth of the deepest one, and what the passes
+/// through the owners' payloads take.
+pub(crate) fn given_table<'a>(
+    alloc: Global,
+    changes: &'a [Change],
+    dependents: &[Vec<Dependent>],
+    index: &SoughtIndex,
+    builds: &mut u64,
+) -> Result<GivenTable<'a>, AllocError>
+    requires { length dependents.now ≡ length changes.now }
+    ensures count { OnOk result (CountsPayloads changes.now dependents.now builds.old builds.new) }
+    ensures top { IfOk result (λ t. t.top ≡ None) }
+    ensures given { IfOk result (TellsGiven changes.now dependents.now) }
+    ensures marks { IfOk result (TellsMarks changes.now dependents.now index.now) }
+{
+    let _count = *builds;
+    let owners = owners_by_depth(alloc, changes, dependents)?;
+    let mut given = payloads(alloc, changes, index)?;
+    for level in (0..owners.len()).rev() {
+        fill_level(
+            alloc,
+            changes,
+            dependents,
+            &owners[level],
+            index,
+            &mut given,
+            builds,
+        )?;
+    }
+    Ok(given)
+}

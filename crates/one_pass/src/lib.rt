@@ -1,0 +1,20 @@
+//! The new tree of a set of changes, made in one pass over the old one, from the leaves up.
+#![tactic(auto)]
+
+mod aim_list;
+mod by_depth;
+mod dependent;
+mod few;
+mod given_table;
+mod group;
+mod groups;
+mod lists;
+mod lone;
+mod mark;
+mod mark_paths;
+mod marked_given;
+mod pass;
+mod rewriting;
+mod sought;
+
+pub use rewriting::{OnePass, rewrite};

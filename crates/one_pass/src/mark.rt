@@ -1,0 +1,105 @@
+ghost use Rattle.std.specs.Prelude.{◌<◌, ◌≡◌, length, IfOk, OnOk};
+ghost use Rattle.one_pass.specs.inner.Marked.{sought_in, Finds, found_at, IsDealt};
+ghost use Rattle.one_pass.specs.inner.OneMore.{HasOneMore, StaysElsewhere};
+ghost use Rattle.one_pass.specs.inner.Marked.{AreDealt, sought_for};
+
+use crate::lists::empty_lists;
+use std::alloc::{AllocError, Global};
+
+/// A mark by its number, and the path of an element that has it.
+#[derive(Drop)]
+pub struct Mark {
+    pub number: usize,
+    pub path: Vec<usize>,
+}
+
+/// A mark by its number, and the path of the element of the old tree that has it. Paths are borrowed.
+#[derive(Clone, Copy)]
+pub struct Sought<'a> {
+    pub number: usize,
+    pub path: &'a [usize],
+}
+
+// The marks sought at the top, which has this path in the new tree.
+pub fn push_here(
+    alloc: Global,
+    found: &mut Vec<Mark>,
+    path: &[usize],
+    sought: &[Sought],
+) -> Result<(), AllocError>
+    ensures { OnOk result (Finds found.old found.new (found_at path.now (sought_in sought.now))) }
+{
+    for mark in sought {
+        if mark.path.is_empty() {
+            let path = Vec::from_slice(alloc, path)?;
+            found.push(Mark {
+                number: mark.number,
+                path,
+            })?;
+        }
+    }
+    Ok(())
+}
+
+// One more at the end of a list.
+fn enter<'a>(
+    lists: &mut Vec<Vec<Sought<'a>>>,
+    slot: usize,
+    mark: Sought<'a>,
+) -> Result<(), AllocError>
+    requires { slot < length lists.now.items }
+    ensures size { length lists.new.items ≡ length lists.old.items }
+    ensures here { OnOk result (HasOneMore (λ v. v.items) lists.old.items lists.new.items slot mark.entry) }
+    ensures elsewhere { OnOk result (StaysElsewhere (λ v. v.items) lists.old.items lists.new.items slot) }
+{
+    lists[slot].push(mark)?;
+    Ok(())
+}
+
+// One mark goes to the list of the child that its path leads to or below, if there is one.
+fn deal<'a>(lists: &mut Vec<Vec<Sought<'a>>>, mark: Sought<'a>) -> Result<(), AllocError>
+    ensures size { length lists.new.items ≡ length lists.old.items }
+    ensures lists { OnOk result (IsDealt lists.old.items lists.new.items mark.entry.number mark.entry.path.now) }
+{
+    let [slot, path @ ..] = mark.path else {
+        return Ok(());
+    };
+    if *slot >= lists.len() {
+        return Ok(());
+    }
+    let inner = Sought {
+        number: mark.number,
+        path,
+    };
+    enter(lists, *slot, inner)?;
+    Ok(())
+}
+
+// For each child of the top, n of them, what is sought at the child or below it, as it is seen from the child. Where
+// nothing is sought there are no lists.
+pub fn marks_by_child<'a>(
+    alloc: Global,
+    sought: &[Sought<'a>],
+    count: usize,
+) -> Result<Vec<Vec<Sought<'a>>>, AllocError>
+    ensures { IfOk result (λ v. AreDealt (sought_in sought.now) count v.items) }
+{
+    if sought.is_empty() {
+        return Ok(Vec::new(alloc));
+    }
+    let mut lists = empty_lists(alloc, count)?;
+    for mark in sought {
+        deal(&mut lists, *mark)?;
+    }
+    Ok(lists)
+}
+
+// What is sought in a child, from its list, if there is one.
+pub fn sought_for<'a, 'b>(lists: &'b [Vec<Sought<'a>>], slot: usize) -> &'b [Sought<'a>]
+    ensures { sought_in result.now ≡ sought_for lists.now slot }
+{
+    if slot >= lists.len() {
+        return &[];
+    }
+    lists[slot].as_slice()
+}

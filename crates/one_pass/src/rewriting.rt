@@ -1,0 +1,139 @@
+//! The new tree, in the order in which it comes about.
+
+ghost use Rattle.std.specs.Prelude.{◌≡◌, ◌<◌, ℕ, [], ◌∷◌, map, find, length, option_map, All, None, Some, true, IfOk, OnOk};
+ghost use Rattle.cst_core.specs.Path.{has_path};
+ghost use Rattle.cst_core.specs.Element.{Element, IsNode};
+ghost use Rattle.cst_core.specs.GreenElement.{element_trees};
+ghost use Rattle.edit_change.specs.Change.{targets};
+ghost use Rattle.edit_change.specs.Fits.{Fits};
+ghost use Rattle.edit_change.specs.Nesting.{first_clash};
+ghost use Rattle.edit_change.specs.NewTree.{independents};
+ghost use Rattle.edit_change.specs.inner.Aimed.{aims_of};
+ghost use Rattle.edit_change.specs.inner.Fate.{fate};
+ghost use Rattle.edit_change.specs.inner.OwnerPlaces.{places_in};
+ghost use Rattle.one_pass.specs.inner.Root.{CountsAll, IsOnePass, KeepsTop};
+ghost use Rattle.one_pass.specs.inner.Root.{root_rewritten, FindsInRoot, CountsRoot};
+
+use crate::dependent::dependents;
+use crate::given_table::given_table;
+use crate::mark_paths::mark_paths;
+use crate::marked_given::GivenTable;
+use crate::pass::{Rebuilt, rebuild_whole};
+use crate::sought::SoughtIndex;
+use cst_core::{GreenNode, SyntaxElement, SyntaxNode};
+use edit_change::{Aimed, Change, Fate, Planned, node_for_root, numbered_aim, only_node};
+use std::alloc::{AllocError, Global};
+
+/// What one pass makes of a tree.
+///
+/// A path counts slots from 0, from the new root down: the empty path is that of the root itself.
+#[derive(Drop)]
+pub struct OnePass {
+    /// The new tree.
+    pub green: GreenNode,
+    /// For each element that was asked for, the paths of its copies, in document order.
+    pub copies: Vec<Vec<Vec<usize>>>,
+    /// The paths, in document order, of the elements that changes without an owner brought and whose parent none did.
+    pub changed: Vec<Vec<usize>>,
+}
+
+/// The new tree, with the paths of the copies of each of these elements, and those of changed elements. `builds` counts the nodes that are
+/// built: the parents of changes and all above them, in the old tree and in the payload of each owner. At its greatest number it stays.
+///
+/// The number of each element is its mark, and the next one is that of what changes without an owner give.
+pub fn rewrite(
+    alloc: Global,
+    planned: Planned<'_>,
+    registered: &[SyntaxElement],
+    builds: &mut u64,
+) -> Result<OnePass, AllocError>
+    requires node { IsNode planned.root.now }
+    requires fit { All (Fits planned.root.now) planned.changes.now }
+    requires apart { first_clash planned.changes.now ≡ None }
+    requires fates { planned.fates.now ≡ map (fate planned.changes.now) planned.changes.now }
+    requires places { length planned.places.now ≡ length planned.changes.now }
+    ensures made { IfOk result (IsOnePass planned.entry.root.now planned.entry.changes.now (places_in planned.entry.places.now) registered.now) }
+    ensures count { OnOk result (CountsAll planned.entry.root.now planned.entry.changes.now (places_in planned.entry.places.now) builds.old builds.new) }
+{
+    let Planned {
+        root,
+        changes,
+        fates,
+        places,
+    } = planned;
+    let aims = independent_aims(alloc, changes, fates)?;
+    let dependents = dependents(alloc, changes, fates, places)?;
+    let index = SoughtIndex::of(alloc, registered)?;
+    let mut given = given_table(alloc, changes, &dependents, &index, builds)?;
+    given.top = Some(registered.len());
+    let Rebuilt { elements, marks } = rebuilt_root(alloc, root, &aims, &index, &given, builds)?;
+    keep_top(root, changes);
+    let paths = mark_paths(alloc, marks, registered.len())?;
+    Ok(OnePass {
+        green: only_node(elements),
+        copies: paths.lists,
+        changed: paths.others,
+    })
+}
+
+// The changes without an owner, by where they aim.
+fn independent_aims<'a>(
+    alloc: Global,
+    changes: &'a [Change],
+    fates: &[Fate],
+) -> Result<Vec<Aimed<'a>>, AllocError>
+    requires fit { (root : Element) × All (Fits root) changes.now }
+    requires fates { fates.now ≡ map (fate changes.now) changes.now }
+    ensures { IfOk result (λ v. aims_of v.items ≡ independents changes.now) }
+{
+    let mut aims = Vec::with_capacity(alloc, changes.len())?;
+    for number in 0..changes.len() {
+        if fates[number].is_independent() {
+            aims.push(numbered_aim(&changes[number], number))?;
+        }
+    }
+    Ok(aims)
+}
+
+// What stands in the place of the root, with the marks of it: those of a table, and those of what changes give.
+fn rebuilt_root(
+    alloc: Global,
+    root: &SyntaxNode,
+    aims: &[Aimed],
+    index: &SoughtIndex,
+    given: &GivenTable,
+    builds: &mut u64,
+) -> Result<Rebuilt, AllocError>
+    ensures count { OnOk result (CountsRoot root.now aims.now builds.old builds.new) }
+    ensures trees { IfOk result (λ r. element_trees r.elements.items ≡ root_rewritten root.now aims.now given.now) }
+    ensures marks { IfOk result (λ r. FindsInRoot root.now aims.now given.now index.now r.marks) }
+{
+    let root = SyntaxElement::Node(root.try_clone(alloc)?);
+    let old = root.green(alloc)?;
+    let sought = index.at(&root);
+    let rebuilt = rebuild_whole(alloc, &old, aims, sought, given, builds)?;
+    Ok(rebuilt)
+}
+
+// One node stands in the place of the root: the root itself, or the node that replaces it.
+fn keep_top(root: &SyntaxNode, changes: &[Change])
+    requires node { IsNode root.now }
+    requires fit { All (Fits root.now) changes.now }
+    requires apart { first_clash changes.now ≡ None }
+    ensures { KeepsTop root.now changes.now }
+{
+    let _ = root;
+    match replacing_root(changes) {
+        Some(change) => {
+            let _ = node_for_root(change);
+        }
+        None => {}
+    }
+}
+
+// The change that replaces the root, if one does.
+fn replacing_root(changes: &[Change]) -> Option<&Change>
+    ensures { option_map (λ c. c.now) result ≡ find (λ c. has_path (targets c) []) changes.now }
+{
+    changes.iter().find(|change| change.replaces_root())
+}

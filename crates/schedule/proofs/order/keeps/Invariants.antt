@@ -1,8 +1,0 @@
-use Rattle.std.proofs.Common.{◌≡◌, ◌<◌, ℕ}
-use Rattle.std.specs.Prelude.{Some, slice_index}
-use Rattle.schedule.specs.inner.Followers.{link}
-use Rattle.schedule.proofs.order.keeps.Given as goal
-
-abbrev pub invariant-loop-number : goal.invariant-loop-number
-invariant-loop-number l =
-    (n m : ℕ) → n < l.number → link l.links n ≡ Some m → slice_index l.indices n < slice_index l.indices m

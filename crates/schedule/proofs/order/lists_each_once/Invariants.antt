@@ -1,9 +1,0 @@
-use Rattle.std.proofs.Common.{◌≡◌, length}
-use Rattle.schedule.proofs.EachOnce.{IsMet}
-use Rattle.schedule.proofs.order.lists_each_once.Given as goal
-
-abbrev pub invariant-loop-number : goal.invariant-loop-number
-invariant-loop-number l = record {
-  long : length l.met.items ≡ length l.changes;
-  met : IsMet l.changes l.order l.number-index l.met.items;
-}

@@ -1,9 +1,0 @@
-use Rattle.std.proofs.Common.{◌∙◌, ap}
-use Rattle.std.specs.List.{list_all}
-use Rattle.schedule.specs.inner.Waits.{is_settled}
-use Rattle.schedule.proofs.Completeness.{complete-settled}
-use Rattle.schedule.proofs.waiting.Waiting.is_complete.Goals as goal
-
-pub returns : goal.returns
-returns c =
-    λ cs done is. c.all_are_settled.ensures ∙ ap (list_all is_settled) c.deref.ensures.value ∙ complete-settled cs done c.args.self.now is

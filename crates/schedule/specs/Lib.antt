@@ -1,4 +1,0 @@
-pub mod Schedule
-pub mod OrderRefusal
-pub mod DefaultOrder
-pub mod inner

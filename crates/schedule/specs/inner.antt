@@ -1,6 +1,0 @@
--- What private calls cite, and the crates above for theirs: no contract that a user calls by names any of it.
-pub mod Followers
-pub mod GapTable
-pub mod Turns
-pub mod Waits
-pub mod Waiting

@@ -1,2 +1,0 @@
-mod RowsOfSpaces
-mod Openings

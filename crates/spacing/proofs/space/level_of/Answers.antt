@@ -1,4 +1,0 @@
-use Rattle.spacing.proofs.space.level_of.Goals as goal
-
-pub returns : goal.returns
-returns c = c.as_space_error.ensures.found _ c.from_element.ensures.level

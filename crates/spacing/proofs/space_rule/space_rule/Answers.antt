@@ -1,5 +1,0 @@
-use Rattle.std.proofs.Common.{rules}
-use Rattle.spacing.proofs.space_rule.space_rule.Goals as goal
-
-pub returns-in-USE-USE : goal.returns-in-USE-USE
-returns-in-USE-USE c = search rules

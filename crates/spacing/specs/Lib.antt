@@ -1,3 +1,0 @@
-pub mod Table
-pub mod Spacing
-pub mod inner

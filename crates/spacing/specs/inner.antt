@@ -1,4 +1,0 @@
--- What private calls cite: no contract that a user calls by names any of it.
-pub mod SpaceRule
-pub mod SpaceInCode
-pub mod SpaceRefusal

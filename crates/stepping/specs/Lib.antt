@@ -1,2 +1,0 @@
-pub mod StepCount
-pub mod inner

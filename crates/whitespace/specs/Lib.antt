@@ -1,0 +1,10 @@
+pub mod Level
+pub mod LevelCalls
+pub mod Indentation
+pub mod IndentCalls
+pub mod IndentRefusal
+pub mod MappedAlong
+pub mod Restorable
+pub mod Table
+pub mod Spacing
+pub mod inner
