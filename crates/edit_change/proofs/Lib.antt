@@ -27,4 +27,4 @@ pub mod SeenBelow
 pub mod Settled
 mod Slots
 pub mod Untouched
-mod Walk
+pub mod Walk

@@ -2,6 +2,7 @@
 --     up_to-push, up_to-more        the paths on the way to a child; to one slot more of a path
 --     fate-past, fate-dropped, fate-kept     one element more: in no region, in one that is dropped, in one that moves along
 --     found-at                      the change whose region it is
+--     found-within, found-target    it is there, and what is at the path is one of its targets
 --     region-told                   the region, by what the change says that replaces what is there
 use Rattle.std.specs.Prelude.{◌≡◌, ℕ, ◌+◌, ◌<◌, length, take, Bool, true, false, not, ◌||◌, cond, List, [], ◌∷◌, ◌++◌, map, filter_map, slice_get, Option, Some, None, refl}
 use Rattle.std.specs.List.{list_any, cons_option}
@@ -9,6 +10,7 @@ use Rattle.std.specs.Option.{option_map_or}
 use Rattle.std.proofs.Common.{ap, ap₂, sym, ◌∙◌, get_or}
 use Rattle.std.proofs.lemmas.List.{map-append, append-nil, take_more}
 use Rattle.std.proofs.lemmas.List.Quantifiers.{position-Some}
+use Rattle.std.proofs.lemmas.Option.{none-some}
 use Rattle.std.proofs.lemmas.List.Elements.{filter_map-append}
 use Rattle.std.proofs.lemmas.List.Folds.{list_any-append}
 use Rattle.cst_core.specs.Path.{Path, has_path, above, up_to, last_item}
@@ -85,6 +87,15 @@ module _ (cs : List Change) (ps : List Path) (p : Path) where
 pub found-at : (cs : List Change) (p : Path) (n : ℕ) (c : Change) → target_at cs p ≡ Some n → c ≡ get_or cs n c → slice_get cs n ≡ Some c
 found-at cs p n c found is =
     at-index cs n c (position-Some (λ r. has_path (targets r) p) cs n c found).0 is
+
+-- it is there, and what is at the path is one of its targets
+pub found-within : (cs : List Change) (p : Path) (n : ℕ) → target_at cs p ≡ Some n → n < length cs
+found-within [] p n found = absurd (none-some n found)
+found-within (c ∷ cs) p n found = (position-Some (λ r. has_path (targets r) p) (c ∷ cs) n c found).0
+
+pub found-target : (cs : List Change) (p : Path) (n : ℕ) (c : Change) → target_at cs p ≡ Some n → c ≡ get_or cs n c → has_path (targets c) p ≡ true
+found-target cs p n c found is =
+    ap (λ d. has_path (targets d) p) is ∙ (position-Some (λ r. has_path (targets r) p) cs n c found).1
 
 -- by what a change says of its region
 pub region-told : (cs : List Change) (p : Path) (n : ℕ) (c : Change) (b : Bool) → IsApart cs → target_at cs p ≡ Some n → c ≡ get_or cs n c → region c ≡ cond b (targets c) [] → region_at cs p ≡ cond b (Some n) None

@@ -21,6 +21,8 @@ pub struct EditPlan {
     // The elements that are registered with annotations, in order.
     pub(crate) registrations: Vec<(SyntaxElement, SyntaxAnnotation)>,
     pub(crate) mapping: SyntaxMapping,
+    // Which change replaces an element, by the element's path.
+    pub(crate) targets: TargetIndex,
     // What becomes of each change.
     pub(crate) fates: Vec<Fate>,
     // The place of each owner's target in its payload.
@@ -38,7 +40,7 @@ impl Model for EditPlan {
 
     ghost view = { λ a. new_plan a.root a.changes a.registrations a.mapping };
 
-    ghost invariant = { λ a. IsPlanKept a.root a.changes a.registrations a.mapping a.fates a.places };
+    ghost invariant = { λ a. IsPlanKept a.root a.changes a.registrations a.mapping a.targets a.fates a.places };
 }
 
 impl EditPlan {
@@ -63,14 +65,15 @@ impl EditPlan {
     {
         // What is true of every mapping.
         let _ = mapping.len();
-        let index = TargetIndex::of(alloc, &changes)?;
-        let fates = fates(alloc, &index, &changes)?;
+        let targets = TargetIndex::of(alloc, &changes)?;
+        let fates = fates(alloc, &targets, &changes)?;
         let places = places(alloc, &changes, &fates, &mapping)?;
         Ok(EditPlan {
             root,
             changes,
             registrations,
             mapping,
+            targets,
             fates,
             places,
         })

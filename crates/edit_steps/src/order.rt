@@ -1,6 +1,6 @@
 ghost use Rattle.std.specs.Prelude.{◌≡◌, ◌≤◌, ◌↔◌, ℕ, None, map, length, IfOk, IfErr, OnOk, IsTrue};
 ghost use Rattle.std.specs.List.{list_all};
-ghost use Rattle.edit_change.specs.Nesting.{first_clash};
+ghost use Rattle.edit_change.specs.inner.TargetIndex.{IsIndex};
 ghost use Rattle.edit_change.specs.inner.Fate.{fate, is_dropped_in};
 ghost use Rattle.edit_steps.specs.Schedule.{ListsEachOnce, IsAllowed};
 ghost use Rattle.edit_steps.specs.OrderRefusal.{OrderRefuses};
@@ -19,7 +19,7 @@ pub(crate) use waiting::Waiting;
 
 use crate::order::followers::Followers;
 
-use edit_change::{Change, Fate};
+use edit_change::{Change, Fate, TargetIndex};
 use std::alloc::{AllocError, Global};
 
 fn are_dropped(alloc: Global, fates: &[Fate]) -> Result<Vec<bool>, AllocError>
@@ -92,15 +92,16 @@ fn keeps(indices: &[usize], links: &[Option<usize>]) -> bool
 /// after a token before what replaces the token.
 ///
 /// Each refusal but `Memory`, which may come at any time, is given exactly where its clause does not hold, and all those
-/// before it do. `fates` has what becomes of each change. Takes time near linear in the order and in the paths of the
+/// before it do. `targets` has what the changes replace, and `fates` what becomes of each. Takes time near linear in the order and in the paths of the
 /// changes.
 pub fn check(
     alloc: Global,
+    targets: &TargetIndex,
     changes: &[Change],
     fates: &[Fate],
     order: &[usize],
 ) -> Result<(), OrderError>
-    requires apart { first_clash changes.now ≡ None }
+    requires targets { IsIndex changes.now targets.now }
     requires fates { fates.now ≡ map (fate changes.now) changes.now }
     ensures ok { OnOk result (IsAllowed changes.now order.now) }
     ensures refused { IfErr result (OrderRefuses changes.now order.now) }
@@ -109,7 +110,7 @@ pub fn check(
         return Err(OrderError::NotEachOnce);
     }
     let indices = indices(alloc, changes.len(), order)?;
-    let followers = Followers::of(alloc, changes, fates)?;
+    let followers = Followers::of(alloc, targets, changes, fates)?;
     if !keeps(&indices, &followers.owner) {
         return Err(OrderError::OwnerTooEarly);
     }

@@ -5,6 +5,7 @@ ghost use Rattle.cst_core.specs.Element.{Element, subtree};
 ghost use Rattle.edit_change.specs.inner.Aimed.{numbered};
 ghost use Rattle.edit_change.specs.Fits.{Fits};
 ghost use Rattle.edit_change.specs.Nesting.{first_clash};
+ghost use Rattle.edit_change.specs.inner.TargetIndex.{IsIndex};
 ghost use Rattle.edit_change.specs.inner.Fate.{fate};
 ghost use Rattle.edit_steps.specs.inner.Waiting.{HasChange};
 ghost use Rattle.edit_change.specs.inner.OneNode.{BringsNode, IsNodeTree, IsOneNode};
@@ -21,7 +22,7 @@ use crate::order::Waiting;
 use crate::stage::Stage;
 use crate::stages::payload::{given_elements, payload_stages};
 use cst_core::{GreenElement, GreenNode, SyntaxNode};
-use edit_change::{Aimed, Change, Fate, node_for_root, only_node};
+use edit_change::{Aimed, Change, Fate, TargetIndex, node_for_root, only_node};
 use std::alloc::{AllocError, Global};
 
 /// The tree of some changes, and the payloads of those that own others, with some of the changes carried out, one at a time.
@@ -73,14 +74,16 @@ fn step_in_payload(
 }
 
 impl Stages {
-    /// The tree with this root and the changes with these fates. None of them is done yet.
+    /// The tree with this root, and the changes with these targets and fates. None of them is done yet.
     pub fn new(
         alloc: Global,
         root: &SyntaxNode,
+        targets: &TargetIndex,
         changes: &[Change],
         fates: &[Fate],
     ) -> Result<Stages, AllocError>
         requires apart { first_clash changes.now ≡ None }
+        requires targets { IsIndex changes.now targets.now }
         requires fates { fates.now ≡ map (fate changes.now) changes.now }
         ensures stages { IfOk result (Begins changes.now (subtree root.now)) }
         ensures none_done { IfOk result (λ s. done_in s ≡ map (λ c. false) changes.now) }
@@ -91,7 +94,7 @@ impl Stages {
             tree: Stage::new(alloc, green)?,
             new_root: None,
             payloads: payload_stages(alloc, changes, fates)?,
-            waiting: Waiting::new(alloc, changes, fates)?,
+            waiting: Waiting::new(alloc, targets, changes, fates)?,
             builds: 0,
         })
     }

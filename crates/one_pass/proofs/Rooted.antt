@@ -2,13 +2,12 @@
 --     kept-node, brought-node       a node that is kept is one in the new tree, and so is one that is brought
 --     stays-a-node                  what stands in the place of the root is one node
 --     takes-its-place               the node that a change brings which replaces the root
---     found-fits                    of a change that is found, what is true of all, and that it replaces the root
-use Rattle.std.specs.Prelude.{◌≡◌, ℕ, ◌+◌, true, false, cond, List, [], ◌∷◌, map, flat_map, filter, find, slice_get, unwrap_or, option_map, All, Some, None, refl}
+use Rattle.std.specs.Prelude.{◌≡◌, ℕ, ◌+◌, true, false, cond, List, [], ◌∷◌, map, flat_map, filter, slice_get, unwrap_or, option_map, Some, None, refl}
 use Rattle.std.specs.List.{AllByRecursion, list_any, enumerate_from}
 use Rattle.std.specs.Option.{option_map_or}
 use Rattle.std.proofs.Common.{ap, sym, subst, ◌∙◌}
 use Rattle.std.proofs.lemmas.Bool.{or_from, or_parts, true≢false}
-use Rattle.std.proofs.lemmas.Option.{none-some, same_Some, slice_get_within, get_or_from_slice_get}
+use Rattle.std.proofs.lemmas.Option.{none-some, same_Some}
 use Rattle.std.proofs.lemmas.List.{append-nil}
 use Rattle.cst_core.specs.Path.{Path, has_path}
 use Rattle.cst_core.specs.Tree.{SyntaxTree, Forest, Node, Token, at, is_token, forest, forest_relabelled}
@@ -28,7 +27,9 @@ use Rattle.edit_change.specs.inner.OneNode.{IsOneNode, BringsNode}
 use Rattle.edit_change.specs.NewTree.{Origin, OriginTree, plain, origin, change_aims, payload_of, dependents, given, independents}
 use Rattle.edit_change.specs.declared.change.Change.{Change}
 use Rattle.edit_change.specs.declared.change.Change.TheVariants.{Insert, InsertAll, Replace, ReplaceWithMany, ReplaceAll}
-use Rattle.edit_change.proofs.RootAlone.{none-passes, found-at, root-alone, some-starts}
+use Rattle.edit_change.proofs.RootAlone.{root-alone, some-starts}
+use Rattle.edit_change.proofs.Positions.{none-passes}
+use Rattle.edit_change.specs.inner.TargetIndex.{target_at}
 use Rattle.edit_change.proofs.Settled.{given_is}
 
 -- ---- what stands there
@@ -88,8 +89,8 @@ module _ (cs : List Change) (places : ℕ → Path) (table : GivenTable) (are : 
       let whole : rewritten_whole kind_only (given_in table) (independents cs) (subtree root) ≡ given_in table i = ap (λ b. cond b (flat_map (given_in table) (replacements_at (independents cs) [])) (rewritten kind_only (given_in table) (independents cs) [] (subtree root) ∷ [])) (some-starts (independents cs) [] i alone) ∙ ap (flat_map (given_in table)) alone ∙ append-nil (given_in table i) in
       subst IsOneNode (sym (whole ∙ given_is_one)) (brought-node own (given cs places) (dependents cs places i) (subtree brings.0) t.0 t.1 t.2)
 
--- where a search for a change that replaces the root ends
-pub stays-a-node : (cs : List Change) (root : Element) → IsNode root → find (λ c. has_path (targets c) []) cs ≡ None → (places : ℕ → Path) (table : GivenTable) → AreGiven cs places table → IsOneNode (rewritten_whole kind_only (given_in table) (independents cs) (subtree root))
+-- by the change that replaces the root, if one does
+pub stays-a-node : (cs : List Change) (root : Element) → IsNode root → target_at cs [] ≡ None → (places : ℕ → Path) (table : GivenTable) → AreGiven cs places table → IsOneNode (rewritten_whole kind_only (given_in table) (independents cs) (subtree root))
 stays-a-node cs root node none places table are =
     top-kept cs places table are root node (any-none cs (none-passes (λ c. has_path (targets c) []) cs none))
   where
@@ -97,13 +98,6 @@ stays-a-node cs root node none places table are =
     any-none [] h = refl
     any-none (d ∷ ds) h = or_from (has_path (targets d) []) _ h.0 (any-none ds h.1)
 
-pub takes-its-place : (cs : List Change) (root : Element) (c : Change) → first_clash cs ≡ None → find (λ c. has_path (targets c) []) cs ≡ Some c → BringsNode c → (places : ℕ → Path) (table : GivenTable) → AreGiven cs places table → IsOneNode (rewritten_whole kind_only (given_in table) (independents cs) (subtree root))
-takes-its-place cs root c apart found brings places table are =
-    let there = found-at (λ c. has_path (targets c) []) cs c found in
-    top-brought cs places table are root there.0 c apart there.1 there.2 brings
-
--- a change that is found has what all have
-pub found-fits : (P : Change → Type 0) (cs : List Change) (c : Change) → All P cs → find (λ c. has_path (targets c) []) cs ≡ Some c → P c × (has_path (targets c) [] ≡ true)
-found-fits P cs c all found =
-    let there = found-at (λ c. has_path (targets c) []) cs c found in
-    (subst P (get_or_from_slice_get cs there.0 c c there.1) (all there.0 c (slice_get_within cs there.0 c there.1)), there.2)
+pub takes-its-place : (cs : List Change) (root : Element) (i : ℕ) (c : Change) → first_clash cs ≡ None → slice_get cs i ≡ Some c → has_path (targets c) [] ≡ true → BringsNode c → (places : ℕ → Path) (table : GivenTable) → AreGiven cs places table → IsOneNode (rewritten_whole kind_only (given_in table) (independents cs) (subtree root))
+takes-its-place cs root i c apart at_i there brings places table are =
+    top-brought cs places table are root i c apart at_i there brings

@@ -1,7 +1,6 @@
 //! The new tree, in the order in which it comes about.
 
-ghost use Rattle.std.specs.Prelude.{◌≡◌, ◌<◌, ℕ, [], ◌∷◌, map, find, length, option_map, All, None, Some, true, IfOk, OnOk};
-ghost use Rattle.cst_core.specs.Path.{has_path};
+ghost use Rattle.std.specs.Prelude.{◌≡◌, ◌<◌, [], map, length, All, None, Some, IfOk, OnOk};
 ghost use Rattle.cst_core.specs.Element.{Element, IsNode};
 ghost use Rattle.cst_core.specs.GreenElement.{element_trees};
 ghost use Rattle.edit_change.specs.Change.{targets};
@@ -11,6 +10,7 @@ ghost use Rattle.edit_change.specs.NewTree.{independents};
 ghost use Rattle.edit_change.specs.inner.Aimed.{aims_of};
 ghost use Rattle.edit_change.specs.inner.Fate.{fate};
 ghost use Rattle.edit_change.specs.inner.OwnerPlaces.{places_in};
+ghost use Rattle.edit_change.specs.inner.TargetIndex.{IsIndex};
 ghost use Rattle.one_pass.specs.inner.Root.{CountsAll, IsOnePass, KeepsTop};
 ghost use Rattle.one_pass.specs.inner.Root.{root_rewritten, FindsInRoot, CountsRoot};
 
@@ -21,7 +21,9 @@ use crate::marked_given::GivenTable;
 use crate::pass::{Rebuilt, rebuild_whole};
 use crate::sought::SoughtIndex;
 use cst_core::{GreenNode, SyntaxElement, SyntaxNode};
-use edit_change::{Aimed, Change, Fate, Planned, node_for_root, numbered_aim, only_node};
+use edit_change::{
+    Aimed, Change, Fate, Planned, TargetIndex, node_for_root, numbered_aim, only_node,
+};
 use std::alloc::{AllocError, Global};
 
 /// What one pass makes of a tree.
@@ -50,6 +52,7 @@ pub fn rewrite(
     requires node { IsNode planned.root.now }
     requires fit { All (Fits planned.root.now) planned.changes.now }
     requires apart { first_clash planned.changes.now ≡ None }
+    requires targets { IsIndex planned.changes.now planned.targets.now }
     requires fates { planned.fates.now ≡ map (fate planned.changes.now) planned.changes.now }
     requires places { length planned.places.now ≡ length planned.changes.now }
     ensures made { IfOk result (IsOnePass planned.entry.root.now planned.entry.changes.now (places_in planned.entry.places.now) registered.now) }
@@ -58,6 +61,7 @@ pub fn rewrite(
     let Planned {
         root,
         changes,
+        targets,
         fates,
         places,
     } = planned;
@@ -67,7 +71,7 @@ pub fn rewrite(
     let mut given = given_table(alloc, changes, &dependents, &index, builds)?;
     given.top = Some(registered.len());
     let Rebuilt { elements, marks } = rebuilt_root(alloc, root, &aims, &index, &given, builds)?;
-    keep_top(root, changes);
+    keep_top(root, changes, targets);
     let paths = mark_paths(alloc, marks, registered.len())?;
     Ok(OnePass {
         green: only_node(elements),
@@ -116,24 +120,15 @@ fn rebuilt_root(
 }
 
 // One node stands in the place of the root: the root itself, or the node that replaces it.
-fn keep_top(root: &SyntaxNode, changes: &[Change])
+fn keep_top(root: &SyntaxNode, changes: &[Change], targets: &TargetIndex)
     requires node { IsNode root.now }
     requires fit { All (Fits root.now) changes.now }
     requires apart { first_clash changes.now ≡ None }
+    requires targets { IsIndex changes.now targets.now }
     ensures { KeepsTop root.now changes.now }
 {
     let _ = root;
-    match replacing_root(changes) {
-        Some(change) => {
-            let _ = node_for_root(change);
-        }
-        None => {}
+    if let Some(change) = targets.get(&[]) {
+        let _ = node_for_root(&changes[change]);
     }
-}
-
-// The change that replaces the root, if one does.
-fn replacing_root(changes: &[Change]) -> Option<&Change>
-    ensures { option_map (λ c. c.now) result ≡ find (λ c. has_path (targets c) []) changes.now }
-{
-    changes.iter().find(|change| change.replaces_root())
 }

@@ -1,5 +1,4 @@
 ghost use Rattle.std.specs.Prelude.{◌≡◌, ◌<◌, None, map, length, slice_get, option_map, option_and_then, IfOk, OnOk};
-ghost use Rattle.edit_change.specs.Nesting.{first_clash};
 ghost use Rattle.edit_change.specs.inner.Fate.{fate};
 ghost use Rattle.edit_change.specs.inner.TargetIndex.{number_at, IsApart, IsIndex};
 ghost use Rattle.edit_steps.specs.Schedule.{token_before, anchor_token};
@@ -7,7 +6,7 @@ ghost use Rattle.edit_steps.specs.inner.Followers.{owner_link, gap_link, token_l
 
 use crate::order::gap_table::GapTable;
 use cst_core::SyntaxElement;
-use edit_change::{Change, ClashError, Fate, Position, TargetIndex};
+use edit_change::{Change, Fate, Position, TargetIndex};
 use std::alloc::{AllocError, Global};
 
 /// Of each change, by its number, the changes that have to wait for it: at most one for each reason. A dropped change has
@@ -77,19 +76,19 @@ fn next_in_gaps(
 }
 
 // What replaces the token that a change stands after.
-fn replacement(index: &TargetIndex, change: &Change) -> Option<usize>
-    ensures { result ≡ option_and_then (number_at index.now) (anchor_token change.now) }
+fn replacement(targets: &TargetIndex, change: &Change) -> Option<usize>
+    ensures { result ≡ option_and_then (number_at targets.now) (anchor_token change.now) }
 {
-    index.get(anchor_token(change)?)
+    targets.get(anchor_token(change)?)
 }
 
 fn replacements(
     alloc: Global,
-    index: &TargetIndex,
+    targets: &TargetIndex,
     changes: &[Change],
     fates: &[Fate],
 ) -> Result<Vec<Option<usize>>, AllocError>
-    requires index { IsIndex changes.now index.now }
+    requires targets { IsIndex changes.now targets.now }
     requires fates { fates.now ≡ map (fate changes.now) changes.now }
     ensures { IfOk result (λ v. IsLinked (token_link changes.now) changes.now v.items) }
 {
@@ -98,41 +97,29 @@ fn replacements(
         let link = if fates[number].is_dropped() {
             None
         } else {
-            replacement(index, change)
+            replacement(targets, change)
         };
         links.push(link)?;
     }
     Ok(links)
 }
 
-// The index of what changes replace of which no two clash.
-fn index_of(alloc: Global, changes: &[Change]) -> Result<TargetIndex, AllocError>
-    requires { first_clash changes.now ≡ None }
-    ensures { IfOk result (IsIndex changes.now) }
-{
-    match TargetIndex::of(alloc, changes) {
-        Ok(index) => Ok(index),
-        Err(ClashError::Memory) => Err(AllocError),
-        Err(ClashError::Intersecting { .. }) => unreachable!(),
-    }
-}
-
 impl Followers {
     pub(crate) fn of(
         alloc: Global,
+        targets: &TargetIndex,
         changes: &[Change],
         fates: &[Fate],
     ) -> Result<Followers, AllocError>
-        requires apart { first_clash changes.now ≡ None }
+        requires targets { IsIndex changes.now targets.now }
         requires fates { fates.now ≡ map (fate changes.now) changes.now }
         ensures linked { IfOk result (AreFollowers changes.now) }
         ensures apart { OnOk result (IsApart changes.now) }
     {
-        let index = index_of(alloc, changes)?;
         Ok(Followers {
             owner: owners(alloc, changes, fates)?,
             next_in_gap: next_in_gaps(alloc, changes, fates)?,
-            replacement: replacements(alloc, &index, changes, fates)?,
+            replacement: replacements(alloc, targets, changes, fates)?,
         })
     }
 }
