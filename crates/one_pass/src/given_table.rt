@@ -18,11 +18,11 @@ ghost use Rattle.one_pass.specs.inner.OwnerTables.{moved_dependent, IsFilled};
 
 use crate::by_depth::owners_by_depth;
 use crate::dependent::{Dependent, moved_aims};
-use crate::sought::SoughtIndex;
-use cst_core::{GreenElement, SyntaxElement};
 use crate::mark::Mark;
 use crate::marked_given::{GivenTable, MarkedGiven};
 use crate::pass::rebuild;
+use crate::sought::SoughtIndex;
+use cst_core::{GreenElement, SyntaxElement};
 use edit_change::{Aimed, Change, Given, green_payload};
 use std::alloc::{AllocError, Global};
 

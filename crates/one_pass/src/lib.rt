@@ -14,6 +14,7 @@ mod mark;
 mod mark_paths;
 mod marked_given;
 mod pass;
+mod place;
 mod rewriting;
 mod sought;
 

@@ -4,7 +4,7 @@ ghost use Rattle.green_tree.specs.GreenElement.{element_tree, element_trees};
 ghost use Rattle.edit_change.specs.Effort.{counted};
 ghost use Rattle.edit_change.specs.inner.Given.{given_trees};
 ghost use Rattle.one_pass.specs.inner.Pass.{given_in, Puts, FindsGiven, FindsChange, FindsAll, FindsKept, FindsChild};
-ghost use Rattle.one_pass.specs.inner.Pass.{gap_changes, slot_changes, top_changes};
+ghost use Rattle.one_pass.specs.inner.Pass.{changes_at};
 ghost use Rattle.one_pass.specs.inner.Pass.{TouchesAtMost, CountsBuilt, CountsBuiltWhole, CountsTouched};
 ghost use Rattle.one_pass.specs.inner.Pass.{CountsOn, child_built, slot_built, children_built};
 ghost use Rattle.one_pass.specs.inner.Pass.{PutsAltered, PutsSlot, PutsChildren, FindsAltered, FindsSlot, FindsChildren};
@@ -14,9 +14,10 @@ ghost use Rattle.one_pass.specs.inner.Pass.{FindsRebuilt, FindsWhole};
 use crate::aim_list::{
     aims_below, aims_by_child, alter_below, alter_some, is_replaced, top_is_replaced,
 };
-use edit_change::Aimed;
 use crate::mark::{Mark, Sought, marks_by_child, push_here, sought_for};
 use crate::marked_given::{GivenTable, MarkedGiven};
+use crate::place::Place;
+use edit_change::Aimed;
 use green_tree::{GreenElement, GreenNode, SyntaxKind};
 use std::alloc::{AllocError, Global};
 
@@ -62,65 +63,22 @@ fn push_change(
     Ok(())
 }
 
-// What the inserts of a gap of the top give, as they were recorded.
-fn push_gap(
+// What changes give at a place, in the order in which their aims are listed.
+fn push_changes(
     alloc: Global,
     out: &mut Vec<GreenElement>,
     found: &mut Vec<Mark>,
     path: &mut Vec<usize>,
     given: &GivenTable,
     aims: &[Aimed],
-    gap: usize,
+    place: Place,
 ) -> Result<(), AllocError>
     ensures path { OnOk result (path.new.items ≡ path.old.items) }
-    ensures trees { OnOk result (Puts out.old out.new (flat_map (given_in given.now) (gap_changes aims.now gap))) }
-    ensures marks { OnOk result (FindsAll path.old out.old found.old found.new given.now (gap_changes aims.now gap)) }
+    ensures trees { OnOk result (Puts out.old out.new (flat_map (given_in given.now) (changes_at aims.now place))) }
+    ensures marks { OnOk result (FindsAll path.old out.old found.old found.new given.now (changes_at aims.now place)) }
 {
     for aim in aims {
-        if aim.inserts_at(gap) {
-            push_change(alloc, out, found, path, given, aim.change())?;
-        }
-    }
-    Ok(())
-}
-
-// What stands in the slot of a replaced child of the top.
-fn push_slot(
-    alloc: Global,
-    out: &mut Vec<GreenElement>,
-    found: &mut Vec<Mark>,
-    path: &mut Vec<usize>,
-    given: &GivenTable,
-    aims: &[Aimed],
-    slot: usize,
-) -> Result<(), AllocError>
-    ensures path { OnOk result (path.new.items ≡ path.old.items) }
-    ensures trees { OnOk result (Puts out.old out.new (flat_map (given_in given.now) (slot_changes aims.now slot))) }
-    ensures marks { OnOk result (FindsAll path.old out.old found.old found.new given.now (slot_changes aims.now slot)) }
-{
-    for aim in aims {
-        if aim.starts_at(slot) {
-            push_change(alloc, out, found, path, given, aim.change())?;
-        }
-    }
-    Ok(())
-}
-
-// What stands in the place of a replaced top.
-fn push_over_top(
-    alloc: Global,
-    out: &mut Vec<GreenElement>,
-    found: &mut Vec<Mark>,
-    path: &mut Vec<usize>,
-    given: &GivenTable,
-    aims: &[Aimed],
-) -> Result<(), AllocError>
-    ensures path { OnOk result (path.new.items ≡ path.old.items) }
-    ensures trees { OnOk result (Puts out.old out.new (flat_map (given_in given.now) (top_changes aims.now))) }
-    ensures marks { OnOk result (FindsAll path.old out.old found.old found.new given.now (top_changes aims.now)) }
-{
-    for aim in aims {
-        if aim.replaces_top() {
+        if place.has(aim) {
             push_change(alloc, out, found, path, given, aim.change())?;
         }
     }
@@ -261,7 +219,7 @@ fn push_children(
 {
     let groups = aims_by_child(alloc, aims, children.len())?;
     let lists = marks_by_child(alloc, sought, children.len())?;
-    push_gap(alloc, out, found, path, given, aims, 0)?;
+    push_changes(alloc, out, found, path, given, aims, Place::Gap(0))?;
     for slot in 0..children.len() {
         let group = groups.at(slot);
         let child = &children[slot];
@@ -274,7 +232,7 @@ fn push_children(
         push_in_slot(
             alloc, out, found, path, child, group, slot, to_find, given, builds,
         )?;
-        push_gap(alloc, out, found, path, given, group, slot + 1)?;
+        push_changes(alloc, out, found, path, given, group, Place::Gap(slot + 1))?;
     }
     Ok(())
 }
@@ -300,7 +258,7 @@ fn push_in_slot(
         given.now group.now slot sought.now child.now) }
 {
     if is_replaced(group, slot) {
-        return push_slot(alloc, out, found, path, given, group, slot);
+        return push_changes(alloc, out, found, path, given, group, Place::Slot(slot));
     }
     if !alter_below(group, slot) {
         return push_child(alloc, out, found, path, child, sought);
@@ -366,7 +324,15 @@ pub fn rebuild_whole(
     let mut marks = Vec::new(alloc);
     let mut path = Vec::new(alloc);
     if top_is_replaced(aims) {
-        push_over_top(alloc, &mut elements, &mut marks, &mut path, given, aims)?;
+        push_changes(
+            alloc,
+            &mut elements,
+            &mut marks,
+            &mut path,
+            given,
+            aims,
+            Place::Top,
+        )?;
     } else {
         path.push(0)?;
         elements.push(rebuild(

@@ -9,7 +9,8 @@ use Rattle.edit_change.specs.Rewriting.{slot, gap_order, rewritten}
 use Rattle.edit_change.specs.inner.Aimed.{aims_of}
 use Rattle.one_pass.specs.inner.Marked.{MarkTree, Marking, marked, mark_below, marks_of, sought_in, marks_at, wanted, sought_for}
 use Rattle.edit_change.specs.inner.KindOnly.{kind_only}
-use Rattle.one_pass.specs.inner.Pass.{given_in, remade, gap_changes, child_made, slot_made, children_made, child_built, slot_built, children_built}
+use Rattle.one_pass.specs.inner.Pass.{given_in, remade, changes_at, child_made, slot_made, children_made, child_built, slot_built, children_built}
+use Rattle.one_pass.specs.declared.place.Place.TheVariants.{Gap}
 use Rattle.edit_change.proofs.Built.{on_ok, on_ok-map, if_ok-map, without_last}
 use Rattle.one_pass.proofs.Counted.{still, still-step, still-none, counted-own, counted-none, count-nothing, count-step, count-on, count-all, count-one, counts-at_most}
 use Rattle.one_pass.proofs.Touched.{on_ok-touched}
@@ -77,13 +78,13 @@ push_children-loop-slot-init t c =
     let sought : List Marking = sought_in c.args.sought.now in
     let cs = aims_of c.args.aims.now in
     let ts : List SyntaxTree = element_trees c.args.children.now in
-    let ns : List ℕ = gap_changes c.args.aims.now 0 in
+    let ns : List ℕ = changes_at c.args.aims.now (Gap 0) in
     let out = c.args.out.now.items in
     record {
-      path = c.in_ok-push_gap.ensures.path;
+      path = c.in_ok-push_changes.ensures.path;
       count = λ further. refl;
-      trees = ap (λ xs. xs ++ left kind_only given cs 0 ts) c.in_ok-push_gap.ensures.trees ∙ append_assoc (element_trees out) (flat_map given ns) (left kind_only given cs 0 ts) ∙ ap (λ xs. element_trees out ++ xs) (gap-slots kind_only given cs 0 (forest ts));
-      marks = λ trees are. first (shown path) (are_shown path) (wanted sought) trees cs (marks_of c.args.found.now.items) (marks_of c.push_gap.new.found.items) (length out) (length c.push_gap.new.out.items) ts (c.in_ok-push_gap.ensures.marks trees are) (width out c.push_gap.new.out.items (flat_map given ns) (flat_map trees ns) c.in_ok-push_gap.ensures.trees (all_as_many table trees are ns));
+      trees = ap (λ xs. xs ++ left kind_only given cs 0 ts) c.in_ok-push_changes.ensures.trees ∙ append_assoc (element_trees out) (flat_map given ns) (left kind_only given cs 0 ts) ∙ ap (λ xs. element_trees out ++ xs) (gap-slots kind_only given cs 0 (forest ts));
+      marks = λ trees are. first (shown path) (are_shown path) (wanted sought) trees cs (marks_of c.args.found.now.items) (marks_of c.push_changes.new.found.items) (length out) (length c.push_changes.new.out.items) ts (c.in_ok-push_changes.ensures.marks trees are) (width out c.push_changes.new.out.items (flat_map given ns) (flat_map trees ns) c.in_ok-push_changes.ensures.trees (all_as_many table trees are ns));
     }
 
 pub push_children-loop-slot-preserved-then-is_empty : goal.push_children-loop-slot-preserved-then-is_empty
@@ -150,7 +151,7 @@ push_children-loop-slot-preserved t c =
     let e = c.index-children-slot.result in
     let out = c.loop-slot.out.items in
     let mid = c.push_in_slot.new.out.items in
-    let new = c.push_gap-in-loop-slot.new.out.items in
+    let new = c.push_changes-in-loop-slot.new.out.items in
     let in_range : i < length ts = rw length-map c.loop-slot-test.true in
     let here = group_is c.in_ok-groups.groups aims (length es) i group c.in_ok-groups.ensures.groups c.loop-slot-test.true c.at-group.ensures in
     let ns = ap gap_order (group-inserted i aims group here) in
@@ -159,9 +160,9 @@ push_children-loop-slot-preserved t c =
     let same_path = c.in_ok-push_in_slot.ensures.path ∙ c.loop-slot.invariant.path in
     let middle : element_trees mid ≡ element_trees out ++ slot kind_only given cs (i ∷ []) kept = c.in_ok-push_in_slot.ensures.trees ∙ ap (λ us. element_trees out ++ us) (slot_made-whole kind_only kind_only given aims group i e (λ p k. refl) here ∙ ap (λ u. slot kind_only given cs (i ∷ []) (rewritten kind_only given cs (i ∷ []) u)) child) in
     record {
-      path = c.in_ok-push_gap-2.ensures.path ∙ same_path;
+      path = c.in_ok-push_changes-2.ensures.path ∙ same_path;
       count = λ further. count-step c.loop-slot.builds c.push_in_slot.new.builds (slot_built group i e) (still cs (i + 1) ts) (still cs i ts) c.in_ok-push_in_slot.ensures.count (still-step cs i ts d (element_tree e) in_range child ∙ ap (λ n. n + still cs (i + 1) ts) (sym (slot_built-whole aims group i e here))) further ∙ c.loop-slot.invariant.count further;
-      trees = children.step kind_only given cs (element_trees out) (element_trees mid) (element_trees new) _ i ts d in_range middle (c.in_ok-push_gap-2.ensures.trees ∙ ap (λ ms. element_trees mid ++ flat_map given ms) ns) c.loop-slot.invariant.trees;
+      trees = children.step kind_only given cs (element_trees out) (element_trees mid) (element_trees new) _ i ts d in_range middle (c.in_ok-push_changes-2.ensures.trees ∙ ap (λ ms. element_trees mid ++ flat_map given ms) ns) c.loop-slot.invariant.trees;
       marks = λ trees are.
           let before : List Marking = marks_of c.loop-slot.found.items in
           let between : List Marking = marks_of c.push_in_slot.new.found.items in
@@ -172,10 +173,10 @@ push_children-loop-slot-preserved t c =
           let slot_is : slot_made inner trees group i e ≡ s = slot_made-whole (wanted sought) inner trees aims group i e (λ p k. marks-below sought i p ∙ ap (λ ms. marks_at ms p) (sym below_it)) here ∙ ap (λ u. slot (wanted sought) trees cs (i ∷ []) (rewritten (wanted sought) trees cs (i ∷ []) u)) child in
           let shown_there : between ≡ before ++ shown path (length out) s = c.in_ok-push_in_slot.ensures.marks trees are ∙ ap₂ (λ p us. before ++ shown p (length out) us) c.loop-slot.invariant.path slot_is in
           let wider : length mid ≡ length out + length s = width out mid (slot kind_only given cs (i ∷ []) kept) s middle (slot_as_many table trees are (wanted sought) cs (i ∷ []) own kept) in
-          let after = c.in_ok-push_gap-2.ensures.marks trees are ∙ ap₂ (λ p ms. between ++ shown p (length mid) (flat_map trees ms)) same_path ns in
-          let changes : List ℕ = gap_changes group (i + 1) in
-          let wider_still = width mid new (flat_map given changes) (flat_map trees changes) c.in_ok-push_gap-2.ensures.trees (all_as_many table trees are changes) ∙ ap (λ ms. length mid + length (flat_map trees ms)) ns in
-          step (shown path) (are_shown path) (wanted sought) trees cs before between (marks_of c.push_gap-in-loop-slot.new.found.items) _ (length out) (length mid) (length new) s i ts d in_range refl shown_there wider after wider_still (c.loop-slot.invariant.marks trees are);
+          let after = c.in_ok-push_changes-2.ensures.marks trees are ∙ ap₂ (λ p ms. between ++ shown p (length mid) (flat_map trees ms)) same_path ns in
+          let changes : List ℕ = changes_at group (Gap (i + 1)) in
+          let wider_still = width mid new (flat_map given changes) (flat_map trees changes) c.in_ok-push_changes-2.ensures.trees (all_as_many table trees are changes) ∙ ap (λ ms. length mid + length (flat_map trees ms)) ns in
+          step (shown path) (are_shown path) (wanted sought) trees cs before between (marks_of c.push_changes-in-loop-slot.new.found.items) _ (length out) (length mid) (length new) s i ts d in_range refl shown_there wider after wider_still (c.loop-slot.invariant.marks trees are);
     }
 
 pub push_children-returns-clause-count : goal.push_children-returns-clause-count
@@ -202,19 +203,19 @@ push_children-returns-clause-marks t c = λ trees are.
 pub push_in_slot-returns-then-is_replaced-clause-count : goal.push_in_slot-returns-then-is_replaced-clause-count
 push_in_slot-returns-then-is_replaced-clause-count t c =
     let goes = sym c.is_replaced.ensures ∙ c.if-is_replaced.true in
-    on_ok c.push_slot.result (count-nothing c.args.builds.now (slot_built c.args.group.now c.args.slot c.args.child.now) (built-replaced c.args.group.now c.args.slot c.args.child.now goes))
+    on_ok c.push_changes.result (count-nothing c.args.builds.now (slot_built c.args.group.now c.args.slot c.args.child.now) (built-replaced c.args.group.now c.args.slot c.args.child.now goes))
 
 pub push_in_slot-returns-then-is_replaced-clause-trees : goal.push_in_slot-returns-then-is_replaced-clause-trees
 push_in_slot-returns-then-is_replaced-clause-trees t c =
     let given : ℕ → List SyntaxTree = given_in c.args.given.now in
     let goes = sym c.is_replaced.ensures ∙ c.if-is_replaced.true in
-    on_ok-map c.push_slot.result (λ h. h ∙ ap (λ ts. element_trees c.args.out.now.items ++ ts) (slot-replaced kind_only given (aims_of c.args.group.now) (c.args.slot ∷ []) (child_made kind_only given c.args.group.now c.args.slot c.args.child.now) goes)) c.push_slot.ensures.trees
+    on_ok-map c.push_changes.result (λ h. h ∙ ap (λ ts. element_trees c.args.out.now.items ++ ts) (slot-replaced kind_only given (aims_of c.args.group.now) (c.args.slot ∷ []) (child_made kind_only given c.args.group.now c.args.slot c.args.child.now) goes)) c.push_changes.ensures.trees
 
 pub push_in_slot-returns-then-is_replaced-clause-marks : goal.push_in_slot-returns-then-is_replaced-clause-marks
 push_in_slot-returns-then-is_replaced-clause-marks t c =
     let label_at = wanted (sought_in c.args.sought.now) in
     let goes = sym c.is_replaced.ensures ∙ c.if-is_replaced.true in
-    on_ok-map c.push_slot.result (λ h trees are. h trees are ∙ ap (λ ts. marks_of c.args.found.now.items ++ shown c.args.path.now.items (length c.args.out.now.items) ts) (slot-replaced label_at trees (aims_of c.args.group.now) (c.args.slot ∷ []) (child_made label_at trees c.args.group.now c.args.slot c.args.child.now) goes)) c.push_slot.ensures.marks
+    on_ok-map c.push_changes.result (λ h trees are. h trees are ∙ ap (λ ts. marks_of c.args.found.now.items ++ shown c.args.path.now.items (length c.args.out.now.items) ts) (slot-replaced label_at trees (aims_of c.args.group.now) (c.args.slot ∷ []) (child_made label_at trees c.args.group.now c.args.slot c.args.child.now) goes)) c.push_changes.ensures.marks
 
 pub push_in_slot-returns-then-not-alter_below-clause-count : goal.push_in_slot-returns-then-not-alter_below-clause-count
 push_in_slot-returns-then-not-alter_below-clause-count t c =
@@ -256,7 +257,7 @@ pub push_in_slot-push_altered-requires : goal.push_in_slot-push_altered-requires
 push_in_slot-push_altered-requires t c = (omega arith, tt)
 
 pub push_in_slot-returns-then-is_replaced-clause-path : goal.push_in_slot-returns-then-is_replaced-clause-path
-push_in_slot-returns-then-is_replaced-clause-path t c = c.push_slot.ensures.path
+push_in_slot-returns-then-is_replaced-clause-path t c = c.push_changes.ensures.path
 
 pub push_in_slot-returns-then-not-alter_below-clause-path : goal.push_in_slot-returns-then-not-alter_below-clause-path
 push_in_slot-returns-then-not-alter_below-clause-path t c = c.push_child.ensures.path
