@@ -22,28 +22,26 @@ use crate::mark::Mark;
 use crate::marked_given::{GivenTable, MarkedGiven};
 use crate::pass::rebuild;
 use crate::sought::SoughtIndex;
+use crate::walk::Walk;
 use cst_core::{GreenElement, SyntaxElement};
 use edit_change::{Aimed, Change, Given, green_payload};
 use std::alloc::{AllocError, Global};
 
-// An element, rewritten. Its marks go to the end of a list, and the nodes that are built are counted.
+// An element, rewritten, where the walk is at it.
 fn rewritten_element(
     alloc: Global,
-    found: &mut Vec<Mark>,
+    walk: &mut Walk,
     element: &SyntaxElement,
     aims: &[Aimed],
     index: &SoughtIndex,
     given: &GivenTable,
-    builds: &mut u64,
 ) -> Result<GreenElement, AllocError>
-    ensures count { OnOk result (CountsElement aims.now element.now builds.old builds.new) }
+    ensures count { OnOk result (CountsElement aims.now element.now walk.old.builds walk.new.builds) }
     ensures tree { IfOk result (λ e. element_tree e ≡ element_rewritten given.now aims.now element.now) }
-    ensures marks { OnOk result (FindsElement given.now aims.now index.now element.now found.old found.new) }
+    ensures marks { OnOk result (FindsElement given.now aims.now index.now element.now walk.old walk.new) }
 {
     let old = element.green(alloc)?;
-    let sought = index.at(element);
-    let mut path = Vec::new(alloc);
-    let new = rebuild(alloc, found, &mut path, &old, aims, sought, given, builds)?;
+    let new = rebuild(alloc, walk, &old, aims, index.at(element), given)?;
     Ok(new)
 }
 
@@ -64,10 +62,11 @@ fn rewritten_each<'a>(
     let mut greens = Vec::with_capacity(alloc, elements.len())?;
     let mut marks = Vec::new(alloc);
     for element in elements {
-        let mut own = Vec::new(alloc);
-        let green = rewritten_element(alloc, &mut own, element, aims, index, given, builds)?;
+        let mut walk = Walk::begin(alloc, *builds);
+        let green = rewritten_element(alloc, &mut walk, element, aims, index, given)?;
+        *builds = walk.builds;
         greens.push(green)?;
-        marks.push(own)?;
+        marks.push(walk.found)?;
     }
     Ok(MarkedGiven {
         elements: Given::Shared(greens),

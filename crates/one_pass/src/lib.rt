@@ -17,5 +17,6 @@ mod pass;
 mod place;
 mod rewriting;
 mod sought;
+mod walk;
 
 pub use rewriting::{OnePass, rewrite};

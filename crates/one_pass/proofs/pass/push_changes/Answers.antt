@@ -16,11 +16,15 @@ loop-aim-preserved c =
     let i = c.loop-aim.aim-index in
     let rest : List ℕ = changes_at (drop (i + 1) aims) c.args.place in
     let before = c.loop-aim.out.items in
-    let path = c.args.path.now.items in
+    let path = c.args.walk.now.path.items in
     record {
       path = elim c.if-has.branch [
-        | then-has+in_ok-push_change w ↦ ap (λ v. v.items) w.path-is ∙ w.in_ok-push_change.ensures.path ∙ c.loop-aim.invariant.path
-        | else-has w ↦ ap (λ v. v.items) w.path-is ∙ c.loop-aim.invariant.path
+        | then-has+in_ok-push_change w ↦ ap (λ v. v.path.items) w.walk-is ∙ w.in_ok-push_change.ensures.path ∙ c.loop-aim.invariant.path
+        | else-has w ↦ ap (λ v. v.path.items) w.walk-is ∙ c.loop-aim.invariant.path
+      ];
+      count = elim c.if-has.branch [
+        | then-has+in_ok-push_change w ↦ ap (λ v. v.builds) w.walk-is ∙ w.in_ok-push_change.ensures.count ∙ c.loop-aim.invariant.count
+        | else-has w ↦ ap (λ v. v.builds) w.walk-is ∙ c.loop-aim.invariant.count
       ];
       trees = elim c.if-has.branch [
         | then-has+in_ok-push_change w ↦
@@ -35,9 +39,9 @@ loop-aim-preserved c =
             let n = w.change.result in
             let after = w.push_change.new.out.items in
             let more = changes-next c.args.place aims i _ true c.loop-aim-test.true (sym c.has.ensures ∙ w.if-has.true) ∙ ap (λ m. m ∷ rest) (sym w.change.ensures) in
-            ap₂ (λ f o. marks_of f.items ++ shown path (length o.items) (flat_map trees rest)) w.found-is w.out-is ∙ change_more path trees (marks_of c.loop-aim.found.items) (marks_of w.push_change.new.found.items) _ (length before) (length after) n rest (rw c.loop-aim.invariant.path at w.in_ok-push_change.ensures.marks trees are) (width before after (given_in table n) (trees n) w.in_ok-push_change.ensures.trees (as_many table trees are n)) (ap (λ ns. marks_of c.loop-aim.found.items ++ shown path (length before) (flat_map trees ns)) (sym more) ∙ c.loop-aim.invariant.marks trees are)
+            ap₂ (λ v o. marks_of v.found.items ++ shown path (length o.items) (flat_map trees rest)) w.walk-is w.out-is ∙ change_more path trees (marks_of c.loop-aim.walk.found.items) (marks_of w.push_change.new.walk.found.items) _ (length before) (length after) n rest (rw c.loop-aim.invariant.path at w.in_ok-push_change.ensures.marks trees are) (width before after (given_in table n) (trees n) w.in_ok-push_change.ensures.trees (as_many table trees are n)) (ap (λ ns. marks_of c.loop-aim.walk.found.items ++ shown path (length before) (flat_map trees ns)) (sym more) ∙ c.loop-aim.invariant.marks trees are)
         | else-has w ↦
-            ap₂ (λ f o. marks_of f.items ++ shown path (length o.items) (flat_map trees rest)) w.found-is w.out-is ∙ ap (λ ns. marks_of c.loop-aim.found.items ++ shown path (length before) (flat_map trees ns)) (sym (changes-next c.args.place aims i _ false c.loop-aim-test.true (sym c.has.ensures ∙ w.if-has.false))) ∙ c.loop-aim.invariant.marks trees are
+            ap₂ (λ v o. marks_of v.found.items ++ shown path (length o.items) (flat_map trees rest)) w.walk-is w.out-is ∙ ap (λ ns. marks_of c.loop-aim.walk.found.items ++ shown path (length before) (flat_map trees ns)) (sym (changes-next c.args.place aims i _ false c.loop-aim-test.true (sym c.has.ensures ∙ w.if-has.false))) ∙ c.loop-aim.invariant.marks trees are
       ];
     }
 
@@ -49,5 +53,5 @@ returns-clause-trees c =
 pub returns-clause-marks : goal.returns-clause-marks
 returns-clause-marks c = λ trees are.
     let none = changes-past c.args.place c.args.aims.now c.loop-aim.aim-index (omega (arith, c.loop-aim-test.false)) in
-    let found = marks_of c.loop-aim.found.items in
-    sym (append-nil found) ∙ ap (λ ns. found ++ shown c.args.path.now.items (length c.loop-aim.out.items) (flat_map trees ns)) (sym none) ∙ c.loop-aim.invariant.marks trees are
+    let found = marks_of c.loop-aim.walk.found.items in
+    sym (append-nil found) ∙ ap (λ ns. found ++ shown c.args.walk.now.path.items (length c.loop-aim.out.items) (flat_map trees ns)) (sym none) ∙ c.loop-aim.invariant.marks trees are

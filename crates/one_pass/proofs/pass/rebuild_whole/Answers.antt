@@ -22,9 +22,9 @@ returns-clause-count c =
     let same : before ≡ counted before 0 = omega arith in
     elim c.if-top_is_replaced.branch [
       | then-top_is_replaced+in_ok-push_changes w ↦
-          w.builds-is ∙ same ∙ ap (λ b. counted before (cond b 0 own)) (sym w.if-top_is_replaced.true ∙ c.top_is_replaced.ensures)
+          ap (λ v. v.builds) w.walk-is ∙ w.in_ok-push_changes.ensures.count ∙ c.begin-walk.ensures.builds ∙ same ∙ ap (λ b. counted before (cond b 0 own)) (sym w.if-top_is_replaced.true ∙ c.top_is_replaced.ensures)
       | else-top_is_replaced+in_ok-push+in_ok-rebuild+in_ok-push-2 w ↦
-          w.builds-is ∙ w.in_ok-rebuild.ensures.count ∙ ap (λ b. counted before (cond b 0 own)) (sym w.if-top_is_replaced.false ∙ c.top_is_replaced.ensures)
+          ap (λ v. v.builds) w.walk-is ∙ w.in_ok-rebuild.ensures.count ∙ ap (λ n. counted n own) c.begin-walk.ensures.builds ∙ ap (λ b. counted before (cond b 0 own)) (sym w.if-top_is_replaced.false ∙ c.top_is_replaced.ensures)
     ]
 
 pub returns-clause-whole : goal.returns-clause-whole
@@ -51,8 +51,8 @@ returns-clause-marks c = λ trees are.
       | then-top_is_replaced+in_ok-push_changes w ↦
           let ns : List ℕ = changes_at c.args.aims.now Top in
           let there : List Marking = marked_from 0 (flat_map trees ns) in
-          ap (λ v. marks_of v.items) w.marks-is ∙ w.in_ok-push_changes.ensures.marks trees are ∙ ap₂ (λ p es. marks_of c.new-marks.result.items ++ map (mark_below p) (marked_from (length es) (flat_map trees ns))) c.new-path.ensures.items c.new-elements.ensures.items ∙ ap (λ ms. marks_of ms ++ map (λ m. m) there) c.new-marks.ensures.items ∙ map-id there ∙ ap (marked_from 0) (slot-replaced (wanted sought) trees cs [] kept (sym c.top_is_replaced.ensures ∙ w.if-top_is_replaced.true))
+          ap (λ v. marks_of v.found.items) w.walk-is ∙ w.in_ok-push_changes.ensures.marks trees are ∙ ap₂ (λ p es. marks_of c.begin-walk.result.found.items ++ map (mark_below p) (marked_from (length es) (flat_map trees ns))) c.begin-walk.ensures.path c.new-elements.ensures.items ∙ ap (λ ms. marks_of ms ++ map (λ m. m) there) c.begin-walk.ensures.found ∙ map-id there ∙ ap (marked_from 0) (slot-replaced (wanted sought) trees cs [] kept (sym c.top_is_replaced.ensures ∙ w.if-top_is_replaced.true))
       | else-top_is_replaced+in_ok-push+in_ok-rebuild+in_ok-push-2 w ↦
-          let there : w.push.new.self.items ≡ 0 ∷ [] = w.in_ok-push.ensures.items ∙ ap (λ p. p ++ 0 ∷ []) c.new-path.ensures.items in
-          ap (λ v. marks_of v.items) w.marks-is ∙ w.in_ok-rebuild.ensures.marks trees are ∙ ap₂ (λ p ms. marks_of ms ++ map (mark_below p) (marked kept)) there c.new-marks.ensures.items ∙ sym (append-nil (map (mark_below (0 ∷ [])) (marked kept))) ∙ ap (marked_from 0) (slot-kept (wanted sought) trees cs [] kept (sym c.top_is_replaced.ensures ∙ w.if-top_is_replaced.false))
+          let there : w.push.new.self.items ≡ 0 ∷ [] = w.in_ok-push.ensures.items ∙ ap (λ p. p ++ 0 ∷ []) c.begin-walk.ensures.path in
+          ap (λ v. marks_of v.found.items) w.walk-is ∙ w.in_ok-rebuild.ensures.marks trees are ∙ ap₂ (λ p ms. marks_of ms ++ map (mark_below p) (marked kept)) there c.begin-walk.ensures.found ∙ sym (append-nil (map (mark_below (0 ∷ [])) (marked kept))) ∙ ap (marked_from 0) (slot-kept (wanted sought) trees cs [] kept (sym c.top_is_replaced.ensures ∙ w.if-top_is_replaced.false))
     ]
