@@ -116,72 +116,81 @@ fn payloads<'a>(
     Ok(GivenTable { entries, top: None })
 }
 
+// What changes give, as far as it is entered, and how many nodes are built.
+#[derive(Drop)]
+struct Filling<'a> {
+    given: GivenTable<'a>,
+    builds: u64,
+}
+
 // Enters what a change gives, where what it owns has been entered.
 fn fill(
     alloc: Global,
+    filling: &mut Filling,
     changes: &[Change],
     owner: usize,
     dependents: &[Dependent],
     index: &SoughtIndex,
-    given: &mut GivenTable,
-    builds: &mut u64,
 ) -> Result<(), AllocError>
     requires there { owner < length changes.now }
-    requires long { length given.now.entries.items ≡ length changes.now }
-    requires top { given.now.top ≡ None }
-    ensures long { OnOk result (length given.new.entries.items ≡ length changes.now) }
-    ensures top { OnOk result (given.new.top ≡ None) }
-    ensures count { OnOk result (CountsOwner changes.now owner dependents.now builds.old builds.new) }
-    ensures filled { OnOk result (IsFilled changes.now owner (map moved_dependent dependents.now) given.old given.new) }
-    ensures marks { OnOk result (FillsMarks index.now changes.now given.old given.new owner dependents.now) }
+    requires long { length filling.now.given.entries.items ≡ length changes.now }
+    requires top { filling.now.given.top ≡ None }
+    ensures long { OnOk result (length filling.new.given.entries.items ≡ length changes.now) }
+    ensures top { OnOk result (filling.new.given.top ≡ None) }
+    ensures count { OnOk result (CountsOwner changes.now owner dependents.now filling.old.builds filling.new.builds) }
+    ensures filled { OnOk result
+        (IsFilled changes.now owner (map moved_dependent dependents.now) filling.old.given filling.new.given) }
+    ensures marks { OnOk result
+        (FillsMarks index.now changes.now filling.old.given filling.new.given owner dependents.now) }
 {
     let aims = moved_aims(alloc, dependents)?;
     let payload = changes[owner].payload();
-    let rewritten = rewritten_each(alloc, payload, &aims, index, given, builds)?;
-    given.entries[owner] = rewritten;
+    let rewritten = rewritten_each(
+        alloc,
+        payload,
+        &aims,
+        index,
+        &filling.given,
+        &mut filling.builds,
+    )?;
+    filling.given.entries[owner] = rewritten;
     Ok(())
 }
 
 // Enters what the owners of one depth give, where all that is deeper has been entered.
 fn fill_level(
     alloc: Global,
+    filling: &mut Filling,
     changes: &[Change],
     dependents: &[Vec<Dependent>],
     owners: &[usize],
     index: &SoughtIndex,
-    given: &mut GivenTable,
-    builds: &mut u64,
 ) -> Result<(), AllocError>
     requires owned { length dependents.now ≡ length changes.now }
     requires there { All (λ c. c < length changes.now) owners.now }
-    requires long { length given.now.entries.items ≡ length changes.now }
-    requires top { given.now.top ≡ None }
-    ensures long { OnOk result (length given.new.entries.items ≡ length changes.now) }
-    ensures top { OnOk result (given.new.top ≡ None) }
-    ensures count { OnOk result (CountsLevel changes.now dependents.now owners.now builds.old builds.new) }
-    ensures filled { OnOk result (FillsLevel changes.now dependents.now owners.now given.old given.new) }
-    ensures marks { OnOk result (FillsLevelMarks changes.now dependents.now index.now owners.now given.old given.new) }
+    requires long { length filling.now.given.entries.items ≡ length changes.now }
+    requires top { filling.now.given.top ≡ None }
+    ensures long { OnOk result (length filling.new.given.entries.items ≡ length changes.now) }
+    ensures top { OnOk result (filling.new.given.top ≡ None) }
+    ensures count { OnOk result
+        (CountsLevel changes.now dependents.now owners.now filling.old.builds filling.new.builds) }
+    ensures filled { OnOk result
+        (FillsLevel changes.now dependents.now owners.now filling.old.given filling.new.given) }
+    ensures marks { OnOk result
+        (FillsLevelMarks changes.now dependents.now index.now owners.now filling.old.given filling.new.given) }
 {
-    let _count = *builds;
+    let _count = filling.builds;
     for owner in owners {
-        fill(
-            alloc,
-            changes,
-            *owner,
-            &dependents[*owner],
-            index,
-            given,
-            builds,
-        )?;
+        fill(alloc, filling, changes, *owner, &dependents[*owner], index)?;
     }
     Ok(())
 }
 
-/// What each change gives, by its number, with the marks of the elements that a table has, where another one has what each change owns.
-/// `builds` counts the nodes that are built in the owners' payloads.
+/// What each change gives, by its number, with the marks of the elements that a table has, where another one has what
+/// each change owns. `builds` counts the nodes that are built in the owners' payloads.
 ///
-/// An owner comes after all that is deeper. Takes time linear in the changes and the depth of the deepest one, and what the passes
-/// through the owners' payloads take.
+/// An owner comes after all that is deeper. Takes time linear in the changes and the depth of the deepest one, and what
+/// the passes through the owners' payloads take.
 pub(crate) fn given_table<'a>(
     alloc: Global,
     changes: &'a [Change],
@@ -195,19 +204,22 @@ pub(crate) fn given_table<'a>(
     ensures given { IfOk result (TellsGiven changes.now dependents.now) }
     ensures marks { IfOk result (TellsMarks changes.now dependents.now index.now) }
 {
-    let _count = *builds;
     let owners = owners_by_depth(alloc, changes, dependents)?;
-    let mut given = payloads(alloc, changes, index)?;
+    let given = payloads(alloc, changes, index)?;
+    let mut filling = Filling {
+        given,
+        builds: *builds,
+    };
     for level in (0..owners.len()).rev() {
         fill_level(
             alloc,
+            &mut filling,
             changes,
             dependents,
             &owners[level],
             index,
-            &mut given,
-            builds,
         )?;
     }
-    Ok(given)
+    *builds = filling.builds;
+    Ok(filling.given)
 }

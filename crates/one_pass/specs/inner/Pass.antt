@@ -4,7 +4,7 @@
 --     IsMarked                      these trees are as many as the given elements, and each has the marks of its own
 --     IsMarkedIn, AreMarkedIn       the same of an entry of a table, where no entry gives nothing; of all changes, by their numbers
 --     given_in                      what a change gives, from a table by its number: nothing where the table has none
---     stands_at                     what an aim's change gives stands at a place: an insert in its gap, a replacement where it starts
+--     stands_at                     what an aim's change gives stands at a place: in its gap, or where it replaces from
 --     changes_at                    the changes at a place, in the order in which they stand there
 --     topped                        a tree with one mark more at its top
 --     marks_at_path                 the marks of the given element at an index, which stands at a path
@@ -18,8 +18,10 @@
 --     children_made, new_trees      what is made of all children; the same, labelled by kinds
 --     CountsOn                      a count rose by so many nodes, whatever is counted after
 --     child_built, slot_built, children_built    how many nodes are built of a child that is kept; in a slot; of all children
---     CountsAltered, PutsAltered, FindsAltered   of a child made anew: a walk counts its nodes, it is put next, and its marks are found
---     CountsSlot, PutsSlot, FindsSlot            the same of what stands in the slot of a child
+--     altered, in_slot              a child made anew; what stands in the slot of a child
+--     CountsAltered, CountsSlot     a walk counts their nodes
+--     PutsAltered, PutsSlot         they are put next
+--     FindsAltered, FindsSlot       a walk finds their marks
 --     TouchesAtMost, CountsBuilt, CountsBuiltWhole      how a count of built nodes rises
 --     CountsTouched                 how it rises where all that is touched is built
 --     remade, remade_whole          the tree that a pass makes; what stands in the place of an element
@@ -146,29 +148,35 @@ module _ (aims : List Aimed) where
 
 -- of one child, with the aims that concern it
 module _ (child : Child) where
+  abbrev altered : {L : Type 0} → (Path → ℕ → L) → (ℕ → List (Tree L)) → List (Tree L)
+  altered label_at given = child_made label_at given child.aims.now child.slot child.element.now ∷ []
+
+  abbrev in_slot : {L : Type 0} → (Path → ℕ → L) → (ℕ → List (Tree L)) → List (Tree L)
+  in_slot label_at given = slot_made label_at given child.aims.now child.slot child.element.now
+
   abbrev pub CountsAltered : Walk → Walk → Type 0
-  CountsAltered before after = CountsOn before.builds after.builds (child_built child.aims.now child.slot child.element.now)
+  CountsAltered before after =
+      CountsOn before.builds after.builds (child_built child.aims.now child.slot child.element.now)
 
   abbrev pub CountsSlot : Walk → Walk → Type 0
   CountsSlot before after = CountsOn before.builds after.builds (slot_built child.aims.now child.slot child.element.now)
 
   module _ (table : GivenTable) where
     abbrev pub PutsAltered : Vec GreenElement Global → Vec GreenElement Global → Type 0
-    PutsAltered before after =
-        Puts before after (child_made kind_only (given_in table) child.aims.now child.slot child.element.now ∷ [])
+    PutsAltered before after = Puts before after (altered kind_only (given_in table))
 
     abbrev pub PutsSlot : Vec GreenElement Global → Vec GreenElement Global → Type 0
-    PutsSlot before after = Puts before after (slot_made kind_only (given_in table) child.aims.now child.slot child.element.now)
+    PutsSlot before after = Puts before after (in_slot kind_only (given_in table))
 
     abbrev pub FindsAltered : Walk → Vec GreenElement Global → Walk → Type 0
     FindsAltered before out after =
         (trees : ℕ → List MarkTree) → AreMarkedIn table trees →
-        FindsNext before out after (child_made (wanted (sought_in child.sought.now)) trees child.aims.now child.slot child.element.now ∷ [])
+        FindsNext before out after (altered (wanted (sought_in child.sought.now)) trees)
 
     abbrev pub FindsSlot : Walk → Vec GreenElement Global → Walk → Type 0
     FindsSlot before out after =
         (trees : ℕ → List MarkTree) → AreMarkedIn table trees →
-        FindsNext before out after (slot_made (wanted (sought_in child.sought.now)) trees child.aims.now child.slot child.element.now)
+        FindsNext before out after (in_slot (wanted (sought_in child.sought.now)) trees)
 
 -- ---- what the pass makes of an element
 abbrev pub TouchesAtMost : List Aimed → GreenElement → ℕ → ℕ → Type 0
