@@ -114,8 +114,8 @@ fn push_kept(
     Ok(())
 }
 
-// A child that nothing alters goes after the children that the node at the walk's path has so far, with the marks sought
-// in it. Where there are none, it is not looked into.
+// A child that nothing alters goes after the children that the node at the walk's path has so far, with the marks
+// sought in it. Where there are none, it is not looked into.
 fn push_child(
     alloc: Global,
     walk: &mut Walk,
@@ -163,8 +163,8 @@ pub struct Child<'a> {
 }
 
 /// The element made anew by changes whose aims are counted from it: `given` has what each change gives, by its number.
-/// The marks of the new element go to the end of those that the walk has found, in document order, with paths that begin
-/// with the walk's: `sought` has those of the old element.
+/// The marks of the new element go to the end of those that the walk has found, in document order, with paths that
+/// begin with the walk's: `sought` has those of the old element.
 ///
 /// Only the nodes above an aim are built, and what no aim is in or below is shared; the walk counts the nodes, exactly,
 /// up to its greatest number. An aim over the top itself is passed over: see `rebuild_whole`. Takes time linear in the

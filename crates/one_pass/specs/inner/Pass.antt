@@ -1,8 +1,8 @@
--- What the pass is told: what is kept is labelled by its kind alone, and of what changes give, elements and their marks.
+-- What the pass is told: of what is kept the kinds alone, and of what changes give elements and their marks.
 --     own_marks                     the mark of a top, if there is one
---     marks_there                   the marks of the given element at an index: that of its top, and those of a list, if it goes so far
+--     marks_there                   the marks of the given element at an index: its top's, and those in a list, if there
 --     IsMarked                      these trees are as many as the given elements, and each has the marks of its own
---     IsMarkedIn, AreMarkedIn       the same of an entry of a table, where no entry gives nothing; of all changes, by their numbers
+--     IsMarkedIn, AreMarkedIn       the same of an entry of a table, if there is one; of all changes, by their numbers
 --     given_in                      what a change gives, from a table by its number: nothing where the table has none
 --     stands_at                     what an aim's change gives stands at a place: in its gap, or where it replaces from
 --     changes_at                    the changes at a place, in the order in which they stand there
@@ -17,7 +17,8 @@
 --     child_made, slot_made         what is made of a child; what stands in its slot
 --     children_made, new_trees      what is made of all children; the same, labelled by kinds
 --     CountsOn                      a count rose by so many nodes, whatever is counted after
---     child_built, slot_built, children_built    how many nodes are built of a child that is kept; in a slot; of all children
+--     child_built, slot_built       how many nodes are built of a child that is kept; in a slot
+--     children_built                how many are built of all children
 --     altered, in_slot              a child made anew; what stands in the slot of a child
 --     CountsAltered, CountsSlot     a walk counts their nodes
 --     PutsAltered, PutsSlot         they are put next
@@ -190,7 +191,8 @@ CountsBuiltWhole aims e before after = after ≡ counted before (nodes_built_who
 
 abbrev pub CountsTouched : List Aimed → GreenElement → ℕ → ℕ → Type 0
 CountsTouched aims e before after =
-    AreBuilt (aims_of aims) (element_tree e) → after ≡ counted before (touched (element_tree e) (parents_of (aims_of aims)))
+    AreBuilt (aims_of aims) (element_tree e) →
+    after ≡ counted before (touched (element_tree e) (parents_of (aims_of aims)))
 
 abbrev pub remade : GivenTable → List Aimed → GreenElement → SyntaxTree
 remade table aims e = rewritten kind_only (given_in table) (aims_of aims) [] (element_tree e)
@@ -219,4 +221,5 @@ module _ (table : GivenTable) (aims : List Aimed) (sought : List Sought) where
   abbrev pub FindsWhole : GreenElement → Vec Mark Global → Type 0
   FindsWhole e found =
       (trees : ℕ → List MarkTree) → AreMarkedIn table trees →
-      marks_of found.items ≡ marked_from 0 (rewritten_whole (wanted (sought_in sought)) trees (aims_of aims) (element_tree e))
+      marks_of found.items ≡
+      marked_from 0 (rewritten_whole (wanted (sought_in sought)) trees (aims_of aims) (element_tree e))
