@@ -104,14 +104,14 @@ count-step now next own rest left h is further =
     h (rest + further) ∙ ap (counted now) whole
 
 -- where nothing was counted
-pub count-nothing : (now own : ℕ) → own ≡ 0 → (further : ℕ) → counted now further ≡ counted now (own + further)
-count-nothing now own none further =
+pub count-nothing : (now next own : ℕ) → next ≡ now → own ≡ 0 → (further : ℕ) → counted next further ≡ counted now (own + further)
+count-nothing now next own stays none further =
     let same : further ≡ own + further = omega (arith, none) in
-    ap (counted now) same
+    ap₂ counted stays same
 
 -- nothing more is to come
 pub count-all : (start now own left : ℕ) → left ≡ 0 → ((further : ℕ) → counted now (left + further) ≡ counted start (own + further)) → (further : ℕ) → counted now further ≡ counted start (own + further)
-count-all start now own left none h further = count-nothing now left none further ∙ h further
+count-all start now own left none h further = count-nothing now now left refl none further ∙ h further
 
 -- what was counted as a whole
 pub count-on : (now next own : ℕ) → next ≡ counted now own → (further : ℕ) → counted next further ≡ counted now (own + further)

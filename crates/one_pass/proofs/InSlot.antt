@@ -15,10 +15,11 @@ use Rattle.edit_change.specs.Rewriting.{is_replaced, slot, rewritten}
 use Rattle.one_pass.specs.inner.Built.{nodes_built}
 use Rattle.edit_change.specs.declared.aimed.Aimed.{Aimed}
 use Rattle.one_pass.specs.declared.mark.Sought.{Sought}
+use Rattle.one_pass.specs.declared.place.Place.TheVariants.{Gap}
 use Rattle.edit_change.specs.inner.Aimed.{aims_of, of_formed, formed, formed_below, alter_below, concerns}
 use Rattle.one_pass.specs.inner.Marked.{MarkTree, sought_in, wanted}
 use Rattle.edit_change.specs.inner.KindOnly.{kind_only}
-use Rattle.one_pass.specs.inner.Pass.{gap_changes, aims_inside, child_made, slot_made, child_built, slot_built, kept_marks}
+use Rattle.one_pass.specs.inner.Pass.{changes_at, aims_inside, child_made, slot_made, child_built, slot_built, kept_marks}
 use Rattle.one_pass.proofs.BelowSlot.{alters_nothing, kept-below}
 use Rattle.one_pass.proofs.Children.{slot-kept}
 use Rattle.one_pass.proofs.Counted.{in_slot, built-inside, counted-none}
@@ -61,8 +62,8 @@ empty-stays xs i h = ap (λ g. is_replaced (aims_of g) (i ∷ [])) (no_items xs 
 pub empty-quiet : (xs : List Aimed) (i : ℕ) → length xs ≡ 0 → alter_below i (map formed xs) ≡ false
 empty-quiet xs i h = ap (λ g. alter_below i (map formed g)) (no_items xs h)
 
-pub empty-gap : (xs : List Aimed) (i : ℕ) → length xs ≡ 0 → gap_changes xs i ≡ []
-empty-gap xs i h = ap (λ g. gap_changes g i) (no_items xs h)
+pub empty-gap : (xs : List Aimed) (i : ℕ) → length xs ≡ 0 → changes_at xs (Gap i) ≡ []
+empty-gap xs i h = ap (λ g. changes_at g (Gap i)) (no_items xs h)
 
 -- labels by paths from the node above
 abbrev from_above : {L : Type 0} → (Path → ℕ → L) → Path → ℕ → L

@@ -4,8 +4,8 @@ ghost use Rattle.edit_change.specs.Rewriting.{is_replaced};
 ghost use Rattle.edit_change.specs.inner.Aimed.{aims_of, has_parent, formed, formed_below, alter_below};
 ghost use Rattle.one_pass.specs.inner.Groups.{GrowsInside, StaysBefore, StaysBehind, AreGrouped};
 
-use edit_change::Aimed;
 use crate::groups::Groups;
+use edit_change::Aimed;
 use std::alloc::{AllocError, Global};
 
 // Whether some aim alters the children of a node.

@@ -3,8 +3,8 @@ ghost use Rattle.edit_change.specs.inner.OwnerPlaces.{depth_of};
 ghost use Rattle.one_pass.specs.inner.OwnerTables.{owners_at, AreOwners, OwnersStay};
 
 use crate::dependent::Dependent;
-use edit_change::{Change, depth};
 use crate::lists::empty_lists;
+use edit_change::{Change, depth};
 use std::alloc::{AllocError, Global};
 
 // More than the depth of each change.

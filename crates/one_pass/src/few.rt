@@ -1,5 +1,5 @@
-use edit_change::Aimed;
 use crate::lone::Lone;
+use edit_change::Aimed;
 
 /// One aim, or several, of which only several take memory of their own.
 #[derive(Drop)]

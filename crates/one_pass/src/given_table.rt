@@ -18,32 +18,30 @@ ghost use Rattle.one_pass.specs.inner.OwnerTables.{moved_dependent, IsFilled};
 
 use crate::by_depth::owners_by_depth;
 use crate::dependent::{Dependent, moved_aims};
-use crate::sought::SoughtIndex;
-use cst_core::{GreenElement, SyntaxElement};
 use crate::mark::Mark;
 use crate::marked_given::{GivenTable, MarkedGiven};
 use crate::pass::rebuild;
+use crate::sought::SoughtIndex;
+use crate::walk::Walk;
+use cst_core::{GreenElement, SyntaxElement};
 use edit_change::{Aimed, Change, Given, green_payload};
 use std::alloc::{AllocError, Global};
 
-// An element, rewritten. Its marks go to the end of a list, and the nodes that are built are counted.
+// An element, rewritten, where the walk is at it.
 fn rewritten_element(
     alloc: Global,
-    found: &mut Vec<Mark>,
+    walk: &mut Walk,
     element: &SyntaxElement,
     aims: &[Aimed],
     index: &SoughtIndex,
     given: &GivenTable,
-    builds: &mut u64,
 ) -> Result<GreenElement, AllocError>
-    ensures count { OnOk result (CountsElement aims.now element.now builds.old builds.new) }
+    ensures count { OnOk result (CountsElement aims.now element.now walk.old.builds walk.new.builds) }
     ensures tree { IfOk result (λ e. element_tree e ≡ element_rewritten given.now aims.now element.now) }
-    ensures marks { OnOk result (FindsElement given.now aims.now index.now element.now found.old found.new) }
+    ensures marks { OnOk result (FindsElement given.now aims.now index.now element.now walk.old walk.new) }
 {
     let old = element.green(alloc)?;
-    let sought = index.at(element);
-    let mut path = Vec::new(alloc);
-    let new = rebuild(alloc, found, &mut path, &old, aims, sought, given, builds)?;
+    let new = rebuild(alloc, walk, &old, aims, index.at(element), given)?;
     Ok(new)
 }
 
@@ -64,10 +62,11 @@ fn rewritten_each<'a>(
     let mut greens = Vec::with_capacity(alloc, elements.len())?;
     let mut marks = Vec::new(alloc);
     for element in elements {
-        let mut own = Vec::new(alloc);
-        let green = rewritten_element(alloc, &mut own, element, aims, index, given, builds)?;
+        let mut walk = Walk::begin(alloc, *builds);
+        let green = rewritten_element(alloc, &mut walk, element, aims, index, given)?;
+        *builds = walk.builds;
         greens.push(green)?;
-        marks.push(own)?;
+        marks.push(walk.found)?;
     }
     Ok(MarkedGiven {
         elements: Given::Shared(greens),
@@ -117,72 +116,81 @@ fn payloads<'a>(
     Ok(GivenTable { entries, top: None })
 }
 
+// What changes give, as far as it is entered, and how many nodes are built.
+#[derive(Drop)]
+struct Filling<'a> {
+    given: GivenTable<'a>,
+    builds: u64,
+}
+
 // Enters what a change gives, where what it owns has been entered.
 fn fill(
     alloc: Global,
+    filling: &mut Filling,
     changes: &[Change],
     owner: usize,
     dependents: &[Dependent],
     index: &SoughtIndex,
-    given: &mut GivenTable,
-    builds: &mut u64,
 ) -> Result<(), AllocError>
     requires there { owner < length changes.now }
-    requires long { length given.now.entries.items ≡ length changes.now }
-    requires top { given.now.top ≡ None }
-    ensures long { OnOk result (length given.new.entries.items ≡ length changes.now) }
-    ensures top { OnOk result (given.new.top ≡ None) }
-    ensures count { OnOk result (CountsOwner changes.now owner dependents.now builds.old builds.new) }
-    ensures filled { OnOk result (IsFilled changes.now owner (map moved_dependent dependents.now) given.old given.new) }
-    ensures marks { OnOk result (FillsMarks index.now changes.now given.old given.new owner dependents.now) }
+    requires long { length filling.now.given.entries.items ≡ length changes.now }
+    requires top { filling.now.given.top ≡ None }
+    ensures long { OnOk result (length filling.new.given.entries.items ≡ length changes.now) }
+    ensures top { OnOk result (filling.new.given.top ≡ None) }
+    ensures count { OnOk result (CountsOwner changes.now owner dependents.now filling.old.builds filling.new.builds) }
+    ensures filled { OnOk result
+        (IsFilled changes.now owner (map moved_dependent dependents.now) filling.old.given filling.new.given) }
+    ensures marks { OnOk result
+        (FillsMarks index.now changes.now filling.old.given filling.new.given owner dependents.now) }
 {
     let aims = moved_aims(alloc, dependents)?;
     let payload = changes[owner].payload();
-    let rewritten = rewritten_each(alloc, payload, &aims, index, given, builds)?;
-    given.entries[owner] = rewritten;
+    let rewritten = rewritten_each(
+        alloc,
+        payload,
+        &aims,
+        index,
+        &filling.given,
+        &mut filling.builds,
+    )?;
+    filling.given.entries[owner] = rewritten;
     Ok(())
 }
 
 // Enters what the owners of one depth give, where all that is deeper has been entered.
 fn fill_level(
     alloc: Global,
+    filling: &mut Filling,
     changes: &[Change],
     dependents: &[Vec<Dependent>],
     owners: &[usize],
     index: &SoughtIndex,
-    given: &mut GivenTable,
-    builds: &mut u64,
 ) -> Result<(), AllocError>
     requires owned { length dependents.now ≡ length changes.now }
     requires there { All (λ c. c < length changes.now) owners.now }
-    requires long { length given.now.entries.items ≡ length changes.now }
-    requires top { given.now.top ≡ None }
-    ensures long { OnOk result (length given.new.entries.items ≡ length changes.now) }
-    ensures top { OnOk result (given.new.top ≡ None) }
-    ensures count { OnOk result (CountsLevel changes.now dependents.now owners.now builds.old builds.new) }
-    ensures filled { OnOk result (FillsLevel changes.now dependents.now owners.now given.old given.new) }
-    ensures marks { OnOk result (FillsLevelMarks changes.now dependents.now index.now owners.now given.old given.new) }
+    requires long { length filling.now.given.entries.items ≡ length changes.now }
+    requires top { filling.now.given.top ≡ None }
+    ensures long { OnOk result (length filling.new.given.entries.items ≡ length changes.now) }
+    ensures top { OnOk result (filling.new.given.top ≡ None) }
+    ensures count { OnOk result
+        (CountsLevel changes.now dependents.now owners.now filling.old.builds filling.new.builds) }
+    ensures filled { OnOk result
+        (FillsLevel changes.now dependents.now owners.now filling.old.given filling.new.given) }
+    ensures marks { OnOk result
+        (FillsLevelMarks changes.now dependents.now index.now owners.now filling.old.given filling.new.given) }
 {
-    let _count = *builds;
+    let _count = filling.builds;
     for owner in owners {
-        fill(
-            alloc,
-            changes,
-            *owner,
-            &dependents[*owner],
-            index,
-            given,
-            builds,
-        )?;
+        fill(alloc, filling, changes, *owner, &dependents[*owner], index)?;
     }
     Ok(())
 }
 
-/// What each change gives, by its number, with the marks of the elements that a table has, where another one has what each change owns.
-/// `builds` counts the nodes that are built in the owners' payloads.
+/// What each change gives, by its number, with the marks of the elements that a table has, where another one has what
+/// each change owns. `builds` counts the nodes that are built in the owners' payloads.
 ///
-/// An owner comes after all that is deeper. Takes time linear in the changes and the depth of the deepest one, and what the passes
-/// through the owners' payloads take.
+/// An owner comes after all that is deeper. Takes time linear in the changes and the depth of the deepest one, and what
+/// the passes through the owners' payloads take.
 pub(crate) fn given_table<'a>(
     alloc: Global,
     changes: &'a [Change],
@@ -196,19 +204,22 @@ pub(crate) fn given_table<'a>(
     ensures given { IfOk result (TellsGiven changes.now dependents.now) }
     ensures marks { IfOk result (TellsMarks changes.now dependents.now index.now) }
 {
-    let _count = *builds;
     let owners = owners_by_depth(alloc, changes, dependents)?;
-    let mut given = payloads(alloc, changes, index)?;
+    let given = payloads(alloc, changes, index)?;
+    let mut filling = Filling {
+        given,
+        builds: *builds,
+    };
     for level in (0..owners.len()).rev() {
         fill_level(
             alloc,
+            &mut filling,
             changes,
             dependents,
             &owners[level],
             index,
-            &mut given,
-            builds,
         )?;
     }
-    Ok(given)
+    *builds = filling.builds;
+    Ok(filling.given)
 }

@@ -1,8 +1,8 @@
 ghost use Rattle.std.specs.Prelude.{◌≡◌, ◌++◌, [], ◌∷◌, IfOk, OnOk};
 
-use edit_change::Aimed;
 use crate::few::Few;
 use crate::lone::lone_aim;
+use edit_change::Aimed;
 use std::alloc::{AllocError, Global};
 use std::marker::Model;
 

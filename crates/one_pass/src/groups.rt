@@ -2,8 +2,8 @@ ghost use Rattle.std.specs.Prelude.{◌≡◌, ◌<◌, length, get_or, IfOk, On
 ghost use Rattle.one_pass.specs.inner.Groups.{AreEmptyGroups};
 ghost use Rattle.one_pass.specs.inner.OneMore.{HasOneMore, StaysElsewhere};
 
-use edit_change::Aimed;
 use crate::group::Group;
+use edit_change::Aimed;
 use std::alloc::{AllocError, Global};
 use std::marker::Model;
 

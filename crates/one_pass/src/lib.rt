@@ -14,7 +14,9 @@ mod mark;
 mod mark_paths;
 mod marked_given;
 mod pass;
+mod place;
 mod rewriting;
 mod sought;
+mod walk;
 
 pub use rewriting::{OnePass, rewrite};

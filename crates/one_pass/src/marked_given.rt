@@ -2,8 +2,8 @@ ghost use Rattle.std.specs.Prelude.{map, OnOk};
 ghost use Rattle.one_pass.specs.inner.Marked.{mark_below, marks_of, Finds};
 ghost use Rattle.one_pass.specs.inner.Pass.{own_marks, marks_at_path};
 
-use edit_change::Given;
 use crate::mark::Mark;
+use edit_change::Given;
 use std::alloc::{AllocError, Global};
 
 /// What a change gives, and the marks of it.

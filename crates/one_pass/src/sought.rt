@@ -9,9 +9,9 @@ ghost use Rattle.one_pass.specs.inner.OneMore.{HasOneMore, StaysElsewhere};
 ghost use Rattle.one_pass.specs.inner.Sought.{addresses, sought_from, sought_at, IsSoughtIndex};
 ghost use Rattle.one_pass.specs.inner.Sought.{HasSameLists, HasListedMore, IsMarkEntered, HasRegisteredMore};
 
+use crate::mark::Sought;
 use cst_core::SyntaxElement;
 use path_table::PathTable;
-use crate::mark::Sought;
 use std::alloc::{AllocError, Global};
 
 /// The registered elements at an element or below it, by that element. An element is told by its tree number and its path.

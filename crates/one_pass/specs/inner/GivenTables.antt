@@ -23,11 +23,10 @@ use Rattle.edit_change.specs.Rewriting.{NumberedAim, rewritten}
 use Rattle.edit_change.specs.Effort.{touched, parents_of}
 use Rattle.one_pass.specs.inner.Built.{AreBuilt}
 use Rattle.edit_change.specs.inner.Aimed.{aims_of}
-use Rattle.one_pass.specs.inner.Marked.{MarkTree, marked, Finds}
+use Rattle.one_pass.specs.inner.Marked.{MarkTree, marked}
 use Rattle.edit_change.specs.inner.KindOnly.{kind_only}
-use Rattle.one_pass.specs.inner.Pass.{IsMarked, AreMarkedIn, given_in}
+use Rattle.one_pass.specs.inner.Pass.{IsMarked, AreMarkedIn, given_in, FindsHere}
 use Rattle.edit_change.specs.declared.aimed.Aimed.{Aimed}
-use Rattle.one_pass.specs.declared.mark.Mark.{Mark}
 use Rattle.one_pass.specs.declared.marked_given.GivenTable.{GivenTable}
 use Rattle.one_pass.specs.declared.marked_given.MarkedGiven.{MarkedGiven}
 use Rattle.edit_change.specs.declared.change.Change.{Change}
@@ -37,6 +36,7 @@ use Rattle.one_pass.specs.inner.Marks.{IsTableOf, element_sought, payload_sought
 use Rattle.one_pass.specs.inner.OwnerTables.{moved_dependent, owns_at, AreDependents, AreGiven, AreGivenFrom}
 use Rattle.one_pass.specs.declared.dependent.Dependent.{Dependent}
 use Rattle.one_pass.specs.declared.sought.SoughtIndex.{SoughtIndex}
+use Rattle.one_pass.specs.declared.walk.Walk.{Walk}
 
 -- ---- elements, rewritten by what a table has
 module _ (table : GivenTable) (aims : List Aimed) where
@@ -46,10 +46,10 @@ module _ (table : GivenTable) (aims : List Aimed) where
   abbrev pub each_rewritten : List SyntaxElement → List SyntaxTree
   each_rewritten es = map (rewritten kind_only (given_in table) (aims_of aims) []) (map subtree (map element_of es))
 
-  abbrev pub FindsElement : SoughtIndex → SyntaxElement → Vec Mark Global → Vec Mark Global → Type 0
+  abbrev pub FindsElement : SoughtIndex → SyntaxElement → Walk → Walk → Type 0
   FindsElement index e before after =
       (trees : ℕ → List MarkTree) → AreMarkedIn table trees →
-      Finds before after (marked (element_sought index trees (aims_of aims) (element_of e)))
+      FindsHere before after (marked (element_sought index trees (aims_of aims) (element_of e)))
 
   abbrev pub IsMarkedEach : SoughtIndex → List SyntaxElement → MarkedGiven → Type 0
   IsMarkedEach index es g =

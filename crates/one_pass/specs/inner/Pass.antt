@@ -1,30 +1,36 @@
--- What the pass is told: what is kept is labelled by its kind alone, and of what changes give, elements and their marks.
+-- What the pass is told: of what is kept the kinds alone, and of what changes give elements and their marks.
 --     own_marks                     the mark of a top, if there is one
---     marks_there                   the marks of the given element at an index: that of its top, and those of a list, if it goes so far
+--     marks_there                   the marks of the given element at an index: its top's, and those in a list, if there
 --     IsMarked                      these trees are as many as the given elements, and each has the marks of its own
---     IsMarkedIn, AreMarkedIn       the same of an entry of a table, where no entry gives nothing; of all changes, by their numbers
+--     IsMarkedIn, AreMarkedIn       the same of an entry of a table, if there is one; of all changes, by their numbers
 --     given_in                      what a change gives, from a table by its number: nothing where the table has none
---     gap_changes                   the inserts of a gap of the top, in the order in which they stand there
---     slot_changes, top_changes     what replaces from a child of the top on; what replaces the top
+--     stands_at                     what an aim's change gives stands at a place: in its gap, or where it replaces from
+--     changes_at                    the changes at a place, in the order in which they stand there
 --     topped                        a tree with one mark more at its top
 --     marks_at_path                 the marks of the given element at an index, which stands at a path
 --     Puts                          trees that are put after others
---     FindsGiven, FindsChange, FindsAll          where the marks of what is put next are found: of an entry, of a change, of several
+--     FindsNext                     a walk finds the marks of trees that are put next
+--     FindsGiven, FindsChange, FindsAll          it finds those of an entry, of a change, of several
+--     FindsChild                    it finds those of an untouched element that is put next
+--     kept_marks                    an untouched element, labelled by the marks that are sought in it
+--     aims_inside                   the aims at a child slot or below, as they are seen from the child
+--     child_made, slot_made         what is made of a child; what stands in its slot
+--     children_made, new_trees      what is made of all children; the same, labelled by kinds
+--     CountsOn                      a count rose by so many nodes, whatever is counted after
+--     child_built, slot_built       how many nodes are built of a child that is kept; in a slot
+--     children_built                how many are built of all children
+--     altered, in_slot              a child made anew; what stands in the slot of a child
+--     CountsAltered, CountsSlot     a walk counts their nodes
+--     PutsAltered, PutsSlot         they are put next
+--     FindsAltered, FindsSlot       a walk finds their marks
 --     TouchesAtMost, CountsBuilt, CountsBuiltWhole      how a count of built nodes rises
 --     CountsTouched                 how it rises where all that is touched is built
 --     remade, remade_whole          the tree that a pass makes; what stands in the place of an element
---     kept_marks                    an untouched element, labelled by the marks that are sought in it
---     FindsKept, FindsChild         where the marks of an untouched element are found; of one that is put next
---     aims_inside                   the aims at a child slot or below, as they are seen from the child
---     child_made, slot_made         what is made of a child; what stands in its slot
---     children_made                 what is made of all children
---     PutsAltered, PutsSlot, PutsChildren        that is put after others
---     CountsOn                      a count rose by so many nodes, whatever is counted after
---     child_built, slot_built, children_built    how many nodes are built of a child that is kept; in a slot; of all children
---     FindsAltered, FindsSlot, FindsChildren     where the marks of a child made anew are found; in a slot; of all children
---     FindsRebuilt, FindsWhole      where the marks of a rebuilt element are found; of what stands in its place
+--     FindsHere                     a walk finds marks, whose paths are counted from its own
+--     FindsKept, FindsChildren      it finds those of an untouched element; of all children of a node
+--     FindsRebuilt, FindsWhole      it finds those of a rebuilt element; those of what stands in its place are found
 use Rattle.edit_change.specs.inner.KindOnly.{kind_only}
-use Rattle.std.specs.Prelude.{◌≡◌, ◌<◌, ◌≤◌, ◌+◌, ℕ, cond, List, [], ◌∷◌, ◌++◌, map, flat_map, length, get_or, slice_get, Option, Some, None, Vec}
+use Rattle.std.specs.Prelude.{◌≡◌, ◌<◌, ◌≤◌, ◌+◌, ℕ, Bool, cond, List, [], ◌∷◌, ◌++◌, map, flat_map, length, get_or, slice_get, Option, Some, None, Vec}
 use Rattle.std.specs.Global.{Global}
 use Rattle.std.specs.Option.{option_map_or}
 use Rattle.green_tree.specs.Path.{Path}
@@ -34,12 +40,17 @@ use Rattle.green_tree.specs.GreenElement.{element_tree, element_trees}
 use Rattle.green_tree.specs.declared.green.GreenElement.{GreenElement}
 use Rattle.edit_change.specs.Effort.{touched, parents_of, counted}
 use Rattle.one_pass.specs.inner.Built.{built_from, nodes_built, nodes_built_whole, AreBuilt}
-use Rattle.edit_change.specs.Rewriting.{NumberedAim, inserts_at, replacements_at, is_replaced, gap_order, slot, rewritten, rewritten_from, rewritten_whole}
+use Rattle.edit_change.specs.Aim.{Aim, aims_at_gap, starts_at}
+use Rattle.edit_change.specs.Rewriting.{NumberedAim, inserts_at, replacements_at, gap_order, is_replaced, slot, rewritten, rewritten_from, rewritten_whole}
 use Rattle.edit_change.specs.inner.Aimed.{formed, of_formed, aims_of, formed_below}
 use Rattle.one_pass.specs.inner.Marked.{MarkTree, Marking, marked, marked_from, mark_below, marks_of, sought_in, wanted, Finds}
 use Rattle.edit_change.specs.declared.aimed.Aimed.{Aimed}
 use Rattle.one_pass.specs.declared.mark.Mark.{Mark}
+use Rattle.one_pass.specs.declared.pass.Child.{Child}
+use Rattle.one_pass.specs.declared.walk.Walk.{Walk}
 use Rattle.one_pass.specs.declared.mark.Sought.{Sought}
+use Rattle.one_pass.specs.declared.place.Place.{Place}
+use Rattle.one_pass.specs.declared.place.Place.TheVariants.{Gap, Slot, Top}
 use Rattle.one_pass.specs.declared.marked_given.MarkedGiven.{MarkedGiven}
 use Rattle.one_pass.specs.declared.marked_given.GivenTable.{GivenTable}
 
@@ -64,14 +75,15 @@ AreMarkedIn table trees = (c : ℕ) → IsMarkedIn table.top (slice_get table.en
 abbrev pub given_in : GivenTable → ℕ → List SyntaxTree
 given_in table c = option_map_or (λ g. given_trees g.elements) (slice_get table.entries.items c) []
 
-abbrev pub gap_changes : List Aimed → ℕ → List ℕ
-gap_changes aims gap = gap_order (inserts_at (aims_of aims) [] gap)
+abbrev pub stands_at : Place → Aim → Bool
+stands_at (Gap gap) a = aims_at_gap [] gap a
+stands_at (Slot i) a = starts_at (i ∷ []) a
+stands_at Top a = starts_at [] a
 
-abbrev pub slot_changes : List Aimed → ℕ → List ℕ
-slot_changes aims slot = replacements_at (aims_of aims) (slot ∷ [])
-
-abbrev pub top_changes : List Aimed → List ℕ
-top_changes aims = replacements_at (aims_of aims) []
+abbrev pub changes_at : List Aimed → Place → List ℕ
+changes_at aims (Gap gap) = gap_order (inserts_at (aims_of aims) [] gap)
+changes_at aims (Slot i) = replacements_at (aims_of aims) (i ∷ [])
+changes_at aims Top = replacements_at (aims_of aims) []
 
 abbrev pub topped : ℕ → MarkTree → MarkTree
 topped n (Token l s) = Token (n ∷ l) s
@@ -87,24 +99,22 @@ Puts before after ts = element_trees after.items ≡ element_trees before.items 
 abbrev pub kept_marks : List Sought → GreenElement → MarkTree
 kept_marks sought e = rewritten (wanted (sought_in sought)) (λ c. []) [] [] (element_tree e)
 
--- below the node at a path, which has these children so far
-module _ (path : Vec ℕ Global) (out : Vec GreenElement Global) (before after : Vec Mark Global) where
-  abbrev stands_from_here : List MarkTree → List Marking
-  stands_from_here ts = map (mark_below path.items) (marked_from (length out.items) ts)
+-- below the node at the path of a walk, which has these children so far
+module _ (before : Walk) (out : Vec GreenElement Global) (after : Walk) where
+  abbrev FindsNext : List MarkTree → Type 0
+  FindsNext ts = Finds before.found after.found (map (mark_below before.path.items) (marked_from (length out.items) ts))
 
   abbrev pub FindsGiven : Option ℕ → MarkedGiven → Type 0
-  FindsGiven top g = (ts : List MarkTree) → IsMarked top g ts → Finds before after (stands_from_here ts)
+  FindsGiven top g = (ts : List MarkTree) → IsMarked top g ts → FindsNext ts
 
   abbrev pub FindsChange : GivenTable → ℕ → Type 0
-  FindsChange table c =
-      (trees : ℕ → List MarkTree) → AreMarkedIn table trees → Finds before after (stands_from_here (trees c))
+  FindsChange table c = (trees : ℕ → List MarkTree) → AreMarkedIn table trees → FindsNext (trees c)
 
   abbrev pub FindsAll : GivenTable → List ℕ → Type 0
-  FindsAll table cs =
-      (trees : ℕ → List MarkTree) → AreMarkedIn table trees → Finds before after (stands_from_here (flat_map trees cs))
+  FindsAll table cs = (trees : ℕ → List MarkTree) → AreMarkedIn table trees → FindsNext (flat_map trees cs)
 
   abbrev pub FindsChild : List Sought → GreenElement → Type 0
-  FindsChild sought e = Finds before after (stands_from_here (kept_marks sought e ∷ []))
+  FindsChild sought e = FindsNext (kept_marks sought e ∷ [])
 
 -- ---- what the pass makes of the children of a node, each by the aims that concern it
 abbrev pub aims_inside : List Aimed → ℕ → List NumberedAim
@@ -120,15 +130,8 @@ module _ {L : Type 0} (label_at : Path → ℕ → L) (given : ℕ → List (Tre
   abbrev pub children_made : List GreenElement → List (Tree L)
   children_made es = rewritten_from label_at given (aims_of aims) [] 0 (forest (element_trees es))
 
-module _ (before after : Vec GreenElement Global) (table : GivenTable) (aims : List Aimed) where
-  abbrev pub PutsAltered : ℕ → GreenElement → Type 0
-  PutsAltered i e = Puts before after (child_made kind_only (given_in table) aims i e ∷ [])
-
-  abbrev pub PutsSlot : ℕ → GreenElement → Type 0
-  PutsSlot i e = Puts before after (slot_made kind_only (given_in table) aims i e)
-
-  abbrev pub PutsChildren : List GreenElement → Type 0
-  PutsChildren es = Puts before after (children_made kind_only (given_in table) aims es)
+abbrev pub new_trees : GivenTable → List Aimed → List GreenElement → List SyntaxTree
+new_trees table aims es = children_made kind_only (given_in table) aims es
 
 -- whatever is counted after, from before it is n more
 abbrev pub CountsOn : ℕ → ℕ → ℕ → Type 0
@@ -144,20 +147,37 @@ module _ (aims : List Aimed) where
   abbrev pub children_built : List GreenElement → ℕ
   children_built es = built_from (aims_of aims) [] 0 (forest (element_trees es)) (parents_of (aims_of aims))
 
-module _ (path : Vec ℕ Global) (out : Vec GreenElement Global) (before after : Vec Mark Global) (table : GivenTable) (aims : List Aimed) where
-  -- where what stands here depends on what the changes give
-  abbrev FindsHere : ((ℕ → List MarkTree) → List MarkTree) → Type 0
-  FindsHere made =
-      (trees : ℕ → List MarkTree) → AreMarkedIn table trees → Finds before after (map (mark_below path.items) (marked_from (length out.items) (made trees)))
+-- of one child, with the aims that concern it
+module _ (child : Child) where
+  abbrev altered : {L : Type 0} → (Path → ℕ → L) → (ℕ → List (Tree L)) → List (Tree L)
+  altered label_at given = child_made label_at given child.aims.now child.slot child.element.now ∷ []
 
-  abbrev pub FindsAltered : ℕ → List Sought → GreenElement → Type 0
-  FindsAltered i sought e = FindsHere (λ trees. child_made (wanted (sought_in sought)) trees aims i e ∷ [])
+  abbrev in_slot : {L : Type 0} → (Path → ℕ → L) → (ℕ → List (Tree L)) → List (Tree L)
+  in_slot label_at given = slot_made label_at given child.aims.now child.slot child.element.now
 
-  abbrev pub FindsSlot : ℕ → List Sought → GreenElement → Type 0
-  FindsSlot i sought e = FindsHere (λ trees. slot_made (wanted (sought_in sought)) trees aims i e)
+  abbrev pub CountsAltered : Walk → Walk → Type 0
+  CountsAltered before after =
+      CountsOn before.builds after.builds (child_built child.aims.now child.slot child.element.now)
 
-  abbrev pub FindsChildren : List Sought → List GreenElement → Type 0
-  FindsChildren sought es = FindsHere (λ trees. children_made (wanted (sought_in sought)) trees aims es)
+  abbrev pub CountsSlot : Walk → Walk → Type 0
+  CountsSlot before after = CountsOn before.builds after.builds (slot_built child.aims.now child.slot child.element.now)
+
+  module _ (table : GivenTable) where
+    abbrev pub PutsAltered : Vec GreenElement Global → Vec GreenElement Global → Type 0
+    PutsAltered before after = Puts before after (altered kind_only (given_in table))
+
+    abbrev pub PutsSlot : Vec GreenElement Global → Vec GreenElement Global → Type 0
+    PutsSlot before after = Puts before after (in_slot kind_only (given_in table))
+
+    abbrev pub FindsAltered : Walk → Vec GreenElement Global → Walk → Type 0
+    FindsAltered before out after =
+        (trees : ℕ → List MarkTree) → AreMarkedIn table trees →
+        FindsNext before out after (altered (wanted (sought_in child.sought.now)) trees)
+
+    abbrev pub FindsSlot : Walk → Vec GreenElement Global → Walk → Type 0
+    FindsSlot before out after =
+        (trees : ℕ → List MarkTree) → AreMarkedIn table trees →
+        FindsNext before out after (in_slot (wanted (sought_in child.sought.now)) trees)
 
 -- ---- what the pass makes of an element
 abbrev pub TouchesAtMost : List Aimed → GreenElement → ℕ → ℕ → Type 0
@@ -171,7 +191,8 @@ CountsBuiltWhole aims e before after = after ≡ counted before (nodes_built_who
 
 abbrev pub CountsTouched : List Aimed → GreenElement → ℕ → ℕ → Type 0
 CountsTouched aims e before after =
-    AreBuilt (aims_of aims) (element_tree e) → after ≡ counted before (touched (element_tree e) (parents_of (aims_of aims)))
+    AreBuilt (aims_of aims) (element_tree e) →
+    after ≡ counted before (touched (element_tree e) (parents_of (aims_of aims)))
 
 abbrev pub remade : GivenTable → List Aimed → GreenElement → SyntaxTree
 remade table aims e = rewritten kind_only (given_in table) (aims_of aims) [] (element_tree e)
@@ -179,17 +200,26 @@ remade table aims e = rewritten kind_only (given_in table) (aims_of aims) [] (el
 abbrev pub remade_whole : GivenTable → List Aimed → GreenElement → List SyntaxTree
 remade_whole table aims e = rewritten_whole kind_only (given_in table) (aims_of aims) (element_tree e)
 
--- ---- where its marks are
-abbrev pub FindsKept : List Sought → GreenElement → Vec ℕ Global → Vec Mark Global → Vec Mark Global → Type 0
-FindsKept sought e path before after = Finds before after (map (mark_below path.items) (marked (kept_marks sought e)))
+-- ---- where marks are, from the path of a walk on
+abbrev pub FindsHere : Walk → Walk → List Marking → Type 0
+FindsHere before after ms = Finds before.found after.found (map (mark_below before.path.items) ms)
 
-module _ (table : GivenTable) (aims : List Aimed) (sought : List Sought) (e : GreenElement) where
-  abbrev pub FindsRebuilt : Vec ℕ Global → Vec Mark Global → Vec Mark Global → Type 0
-  FindsRebuilt path before after =
-      (trees : ℕ → List MarkTree) → AreMarkedIn table trees →
-      Finds before after (map (mark_below path.items) (marked (rewritten (wanted (sought_in sought)) trees (aims_of aims) [] (element_tree e))))
+abbrev pub FindsKept : List Sought → GreenElement → Walk → Walk → Type 0
+FindsKept sought e before after = FindsHere before after (marked (kept_marks sought e))
 
-  abbrev pub FindsWhole : Vec Mark Global → Type 0
-  FindsWhole found =
+module _ (table : GivenTable) (aims : List Aimed) (sought : List Sought) where
+  abbrev pub FindsChildren : List GreenElement → Walk → Walk → Type 0
+  FindsChildren es before after =
       (trees : ℕ → List MarkTree) → AreMarkedIn table trees →
-      marks_of found.items ≡ marked_from 0 (rewritten_whole (wanted (sought_in sought)) trees (aims_of aims) (element_tree e))
+      FindsHere before after (marked_from 0 (children_made (wanted (sought_in sought)) trees aims es))
+
+  abbrev pub FindsRebuilt : GreenElement → Walk → Walk → Type 0
+  FindsRebuilt e before after =
+      (trees : ℕ → List MarkTree) → AreMarkedIn table trees →
+      FindsHere before after (marked (rewritten (wanted (sought_in sought)) trees (aims_of aims) [] (element_tree e)))
+
+  abbrev pub FindsWhole : GreenElement → Vec Mark Global → Type 0
+  FindsWhole e found =
+      (trees : ℕ → List MarkTree) → AreMarkedIn table trees →
+      marks_of found.items ≡
+      marked_from 0 (rewritten_whole (wanted (sought_in sought)) trees (aims_of aims) (element_tree e))

@@ -19,21 +19,21 @@ pub returns-clause-count : goal.returns-clause-count
 returns-clause-count c =
     let change = c.index-changes-owner.result in
     let aims = ap aims_of c.deref.ensures.value ∙ c.in_ok-aims.ensures in
-    let before = c.args.builds.now in
+    let before = c.args.filling.now.builds in
     let after = c.rewritten_each.new.builds in
     let brought = c.payload-payload.ensures ∙ sym (payload-at c.args.changes.now c.args.owner change c.requires.there c.index-changes-owner.is) in
     subst (λ es. CountsEach (map moved_dependent c.args.dependents.now) es before after) brought (subst (λ ds. CountsEach ds (map element_of c.payload-payload.result.now) before after) aims c.in_ok-rewritten.ensures.count)
 
 pub returns-clause-filled : goal.returns-clause-filled
 returns-clause-filled c =
-    let table = c.args.given.now in
+    let table = c.args.filling.now.given in
     let change = c.index-changes-owner.result in
     let aims = ap aims_of c.deref.ensures.value ∙ c.in_ok-aims.ensures in
     filled c.args.changes.now c.args.owner change (map moved_dependent c.args.dependents.now) table _ c.in_ok-rewritten.rewritten c.requires.there (subst (λ n. c.args.owner < n) (sym c.requires.long) c.requires.there) c.index-changes-owner.is refl (c.in_ok-rewritten.ensures.trees ∙ ap₂ (λ ds es. map (rewritten kind_only (given_in table) ds []) (map subtree es)) aims c.payload-payload.ensures)
 
 pub returns-clause-marks : goal.returns-clause-marks
 returns-clause-marks c = λ trees are.
-    let table = c.args.given.now in
+    let table = c.args.filling.now.given in
     let change = c.index-changes-owner.result in
     let index = c.args.index.now in
     let owned = map moved_dependent c.args.dependents.now in

@@ -64,9 +64,9 @@ loop-level-preserved c =
           let before : ℕ = sum_by (deep cs f c.loop-level.level) ns in
           let own : ℕ = sum_by f c.deref.result.now in
           let sum : before + own ≡ sum_by (deep cs f level) ns = ap₂ (λ l os. sum_by (deep cs f l) ns + sum_by f os) next here ∙ sym (one-level cs f c.args.dependents.now alone level ns) in
-          raises-same W (before + own) _ _ _ sum (raises-both W before own _ c.loop-level.builds _ (c.loop-level.invariant.count places are) (c.in_ok-fill_level.ensures.count places are));
-      filled = λ places are. c.in_ok-fill_level.ensures.filled places level are here (subst (λ n. AreGivenFrom c.args.changes.now places n c.loop-level.given) next (c.loop-level.invariant.filled places are));
-      marks = λ places rs are sought. c.in_ok-fill_level.ensures.marks places rs level are sought here (subst (λ n. AreMarksFrom rs c.args.changes.now places n c.loop-level.given) next (c.loop-level.invariant.marks places rs are sought));
+          raises-same W (before + own) _ _ _ sum (raises-both W before own _ c.loop-level.filling.builds _ (c.loop-level.invariant.count places are) (c.in_ok-fill_level.ensures.count places are));
+      filled = λ places are. c.in_ok-fill_level.ensures.filled places level are here (subst (λ n. AreGivenFrom c.args.changes.now places n c.loop-level.filling.given) next (c.loop-level.invariant.filled places are));
+      marks = λ places rs are sought. c.in_ok-fill_level.ensures.marks places rs level are sought here (subst (λ n. AreMarksFrom rs c.args.changes.now places n c.loop-level.filling.given) next (c.loop-level.invariant.marks places rs are sought));
     }
 
 pub returns-clause-count : goal.returns-clause-count
@@ -77,7 +77,7 @@ returns-clause-count c = λ places are.
     raises-same (ArePayloadsBuilt cs places) _ _ _ _ (ap (λ l. sum_by (deep cs f l) (counted_from 0 (length cs))) last ∙ all-deep cs f (counted_from 0 (length cs)) ∙ by-number f 0 cs) (c.loop-level.invariant.count places are)
 
 pub returns-clause-given : goal.returns-clause-given
-returns-clause-given c = λ places are. to-the-top c.args.changes.now places c.loop-level.level c.loop-level.given c.loop-level-test.false (c.loop-level.invariant.filled places are)
+returns-clause-given c = λ places are. to-the-top c.args.changes.now places c.loop-level.level c.loop-level.filling.given c.loop-level-test.false (c.loop-level.invariant.filled places are)
 
 pub returns-clause-marks : goal.returns-clause-marks
-returns-clause-marks c = λ places rs are sought. marks.to-the-top rs c.args.changes.now places c.loop-level.level c.loop-level.given c.loop-level-test.false (c.loop-level.invariant.marks places rs are sought)
+returns-clause-marks c = λ places rs are sought. marks.to-the-top rs c.args.changes.now places c.loop-level.level c.loop-level.filling.given c.loop-level-test.false (c.loop-level.invariant.marks places rs are sought)

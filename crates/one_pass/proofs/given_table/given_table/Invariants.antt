@@ -11,9 +11,9 @@ use Rattle.one_pass.proofs.given_table.given_table.Given as goal
 
 abbrev pub invariant-loop-level : goal.invariant-loop-level
 invariant-loop-level l = record {
-  long : length l.given.entries.items ≡ length l.changes;
-  top : l.given.top ≡ None;
-  count : (places : ℕ → Path) → AreDependents l.changes places l.dependents → Raises (ArePayloadsBuilt l.changes places) (sum_by (deep l.changes (touched_in l.changes places) l.level) (counted_from 0 (length l.changes))) l.fn.builds l.builds;
-  filled : (places : ℕ → Path) → AreDependents l.changes places l.dependents → AreGivenFrom l.changes places l.level l.given;
-  marks : (places : ℕ → Path) (rs : List Address) → AreDependents l.changes places l.dependents → IsTableOf rs l.index → AreMarksFrom rs l.changes places l.level l.given;
+  long : length l.filling.given.entries.items ≡ length l.changes;
+  top : l.filling.given.top ≡ None;
+  count : (places : ℕ → Path) → AreDependents l.changes places l.dependents → Raises (ArePayloadsBuilt l.changes places) (sum_by (deep l.changes (touched_in l.changes places) l.level) (counted_from 0 (length l.changes))) l.fn.builds l.filling.builds;
+  filled : (places : ℕ → Path) → AreDependents l.changes places l.dependents → AreGivenFrom l.changes places l.level l.filling.given;
+  marks : (places : ℕ → Path) (rs : List Address) → AreDependents l.changes places l.dependents → IsTableOf rs l.index → AreMarksFrom rs l.changes places l.level l.filling.given;
 }

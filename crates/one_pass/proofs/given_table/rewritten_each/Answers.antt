@@ -1,5 +1,5 @@
-use Rattle.std.proofs.Common.{◌≡◌, ◌+◌, ℕ, ◌∷◌, [], ◌++◌, map, take, length, ap, ap₂, arith, sym, ◌∙◌}
-use Rattle.std.proofs.lemmas.List.{map-append, length-map}
+use Rattle.std.proofs.Common.{◌≡◌, ◌+◌, ℕ, ◌∷◌, [], ◌++◌, map, take, length, ap, ap₂, arith, sym, subst, ◌∙◌}
+use Rattle.std.proofs.lemmas.List.{map-append, map-id, length-map}
 use Rattle.std.specs.Prelude.{All}
 use Rattle.std.proofs.lemmas.List.Sums.{sum_by_push}
 use Rattle.cst_core.specs.Element.{subtree}
@@ -9,9 +9,10 @@ use Rattle.edit_change.specs.Rewriting.{rewritten}
 use Rattle.edit_change.specs.Effort.{touched, parents_of}
 use Rattle.one_pass.specs.inner.Built.{AreBuilt}
 use Rattle.edit_change.specs.inner.Aimed.{aims_of}
-use Rattle.one_pass.specs.inner.Marked.{marked, marks_of}
+use Rattle.one_pass.specs.inner.Marked.{marked, mark_below, marks_of}
 use Rattle.edit_change.specs.inner.KindOnly.{kind_only}
 use Rattle.one_pass.specs.inner.Pass.{given_in}
+use Rattle.one_pass.specs.inner.GivenTables.{CountsElement}
 use Rattle.one_pass.specs.inner.Marks.{element_sought, payload_sought}
 use Rattle.edit_change.specs.TouchedNodes.{touched_each}
 use Rattle.one_pass.proofs.Counting.{raises-none, raises-both, raises-weaker, raises-same, one-of}
@@ -41,12 +42,14 @@ loop-element-preserved c =
     let done : ℕ = touched_each cs (map element_of (take i es)) in
     let own : ℕ = touched (subtree (element_of e)) (parents_of cs) in
     let sum : touched_each cs (map element_of (take (i + 1) es)) ≡ done + own = ap (touched_each cs) elements ∙ sum_by_push (λ x. touched (subtree x) (parents_of cs)) (map element_of (take i es)) (element_of e) in
+    let raised = subst (λ n. CountsElement c.args.aims.now e n c.rewritten_element.new.walk.builds) c.begin-walk.ensures.builds c.in_ok-green.ensures.count in
     record {
-      count = raises-same P (done + own) _ _ _ (sym sum) (raises-both P done own _ c.loop-element.builds _ c.loop-element.invariant.count (raises-weaker (AreBuilt cs (subtree (element_of e))) P own _ _ (one-of (λ x. AreBuilt cs (subtree x)) es i e c.loop-element-test.true c.element-item.is) c.in_ok-green.ensures.count));
+      count = raises-same P (done + own) _ _ _ (sym sum) (raises-both P done own _ c.loop-element.builds _ c.loop-element.invariant.count (raises-weaker (AreBuilt cs (subtree (element_of e))) P own _ _ (one-of (λ x. AreBuilt cs (subtree x)) es i e c.loop-element-test.true c.element-item.is) raised));
       trees = ap element_trees c.in_ok-push.ensures.items ∙ map-append element_tree c.loop-element.greens.items (c.in_ok-green.green ∷ []) ∙ ap₂ (λ ts t. ts ++ t ∷ []) c.loop-element.invariant.trees c.in_ok-green.ensures.tree ∙ sym (ap (λ xs. map f (map subtree xs)) elements ∙ ap (map f) (map-append subtree (map element_of (take i es)) (element_of e ∷ [])) ∙ map-append f (map subtree (map element_of (take i es))) (subtree (element_of e) ∷ []));
       marks = λ trees are.
           let g = element_sought index trees cs in
-          let own = c.in_ok-green.ensures.marks trees are ∙ ap (λ ms. marks_of ms ++ marked (g (element_of e))) c.new-own.ensures.items in
+          let shown = marked (g (element_of e)) in
+          let own = c.in_ok-green.ensures.marks trees are ∙ ap₂ (λ ms p. marks_of ms ++ map (mark_below p) shown) c.begin-walk.ensures.found c.begin-walk.ensures.path ∙ map-id shown in
           ap (map (λ v. marks_of v.items)) c.in_ok-push-2.ensures.items ∙ map-append (λ v. marks_of v.items) c.loop-element.marks.items (_ ∷ []) ∙ ap₂ (λ xs x. xs ++ x ∷ []) (c.loop-element.invariant.marks trees are) own ∙ sym (ap (λ xs. map marked (map g xs)) elements ∙ ap (map marked) (map-append g (map element_of (take i es)) (element_of e ∷ [])) ∙ map-append marked (map g (map element_of (take i es))) (g (element_of e) ∷ []));
     }
 

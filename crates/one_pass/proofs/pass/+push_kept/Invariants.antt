@@ -13,6 +13,7 @@ decreases-push_kept l = size (element_tree l.element.now)
 
 abbrev pub invariant-loop-slot : goal.invariant-loop-slot
 invariant-loop-slot l = record {
-  path : l.path.items ≡ l.fn.path.items;
-  marks : marks_of l.found.items ++ shown l.fn.path.items l.slot (left (wanted (sought_in l.sought)) (λ c. []) [] l.slot (element_trees l.children)) ≡ marks_of l.fn.found.items ++ map (λ n. (n, l.fn.path.items)) (marks_at (sought_in l.sought) []) ++ shown l.fn.path.items 0 (rewritten_from (wanted (sought_in l.sought)) (λ c. []) [] [] 0 (forest (element_trees l.children)));
+  path : l.walk.path.items ≡ l.fn.walk.path.items;
+  count : l.walk.builds ≡ l.fn.walk.builds;
+  marks : marks_of l.walk.found.items ++ shown l.fn.walk.path.items l.slot (left (wanted (sought_in l.sought)) (λ c. []) [] l.slot (element_trees l.children)) ≡ marks_of l.fn.walk.found.items ++ map (λ n. (n, l.fn.walk.path.items)) (marks_at (sought_in l.sought) []) ++ shown l.fn.walk.path.items 0 (rewritten_from (wanted (sought_in l.sought)) (λ c. []) [] [] 0 (forest (element_trees l.children)));
 }

@@ -16,18 +16,18 @@ abbrev pub decreases-rebuild : goal.decreases-rebuild
 decreases-rebuild l = 4 * size (element_tree l.element.now)
 
 abbrev pub decreases-push_altered : goal.decreases-push_altered
-decreases-push_altered l = 4 * size (element_tree l.child.now) + 1
+decreases-push_altered l = 4 * size (element_tree l.child.element.now) + 1
 
 abbrev pub decreases-push_in_slot : goal.decreases-push_in_slot
-decreases-push_in_slot l = 4 * size (element_tree l.child.now) + 2
+decreases-push_in_slot l = 4 * size (element_tree l.child.element.now) + 2
 
-abbrev pub decreases-push_children : goal.decreases-push_children
-decreases-push_children l = 4 * forest_size (forest (element_trees l.children.now)) + 3
+abbrev pub decreases-new_children : goal.decreases-new_children
+decreases-new_children l = 4 * forest_size (forest (element_trees l.children.now)) + 3
 
-abbrev pub invariant-push_children-loop-slot : goal.invariant-push_children-loop-slot
-invariant-push_children-loop-slot l = record {
-  path : l.path.items ≡ l.fn.path.items;
-  count : (further : ℕ) → counted l.builds (still (aims_of l.aims) l.slot (element_trees l.children) + further) ≡ counted l.fn.builds (children_built l.aims l.children + further);
-  trees : element_trees l.out.items ++ left kind_only (given_in l.given) (aims_of l.aims) l.slot (element_trees l.children) ≡ element_trees l.fn.out.items ++ children_made kind_only (given_in l.given) l.aims l.children;
-  marks : (trees : ℕ → List MarkTree) → AreMarkedIn l.given trees → marks_of l.found.items ++ shown l.fn.path.items (length l.out.items) (left (wanted (sought_in l.sought)) trees (aims_of l.aims) l.slot (element_trees l.children)) ≡ marks_of l.fn.found.items ++ shown l.fn.path.items (length l.fn.out.items) (children_made (wanted (sought_in l.sought)) trees l.aims l.children);
+abbrev pub invariant-new_children-loop-slot : goal.invariant-new_children-loop-slot
+invariant-new_children-loop-slot l = record {
+  path : l.walk.path.items ≡ l.fn.walk.path.items;
+  count : (further : ℕ) → counted l.walk.builds (still (aims_of l.aims) l.slot (element_trees l.children) + further) ≡ counted l.fn.walk.builds (children_built l.aims l.children + further);
+  trees : element_trees l.out.items ++ left kind_only (given_in l.given) (aims_of l.aims) l.slot (element_trees l.children) ≡ children_made kind_only (given_in l.given) l.aims l.children;
+  marks : (trees : ℕ → List MarkTree) → AreMarkedIn l.given trees → marks_of l.walk.found.items ++ shown l.fn.walk.path.items (length l.out.items) (left (wanted (sought_in l.sought)) trees (aims_of l.aims) l.slot (element_trees l.children)) ≡ marks_of l.fn.walk.found.items ++ shown l.fn.walk.path.items 0 (children_made (wanted (sought_in l.sought)) trees l.aims l.children);
 }

@@ -17,7 +17,7 @@ returns-in_default-clause-trees c =
 pub returns-in_default-clause-marks : goal.returns-in_default-clause-marks
 returns-in_default-clause-marks c = λ trees are.
     let none = subst (λ o. IsMarkedIn c.args.given.now.top o (trees c.args.change)) (past c.args.given.now.entries.items c.deref.result.now c.args.change c.deref.ensures.value c.in_default.ensures.lookup.3) (are c.args.change) in
-    sym (append-nil (marks_of c.args.found.now.items)) ∙ ap (λ ts. marks_of c.args.found.now.items ++ shown c.args.path.now.items (length c.args.out.now.items) ts) (sym none)
+    sym (append-nil (marks_of c.args.walk.now.found.items)) ∙ ap (λ ts. marks_of c.args.walk.now.found.items ++ shown c.args.walk.now.path.items (length c.args.out.now.items) ts) (sym none)
 
 pub returns-clause-trees : goal.returns-clause-trees
 returns-clause-trees c =

@@ -7,7 +7,8 @@ use Rattle.one_pass.proofs.pass.push_given.Given as goal
 
 abbrev pub invariant-loop-index : goal.invariant-loop-index
 invariant-loop-index l = record {
-  path : l.path.items ≡ l.initial.path.items;
+  path : l.walk.path.items ≡ l.initial.walk.path.items;
+  count : l.walk.builds ≡ l.initial.walk.builds;
   trees : element_trees l.out.items ++ drop l.index (given_trees l.given.elements) ≡ element_trees l.initial.out.items ++ given_trees l.given.elements;
-  marks : (ts : List MarkTree) → IsMarked l.top l.given ts → marks_of l.found.items ++ map (mark_below l.initial.path.items) (marked_from (length l.out.items) (drop l.index ts)) ≡ marks_of l.initial.found.items ++ map (mark_below l.initial.path.items) (marked_from (length l.initial.out.items) ts);
+  marks : (ts : List MarkTree) → IsMarked l.top l.given ts → marks_of l.walk.found.items ++ map (mark_below l.initial.walk.path.items) (marked_from (length l.out.items) (drop l.index ts)) ≡ marks_of l.initial.walk.found.items ++ map (mark_below l.initial.walk.path.items) (marked_from (length l.initial.out.items) ts);
 }
