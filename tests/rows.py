@@ -36,7 +36,7 @@ def rows():
 
 
 def wrong_files():
-    """What is wrong with the files: one that no group or more than one is read from, or that is too long."""
+    """What is wrong with the files: one that is read for no group or for several, that is too long, or whose group docs/ROWS.md lacks."""
     named, wrong = groups(), []
     files = {path.name: path for path in CRATE.glob("data/*")}
     for name in sorted(files.keys() | {f"{group}.rows" for group in named}):
@@ -45,4 +45,5 @@ def wrong_files():
             wrong.append(f"crates/test_rows/data/{name}: crates/test_rows/stdin names it {times} times")
         elif files[name].read_text(encoding="utf-8").count("\n") > MOST_LINES:
             wrong.append(f"crates/test_rows/data/{name}: has more than {MOST_LINES} lines")
-    return wrong
+    page = (CRATE.parent.parent / "docs/ROWS.md").read_text(encoding="utf-8")
+    return wrong + [f"docs/ROWS.md: does not name the group {group}" for group in named if f"`{group}`" not in page]

@@ -1,7 +1,7 @@
 //! Goes through a table of rows, from standard input and from the files of its groups, and compares what each answers with what is expected.
 //! It prints a line for each row that answers otherwise, and for each answer that a call owes a row and has none.
 //!
-//! docs/ROWS.md says how a line is written.
+//! The head of the table (`stdin`, beside this folder) says how a line is written, and docs/ROWS.md how to add one.
 #![tactic(auto)]
 
 mod asked;
