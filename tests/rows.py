@@ -41,7 +41,9 @@ def wrong_files():
     files = {path.name: path for path in CRATE.glob("data/*")}
     for name in sorted(files.keys() | {f"{group}.rows" for group in named}):
         times = named.count(name.removesuffix(".rows")) if name.endswith(".rows") else 0
-        if name not in files or times != 1:
+        if name not in files:
+            wrong.append(f"crates/test_rows/stdin: names crates/test_rows/data/{name}, which is not there")
+        elif times != 1:
             wrong.append(f"crates/test_rows/data/{name}: crates/test_rows/stdin names it {times} times")
         elif files[name].read_text(encoding="utf-8").count("\n") > MOST_LINES:
             wrong.append(f"crates/test_rows/data/{name}: has more than {MOST_LINES} lines")

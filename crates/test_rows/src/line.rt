@@ -14,16 +14,17 @@ pub enum Row<'a> {
 pub enum Wanted<'a> {
     /// ` = ANSWER`: it is this one.
     Answer(&'a str),
-    /// ` != ANSWER`: it is another one. Such a row shows that answers are compared.
+    /// ` != ANSWER`: it is another one. Such a row fails where all answers are taken for equal.
     Other(&'a str),
 }
 
 impl<'a> Wanted<'a> {
     pub fn is_met(self, answer: &str) -> bool {
-        match self {
-            Wanted::Answer(wanted) => answer == wanted,
-            Wanted::Other(unwanted) => answer != unwanted,
-        }
+        let (named, is_the_answer) = match self {
+            Wanted::Answer(wanted) => (wanted, true),
+            Wanted::Other(unwanted) => (unwanted, false),
+        };
+        (answer == named) == is_the_answer
     }
 }
 
