@@ -1,7 +1,8 @@
 #!/usr/bin/env bash
 # Tests the tests: each script that asks a program for answers has to fail, with status 1, where that program prints nothing and succeeds,
-# prints nothing and fails, or prints what it reads. tests/scripts.sh has to fail, too, where `syned` has no answer for a text that gets too
-# long, for one of more than 4,096 bytes or of a megabyte, or for a script of more than 300,000 bytes.
+# prints nothing and fails, prints what it reads, or reads nothing and prints what `test_rows` has to print. tests/scripts.sh has to fail,
+# too, where `syned` has no answer for a text that gets too long, for one of more than 4,096 bytes or of a megabyte, or for a script of
+# more than 300,000 bytes.
 set -euo pipefail
 cd "$(dirname "$0")/.."
 room=$(mktemp -d)
@@ -9,7 +10,9 @@ trap 'rm -rf "$room"' EXIT
 
 tried=0
 wrong=0
-for program in true false cat; do
+printf '#!/bin/sh\ncat "%s/crates/test_rows/stdout"\n' "$PWD" >"$room/unread"
+chmod +x "$room/unread"
+for program in true false cat "$room/unread"; do
     while IFS= read -r test; do
         status=0
         INSTEAD=$(command -v "$program") timeout 120 $test </dev/null >"$room/out" 2>&1 || status=$?

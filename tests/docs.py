@@ -5,6 +5,7 @@
 - What docs/CALLING.md and README.md show of a caller, and docs/SCRIPTS.md of a script, is in its file, word for word.
 - docs/GUARANTEES.md names each public call once, and its contracts cite the definitions that the row names.
 - Each file that a page names is there. No line of a page is over 120 columns but in a table, README.md is one page, and it names the kit.
+- Each file of rows is read for one group, and is not too long (tests/rows.py).
 - Each planted bug can be made. Each public function has one (tests/public_bugs.py). There are as many as tests/planted_bugs.txt says, a
   number that never falls. Each inner one was refused over the files that are there now, by this kit, by the record in
   tests/inner_bugs.txt; tests/all.sh tries a sample of them.
@@ -20,6 +21,7 @@ import believed
 import inner_record
 import public_bugs
 import public_calls
+import rows
 
 ROOT = Path(__file__).resolve().parent.parent
 # Libraries whose files no table lists: they are for tests.
@@ -298,6 +300,7 @@ compare_readme()
 compare_believed()
 compare_planted_bugs()
 compare_record()
+wrong.extend(rows.wrong_files())
 for line in wrong:
     print("wrong:", line)
 print(f"docs: {len(wrong)} wrong")

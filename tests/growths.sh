@@ -15,7 +15,7 @@ program=$(tests/program.sh test_rows)
 
 # How many allocations a run of these steps makes. Each step must succeed.
 growths() {
-    printf 'growths: %s = not asked\n' "$1" >"$room/table"
+    printf 'growths: %s = not asked\nend\n' "$1" >"$room/table"
     timeout 20 env COUNT_GROWTHS=1 LD_PRELOAD="$room/refuse.so" "$program" <"$room/table" >"$room/out" 2>"$room/err" || true
     if ! grep -q 'but: ok' "$room/out"; then
         echo "not done: $1" >&2

@@ -13,9 +13,8 @@ import subprocess
 import sys
 import tempfile
 
+import rows
 from public_calls import calls_of, given, libraries, sources, surface_names
-
-TABLE = "crates/test_rows/stdin"
 
 # Calls that no row can show to be refused. The sharing of a tree is a count, and the path of a root is empty.
 EXCEPT = {
@@ -74,27 +73,17 @@ def beside(tokens):
     return f"a replacement beside {tokens} tokens: tree R {tree} ; tree U U ; new R ; replace R/1 U/0 ; plan ; built = ok 1"
 
 
-def rows():
+def tables():
     """Each row of the table, with the trees that it names: those of a question stand in lines before it. And two rows that are too long for
     a table: the untouched part of a tree has a thousand tokens, or none."""
     yield from ((beside(tokens), []) for tokens in (0, 1000))
-    trees = {}
-    with open(TABLE, encoding="utf-8", newline="\n") as table:
-        for line in table.read().split("\n"):
-            tree = re.match(r"tree (\S+) ", line)
-            if not line or line.startswith("#"):
-                continue
-            if tree:
-                trees[tree.group(1)] = line
-                continue
-            words = set(re.split(r"[\s/:]+", line)) if line.startswith("? ") else set()
-            yield line, [trees[name] for name in sorted(words & trees.keys())]
+    yield from rows.rows()
 
 
 def run_each(library, program, lines, table):
     table.seek(0)
     table.truncate()
-    table.write("\n".join(["growths are refused", *lines, ""]))
+    table.write("\n".join(["growths are refused", *lines, "end", ""]))
     table.flush()
     table.seek(0)
     environment = {"LD_PRELOAD": library, "REFUSE_EACH": "1"}
@@ -106,7 +95,7 @@ def main():
     library, program = map(os.path.abspath, sys.argv[1:])
     refused, wrong, ran, growths = set(), 0, 0, 0
     with tempfile.TemporaryFile("w+", encoding="utf-8", newline="\n") as table:
-        for line, trees in rows():
+        for line, trees in tables():
             status, out = run_each(library, program, [*trees, line], table)
             count = re.search(r"^growths: (\d+)\n\Z", out, re.M)
             ran += 1
@@ -119,7 +108,9 @@ def main():
                 print(line, *said, sep="\n    ")
             if wrong == 20:
                 sys.exit("test_rows: twenty wrong rows, so the others were not run")
-    print(f"test_rows: {ran} rows, {growths} failed allocations, each answered")
+    print(f"test_rows: {ran} rows, {growths} failed allocations, {wrong} rows wrong")
+    if growths == 0:
+        sys.exit("test_rows: no allocation was made to fail")
     owed, below = owed_calls()
     for name in sorted(EXCEPT.keys() - owed):
         wrong += 1

@@ -1,7 +1,7 @@
 #!/usr/bin/env python3
 """Runs a program of the tests without any proof, and compares its answers.
 
-    without_proofs.py rows          `test_rows` on its table
+    without_proofs.py rows          `test_rows` on its table, and on tables that are wrong
     without_proofs.py scripts       `syned` on scripts with their answers
     without_proofs.py scripts 1 2   the first of two parts of these, for two processors
     without_proofs.py models        the editor against the plain model (`test_models`) on such scripts
@@ -51,20 +51,75 @@ def try_program(name, *flags, root=ROOT, streams=APART, **options):
     return subprocess.run(command, cwd=f"{root}/crates/{name}", text=True, check=False, **streams, **options)
 
 
+PART = "growths are refused\n"
+GOOD = "? kind_name 4 = COMMA\n"
+NO_END = "its last line is not `end`"
+# Files that no group may be, and tables that are wrong, each with the line where the program has to notice it, and what it has to say.
+# A part of a table owes no pairs.
+WRONG_FILES = {"empty.rows": "", "without_end.rows": GOOD, "without_rows.rows": "# No row.\nend\n", "nested.rows": "group kinds\nend\n"}
+WRONG_TABLES = {
+    "empty": (PART, "the table", NO_END),
+    "cut off": (PART + GOOD, "the table", NO_END),
+    "cut off in its last line": (PART + GOOD + "en", "en", "the line is malformed"),
+    "without a row": (PART + "end\n", "end", "the file has no row"),
+    "that goes on": (PART + GOOD + "end\n" + GOOD, GOOD.strip(), "the file goes on after its end"),
+    "with another answer": (PART + "? kind_name 4 = COLON\nend\n", "? kind_name 4 = COLON", "COMMA"),
+    "with the answer that it must not be": (PART + "? kind_name 4 != COMMA\nend\n", "? kind_name 4 != COMMA", "COMMA"),
+    "with a question that no one knows": (PART + "? kind 4 = A\nend\n", "? kind 4 = A", "UnknownRow"),
+    "with a malformed row": (PART + "kind_name 4\nend\n", "kind_name 4", "the line is malformed"),
+    "with an empty group": (PART + "group empty\nend\n", "empty", NO_END),
+    "with a group that is cut off": (PART + "group without_end\nend\n", "without_end", NO_END),
+    "with a group without rows": (PART + "group without_rows\nend\n", "end", "the file has no row"),
+    "with a group in a group": (PART + "group nested\nend\n", "group kinds", "a group names a group"),
+    "with a group that is not there": (PART + "group missing\nend\n", "group missing", ""),
+    "with a pair that has no row": (GOOD + "end\n", "no row: new_root answers ok", None),
+}
+
+
+def row_tables():
+    """The tables that `test_rows` is run on, each with its status and how what it prints begins: the table, and those that are wrong."""
+    with open(f"{ROOT}/crates/test_rows/stdin", encoding="utf-8") as table, open(f"{ROOT}/crates/test_rows/stdout", encoding="utf-8") as out:
+        found = {"table": (table.read(), 0, out.read())}
+    for name, (table, line, why) in WRONG_TABLES.items():
+        found[f"table {name}"] = (table, 1, f"{line}\n" if why is None else f"{line}\n    but: {why}")
+    return found
+
+
+def answers_to_tables(found, folder):
+    """The status and the output of `test_rows` for each of the tables, by name."""
+    if not is_built("test_rows"):
+        data = [word for file in sorted(os.listdir(folder)) for word in ("--data", f"{file}={folder}/{file}")]
+        said = try_cases("test_rows", {name: (table, None) for name, (table, *_) in found.items()}, False, *data)
+        ended = re.findall(r"^== (.*)\n((?s:.*?))^case=\1 run=ended status=(\d+) ", said, re.M)
+        return {name: (int(status), out) for name, out, status in ended}, said
+    answers, said = {}, ""
+    for name, (table, *_) in found.items():
+        done = subprocess.run([built_program("test_rows")], cwd=folder, input=table, capture_output=True, text=True, check=False)
+        answers[name] = (done.returncode, done.stdout)
+        said += done.stderr
+    return answers, said
+
+
 def rows():
-    with open(f"{ROOT}/crates/test_rows/stdout", encoding="utf-8") as file:
-        wanted = file.read()
-    with open(f"{ROOT}/crates/test_rows/stdin", "rb") as table:
-        if is_built("test_rows"):
-            done = subprocess.run([built_program("test_rows")], stdin=table, capture_output=True, text=True, check=False)
-        else:
-            done = try_program("test_rows", stdin=table)
-    print(done.stdout, end="")
-    if done.stdout != wanted or done.returncode != 0:
-        print(f"rows: wrong; status {done.returncode}; wanted:\n{wanted}", end="")
-        print(*done.stderr.splitlines()[-5:], sep="\n")
+    found = row_tables()
+    with tempfile.TemporaryDirectory() as room:
+        folder = shutil.copytree(f"{ROOT}/crates/test_rows/data", f"{room}/data")
+        for file, text in WRONG_FILES.items():
+            with open(f"{folder}/{file}", "w", encoding="utf-8") as out:
+                out.write(text)
+        answers, said = answers_to_tables(found, folder)
+    _, wanted_status, wanted = found.pop("table")
+    status, out = answers.get("table", (None, ""))
+    print(out, end="")
+    if (status, out) != (wanted_status, wanted):
+        print(f"rows: wrong; status {status}; wanted:\n{wanted}", end="")
+        print(*said.splitlines()[-5:], sep="\n")
         return False
-    return True
+    missed = [name for name, (_, status, begin) in found.items() if answers.get(name, (None, ""))[0] != status or not answers[name][1].startswith(begin)]
+    for name in missed:
+        print(f"rows: no answer as expected to a {name}: {answers.get(name)}")
+    print(f"rows: {len(found) - len(missed)} of {len(found)} wrong tables are noticed")
+    return not missed
 
 
 def scripts_with_answers(part, parts):
@@ -83,7 +138,7 @@ def wanted_status(answer):
     return STATUS.get(answer[:4], 3)
 
 
-def try_cases(name, cases, with_answers):
+def try_cases(name, cases, with_answers, *flags):
     """What `rt try --cases` prints of the program for these scripts."""
     with tempfile.TemporaryDirectory() as folder:
         for case, (script, answer) in cases.items():
@@ -94,7 +149,7 @@ def try_cases(name, cases, with_answers):
                 with open(os.path.join(folder, file), "w", encoding="utf-8", newline="") as out:
                     out.write(text)
         # What a case prints and what is said of it come on two streams, in turns.
-        return try_program(name, "--cases", folder, streams={"stdout": subprocess.PIPE, "stderr": subprocess.STDOUT}).stdout
+        return try_program(name, *flags, "--cases", folder, streams={"stdout": subprocess.PIPE, "stderr": subprocess.STDOUT}).stdout
 
 
 def report(what, cases, good, said):

@@ -9,6 +9,25 @@ pub enum Row<'a> {
     Steps(&'a str),
 }
 
+/// What a row says of its answer, or of those of its steps that are asked about.
+#[derive(Clone, Copy)]
+pub enum Wanted<'a> {
+    /// ` = ANSWER`: it is this one.
+    Answer(&'a str),
+    /// ` != ANSWER`: it is another one. Such a row fails where all answers are taken for equal.
+    Other(&'a str),
+}
+
+impl<'a> Wanted<'a> {
+    pub fn is_met(self, answer: &str) -> bool {
+        let (named, is_the_answer) = match self {
+            Wanted::Answer(wanted) => (wanted, true),
+            Wanted::Other(unwanted) => (unwanted, false),
+        };
+        (answer == named) == is_the_answer
+    }
+}
+
 /// A line of the table.
 #[derive(Clone, Copy)]
 pub enum Line<'a> {
@@ -16,10 +35,14 @@ pub enum Line<'a> {
     Blank,
     /// `growths are refused`: what the rows after it answer may be want of memory, and no pair is owed.
     Refused,
+    /// `group NAME`: the lines of the file `NAME.rows`.
+    Group(&'a str),
     /// `tree NAME TREE`: a tree that the questions after it name.
     Tree { name: &'a str, text: &'a str },
-    /// `ROW = ANSWER`: a row and its expected answer, or those of its steps that are asked about.
-    Row { row: Row<'a>, wanted: &'a str },
+    /// A row and what it says of its answer.
+    Row { row: Row<'a>, wanted: Wanted<'a> },
+    /// `end`: the last line of a file, so that one that is cut off is noticed.
+    End,
     Malformed,
 }
 
@@ -32,36 +55,41 @@ impl<'a> Line<'a> {
         if line == "growths are refused" {
             return Line::Refused;
         }
+        if line == "end" {
+            return Line::End;
+        }
+        if let Some(name) = line.strip_prefix("group ") {
+            return Line::Group(name);
+        }
         if let Some(tree) = line.strip_prefix("tree ") {
             let (name, text) = first_word(tree);
             return Line::Tree { name, text };
         }
-        if let Some(row) = line.strip_prefix("? ") {
-            return Line::read_question(row);
-        }
-        Line::read_steps(line)
+        Line::read_row(line).unwrap_or(Line::Malformed)
     }
 
-    fn read_question(row: &'a str) -> Line<'a> {
-        match row.split_once(" = ") {
-            Some((question, wanted)) => Line::Row {
+    fn read_row(line: &'a str) -> Option<Line<'a>> {
+        if let Some(text) = line.strip_prefix("? ") {
+            let (question, wanted) = split_wanted(text)?;
+            return Some(Line::Row {
                 row: Row::Question(question),
                 wanted,
-            },
-            None => Line::Malformed,
+            });
         }
+        let (_, text) = line.split_once(": ")?;
+        let (steps, wanted) = split_wanted(text)?;
+        Some(Line::Row {
+            row: Row::Steps(steps),
+            wanted,
+        })
     }
+}
 
-    fn read_steps(line: &'a str) -> Line<'a> {
-        let Some((_, row)) = line.split_once(": ") else {
-            return Line::Malformed;
-        };
-        match row.split_once(" = ") {
-            Some((steps, wanted)) => Line::Row {
-                row: Row::Steps(steps),
-                wanted,
-            },
-            None => Line::Malformed,
-        }
+// What is asked, and what a row says of its answer.
+fn split_wanted(row: &str) -> Option<(&str, Wanted<'_>)> {
+    let (asked, answer) = row.split_once("= ")?;
+    match asked.strip_suffix(" !") {
+        Some(asked) => Some((asked, Wanted::Other(answer))),
+        None => Some((asked.strip_suffix(' ')?, Wanted::Answer(answer))),
     }
 }

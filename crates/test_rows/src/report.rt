@@ -1,4 +1,6 @@
 use crate::asked::Asked;
+use crate::line::Wanted;
+use crate::part::Part;
 use std::fmt::Display;
 use std::io;
 use std::process::ExitCode;
@@ -8,13 +10,12 @@ use test_trees::NoAnswer;
 /// The exit status where each row is answered as expected, but for one that ended because memory ran out.
 pub const REFUSED: u8 = 3;
 
-/// How many rows there were, how many of them answered as expected or ended because memory ran out, and of the pairs of a call and its
-/// answer that are owed a row, how many have one.
+/// How many lines went wrong, whether one ended because memory ran out, and of the pairs of a call and its answer that are owed a row, how
+/// many have one.
 #[derive(Drop)]
 pub struct Report {
-    rows: u32,
-    as_expected: u32,
-    refused: u32,
+    wrong: u32,
+    is_cut: bool,
     owed: u32,
     have_row: u32,
     /// Whether the table is a part of one, run with growths refused.
@@ -24,9 +25,8 @@ pub struct Report {
 impl Report {
     pub fn new() -> Report {
         Report {
-            rows: 0,
-            as_expected: 0,
-            refused: 0,
+            wrong: 0,
+            is_cut: false,
             owed: 0,
             have_row: 0,
             is_partial: false,
@@ -35,32 +35,35 @@ impl Report {
 
     /// Whether a row or a tree ended because memory ran out, so that the rows after it may lack a tree.
     pub fn is_cut(&self) -> bool {
-        self.refused != 0
+        self.is_cut
     }
 
-    /// Counts a row, and prints its line where the answer is not the expected one.
+    /// How many lines went wrong.
+    pub fn wrong(&self) -> u32 {
+        self.wrong
+    }
+
+    /// Prints the line of a row whose answer is not as expected.
     pub fn note<R: Print>(
         &mut self,
         rt: &R,
         line: &str,
         answer: &str,
-        wanted: &str,
+        wanted: Wanted,
     ) -> io::Result<()> {
-        if answer != wanted {
-            return self.note_wrong(rt, line, answer);
+        if wanted.is_met(answer) {
+            Ok(())
+        } else {
+            self.note_wrong(rt, line, answer)
         }
-        self.rows = self.rows.saturating_add(1);
-        self.as_expected = self.as_expected.saturating_add(1);
-        Ok(())
     }
 
-    /// Counts a row, or a tree, that ended because memory ran out, or for another reason, which goes wrong.
+    /// Notes a row, or a tree, that ended because memory ran out, or for another reason, which goes wrong.
     pub fn note_end<R: Print>(&mut self, rt: &R, line: &str, reason: NoAnswer) -> io::Result<()> {
         if !reason.is_memory() {
             return self.note_wrong(rt, line, reason);
         }
-        self.rows = self.rows.saturating_add(1);
-        self.refused = self.refused.saturating_add(1);
+        self.is_cut = true;
         Ok(())
     }
 
@@ -79,9 +82,32 @@ impl Report {
         line: &str,
         why: D,
     ) -> io::Result<()> {
-        self.rows = self.rows.saturating_add(1);
+        self.wrong = self.wrong.saturating_add(1);
         println!(rt; "{line}")?;
         println!(rt; "    but: {why}")
+    }
+
+    /// What was read of a file goes wrong where its end is not there, unless memory ran out before it.
+    pub fn note_end_of<R: Print>(&mut self, rt: &R, file: &str, part: Part) -> io::Result<()> {
+        if part.is_ended() || self.is_cut {
+            Ok(())
+        } else {
+            self.note_wrong(rt, file, "its last line is not `end`")
+        }
+    }
+
+    /// Prints that no line of a group went wrong, where that is so.
+    pub fn note_group<R: Print>(
+        &mut self,
+        rt: &R,
+        name: &str,
+        wrong_before: u32,
+    ) -> io::Result<()> {
+        if self.wrong == wrong_before {
+            println!(rt; "{name}: as expected")
+        } else {
+            Ok(())
+        }
     }
 
     // Counts the pairs of a call, and prints those that have no row.
@@ -97,7 +123,7 @@ impl Report {
         Ok(())
     }
 
-    /// Prints how many rows answered as expected and how many of the owed pairs have one, and says whether all do.
+    /// Prints how many of the owed pairs have a row and whether all rows answered as expected, and says whether both is so.
     pub fn close<R: Print>(&mut self, rt: &R, asked: &Asked) -> io::Result<ExitCode> {
         if self.is_partial {
             return Ok(self.status());
@@ -106,13 +132,14 @@ impl Report {
             self.note_owed(rt, asked, owed)?;
         }
         println!(rt;
-            "{} of {} rows answer as expected",
-            self.as_expected, self.rows
-        )?;
-        println!(rt;
             "{} of {} owed pairs of a call and its answer have a row",
             self.have_row, self.owed
         )?;
+        if self.wrong == 0 {
+            println!(rt; "all rows answer as expected")?;
+        } else {
+            println!(rt; "{} lines of the table are wrong", self.wrong)?;
+        }
         if self.have_row == self.owed {
             Ok(self.status())
         } else {
@@ -122,12 +149,12 @@ impl Report {
 
     // Whether the rows answered as expected.
     fn status(&self) -> ExitCode {
-        if self.as_expected == self.rows {
-            ExitCode::SUCCESS
-        } else if self.as_expected.saturating_add(self.refused) == self.rows {
+        if self.wrong != 0 {
+            ExitCode::FAILURE
+        } else if self.is_cut {
             ExitCode::from(REFUSED)
         } else {
-            ExitCode::FAILURE
+            ExitCode::SUCCESS
         }
     }
 }
