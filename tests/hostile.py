@@ -9,7 +9,7 @@ first. There are three parts: rows with their answers; every beginning of three 
 so each time the same ones. In a third of these bytes were changed, cut, doubled or exchanged. In the others slots, trees, words and kinds
 were exchanged for others of the script, and lines moved, so that about half of all come to an end or a refusal. Of a damaged script no answer
 is known. The program must end with a status that goes with what it prints, and where it comes to an end or a refusal, the plain model (the
-program `test_models`) must answer the same."""
+program `test_plain_model`) must answer the same."""
 import glob
 import multiprocessing
 import os
@@ -552,7 +552,7 @@ def damage(pool, count):
 
 
 def main():
-    Task.syned, Task.model = program("syned"), program("test_models")
+    Task.syned, Task.model = program("syned"), program("test_plain_model")
     Task.scripts = good_scripts()
     needed = needed_stack()
     Task.stack = needed + SPARE_STACK

@@ -1,11 +1,11 @@
 #!/usr/bin/env bash
 # Asks the editor and a plain model what comes of the changes of each script of tests/corpus and of tests/scripts/*.table, by the program
-# `test_models`: at once, one at a time, by each engine, and in the order of the script. It sums how many paths of changed and of annotated
+# `test_plain_model`: at once, one at a time, by each engine, and in the order of the script. It sums how many paths of changed and of annotated
 # elements were compared with the model's, in all ways together; neither sum may be 0.
 set -euo pipefail
 cd "$(dirname "$0")/.."
 
-program=$(tests/program.sh test_models)
+program=$(tests/program.sh test_plain_model)
 room=$(mktemp -d)
 trap 'rm -rf "$room"' EXIT
 mkdir "$room/tables"
@@ -34,6 +34,6 @@ for answer in tests/corpus/*/*.stdout "$room"/tables/*.stdout; do
     # After twenty wrong answers the others are not asked for.
     [ "$wrong" -lt 20 ] || break
 done
-echo "test_models: both answer the same to $compared scripts; wrong: $wrong"
-echo "test_models: compared with the model's: $paths paths of changed elements, $notes of annotated ones"
+echo "test_plain_model: both answer the same to $compared scripts; wrong: $wrong"
+echo "test_plain_model: compared with the model's: $paths paths of changed elements, $notes of annotated ones"
 [ "$wrong" -eq 0 ] && [ "$compared" -gt 0 ] && [ "$paths" -gt 0 ] && [ "$notes" -gt 0 ]

@@ -4,7 +4,7 @@
     without_proofs.py rows          `test_rows` on its table, and on tables that are wrong
     without_proofs.py scripts       `syned` on scripts with their answers
     without_proofs.py scripts 1 2   the first of two parts of these, for two processors
-    without_proofs.py models        the editor against the plain model (`test_models`) on such scripts
+    without_proofs.py models        the editor against the plain model (`test_plain_model`) on such scripts
     without_proofs.py caller        the first caller of docs/CALLING.md, in a copy of the repository
 
 A program that the gate has built is taken if no source is newer; then all scripts are run, by tests/scripts.sh and tests/models.sh.
@@ -172,10 +172,10 @@ def scripts(part=1, parts=1):
 
 
 def models():
-    if is_built("test_models"):
+    if is_built("test_plain_model"):
         return subprocess.run([f"{ROOT}/tests/models.sh"], check=False).returncode == 0
     cases = scripts_with_answers(1, 2)
-    said = try_cases("test_models", cases, False)
+    said = try_cases("test_plain_model", cases, False)
     # A script may be bad or refused before its changes are recorded, and then nothing is compared.
     ended = re.findall(r"^== (.*)\n((?s:.*?))^case=\1 run=ended status=0 ", said, re.M)
     good = {name for name, out in ended if name in cases and is_agreed(cases[name][1], out)}

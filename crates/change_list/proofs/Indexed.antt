@@ -22,7 +22,7 @@ use Rattle.cst_core.specs.SyntaxElement.{element_of}
 use Rattle.cst_core.specs.declared.element.SyntaxElement.{SyntaxElement}
 use Rattle.edit_change.specs.declared.change.Change.{Change}
 use Rattle.edit_change.specs.declared.change.Change.TheVariants.{Insert, InsertAll, Replace, ReplaceWithMany, ReplaceAll}
-use Rattle.change_list.specs.declared.replace_index.Replaced.{Replaced}
+use Rattle.change_list.specs.declared.replace_table.Replaced.{Replaced}
 use Rattle.change_list.specs.Recording.{with_replacement}
 use Rattle.change_list.specs.inner.ByPath.{is_replace, replacement_at, replacements_at, is_replace_at, replace_at, delete_at}
 use Rattle.change_list.specs.inner.Indexing.{replaced_at, as_deleted}
@@ -172,9 +172,9 @@ module _ (e : SyntaxElement) where
       kept-elsewhere : (q : Path) → same_path p q ≡ false → replaced_at q (changed h new cs) ≡ replaced_at q cs
       kept-elsewhere q differ =
           let before : (c : Change) → is_replace_at p c ≡ true → replacement_at q c ≡ None = elsewhere p q differ in
-          let behind : (c : Change) → is_replace_at p c ≡ true → replacement_at q (with_replacement h c) ≡ None = λ c passes. mapped h q c ∙ ap (option_map h) (before c passes) in
-          ap (λ o. stated o (replacements_at q (changed h new cs))) (position-kept (is_replace_at p) (with_replacement h) (Replace e new) (is_replace_at q) (λ c passes. ap is_some (before c passes)) (λ c passes. ap is_some (behind c passes)) (ap is_some (there q differ)) cs)
-          ∙ ap (stated (position (is_replace_at q) cs)) (filter_map-passed (is_replace_at p) (with_replacement h) (Replace e new) (replacement_at q) before behind (there q differ) cs)
+          let after : (c : Change) → is_replace_at p c ≡ true → replacement_at q (with_replacement h c) ≡ None = λ c passes. mapped h q c ∙ ap (option_map h) (before c passes) in
+          ap (λ o. stated o (replacements_at q (changed h new cs))) (position-kept (is_replace_at p) (with_replacement h) (Replace e new) (is_replace_at q) (λ c passes. ap is_some (before c passes)) (λ c passes. ap is_some (after c passes)) (ap is_some (there q differ)) cs)
+          ∙ ap (stated (position (is_replace_at q) cs)) (filter_map-passed (is_replace_at p) (with_replacement h) (Replace e new) (replacement_at q) before after (there q differ) cs)
 
       own-said : (i : ℕ) → position (is_replace_at p) cs ≡ Some i → replaced_at p (changed h new cs) ≡ stated (Some i) (answered h new (replacements_at p cs))
       own-said i found =

@@ -1,7 +1,7 @@
 -- What an index must say of a list with one more change at its end, whatever that is.
 --     no-replace                     a change of another form is no Replace
---     said-behind, said-kept         of a list with one more Replace of an element that had one: a deletion, or another one
---     noted-first, noted-behind, noted-kept      of an index that is told of a first one, of a later deletion, of any other later one
+--     said-after, said-kept         of a list with one more Replace of an element that had one: a deletion, or another one
+--     noted-first, noted-after, noted-kept      of an index that is told of a first one, of a later deletion, of any other later one
 use Rattle.std.specs.Prelude.{◌≡◌, ℕ, suc, Bool, true, false, not, cond, ◌||◌, List, [], ◌∷◌, ◌++◌, length, position, Option, Some, None, option_map, is_some, is_none, refl}
 use Rattle.std.specs.List.{list_any, cons_option}
 use Rattle.std.proofs.Common.{ap, sym, subst, ◌∙◌}
@@ -15,12 +15,12 @@ use Rattle.cst_core.specs.SyntaxElement.{element_of}
 use Rattle.cst_core.specs.declared.element.SyntaxElement.{SyntaxElement}
 use Rattle.edit_change.specs.declared.change.Change.{Change}
 use Rattle.edit_change.specs.declared.change.Change.TheVariants.{Insert, InsertAll, Replace, ReplaceWithMany, ReplaceAll}
-use Rattle.change_list.specs.declared.replace_index.Replaced.{Replaced}
+use Rattle.change_list.specs.declared.replace_table.Replaced.{Replaced}
 use Rattle.change_list.specs.inner.ByPath.{is_replace, replacement_at, replacements_at, is_replace_at}
 use Rattle.change_list.specs.inner.Indexing.{replaced_at, as_deleted}
 use Rattle.change_list.proofs.Addresses.{same_path-true}
 use Rattle.change_list.proofs.Indexed.{stated, unsaid, here, there, nothing-said, something-said, added-agrees}
-use Rattle.change_list.proofs.Positions.{position-here, position-behind}
+use Rattle.change_list.proofs.Positions.{position-here, position-after}
 
 pub no-replace : (c : Change) → ((t : SyntaxElement) (new : Option SyntaxElement) → c ≡ Replace t new → ⊥) → is_replace c ≡ false
 no-replace (Insert at e) other = refl
@@ -34,11 +34,11 @@ position-before test [] ys i is = absurd (none-some i is)
 position-before test (x ∷ xs) ys i is =
     elim (cases_Bool (test x)) [
       | inl passes ↦ position-here test x (xs ++ ys) passes ∙ sym (position-here test x xs passes) ∙ is
-      | inr fails ↦ position-behind test x (xs ++ ys) fails
+      | inr fails ↦ position-after test x (xs ++ ys) fails
           ∙ (elim (position test xs) as (λ o. position test xs ≡ o → option_map suc o ≡ Some i → option_map suc (position test (xs ++ ys)) ≡ Some i) [
             | None ↦ λ _ none. absurd (none-some i none)
             | Some j ↦ λ at some. ap (option_map suc) (position-before test xs ys j at) ∙ some
-          ]) refl (sym (position-behind test x xs fails) ∙ is)
+          ]) refl (sym (position-after test x xs fails) ∙ is)
     ]
 
 alone : (o : Option SyntaxElement) → list_any is_none (o ∷ []) ≡ is_none o
@@ -64,8 +64,8 @@ module _ (e : SyntaxElement) (new : Option SyntaxElement) (cs : List Change) (i 
   own-before : replaced_at (element_of e).path cs ≡ Some (record { first = i; is_deleted = list_any is_none (replacements_at (element_of e).path cs) })
   own-before = ap (λ o. stated o (replacements_at (element_of e).path cs)) known
 
-  pub said-behind : is_none new ≡ true → (q : Path) → replaced_at q (cs ++ Replace e new ∷ []) ≡ cond (same_path (element_of e).path q) (as_deleted (replaced_at q cs)) (replaced_at q cs)
-  said-behind deletes q =
+  pub said-after : is_none new ≡ true → (q : Path) → replaced_at q (cs ++ Replace e new ∷ []) ≡ cond (same_path (element_of e).path q) (as_deleted (replaced_at q cs)) (replaced_at q cs)
+  said-after deletes q =
       elim (cases_Bool (same_path (element_of e).path q)) [
         | inl same ↦ subst (λ r. replaced_at r (cs ++ Replace e new ∷ []) ≡ as_deleted (replaced_at r cs)) (same_path-true (element_of e).path q same) (said-own ∙ ap (λ b. Some (record { first = i; is_deleted = list_any is_none (replacements_at (element_of e).path cs) || b })) deletes ∙ ap (λ b. Some (record { first = i; is_deleted = b })) (or-true (list_any is_none (replacements_at (element_of e).path cs))) ∙ sym (ap as_deleted own-before)) ∙ sym (cond-true (same_path (element_of e).path q) _ _ same)
         | inr differ ↦ unsaid q cs (Replace e new) (there e new q differ) ∙ sym (cond-false (same_path (element_of e).path q) _ _ differ)
@@ -98,10 +98,10 @@ module _ (e : SyntaxElement) (new : Option SyntaxElement) (cs : List Change) (ol
       let r = some-of o b test some in
       (r.0, (something-said (element_of e).path cs r.0 (sym (agrees (element_of e).path) ∙ sym (ap old path-is) ∙ sym o-is ∙ r.1)).0)
 
-  pub noted-behind : (now : Path → Option Replaced) (at : Path) → at ≡ (element_of e).path → b ≡ false → is_none new ≡ true → ((q : Path) → now q ≡ cond (same_path at q) (as_deleted (old q)) (old q)) → (q : Path) → now q ≡ replaced_at q (cs ++ Replace e new ∷ [])
-  noted-behind now at at-is some deletes told q =
+  pub noted-after : (now : Path → Option Replaced) (at : Path) → at ≡ (element_of e).path → b ≡ false → is_none new ≡ true → ((q : Path) → now q ≡ cond (same_path at q) (as_deleted (old q)) (old q)) → (q : Path) → now q ≡ replaced_at q (cs ++ Replace e new ∷ [])
+  noted-after now at at-is some deletes told q =
       let known = known-before some in
-      told q ∙ ap (λ o. cond (same_path at q) (as_deleted o) o) (agrees q) ∙ ap (λ r. cond (same_path r q) (as_deleted (replaced_at q cs)) (replaced_at q cs)) at-is ∙ sym (said-behind e new cs known.0.first known.1 deletes q)
+      told q ∙ ap (λ o. cond (same_path at q) (as_deleted o) o) (agrees q) ∙ ap (λ r. cond (same_path r q) (as_deleted (replaced_at q cs)) (replaced_at q cs)) at-is ∙ sym (said-after e new cs known.0.first known.1 deletes q)
 
   pub noted-kept : b ≡ false → is_none new ≡ false → (q : Path) → old q ≡ replaced_at q (cs ++ Replace e new ∷ [])
   noted-kept some keeps q =

@@ -11,17 +11,17 @@ use Rattle.std.proofs.lemmas.Bool.{cases_Bool}
 use Rattle.std.proofs.lemmas.List.Elements.{All-head, All-tail}
 use mathlib.Core.Logic.{inl, inr}
 use Rattle.edit_change.proofs.Positions.{position-cons}
-use Rattle.change_list.proofs.TakenUp.{taken, taken-here, taken-behind}
+use Rattle.change_list.proofs.TakenUp.{taken, taken-here, taken-after}
 
 module _ {X : Type 0} (p : X → Bool) where
   pub position-here : (x : X) (xs : List X) → p x ≡ true → position p (x ∷ xs) ≡ Some 0
   position-here x xs passes = position-cons p x xs ∙ ap (λ b. cond b (Some 0) (option_map suc (position p xs))) passes
 
-  pub position-behind : (x : X) (xs : List X) → p x ≡ false → position p (x ∷ xs) ≡ option_map suc (position p xs)
-  position-behind x xs fails = position-cons p x xs ∙ ap (λ b. cond b (Some 0) (option_map suc (position p xs))) fails
+  pub position-after : (x : X) (xs : List X) → p x ≡ false → position p (x ∷ xs) ≡ option_map suc (position p xs)
+  position-after x xs fails = position-cons p x xs ∙ ap (λ b. cond b (Some 0) (option_map suc (position p xs))) fails
 
   pub position-pushed : (xs : List X) (y : X) → p y ≡ false → position p (xs ++ y ∷ []) ≡ position p xs
-  position-pushed [] y fails = position-behind y [] fails
+  position-pushed [] y fails = position-after y [] fails
   position-pushed (x ∷ xs) y fails =
       position-cons p x (xs ++ y ∷ []) ∙ ap (λ o. cond (p x) (Some 0) (option_map suc o)) (position-pushed xs y fails) ∙ sym (position-cons p x xs)
 
@@ -34,14 +34,14 @@ module _ {X : Type 0} (p : X → Bool) where
   none-first x xs none =
       elim (cases_Bool (p x)) [
         | inl passes ↦ absurd (none-some 0 (sym none ∙ position-here x xs passes))
-        | inr fails ↦ (fails, none-later (position p xs) (sym (position-behind x xs fails) ∙ none))
+        | inr fails ↦ (fails, none-later (position p xs) (sym (position-after x xs fails) ∙ none))
       ]
 
   pub position-added : (xs : List X) (y : X) → position p xs ≡ None → p y ≡ true → position p (xs ++ y ∷ []) ≡ Some (length xs)
   position-added [] y none passes = position-here y [] passes
   position-added (x ∷ xs) y none passes =
       let parts = none-first x xs none in
-      position-behind x (xs ++ y ∷ []) parts.0 ∙ ap (option_map suc) (position-added xs y parts.1 passes)
+      position-after x (xs ++ y ∷ []) parts.0 ∙ ap (option_map suc) (position-added xs y parts.1 passes)
 
 module _ {X Y : Type 0} (f : X → Option Y) where
   nothing-found : (o : Option Y) (ys : List Y) → is_some o ≡ false → ys ≡ [] → cons_option o ys ≡ []
@@ -69,15 +69,15 @@ module _ {X : Type 0} (p : X → Bool) (change : X → X) (more : X) where
   position-taken stays last (x ∷ xs) =
       elim (cases_Bool (p x)) [
         | inl passes ↦ ap (position p) (taken-here p change more x xs passes) ∙ position-here p (change x) xs (stays x passes) ∙ ap (λ o. Some (unwrap_or o (suc (length xs)))) (sym (position-here p x xs passes))
-        | inr fails ↦ ap (position p) (taken-behind p change more x xs fails) ∙ position-behind p x (taken p change more xs) fails ∙ ap (option_map suc) (position-taken stays last xs) ∙ or-length (length xs) (position p xs) ∙ ap (λ o. Some (unwrap_or o (suc (length xs)))) (sym (position-behind p x xs fails))
+        | inr fails ↦ ap (position p) (taken-after p change more x xs fails) ∙ position-after p x (taken p change more xs) fails ∙ ap (option_map suc) (position-taken stays last xs) ∙ or-length (length xs) (position p xs) ∙ ap (λ o. Some (unwrap_or o (suc (length xs)))) (sym (position-after p x xs fails))
       ]
 
   pub position-kept : (q : X → Bool) → ((x : X) → p x ≡ true → q x ≡ false) → ((x : X) → p x ≡ true → q (change x) ≡ false) → q more ≡ false → (xs : List X) → position q (taken p change more xs) ≡ position q xs
-  position-kept q before behind last [] = position-behind q more [] last
-  position-kept q before behind last (x ∷ xs) =
+  position-kept q before after last [] = position-after q more [] last
+  position-kept q before after last (x ∷ xs) =
       elim (cases_Bool (p x)) [
-        | inl passes ↦ ap (position q) (taken-here p change more x xs passes) ∙ position-behind q (change x) xs (behind x passes) ∙ sym (position-behind q x xs (before x passes))
-        | inr fails ↦ ap (position q) (taken-behind p change more x xs fails) ∙ position-cons q x (taken p change more xs) ∙ ap (λ o. cond (q x) (Some 0) (option_map suc o)) (position-kept q before behind last xs) ∙ sym (position-cons q x xs)
+        | inl passes ↦ ap (position q) (taken-here p change more x xs passes) ∙ position-after q (change x) xs (after x passes) ∙ sym (position-after q x xs (before x passes))
+        | inr fails ↦ ap (position q) (taken-after p change more x xs fails) ∙ position-cons q x (taken p change more xs) ∙ ap (λ o. cond (q x) (Some 0) (option_map suc o)) (position-kept q before after last xs) ∙ sym (position-cons q x xs)
       ]
 
   pub taken-alike : (q : X → Bool) (xs : List X) → All (λ x. p x ≡ q x) xs → taken p change more xs ≡ taken q change more xs
@@ -86,5 +86,5 @@ module _ {X : Type 0} (p : X → Bool) (change : X → X) (more : X) where
       let same : p x ≡ q x = All-head (λ y. p y ≡ q y) x xs all in
       elim (cases_Bool (p x)) [
         | inl passes ↦ taken-here p change more x xs passes ∙ sym (taken-here q change more x xs (sym same ∙ passes))
-        | inr fails ↦ taken-behind p change more x xs fails ∙ ap (λ ys. x ∷ ys) (taken-alike q xs (All-tail (λ y. p y ≡ q y) x xs all)) ∙ sym (taken-behind q change more x xs (sym same ∙ fails))
+        | inr fails ↦ taken-after p change more x xs fails ∙ ap (λ ys. x ∷ ys) (taken-alike q xs (All-tail (λ y. p y ≡ q y) x xs all)) ∙ sym (taken-after q change more x xs (sym same ∙ fails))
       ]

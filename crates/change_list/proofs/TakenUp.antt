@@ -1,5 +1,5 @@
 -- A list in which the first item that passes a test is exchanged, or one more put at the end.
---     taken-here, taken-behind     where the first item passes; where it does not
+--     taken-here, taken-after     where the first item passes; where it does not
 --     taken-set, taken-none        by the index of the first item that passes
 --     all-taken                    what holds of each of its items
 --     filter_map-taken             what a test finds in it, where it finds what passes
@@ -22,8 +22,8 @@ module _ {X : Type 0} (p : X → Bool) (change : X → X) (more : X) where
   pub taken-here : (x : X) (xs : List X) → p x ≡ true → taken (x ∷ xs) ≡ change x ∷ xs
   taken-here x xs passes = rw passes refl
 
-  pub taken-behind : (x : X) (xs : List X) → p x ≡ false → taken (x ∷ xs) ≡ x ∷ taken xs
-  taken-behind x xs fails = rw fails (elim (find p xs) as (λ o. option_map_or (λ y. take (1 + position_or_len p xs) (x ∷ xs) ++ change y ∷ drop (1 + position_or_len p xs + 1) (x ∷ xs)) o (x ∷ xs ++ more ∷ []) ≡ x ∷ option_map_or (λ y. before_first p xs ++ change y ∷ after_first p xs) o (xs ++ more ∷ [])) [
+  pub taken-after : (x : X) (xs : List X) → p x ≡ false → taken (x ∷ xs) ≡ x ∷ taken xs
+  taken-after x xs fails = rw fails (elim (find p xs) as (λ o. option_map_or (λ y. take (1 + position_or_len p xs) (x ∷ xs) ++ change y ∷ drop (1 + position_or_len p xs + 1) (x ∷ xs)) o (x ∷ xs ++ more ∷ []) ≡ x ∷ option_map_or (λ y. before_first p xs ++ change y ∷ after_first p xs) o (xs ++ more ∷ [])) [
     | None ↦ refl
     | Some y ↦ one_on (1 + position_or_len p xs) (position_or_len p xs) (omega arith) y
   ])
@@ -38,7 +38,7 @@ module _ {X : Type 0} (p : X → Bool) (change : X → X) (more : X) where
   all-taken P kept last (x ∷ xs) all =
       elim (cases_Bool (p x)) [
         | inl passes ↦ All-same P _ _ (taken-here x xs passes) (All-cons P (change x) xs (kept x passes (All-head P x xs all)) (All-tail P x xs all))
-        | inr fails ↦ All-same P _ _ (taken-behind x xs fails) (All-cons P x (taken xs) (All-head P x xs all) (all-taken P kept last xs (All-tail P x xs all)))
+        | inr fails ↦ All-same P _ _ (taken-after x xs fails) (All-cons P x (taken xs) (All-head P x xs all) (all-taken P kept last xs (All-tail P x xs all)))
       ]
 
 -- what stands first, exchanged; or one, where there is none
@@ -52,19 +52,19 @@ module _ {X Y : Type 0} (p : X → Bool) (change : X → X) (more : X) (found : 
   filter_map-taken k y tests changes last (x ∷ xs) =
       (elim (found x) as (λ o. found x ≡ o → filter_map found (taken p change more (x ∷ xs)) ≡ answered k y (cons_option o (filter_map found xs))) [
         | None ↦ λ e.
-            ap (filter_map found) (taken-behind p change more x xs (tests x ∙ ap is_some e)) ∙ ap (λ o. cons_option o (filter_map found (taken p change more xs))) e ∙ filter_map-taken k y tests changes last xs
+            ap (filter_map found) (taken-after p change more x xs (tests x ∙ ap is_some e)) ∙ ap (λ o. cons_option o (filter_map found (taken p change more xs))) e ∙ filter_map-taken k y tests changes last xs
         | Some z ↦ λ e.
             ap (filter_map found) (taken-here p change more x xs (tests x ∙ ap is_some e)) ∙ ap (λ o. cons_option o (filter_map found xs)) (changes x ∙ ap (option_map k) e)
       ]) refl
 
   pub filter_map-passed : ((x : X) → p x ≡ true → found x ≡ None) → ((x : X) → p x ≡ true → found (change x) ≡ None) → found more ≡ None → (xs : List X) → filter_map found (taken p change more xs) ≡ filter_map found xs
-  filter_map-passed before behind last [] = rw last refl
-  filter_map-passed before behind last (x ∷ xs) =
+  filter_map-passed before after last [] = rw last refl
+  filter_map-passed before after last (x ∷ xs) =
       elim (cases_Bool (p x)) [
         | inl passes ↦
-            ap (filter_map found) (taken-here p change more x xs passes) ∙ ap (λ o. cons_option o (filter_map found xs)) (behind x passes ∙ sym (before x passes))
+            ap (filter_map found) (taken-here p change more x xs passes) ∙ ap (λ o. cons_option o (filter_map found xs)) (after x passes ∙ sym (before x passes))
         | inr fails ↦
-            ap (filter_map found) (taken-behind p change more x xs fails) ∙ ap (cons_option (found x)) (filter_map-passed before behind last xs)
+            ap (filter_map found) (taken-after p change more x xs fails) ∙ ap (cons_option (found x)) (filter_map-passed before after last xs)
       ]
 
 -- ---- by the index of the first item that passes
@@ -85,7 +85,7 @@ module _ {X : Type 0} (p : X → Bool) (change : X → X) (more : X) where
   taken-set (x ∷ xs) i d h =
       elim (cases_Bool (p x)) [
         | inl passes ↦ let here : 0 ≡ i = same_Some 0 i (sym (position-first x xs passes) ∙ h) in subst (λ k. set (x ∷ xs) k (change (get_or (x ∷ xs) k d)) ≡ taken p change more (x ∷ xs)) here (sym (taken-here p change more x xs passes))
-        | inr fails ↦ set-later x xs i d (λ j is. taken-set xs j d is) (position p xs) refl (sym (position-later x xs fails) ∙ h) ∙ sym (taken-behind p change more x xs fails)
+        | inr fails ↦ set-later x xs i d (λ j is. taken-set xs j d is) (position p xs) refl (sym (position-later x xs fails) ∙ h) ∙ sym (taken-after p change more x xs fails)
       ]
 
   pub taken-none : (xs : List X) → position p xs ≡ None → xs ++ more ∷ [] ≡ taken p change more xs
@@ -93,7 +93,7 @@ module _ {X : Type 0} (p : X → Bool) (change : X → X) (more : X) where
   taken-none (x ∷ xs) h =
       elim (cases_Bool (p x)) [
         | inl passes ↦ absurd (none-some 0 (sym h ∙ position-first x xs passes))
-        | inr fails ↦ ap (λ ys. x ∷ ys) (taken-none xs (no-more (position p xs) refl (sym (position-later x xs fails) ∙ h))) ∙ sym (taken-behind p change more x xs fails)
+        | inr fails ↦ ap (λ ys. x ∷ ys) (taken-none xs (no-more (position p xs) refl (sym (position-later x xs fails) ∙ h))) ∙ sym (taken-after p change more x xs fails)
       ]
     where
       no-more : (o : Option ℕ) → position p xs ≡ o → option_map suc o ≡ None → position p xs ≡ None

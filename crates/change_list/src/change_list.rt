@@ -9,7 +9,7 @@ ghost use Rattle.change_list.specs.Recording.{with_replacement, merged};
 ghost use Rattle.change_list.specs.inner.ByPath.{is_replace, is_replace_at, replacements_at, replace_at, delete_at, delete_each_at};
 ghost use Rattle.change_list.specs.inner.Indexing.{room, Agrees, Notes, NotesReplace};
 
-use crate::replace_index::{ReplaceIndex, Replaced};
+use crate::replace_table::{ReplaceTable, Replaced};
 use cst_core::SyntaxElement;
 use edit_change::Change;
 use std::alloc::{AllocError, Global};
@@ -20,7 +20,7 @@ use std::marker::Model;
 #[derive(Drop)]
 pub struct ChangeList {
     changes: Vec<Change>,
-    replaced: ReplaceIndex,
+    replaced: ReplaceTable,
 }
 
 impl Model for ChangeList {
@@ -68,7 +68,7 @@ impl ChangeList {
     {
         ChangeList {
             changes: Vec::new(alloc),
-            replaced: ReplaceIndex::new(alloc),
+            replaced: ReplaceTable::new(alloc),
         }
     }
 
@@ -156,7 +156,7 @@ impl ChangeList {
         let replaced = index_of(alloc, &self.changes, &other.changes)?;
         self.changes.append(&mut other.changes)?;
         self.replaced = replaced;
-        other.replaced = ReplaceIndex::new(alloc);
+        other.replaced = ReplaceTable::new(alloc);
         Ok(())
     }
 
@@ -205,7 +205,7 @@ fn targets_of(alloc: Global, elements: Vec<SyntaxElement>) -> Result<Vec<Target>
 }
 
 // Deletes these elements one after the other, where there is room for all of them.
-fn delete_targets(changes: &mut Vec<Change>, replaced: &mut ReplaceIndex, targets: Vec<Target>)
+fn delete_targets(changes: &mut Vec<Change>, replaced: &mut ReplaceTable, targets: Vec<Target>)
     requires agrees { Agrees replaced.old changes.old.items }
     requires has_room { vec_len changes.old + length targets.items ≤ vec_capacity changes.old }
     requires index_room { length targets.items ≤ room replaced.old }
@@ -218,7 +218,7 @@ fn delete_targets(changes: &mut Vec<Change>, replaced: &mut ReplaceIndex, target
 }
 
 // Deletes an element, where there is room for that.
-fn delete_target(changes: &mut Vec<Change>, replaced: &mut ReplaceIndex, target: Target)
+fn delete_target(changes: &mut Vec<Change>, replaced: &mut ReplaceTable, target: Target)
     requires agrees { Agrees replaced.old changes.old.items }
     requires has_room { vec_len changes.old < vec_capacity changes.old }
     requires index_room { 0 < room replaced.old }
@@ -250,11 +250,11 @@ fn delete_target(changes: &mut Vec<Change>, replaced: &mut ReplaceIndex, target:
 }
 
 // The index of two lists, the second after the first.
-fn index_of(alloc: Global, own: &[Change], other: &[Change]) -> Result<ReplaceIndex, AllocError>
+fn index_of(alloc: Global, own: &[Change], other: &[Change]) -> Result<ReplaceTable, AllocError>
     requires { length own.now + length other.now < 2 ^ 64 }
     ensures { IfOk result (λ x. Agrees x (own.now ++ other.now)) }
 {
-    let mut index = ReplaceIndex::new(alloc);
+    let mut index = ReplaceTable::new(alloc);
     note_all(alloc, &mut index, 0, own)?;
     note_all(alloc, &mut index, own.len(), other)?;
     Ok(index)
@@ -263,7 +263,7 @@ fn index_of(alloc: Global, own: &[Change], other: &[Change]) -> Result<ReplaceIn
 // Tells the index of a list of more changes at its end, where the list has n.
 fn note_all(
     alloc: Global,
-    index: &mut ReplaceIndex,
+    index: &mut ReplaceTable,
     before: usize,
     changes: &[Change],
 ) -> Result<(), AllocError>
@@ -281,7 +281,7 @@ fn note_all(
 // Tells the index of a list of one more change, which stands at this number.
 fn note(
     alloc: Global,
-    index: &mut ReplaceIndex,
+    index: &mut ReplaceTable,
     number: usize,
     change: &Change,
 ) -> Result<(), AllocError>
@@ -298,7 +298,7 @@ fn note(
 // Tells it of a Replace. The first one of an element stays its first.
 fn note_replace(
     alloc: Global,
-    index: &mut ReplaceIndex,
+    index: &mut ReplaceTable,
     number: usize,
     element: &SyntaxElement,
     is_deleted: bool,

@@ -2,6 +2,6 @@
 #![tactic(auto)]
 
 mod change_list;
-mod replace_index;
+mod replace_table;
 
 pub use change_list::ChangeList;

@@ -1,7 +1,7 @@
 -- Rewriting by what stands in each gap and slot, with paths counted from the element that is rewritten.
 --     Edits                         what each gap and slot of each node holds, and the labels of what is kept
 --     below, below_path             the same, as it is seen from a child, or from the element at a path
---     remade                        a tree rewritten by them
+--     rewritten_by                        a tree rewritten by them
 --     edits_of                      what a list of aims says
 --     rewritten_is                  the rewriting of the definitions is this one
 use Rattle.std.specs.Prelude.{◌≡◌, ℕ, suc, true, false, cond, List, [], ◌∷◌, ◌++◌, flat_map, Option, Some, None, refl}
@@ -27,13 +27,13 @@ filled (Some ts) t = ts
 filled None t = t ∷ []
 
 abbrev mutual
-  pub remade : {L : Type 0} → Edits L → SyntaxTree → Tree L
-  remade e (Token k s) = Token (e.label_at [] k) s
-  remade e (Node k f) = Node (e.label_at [] k) (forest (remade_from e 0 f))
+  pub rewritten_by : {L : Type 0} → Edits L → SyntaxTree → Tree L
+  rewritten_by e (Token k s) = Token (e.label_at [] k) s
+  rewritten_by e (Node k f) = Node (e.label_at [] k) (forest (rewritten_by_from e 0 f))
 
-  pub remade_from : {L : Type 0} → Edits L → ℕ → Forest ℕ → List (Tree L)
-  remade_from e i end = e.gap [] i
-  remade_from e i (more t f) = e.gap [] i ++ filled (e.slot [] i) (remade (below i e) t) ++ remade_from e (suc i) f
+  pub rewritten_by_from : {L : Type 0} → Edits L → ℕ → Forest ℕ → List (Tree L)
+  rewritten_by_from e i end = e.gap [] i
+  rewritten_by_from e i (more t f) = e.gap [] i ++ filled (e.slot [] i) (rewritten_by (below i e) t) ++ rewritten_by_from e (suc i) f
 
 -- ---- the edits of a list of aims
 abbrev pub taken : {L : Type 0} → (ℕ → List (Tree L)) → List NumberedAim → Path → Option (List (Tree L))
@@ -61,12 +61,12 @@ module _ {L : Type 0} (label_at : Path → ℕ → L) (given : ℕ → List (Tre
   gap-nil p i = ap (λ q. gap label_at given cs q i) (sym (append-nil p))
 
   mutual
-    pub rewritten_is : (p : Path) (t : SyntaxTree) → rewritten label_at given cs p t ≡ remade (below_path p (edits_of label_at given cs)) t
+    pub rewritten_is : (p : Path) (t : SyntaxTree) → rewritten label_at given cs p t ≡ rewritten_by (below_path p (edits_of label_at given cs)) t
     rewritten_is p (Token k s) = ap (λ q. Token (label_at q k) s) (sym (append-nil p))
     rewritten_is p (Node k f) =
         ap₂ (λ q xs. Node (label_at q k) (forest xs)) (sym (append-nil p)) (rewritten_from_is p 0 f)
 
-    pub rewritten_from_is : (p : Path) (i : ℕ) (f : Forest ℕ) → rewritten_from label_at given cs p i f ≡ remade_from (below_path p (edits_of label_at given cs)) i f
+    pub rewritten_from_is : (p : Path) (i : ℕ) (f : Forest ℕ) → rewritten_from label_at given cs p i f ≡ rewritten_by_from (below_path p (edits_of label_at given cs)) i f
     rewritten_from_is p i end = gap-nil p i
     rewritten_from_is p i (more t f) =
-        ap₂ (λ x y. x ++ y) (ap₂ (λ x y. x ++ y) (gap-nil p i) (slot-filled (p ++ i ∷ []) (rewritten label_at given cs (p ++ i ∷ []) t) ∙ ap₂ (λ q u. filled (taken given cs (q ++ i ∷ [])) u) (sym (append-nil p)) (rewritten_is (p ++ i ∷ []) t ∙ ap (λ e. remade e t) (below-step p i (edits_of label_at given cs))))) (rewritten_from_is p (suc i) f)
+        ap₂ (λ x y. x ++ y) (ap₂ (λ x y. x ++ y) (gap-nil p i) (slot-filled (p ++ i ∷ []) (rewritten label_at given cs (p ++ i ∷ []) t) ∙ ap₂ (λ q u. filled (taken given cs (q ++ i ∷ [])) u) (sym (append-nil p)) (rewritten_is (p ++ i ∷ []) t ∙ ap (λ e. rewritten_by e t) (below-step p i (edits_of label_at given cs))))) (rewritten_from_is p (suc i) f)

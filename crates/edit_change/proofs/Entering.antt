@@ -12,8 +12,8 @@ use Rattle.cst_core.proofs.LastSlot.{last_slot-push}
 use Rattle.path_table.specs.inner.PathTable.{cell_below, next_cell, cell_at, number_in, number_by_path, SameNumbers, IsPut, IsGrown}
 use Rattle.path_table.specs.declared.table.PathTable.{PathTable}
 use Rattle.path_table.proofs.PathTables.{cell-push}
-use Rattle.edit_change.specs.inner.TargetIndex.{number_at, IsEntered, lesser, least}
-use Rattle.edit_change.specs.declared.target_index.TargetIndex.{TargetIndex}
+use Rattle.edit_change.specs.inner.TargetTable.{number_at, IsEntered, lesser, least}
+use Rattle.edit_change.specs.declared.target_table.TargetTable.{TargetTable}
 use Rattle.edit_change.proofs.Clashes.{counted-on}
 use Rattle.edit_change.proofs.Indexed.{least-push, put-more}
 use Rattle.edit_change.proofs.Paths.{same_path-true}
@@ -50,7 +50,7 @@ not-before p n a (suc k) l =
     let apart : n ≢ a = omega (arith, l) in
     ap₂ (λ b c. b || c) (slots-differ p n a apart) (not-before p n (suc a) k (omega (arith, l)))
 
-module _ (old mid : TargetIndex) (f : Path) (n number : ℕ) (l : last_slot f ≤ n) (entered : IsEntered old mid (up_to_slot f n) number) where
+module _ (old mid : TargetTable) (f : Path) (n number : ℕ) (l : last_slot f ≤ n) (entered : IsEntered old mid (up_to_slot f n) number) where
   abbrev here : Path
   here = parent_path f ++ n ∷ []
 
@@ -65,6 +65,6 @@ module _ (old mid : TargetIndex) (f : Path) (n number : ℕ) (l : last_slot f �
   before-more o q so_far is =
       ap₂ lesser so_far (is ∙ same-here) ∙ sym (least-push (number_at old) (up_to_slot f n) here) ∙ ap (least (number_at old)) one-more
 
-  pub entered-more : (new : TargetIndex) → IsEntered mid new (here ∷ []) number → IsEntered old new (up_to_slot f (suc n)) number
+  pub entered-more : (new : TargetTable) → IsEntered mid new (here ∷ []) number → IsEntered old new (up_to_slot f (suc n)) number
   entered-more new put = λ p.
       put p ∙ ap (cond (has_path (here ∷ []) p) (Some number)) (entered p) ∙ put-more (up_to_slot f n) here p number (number_at old p) ∙ ap (λ ps. cond (has_path ps p) (Some number) (number_at old p)) one-more

@@ -20,9 +20,9 @@ use mathlib.Core.Path.{fun_ext}
 use Rattle.cst_core.specs.Path.{Path, same_path, has_path, counted_from}
 use Rattle.edit_change.specs.Change.{targets, shared_targets}
 use Rattle.edit_change.specs.Nesting.{pairs, pairs_with, first_clash}
-use Rattle.edit_change.specs.inner.TargetIndex.{lesser, least, number_at, target_at, IsApart, IsIndex}
+use Rattle.edit_change.specs.inner.TargetTable.{lesser, least, number_at, target_at, IsApart, IsTargetTable}
 use Rattle.edit_change.specs.declared.change.Change.{Change}
-use Rattle.edit_change.specs.declared.target_index.TargetIndex.{TargetIndex}
+use Rattle.edit_change.specs.declared.target_table.TargetTable.{TargetTable}
 use Rattle.edit_change.proofs.Clashes.{clash, clashes-at, at-index, first-found, none-more}
 use Rattle.edit_change.proofs.Lists.{all-append}
 use Rattle.edit_change.proofs.Paths.{same_path-true}
@@ -133,7 +133,7 @@ module _ (cs : List Change) (k : ℕ) (c : Change) (l : k < length cs) (is : c �
       let e : (i : ℕ) → 0 + i ≡ i = λ i. omega arith in
       ap (λ n. find (clash cs) (map (λ i. (i, k)) (counted_from 0 n))) (sym long) ∙ counted cs k c (at-index cs k c l is) 0 (take k cs) (λ i x s. ap (λ n. slice_get cs n) (e i) ∙ taken k cs i x s) ∙ ap (λ f. option_map f (position (λ d. shared_targets d c) (take k cs))) (fun_ext (λ i. ap (λ n. (n, k)) (e i)))
 
-  module _ (index : TargetIndex) (indexed : IsIndex (take k cs) index) where
+  module _ (index : TargetTable) (indexed : IsTargetTable (take k cs) index) where
     least-here : least (number_at index) (targets c) ≡ least (target_at (take k cs)) (targets c)
     least-here = least-agrees (number_at index) (target_at (take k cs)) (targets c) indexed.at_each
 
@@ -148,7 +148,7 @@ module _ (cs : List Change) (k : ℕ) (c : Change) (l : k < length cs) (is : c �
     none-found before none =
         none-more (clash cs) pairs_with k before (first-is ∙ ap (λ o. option_map (λ i. (i, k)) o) none)
 
-    pub indexed-more : (new : TargetIndex) → least (number_at index) (targets c) ≡ None → ((p : Path) → number_at new p ≡ cond (has_path (targets c) p) (Some k) (number_at index p)) → IsIndex (take (k + 1) cs) new
+    pub indexed-more : (new : TargetTable) → least (number_at index) (targets c) ≡ None → ((p : Path) → number_at new p ≡ cond (has_path (targets c) p) (Some k) (number_at index p)) → IsTargetTable (take (k + 1) cs) new
     indexed-more new none put =
         let more : take (k + 1) cs ≡ take k cs ++ c ∷ [] = push-of-take k cs c l is in
         let long : length (take k cs) ≡ k = length-take-le k cs (omega arith) in

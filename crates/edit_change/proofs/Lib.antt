@@ -1,21 +1,21 @@
 pub mod Aiming
-pub mod Apart
+pub mod AimsApart
 pub mod Around
-pub mod Brought
-pub mod Built
+pub mod BroughtTops
+pub mod AlteredNodes
 pub mod Clashes
-mod Counted
+mod SlotsOfParents
 pub mod Edits
 mod Entering
 pub mod GapRule
-pub mod Here
+pub mod AimsHere
 pub mod Independents
 pub mod Indexed
 pub mod Lists
-pub mod Moved
+pub mod MovedAims
 pub mod OwnerDepth
 pub mod Owners
-pub mod Owning
+pub mod OwnersKeep
 pub mod Paths
 pub mod Positions
 pub mod Regions
@@ -24,7 +24,7 @@ pub mod RewrittenAlike
 pub mod RootAlone
 mod RootTargets
 pub mod SeenBelow
-pub mod Settled
+pub mod GivenTrees
 mod Slots
 pub mod Untouched
-pub mod Walk
+pub mod WayOfRegions

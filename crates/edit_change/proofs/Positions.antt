@@ -1,5 +1,5 @@
 -- The first number at which a test passes.
---     position-cons, position-push  with one item more, before the others and behind them
+--     position-cons, position-push  with one item more, before the others and after them
 --     position-or                   the first at which one of two tests passes is the lesser of both
 --     lesser-some                   the lesser of two is one of them
 --     none-passes                   where there is none, no item passes
@@ -12,7 +12,7 @@ use Rattle.std.proofs.lemmas.Bool.{ltb-true, lt-ltb, cases_Bool}
 use Rattle.std.proofs.lemmas.Option.{none-some}
 use Rattle.std.proofs.Math.Seq.{take-suc}
 use mathlib.Core.Logic.{inl, inr}
-use Rattle.edit_change.specs.inner.TargetIndex.{lesser}
+use Rattle.edit_change.specs.inner.TargetTable.{lesser}
 
 -- two tests that hold in the same cases are equal
 pub same-test : (a b : Bool) → (a ≡ true → b ≡ true) → (b ≡ true → a ≡ true) → a ≡ b

@@ -14,7 +14,7 @@ use Rattle.cst_core.specs.Path.{Path, has_path, last_item}
 use Rattle.cst_core.specs.declared.element.SyntaxElement.TheVariants.{Node, Token}
 use Rattle.edit_change.specs.Change.{targets, shared_targets}
 use Rattle.edit_change.specs.Nesting.{region, is_keeping, surroundings, is_around, is_dropped, region_at, owner}
-use Rattle.edit_change.specs.inner.TargetIndex.{target_at, IsApart}
+use Rattle.edit_change.specs.inner.TargetTable.{target_at, IsApart}
 use Rattle.edit_change.specs.inner.Fate.{by_owner, owner_in, drops_at, fate_within, fate}
 use Rattle.edit_change.specs.declared.change.Change.{Change}
 use Rattle.edit_change.specs.declared.change.Change.TheVariants.{Insert, InsertAll, Replace, ReplaceWithMany, ReplaceAll}
@@ -71,15 +71,15 @@ region-here (d ∷ cs) p n c apart h is =
           position-cons (λ e. has_path (region e) p) d cs ∙ ap (λ b. cond b (Some 0) (option_map suc (region_at cs p))) (region-in d p there) ∙ later (λ m at at_m. region-here cs p m c apart.1 at at_m) (target_at cs p) refl n is (ap (λ b. cond b (Some 0) (option_map suc (target_at cs p))) (sym there) ∙ first)
     ]
   where
-    behind : (b : Bool) (m : ℕ) → option_map suc (cond b (Some m) None) ≡ cond b (Some (suc m)) None
-    behind true m = refl
-    behind false m = refl
+    after : (b : Bool) (m : ℕ) → option_map suc (cond b (Some m) None) ≡ cond b (Some (suc m)) None
+    after true m = refl
+    after false m = refl
 
     later : ((m : ℕ) → target_at cs p ≡ Some m → slice_get cs m ≡ Some c → region_at cs p ≡ cond (has_path (region c) p) (Some m) None) → (o : Option ℕ) → target_at cs p ≡ o → (k : ℕ) → slice_get (d ∷ cs) k ≡ Some c → option_map suc o ≡ Some k → option_map suc (region_at cs p) ≡ cond (has_path (region c) p) (Some k) None
     later rest None at k is_k e = absurd (none-some k e)
     later rest (Some m) at k is_k e =
         let next : suc m ≡ k = same_Some (suc m) k e in
-        ap (λ o. option_map suc o) (rest m at (ap (λ j. slice_get (d ∷ cs) j) next ∙ is_k)) ∙ behind (has_path (region c) p) m ∙ ap (λ j. cond (has_path (region c) p) (Some j) None) next
+        ap (λ o. option_map suc o) (rest m at (ap (λ j. slice_get (d ∷ cs) j) next ∙ is_k)) ∙ after (has_path (region c) p) m ∙ ap (λ j. cond (has_path (region c) p) (Some j) None) next
 
 -- ---- what is dropped
 abbrev drops : List Change → Option ℕ → Bool
@@ -107,7 +107,7 @@ drops-is (c ∷ cs) p apart =
           let target : has_path (targets c) p ≡ true = true_from_ne_false (has_path (targets c) p) (λ not. false≢true (sym (region-in c p not) ∙ here)) in
           first ∙ ap (λ b. drops (c ∷ cs) (cond b (Some 0) (option_map suc (region_at cs p)))) here ∙ only (not (is_keeping c)) ∙ sym (ap₂ (λ a b. (not (is_keeping c) && a) || b) here (any-none cs p (no-region c cs p apart.0 target)))
       | inr there ↦
-          first ∙ ap (λ b. drops (c ∷ cs) (cond b (Some 0) (option_map suc (region_at cs p)))) there ∙ behind (region_at cs p) ∙ drops-is cs p apart.1 ∙ sym (ap (λ a. (not (is_keeping c) && a) || list_any (λ r. not (is_keeping r) && has_path (region r) p) cs) there ∙ not-here (not (is_keeping c)) (list_any (λ r. not (is_keeping r) && has_path (region r) p) cs))
+          first ∙ ap (λ b. drops (c ∷ cs) (cond b (Some 0) (option_map suc (region_at cs p)))) there ∙ after (region_at cs p) ∙ drops-is cs p apart.1 ∙ sym (ap (λ a. (not (is_keeping c) && a) || list_any (λ r. not (is_keeping r) && has_path (region r) p) cs) there ∙ not-here (not (is_keeping c)) (list_any (λ r. not (is_keeping r) && has_path (region r) p) cs))
     ]
   where
     only : (b : Bool) → b ≡ ((b && true) || false)
@@ -118,9 +118,9 @@ drops-is (c ∷ cs) p apart =
     not-here true b = refl
     not-here false b = refl
 
-    behind : (o : Option ℕ) → drops (c ∷ cs) (option_map suc o) ≡ drops cs o
-    behind None = refl
-    behind (Some n) = refl
+    after : (o : Option ℕ) → drops (c ∷ cs) (option_map suc o) ≡ drops cs o
+    after None = refl
+    after (Some n) = refl
 
 pub dropped-is : (cs : List Change) → IsApart cs → (c : Change) → list_any (drops_at cs) (surroundings c) ≡ is_dropped cs c
 dropped-is cs apart c =

@@ -15,7 +15,7 @@ use mathlib.Core.Logic.{inl, inr}
 use Rattle.cst_core.specs.Path.{Path, same_path, has_path, above, last_item, counted_from}
 use Rattle.cst_core.specs.Tree.{at}
 use Rattle.cst_core.specs.declared.element.SyntaxElement.TheVariants as form
-use Rattle.edit_change.specs.Aim.{Aim, FirstIn, Behind, Over, starts_at, replaces}
+use Rattle.edit_change.specs.Aim.{Aim, FirstIn, AfterElement, Over, starts_at, replaces}
 use Rattle.edit_change.specs.Rewriting.{NumberedAim, numbers, replacements_at, is_replaced}
 use Rattle.edit_change.specs.ChangeAim.{aim}
 use Rattle.edit_change.specs.Change.{targets, shared_targets}
@@ -25,7 +25,7 @@ use Rattle.edit_change.specs.declared.change.Change.{Change}
 use Rattle.edit_change.specs.declared.change.Change.TheVariants.{Insert, InsertAll, Replace, ReplaceWithMany, ReplaceAll}
 use Rattle.edit_change.proofs.Paths.{meets}
 use Rattle.edit_change.proofs.RootTargets.{no-root-range}
-use Rattle.edit_change.proofs.Apart.{starts, start_in_targets}
+use Rattle.edit_change.proofs.AimsApart.{starts, start_in_targets}
 use Rattle.edit_change.proofs.Clashes.{clash, clashes-at}
 use Rattle.edit_change.proofs.Lists.{all_weaker, all_enumerated}
 
@@ -163,7 +163,7 @@ module _ {X : Type 0} (test : ℕ × X → Bool) (n : ℕ) where
 
 start-replaces : (p : Path) (a : Aim) → starts_at p a ≡ true → replaces p a ≡ true
 start-replaces p (FirstIn q) s = absurd (false≢true s)
-start-replaces p (Behind q) s = absurd (false≢true s)
+start-replaces p (AfterElement q) s = absurd (false≢true s)
 start-replaces p (Over []) s = absurd (false≢true s)
 start-replaces p (Over (q ∷ qs)) s = or_left (same_path p q) (has_path qs p) s
 

@@ -8,7 +8,7 @@ use Rattle.green_tree.specs.Tree.{Tree, Forest, Token, Node, end, more, SyntaxTr
 use Rattle.edit_change.specs.Aim.{aims_at_gap, starts_at, replaces}
 use Rattle.edit_change.specs.Rewriting.{NumberedAim, numbers, inserts_at, replacements_at, is_replaced, gap_order, gap, rewritten, rewritten_from}
 use Rattle.edit_change.specs.declared.aimed.AimForm.{AimForm}
-use Rattle.edit_change.specs.declared.aimed.AimForm.TheVariants.{FirstIn, Behind, Over}
+use Rattle.edit_change.specs.declared.aimed.AimForm.TheVariants.{FirstIn, AfterElement, Over}
 use Rattle.edit_change.specs.declared.aimed.Aimed.{Aimed}
 use Rattle.edit_change.specs.inner.Aimed.{aim_in, FormedAim, formed, of_formed, aims_of, seen_from, and_those, formed_below}
 
@@ -52,24 +52,24 @@ no_end (i ∷ p) j = refl
 
 gap_above : (i : ℕ) (p : Path) (j : ℕ) (w : AimForm) → aims_at_gap (i ∷ p) j (aim_in [] w) ≡ false
 gap_above i p j FirstIn = refl
-gap_above i p j Behind = refl
+gap_above i p j AfterElement = refl
 gap_above i p j (Over n) = refl
 
 gap_inside : (i : ℕ) (p : Path) (j k : ℕ) (q : Path) (w : AimForm) → aims_at_gap (i ∷ p) j (aim_in (k ∷ q) w) ≡ (nat_eq i k && aims_at_gap p j (aim_in q w))
 gap_inside i p j k q FirstIn = and_assoc (nat_eq i k) (same_path p q) (nat_eq j 0)
-gap_inside i p j k [] Behind = and-false (nat_eq i k)
-gap_inside i p j k (l ∷ q) Behind = and_assoc (nat_eq i k) (same_path p (parent_path (l ∷ q))) (nat_eq j (suc (last_slot (l ∷ q))))
+gap_inside i p j k [] AfterElement = and-false (nat_eq i k)
+gap_inside i p j k (l ∷ q) AfterElement = and_assoc (nat_eq i k) (same_path p (parent_path (l ∷ q))) (nat_eq j (suc (last_slot (l ∷ q))))
 gap_inside i p j k q (Over n) = and-false (nat_eq i k)
 
 start_above : (i : ℕ) (p : Path) (w : AimForm) → starts_at (i ∷ p) (aim_in [] w) ≡ false
 start_above i p FirstIn = refl
-start_above i p Behind = refl
+start_above i p AfterElement = refl
 start_above i p (Over zero) = refl
 start_above i p (Over (suc n)) = refl
 
 start_inside : (i : ℕ) (p : Path) (k : ℕ) (q : Path) (w : AimForm) → starts_at (i ∷ p) (aim_in (k ∷ q) w) ≡ (nat_eq i k && starts_at p (aim_in q w))
 start_inside i p k q FirstIn = and-false (nat_eq i k)
-start_inside i p k q Behind = and-false (nat_eq i k)
+start_inside i p k q AfterElement = and-false (nat_eq i k)
 start_inside i p k [] (Over zero) = and-false (nat_eq i k)
 start_inside i p k (l ∷ q) (Over zero) = and-false (nat_eq i k)
 start_inside i p k [] (Over (suc n)) = refl
@@ -77,7 +77,7 @@ start_inside i p k (l ∷ q) (Over (suc n)) = refl
 
 over_above : (i : ℕ) (p : Path) (w : AimForm) → replaces (i ∷ p) (aim_in [] w) ≡ false
 over_above i p FirstIn = refl
-over_above i p Behind = refl
+over_above i p AfterElement = refl
 over_above i p (Over zero) = refl
 over_above i p (Over (suc n)) = refl
 
@@ -92,7 +92,7 @@ range_inside i p k q f (suc n) =
 
 over_inside : (i : ℕ) (p : Path) (j k : ℕ) (q : Path) (w : AimForm) → replaces (i ∷ (p ++ j ∷ [])) (aim_in (k ∷ q) w) ≡ (nat_eq i k && replaces (p ++ j ∷ []) (aim_in q w))
 over_inside i p j k q FirstIn = and-false (nat_eq i k)
-over_inside i p j k q Behind = and-false (nat_eq i k)
+over_inside i p j k q AfterElement = and-false (nat_eq i k)
 over_inside i p j k [] (Over zero) = and-false (nat_eq i k)
 over_inside i p j k [] (Over (suc n)) =
     range_above i p j k (suc n) ∙ and-false (nat_eq i k) ∙ ap (λ b. nat_eq i k && (b || false)) (sym (no_end p j))

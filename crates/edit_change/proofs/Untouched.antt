@@ -7,23 +7,23 @@ use Rattle.green_tree.specs.Tree.{Tree, Forest, Token, Node, end, more, SyntaxTr
 use Rattle.edit_change.specs.Aim.{Aim, aims_at_gap, starts_at, replaces}
 use Rattle.edit_change.specs.Rewriting.{NumberedAim, numbers, inserts_at, replacements_at, is_replaced, gap_order, gap, rewritten, rewritten_from}
 use Rattle.edit_change.specs.declared.aimed.AimForm.{AimForm}
-use Rattle.edit_change.specs.declared.aimed.AimForm.TheVariants.{FirstIn, Behind, Over}
+use Rattle.edit_change.specs.declared.aimed.AimForm.TheVariants.{FirstIn, AfterElement, Over}
 use Rattle.edit_change.specs.declared.aimed.Aimed.{Aimed}
 use Rattle.edit_change.specs.inner.Aimed.{FormedAim, formed, of_formed, aim_in, aims_of, has_parent}
 use Rattle.edit_change.specs.inner.KindOnly.{kind_only}
-use Rattle.edit_change.proofs.Here.{over_some, first_false, second_false}
+use Rattle.edit_change.proofs.AimsHere.{over_some, first_false, second_false}
 use Rattle.edit_change.proofs.SeenBelow.{no_end, aims-formed}
 
 -- ---- one aim
 quiet_gap : (c : ℕ) (q : Path) (w : AimForm) (p : Path) (j : ℕ) → has_parent (c, aim_in q w) ≡ false → aims_at_gap p j (aim_in q w) ≡ false
 quiet_gap c q FirstIn p j h = absurd (cc)
-quiet_gap c [] Behind p j h = refl
-quiet_gap c (i ∷ q) Behind p j h = absurd (cc)
+quiet_gap c [] AfterElement p j h = refl
+quiet_gap c (i ∷ q) AfterElement p j h = absurd (cc)
 quiet_gap c q (Over n) p j h = refl
 
 quiet_slot : (c : ℕ) (q : Path) (w : AimForm) (p : Path) (j : ℕ) → has_parent (c, aim_in q w) ≡ false → replaces (p ++ j ∷ []) (aim_in q w) ≡ false
 quiet_slot c q FirstIn p j h = refl
-quiet_slot c q Behind p j h = refl
+quiet_slot c q AfterElement p j h = refl
 quiet_slot c [] (Over zero) p j h = refl
 quiet_slot c [] (Over (suc n)) p j h = ap (λ b. b || false) (no_end p j)
 quiet_slot c (i ∷ q) (Over zero) p j h = refl
@@ -34,7 +34,7 @@ quiet_slot c (i ∷ q) (Over (suc n)) p j h =
 
 quiet_start : (c : ℕ) (q : Path) (w : AimForm) (p : Path) (j : ℕ) → has_parent (c, aim_in q w) ≡ false → starts_at (p ++ j ∷ []) (aim_in q w) ≡ false
 quiet_start c q FirstIn p j h = refl
-quiet_start c q Behind p j h = refl
+quiet_start c q AfterElement p j h = refl
 quiet_start c [] (Over zero) p j h = refl
 quiet_start c [] (Over (suc n)) p j h = no_end p j
 quiet_start c (i ∷ q) (Over zero) p j h = refl
@@ -115,8 +115,8 @@ mutual
   same_forest end = refl
   same_forest (more t f) = ap₂ more (same_labels t) (same_forest f)
 
-pub nothing_made : (given : ℕ → List SyntaxTree) (xs : List Aimed) (t : SyntaxTree) → list_any has_parent (aims_of xs) ≡ false → rewritten kind_only given (aims_of xs) [] t ≡ t
-nothing_made given xs t none = untouched (λ k. k) given xs none [] t ∙ same_labels t
+pub nothing_rewritten : (given : ℕ → List SyntaxTree) (xs : List Aimed) (t : SyntaxTree) → list_any has_parent (aims_of xs) ≡ false → rewritten kind_only given (aims_of xs) [] t ≡ t
+nothing_rewritten given xs t none = untouched (λ k. k) given xs none [] t ∙ same_labels t
 
 -- ---- labels by path, too
 module _ {L : Type 0} (label_at : Path → ℕ → L) (given : ℕ → List (Tree L)) (xs : List Aimed) (none : list_any has_parent (aims_of xs) ≡ false) where

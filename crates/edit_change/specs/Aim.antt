@@ -15,18 +15,18 @@ pub record Gap : Type 0 where
 
 pub data Aim : Type 0 where
   FirstIn : (node : Path) → Aim
-  Behind : (element : Path) → Aim
+  AfterElement : (element : Path) → Aim
   Over : (replaced : List Path) → Aim
 
 -- ---- inserts
 -- after the top there is no gap
-abbrev gap_behind : Path → Option Gap
-gap_behind [] = None
-gap_behind (i ∷ p) = Some (record { node = parent_path (i ∷ p); index = suc (last_slot (i ∷ p)) })
+abbrev gap_after : Path → Option Gap
+gap_after [] = None
+gap_after (i ∷ p) = Some (record { node = parent_path (i ∷ p); index = suc (last_slot (i ∷ p)) })
 
 abbrev pub gap_of : Aim → Option Gap
 gap_of (FirstIn p) = Some (record { node = p; index = 0 })
-gap_of (Behind p) = gap_behind p
+gap_of (AfterElement p) = gap_after p
 gap_of (Over ps) = None
 
 abbrev pub aims_at_gap : Path → ℕ → Aim → Bool
@@ -34,23 +34,23 @@ aims_at_gap p i a = option_map_or (λ g. same_path p g.node && nat_eq i g.index)
 
 abbrev pub same_gap : Aim → Aim → Bool
 same_gap (FirstIn p) (FirstIn q) = same_path p q
-same_gap (FirstIn p) (Behind q) = false
+same_gap (FirstIn p) (AfterElement q) = false
 same_gap (FirstIn p) (Over qs) = false
-same_gap (Behind p) (FirstIn q) = false
-same_gap (Behind p) (Behind q) = same_path p q
-same_gap (Behind p) (Over qs) = false
+same_gap (AfterElement p) (FirstIn q) = false
+same_gap (AfterElement p) (AfterElement q) = same_path p q
+same_gap (AfterElement p) (Over qs) = false
 same_gap (Over ps) a = false
 
 -- ---- replacements
 abbrev pub starts_at : Path → Aim → Bool
 starts_at p (FirstIn q) = false
-starts_at p (Behind q) = false
+starts_at p (AfterElement q) = false
 starts_at p (Over []) = false
 starts_at p (Over (q ∷ qs)) = same_path p q
 
 abbrev pub replaces : Path → Aim → Bool
 replaces p (FirstIn q) = false
-replaces p (Behind q) = false
+replaces p (AfterElement q) = false
 replaces p (Over qs) = has_path qs p
 
 -- ---- the node whose children are altered
@@ -60,6 +60,6 @@ path_above (i ∷ p) = parent_path (i ∷ p) ∷ []
 
 abbrev pub parents : Aim → List Path
 parents (FirstIn p) = p ∷ []
-parents (Behind p) = path_above p
+parents (AfterElement p) = path_above p
 parents (Over []) = []
 parents (Over (p ∷ ps)) = path_above p

@@ -3,7 +3,7 @@
 --     aim_path                      the path that says where a change aims: of an insert's anchor, of the first element that is replaced
 use Rattle.cst_core.specs.Path.{Path}
 use Rattle.cst_core.specs.SyntaxElement.{element_of}
-use Rattle.edit_change.specs.Aim.{Aim, FirstIn, Behind, Over}
+use Rattle.edit_change.specs.Aim.{Aim, FirstIn, AfterElement, Over}
 use Rattle.edit_change.specs.Position.{anchor}
 use Rattle.edit_change.specs.Change.{targets}
 use Rattle.edit_change.specs.declared.position.Position.{Position}
@@ -13,7 +13,7 @@ use Rattle.edit_change.specs.declared.change.Change.TheVariants.{Insert, InsertA
 
 abbrev pub position_aim : Position → Aim
 position_aim (FirstChild n) = FirstIn n.path
-position_aim (After e) = Behind (element_of e).path
+position_aim (After e) = AfterElement (element_of e).path
 
 abbrev pub aim : Change → Aim
 aim (Insert at e) = position_aim at

@@ -20,7 +20,7 @@ use Rattle.std.specs.Option.{option_map_or}
 use Rattle.cst_core.specs.Path.{Path, first_item}
 use Rattle.cst_core.specs.Tree.{Tree, SyntaxTree, relabelled}
 use Rattle.cst_core.specs.Element.{Address, Element, address, subtree}
-use Rattle.edit_change.specs.Aim.{Aim, FirstIn, Behind, Over}
+use Rattle.edit_change.specs.Aim.{Aim, FirstIn, AfterElement, Over}
 use Rattle.edit_change.specs.Rewriting.{NumberedAim, rewritten, rewritten_whole}
 use Rattle.edit_change.specs.Change.{payload, targets}
 use Rattle.edit_change.specs.ChangeAim.{aim}
@@ -53,7 +53,7 @@ moved_path n q p = q ++ drop (length n) p
 
 abbrev pub moved_aim : Path → Path → Aim → Aim
 moved_aim n q (FirstIn p) = FirstIn (moved_path n q p)
-moved_aim n q (Behind p) = Behind (moved_path n q p)
+moved_aim n q (AfterElement p) = AfterElement (moved_path n q p)
 moved_aim n q (Over ps) = Over (map (moved_path n q) ps)
 
 -- ---- what each change gives

@@ -13,7 +13,7 @@ use Rattle.cst_core.specs.SyntaxElement.{element_of}
 use Rattle.cst_core.specs.Green.{length_limit}
 use Rattle.edit_map.specs.Mapping.{Mapping, StandsFor, mapped_elements}
 use Rattle.edit_change.specs.Change.{elements}
-use Rattle.edit_change.specs.Aim.{Behind}
+use Rattle.edit_change.specs.Aim.{AfterElement}
 use Rattle.edit_change.specs.ChangeAim.{aim, aim_path}
 use Rattle.edit_change.specs.Nesting.{owner}
 use Rattle.edit_change.specs.NewTree.{OriginTree}
@@ -27,7 +27,7 @@ IsPlaceIn m _ place = ⊥
 
 -- An insert after the target itself has no gap where the payload stands in the target's place whole.
 abbrev pub HasPlace : Mapping → Change → Change → Path → Type 0
-HasPlace m o c place = IsPlaceIn m o place × (place ≡ [] → aim c ≢ Behind (aim_path o))
+HasPlace m o c place = IsPlaceIn m o place × (place ≡ [] → aim c ≢ AfterElement (aim_path o))
 
 -- change i has the owner d, and no place in its payload
 abbrev pub IsUnplaced : Mapping → List Change → ℕ → ℕ → Type 0

@@ -16,7 +16,7 @@ use Rattle.cst_core.specs.SyntaxElement.{element_of}
 use Rattle.cst_core.specs.declared.element.SyntaxElement.{SyntaxElement}
 use Rattle.cst_core.specs.Green.{texts}
 use Rattle.edit_map.specs.Mapping.{Mapping, StandsFor}
-use Rattle.edit_change.specs.Aim.{Behind}
+use Rattle.edit_change.specs.Aim.{AfterElement}
 use Rattle.edit_change.specs.Rewriting.{NumberedAim, inserts_at, replacements_at, is_replaced, gap_order}
 use Rattle.edit_change.specs.ChangeAim.{aim}
 use Rattle.edit_change.specs.Nesting.{region, surroundings, undropped}
@@ -25,7 +25,7 @@ use Rattle.edit_change.specs.declared.change.Change.{Change}
 
 -- ---- places
 abbrev pub StandsThere : Mapping → SyntaxElement → SyntaxElement → Change → Path → Type 0
-StandsThere m target payload c p = StandsFor m (address (element_of payload)) p (address (element_of target)) × (p ≡ [] → aim c ≢ Behind (element_of target).path)
+StandsThere m target payload c p = StandsFor m (address (element_of payload)) p (address (element_of target)) × (p ≡ [] → aim c ≢ AfterElement (element_of target).path)
 
 -- ---- untouched elements
 pub record IsUntouched (cs : List NumberedAim) (p : Path) : Type 0 where

@@ -2,7 +2,7 @@
 pub mod Aimed
 pub mod AimFrom
 pub mod Targets
-pub mod TargetIndex
+pub mod TargetTable
 pub mod Fate
 pub mod Clash
 pub mod OwnerPlaces

@@ -1,5 +1,5 @@
 ghost use Rattle.std.specs.Prelude.{ℕ, ◌<◌, ◌≤◌, ◌+◌, ◌≡◌, Bool, true, false, [], ◌∷◌, suc, not};
-ghost use Rattle.edit_change.specs.Aim.{FirstIn, Behind, Over, aims_at_gap, starts_at, replaces};
+ghost use Rattle.edit_change.specs.Aim.{FirstIn, AfterElement, Over, aims_at_gap, starts_at, replaces};
 ghost use Rattle.edit_change.specs.inner.Aimed.{aim_in, siblings_from, formed, numbered, option_formed, seen_from, has_parent};
 ghost use Rattle.edit_change.specs.inner.Aimed.{concerns};
 
@@ -9,7 +9,7 @@ pub enum AimForm {
     /// Before the first child of the node there.
     FirstIn,
     /// After the element there, among its siblings.
-    Behind,
+    AfterElement,
     /// Over the element there and the siblings after it, `count` of them with the first.
     Over(usize),
 }
@@ -38,13 +38,13 @@ impl<'a> Aimed<'a> {
     }
 
     /// Inserts after the element at this path. After the top there is no gap, so nothing comes of that.
-    pub fn behind(change: usize, element: &'a [usize]) -> Aimed<'a>
-        ensures { numbered result ≡ (change, Behind element.now) }
+    pub fn after(change: usize, element: &'a [usize]) -> Aimed<'a>
+        ensures { numbered result ≡ (change, AfterElement element.now) }
     {
         Aimed {
             change,
             path: element,
-            form: AimForm::Behind,
+            form: AimForm::AfterElement,
         }
     }
 
@@ -72,7 +72,7 @@ impl<'a> Aimed<'a> {
     {
         match self.form {
             AimForm::FirstIn => true,
-            AimForm::Behind => !self.path.is_empty(),
+            AimForm::AfterElement => !self.path.is_empty(),
             AimForm::Over(count) => !self.path.is_empty() && count > 0,
         }
     }
@@ -84,7 +84,7 @@ impl<'a> Aimed<'a> {
     {
         match self.form {
             AimForm::FirstIn => false,
-            AimForm::Behind => false,
+            AimForm::AfterElement => false,
             AimForm::Over(count) => self.path.is_empty() && count > 0,
         }
     }
@@ -95,7 +95,7 @@ impl<'a> Aimed<'a> {
     {
         match self.form {
             AimForm::FirstIn => self.path.is_empty() && gap == 0,
-            AimForm::Behind => {
+            AimForm::AfterElement => {
                 let [slot] = self.path else {
                     return false;
                 };
@@ -111,7 +111,7 @@ impl<'a> Aimed<'a> {
     {
         match self.form {
             AimForm::FirstIn => false,
-            AimForm::Behind => false,
+            AimForm::AfterElement => false,
             AimForm::Over(count) => {
                 let [first] = self.path else {
                     return false;
@@ -127,7 +127,7 @@ impl<'a> Aimed<'a> {
     {
         match self.form {
             AimForm::FirstIn => false,
-            AimForm::Behind => false,
+            AimForm::AfterElement => false,
             AimForm::Over(count) => {
                 let [first] = self.path else {
                     return false;
@@ -145,7 +145,7 @@ impl<'a> Aimed<'a> {
     pub fn reach(&self) -> (usize, usize)
         ensures inside { (k : ℕ) → result.0 ≤ k → k < result.0 + result.1 → concerns k self.now ≡ true }
         ensures before { (k : ℕ) → k < result.0 → concerns k self.now ≡ false }
-        ensures behind { (k : ℕ) → result.0 + result.1 ≤ k → concerns k self.now ≡ false }
+        ensures after { (k : ℕ) → result.0 + result.1 ≤ k → concerns k self.now ≡ false }
     {
         let [slot, ..] = self.path else {
             return (0, 0);

@@ -6,7 +6,7 @@ ghost use Rattle.cst_core.specs.SyntaxElement.{element_of};
 ghost use Rattle.cst_core.specs.Path.{has_path, last_slot};
 ghost use Rattle.edit_change.specs.inner.Aimed.{numbered};
 ghost use Rattle.edit_change.specs.inner.Given.{given_trees};
-ghost use Rattle.edit_change.specs.Aim.{Behind};
+ghost use Rattle.edit_change.specs.Aim.{AfterElement};
 ghost use Rattle.edit_change.specs.ChangeAim.{position_aim, aim, aim_path};
 ghost use Rattle.edit_change.specs.Change.{payload, targets};
 ghost use Rattle.edit_change.specs.Fits.{Fits, is_one_node};
@@ -24,8 +24,8 @@ use std::slice;
 
 impl Position {
     // Whether it is the gap after the element at a path.
-    fn is_behind(&self, path: &[usize]) -> bool
-        ensures { IsTrue result ↔ (position_aim self.now ≡ Behind path.now) }
+    fn is_after(&self, path: &[usize]) -> bool
+        ensures { IsTrue result ↔ (position_aim self.now ≡ AfterElement path.now) }
     {
         match self.after_of() {
             Some(element) => element.slots() == path,
@@ -40,19 +40,19 @@ impl Position {
         if self.first_of().is_some() {
             Aimed::first_in(number, path)
         } else {
-            Aimed::behind(number, path)
+            Aimed::after(number, path)
         }
     }
 }
 
 impl Change {
     /// Whether it inserts after the element at a path.
-    pub fn is_behind(&self, path: &[usize]) -> bool
-        ensures { IsTrue result ↔ (aim self.now ≡ Behind path.now) }
+    pub fn is_after(&self, path: &[usize]) -> bool
+        ensures { IsTrue result ↔ (aim self.now ≡ AfterElement path.now) }
     {
         match self {
-            Change::Insert(position, _) => position.is_behind(path),
-            Change::InsertAll(position, _) => position.is_behind(path),
+            Change::Insert(position, _) => position.is_after(path),
+            Change::InsertAll(position, _) => position.is_after(path),
             Change::Replace(_, _) => false,
             Change::ReplaceWithMany(_, _) => false,
             Change::ReplaceAll(_, _, _) => false,

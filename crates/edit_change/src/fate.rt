@@ -1,11 +1,11 @@
 ghost use Rattle.std.specs.Prelude.{◌≡◌, List, [], ◌∷◌, ◌++◌, cond, map, IfOk};
 ghost use Rattle.cst_core.specs.Path.{Path, up_to};
-ghost use Rattle.edit_change.specs.inner.TargetIndex.{target_at, IsApart, IsIndex};
+ghost use Rattle.edit_change.specs.inner.TargetTable.{target_at, IsApart, IsTargetTable};
 ghost use Rattle.edit_change.specs.declared.fate.Fate.TheVariants.{Dropped, Owned};
 ghost use Rattle.edit_change.specs.inner.Fate.{fate, owner_in, is_dropped_in, is_independent_in, fate_within};
 
 use crate::change::Change;
-use crate::target_index::TargetIndex;
+use crate::target_table::TargetTable;
 use std::alloc::{AllocError, Global};
 
 /// What becomes of a change in a plan.
@@ -86,8 +86,8 @@ fn fate_below(changes: &[Change], fate: Fate, replaced_by: Option<usize>) -> Fat
 }
 
 // The fate of a change that lies in the element at a path and in no deeper one.
-fn fate_within(index: &TargetIndex, changes: &[Change], innermost: &[usize]) -> Fate
-    requires { IsIndex changes.now index.now }
+fn fate_within(index: &TargetTable, changes: &[Change], innermost: &[usize]) -> Fate
+    requires { IsTargetTable changes.now index.now }
     ensures { result ≡ fate_within changes.now (up_to innermost.now) }
 {
     let table = &index.numbers;
@@ -100,8 +100,8 @@ fn fate_within(index: &TargetIndex, changes: &[Change], innermost: &[usize]) -> 
     fate
 }
 
-fn fate_of(index: &TargetIndex, changes: &[Change], change: &Change) -> Fate
-    requires { IsIndex changes.now index.now }
+fn fate_of(index: &TargetTable, changes: &[Change], change: &Change) -> Fate
+    requires { IsTargetTable changes.now index.now }
     ensures { result ≡ fate changes.now change.now }
 {
     match change.innermost() {
@@ -115,10 +115,10 @@ fn fate_of(index: &TargetIndex, changes: &[Change], change: &Change) -> Fate
 /// Takes time near linear in the changes and the lengths of their paths: each slot on the way to a change is looked at once.
 pub fn fates(
     alloc: Global,
-    index: &TargetIndex,
+    index: &TargetTable,
     changes: &[Change],
 ) -> Result<Vec<Fate>, AllocError>
-    requires { IsIndex changes.now index.now }
+    requires { IsTargetTable changes.now index.now }
     ensures { IfOk result (λ v. v.items ≡ map (fate changes.now) changes.now) }
 {
     let mut fates = Vec::with_capacity(alloc, changes.len())?;

@@ -17,7 +17,7 @@ mod one_node;
 mod planned;
 mod position;
 mod staged;
-mod target_index;
+mod target_table;
 mod targets;
 
 pub use aimed::{AimForm, Aimed};
@@ -36,4 +36,4 @@ pub use one_node::only_node;
 pub use planned::Planned;
 pub use position::Position;
 pub use staged::{moved_path, owner_of, place_at, staged_path};
-pub use target_index::TargetIndex;
+pub use target_table::TargetTable;

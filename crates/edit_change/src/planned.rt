@@ -1,6 +1,6 @@
 use crate::change::Change;
 use crate::fate::Fate;
-use crate::target_index::TargetIndex;
+use crate::target_table::TargetTable;
 use cst_core::SyntaxNode;
 
 /// The changes of a tree, and what is known of them before any is carried out.
@@ -10,7 +10,7 @@ pub struct Planned<'a> {
     pub root: &'a SyntaxNode,
     pub changes: &'a [Change],
     /// Which of them replaces an element, by the element's path.
-    pub targets: &'a TargetIndex,
+    pub targets: &'a TargetTable,
     /// What becomes of each change.
     pub fates: &'a [Fate],
     /// For each owner, the place of its target in its payload.

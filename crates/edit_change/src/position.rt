@@ -58,7 +58,7 @@ impl Position {
         ensures { IfOk result (λ r. r ≡ after (E.element element)) }
     {
         let element = element.syntax_element(alloc)?;
-        Ok(Position::behind(element))
+        Ok(Position::gap_after(element))
     }
 
     /// The gap before an element. It is the gap after the previous sibling if there is one, else the first gap of the parent.
@@ -70,7 +70,7 @@ impl Position {
         Position::ahead_of(alloc, &element)
     }
 
-    fn behind(element: SyntaxElement) -> Option<Position>
+    fn gap_after(element: SyntaxElement) -> Option<Position>
         ensures { result ≡ after element }
     {
         if element.slots().is_empty() {

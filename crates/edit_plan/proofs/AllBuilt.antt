@@ -17,7 +17,7 @@ use Rattle.cst_core.specs.Element.{Element, subtree, NumbersTell}
 use Rattle.cst_core.specs.declared.element.SyntaxElement.TheVariants.{Node}
 use Rattle.cst_core.proofs.LastSlot.{parent-and-slot}
 use Rattle.green_tree.proofs.Lookup.{IsNodeThere, at_parent}
-use Rattle.edit_change.specs.Aim.{Aim, FirstIn, Behind, Over, replaces, parents}
+use Rattle.edit_change.specs.Aim.{Aim, FirstIn, AfterElement, Over, replaces, parents}
 use Rattle.edit_change.specs.Rewriting.{NumberedAim, is_replaced}
 use Rattle.one_pass.specs.inner.Built.{IsBuilt, AreBuilt}
 use Rattle.edit_map.specs.Mapping.{mapped_elements}
@@ -31,13 +31,13 @@ use Rattle.edit_change.proofs.Lists.{all_filter, all_weaker, all_enumerated}
 use Rattle.edit_change.proofs.Owners.{owner_from}
 use Rattle.edit_change.specs.NewTree.{targets_of, payload_of, moved_aim, independents, dependents}
 use Rattle.edit_steps.proofs.Altered.{one_item, no_item, parents-inv, region_has, altered, node_over, native_node, target_native}
-use Rattle.edit_change.proofs.Moved.{fit_at}
-use Rattle.edit_change.proofs.Apart.{moved-path, owned-at, owned_below}
+use Rattle.edit_change.proofs.MovedAims.{fit_at}
+use Rattle.edit_change.proofs.AimsApart.{moved-path, owned-at, owned_below}
 use Rattle.edit_steps.proofs.Below.{ComesFrom, moved_replaces, targets_under}
 use Rattle.edit_steps.proofs.Deepest.{unowned}
 use Rattle.edit_steps.proofs.Groups.{IsGroup, free_group, owned_group, group_aims, moved-nowhere, independents-moved, from_target, unmoved_parents}
-use Rattle.edit_steps.proofs.Live.{is_node, is_there, AimsAt, fits-aims, AreAlike, alike_from, moved-aims, target-root}
-use Rattle.edit_change.proofs.Owning.{owner-keeps}
+use Rattle.edit_steps.proofs.LiveAims.{is_node, is_there, AimsAt, fits-aims, AreAlike, alike_from, moved-aims, target-root}
+use Rattle.edit_change.proofs.OwnersKeep.{owner-keeps}
 use Rattle.edit_steps.proofs.Splits.{all_map, none_any}
 use Rattle.edit_change.specs.Places.{ArePlaces, elements_held}
 use Rattle.edit_plan.specs.Plan.{Plan, IsPlan, registered_elements}
@@ -49,17 +49,17 @@ some_there : (o : Option SyntaxTree) → is_there o ≡ true → IsSome o
 some_there None h = absurd (false≢true h)
 some_there (Some t) h = refl
 
-behind-node : (t : SyntaxTree) (z p : Path) → is_there (at t z) ≡ true → parents (Behind z) ≡ p ∷ [] → is_node (at t p) ≡ true
-behind-node t z p h altering =
+after-node : (t : SyntaxTree) (z p : Path) → is_there (at t z) ≡ true → parents (AfterElement z) ≡ p ∷ [] → is_node (at t p) ≡ true
+after-node t z p h altering =
     let back = parents-inv z p altering in
     let node = at_parent t p back.0 (some_there (at t (p ++ back.0 ∷ [])) (ap (λ y. is_there (at t y)) (sym back.1) ∙ h)) in
     ap is_node node.is
 
 pub aims-node : (t : SyntaxTree) (a : Aim) (p : Path) → AimsAt t a → parents a ≡ p ∷ [] → is_node (at t p) ≡ true
 aims-node t (FirstIn z) p h altering = ap (λ y. is_node (at t y)) (sym (one_item z p altering)) ∙ h
-aims-node t (Behind z) p h altering = behind-node t z p h altering
+aims-node t (AfterElement z) p h altering = after-node t z p h altering
 aims-node t (Over []) p h altering = absurd (no_item p altering)
-aims-node t (Over (z ∷ zs)) p h altering = behind-node t z p h altering
+aims-node t (Over (z ∷ zs)) p h altering = after-node t z p h altering
 
 -- ---- changes that are carried out in one tree
 module _ (cs : List Change) (root : Element) (fit : All (Fits root) cs) (ours : Change → Bool) (top place : Path) (group : IsGroup cs ours top place) where

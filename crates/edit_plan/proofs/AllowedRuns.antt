@@ -18,7 +18,7 @@ use Rattle.edit_plan.specs.ExecuteRefusal.{of_order, ExecuteRefuses}
 use Rattle.edit_plan.specs.Plan.{Plan}
 use Rattle.edit_plan.specs.Run.{Run, new_run, is_done, CanStep}
 use Rattle.edit_plan.specs.inner.PlanStages.{IsCarriedOut}
-use Rattle.edit_plan.proofs.Running.{told-false, one-more-told}
+use Rattle.edit_plan.proofs.StagesOfRuns.{told-false, one-more-told}
 
 pub record IsAlong (p : Plan) (order : List ℕ) (i : ℕ) (r : Run) : Type 0 where
   pub plan_is : r.plan ≡ p

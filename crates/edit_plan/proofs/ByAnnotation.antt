@@ -30,8 +30,8 @@ use Rattle.edit_plan.specs.inner.Annotating.{numbered_paths}
 use Rattle.one_pass.specs.inner.Root.{TellsNewTree}
 use Rattle.edit_change.specs.Places.{ArePlaces}
 use Rattle.edit_change.specs.Results.{annotated, copies_of, paths_with}
-use Rattle.edit_plan.proofs.Leading.{numbered-lead}
-use Rattle.edit_plan.proofs.Told.{all-told}
+use Rattle.edit_plan.proofs.PathsOfResults.{numbered-lead}
+use Rattle.edit_plan.proofs.NumbersOfRegistered.{all-told}
 use mathlib.Core.List.{map-map}
 
 -- ---- a table with one element more

@@ -1,5 +1,5 @@
 -- Two neighbours of a list exchanged, and the numbers that their places get.
---     exchanged                     of a number: the first of the two places and the one behind it exchanged
+--     exchanged                     of a number: the first of the two places and the one after it exchanged
 --     slice_get-exchanged           what stands at a place
 --     any-exchanged, position-exchanged, kept-exchanged      tests of the items
 use Rattle.std.specs.Prelude.{◌≡◌, ℕ, zero, suc, ◌+◌, Bool, true, false, cond, not, nat_eq, nat_lt, ◌||◌, List, [], ◌∷◌, ◌++◌, length, map, filter, filter_map, position, slice_get, Option, Some, None, option_map, refl}
@@ -77,8 +77,8 @@ kept-cons test x xs =
     ]
 
 -- ---- the lists
-module _ {X : Type 0} (c d : X) (behind : List X) where
-  pub slice_get-exchanged : (before : List X) (n : ℕ) → slice_get (before ++ d ∷ c ∷ behind) (exchanged (length before) n) ≡ slice_get (before ++ c ∷ d ∷ behind) n
+module _ {X : Type 0} (c d : X) (after : List X) where
+  pub slice_get-exchanged : (before : List X) (n : ℕ) → slice_get (before ++ d ∷ c ∷ after) (exchanged (length before) n) ≡ slice_get (before ++ c ∷ d ∷ after) n
   slice_get-exchanged [] zero = refl
   slice_get-exchanged [] (suc zero) = refl
   slice_get-exchanged [] (suc (suc n)) = refl
@@ -86,8 +86,8 @@ module _ {X : Type 0} (c d : X) (behind : List X) where
   slice_get-exchanged (x ∷ before) (suc n) = slice_get-exchanged before n
 
   module _ (test : X → Bool) where
-    pub any-exchanged : (before : List X) → list_any test (before ++ d ∷ c ∷ behind) ≡ list_any test (before ++ c ∷ d ∷ behind)
-    any-exchanged [] = or_swap (test d) (test c) (list_any test behind)
+    pub any-exchanged : (before : List X) → list_any test (before ++ d ∷ c ∷ after) ≡ list_any test (before ++ c ∷ d ∷ after)
+    any-exchanged [] = or_swap (test d) (test c) (list_any test after)
       where
         or_swap : (a b e : Bool) → (a || (b || e)) ≡ (b || (a || e))
         or_swap true true e = refl
@@ -97,9 +97,9 @@ module _ {X : Type 0} (c d : X) (behind : List X) where
     any-exchanged (x ∷ before) = ap (λ b. test x || b) (any-exchanged before)
 
     module _ (apart : test c ≡ true → test d ≡ true → ⊥) where
-      pub position-exchanged : (before : List X) → position test (before ++ d ∷ c ∷ behind) ≡ option_map (exchanged (length before)) (position test (before ++ c ∷ d ∷ behind))
+      pub position-exchanged : (before : List X) → position test (before ++ d ∷ c ∷ after) ≡ option_map (exchanged (length before)) (position test (before ++ c ∷ d ∷ after))
       position-exchanged [] =
-          position-cons test d (c ∷ behind) ∙ ap (λ o. cond (test d) (Some 0) (option_map suc o)) (position-cons test c behind) ∙ start (test c) (test d) apart (position test behind) ∙ ap (option_map (exchanged 0)) (sym (position-cons test c (d ∷ behind) ∙ ap (λ o. cond (test c) (Some 0) (option_map suc o)) (position-cons test d behind)))
+          position-cons test d (c ∷ after) ∙ ap (λ o. cond (test d) (Some 0) (option_map suc o)) (position-cons test c after) ∙ start (test c) (test d) apart (position test after) ∙ ap (option_map (exchanged 0)) (sym (position-cons test c (d ∷ after) ∙ ap (λ o. cond (test c) (Some 0) (option_map suc o)) (position-cons test d after)))
         where
           start : (a b : Bool) → (a ≡ true → b ≡ true → ⊥) → (o : Option ℕ) → cond b (Some 0) (option_map suc (cond a (Some 0) (option_map suc o))) ≡ option_map (exchanged 0) (cond a (Some 0) (option_map suc (cond b (Some 0) (option_map suc o))))
           start true true never o = absurd (never refl refl)
@@ -108,16 +108,16 @@ module _ {X : Type 0} (c d : X) (behind : List X) where
           start false false never None = refl
           start false false never (Some n) = refl
       position-exchanged (x ∷ before) =
-          position-cons test x (before ++ d ∷ c ∷ behind) ∙ ap (λ o. cond (test x) (Some 0) (option_map suc o)) (position-exchanged before) ∙ step (test x) (position test (before ++ c ∷ d ∷ behind)) ∙ ap (option_map (exchanged (suc (length before)))) (sym (position-cons test x (before ++ c ∷ d ∷ behind)))
+          position-cons test x (before ++ d ∷ c ∷ after) ∙ ap (λ o. cond (test x) (Some 0) (option_map suc o)) (position-exchanged before) ∙ step (test x) (position test (before ++ c ∷ d ∷ after)) ∙ ap (option_map (exchanged (suc (length before)))) (sym (position-cons test x (before ++ c ∷ d ∷ after)))
         where
           step : (b : Bool) (o : Option ℕ) → cond b (Some 0) (option_map suc (option_map (exchanged (length before)) o)) ≡ option_map (exchanged (suc (length before))) (cond b (Some 0) (option_map suc o))
           step true o = refl
           step false None = refl
           step false (Some n) = refl
 
-      pub kept-exchanged : (before : List X) → kept test 0 (before ++ d ∷ c ∷ behind) ≡ map (exchanged (length before)) (kept test 0 (before ++ c ∷ d ∷ behind))
+      pub kept-exchanged : (before : List X) → kept test 0 (before ++ d ∷ c ∷ after) ≡ map (exchanged (length before)) (kept test 0 (before ++ c ∷ d ∷ after))
       kept-exchanged [] =
-          kept-cons test d (c ∷ behind) ∙ ap (λ ns. cond (test d) (0 ∷ map suc ns) (map suc ns)) (kept-cons test c behind) ∙ start (test c) (test d) apart (kept test 0 behind) ∙ ap (map (exchanged 0)) (sym (kept-cons test c (d ∷ behind) ∙ ap (λ ns. cond (test c) (0 ∷ map suc ns) (map suc ns)) (kept-cons test d behind)))
+          kept-cons test d (c ∷ after) ∙ ap (λ ns. cond (test d) (0 ∷ map suc ns) (map suc ns)) (kept-cons test c after) ∙ start (test c) (test d) apart (kept test 0 after) ∙ ap (map (exchanged 0)) (sym (kept-cons test c (d ∷ after) ∙ ap (λ ns. cond (test c) (0 ∷ map suc ns) (map suc ns)) (kept-cons test d after)))
         where
           past : (ns : List ℕ) → map suc (map suc ns) ≡ map (exchanged 0) (map suc (map suc ns))
           past [] = refl
@@ -129,7 +129,7 @@ module _ {X : Type 0} (c d : X) (behind : List X) where
           start false true never ns = ap (λ ms. 0 ∷ ms) (past ns)
           start false false never ns = past ns
       kept-exchanged (x ∷ before) =
-          kept-cons test x (before ++ d ∷ c ∷ behind) ∙ ap (λ ns. cond (test x) (0 ∷ map suc ns) (map suc ns)) (kept-exchanged before) ∙ step (test x) (kept test 0 (before ++ c ∷ d ∷ behind)) ∙ ap (map (exchanged (suc (length before)))) (sym (kept-cons test x (before ++ c ∷ d ∷ behind)))
+          kept-cons test x (before ++ d ∷ c ∷ after) ∙ ap (λ ns. cond (test x) (0 ∷ map suc ns) (map suc ns)) (kept-exchanged before) ∙ step (test x) (kept test 0 (before ++ c ∷ d ∷ after)) ∙ ap (map (exchanged (suc (length before)))) (sym (kept-cons test x (before ++ c ∷ d ∷ after)))
         where
           shift : (ns : List ℕ) → map suc (map (exchanged (length before)) ns) ≡ map (exchanged (suc (length before))) (map suc ns)
           shift [] = refl

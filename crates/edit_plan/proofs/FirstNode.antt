@@ -1,9 +1,9 @@
 -- The first node of a kind that starts somewhere, child by child.
 --     rest                          the paths of the nodes in the children from a slot on
---     none-behind, none-past        none is in a tree that begins behind the offset, or ends before it
+--     none-after, none-past        none is in a tree that begins after the offset, or ends before it
 --     first-here, first-below       the top is the first one; else it is the first one in the children
---     first-in, first-behind        it is in the child in a slot; else it is behind that
---     first-nowhere                 none is behind the last child
+--     first-in, first-after        it is in the child in a slot; else it is after that
+--     first-nowhere                 none is after the last child
 --     start-next                    where the child in the next slot starts
 use Rattle.std.specs.Prelude.{◌≡◌, ◌≢◌, ℕ, zero, suc, ◌+◌, ◌<◌, ◌≤◌, Bool, true, false, not, cond, nat_eq, ◌&&◌, List, [], ◌∷◌, ◌++◌, map, find, take, drop, length, get_or, reverse, slice_get, Option, Some, None, option_map, refl}
 use Rattle.std.specs.Option.{option_map_or, option_or}
@@ -57,8 +57,8 @@ and-false a b h = ap (λ c. a && c) h ∙ elim a as (λ c. (c && false) ≡ fals
 not-there : (kind b o : ℕ) (t : SyntaxTree) → ((p : Path) → b + start t p ≢ o) → first_from kind b o t ≡ None
 not-there kind b o t apart = find-none (starts_as kind b o t) (node_paths t) (λ p. and-false (option_map_or (λ e. nat_eq (label e) kind) (at t p) false) (nat_eq (b + start t p) o) (ne_eqb (b + start t p) o (apart p)))
 
-pub none-behind : (kind b o : ℕ) (t : SyntaxTree) → o < b → first_from kind b o t ≡ None
-none-behind kind b o t h = not-there kind b o t (λ p e. omega (arith, h, e))
+pub none-after : (kind b o : ℕ) (t : SyntaxTree) → o < b → first_from kind b o t ≡ None
+none-after kind b o t h = not-there kind b o t (λ p e. omega (arith, h, e))
 
 pub none-past : (kind b o : ℕ) (t : SyntaxTree) → b + text_length t < o → first_from kind b o t ≡ None
 none-past kind b o t h = not-there kind b o t (λ p e. omega (arith, h, e, start-le t p))
@@ -102,8 +102,8 @@ module _ (kind b o l : ℕ) (f : Forest ℕ) (i : ℕ) (c : SyntaxTree) (there :
   pub first-in : (p : Path) → first_from kind (b + start (Node l f) (i ∷ [])) o c ≡ Some p → find (starts_as kind b o (Node l f)) (rest (Node l f) i) ≡ Some (i ∷ p)
   first-in p h = find-rest ∙ ap (λ r. option_or (option_map (λ q. i ∷ q) r) (find (starts_as kind b o (Node l f)) (rest (Node l f) (suc i)))) h
 
-  pub first-behind : first_from kind (b + start (Node l f) (i ∷ [])) o c ≡ None → find (starts_as kind b o (Node l f)) (rest (Node l f) i) ≡ find (starts_as kind b o (Node l f)) (rest (Node l f) (suc i))
-  first-behind h = find-rest ∙ ap (λ r. option_or (option_map (λ q. i ∷ q) r) (find (starts_as kind b o (Node l f)) (rest (Node l f) (suc i)))) h
+  pub first-after : first_from kind (b + start (Node l f) (i ∷ [])) o c ≡ None → find (starts_as kind b o (Node l f)) (rest (Node l f) i) ≡ find (starts_as kind b o (Node l f)) (rest (Node l f) (suc i))
+  first-after h = find-rest ∙ ap (λ r. option_or (option_map (λ q. i ∷ q) r) (find (starts_as kind b o (Node l f)) (rest (Node l f) (suc i)))) h
 
 pub first-nowhere : (kind b o l : ℕ) (f : Forest ℕ) (i : ℕ) → length (trees f) ≤ i → find (starts_as kind b o (Node l f)) (rest (Node l f) i) ≡ None
 first-nowhere kind b o l f i h = ap (λ ts. find (starts_as kind b o (Node l f)) (parts_from is_node_tree i (forest ts))) (drop_of_length-le (trees f) h)
@@ -136,10 +136,10 @@ module _ (kind b o : ℕ) (n : Branch) (es : List GreenElement) (i : ℕ) (e : G
   pub found-in : (next : ℕ) (r : Option Path) (p : Path) → next ≡ b + start (branch_tree n) (i ∷ []) → find (starts_as kind b o (branch_tree n)) (rest (branch_tree n) i) ≡ r → first_from kind next o (element_tree e) ≡ Some p → Some (i ∷ p) ≡ r
   found-in next r p at left h = sym (first-in kind b o n.kind (forest n.children) i (element_tree e) there p (ap (λ k. first_from kind k o (element_tree e)) (sym at) ∙ h)) ∙ left
 
-  pub found-behind : (next : ℕ) (r : Option Path) → next ≡ b + start (branch_tree n) (i ∷ []) → find (starts_as kind b o (branch_tree n)) (rest (branch_tree n) i) ≡ r → first_from kind next o (element_tree e) ≡ None → find (starts_as kind b o (branch_tree n)) (rest (branch_tree n) (i + 1)) ≡ r
-  found-behind next r at left h =
+  pub found-after : (next : ℕ) (r : Option Path) → next ≡ b + start (branch_tree n) (i ∷ []) → find (starts_as kind b o (branch_tree n)) (rest (branch_tree n) i) ≡ r → first_from kind next o (element_tree e) ≡ None → find (starts_as kind b o (branch_tree n)) (rest (branch_tree n) (i + 1)) ≡ r
+  found-after next r at left h =
       let s : i + 1 ≡ suc i = omega arith in
-      ap (λ k. find (starts_as kind b o (branch_tree n)) (rest (branch_tree n) k)) s ∙ sym (first-behind kind b o n.kind (forest n.children) i (element_tree e) there (ap (λ k. first_from kind k o (element_tree e)) (sym at) ∙ h)) ∙ left
+      ap (λ k. find (starts_as kind b o (branch_tree n)) (rest (branch_tree n) k)) s ∙ sym (first-after kind b o n.kind (forest n.children) i (element_tree e) there (ap (λ k. first_from kind k o (element_tree e)) (sym at) ∙ h)) ∙ left
 
   pub room : (next : ℕ) → next ≡ b + start (branch_tree n) (i ∷ []) → b + text_length (branch_tree n) < length_limit → next + text_length (element_tree e) < length_limit
   room next at fits = omega (arith, at, fits, start_room n es i e same within is)
@@ -148,8 +148,8 @@ module _ (kind b o : ℕ) (n : Branch) (es : List GreenElement) (i : ℕ) (e : G
   next-begins next long at fits is_long =
       let s : i + 1 ≡ suc i = omega arith in
       let fits_next = room next at fits in
-      let behind : start (branch_tree n) (suc i ∷ []) ≡ start (branch_tree n) (i ∷ []) + text_length (element_tree e) = start-next n.kind (forest n.children) i (element_tree e) there in
-      let sum : next + long ≡ b + start (branch_tree n) (suc i ∷ []) = omega (arith, at, fits_next, is_long, behind) in
+      let after : start (branch_tree n) (suc i ∷ []) ≡ start (branch_tree n) (i ∷ []) + text_length (element_tree e) = start-next n.kind (forest n.children) i (element_tree e) there in
+      let sum : next + long ≡ b + start (branch_tree n) (suc i ∷ []) = omega (arith, at, fits_next, is_long, after) in
       sum ∙ ap (λ k. b + start (branch_tree n) (k ∷ [])) (sym s)
 
 pub found-nowhere : (kind b o : ℕ) (n : Branch) (es : List GreenElement) (i : ℕ) (r : Option Path) → element_trees es ≡ n.children → length es ≤ i → find (starts_as kind b o (branch_tree n)) (rest (branch_tree n) i) ≡ r → None ≡ r

@@ -66,33 +66,33 @@ in-parts x (e ∷ es) fs (inr is) = elim (in-parts x es fs is) [ inl l ↦ inl (
 in-first : (x : Element) (es gs fs : List Element) → (IsIn x es → IsIn x gs) → IsIn x (es ++ fs) → IsIn x (gs ++ fs)
 in-first x es gs fs among is = elim (in-parts x es fs is) [ inl l ↦ in-left x gs fs (among l) | inr r ↦ in-right x gs fs r ]
 
-module _ (x : Element) (c d : Change) (behind : List Change) where
-  in-swapped : (before : List Change) → IsIn x (flat_map elements (before ++ c ∷ d ∷ behind)) → IsIn x (flat_map elements (before ++ d ∷ c ∷ behind))
+module _ (x : Element) (c d : Change) (after : List Change) where
+  in-swapped : (before : List Change) → IsIn x (flat_map elements (before ++ c ∷ d ∷ after)) → IsIn x (flat_map elements (before ++ d ∷ c ∷ after))
   in-swapped [] is =
-      let rest = flat_map elements behind in
+      let rest = flat_map elements after in
       elim (in-parts x (elements c) (elements d ++ rest) is) [
         | inl of_c ↦ in-right x (elements d) (elements c ++ rest) (in-left x (elements c) rest of_c)
         | inr others ↦ elim (in-parts x (elements d) rest others) [
           | inl of_d ↦ in-left x (elements d) (elements c ++ rest) of_d
-          | inr behind_both ↦ in-right x (elements d) (elements c ++ rest) (in-right x (elements c) rest behind_both)
+          | inr after_both ↦ in-right x (elements d) (elements c ++ rest) (in-right x (elements c) rest after_both)
         ]
       ]
   in-swapped (b ∷ before) is =
-      elim (in-parts x (elements b) (flat_map elements (before ++ c ∷ d ∷ behind)) is) [
-        | inl of_b ↦ in-left x (elements b) (flat_map elements (before ++ d ∷ c ∷ behind)) of_b
-        | inr others ↦ in-right x (elements b) (flat_map elements (before ++ d ∷ c ∷ behind)) (in-swapped before others)
+      elim (in-parts x (elements b) (flat_map elements (before ++ c ∷ d ∷ after)) is) [
+        | inl of_b ↦ in-left x (elements b) (flat_map elements (before ++ d ∷ c ∷ after)) of_b
+        | inr others ↦ in-right x (elements b) (flat_map elements (before ++ d ∷ c ∷ after)) (in-swapped before others)
       ]
 
-pub told-swapped : (root : Element) (before : List Change) (c d : Change) (behind : List Change) (rs : List (Element × ℕ)) (m : Mapping) → NumbersTell (elements_held root (before ++ d ∷ c ∷ behind) rs m) → NumbersTell (elements_held root (before ++ c ∷ d ∷ behind) rs m)
-told-swapped root before c d behind rs m tell =
-    told-among (elements_held root (before ++ d ∷ c ∷ behind) rs m) (elements_held root (before ++ c ∷ d ∷ behind) rs m) among tell
+pub told-swapped : (root : Element) (before : List Change) (c d : Change) (after : List Change) (rs : List (Element × ℕ)) (m : Mapping) → NumbersTell (elements_held root (before ++ d ∷ c ∷ after) rs m) → NumbersTell (elements_held root (before ++ c ∷ d ∷ after) rs m)
+told-swapped root before c d after rs m tell =
+    told-among (elements_held root (before ++ d ∷ c ∷ after) rs m) (elements_held root (before ++ c ∷ d ∷ after) rs m) among tell
   where
     marked : List Element
     marked = map (λ r. r.0) rs
 
-    among : (x : Element) → IsIn x (elements_held root (before ++ c ∷ d ∷ behind) rs m) → IsIn x (elements_held root (before ++ d ∷ c ∷ behind) rs m)
-    among x is = in-first x (root ∷ flat_map elements (before ++ c ∷ d ∷ behind) ++ marked) (root ∷ flat_map elements (before ++ d ∷ c ∷ behind) ++ marked) (mapped_elements m) (in-first x (root ∷ flat_map elements (before ++ c ∷ d ∷ behind)) (root ∷ flat_map elements (before ++ d ∷ c ∷ behind)) marked top) is
+    among : (x : Element) → IsIn x (elements_held root (before ++ c ∷ d ∷ after) rs m) → IsIn x (elements_held root (before ++ d ∷ c ∷ after) rs m)
+    among x is = in-first x (root ∷ flat_map elements (before ++ c ∷ d ∷ after) ++ marked) (root ∷ flat_map elements (before ++ d ∷ c ∷ after) ++ marked) (mapped_elements m) (in-first x (root ∷ flat_map elements (before ++ c ∷ d ∷ after)) (root ∷ flat_map elements (before ++ d ∷ c ∷ after)) marked top) is
       where
-        top : IsIn x (root ∷ flat_map elements (before ++ c ∷ d ∷ behind)) → IsIn x (root ∷ flat_map elements (before ++ d ∷ c ∷ behind))
+        top : IsIn x (root ∷ flat_map elements (before ++ c ∷ d ∷ after)) → IsIn x (root ∷ flat_map elements (before ++ d ∷ c ∷ after))
         top (inl same) = inl same
-        top (inr is) = inr (in-swapped x c d behind before is)
+        top (inr is) = inr (in-swapped x c d after before is)

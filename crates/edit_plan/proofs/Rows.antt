@@ -106,23 +106,23 @@ variable_extracted_effort : touched_by changes_extracting places_extracting (M [
 variable_extracted_effort = refl
 
 -- ---- regions, drops and gaps
-abbrev pub changes_behind_a_deleted_node : List Change
-changes_behind_a_deleted_node = delete (R (1 ∷ [])) ∷ insert (after (R (1 ∷ []))) X ∷ []
+abbrev pub changes_after_a_deleted_node : List Change
+changes_after_a_deleted_node = delete (R (1 ∷ [])) ∷ insert (after (R (1 ∷ []))) X ∷ []
 
-insert_behind_a_deleted_node : outcome changes_behind_a_deleted_node no_places tree_L ≡ (codes "(, 2)", [])
-insert_behind_a_deleted_node = refl
+insert_after_a_deleted_node : outcome changes_after_a_deleted_node no_places tree_L ≡ (codes "(, 2)", [])
+insert_after_a_deleted_node = refl
 
-insert_behind_a_deleted_node_dropped : map (is_dropped changes_behind_a_deleted_node) changes_behind_a_deleted_node ≡ false ∷ true ∷ []
-insert_behind_a_deleted_node_dropped = refl
+insert_after_a_deleted_node_dropped : map (is_dropped changes_after_a_deleted_node) changes_after_a_deleted_node ≡ false ∷ true ∷ []
+insert_after_a_deleted_node_dropped = refl
 
-insert_behind_a_deleted_node_effort : touched_by changes_behind_a_deleted_node no_places (R []) ≡ 1
-insert_behind_a_deleted_node_effort = refl
+insert_after_a_deleted_node_effort : touched_by changes_after_a_deleted_node no_places (R []) ≡ 1
+insert_after_a_deleted_node_effort = refl
 
-abbrev pub changes_behind_a_deleted_token : List Change
-changes_behind_a_deleted_token = delete (R (2 ∷ [])) ∷ insert (after (R (2 ∷ []))) X ∷ []
+abbrev pub changes_after_a_deleted_token : List Change
+changes_after_a_deleted_token = delete (R (2 ∷ [])) ∷ insert (after (R (2 ∷ []))) X ∷ []
 
-insert_behind_a_deleted_token : outcome changes_behind_a_deleted_token no_places tree_L ≡ (codes "(1x 2)", (2 ∷ []) ∷ [])
-insert_behind_a_deleted_token = refl
+insert_after_a_deleted_token : outcome changes_after_a_deleted_token no_places tree_L ≡ (codes "(1x 2)", (2 ∷ []) ∷ [])
+insert_after_a_deleted_token = refl
 
 literals_exchanged : outcome (replace (R (1 ∷ [])) (R (4 ∷ [])) ∷ replace (R (4 ∷ [])) (R (1 ∷ [])) ∷ []) no_places tree_L ≡ (codes "(2, 1)", (1 ∷ []) ∷ (4 ∷ []) ∷ [])
 literals_exchanged = refl
@@ -173,8 +173,8 @@ replacement_below_one_by_a_token : outcome (replace (R (1 ∷ 0 ∷ [])) X ∷ r
 replacement_below_one_by_a_token = refl
 
 -- ---- the ends of a node
-insert_behind_the_last_child : outcome (insert (last_in (R [])) X ∷ []) no_places tree_L ≡ (codes "(1, 2)x", (6 ∷ []) ∷ [])
-insert_behind_the_last_child = refl
+insert_after_the_last_child : outcome (insert (last_in (R [])) X ∷ []) no_places tree_L ≡ (codes "(1, 2)x", (6 ∷ []) ∷ [])
+insert_after_the_last_child = refl
 
 two_inserted_as_one : outcome (insert_all (after (R (0 ∷ []))) (X ∷ Y ∷ []) ∷ []) no_places tree_L ≡ (codes "(xy1, 2)", (1 ∷ []) ∷ (2 ∷ []) ∷ [])
 two_inserted_as_one = refl
@@ -185,8 +185,8 @@ first_in_empty = refl
 last_in_empty : outcome (insert (last_in (E (1 ∷ []))) X ∷ []) no_places tree_E ≡ (codes "(x)", (1 ∷ 0 ∷ []) ∷ [])
 last_in_empty = refl
 
-behind_deleted_empty : outcome (delete (E (1 ∷ [])) ∷ insert (before (E (2 ∷ []))) X ∷ []) no_places tree_E ≡ (codes "()", [])
-behind_deleted_empty = refl
+after_deleted_empty : outcome (delete (E (1 ∷ [])) ∷ insert (before (E (2 ∷ []))) X ∷ []) no_places tree_E ≡ (codes "()", [])
+after_deleted_empty = refl
 
 before_deleted_empty : outcome (delete (E (1 ∷ [])) ∷ insert (before (E (1 ∷ []))) X ∷ []) no_places tree_E ≡ (codes "(x)", (1 ∷ []) ∷ [])
 before_deleted_empty = refl
@@ -195,23 +195,23 @@ beside_deleted_token : outcome (insert (after (E (0 ∷ []))) X ∷ delete (E (2
 beside_deleted_token = refl
 
 -- ---- ranges and tokens
-insert_behind_a_range : outcome (replace_all (R (2 ∷ [])) (R (3 ∷ [])) (X ∷ []) ∷ insert (after (R (3 ∷ []))) Y ∷ []) no_places tree_L ≡ (codes "(1x2)", (2 ∷ []) ∷ [])
-insert_behind_a_range = refl
+insert_after_a_range : outcome (replace_all (R (2 ∷ [])) (R (3 ∷ [])) (X ∷ []) ∷ insert (after (R (3 ∷ []))) Y ∷ []) no_places tree_L ≡ (codes "(1x2)", (2 ∷ []) ∷ [])
+insert_after_a_range = refl
 
 insert_before_a_range : outcome (replace_all (R (2 ∷ [])) (R (3 ∷ [])) (X ∷ []) ∷ insert (after (R (1 ∷ []))) Y ∷ []) no_places tree_L ≡ (codes "(1yx2)", (2 ∷ []) ∷ (3 ∷ []) ∷ [])
 insert_before_a_range = refl
 
-insert_behind_a_replaced_token : outcome (replace (R (2 ∷ [])) X ∷ insert (after (R (2 ∷ []))) Y ∷ []) no_places tree_L ≡ (codes "(1xy 2)", (2 ∷ []) ∷ (3 ∷ []) ∷ [])
-insert_behind_a_replaced_token = refl
+insert_after_a_replaced_token : outcome (replace (R (2 ∷ [])) X ∷ insert (after (R (2 ∷ []))) Y ∷ []) no_places tree_L ≡ (codes "(1xy 2)", (2 ∷ []) ∷ (3 ∷ []) ∷ [])
+insert_after_a_replaced_token = refl
 
-insert_behind_a_token_replaced_by_two : outcome (replace_with_many (R (2 ∷ [])) (X ∷ Y ∷ []) ∷ insert (after (R (2 ∷ []))) V ∷ []) no_places tree_L ≡ (codes "(1xy() 2)", (2 ∷ []) ∷ (3 ∷ []) ∷ (4 ∷ []) ∷ [])
-insert_behind_a_token_replaced_by_two = refl
+insert_after_a_token_replaced_by_two : outcome (replace_with_many (R (2 ∷ [])) (X ∷ Y ∷ []) ∷ insert (after (R (2 ∷ []))) V ∷ []) no_places tree_L ≡ (codes "(1xy() 2)", (2 ∷ []) ∷ (3 ∷ []) ∷ (4 ∷ []) ∷ [])
+insert_after_a_token_replaced_by_two = refl
 
 abbrev pub changes_of_a_comma : List Change
 changes_of_a_comma = replace (Z (1 ∷ [])) X ∷ insert (after (Z (1 ∷ []))) Y ∷ []
 
-insert_behind_a_replaced_comma : outcome changes_of_a_comma no_places tree_Z ≡ (codes "(xy)", (1 ∷ []) ∷ (2 ∷ []) ∷ [])
-insert_behind_a_replaced_comma = refl
+insert_after_a_replaced_comma : outcome changes_of_a_comma no_places tree_Z ≡ (codes "(xy)", (1 ∷ []) ∷ (2 ∷ []) ∷ [])
+insert_after_a_replaced_comma = refl
 
 -- ---- clashes
 deletion_and_replacement_clash : first_clash (delete (R (1 ∷ [])) ∷ replace_with_many (R (1 ∷ [])) (X ∷ Y ∷ []) ∷ []) ≡ Some (0, 1)

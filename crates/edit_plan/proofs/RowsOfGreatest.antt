@@ -10,7 +10,7 @@ use Rattle.cst_core.specs.Tree.{Forest, Token, Node, end, more, SyntaxTree, fore
 use Rattle.cst_core.specs.declared.element.SyntaxElement.TheVariants.{Token as token_value}
 use Rattle.edit_map.proofs.RowTrees.{tree_X}
 use Rattle.edit_map.proofs.Rows.{element_of_tree}
-use Rattle.edit_change.specs.Aim.{Behind, Over}
+use Rattle.edit_change.specs.Aim.{AfterElement, Over}
 use Rattle.edit_change.specs.Rewriting.{NumberedAim, numbers, inserts_at, replacements_at, is_replaced, gap_order, rewritten, rewritten_from}
 use Rattle.edit_change.specs.Topmost.{holds_at, parent_holds, topmost}
 use Rattle.one_pass.proofs.Tops.{tops, top-children, tops-alone}
@@ -24,10 +24,10 @@ use Rattle.edit_change.specs.declared.change.Change.TheVariants.{Insert, Replace
 use Rattle.edit_plan.proofs.RowChanges.{no_places}
 use Rattle.edit_plan.proofs.RowsOfLengths.{doubled, falling, long, longest, P, changes_emptied}
 use Rattle.edit_change.proofs.Relabelled.{topmost-relabelled}
-use Rattle.edit_change.proofs.Brought.{marked, alone}
-use Rattle.one_pass.proofs.Whole.{changed-whole, not_given}
+use Rattle.edit_change.proofs.BroughtTops.{marked, alone}
+use Rattle.one_pass.proofs.WholeTree.{changed-whole, not_given}
 use Rattle.edit_change.proofs.RewrittenAlike.{no_edits, untouched_is}
-use Rattle.edit_change.proofs.Edits.{remade, remade_from}
+use Rattle.edit_change.proofs.Edits.{rewritten_by, rewritten_by_from}
 use Rattle.edit_plan.proofs.Unowned.{text-unowned}
 
 -- ---- a child that no aim is at or below
@@ -55,11 +55,11 @@ module _ (brought : ℕ → List ℕ) (cs : List NumberedAim) where
         ap₂ (λ a b. a ++ b) (ap₂ (λ ns b. flat_map brought (gap_order ns) ++ cond b (flat_map brought (replacements_at cs (p ++ i ∷ []))) (filled_text brought cs (p ++ i ∷ []) t)) (quiet-gap p i u) (kept-here p i u) ∙ filled-quiet (p ++ i ∷ []) (deeper p i u) t) (filled-quiet_from p u (suc i) f)
 
 mutual
-  none-given : (t : SyntaxTree) → remade (no_edits not_given) t ≡ relabelled (λ k. false) t
+  none-given : (t : SyntaxTree) → rewritten_by (no_edits not_given) t ≡ relabelled (λ k. false) t
   none-given (Token k s) = refl
   none-given (Node k f) = ap (Node false) (none-given_from 0 f)
 
-  none-given_from : (i : ℕ) (f : Forest ℕ) → forest (remade_from (no_edits not_given) i f) ≡ forest_relabelled (λ k. false) f
+  none-given_from : (i : ℕ) (f : Forest ℕ) → forest (rewritten_by_from (no_edits not_given) i f) ≡ forest_relabelled (λ k. false) f
   none-given_from i end = refl
   none-given_from i (more t f) = ap₂ more (none-given t) (none-given_from (suc i) f)
 
@@ -74,7 +74,7 @@ none-topmost t =
     nowhere : (p : Path) → holds_at (λ k. false) t p ≡ false
     nowhere p = elim (at t p) as (λ o. option_map_or (λ e. false) o false ≡ false) [ None ↦ refl | Some e ↦ refl ]
 
--- ---- aims behind and over the last child, 31
+-- ---- aims after and over the last child, 31
 pub record IsAside (cs : List NumberedAim) (i : ℕ) : Type 0 where
   pub no_inserts : inserts_at cs [] i ≡ []
   pub not_replaced : is_replaced cs (i ∷ []) ≡ false
@@ -83,22 +83,22 @@ pub record IsAside (cs : List NumberedAim) (i : ℕ) : Type 0 where
 not-that : (i n : ℕ) → i < n → nat_eq i n ≡ false
 not-that i n l = false_from_ne_true (nat_eq i n) (λ h. absurd (omega (arith, eqb-true i n h, l)))
 
-abbrev behind_last : NumberedAim
-behind_last = (0, Behind (31 ∷ []))
+abbrev after_last : NumberedAim
+after_last = (0, AfterElement (31 ∷ []))
 
 abbrev over_last : NumberedAim
 over_last = (1, Over ((31 ∷ []) ∷ []))
 
-aside-one : (i : ℕ) → i < 31 → IsAside (behind_last ∷ []) i
+aside-one : (i : ℕ) → i < 31 → IsAside (after_last ∷ []) i
 aside-one i l = record {
-  no_inserts = ap (λ b. numbers (cond b (behind_last ∷ []) [])) (not-that i 32 (omega (arith, l)));
+  no_inserts = ap (λ b. numbers (cond b (after_last ∷ []) [])) (not-that i 32 (omega (arith, l)));
   not_replaced = refl;
   untouched = record { no_inserts = λ q j. refl; not_replaced = λ q j. refl };
 }
 
-aside-both : (i : ℕ) → i < 31 → IsAside (behind_last ∷ over_last ∷ []) i
+aside-both : (i : ℕ) → i < 31 → IsAside (after_last ∷ over_last ∷ []) i
 aside-both i l = record {
-  no_inserts = ap (λ b. numbers (cond b (behind_last ∷ []) [])) (not-that i 32 (omega (arith, l)));
+  no_inserts = ap (λ b. numbers (cond b (after_last ∷ []) [])) (not-that i 32 (omega (arith, l)));
   not_replaced = ap (λ b. ((b && true) || false) || false) (not-that i 31 l);
   untouched = record { no_inserts = λ q j. refl; not_replaced = λ q j. ap (λ b. ((b && same_path (q ++ j ∷ []) []) || false) || false) (not-that i 31 l) };
 }
@@ -129,7 +129,7 @@ length-above_all : length (above 31) + 1 ≡ 4294967295
 unfolding long
 length-above_all = length-above 31 ∙ longest
 
--- ---- an insert behind the last child, alone and with that child deleted
+-- ---- an insert after the last child, alone and with that child deleted
 abbrev insert_last : Change
 insert_last = Insert (place_after (token_value (P (31 ∷ [])))) (token_value (element_of_tree 2 tree_X (0 ∷ [])))
 
@@ -141,11 +141,11 @@ changes_exchanged = insert_last ∷ Replace (token_value (P (31 ∷ []))) None �
 
 text-more : flat_map text (new_tree changes_more no_places (P [])) ≡ above 31 ++ codes "ax"
 unfolding long falling doubled
-text-more = text-unowned changes_more no_places (P []) (refl, tt) ∙ filled-falling (brought_text changes_more) (behind_last ∷ []) aside-one 31 0 refl
+text-more = text-unowned changes_more no_places (P []) (refl, tt) ∙ filled-falling (brought_text changes_more) (after_last ∷ []) aside-one 31 0 refl
 
 text-exchanged : flat_map text (new_tree changes_exchanged no_places (P [])) ≡ above 31 ++ codes "x"
 unfolding long falling doubled
-text-exchanged = text-unowned changes_exchanged no_places (P []) (refl, (refl, tt)) ∙ filled-falling (brought_text changes_exchanged) (behind_last ∷ over_last ∷ []) aside-both 31 0 refl
+text-exchanged = text-unowned changes_exchanged no_places (P []) (refl, (refl, tt)) ∙ filled-falling (brought_text changes_exchanged) (after_last ∷ over_last ∷ []) aside-both 31 0 refl
 
 more_is_too_long : (made : OriginTree) → new_tree changes_more no_places (P []) ≡ made ∷ [] → TextIsTooLong made
 more_is_too_long made is =
@@ -161,13 +161,13 @@ exchanged_is_of_the_greatest_length =
     ap length text-exchanged ∙ omega (arith, sum, one, length-above_all)
 
 -- ---- changed paths
-tops-falling : (k i : ℕ) → i + k ≡ 31 → tops (λ b. b) i (rewritten_from not_given (marked changes_exchanged no_places) (behind_last ∷ over_last ∷ []) [] i (forest (falling k))) ≡ (31 ∷ []) ∷ []
+tops-falling : (k i : ℕ) → i + k ≡ 31 → tops (λ b. b) i (rewritten_from not_given (marked changes_exchanged no_places) (after_last ∷ over_last ∷ []) [] i (forest (falling k))) ≡ (31 ∷ []) ∷ []
 unfolding falling
 tops-falling zero i e =
     let last : i ≡ 31 = omega (arith, e) in
-    ap (λ j. tops (λ b. b) j (rewritten_from not_given (marked changes_exchanged no_places) (behind_last ∷ over_last ∷ []) [] j (forest (falling 0)))) last
+    ap (λ j. tops (λ b. b) j (rewritten_from not_given (marked changes_exchanged no_places) (after_last ∷ over_last ∷ []) [] j (forest (falling 0)))) last
 tops-falling (suc k) i e =
-    let cs : List NumberedAim = behind_last ∷ over_last ∷ [] in
+    let cs : List NumberedAim = after_last ∷ over_last ∷ [] in
     let g = marked changes_exchanged no_places in
     let a = aside-both i (omega (arith, e)) in
     let r = rewritten not_given g cs (i ∷ []) (doubled (suc k)) in
@@ -178,7 +178,7 @@ tops-falling (suc k) i e =
 exchanged_child_is_changed : flat_map (changed (is_free changes_exchanged)) (new_tree changes_exchanged no_places (P [])) ≡ (31 ∷ []) ∷ []
 unfolding long
 exchanged_child_is_changed =
-    changed-whole changes_exchanged no_places (P []) ∙ append-nil _ ∙ top-children (λ b. b) false (rewritten_from not_given (marked changes_exchanged no_places) (behind_last ∷ over_last ∷ []) [] 0 (forest (falling 31))) refl ∙ tops-falling 31 0 refl
+    changed-whole changes_exchanged no_places (P []) ∙ append-nil _ ∙ top-children (λ b. b) false (rewritten_from not_given (marked changes_exchanged no_places) (after_last ∷ over_last ∷ []) [] 0 (forest (falling 31))) refl ∙ tops-falling 31 0 refl
 
 -- the whole tree put first, and all the rest deleted
 whole_tree_put_first_is_changed : flat_map (changed (is_free changes_emptied)) (new_tree changes_emptied no_places (P [])) ≡ (0 ∷ []) ∷ []

@@ -57,19 +57,19 @@ nothing_rises k d h = absurd (omega (arith, h))
 not_below_0 : {A : Type 0} (n : ℕ) → n < 0 → A
 not_below_0 n h = absurd (omega (arith, h))
 
--- a node replaced by itself takes an insert behind it nowhere ..
-abbrev changes_behind_itself : List Change
-changes_behind_itself = replace (R (1 ∷ [])) (R (1 ∷ [])) ∷ insert (after (R (1 ∷ []))) X ∷ []
+-- a node replaced by itself takes an insert after it nowhere ..
+abbrev changes_after_itself : List Change
+changes_after_itself = replace (R (1 ∷ [])) (R (1 ∷ [])) ∷ insert (after (R (1 ∷ []))) X ∷ []
 
-unplaced_behind_itself : IsUnplaced [] changes_behind_itself 1 0
-unplaced_behind_itself =
+unplaced_after_itself : IsUnplaced [] changes_after_itself 1 0
+unplaced_after_itself =
     (refl, λ place h. h.1 (StandsFor-unique [] nothing_rises (address (R (1 ∷ []))) place [] (address (R (1 ∷ []))) h.0.0 refl) refl)
 
 -- .. and it is the least such change, as the replacement has no owner
-first_unplaced_behind_itself : IsFirstUnplaced [] changes_behind_itself 1 0
-first_unplaced_behind_itself = record { unplaced = unplaced_behind_itself; first = earlier }
+first_unplaced_after_itself : IsFirstUnplaced [] changes_after_itself 1 0
+first_unplaced_after_itself = record { unplaced = unplaced_after_itself; first = earlier }
   where
-    earlier : (j e : ℕ) → j < 1 → IsUnplaced [] changes_behind_itself j e → ⊥
+    earlier : (j e : ℕ) → j < 1 → IsUnplaced [] changes_after_itself j e → ⊥
     earlier zero e h u = none-some e u.0
     earlier (suc j) e h u = omega (arith, h)
 
@@ -97,14 +97,14 @@ unplaced_where_the_owner_is_first = record { unplaced = (refl, λ place h. unmap
 unplaced_where_the_copy_is_the_payload : IsFirstUnplaced mapping_shared (insert (first_in (R (1 ∷ []))) X ∷ replace (R (1 ∷ [])) (N7 (1 ∷ [])) ∷ []) 0 1
 unplaced_where_the_copy_is_the_payload = record { unplaced = (refl, λ place h. no_place_where_the_copy_is_the_payload place h.0.0); first = λ j e h u. not_below_0 j h }
 
--- behind a replaced empty node, and first in a replaced root
-abbrev changes_behind_empty : List Change
-changes_behind_empty = replace (E (1 ∷ [])) V ∷ insert (after (E (1 ∷ []))) X ∷ []
+-- after a replaced empty node, and first in a replaced root
+abbrev changes_after_empty : List Change
+changes_after_empty = replace (E (1 ∷ [])) V ∷ insert (after (E (1 ∷ []))) X ∷ []
 
-unplaced_behind_a_replaced_empty_node : IsFirstUnplaced [] changes_behind_empty 1 0
-unplaced_behind_a_replaced_empty_node = record { unplaced = (refl, λ place h. unmapped (address V) (address (E (1 ∷ []))) one_not_six place h.0.0); first = earlier }
+unplaced_after_a_replaced_empty_node : IsFirstUnplaced [] changes_after_empty 1 0
+unplaced_after_a_replaced_empty_node = record { unplaced = (refl, λ place h. unmapped (address V) (address (E (1 ∷ []))) one_not_six place h.0.0); first = earlier }
   where
-    earlier : (j e : ℕ) → j < 1 → IsUnplaced [] changes_behind_empty j e → ⊥
+    earlier : (j e : ℕ) → j < 1 → IsUnplaced [] changes_after_empty j e → ⊥
     earlier zero e h u = none-some e u.0
     earlier (suc j) e h u = omega (arith, h)
 

@@ -11,7 +11,7 @@ use Rattle.edit_change.specs.Nesting.{Numbered}
 use Rattle.edit_steps.specs.Schedule.{ListsEachOnce, respects, owned_first, gap_first, token_first, IsAllowed, is_ready}
 use Rattle.edit_change.specs.declared.change.Change.{Change}
 use Rattle.edit_plan.proofs.RowChanges.{no_places}
-use Rattle.edit_plan.proofs.Rows.{changes_before_both_literals, changes_in_a_block, changes_in_a_wrapped_block, places_in_a_wrapped_block, changes_wrapping_twice, changes_behind_a_deleted_node, changes_behind_a_deleted_token, changes_in_one_gap, changes_of_a_comma}
+use Rattle.edit_plan.proofs.Rows.{changes_before_both_literals, changes_in_a_block, changes_in_a_wrapped_block, places_in_a_wrapped_block, changes_wrapping_twice, changes_after_a_deleted_node, changes_after_a_deleted_token, changes_in_one_gap, changes_of_a_comma}
 
 -- ---- orders
 abbrev only_one : ℕ → ℕ → Bool
@@ -27,7 +27,7 @@ owner_comes_last = refl
 two_gaps_in_any_order_below_an_owner : kept_by gap_first changes_in_a_wrapped_block ((0 ∷ 1 ∷ 2 ∷ []) ∷ (1 ∷ 0 ∷ 2 ∷ []) ∷ []) ≡ true ∷ true ∷ []
 two_gaps_in_any_order_below_an_owner = refl
 
-replaced_token_comes_last : kept_by token_first changes_behind_a_deleted_token ((1 ∷ 0 ∷ []) ∷ (0 ∷ 1 ∷ []) ∷ []) ≡ true ∷ false ∷ []
+replaced_token_comes_last : kept_by token_first changes_after_a_deleted_token ((1 ∷ 0 ∷ []) ∷ (0 ∷ 1 ∷ []) ∷ []) ≡ true ∷ false ∷ []
 replaced_token_comes_last = refl
 
 one_gap_from_the_back : kept_by gap_first changes_in_one_gap ((1 ∷ 0 ∷ []) ∷ (0 ∷ 1 ∷ []) ∷ []) ≡ true ∷ false ∷ []
@@ -49,8 +49,8 @@ default_from_the_back = refl
 default_in_a_wrapped_block : kept_by default_first changes_in_a_wrapped_block ((1 ∷ 0 ∷ 2 ∷ []) ∷ (0 ∷ 1 ∷ 2 ∷ []) ∷ []) ≡ true ∷ false ∷ []
 default_in_a_wrapped_block = refl
 
-default_behind_a_deleted_token : kept_by default_first changes_behind_a_deleted_token ((1 ∷ 0 ∷ []) ∷ (0 ∷ 1 ∷ []) ∷ []) ≡ true ∷ false ∷ []
-default_behind_a_deleted_token = refl
+default_after_a_deleted_token : kept_by default_first changes_after_a_deleted_token ((1 ∷ 0 ∷ []) ∷ (0 ∷ 1 ∷ []) ∷ []) ≡ true ∷ false ∷ []
+default_after_a_deleted_token = refl
 
 default_in_one_gap : kept_by default_first changes_in_one_gap ((1 ∷ 0 ∷ []) ∷ (0 ∷ 1 ∷ []) ∷ []) ≡ true ∷ false ∷ []
 default_in_one_gap = refl
@@ -69,10 +69,10 @@ different m n less e = omega (arith, less, e)
 no_change_is_left_out : ListsEachOnce changes_in_a_wrapped_block (0 ∷ 2 ∷ []) → ⊥
 no_change_is_left_out each = different 0 1 (omega arith) (each 1)
 
-dropped_change_is_left_out : ListsEachOnce changes_behind_a_deleted_node (0 ∷ [])
+dropped_change_is_left_out : ListsEachOnce changes_after_a_deleted_node (0 ∷ [])
 dropped_change_is_left_out n = refl
 
-dropped_change_in_no_order : ListsEachOnce changes_behind_a_deleted_node (0 ∷ 1 ∷ []) → ⊥
+dropped_change_in_no_order : ListsEachOnce changes_after_a_deleted_node (0 ∷ 1 ∷ []) → ⊥
 dropped_change_in_no_order each = different 0 1 (omega arith) (sym (each 1))
 
 -- ---- stages

@@ -44,7 +44,7 @@ use Rattle.edit_plan.specs.Run.{Run}
 use Rattle.edit_change.specs.inner.OwnerPlaces.{places_in, AimsFrom}
 use Rattle.edit_plan.specs.inner.PlanStages.{given_trees_of, told_done, IsRunning, run_of, AgreeOnPlaces, KeepsShapes}
 use Rattle.edit_plan.proofs.WholeWay.{way-whole}
-use Rattle.edit_plan.proofs.Running.{staged-agree, gives-trees, shows-tree, shows-payload, all-carried, none-told, one-more-told}
+use Rattle.edit_plan.proofs.StagesOfRuns.{staged-agree, gives-trees, shows-tree, shows-payload, all-carried, none-told, one-more-told}
 
 pub begun-running : (p : Plan) (s : Stages) → IsPlan p → Begins p.changes (subtree p.root) s → done_in s ≡ map (λ c. false) p.changes → IsRunning p s
 begun-running p s is begins none = record {

@@ -35,10 +35,10 @@ use Rattle.edit_change.proofs.Lists.{all_weaker}
 use Rattle.edit_change.proofs.GapRule.{gap_order-map}
 use Rattle.edit_change.proofs.RewrittenAlike.{rewritten-same}
 use Rattle.edit_change.proofs.Edits.{taken, filled, slot-filled}
-use Rattle.edit_change.proofs.Settled.{given_is, given_unique}
+use Rattle.edit_change.proofs.GivenTrees.{given_is, given_unique}
 use Rattle.edit_plan.proofs.Exchanged.{exchanged, exchanged-twice, nat_eq-exchanged, last_item-map, filter_map-option_map, slice_get-exchanged, any-exchanged, position-exchanged, kept-exchanged}
 use Rattle.edit_change.proofs.Relabelled.{relabelled-rewritten, map-rewritten_whole, paths-relabelled, holds-relabelled, relabelled-twice, topmost-relabelled}
-use Rattle.edit_change.proofs.Apart.{same_gap_from, start_of, starts, shared_from_start, shared_from_region, moved-same_gap, moved-start_of, owned_below}
+use Rattle.edit_change.proofs.AimsApart.{same_gap_from, start_of, starts, shared_from_start, shared_from_region, moved-same_gap, moved-start_of, owned_below}
 
 -- ---- the aims of the changes that pass
 abbrev selected : (Change → Bool) → (Change → Aim) → List (ℕ × Change) → List NumberedAim
@@ -64,12 +64,12 @@ any-selected passes h test i (c ∷ cs) =
       | false ↦ any-selected passes h test (i + 1) cs
     ]
 
-module _ (before : List Change) (c d : Change) (behind : List Change) (gaps : same_gap (aim c) (aim d) ≡ false) (targets_apart : shared_targets c d ≡ false) where
+module _ (before : List Change) (c d : Change) (after : List Change) (gaps : same_gap (aim c) (aim d) ≡ false) (targets_apart : shared_targets c d ≡ false) where
   abbrev old : List Change
-  old = before ++ c ∷ d ∷ behind
+  old = before ++ c ∷ d ∷ after
 
   abbrev new : List Change
-  new = before ++ d ∷ c ∷ behind
+  new = before ++ d ∷ c ∷ after
 
   abbrev moves : ℕ → ℕ
   moves n = exchanged (length before) n
@@ -78,14 +78,14 @@ module _ (before : List Change) (c d : Change) (behind : List Change) (gaps : sa
   moves-twice n = exchanged-twice (length before) n
 
   get-new : (n : ℕ) → slice_get new n ≡ slice_get old (moves n)
-  get-new n = ap (slice_get new) (sym (moves-twice n)) ∙ slice_get-exchanged c d behind before (moves n)
+  get-new n = ap (slice_get new) (sym (moves-twice n)) ∙ slice_get-exchanged c d after before (moves n)
 
   -- ---- nesting
   dropped-new : (x : Change) → is_dropped new x ≡ is_dropped old x
-  dropped-new x = any-exchanged c d behind (λ r. not (is_keeping r) && is_around r x) before
+  dropped-new x = any-exchanged c d after (λ r. not (is_keeping r) && is_around r x) before
 
   region_at-new : (p : Path) → region_at new p ≡ option_map moves (region_at old p)
-  region_at-new p = position-exchanged c d behind (λ r. has_path (region r) p) (λ h k. false≢true (sym targets_apart ∙ shared_from_region c d p h k)) before
+  region_at-new p = position-exchanged c d after (λ r. has_path (region r) p) (λ h k. false≢true (sym targets_apart ∙ shared_from_region c d p h k)) before
 
   owner-new : (x : Change) → owner new x ≡ option_map moves (owner old x)
   owner-new x =
@@ -115,11 +115,11 @@ module _ (before : List Change) (c d : Change) (behind : List Change) (gaps : sa
 
     numbers-new : (test : Aim → Bool) → (passes c ≡ true → passes d ≡ true → test (h c) ≡ true → test (h d) ≡ true → ⊥) → numbers (filter (λ e. test e.1) aims_new) ≡ map moves (numbers (filter (λ e. test e.1) aims_old))
     numbers-new test apart =
-        numbers-selected passes h test (enumerate_from 0 new) ∙ kept-exchanged c d behind (λ x. passes x && test (h x)) (λ k l. apart (and_parts _ _ k).0 (and_parts _ _ l).0 (and_parts (passes c) _ k).1 (and_parts (passes d) _ l).1) before ∙ ap (map moves) (sym (numbers-selected passes h test (enumerate_from 0 old)))
+        numbers-selected passes h test (enumerate_from 0 new) ∙ kept-exchanged c d after (λ x. passes x && test (h x)) (λ k l. apart (and_parts _ _ k).0 (and_parts _ _ l).0 (and_parts (passes c) _ k).1 (and_parts (passes d) _ l).1) before ∙ ap (map moves) (sym (numbers-selected passes h test (enumerate_from 0 old)))
 
     replaced-new : (p : Path) → is_replaced aims_new p ≡ is_replaced aims_old p
     replaced-new p =
-        any-selected passes h (replaces p) 0 new ∙ any-exchanged c d behind (λ x. passes x && replaces p (h x)) before ∙ sym (any-selected passes h (replaces p) 0 old)
+        any-selected passes h (replaces p) 0 new ∙ any-exchanged c d after (λ x. passes x && replaces p (h x)) before ∙ sym (any-selected passes h (replaces p) 0 old)
 
     flat_map-new : {L : Type 0} (g : ℕ → List (Tree L)) (ns : List ℕ) → flat_map g ns ≡ flat_map (λ n. g (moves n)) (map moves ns)
     flat_map-new g [] = refl
@@ -240,7 +240,7 @@ module _ (before : List Change) (c d : Change) (behind : List Change) (gaps : sa
     places-new are =
         All-from_recursion (FindsPlace m new (λ n. places (moves n))) new (all_exchanged (FindsPlace m new (λ n. places (moves n))) before (all_weaker (FindsPlace m old places) (FindsPlace m new (λ n. places (moves n))) old finds-new (recursion_from_All (FindsPlace m old places) old are)))
       where
-        all_exchanged : (P : Change → Type 0) (xs : List Change) → AllByRecursion P (xs ++ c ∷ d ∷ behind) → AllByRecursion P (xs ++ d ∷ c ∷ behind)
+        all_exchanged : (P : Change → Type 0) (xs : List Change) → AllByRecursion P (xs ++ c ∷ d ∷ after) → AllByRecursion P (xs ++ d ∷ c ∷ after)
         all_exchanged P [] a = (a.1.0, (a.0, a.1.1))
         all_exchanged P (x ∷ xs) a = (a.0, all_exchanged P xs a.1)
 
@@ -261,5 +261,5 @@ module _ (before : List Change) (c d : Change) (behind : List Change) (gaps : sa
     annotated_paths = r.annotated_paths;
     annotated_are = r.annotated_are;
     unregistered = r.unregistered;
-    annotated_is = λ tell. r.annotated_is (told-swapped p.root before c d behind (registered_elements p.registrations) p.mapping tell) ∙ sym (annotated-new p.mapping (registered_elements p.registrations) r.made);
+    annotated_is = λ tell. r.annotated_is (told-swapped p.root before c d after (registered_elements p.registrations) p.mapping tell) ∙ sym (annotated-new p.mapping (registered_elements p.registrations) r.made);
   }

@@ -12,7 +12,7 @@ use Rattle.edit_change.specs.NewTree.{OriginTree, origin, plain, change_aims, in
 use Rattle.edit_change.specs.RewritingLaws.{brought_text, text_filled}
 use Rattle.edit_change.specs.declared.change.Change.{Change}
 use Rattle.edit_change.proofs.Lists.{all_at}
-use Rattle.edit_change.proofs.Settled.{owns_nothing, plain-given}
+use Rattle.edit_change.proofs.GivenTrees.{owns_nothing, plain-given}
 use Rattle.edit_plan.proofs.Filled.{flat_map-text, text-relabelled, text-rewritten_whole}
 
 -- the independent ones are those that are not dropped

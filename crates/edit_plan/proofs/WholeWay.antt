@@ -19,16 +19,16 @@ use Rattle.edit_change.specs.declared.change.Change.{Change}
 use Rattle.edit_change.specs.declared.change.Change.TheVariants.{Replace}
 use Rattle.edit_steps.specs.StepCount.{step_builds}
 use Rattle.edit_change.specs.StagedChange.{staged_aim, tree_of}
-use Rattle.edit_change.proofs.Moved.{fit_at}
+use Rattle.edit_change.proofs.MovedAims.{fit_at}
 use Rattle.edit_steps.proofs.Altered.{native_node, target_native}
-use Rattle.edit_steps.proofs.Live.{free-live, owned-live, target-root, tree_of-free, tree_of-owned}
-use Rattle.edit_change.proofs.Owning.{owner-keeps}
+use Rattle.edit_steps.proofs.LiveAims.{free-live, owned-live, target-root, tree_of-free, tree_of-owned}
+use Rattle.edit_change.proofs.OwnersKeep.{owner-keeps}
 use Rattle.edit_change.specs.Places.{ArePlaces, HasPlace, elements_held}
 use Rattle.edit_plan.specs.Plan.{Plan, IsPlan, registered_elements}
 use Rattle.edit_plan.specs.Run.{way_length}
 use Rattle.edit_plan.specs.inner.PlanStages.{KeepsShapes}
-use Rattle.edit_plan.proofs.Running.{place-found}
-use Rattle.edit_plan.proofs.ToldTarget.{told-target}
+use Rattle.edit_plan.proofs.StagesOfRuns.{place-found}
+use Rattle.edit_plan.proofs.NumbersOfTarget.{told-target}
 
 abbrev pub KeepsTheShape : Type 0
 KeepsTheShape =

@@ -120,11 +120,11 @@ pub fn allowed_orders_agree()
 
 /// Swapping two neighbours that aim at different gaps and share no target changes nothing of the edit that a plan makes.
 pub fn neighbours_swap()
-    ensures { (before : List Change) (c d : Change) (behind : List Change)
+    ensures { (before : List Change) (c d : Change) (rest : List Change)
         → same_gap (aim c) (aim d) ≡ false → shared_targets c d ≡ false
         → (plan : Plan) (number : ℕ) (edit : Edit)
-        → Makes (with_changes plan (before ++ c ∷ d ∷ behind)) number edit
-        → Makes (with_changes plan (before ++ d ∷ c ∷ behind)) number edit }
+        → Makes (with_changes plan (before ++ c ∷ d ∷ rest)) number edit
+        → Makes (with_changes plan (before ++ d ∷ c ∷ rest)) number edit }
 {}
 
 /// A plan makes one tree. Any two edits that it makes under one tree number have the same new root and the same changed

@@ -55,7 +55,7 @@ fn place_of(
 }
 
 // Enters the place of an owner's target, where it has not been asked for before.
-fn settle(
+fn find_place(
     alloc: Global,
     mapping: &SyntaxMapping,
     changes: &[Change],
@@ -83,7 +83,7 @@ fn has_place(change: &Change, owner: &Change, place: &Option<Vec<usize>>) -> boo
     ensures { TellsPlace place.now owner.now change.now result }
 {
     match place {
-        Some(path) => !path.is_empty() || !change.is_behind(aim_path(owner)),
+        Some(path) => !path.is_empty() || !change.is_after(aim_path(owner)),
         None => false,
     }
 }
@@ -116,7 +116,7 @@ pub(crate) fn places(
     let mut places = no_places(alloc, changes.len())?;
     for number in 0..changes.len() {
         if let Some(owner) = owner_of(changes, fates, number) {
-            settle(alloc, mapping, changes, owner, &mut places)?;
+            find_place(alloc, mapping, changes, owner, &mut places)?;
             if !has_place(&changes[number], &changes[owner], &places[owner]) {
                 return Err(EditError::MissingMapping {
                     change: number,

@@ -8,7 +8,7 @@ use crate::annotation::SyntaxAnnotation;
 use crate::edit_error::EditError;
 use crate::places::places;
 use cst_core::{SyntaxElement, SyntaxNode};
-use edit_change::{Change, Fate, TargetIndex, fates};
+use edit_change::{Change, Fate, TargetTable, fates};
 use edit_map::SyntaxMapping;
 use std::alloc::Global;
 use std::marker::Model;
@@ -22,7 +22,7 @@ pub struct EditPlan {
     pub(crate) registrations: Vec<(SyntaxElement, SyntaxAnnotation)>,
     pub(crate) mapping: SyntaxMapping,
     // Which change replaces an element, by the element's path.
-    pub(crate) targets: TargetIndex,
+    pub(crate) targets: TargetTable,
     // What becomes of each change.
     pub(crate) fates: Vec<Fate>,
     // The place of each owner's target in its payload.
@@ -65,7 +65,7 @@ impl EditPlan {
     {
         // What is true of every mapping.
         let _ = mapping.len();
-        let targets = TargetIndex::of(alloc, &changes)?;
+        let targets = TargetTable::of(alloc, &changes)?;
         let fates = fates(alloc, &targets, &changes)?;
         let places = places(alloc, &changes, &fates, &mapping)?;
         Ok(EditPlan {

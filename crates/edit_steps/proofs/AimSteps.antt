@@ -20,7 +20,7 @@ use mathlib.Core.Path.{fun_ext}
 use lib.Pointwise.{pointwise_decides}
 use Rattle.green_tree.specs.Path.{Path, same_path, has_path, counted_from}
 use Rattle.green_tree.specs.Tree.{Forest, Node, SyntaxTree, trees, at}
-use Rattle.edit_change.specs.Aim.{Aim, FirstIn, Behind, Over, Gap, gap_of, aims_at_gap, starts_at, replaces}
+use Rattle.edit_change.specs.Aim.{Aim, FirstIn, AfterElement, Over, Gap, gap_of, aims_at_gap, starts_at, replaces}
 use Rattle.edit_change.specs.inner.KindOnly.{kind_only}
 use Rattle.edit_change.specs.Rewriting.{NumberedAim, numbers, inserts_at, replacements_at, is_replaced, gap_order, rewritten}
 use Rattle.edit_steps.specs.inner.Splices.{spliced, updated_at}
@@ -105,7 +105,7 @@ other_gap a p q i j h n = false_from_ne_true (aims_at_gap q j a) (λ k. n (one_g
 
 pub no_slot : (a : Aim) (p q : Path) (i : ℕ) → aims_at_gap p i a ≡ true → (replaces q a ≡ false) × (starts_at q a ≡ false)
 no_slot (FirstIn r) p q i h = (refl, refl)
-no_slot (Behind r) p q i h = (refl, refl)
+no_slot (AfterElement r) p q i h = (refl, refl)
 no_slot (Over rs) p q i h = absurd (false≢true h)
 
 -- an insert that is numbered before all others of its gap stands first in it
@@ -114,7 +114,7 @@ stands_first-least xs c ys p i here least = ap (λ ds. gap_order (numbers ds)) (
 
 pub starts-replaces : (q : Path) (a : Aim) → starts_at q a ≡ true → replaces q a ≡ true
 starts-replaces q (FirstIn r) h = h
-starts-replaces q (Behind r) h = h
+starts-replaces q (AfterElement r) h = h
 starts-replaces q (Over []) h = h
 starts-replaces q (Over (r ∷ rs)) h = or_left (same_path q r) (has_path rs q) h
 

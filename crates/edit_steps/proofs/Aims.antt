@@ -14,7 +14,7 @@ use mathlib.Core.Path.{fun_ext}
 use Rattle.green_tree.specs.Path.{Path, parent_path, last_slot}
 use Rattle.green_tree.specs.Tree.{Forest, Token, Node, SyntaxTree, is_token, trees, at}
 use Rattle.green_tree.proofs.Lookup.{at-append}
-use Rattle.edit_change.specs.Aim.{Aim, FirstIn, Behind, Over, aims_at_gap, starts_at, replaces, parents}
+use Rattle.edit_change.specs.Aim.{Aim, FirstIn, AfterElement, Over, aims_at_gap, starts_at, replaces, parents}
 use Rattle.edit_change.specs.Rewriting.{NumberedAim}
 use Rattle.edit_change.specs.declared.aimed.AimForm.{AimForm}
 use Rattle.edit_change.specs.declared.aimed.AimForm.TheVariants as form
@@ -113,7 +113,7 @@ few p i o h k f there =
 first_gap : (p : Path) → aims_at_gap p 0 (FirstIn p) ≡ true
 first_gap p = ap (λ b. b && true) (same_path_from p p refl)
 
-next_gap : (i : ℕ) (q : Path) → aims_at_gap (parent_path (i ∷ q)) (suc (last_slot (i ∷ q))) (Behind (i ∷ q)) ≡ true
+next_gap : (i : ℕ) (q : Path) → aims_at_gap (parent_path (i ∷ q)) (suc (last_slot (i ∷ q))) (AfterElement (i ∷ q)) ≡ true
 next_gap i q =
     let p = parent_path (i ∷ q) in
     let g = suc (last_slot (i ∷ q)) in
@@ -149,12 +149,12 @@ module _ (t : SyntaxTree) (i : ℕ) (q : Path) where
   some-child : (c : Child) → child_at t (i ∷ q) ≡ Some c → is_child t (i ∷ q) ≡ true
   some-child c h = child-live t i q ∙ ap is_some h
 
-  found-behind : (b : Site) (o : Option Child) → child_at t (i ∷ q) ≡ o → option_map (λ c. (c.parent, Gap (suc c.slot))) o ≡ Some b → IsLive t (Behind (i ∷ q)) b.0 b.1
-  found-behind b None was h = cc
-  found-behind b (Some c) was h =
+  found-after : (b : Site) (o : Option Child) → child_at t (i ∷ q) ≡ o → option_map (λ c. (c.parent, Gap (suc c.slot))) o ≡ Some b → IsLive t (AfterElement (i ∷ q)) b.0 b.1
+  found-after b None was h = cc
+  found-after b (Some c) was h =
       let found = is-found t parent last c (at t parent) refl was in
       let whole : ◌≡◌ {A = Site} (c.parent, Gap (suc c.slot)) (parent, Gap (suc last)) = ap (λ x. (x.parent, Gap (suc x.slot))) found.is in
-      let here : IsLive t (Behind (i ∷ q)) parent (Gap (suc last)) = record {
+      let here : IsLive t (AfterElement (i ∷ q)) parent (Gap (suc last)) = record {
         kind = found.kind;
         children = found.children;
         there = found.there;
@@ -162,7 +162,7 @@ module _ (t : SyntaxTree) (i : ℕ) (q : Path) where
         reaches = (next_gap i q, omega (arith, found.within));
         live = some-child c was;
       } in
-      subst (λ x. IsLive t (Behind (i ∷ q)) x.0 x.1) (sym whole ∙ same_Some (c.parent, Gap (suc c.slot)) b h) here
+      subst (λ x. IsLive t (AfterElement (i ∷ q)) x.0 x.1) (sym whole ∙ same_Some (c.parent, Gap (suc c.slot)) b h) here
 
   found-over : (n : ℕ) (b : Site) (o : Option Child) → child_at t (i ∷ q) ≡ o → option_map (λ c. (c.parent, Slots c.slot (min (suc n) c.left))) o ≡ Some b → IsLive t (Over (range parent last (suc n))) b.0 b.1
   found-over n b None was h = cc
@@ -191,8 +191,8 @@ module _ (t : SyntaxTree) (i : ℕ) (q : Path) where
 
 pub found-live : (t : SyntaxTree) (p : Path) (w : AimForm) (b : Site) → live_target t p w ≡ Some b → IsLive t (aim_in p w) b.0 b.1
 found-live t p form.FirstIn b h = found-first t p b (at t p) refl h
-found-live t [] form.Behind b h = cc
-found-live t (i ∷ q) form.Behind b h = found-behind t i q b (child_at t (i ∷ q)) refl h
+found-live t [] form.AfterElement b h = cc
+found-live t (i ∷ q) form.AfterElement b h = found-after t i q b (child_at t (i ∷ q)) refl h
 found-live t p (form.Over zero) b h = cc
 found-live t [] (form.Over (suc n)) b h = cc
 found-live t (i ∷ q) (form.Over (suc n)) b h = found-over t i q n b (child_at t (i ∷ q)) refl h
@@ -205,8 +205,8 @@ none-mapped f (Some x) h = cc
 -- so it is not live
 pub found-none : (t : SyntaxTree) (p : Path) (w : AimForm) → live_target t p w ≡ None → is_live t (aim_in p w) ≡ false
 found-none t p form.FirstIn h = first-live (at t p) ∙ ap is_some (none-mapped (λ n. (p, Gap 0)) (child_count t p) h)
-found-none t [] form.Behind h = refl
-found-none t (i ∷ q) form.Behind h = child-live t i q ∙ ap is_some (none-mapped (λ c. (c.parent, Gap (suc c.slot))) (child_at t (i ∷ q)) h)
+found-none t [] form.AfterElement h = refl
+found-none t (i ∷ q) form.AfterElement h = child-live t i q ∙ ap is_some (none-mapped (λ c. (c.parent, Gap (suc c.slot))) (child_at t (i ∷ q)) h)
 found-none t [] (form.Over zero) h = refl
 found-none t (i ∷ q) (form.Over zero) h = refl
 found-none t [] (form.Over (suc n)) h = refl
@@ -260,9 +260,9 @@ module _ (t : SyntaxTree) (given : ℕ → List SyntaxTree) (xs : List NumberedA
   found-dead p form.FirstIn is h =
       let none = none-mapped (λ n. (p, Gap 0)) (child_count t p) h in
       (p, dead-gap p 0 (ap (aims_at_gap p 0) is ∙ first_gap p) (λ k f there. absurd (no_node (at t p) none k f there)))
-  found-dead [] form.Behind is h =
+  found-dead [] form.AfterElement is h =
       ([], quiet (λ q j. ap (aims_at_gap q j) is) (λ q j. (ap (replaces (q ++ j ∷ [])) is, ap (starts_at (q ++ j ∷ [])) is)))
-  found-dead (i ∷ q) form.Behind is h =
+  found-dead (i ∷ q) form.AfterElement is h =
       let p = parent_path (i ∷ q) in
       let s = last_slot (i ∷ q) in
       let none = none-mapped (λ c. (c.parent, Gap (suc c.slot))) (child_at t (i ∷ q)) h in

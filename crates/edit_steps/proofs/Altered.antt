@@ -23,7 +23,7 @@ use Rattle.cst_core.specs.declared.element.SyntaxElement.{SyntaxElement}
 use Rattle.cst_core.specs.declared.element.SyntaxElement.TheVariants.{Node, Token}
 use Rattle.cst_core.proofs.LastSlot.{parent-and-slot, parent_path-push}
 use Rattle.green_tree.proofs.Lookup.{IsNodeThere, at_front, at_parent}
-use Rattle.edit_change.specs.Aim.{Behind, Over, replaces, parents}
+use Rattle.edit_change.specs.Aim.{AfterElement, Over, replaces, parents}
 use Rattle.edit_change.specs.ChangeAim.{position_aim, aim}
 use Rattle.edit_change.specs.Fits.{Fits, is_native, is_native_position, is_range, have_one_path}
 use Rattle.edit_change.specs.Nesting.{region, surroundings}
@@ -34,8 +34,8 @@ use Rattle.edit_change.specs.declared.change.Change.TheVariants.{Insert, InsertA
 use Rattle.edit_change.specs.declared.position.Position.{Position}
 use Rattle.edit_change.proofs.Aiming.{range-has-parent}
 use Rattle.edit_change.proofs.Paths.{same_path-true, same_path_from}
-use Rattle.edit_change.proofs.Apart.{has_own, only_one}
-use Rattle.edit_change.proofs.Owning.{has_left}
+use Rattle.edit_change.proofs.AimsApart.{has_own, only_one}
+use Rattle.edit_change.proofs.OwnersKeep.{has_left}
 
 -- ---- paths on the way
 has-map : (i : ℕ) (p : Path) (ps : List Path) → has_path ps p ≡ true → has_path (map (λ q. i ∷ q) ps) (i ∷ p) ≡ true
@@ -78,11 +78,11 @@ one_item q r e = cc
 pub no_item : (q : Path) → ◌≡◌ {A = List Path} [] (q ∷ []) → ⊥
 no_item q e = cc
 
-pub parents-inv : (z p : Path) → parents (Behind z) ≡ p ∷ [] → (k : ℕ) × (z ≡ p ++ k ∷ [])
+pub parents-inv : (z p : Path) → parents (AfterElement z) ≡ p ∷ [] → (k : ℕ) × (z ≡ p ++ k ∷ [])
 parents-inv [] p h = absurd (no_item p h)
 parents-inv (i ∷ z) p h = (last_slot (i ∷ z), parent-and-slot i z ∙ ap (λ q. q ++ last_slot (i ∷ z) ∷ []) (one_item (parent_path (i ∷ z)) p h))
 
-pub parents-push : (p : Path) (k : ℕ) → parents (Behind (p ++ k ∷ [])) ≡ p ∷ []
+pub parents-push : (p : Path) (k : ℕ) → parents (AfterElement (p ++ k ∷ [])) ≡ p ∷ []
 parents-push [] k = refl
 parents-push (i ∷ p) k = ap (λ q. q ∷ []) (parent_path-push (i ∷ p) k)
 

@@ -9,7 +9,7 @@ use Rattle.std.proofs.lemmas.List.{append_assoc}
 use mathlib.Core.Logic.{inl, inr}
 use Rattle.cst_core.specs.Path.{Path, same_path, has_path, parent_path, last_slot, counted_from}
 use Rattle.cst_core.specs.SyntaxElement.{element_of}
-use Rattle.edit_change.specs.Aim.{Aim, FirstIn, Behind, Over, replaces}
+use Rattle.edit_change.specs.Aim.{Aim, FirstIn, AfterElement, Over, replaces}
 use Rattle.edit_change.specs.ChangeAim.{aim}
 use Rattle.edit_change.specs.Nesting.{surroundings}
 use Rattle.edit_change.specs.PositionForm.{FirstChild, After}
@@ -17,7 +17,7 @@ use Rattle.edit_change.specs.declared.change.Change.{Change}
 use Rattle.edit_change.specs.declared.change.Change.TheVariants.{Insert, InsertAll, Replace, ReplaceWithMany, ReplaceAll}
 use Rattle.edit_change.proofs.Paths.{same_path-true}
 use Rattle.edit_change.specs.NewTree.{moved_path, moved_aim}
-use Rattle.edit_change.proofs.Apart.{has_own, above_is_under, only_one}
+use Rattle.edit_change.proofs.AimsApart.{has_own, above_is_under, only_one}
 
 abbrev pub IsStrictlyUnder : Path → Path → Type 0
 IsStrictlyUnder n p = (i : ℕ) × (r : Path) × (p ≡ n ++ i ∷ r)
@@ -74,5 +74,5 @@ moved_in n q (p ∷ ps) x h =
 
 pub moved_replaces : (n q : Path) (a : Aim) (x : Path) → replaces x (moved_aim n q a) ≡ true → ComesFrom n q a x
 moved_replaces n q (FirstIn p) x h = absurd (false≢true h)
-moved_replaces n q (Behind p) x h = absurd (false≢true h)
+moved_replaces n q (AfterElement p) x h = absurd (false≢true h)
 moved_replaces n q (Over ps) x h = moved_in n q ps x h

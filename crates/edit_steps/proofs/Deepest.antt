@@ -23,7 +23,7 @@ use Rattle.edit_change.proofs.Around.{is_some-position}
 use Rattle.edit_change.proofs.Lists.{all-append, all_weaker}
 use Rattle.edit_change.proofs.Owners.{owner_cases}
 use Rattle.edit_change.proofs.Paths.{same_path-true}
-use Rattle.edit_change.proofs.Apart.{only_one, IsOwned}
+use Rattle.edit_change.proofs.AimsApart.{only_one, IsOwned}
 
 -- ---- a last item
 last_cons : {X : Type 0} (x : X) (xs : List X) → is_none (last_item (x ∷ xs)) ≡ false

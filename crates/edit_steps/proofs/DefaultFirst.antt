@@ -24,10 +24,10 @@ use Rattle.edit_change.proofs.Owners.{HasRegion, owner_from, owner_region}
 use Rattle.edit_change.proofs.Paths.{same_path-true}
 use Rattle.edit_steps.specs.Schedule.{respects, stands_last, owned_first, gap_first, token_first, token_before, anchor_token}
 use Rattle.edit_steps.specs.DefaultOrder.{gap_path, document_path, fills_gap, stands_ahead, default_first}
-use Rattle.edit_steps.proofs.Carried.{replaces-targets}
+use Rattle.edit_steps.proofs.LinkTables.{replaces-targets}
 use Rattle.edit_steps.proofs.Gaps.{same_gap-sym}
 use Rattle.edit_steps.proofs.Orders.{respects_to, respects_from}
-use Rattle.edit_steps.proofs.PathOrder.{precedes-self, all-above, all-up_to, before-first, before-next, range-behind}
+use Rattle.edit_steps.proofs.PathOrder.{precedes-self, all-above, all-up_to, before-first, before-next, range-after}
 
 -- ---- what stands ahead
 path-ahead : (c d : Numbered) → precedes (document_path d.1) (document_path c.1) ≡ true → default_first c d ≡ true
@@ -35,20 +35,20 @@ path-ahead c d h =
     or_left (stands_ahead d.1 c.1) (not (stands_ahead c.1 d.1) && stands_last c.0 d.0) (or_left (precedes (document_path d.1) (document_path c.1)) (same_path (document_path d.1) (document_path c.1) && (fills_gap d.1 && not (fills_gap c.1))) h)
 
 -- what a replacement replaces does not stand before the path that the change has
-one-behind : (p q : Path) → has_path (p ∷ []) q ≡ true → (r : Path) → precedes q r ≡ true → precedes p r ≡ true
-one-behind p q h r k =
+one-after : (p q : Path) → has_path (p ∷ []) q ≡ true → (r : Path) → precedes q r ≡ true → precedes p r ≡ true
+one-after p q h r k =
     elim (or_cases (same_path q p) false h) [
       | inl here ↦ ap (λ x. precedes x r) (sym (same_path-true q p here)) ∙ k
       | inr none ↦ absurd (false≢true none)
     ]
 
-targets-behind : (d : Change) (q : Path) → has_path (targets d) q ≡ true → (r : Path) → precedes q r ≡ true → precedes (document_path d) r ≡ true
-targets-behind (Insert at e) q h = absurd (false≢true h)
-targets-behind (InsertAll at es) q h = absurd (false≢true h)
-targets-behind (Replace t e) q h = one-behind (element_of t).path q h
-targets-behind (ReplaceWithMany t es) q h = one-behind (element_of t).path q h
-targets-behind (ReplaceAll first last es) q h =
-    range-behind (element_of first).path (last_slot (element_of first).path) (suc (last_slot (element_of last).path) - last_slot (element_of first).path) q (omega arith) h
+targets-after : (d : Change) (q : Path) → has_path (targets d) q ≡ true → (r : Path) → precedes q r ≡ true → precedes (document_path d) r ≡ true
+targets-after (Insert at e) q h = absurd (false≢true h)
+targets-after (InsertAll at es) q h = absurd (false≢true h)
+targets-after (Replace t e) q h = one-after (element_of t).path q h
+targets-after (ReplaceWithMany t es) q h = one-after (element_of t).path q h
+targets-after (ReplaceAll first last es) q h =
+    range-after (element_of first).path (last_slot (element_of first).path) (suc (last_slot (element_of last).path) - last_slot (element_of first).path) q (omega arith) h
 
 region-target : (d : Change) (q : Path) → has_path (region d) q ≡ true → has_path (targets d) q ≡ true
 region-target (Insert at e) q h = h
@@ -76,7 +76,7 @@ owned-default cs n m c d is_d owned =
     let P : Path → Type 0 = λ q. precedes q (document_path c) ≡ true in
     let found : HasRegion P cs m = owner_region P cs c m (surroundings-ahead c) (owner_from cs m c owned) in
     let same : found.0 ≡ d = same_Some found.0 d (sym found.2 ∙ is_d) in
-    let ahead : precedes (document_path found.0) (document_path c) ≡ true = targets-behind found.0 found.1 (region-target found.0 found.1 found.3) (document_path c) found.4 in
+    let ahead : precedes (document_path found.0) (document_path c) ≡ true = targets-after found.0 found.1 (region-target found.0 found.1 found.3) (document_path c) found.4 in
     path-ahead (n, c) (m, d) (ap (λ x. precedes (document_path x) (document_path c)) (sym same) ∙ ahead)
 
 -- ---- gaps
@@ -127,7 +127,7 @@ token-default c d h = path-ahead c d (ahead c.1 h)
     at-token : (at : Position) → option_map_or (λ p. replaces p (aim d.1)) (token_before at) false ≡ true → precedes (document_path d.1) (gap_path at) ≡ true
     at-token (FirstChild n) k = absurd (false≢true k)
     at-token (After (Node n)) k = absurd (false≢true k)
-    at-token (After (Token t)) k = targets-behind d.1 t.path (sym (replaces-targets t.path d.1) ∙ k) (gap_path (After (Token t))) (before-next t.path)
+    at-token (After (Token t)) k = targets-after d.1 t.path (sym (replaces-targets t.path d.1) ∙ k) (gap_path (After (Token t))) (before-next t.path)
 
     ahead : (e : Change) → option_map_or (λ p. replaces p (aim d.1)) (anchor_token e) false ≡ true → precedes (document_path d.1) (document_path e) ≡ true
     ahead (Insert at e) k = at-token at k

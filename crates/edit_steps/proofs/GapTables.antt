@@ -1,5 +1,5 @@
 -- A number put into a table of gaps.
---     put_at-first, put_at-behind   at a gap of either form
+--     put_at-first, put_at-after   at a gap of either form
 --     some-mapped                   an option with its value exchanged
 use Rattle.std.specs.Prelude.{◌≡◌, ℕ, true, false, cond, List, Option, Some, None, Vec, option_map, is_some, refl}
 use Rattle.std.specs.Global.{Global}
@@ -7,7 +7,7 @@ use Rattle.std.specs.Map.{lookup, KeepsOthers}
 use Rattle.std.proofs.Common.{ap, sym, ◌∙◌}
 use Rattle.std.proofs.lemmas.Bool.{false≢true, true≢false}
 use Rattle.cst_core.specs.Path.{Path, same_path}
-use Rattle.edit_change.specs.Aim.{FirstIn, Behind, Over}
+use Rattle.edit_change.specs.Aim.{FirstIn, AfterElement, Over}
 use Rattle.edit_change.specs.ChangeAim.{position_aim}
 use Rattle.edit_change.specs.Position.{anchor, first_of}
 use Rattle.edit_change.specs.PositionForm.{FirstChild, After}
@@ -29,23 +29,23 @@ module _ (before after : GapTable) (k : Vec ℕ Global) (n : ℕ) where
   number-put old new into p q is =
       put old new k n into.0 into.1 q ∙ ap (λ b. cond b (Some n) (lookup (λ x. same_path q x.items) old)) (ap (same_path q) is ∙ turned q p)
 
-  put-first : (p : Path) → k.items ≡ p → after.behind ≡ before.behind → PutInto before.first.entries after.first.entries → IsPut before after (FirstIn p) n
+  put-first : (p : Path) → k.items ≡ p → after.after_element ≡ before.after_element → PutInto before.first.entries after.first.entries → IsPut before after (FirstIn p) n
   put-first p is stays into (FirstIn q) = number-put before.first.entries after.first.entries into p q is
-  put-first p is stays into (Behind q) = ap (λ m. gap_entry (record { first = after.first; behind = m }) (Behind q)) stays
+  put-first p is stays into (AfterElement q) = ap (λ m. gap_entry (record { first = after.first; after_element = m }) (AfterElement q)) stays
   put-first p is stays into (Over qs) = refl
 
-  put-behind : (p : Path) → k.items ≡ p → after.first ≡ before.first → PutInto before.behind.entries after.behind.entries → IsPut before after (Behind p) n
-  put-behind p is stays into (FirstIn q) = ap (λ m. gap_entry (record { first = m; behind = after.behind }) (FirstIn q)) stays
-  put-behind p is stays into (Behind q) = number-put before.behind.entries after.behind.entries into p q is
-  put-behind p is stays into (Over qs) = refl
+  put-after : (p : Path) → k.items ≡ p → after.first ≡ before.first → PutInto before.after_element.entries after.after_element.entries → IsPut before after (AfterElement p) n
+  put-after p is stays into (FirstIn q) = ap (λ m. gap_entry (record { first = m; after_element = after.after_element }) (FirstIn q)) stays
+  put-after p is stays into (AfterElement q) = number-put before.after_element.entries after.after_element.entries into p q is
+  put-after p is stays into (Over qs) = refl
 
-  pub put_at-first : (position : Position) → is_some (first_of position) ≡ true → k.items ≡ (anchor position).path → after.behind ≡ before.behind → PutInto before.first.entries after.first.entries → IsPut before after (position_aim position) n
+  pub put_at-first : (position : Position) → is_some (first_of position) ≡ true → k.items ≡ (anchor position).path → after.after_element ≡ before.after_element → PutInto before.first.entries after.first.entries → IsPut before after (position_aim position) n
   put_at-first (FirstChild e) h is stays into = put-first e.path is stays into
   put_at-first (After e) h is stays into = absurd (false≢true h)
 
-  pub put_at-behind : (position : Position) → is_some (first_of position) ≡ false → k.items ≡ (anchor position).path → after.first ≡ before.first → PutInto before.behind.entries after.behind.entries → IsPut before after (position_aim position) n
-  put_at-behind (FirstChild e) h is stays into = absurd (true≢false h)
-  put_at-behind (After e) h is stays into = put-behind (anchor (After e)).path is stays into
+  pub put_at-after : (position : Position) → is_some (first_of position) ≡ false → k.items ≡ (anchor position).path → after.first ≡ before.first → PutInto before.after_element.entries after.after_element.entries → IsPut before after (position_aim position) n
+  put_at-after (FirstChild e) h is stays into = absurd (true≢false h)
+  put_at-after (After e) h is stays into = put-after (anchor (After e)).path is stays into
 
 pub some-mapped : {X Y : Type 0} (f : X → Y) (o : Option X) → is_some (option_map f o) ≡ is_some o
 some-mapped f None = refl

@@ -9,7 +9,7 @@ use Rattle.std.proofs.Common.{ap, sym, subst, ◌∙◌, arith}
 use Rattle.std.proofs.lemmas.Bool.{and_parts, and_from, false≢true, eqb-true, eqb-false, eq-eqb, ne_eqb, not-true, not_from_false, lt-ltb, ltb-true}
 use Rattle.std.proofs.lemmas.List.{append-nil, reverse-append}
 use Rattle.std.proofs.lemmas.Option.{slice_get_within, get_or_from_slice_get}
-use Rattle.edit_change.specs.Aim.{Aim, FirstIn, Behind, Over, same_gap}
+use Rattle.edit_change.specs.Aim.{Aim, FirstIn, AfterElement, Over, same_gap}
 use Rattle.edit_change.specs.ChangeAim.{aim}
 use Rattle.edit_change.specs.Nesting.{is_dropped, Numbered}
 use Rattle.edit_change.specs.declared.change.Change.{Change}
@@ -52,20 +52,20 @@ gap_first_from c d gap l =
 -- ---- one gap
 pub same_gap-sym : (a b : Aim) → same_gap a b ≡ true → same_gap b a ≡ true
 same_gap-sym (FirstIn p) (FirstIn q) h = same_path_from q p (sym (same_path-true p q h))
-same_gap-sym (FirstIn p) (Behind q) h = absurd (false≢true h)
+same_gap-sym (FirstIn p) (AfterElement q) h = absurd (false≢true h)
 same_gap-sym (FirstIn p) (Over qs) h = absurd (false≢true h)
-same_gap-sym (Behind p) (FirstIn q) h = absurd (false≢true h)
-same_gap-sym (Behind p) (Behind q) h = same_path_from q p (sym (same_path-true p q h))
-same_gap-sym (Behind p) (Over qs) h = absurd (false≢true h)
+same_gap-sym (AfterElement p) (FirstIn q) h = absurd (false≢true h)
+same_gap-sym (AfterElement p) (AfterElement q) h = same_path_from q p (sym (same_path-true p q h))
+same_gap-sym (AfterElement p) (Over qs) h = absurd (false≢true h)
 same_gap-sym (Over ps) b h = absurd (false≢true h)
 
 pub same_gap-trans : (a b c : Aim) → same_gap a b ≡ true → same_gap b c ≡ true → same_gap a c ≡ true
 same_gap-trans (FirstIn p) (FirstIn q) c h k = subst (λ x. same_gap (FirstIn x) c ≡ true) (sym (same_path-true p q h)) k
-same_gap-trans (FirstIn p) (Behind q) c h k = absurd (false≢true h)
+same_gap-trans (FirstIn p) (AfterElement q) c h k = absurd (false≢true h)
 same_gap-trans (FirstIn p) (Over qs) c h k = absurd (false≢true h)
-same_gap-trans (Behind p) (FirstIn q) c h k = absurd (false≢true h)
-same_gap-trans (Behind p) (Behind q) c h k = subst (λ x. same_gap (Behind x) c ≡ true) (sym (same_path-true p q h)) k
-same_gap-trans (Behind p) (Over qs) c h k = absurd (false≢true h)
+same_gap-trans (AfterElement p) (FirstIn q) c h k = absurd (false≢true h)
+same_gap-trans (AfterElement p) (AfterElement q) c h k = subst (λ x. same_gap (AfterElement x) c ≡ true) (sym (same_path-true p q h)) k
+same_gap-trans (AfterElement p) (Over qs) c h k = absurd (false≢true h)
 same_gap-trans (Over ps) b c h k = absurd (false≢true h)
 
 -- ---- the next insert of a gap

@@ -5,14 +5,14 @@
 --     moved-nowhere, independents-moved      those without an owner are moved nowhere
 --     IsFromTarget, from_target     what a moved aim replaces, but the top, comes from strictly below that path
 --     unmoved_parents               the node that a moved aim alters, in the old tree
---     one_anchor, unmoved_behind    a moved aim behind an element, in the old tree
+--     one_anchor, unmoved_after    a moved aim after an element, in the old tree
 use Rattle.std.specs.Prelude.{◌≡◌, ℕ, ◌<◌, Bool, true, false, not, List, [], ◌∷◌, ◌++◌, length, map, filter, slice_get, unwrap_or, Some, is_none, refl}
 use Rattle.std.specs.List.{enumerate_from}
 use Rattle.std.proofs.Common.{ap, ap₂, sym, subst, ◌∙◌, arith}
 use Rattle.std.proofs.lemmas.Bool.{and_parts, not-true}
 use Rattle.std.proofs.lemmas.List.{append-nil, append_assoc, append_cancel_left, length-append}
 use Rattle.cst_core.specs.Path.{Path, has_path, first_item}
-use Rattle.edit_change.specs.Aim.{Aim, FirstIn, Behind, Over, replaces, parents}
+use Rattle.edit_change.specs.Aim.{Aim, FirstIn, AfterElement, Over, replaces, parents}
 use Rattle.edit_change.specs.Rewriting.{NumberedAim}
 use Rattle.edit_change.specs.ChangeAim.{aim}
 use Rattle.edit_change.specs.Nesting.{region, surroundings, is_dropped, owner, is_independent, has_owner}
@@ -20,7 +20,7 @@ use Rattle.edit_change.specs.declared.change.Change.{Change}
 use Rattle.edit_change.proofs.Owners.{owner_cases, owner_from}
 use Rattle.edit_change.specs.NewTree.{targets_of, moved_path, moved_aim, change_aims, independents}
 use Rattle.edit_steps.proofs.Altered.{one_item, no_item, parents-inv, parents-push}
-use Rattle.edit_change.proofs.Apart.{IsUnder, IsBelow, moved-path, owned-at, owned_below}
+use Rattle.edit_change.proofs.AimsApart.{IsUnder, IsBelow, moved-path, owned-at, owned_below}
 use Rattle.edit_steps.proofs.Below.{targets_under, ComesFrom, moved_replaces}
 use Rattle.edit_steps.proofs.Deepest.{unowned, owned-deepest}
 
@@ -36,7 +36,7 @@ pub record IsGroup (cs : List Change) (ours : Change → Bool) (n q : Path) : Ty
 -- ---- without an owner
 below_top : (a : Aim) → IsBelow [] a
 below_top (FirstIn p) = (p, refl)
-below_top (Behind p) = (p, refl)
+below_top (AfterElement p) = (p, refl)
 below_top (Over []) = tt
 below_top (Over (p ∷ ps)) = (p, refl)
 
@@ -74,7 +74,7 @@ group_aims cs ours n q =
 
 pub moved-nowhere : (a : Aim) → moved_aim [] [] a ≡ a
 moved-nowhere (FirstIn p) = refl
-moved-nowhere (Behind p) = refl
+moved-nowhere (AfterElement p) = refl
 moved-nowhere (Over ps) = ap Over (go ps)
   where
     go : (ps : List Path) → map (moved_path [] []) ps ≡ ps
@@ -108,27 +108,27 @@ module _ (cs : List Change) (ours : Change → Bool) (n q : Path) (group : IsGro
           absurd (no_top (e ∙ append-nil q ∙ group.top d h (ap (λ y. replaces y (aim d)) (sym (append-nil n)) ∙ k)))
 
 -- the parent of a path below n is moved with it
-unmoved_parent : (n q z s : Path) → IsUnder n z → parents (Behind (moved_path n q z)) ≡ (q ++ s) ∷ [] → parents (Behind z) ≡ (n ++ s) ∷ []
+unmoved_parent : (n q z s : Path) → IsUnder n z → parents (AfterElement (moved_path n q z)) ≡ (q ++ s) ∷ [] → parents (AfterElement z) ≡ (n ++ s) ∷ []
 unmoved_parent n q z s u h =
     let back = parents-inv (moved_path n q z) (q ++ s) h in
     let tails : u.0 ≡ s ++ back.0 ∷ [] = append_cancel_left q u.0 (s ++ back.0 ∷ []) (sym (moved-path n q z u) ∙ back.1 ∙ append_assoc q s (back.0 ∷ [])) in
     let whole : z ≡ (n ++ s) ++ back.0 ∷ [] = u.1 ∙ ap (λ t. n ++ t) tails ∙ sym (append_assoc n s (back.0 ∷ [])) in
-    ap (λ y. parents (Behind y)) whole ∙ parents-push (n ++ s) back.0
+    ap (λ y. parents (AfterElement y)) whole ∙ parents-push (n ++ s) back.0
 
 pub unmoved_parents : (n q : Path) (a : Aim) (s : Path) → IsBelow n a → parents (moved_aim n q a) ≡ (q ++ s) ∷ [] → parents a ≡ (n ++ s) ∷ []
 unmoved_parents n q (FirstIn z) s u h =
     let tails : u.0 ≡ s = append_cancel_left q u.0 s (sym (moved-path n q z u) ∙ one_item (moved_path n q z) (q ++ s) h) in
     ap (λ y. y ∷ []) (u.1 ∙ ap (λ t. n ++ t) tails)
-unmoved_parents n q (Behind z) s u h = unmoved_parent n q z s u h
+unmoved_parents n q (AfterElement z) s u h = unmoved_parent n q z s u h
 unmoved_parents n q (Over []) s u h = absurd (no_item (q ++ s) h)
 unmoved_parents n q (Over (z ∷ zs)) s u h = unmoved_parent n q z s u h
 
-pub one_anchor : (y r : Path) → Behind y ≡ Behind r → y ≡ r
+pub one_anchor : (y r : Path) → AfterElement y ≡ AfterElement r → y ≡ r
 one_anchor y r same = cc
 
-pub unmoved_behind : (n q : Path) (a : Aim) (x t : Path) → IsBelow n a → moved_aim n q a ≡ Behind x → x ≡ q ++ t → a ≡ Behind (n ++ t)
-unmoved_behind n q (FirstIn z) x t u h e = cc
-unmoved_behind n q (Behind z) x t u h e =
+pub unmoved_after : (n q : Path) (a : Aim) (x t : Path) → IsBelow n a → moved_aim n q a ≡ AfterElement x → x ≡ q ++ t → a ≡ AfterElement (n ++ t)
+unmoved_after n q (FirstIn z) x t u h e = cc
+unmoved_after n q (AfterElement z) x t u h e =
     let tails : u.0 ≡ t = append_cancel_left q u.0 t (sym (moved-path n q z u) ∙ one_anchor (moved_path n q z) x h ∙ e) in
-    ap Behind (u.1 ∙ ap (λ r. n ++ r) tails)
-unmoved_behind n q (Over zs) x t u h e = cc
+    ap AfterElement (u.1 ∙ ap (λ r. n ++ r) tails)
+unmoved_after n q (Over zs) x t u h e = cc

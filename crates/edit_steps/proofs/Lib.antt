@@ -2,38 +2,38 @@ mod AimSteps
 mod Aims
 pub mod AllowedSteps
 pub mod Altered
-mod Begun
+mod FirstStages
 pub mod Below
-mod Carried
+mod LinkTables
 mod Completeness
 mod Counting
 mod CurrentPaths
-mod Dead
-mod Decided
+mod DeadEdits
+mod TestsOfLinks
 pub mod Deepest
 mod DefaultFirst
 mod EachOnce
 mod GapTables
 mod Gaps
-mod GroupNext
+mod NextInGroup
 pub mod Groups
-mod Keyed
+mod DoneByPath
 mod Links
-pub mod Live
-mod Next
+pub mod LiveAims
+mod NextAims
 pub mod Ordered
 mod Orders
 mod PathOrder
 mod Putting
 mod Readiness
-mod Replaced
+mod ReplacedRoot
 mod Rows
 pub mod Splits
 mod Stepping
 mod Steps
 mod Tables
-mod Taken
-pub mod Taking
+mod StepOfStage
+pub mod StepOfStages
 mod TurnOrder
 mod Turns
 mod TurnsSorted

@@ -1,6 +1,6 @@
 -- The links of the tables that code makes.
---     token-dropped, token-kept     to what replaces the token that a change stands behind
---     put-before, put-behind, passed-before     the table of gaps, from the first change on
+--     token-dropped, token-kept     to what replaces the token that a change stands after
+--     put-before, put-after, passed-before     the table of gaps, from the first change on
 use Rattle.std.specs.Prelude.{◌≡◌, ◌≢◌, ℕ, suc, ◌<◌, ◌≤◌, Bool, true, false, cond, List, length, slice_get, option_and_then, Option, Some, None}
 use Rattle.std.proofs.Common.{ap, ap₂, sym, ◌∙◌, arith, get_or-set_same, get_or-set_other}
 use Rattle.std.proofs.lemmas.Bool.{cases_eq}
@@ -9,9 +9,9 @@ use mathlib.Core.Logic.{inl, inr}
 use mathlib.Core.Path.{fun_ext}
 use Rattle.edit_change.specs.ChangeAim.{aim}
 use Rattle.edit_change.specs.Nesting.{is_dropped}
-use Rattle.edit_change.specs.inner.TargetIndex.{number_at, target_at, IsIndex}
+use Rattle.edit_change.specs.inner.TargetTable.{number_at, target_at, IsTargetTable}
 use Rattle.edit_change.specs.declared.change.Change.{Change}
-use Rattle.edit_change.specs.declared.target_index.TargetIndex.{TargetIndex}
+use Rattle.edit_change.specs.declared.target_table.TargetTable.{TargetTable}
 use Rattle.std.proofs.lemmas.Option.{same_Some}
 use Rattle.edit_steps.specs.Schedule.{anchor_token}
 use Rattle.edit_steps.specs.inner.Followers.{link, next_in_gap, gap_link, token_link}
@@ -20,7 +20,7 @@ module _ (cs : List Change) (n : ℕ) (c : Change) (b : Bool) (told : b ≡ is_d
   pub token-dropped : (o : Option ℕ) → b ≡ true → o ≡ None → o ≡ token_link cs n c
   token-dropped o h is = is ∙ sym (ap (λ a. cond a None (option_and_then (target_at cs) (anchor_token c))) (sym told ∙ h))
 
-  pub token-kept : (o : Option ℕ) (index : TargetIndex) → IsIndex cs index → b ≡ false → o ≡ option_and_then (number_at index) (anchor_token c) → o ≡ token_link cs n c
+  pub token-kept : (o : Option ℕ) (index : TargetTable) → IsTargetTable cs index → b ≡ false → o ≡ option_and_then (number_at index) (anchor_token c) → o ≡ token_link cs n c
   token-kept o index indexed h is =
       is ∙ ap (λ f. option_and_then f (anchor_token c)) (fun_ext indexed.at_each) ∙ sym (ap (λ a. cond a None (option_and_then (target_at cs) (anchor_token c))) (sym told ∙ h))
 
@@ -48,5 +48,5 @@ module _ (cs : List Change) (n m : ℕ) (next : m ≡ suc n) (c : Change) (is : 
           | inr apart ↦ get_or-set_other links n k o None apart ∙ before k d (here-or-before k l apart) is_k
         ]
 
-    pub put-behind : ((k : ℕ) → n ≤ k → link links k ≡ None) → (k : ℕ) → m ≤ k → link (set links n o) k ≡ None
-    put-behind none k l = let apart : k ≢ n = omega (arith, l, next) in get_or-set_other links n k o None apart ∙ none k (omega (arith, l, next))
+    pub put-after : ((k : ℕ) → n ≤ k → link links k ≡ None) → (k : ℕ) → m ≤ k → link (set links n o) k ≡ None
+    put-after none k l = let apart : k ≢ n = omega (arith, l, next) in get_or-set_other links n k o None apart ∙ none k (omega (arith, l, next))

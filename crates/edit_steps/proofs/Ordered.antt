@@ -12,7 +12,7 @@ use Rattle.edit_steps.specs.inner.Followers.{steps, owner_link, gap_link, token_
 use Rattle.edit_steps.specs.inner.Waits.{IsCounted}
 use Rattle.edit_steps.specs.declared.order.waits.Waits.{Waits}
 use Rattle.edit_steps.specs.declared.order.waiting.Waiting.{Waiting}
-use Rattle.edit_steps.proofs.Carried.{owners-carry, gaps-carry, tokens-carry}
+use Rattle.edit_steps.proofs.LinkTables.{owners-carry, gaps-carry, tokens-carry}
 use Rattle.edit_steps.proofs.Orders.{Carries, first_step}
 
 -- along links, from what is done back

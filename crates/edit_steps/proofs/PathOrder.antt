@@ -3,7 +3,7 @@
 --     precedes-self, precedes-turned, precedes-through     it is an order
 --     all-above, all-up_to          what is above a path, and the path itself, stands before what the path stands before
 --     before-first, before-next     a path stands before its first child, and before the next slot
---     range-behind                  a range begins at its first element
+--     range-after                  a range begins at its first element
 use Rattle.std.specs.Prelude.{◌≡◌, ◌≤◌, ◌⊎◌, ℕ, zero, suc, true, false, ◌&&◌, nat_eq, nat_lt, List, [], ◌∷◌, ◌++◌, map, refl}
 use Rattle.std.specs.List.{AllByRecursion}
 use Rattle.std.specs.Cmp.Lexicographic.{slice_cmp}
@@ -67,30 +67,30 @@ before-next (i ∷ []) = or_left (nat_lt i (suc i)) _ (lt-ltb i (suc i) (omega a
 before-next (i ∷ j ∷ p) = below-child i (j ∷ p) (parent_path (j ∷ p) ++ suc (last_slot (j ∷ p)) ∷ []) (before-next (j ∷ p))
 
 -- ---- ranges
-sibling-behind : (p : Path) (i : ℕ) → last_slot p ≤ i → (p ≡ parent_path p ++ i ∷ []) ⊎ (precedes p (parent_path p ++ i ∷ []) ≡ true)
-sibling-behind [] i l = inr refl
-sibling-behind (j ∷ []) i l =
+sibling-after : (p : Path) (i : ℕ) → last_slot p ≤ i → (p ≡ parent_path p ++ i ∷ []) ⊎ (precedes p (parent_path p ++ i ∷ []) ≡ true)
+sibling-after [] i l = inr refl
+sibling-after (j ∷ []) i l =
     elim (cases_eq j i) [
       | inl same ↦ inl (ap {A = ℕ} {B = Path} (λ k. k ∷ []) same)
       | inr apart ↦ inr (or_left (nat_lt j i) _ (lt-ltb j i (omega (arith, l, apart))))
     ]
-sibling-behind (j ∷ k ∷ p) i l =
-    elim (sibling-behind (k ∷ p) i l) [
+sibling-after (j ∷ k ∷ p) i l =
+    elim (sibling-after (k ∷ p) i l) [
       | inl same ↦ inl (ap (λ q. j ∷ q) same)
       | inr before ↦ inr (below-child j (k ∷ p) (parent_path (k ∷ p) ++ i ∷ []) before)
     ]
 
--- a path behind which something stands stands behind the first of its range, or is that one
-pub range-behind : (p : Path) (a n : ℕ) (q : Path) → last_slot p ≤ a → has_path (map (λ i. parent_path p ++ i ∷ []) (counted_from a n)) q ≡ true → (r : Path) → precedes q r ≡ true → precedes p r ≡ true
-range-behind p a zero q l h r k = absurd (false≢true h)
-range-behind p a (suc n) q l h r k =
+-- a path after which something stands stands after the first of its range, or is that one
+pub range-after : (p : Path) (a n : ℕ) (q : Path) → last_slot p ≤ a → has_path (map (λ i. parent_path p ++ i ∷ []) (counted_from a n)) q ≡ true → (r : Path) → precedes q r ≡ true → precedes p r ≡ true
+range-after p a zero q l h r k = absurd (false≢true h)
+range-after p a (suc n) q l h r k =
     elim (or_cases (same_path q (parent_path p ++ a ∷ [])) (has_path (map (λ i. parent_path p ++ i ∷ []) (counted_from (suc a) n)) q) h) [
       | inl here ↦
           let same = same_path-true q (parent_path p ++ a ∷ []) here in
           let next : precedes (parent_path p ++ a ∷ []) r ≡ true = ap (λ x. precedes x r) (sym same) ∙ k in
-          elim (sibling-behind p a l) [
+          elim (sibling-after p a l) [
             | inl first ↦ ap (λ x. precedes x r) first ∙ next
             | inr before ↦ precedes-through p (parent_path p ++ a ∷ []) r before next
           ]
-      | inr there ↦ range-behind p (suc a) n q (omega (arith, l)) there r k
+      | inr there ↦ range-after p (suc a) n q (omega (arith, l)) there r k
     ]

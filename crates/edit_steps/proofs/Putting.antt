@@ -16,7 +16,7 @@ use Rattle.green_tree.proofs.Lookup.{trees-forest}
 use Rattle.edit_steps.specs.declared.stage.done.Among.{Among}
 use Rattle.edit_steps.specs.declared.stage.done.Among.TheVariants.{Slots}
 use Rattle.edit_steps.specs.declared.stage.done.Done.{Done}
-use Rattle.edit_steps.specs.declared.stage.done_index.DoneIndex.{DoneIndex}
+use Rattle.edit_steps.specs.declared.stage.done_table.DoneTable.{DoneTable}
 use Rattle.edit_steps.specs.inner.CurrentPaths.{index_of, count_of, removed, start, current_path, done_at, done_below}
 use Rattle.edit_steps.specs.inner.Splices.{spliced, updated_at}
 use Rattle.edit_steps.specs.inner.Putting.{CanPut, put}
@@ -116,7 +116,7 @@ module _ (t : SyntaxTree) (k : ℕ) (ts : List SyntaxTree) (is : t ≡ node k ts
         ap₂ (λ u p. put u done p a new) is on ∙ put-on k ts done a i r new c (ap (λ xs. slice_get ts (start xs (Slots i 1))) (sym these) ∙ found) ∙ ap₂ (λ xs f. node k (take (start xs (Slots i 1)) ts ++ (put c f r a new ∷ []) ++ drop (start xs (Slots i 1) + 1) ts)) (sym these) goes
 
 -- ---- the way, as an index has it
-module _ (index : DoneIndex) (path : Path) (n : ℕ) where
+module _ (index : DoneTable) (path : Path) (n : ℕ) where
   pub done_here : done_at index (take n path) ≡ done_below index (take n path) []
   done_here = ap (done_at index) (sym (append-nil (take n path)))
 

@@ -15,7 +15,7 @@ use Rattle.std.proofs.lemmas.Option.{same_Some, slice_get_within, slice_get-map,
 use mathlib.Core.Logic.{inl, inr}
 use Rattle.edit_change.specs.Nesting.{is_dropped, owner, Numbered, undropped}
 use Rattle.edit_change.specs.inner.Fate.{fate, by_owner}
-use Rattle.edit_change.specs.inner.TargetIndex.{IsApart}
+use Rattle.edit_change.specs.inner.TargetTable.{IsApart}
 use Rattle.edit_change.specs.declared.change.Change.{Change}
 use Rattle.edit_change.specs.declared.fate.Fate.{Fate}
 use Rattle.edit_change.specs.declared.fate.Fate.TheVariants as fates
@@ -28,7 +28,7 @@ use Rattle.edit_steps.specs.declared.order.waits.Waits.{Waits}
 use Rattle.edit_steps.specs.declared.order.waiting.Waiting.{Waiting}
 use Rattle.edit_steps.specs.declared.order.waiting.Standing.{Standing}
 use Rattle.edit_steps.specs.declared.order.waiting.Standing.TheVariants.{Dropped, Undone, Done}
-use Rattle.edit_steps.proofs.Carried.{owners-carry, gaps-carry, tokens-carry}
+use Rattle.edit_steps.proofs.LinkTables.{owners-carry, gaps-carry, tokens-carry}
 use Rattle.edit_steps.proofs.Orders.{Carries, first_step}
 use Rattle.edit_steps.proofs.Tables.{has_at}
 use Rattle.edit_steps.proofs.Undropped.{all-undropped, all_undropped_from}

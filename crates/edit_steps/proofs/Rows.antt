@@ -2,7 +2,7 @@
 use Rattle.std.specs.Prelude.{◌≡◌, cond, List, [], ◌∷◌, Some, None, refl}
 use Rattle.green_tree.specs.Path.{Path, same_path}
 use Rattle.green_tree.specs.Tree.{SyntaxTree, Token, node}
-use Rattle.edit_change.specs.Aim.{Behind}
+use Rattle.edit_change.specs.Aim.{AfterElement}
 use Rattle.edit_change.specs.declared.aimed.AimForm.TheVariants as form
 use Rattle.edit_steps.specs.StepCount.{step_builds}
 use Rattle.edit_steps.specs.declared.stage.done.Among.TheVariants.{Gap, Slots}
@@ -14,10 +14,10 @@ use Rattle.edit_steps.specs.inner.AimTargets.{live_target}
 abbrev l : SyntaxTree
 l = node 1 (Token 2 (40 ∷ []) ∷ node 3 (Token 4 (49 ∷ []) ∷ []) ∷ Token 5 (44 ∷ []) ∷ Token 6 (32 ∷ []) ∷ node 3 (Token 4 (50 ∷ []) ∷ []) ∷ Token 7 (41 ∷ []) ∷ [])
 
-two_built : step_builds l (Behind (1 ∷ 0 ∷ [])) ≡ 2
+two_built : step_builds l (AfterElement (1 ∷ 0 ∷ [])) ≡ 2
 two_built = refl
 
-none_built : step_builds l (Behind (2 ∷ 0 ∷ [])) ≡ 0
+none_built : step_builds l (AfterElement (2 ∷ 0 ∷ [])) ≡ 0
 none_built = refl
 
 -- L/2 is deleted, and two elements are put into gap 1
@@ -43,5 +43,5 @@ moved = refl
 two_there : live_target l (4 ∷ []) (form.Over 3) ≡ Some ([], Slots 4 2)
 two_there = refl
 
-none_there : live_target l (2 ∷ 0 ∷ []) form.Behind ≡ None
+none_there : live_target l (2 ∷ 0 ∷ []) form.AfterElement ≡ None
 none_there = refl

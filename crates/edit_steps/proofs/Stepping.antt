@@ -24,11 +24,11 @@ use Rattle.edit_steps.specs.inner.Counts.{IsCounted}
 use Rattle.edit_steps.specs.inner.CurrentPaths.{index_of, count_of, removed, start, current_path}
 use Rattle.edit_steps.specs.inner.Putting.{CanPut, put}
 use Rattle.edit_steps.specs.inner.Splices.{spliced, updated_at}
-use Rattle.edit_change.proofs.Edits.{Edits, below, below_path, edits_of, remade, remade_from, rewritten_is}
+use Rattle.edit_change.proofs.Edits.{Edits, below, below_path, edits_of, rewritten_by, rewritten_by_from, rewritten_is}
 use Rattle.edit_steps.proofs.CurrentPaths.{to_slot, new_path, at-new_path, Elsewhere}
 use Rattle.edit_steps.proofs.Steps.{room-inserted, room-replaced}
 use Rattle.edit_steps.proofs.AimSteps.{same_path-true, same_path_from, gap_is, range, in_range, IsKept, keeps, elsewhere-insert, inserted, insert_more, elsewhere-replace, replaced, replace_more}
-use Rattle.edit_steps.proofs.Dead.{AgreeTo, AgreeThere, remade-agree}
+use Rattle.edit_steps.proofs.DeadEdits.{AgreeTo, AgreeThere, rewritten_by-agree}
 use Rattle.edit_steps.proofs.Counting.{Told, told-here, counted-from, start-gap, start-slot, removed-most, told-same, told-inserted, told-replaced}
 
 -- ---- nodes on the way
@@ -115,17 +115,17 @@ module _ (t : SyntaxTree) (given : ℕ → List SyntaxTree) where
               let w = on_way t p (Node l f) there q i r same in
               start-slot (below_path q old) (length (trees w.children)) (done q) (told q w.kind w.children w.there) i (omega (arith, w.within)) 1)
 
-          stands : at before (current_path done p) ≡ Some (remade (below_path p old) (Node l f))
+          stands : at before (current_path done p) ≡ Some (rewritten_by (below_path p old) (Node l f))
           stands =
               ap₂ at (rewritten_is kind_only given (xs ++ ys) [] t) path-is ∙ at-new_path old p t (Node l f) there (keeps given (xs ++ ys) p kept)
 
-          can-put : (a : Among) → removed (done p) (index_of a) ≤ index_of a → start (done p) a + count_of a ≤ length (trees (forest (remade_from (below_path p old) 0 f))) → CanPut before done p a
+          can-put : (a : Among) → removed (done p) (index_of a) ≤ index_of a → start (done p) a + count_of a ≤ length (trees (forest (rewritten_by_from (below_path p old) 0 f))) → CanPut before done p a
           can-put a least room = record {
             on_the_way = λ q i r same.
                 let w = on_way t p (Node l f) there q i r same in
                 removed-most (below_path q old) (length (trees w.children)) (done q) (told q w.kind w.children w.there) i (omega (arith, w.within));
             at_its_end = least;
-            there = record { kind = l; below = forest (remade_from (below_path p old) 0 f); there = stands; within = room };
+            there = record { kind = l; below = forest (rewritten_by_from (below_path p old) 0 f); there = stands; within = room };
           }
 
         module _ (next : IsNext xs c ys) (parent : parents c.1 ≡ p ∷ []) where
@@ -171,7 +171,7 @@ module _ (t : SyntaxTree) (given : ℕ → List SyntaxTree) where
 
     pub dead-tree : (p : Path) → DeadAt p → before ≡ rewritten kind_only given (xs ++ c ∷ ys) [] t
     dead-tree p h =
-        rewritten_is kind_only given (xs ++ ys) [] t ∙ remade-agree old new p t h.elsewhere (agree_there (at t p) h.agree) ∙ sym (rewritten_is kind_only given (xs ++ c ∷ ys) [] t)
+        rewritten_is kind_only given (xs ++ ys) [] t ∙ rewritten_by-agree old new p t h.elsewhere (agree_there (at t p) h.agree) ∙ sym (rewritten_is kind_only given (xs ++ c ∷ ys) [] t)
       where
         agree_there : (o : Option SyntaxTree) → ((k : ℕ) (f : Forest ℕ) → o ≡ Some (Node k f) → AgreeTo (below_path p old) (below_path p new) (length (trees f))) → AgreeThere (below_path p old) (below_path p new) o
         agree_there None a = tt

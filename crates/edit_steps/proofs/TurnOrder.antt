@@ -80,8 +80,8 @@ module _ (c d : Numbered) where
 
   -- whether the first comes first, by what is known of the two paths
   abbrev first_by : Bool → Bool → Bool → Bool → Bool
-  first_by ahead same behind turned =
-      (ahead || (same && (fills_gap d.1 && not (fills_gap c.1)))) || (not (behind || (turned && (fills_gap c.1 && not (fills_gap d.1)))) && stands_last c.0 d.0)
+  first_by ahead same after turned =
+      (ahead || (same && (fills_gap d.1 && not (fills_gap c.1)))) || (not (after || (turned && (fills_gap c.1 && not (fills_gap d.1)))) && stands_last c.0 d.0)
 
   pub default-less : default_first c d ≡ is_lt (shown_cmp (turn_of d) (turn_of c))
   default-less = go (slice_cmp nat_cmp there here) refl
@@ -93,10 +93,10 @@ module _ (c d : Numbered) where
       go Equal is =
           let equal : there ≡ here = same_path-true there here (sym (is_eq-slice_cmp there here) ∙ ap is_eq is) in
           let ahead : precedes there here ≡ false = sym (precedes-compared there here) ∙ ap is_lt is in
-          let behind : precedes here there ≡ false = ap (precedes here) equal ∙ precedes-self here in
-          ap₂ (λ a b. first_by a (same_path there here) b (same_path here there)) ahead behind ∙ ap₂ (λ a b. first_by false a false b) (same_path_from there here equal) (same_path_from here there (sym equal)) ∙ ap (λ b. (fills_gap d.1 && not (fills_gap c.1)) || (not (fills_gap c.1 && not (fills_gap d.1)) && b)) (stands_last-is c.0 d.0) ∙ sides-decide (fills_gap d.1) (fills_gap c.1) d.0 c.0 ∙ sym (ap (λ o. is_lt (ordering_then o rest)) is ∙ ap₂ (λ a b. is_lt (ordering_then (nat_cmp a b) (nat_cmp d.0 c.0))) (rank-is d.1) (rank-is c.1))
+          let after : precedes here there ≡ false = ap (precedes here) equal ∙ precedes-self here in
+          ap₂ (λ a b. first_by a (same_path there here) b (same_path here there)) ahead after ∙ ap₂ (λ a b. first_by false a false b) (same_path_from there here equal) (same_path_from here there (sym equal)) ∙ ap (λ b. (fills_gap d.1 && not (fills_gap c.1)) || (not (fills_gap c.1 && not (fills_gap d.1)) && b)) (stands_last-is c.0 d.0) ∙ sides-decide (fills_gap d.1) (fills_gap c.1) d.0 c.0 ∙ sym (ap (λ o. is_lt (ordering_then o rest)) is ∙ ap₂ (λ a b. is_lt (ordering_then (nat_cmp a b) (nat_cmp d.0 c.0))) (rank-is d.1) (rank-is c.1))
       go Greater is =
-          let behind : precedes here there ≡ true = sym (precedes-compared here there) ∙ ap is_lt (nat_list_cmp_total.antisymm here there ∙ ap ordering_reverse is) in
+          let after : precedes here there ≡ true = sym (precedes-compared here there) ∙ ap is_lt (nat_list_cmp_total.antisymm here there ∙ ap ordering_reverse is) in
           let ahead : precedes there here ≡ false = sym (precedes-compared there here) ∙ ap is_lt is in
           let apart : same_path there here ≡ false = sym (is_eq-slice_cmp there here) ∙ ap is_eq is in
-          ap₂ (λ a b. first_by a b (precedes here there) (same_path here there)) ahead apart ∙ ap (λ b. first_by false false b (same_path here there)) behind ∙ sym (ap (λ o. is_lt (ordering_then o rest)) is)
+          ap₂ (λ a b. first_by a b (precedes here there) (same_path here there)) ahead apart ∙ ap (λ b. first_by false false b (same_path here there)) after ∙ sym (ap (λ o. is_lt (ordering_then o rest)) is)

@@ -1,6 +1,6 @@
 -- The turns of changes, one after another.
 --     front-parent                  all of a path but its last slot
---     gap-first, gap-behind         the index of a gap, by its form
+--     gap-first, gap-after         the index of a gap, by its form
 --     kept_of, kept-more            the changes before a number that are not dropped; one change more
 --     turns-kept, turns-passed      the turns of one change more
 use Rattle.std.specs.Prelude.{◌≡◌, ◌<◌, ◌+◌, ◌-◌, ℕ, suc, true, false, not, cond, List, [], ◌∷◌, ◌++◌, map, filter, length, take, Some, None, refl}
@@ -31,9 +31,9 @@ front-parent (i ∷ j ∷ p) n is =
     let more : length (i ∷ j ∷ p) - 1 ≡ suc (length (j ∷ p) - 1) = omega arith in
     ap (λ k. take k (i ∷ j ∷ p)) (is ∙ more) ∙ ap (λ q. i ∷ q) (front-parent (j ∷ p) (length (j ∷ p) - 1) refl)
 
-pub gap-behind : (at : Position) (e : SyntaxElement) (slot : ℕ) → after_of at ≡ Some e → slot ≡ suc (last_slot (element_of e).path) → parent_path (anchor at).path ++ slot ∷ [] ≡ gap_path at
-gap-behind (FirstChild n) e slot is next = absurd (none-some e is)
-gap-behind (After f) e slot is next =
+pub gap-after : (at : Position) (e : SyntaxElement) (slot : ℕ) → after_of at ≡ Some e → slot ≡ suc (last_slot (element_of e).path) → parent_path (anchor at).path ++ slot ∷ [] ≡ gap_path at
+gap-after (FirstChild n) e slot is next = absurd (none-some e is)
+gap-after (After f) e slot is next =
     ap {A = ℕ} {B = Path} (λ k. parent_path (element_of f).path ++ k ∷ []) (next ∙ ap (λ x. suc (last_slot (element_of x).path)) (sym (same_Some f e is)))
 
 pub gap-first : (at : Position) → after_of at ≡ None → (anchor at).path ++ 0 ∷ [] ≡ gap_path at

@@ -101,11 +101,11 @@ counted-at drops k (d ∷ cs) (suc n) c h =
     let rest = ap (λ m. count_by (λ x. nat_eq m x.0) (kept drops (k + 1) cs)) e ∙ counted-at drops (k + 1) cs n c h in
     count-cons drops (k + suc n) k d cs ∙ omega (arith, here, rest)
 
-counted-behind : (drops : Change → Bool) (n k : ℕ) (cs : List Change) → k + length cs ≤ n → count_by (λ d. nat_eq n d.0) (kept drops k cs) ≡ 0
-counted-behind drops n k [] l = refl
-counted-behind drops n k (c ∷ cs) l =
+counted-later : (drops : Change → Bool) (n k : ℕ) (cs : List Change) → k + length cs ≤ n → count_by (λ d. nat_eq n d.0) (kept drops k cs) ≡ 0
+counted-later drops n k [] l = refl
+counted-later drops n k (c ∷ cs) l =
     let here = other-one n k (not (drops c)) (λ e. omega (arith, e, l)) in
-    let rest = counted-behind drops n (k + 1) cs (omega (arith, l)) in
+    let rest = counted-later drops n (k + 1) cs (omega (arith, l)) in
     count-cons drops n k c cs ∙ omega (arith, here, rest)
 
 pub count-undropped : (cs : List Change) (n : ℕ) (c : Change) → slice_get cs n ≡ Some c → count_by (λ d. nat_eq n d.0) (undropped cs) ≡ one_if (not (is_dropped cs c))
@@ -114,7 +114,7 @@ count-undropped cs n c h =
     ap (λ m. count_by (λ d. nat_eq m d.0) (undropped cs)) e ∙ counted-at (is_dropped cs) 0 cs n c h
 
 pub count-past : (cs : List Change) (n : ℕ) → length cs ≤ n → count_by (λ d. nat_eq n d.0) (undropped cs) ≡ 0
-count-past cs n l = counted-behind (is_dropped cs) n 0 cs (omega (arith, l))
+count-past cs n l = counted-later (is_dropped cs) n 0 cs (omega (arith, l))
 
 -- ---- fates
 pub told-dropped : (cs : List Change) (c : Change) → is_dropped_in (fate cs c) ≡ is_dropped cs c

@@ -5,7 +5,7 @@ use Rattle.std.specs.Prelude.{◌+◌, ℕ, Bool, true, false, cond, not, [], �
 use Rattle.std.specs.Option.{option_map_or}
 use Rattle.green_tree.specs.Path.{Path}
 use Rattle.green_tree.specs.Tree.{SyntaxTree, is_token, at}
-use Rattle.edit_change.specs.Aim.{Aim, FirstIn, Behind, Over, parents}
+use Rattle.edit_change.specs.Aim.{Aim, FirstIn, AfterElement, Over, parents}
 
 abbrev pub is_child : SyntaxTree → Path → Bool
 is_child t [] = false
@@ -13,7 +13,7 @@ is_child t (i ∷ p) = option_map_or (λ e. true) (at t (i ∷ p)) false
 
 abbrev pub is_live : SyntaxTree → Aim → Bool
 is_live t (FirstIn p) = option_map_or (λ e. not (is_token e)) (at t p) false
-is_live t (Behind p) = is_child t p
+is_live t (AfterElement p) = is_child t p
 is_live t (Over []) = false
 is_live t (Over (p ∷ ps)) = is_child t p
 

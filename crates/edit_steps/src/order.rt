@@ -1,6 +1,6 @@
 ghost use Rattle.std.specs.Prelude.{◌≡◌, ◌≤◌, ◌↔◌, ℕ, None, map, length, IfOk, IfErr, OnOk, IsTrue};
 ghost use Rattle.std.specs.List.{list_all};
-ghost use Rattle.edit_change.specs.inner.TargetIndex.{IsIndex};
+ghost use Rattle.edit_change.specs.inner.TargetTable.{IsTargetTable};
 ghost use Rattle.edit_change.specs.inner.Fate.{fate, is_dropped_in};
 ghost use Rattle.edit_steps.specs.Schedule.{ListsEachOnce, IsAllowed};
 ghost use Rattle.edit_steps.specs.OrderRefusal.{OrderRefuses};
@@ -19,7 +19,7 @@ pub(crate) use waiting::Waiting;
 
 use crate::order::followers::Followers;
 
-use edit_change::{Change, Fate, TargetIndex};
+use edit_change::{Change, Fate, TargetTable};
 use std::alloc::{AllocError, Global};
 
 fn are_dropped(alloc: Global, fates: &[Fate]) -> Result<Vec<bool>, AllocError>
@@ -96,12 +96,12 @@ fn keeps(indices: &[usize], links: &[Option<usize>]) -> bool
 /// changes.
 pub fn check(
     alloc: Global,
-    targets: &TargetIndex,
+    targets: &TargetTable,
     changes: &[Change],
     fates: &[Fate],
     order: &[usize],
 ) -> Result<(), OrderError>
-    requires targets { IsIndex changes.now targets.now }
+    requires targets { IsTargetTable changes.now targets.now }
     requires fates { fates.now ≡ map (fate changes.now) changes.now }
     ensures ok { OnOk result (IsAllowed changes.now order.now) }
     ensures refused { IfErr result (OrderRefuses changes.now order.now) }

@@ -2,16 +2,16 @@ ghost use Rattle.std.specs.Prelude.{◌≡◌, ℕ, List, [], IfOk, OnOk, OnErr}
 ghost use Rattle.green_tree.specs.Tree.{SyntaxTree};
 ghost use Rattle.green_tree.specs.GreenElement.{element_tree, element_trees};
 ghost use Rattle.edit_change.specs.inner.Aimed.{numbered};
-ghost use Rattle.edit_steps.specs.inner.Stage.{old_tree, new_tree, IsStage, CanStep, TakesStep, StaysAs, CountsStep};
+ghost use Rattle.edit_steps.specs.inner.Stage.{old_tree, present_tree, IsStage, StageCanStep, StageTakesStep, StageStaysAs, StageCountsStep};
 
 mod aim_target;
 mod done;
-mod done_index;
+mod done_table;
 mod put;
 
 use crate::stage::aim_target::AimTarget;
 use crate::stage::done::Done;
-use crate::stage::done_index::DoneIndex;
+use crate::stage::done_table::DoneTable;
 use crate::stage::put::{Splice, put};
 use green_tree::GreenElement;
 use edit_change::Aimed;
@@ -25,7 +25,7 @@ use std::alloc::{AllocError, Global};
 pub struct Stage {
     original: GreenElement,
     current: GreenElement,
-    done: DoneIndex,
+    done: DoneTable,
 }
 
 impl Stage {
@@ -37,13 +37,13 @@ impl Stage {
         Ok(Stage {
             original: element.share(alloc)?,
             current: element,
-            done: DoneIndex::new(alloc),
+            done: DoneTable::new(alloc),
         })
     }
 
     /// The element as it stands now.
     pub fn element(&self) -> &GreenElement
-        ensures { element_tree result.now ≡ new_tree self.now }
+        ensures { element_tree result.now ≡ present_tree self.now }
     {
         &self.current
     }
@@ -61,11 +61,11 @@ impl Stage {
         given: &[GreenElement],
         builds: &mut u64,
     ) -> Result<(), AllocError>
-        requires { CanStep self.old (numbered aim.now) }
+        requires { StageCanStep self.old (numbered aim.now) }
         ensures old { old_tree self.new ≡ old_tree self.old }
-        ensures done { OnOk result (TakesStep self.old self.new (numbered aim.now) (element_trees given.now)) }
-        ensures count { OnOk result (CountsStep self.old (numbered aim.now) builds.old builds.new) }
-        ensures refused { OnErr result (StaysAs self.old self.new) }
+        ensures done { OnOk result (StageTakesStep self.old self.new (numbered aim.now) (element_trees given.now)) }
+        ensures count { OnOk result (StageCountsStep self.old (numbered aim.now) builds.old builds.new) }
+        ensures refused { OnErr result (StageStaysAs self.old self.new) }
         ensures refused_count { OnErr result (builds.new ≡ builds.old) }
     {
         let mut count = *builds;

@@ -5,7 +5,7 @@ ghost use Rattle.cst_core.specs.Element.{Element, subtree};
 ghost use Rattle.edit_change.specs.inner.Aimed.{numbered};
 ghost use Rattle.edit_change.specs.Fits.{Fits};
 ghost use Rattle.edit_change.specs.Nesting.{first_clash};
-ghost use Rattle.edit_change.specs.inner.TargetIndex.{IsIndex};
+ghost use Rattle.edit_change.specs.inner.TargetTable.{IsTargetTable};
 ghost use Rattle.edit_change.specs.inner.Fate.{fate};
 ghost use Rattle.edit_steps.specs.inner.Waiting.{HasChange};
 ghost use Rattle.edit_change.specs.inner.OneNode.{BringsNode, IsNodeTree, IsOneNode};
@@ -22,7 +22,7 @@ use crate::order::Waiting;
 use crate::stage::Stage;
 use crate::stages::payload::{given_elements, payload_stages};
 use cst_core::{GreenElement, GreenNode, SyntaxNode};
-use edit_change::{Aimed, Change, Fate, TargetIndex, node_for_root, only_node};
+use edit_change::{Aimed, Change, Fate, TargetTable, node_for_root, only_node};
 use std::alloc::{AllocError, Global};
 
 /// The tree of some changes, and the payloads of those that own others, with some of the changes carried out, one at a time.
@@ -78,12 +78,12 @@ impl Stages {
     pub fn new(
         alloc: Global,
         root: &SyntaxNode,
-        targets: &TargetIndex,
+        targets: &TargetTable,
         changes: &[Change],
         fates: &[Fate],
     ) -> Result<Stages, AllocError>
         requires apart { first_clash changes.now ≡ None }
-        requires targets { IsIndex changes.now targets.now }
+        requires targets { IsTargetTable changes.now targets.now }
         requires fates { fates.now ≡ map (fate changes.now) changes.now }
         ensures stages { IfOk result (Begins changes.now (subtree root.now)) }
         ensures none_done { IfOk result (λ s. done_in s ≡ map (λ c. false) changes.now) }
@@ -167,7 +167,7 @@ impl Stages {
         let given = given_elements(alloc, change, &self.payloads[number])?;
         let owner = fates[number].owner();
         self.splice(alloc, owner, aim, &given)?;
-        self.settle(change, number, given);
+        self.note_done(change, number, given);
         Ok(())
     }
 
@@ -196,7 +196,7 @@ impl Stages {
     }
 
     // A change, which gave these elements, is done.
-    fn settle(&mut self, change: &Change, number: usize, given: Vec<GreenElement>)
+    fn note_done(&mut self, change: &Change, number: usize, given: Vec<GreenElement>)
         requires waiting { HasChange self.old.waiting number }
         requires fits { (root : Element) × Fits root change.now }
         requires root { BringsNode change.now → IsOneNode (element_trees given.items) }

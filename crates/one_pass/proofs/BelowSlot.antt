@@ -9,7 +9,7 @@ use Rattle.edit_change.specs.declared.aimed.Aimed.{Aimed}
 use Rattle.edit_change.specs.inner.Aimed.{formed, of_formed, aims_of, formed_below, alter_below}
 use Rattle.edit_change.specs.inner.KindOnly.{kind_only}
 use Rattle.edit_change.proofs.SeenBelow.{Shifted, below_shifted, rewritten-shifted, aims-formed}
-use Rattle.edit_change.proofs.Untouched.{no_inserts, no_replacements, no_slot, nothing_made}
+use Rattle.edit_change.proofs.Untouched.{no_inserts, no_replacements, no_slot, nothing_rewritten}
 
 module _ (xs : List Aimed) (i : ℕ) (none : alter_below i (map formed xs) ≡ false) where
   pub alters_nothing : Shifted (aims_of xs) [] i
@@ -25,4 +25,4 @@ module _ (xs : List Aimed) (i : ℕ) (none : alter_below i (map formed xs) ≡ f
 
   pub kept-below : (given : ℕ → List SyntaxTree) (t : SyntaxTree) → rewritten kind_only given (aims_of xs) (i ∷ []) t ≡ t
   kept-below given t =
-      rewritten-shifted kind_only kind_only given (aims_of xs) [] i (λ p k. refl) alters_nothing [] t ∙ nothing_made given [] t refl
+      rewritten-shifted kind_only kind_only given (aims_of xs) [] i (λ p k. refl) alters_nothing [] t ∙ nothing_rewritten given [] t refl

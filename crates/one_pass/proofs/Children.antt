@@ -1,4 +1,4 @@
--- The children of a rewritten node, pushed one after another: gap 0, and then each slot with the gap behind it.
+-- The children of a rewritten node, pushed one after another: gap 0, and then each slot with the gap after it.
 use Rattle.std.specs.Prelude.{◌≡◌, ℕ, zero, suc, ◌+◌, ◌<◌, ◌≤◌, true, false, cond, List, [], ◌∷◌, ◌++◌, length, drop, flat_map, refl}
 use Rattle.std.proofs.Common.{ap, sym, ◌∙◌, get_or, arith}
 use Rattle.std.proofs.lemmas.List.{append_assoc, append-nil, at_drop_more, at_drop_all}
@@ -25,7 +25,7 @@ size_at (x ∷ es) zero e h is = rw is (omega arith)
 size_at (x ∷ es) (suc i) e h is = omega (arith, size_at es i e (omega arith) is)
 
 module _ {L : Type 0} (label_at : Path → ℕ → L) (given : ℕ → List (Tree L)) (cs : List NumberedAim) where
-  -- slot i, the gap behind it, and so on to the last gap
+  -- slot i, the gap after it, and so on to the last gap
   abbrev pub slots_from : ℕ → Forest ℕ → List (Tree L)
   slots_from i end = []
   slots_from i (more t f) = slot label_at given cs (i ∷ []) (rewritten label_at given cs (i ∷ []) t) ++ gap label_at given cs [] (suc i) ++ slots_from (suc i) f
@@ -62,7 +62,7 @@ module _ {L : Type 0} (label_at : Path → ℕ → L) (given : ℕ → List (Tre
   pub slot-kept : (p : Path) (t : Tree L) → is_replaced cs p ≡ false → t ∷ [] ≡ slot label_at given cs p t
   slot-kept p t h = ap (λ b. cond b (flat_map given (replacements_at cs p)) (t ∷ [])) (sym h)
 
-  -- nothing is left behind the last gap
+  -- nothing is left after the last gap
   pub all_made : (done all : List (Tree L)) (i : ℕ) (ts : List SyntaxTree) → length ts ≤ i → done ++ left i ts ≡ all → done ≡ all
   all_made done all i ts l h =
       sym (append-nil done) ∙ ap (λ xs. done ++ xs) (sym (at_drop_all (λ us. slots_from i (forest us)) ts i l)) ∙ h

@@ -26,13 +26,13 @@ use Rattle.edit_change.specs.NewTree.{OriginTree, origin, given, independents, n
 use Rattle.one_pass.specs.inner.Sought.{path_below, sought_one, sought_from, sought_at, registered_at, addresses}
 use Rattle.one_pass.specs.inner.Marks.{with_marks, marks_given, IsTableOf, paths_of_mark, path_lists}
 use Rattle.edit_change.specs.declared.change.Change.{Change}
-use Rattle.one_pass.specs.declared.sought.SoughtIndex.{SoughtIndex}
+use Rattle.one_pass.specs.declared.sought.SoughtTable.{SoughtTable}
 use Rattle.one_pass.proofs.MarksFilled.{seen-from, exact, found, at-append}
 use Rattle.edit_change.proofs.Paths.{same_path-true, same_path_from}
 use Rattle.edit_change.proofs.Relabelled.{map-rewritten_whole, paths-relabelled, at-relabelled, label-relabelled}
 
 -- ---- the new tree
-pub tree-marked : (rs : List Address) (cs : List Change) (places : ℕ → Path) (index : SoughtIndex) (root : Element) → IsTableOf rs index → rewritten_whole (wanted (sought_at index (address root))) (marks_given rs cs places) (independents cs) (subtree root) ≡ map (with_marks rs) (new_tree cs places root)
+pub tree-marked : (rs : List Address) (cs : List Change) (places : ℕ → Path) (index : SoughtTable) (root : Element) → IsTableOf rs index → rewritten_whole (wanted (sought_at index (address root))) (marks_given rs cs places) (independents cs) (subtree root) ≡ map (with_marks rs) (new_tree cs places root)
 tree-marked rs cs places index root sought =
     let labels : wanted (sought_at index (address root)) ≡ (λ q k. registered_at rs (origin (address root) None q k).address) = fun_ext (λ q. fun_ext (λ k. ap (λ ms. marks_at ms q) (sought (address root)) ∙ seen-from 0 rs (address root) q)) in
     ap (λ l. rewritten_whole l (marks_given rs cs places) (independents cs) (subtree root)) labels ∙ sym (map-rewritten_whole (λ o. registered_at rs o.address) (origin (address root) None) (given cs places) (independents cs) (subtree root))

@@ -16,7 +16,7 @@ use Rattle.green_tree.specs.GreenElement.{element_tree}
 use Rattle.green_tree.specs.declared.green.GreenElement.{GreenElement}
 use Rattle.edit_change.specs.Effort.{inside, touched, touched_from, parents_of, counted}
 use Rattle.one_pass.specs.inner.Built.{built, built_from, nodes_built}
-use Rattle.edit_change.proofs.Built.{above-below, above-formed, some-parents}
+use Rattle.edit_change.proofs.AlteredNodes.{above-below, above-formed, some-parents}
 use Rattle.edit_change.proofs.SeenBelow.{Shifted, below_shifted, aims-formed}
 
 -- ---- as it is seen from a child

@@ -26,7 +26,7 @@ use Rattle.one_pass.specs.declared.dependent.Dependent.{Dependent}
 use Rattle.edit_change.specs.declared.change.Change.TheVariants.{ReplaceWithMany}
 use Rattle.edit_change.proofs.Independents.{enumerate-push, take-whole}
 use Rattle.edit_change.proofs.Lists.{slice_get-set_same, slice_get-set_other}
-use Rattle.edit_change.proofs.Owning.{owner-keeps, target-is}
+use Rattle.edit_change.proofs.OwnersKeep.{owner-keeps, target-is}
 
 -- ---- tables of what is owned
 pub one-more-empty : (table : List (Vec Dependent Global)) (v : Vec Dependent Global) → v.items ≡ [] → ((c : ℕ) → dependents_in table c ≡ []) → (c : ℕ) → dependents_in (table ++ v ∷ []) c ≡ []

@@ -1,4 +1,4 @@
--- The aims that matter for a child and for the gap behind it say the same of them as all the aims.
+-- The aims that matter for a child and for the gap after it say the same of them as all the aims.
 use Rattle.std.specs.Prelude.{◌≡◌, ℕ, zero, suc, ◌+◌, ◌<◌, ◌≤◌, Bool, true, false, cond, ◌&&◌, ◌||◌, nat_eq, List, [], ◌∷◌, ◌++◌, map, filter, refl, Some, None}
 use Rattle.std.specs.List.{list_any}
 use Rattle.std.proofs.Common.{ap, sym, ◌∙◌, arith, get_or}
@@ -10,10 +10,10 @@ use Rattle.green_tree.specs.Path.{Path, parent_path, last_slot}
 use Rattle.edit_change.specs.Aim.{Aim, aims_at_gap, starts_at, replaces}
 use Rattle.edit_change.specs.Rewriting.{numbers, inserts_at, replacements_at, is_replaced}
 use Rattle.edit_change.specs.declared.aimed.AimForm.{AimForm}
-use Rattle.edit_change.specs.declared.aimed.AimForm.TheVariants.{FirstIn, Behind, Over}
+use Rattle.edit_change.specs.declared.aimed.AimForm.TheVariants.{FirstIn, AfterElement, Over}
 use Rattle.edit_change.specs.declared.aimed.Aimed.{Aimed}
 use Rattle.edit_change.specs.inner.Aimed.{aim_in, FormedAim, formed, numbered, aims_of, seen_from, and_those, formed_below, reaches, concerns}
-use Rattle.edit_change.proofs.Here.{range_deeper, start_deeper, first_false, second_false}
+use Rattle.edit_change.proofs.AimsHere.{range_deeper, start_deeper, first_false, second_false}
 
 and-true : (b : Bool) → b ≡ false → (b && true) ≡ false
 and-true true h = h
@@ -23,14 +23,14 @@ and-true false h = refl
 no_gap : (i : ℕ) (q : Path) (w : AimForm) → reaches i q w ≡ false → aims_at_gap [] (suc i) (aim_in q w) ≡ false
 no_gap i [] FirstIn h = ne_eqb (suc i) 0 (λ e. absurd (omega (arith, e)))
 no_gap i (j ∷ q) FirstIn h = refl
-no_gap i [] Behind h = refl
-no_gap i (j ∷ []) Behind h = ne_eqb (suc i) (suc j) (λ e. eqb-false i j h (omega (arith, e)))
-no_gap i (j ∷ k ∷ q) Behind h = refl
+no_gap i [] AfterElement h = refl
+no_gap i (j ∷ []) AfterElement h = ne_eqb (suc i) (suc j) (λ e. eqb-false i j h (omega (arith, e)))
+no_gap i (j ∷ k ∷ q) AfterElement h = refl
 no_gap i q (Over n) h = refl
 
 no_range : (i : ℕ) (q : Path) (w : AimForm) → reaches i q w ≡ false → replaces (i ∷ []) (aim_in q w) ≡ false
 no_range i q FirstIn h = refl
-no_range i q Behind h = refl
+no_range i q AfterElement h = refl
 no_range i [] (Over zero) h = refl
 no_range i [] (Over (suc n)) h = refl
 no_range i (j ∷ []) (Over n) h = second_false (nat_eq i j) _ h
@@ -38,7 +38,7 @@ no_range i (j ∷ k ∷ q) (Over n) h = range_deeper j (parent_path (k ∷ q)) (
 
 no_start : (i : ℕ) (q : Path) (w : AimForm) → reaches i q w ≡ false → starts_at (i ∷ []) (aim_in q w) ≡ false
 no_start i q FirstIn h = refl
-no_start i q Behind h = refl
+no_start i q AfterElement h = refl
 no_start i [] (Over zero) h = refl
 no_start i [] (Over (suc n)) h = refl
 no_start i (j ∷ []) (Over zero) h = refl
@@ -79,7 +79,7 @@ group-replacements i xs = numbers-same i (starts_at (i ∷ [])) (no_start i) xs
 
 reaches_own : (i j : ℕ) (q : Path) (w : AimForm) → reaches i (j ∷ q) w ≡ false → nat_eq i j ≡ false
 reaches_own i j q FirstIn h = h
-reaches_own i j q Behind h = h
+reaches_own i j q AfterElement h = h
 reaches_own i j [] (Over n) h = first_false (nat_eq i j) _ h
 reaches_own i j (k ∷ q) (Over n) h = h
 
@@ -106,13 +106,13 @@ pub grow : (k : ℕ) (old new xs ys : List Aimed) (a : Aimed) (f n : ℕ) → ys
     (f ≤ k → k < f + n → new ≡ old ++ a ∷ []) → (k < f → new ≡ old) → (f + n ≤ k → new ≡ old) →
     (f ≤ k → k < f + n → concerns k a ≡ true) → (k < f → concerns k a ≡ false) → (f + n ≤ k → concerns k a ≡ false) →
     new ≡ filter (concerns k) ys
-grow k old new xs ys a f n e o inside before behind on under past_it =
+grow k old new xs ys a f n e o inside before after on under past_it =
     elim (cases_lt k f) [
       | inl less ↦ before less ∙ o ∙ sym (filter-more (concerns k) xs ys a false e (under less) ∙ append-nil (filter (concerns k) xs))
       | inr from ↦
           elim (cases_lt k (f + n)) [
             | inl within ↦ inside from within ∙ ap (λ zs. zs ++ a ∷ []) o ∙ sym (filter-more (concerns k) xs ys a true e (on from within))
-            | inr past ↦ behind past ∙ o ∙ sym (filter-more (concerns k) xs ys a false e (past_it past) ∙ append-nil (filter (concerns k) xs))
+            | inr past ↦ after past ∙ o ∙ sym (filter-more (concerns k) xs ys a false e (past_it past) ∙ append-nil (filter (concerns k) xs))
           ]
     ]
 

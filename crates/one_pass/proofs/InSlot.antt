@@ -1,7 +1,7 @@
 -- What stands in the slot of a child, by the aims that concern the child, is what all the aims put there.
 --     inside-formed                 aims that are seen from the child are those inside the slot
 --     made-inside                   the child, as all the aims rewrite it in its slot
---     slot_made-whole, slot_built-whole    what stands in the slot; how many nodes are built for it
+--     slot_rewritten-whole, slot_built-whole    what stands in the slot; how many nodes are built for it
 --     empty-stays, empty-quiet, empty-gap      where no aim concerns the child, it is not replaced, nothing is altered below it, and nothing comes after it
 --     built-replaced, built-altered     how many nodes are built for a child that is replaced; that stays
 --     slot-unaltered, marks-unaltered, built-unaltered    such a child is kept as it is, with its marks, and nothing is built
@@ -19,7 +19,7 @@ use Rattle.one_pass.specs.declared.place.Place.TheVariants.{Gap}
 use Rattle.edit_change.specs.inner.Aimed.{aims_of, of_formed, formed, formed_below, alter_below, concerns}
 use Rattle.one_pass.specs.inner.Marked.{MarkTree, sought_in, wanted}
 use Rattle.edit_change.specs.inner.KindOnly.{kind_only}
-use Rattle.one_pass.specs.inner.Pass.{changes_at, aims_inside, child_made, slot_made, child_built, slot_built, kept_marks}
+use Rattle.one_pass.specs.inner.Pass.{changes_at, aims_inside, child_rewritten, slot_rewritten, child_built, slot_built, kept_marks}
 use Rattle.one_pass.proofs.BelowSlot.{alters_nothing, kept-below}
 use Rattle.one_pass.proofs.Children.{slot-kept}
 use Rattle.one_pass.proofs.Counted.{in_slot, built-inside, counted-none}
@@ -35,11 +35,11 @@ pub made-inside : {L : Type 0} (above inner : Path → ℕ → L) (given : ℕ �
 made-inside above inner given xs i t labels =
     sym (rewritten-shifted above inner given (map of_formed (map formed xs)) (aims_inside xs i) i labels (below_shifted (map formed xs) i) [] t) ∙ ap (λ cs. rewritten above given cs (i ∷ []) t) (aims-formed xs)
 
-pub slot_made-whole : {L : Type 0} (above inner : Path → ℕ → L) (given : ℕ → List (Tree L)) (xs group : List Aimed) (i : ℕ) (e : GreenElement) → ((p : Path) (k : ℕ) → above (i ∷ p) k ≡ inner p k) → group ≡ filter (concerns i) xs → slot_made inner given group i e ≡ slot above given (aims_of xs) (i ∷ []) (rewritten above given (aims_of xs) (i ∷ []) (element_tree e))
-slot_made-whole above inner given xs group i e labels here =
-    let own = child_made inner given (filter (concerns i) xs) i e in
+pub slot_rewritten-whole : {L : Type 0} (above inner : Path → ℕ → L) (given : ℕ → List (Tree L)) (xs group : List Aimed) (i : ℕ) (e : GreenElement) → ((p : Path) (k : ℕ) → above (i ∷ p) k ≡ inner p k) → group ≡ filter (concerns i) xs → slot_rewritten inner given group i e ≡ slot above given (aims_of xs) (i ∷ []) (rewritten above given (aims_of xs) (i ∷ []) (element_tree e))
+slot_rewritten-whole above inner given xs group i e labels here =
+    let own = child_rewritten inner given (filter (concerns i) xs) i e in
     let own_is = ap (λ ps. rewritten inner given (map of_formed ps) [] (element_tree e)) (group-below i xs) ∙ made-inside above inner given xs i (element_tree e) labels in
-    ap (λ g. slot_made inner given g i e) here ∙ ap₂ (λ b ns. cond b (flat_map given ns) (own ∷ [])) (group-replaced i xs) (group-replacements i xs) ∙ ap (slot above given (aims_of xs) (i ∷ [])) own_is
+    ap (λ g. slot_rewritten inner given g i e) here ∙ ap₂ (λ b ns. cond b (flat_map given ns) (own ∷ [])) (group-replaced i xs) (group-replacements i xs) ∙ ap (slot above given (aims_of xs) (i ∷ [])) own_is
 
 pub slot_built-whole : (xs group : List Aimed) (i : ℕ) (e : GreenElement) → group ≡ filter (concerns i) xs → slot_built group i e ≡ in_slot (aims_of xs) i (element_tree e)
 slot_built-whole xs group i e here =
@@ -71,16 +71,16 @@ from_above label_at [] k = label_at [] k
 from_above label_at (i ∷ p) k = label_at p k
 
 module _ (xs : List Aimed) (i : ℕ) (stays : is_replaced (aims_of xs) (i ∷ []) ≡ false) (none : alter_below i (map formed xs) ≡ false) (e : GreenElement) where
-  pub slot-unaltered : (given : ℕ → List SyntaxTree) → element_tree e ∷ [] ≡ slot_made kind_only given xs i e
+  pub slot-unaltered : (given : ℕ → List SyntaxTree) → element_tree e ∷ [] ≡ slot_rewritten kind_only given xs i e
   slot-unaltered given =
       let kept = made-inside kind_only kind_only given xs i (element_tree e) (λ p k. refl) ∙ kept-below xs i none given (element_tree e) in
-      ap (λ u. u ∷ []) (sym kept) ∙ slot-kept kind_only given (aims_of xs) (i ∷ []) (child_made kind_only given xs i e) stays
+      ap (λ u. u ∷ []) (sym kept) ∙ slot-kept kind_only given (aims_of xs) (i ∷ []) (child_rewritten kind_only given xs i e) stays
 
-  pub marks-unaltered : (sought : List Sought) (trees : ℕ → List MarkTree) → kept_marks sought e ∷ [] ≡ slot_made (wanted (sought_in sought)) trees xs i e
+  pub marks-unaltered : (sought : List Sought) (trees : ℕ → List MarkTree) → kept_marks sought e ∷ [] ≡ slot_rewritten (wanted (sought_in sought)) trees xs i e
   marks-unaltered sought trees =
       let label_at : Path → ℕ → List ℕ = wanted (sought_in sought) in
       let kept = made-inside (from_above label_at) label_at trees xs i (element_tree e) (λ p k. refl) ∙ rewritten-shifted (from_above label_at) label_at trees (aims_of xs) [] i (λ p k. refl) (alters_nothing xs i none) [] (element_tree e) ∙ unaimed label_at trees [] refl [] (element_tree e) in
-      ap (λ u. u ∷ []) (sym kept) ∙ slot-kept label_at trees (aims_of xs) (i ∷ []) (child_made label_at trees xs i e) stays
+      ap (λ u. u ∷ []) (sym kept) ∙ slot-kept label_at trees (aims_of xs) (i ∷ []) (child_rewritten label_at trees xs i e) stays
 
   pub built-unaltered : slot_built xs i e ≡ 0
   built-unaltered = sym (built-altered xs i e stays) ∙ counted-none (aims_inside xs i) (element_tree e) none

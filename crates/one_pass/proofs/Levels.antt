@@ -87,9 +87,9 @@ module _ (cs : List Change) (owned : List (Vec Dependent Global)) where
 
 -- ---- what stands in a list of those that pass a test
 first-at : (t : ℕ → Bool) (a n c : ℕ) (rest : List ℕ) → ((j : ℕ) → slice_get rest j ≡ Some c → (c < suc a + n) × (t c ≡ true)) → (b : Bool) → t a ≡ b → (j : ℕ) → slice_get (cond b (a ∷ rest) rest) j ≡ Some c → (c < a + suc n) × (t c ≡ true)
-first-at t a n c rest behind true passes zero there = let same : a ≡ c = same_Some a c there in (omega (arith, same), ap t (sym same) ∙ passes)
-first-at t a n c rest behind true passes (suc j) there = let r = behind j there in (omega (arith, r.0), r.1)
-first-at t a n c rest behind false passes j there = let r = behind j there in (omega (arith, r.0), r.1)
+first-at t a n c rest after true passes zero there = let same : a ≡ c = same_Some a c there in (omega (arith, same), ap t (sym same) ∙ passes)
+first-at t a n c rest after true passes (suc j) there = let r = after j there in (omega (arith, r.0), r.1)
+first-at t a n c rest after false passes j there = let r = after j there in (omega (arith, r.0), r.1)
 
 pub passing-at : (t : ℕ → Bool) (a n k c : ℕ) → slice_get (filter t (counted_from a n)) k ≡ Some c → (c < a + n) × (t c ≡ true)
 passing-at t a zero k c is = absurd (none-some c is)

@@ -1,7 +1,7 @@
 mod Alike
 mod AllCounted
 mod BelowSlot
-mod ByLevel
+mod EnteredByLevel
 mod ByNumber
 mod ChildByChild
 mod Children
@@ -18,11 +18,11 @@ mod MarksFilled
 mod MarksGiven
 mod MarksKept
 mod MarksTold
-mod Nested
-mod Passing
+mod GivenByLevel
+mod ChangesOfAims
 mod Registered
 mod Rooted
 mod Rows
 pub mod Tops
-mod Touched
-pub mod Whole
+mod TouchedNodes
+pub mod WholeTree

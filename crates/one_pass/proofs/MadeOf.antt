@@ -27,13 +27,13 @@ use Rattle.one_pass.specs.inner.Marks.{IsTableOf, marks_given, with_marks, paths
 use Rattle.one_pass.specs.inner.Root.{KeepsTop, TellsNewTree}
 use Rattle.edit_change.specs.inner.OneNode.{IsOneNode}
 use Rattle.one_pass.specs.inner.Sought.{addresses, sought_at}
-use Rattle.one_pass.specs.declared.sought.SoughtIndex.{SoughtIndex}
+use Rattle.one_pass.specs.declared.sought.SoughtTable.{SoughtTable}
 use Rattle.one_pass.proofs.CopiesFound.{all-copies}
 use Rattle.one_pass.proofs.MarksTold.{with_tops, marks_told, copies-told, changed-told}
-use Rattle.one_pass.proofs.Whole.{plain-whole, one-made}
+use Rattle.one_pass.proofs.WholeTree.{plain-whole, one-made}
 
 pub record PassTold (root : Element) (changes : List Change) (places : ℕ → Path) (es : List SyntaxElement) (trees : List SyntaxTree) (marks : List Marking) : Type 0 where
-  pub index : SoughtIndex
+  pub index : SoughtTable
   pub sought : IsTableOf (addresses es) index
   pub given : GivenTable
   pub without_top : given.top ≡ None

@@ -3,8 +3,8 @@
 --     listed, unsought              an entry with the marks of each; one where nothing is sought
 --     entry                         an entry exchanged
 --     AreLevelled                   so far as one level is entered, with all that is deeper
---     level-begins, level-ends, level-filled      before its first owner, behind its last one, and one owner more
---     from-payloads, to-the-top     before the deepest level, and behind the last one
+--     level-begins, level-ends, level-filled      before its first owner, after its last one, and one owner more
+--     from-payloads, to-the-top     before the deepest level, and after the last one
 --     IsBrought, AreBrought         an entry has the payload of a change; so have those of the first so many
 --     one-brought, all-brought      one change more; all of them
 use Rattle.std.specs.Prelude.{◌≡◌, ℕ, zero, suc, ◌+◌, ◌<◌, ◌≤◌, true, false, ◌&&◌, cond, nat_eq, List, [], ◌∷◌, ◌++◌, map, filter, length, slice_get, get_or, Option, Some, None, option_map, Vec, refl}
@@ -38,11 +38,11 @@ use Rattle.one_pass.specs.inner.Sought.{path_below, sought_one, sought_from, sou
 use Rattle.one_pass.specs.inner.Marks.{marks_given, IsTableOf, element_sought, payload_sought, with_answer, AreMarksFrom}
 use Rattle.edit_change.specs.declared.change.Change.{Change}
 use Rattle.one_pass.specs.declared.dependent.Dependent.{Dependent}
-use Rattle.one_pass.specs.declared.sought.SoughtIndex.{SoughtIndex}
-use Rattle.edit_change.proofs.Brought.{given-labelled}
-use Rattle.one_pass.proofs.ByLevel.{LevelledBy, begins, ends, entered, from-alone}
+use Rattle.one_pass.specs.declared.sought.SoughtTable.{SoughtTable}
+use Rattle.edit_change.proofs.BroughtTops.{given-labelled}
+use Rattle.one_pass.proofs.EnteredByLevel.{LevelledBy, begins, ends, entered, from-alone}
 use Rattle.edit_change.proofs.Lists.{slice_get-set_same, slice_get-set_other}
-use Rattle.edit_change.proofs.Settled.{all_owned, rewritten-agree}
+use Rattle.edit_change.proofs.GivenTrees.{all_owned, rewritten-agree}
 
 -- ---- what is sought, seen from an address
 pub at-append : (ms ns : List Marking) (p : Path) → marks_at (ms ++ ns) p ≡ marks_at ms p ++ marks_at ns p
@@ -104,18 +104,18 @@ listed g ts l h = record {
 }
 
 -- where nothing is sought
-unsought-at : (index : SoughtIndex) → ((a : Address) → sought_at index a ≡ []) → (es : List Element) (i : ℕ) (d : MarkTree) → i < length (payload_sought index (λ n. []) [] es) → marked (get_or (payload_sought index (λ n. []) [] es) i d) ≡ []
+unsought-at : (index : SoughtTable) → ((a : Address) → sought_at index a ≡ []) → (es : List Element) (i : ℕ) (d : MarkTree) → i < length (payload_sought index (λ n. []) [] es) → marked (get_or (payload_sought index (λ n. []) [] es) i d) ≡ []
 unsought-at index none [] i d l = absurd (omega (arith, l))
 unsought-at index none (e ∷ es) zero d l = ap (λ ms. marked (rewritten (wanted ms) (λ c. []) [] [] (subtree e))) (none (address e)) ∙ ap marked (untouched (λ k. []) (λ c. []) [] refl [] (subtree e)) ∙ marks-none (subtree e)
 unsought-at index none (e ∷ es) (suc i) d l = unsought-at index none es i d (omega (arith, l))
 
-pub unsought : (index : SoughtIndex) → ((a : Address) → sought_at index a ≡ []) → (g : MarkedGiven) (es : List Element) → g.marks.items ≡ [] → given_trees g.elements ≡ map subtree es → IsMarked None g (payload_sought index (λ n. []) [] es)
+pub unsought : (index : SoughtTable) → ((a : Address) → sought_at index a ≡ []) → (g : MarkedGiven) (es : List Element) → g.marks.items ≡ [] → given_trees g.elements ≡ map subtree es → IsMarked None g (payload_sought index (λ n. []) [] es)
 unsought index none g es empty are = record {
   count = length-map es (element_sought index (λ n. []) []) ∙ sym (ap length are ∙ length-map es subtree);
   each = λ i d l. unsought-at index none es i d l ∙ sym (ap (λ vs. option_map_or (λ v. marks_of v.items) (slice_get vs i) []) empty);
 }
 
-pub entry : (cs : List Change) (c : ℕ) (change : Change) (index : SoughtIndex) (owned : List NumberedAim) (table : GivenTable) (g : MarkedGiven) → c < length cs → c < length table.entries.items → change ≡ get_or cs c change → table.top ≡ None → (trees : ℕ → List MarkTree) → AreMarkedIn table trees → IsMarked None g (payload_sought index trees owned (payload change)) → (n : ℕ) → IsMarkedIn table.top (slice_get (set table.entries.items c g) n) (with_answer trees c (payload_sought index trees owned (payload_of cs c)) n)
+pub entry : (cs : List Change) (c : ℕ) (change : Change) (index : SoughtTable) (owned : List NumberedAim) (table : GivenTable) (g : MarkedGiven) → c < length cs → c < length table.entries.items → change ≡ get_or cs c change → table.top ≡ None → (trees : ℕ → List MarkTree) → AreMarkedIn table trees → IsMarked None g (payload_sought index trees owned (payload change)) → (n : ℕ) → IsMarkedIn table.top (slice_get (set table.entries.items c g) n) (with_answer trees c (payload_sought index trees owned (payload_of cs c)) n)
 entry cs c change index owned table g there long is none trees are marks n =
     let es = table.entries.items in
     let top = table.top in
@@ -133,12 +133,12 @@ module _ (rs : List Address) (cs : List Change) (places : ℕ → Path) where
   has_given trees c = trees c ≡ marks_given rs cs places c
 
   -- the payload of a change, rewritten by what those that it owns give
-  payload-given : (c : ℕ) (index : SoughtIndex) → IsTableOf rs index → payload_sought index (marks_given rs cs places) (dependents cs places c) (payload_of cs c) ≡ marks_given rs cs places c
+  payload-given : (c : ℕ) (index : SoughtTable) → IsTableOf rs index → payload_sought index (marks_given rs cs places) (dependents cs places c) (payload_of cs c) ≡ marks_given rs cs places c
   payload-given c index table =
       let labels : (e : Element) → wanted (sought_at index (address e)) ≡ (λ q k. registered_at rs (origin (address e) (Some c) q k).address) = λ e. fun_ext (λ q. fun_ext (λ k. ap (λ ms. marks_at ms q) (table (address e)) ∙ seen-from 0 rs (address e) q)) in
       ap (λ f. map f (payload_of cs c)) (fun_ext (λ e. ap (λ l. rewritten l (marks_given rs cs places) (dependents cs places c) [] (subtree e)) (labels e))) ∙ sym (given-labelled cs places (λ o. registered_at rs o.address) c)
 
-  agreed : (c : ℕ) (index : SoughtIndex) (trees : ℕ → List MarkTree) → ((n : ℕ) (d : Change) → slice_get cs n ≡ Some d → owner cs d ≡ Some c → has_given trees n) → payload_sought index trees (dependents cs places c) (payload_of cs c) ≡ payload_sought index (marks_given rs cs places) (dependents cs places c) (payload_of cs c)
+  agreed : (c : ℕ) (index : SoughtTable) (trees : ℕ → List MarkTree) → ((n : ℕ) (d : Change) → slice_get cs n ≡ Some d → owner cs d ≡ Some c → has_given trees n) → payload_sought index trees (dependents cs places c) (payload_of cs c) ≡ payload_sought index (marks_given rs cs places) (dependents cs places c) (payload_of cs c)
   agreed c index trees holds =
       ap (λ f. map f (payload_of cs c)) (fun_ext (λ e. rewritten-agree (wanted (sought_at index (address e))) trees (marks_given rs cs places) (dependents cs places c) (all_owned cs places (has_given trees) c holds) (subtree e)))
 
@@ -153,7 +153,7 @@ module _ (rs : List Address) (cs : List Change) (places : ℕ → Path) where
   pub level-ends : (level i : ℕ) (owned : List (Vec Dependent Global)) (owners : List ℕ) (table : GivenTable) → AreDependents cs places owned → owners ≡ filter (owns_at cs owned level) (counted_from 0 (length cs)) → length owners ≤ i → AreLevelled level owners i table → AreMarksFrom rs cs places level table
   level-ends level i owned owners table are all long a = record { trees = a.trees; are = a.are; deep = ends cs places (has_given a.trees) level i owned owners are all long a.by; own_nothing = a.by.own_nothing }
 
-  pub level-filled : (level i o : ℕ) (owners : List ℕ) (index : SoughtIndex) (table after : GivenTable) (owned : List NumberedAim) → IsTableOf rs index → AreLevelled level owners i table → slice_get owners i ≡ Some o → depth_of cs o ≡ level → owned ≡ dependents cs places o → ((trees : ℕ → List MarkTree) → AreMarkedIn table trees → AreMarkedIn after (with_answer trees o (payload_sought index trees owned (payload_of cs o)))) → AreLevelled level owners (i + 1) after
+  pub level-filled : (level i o : ℕ) (owners : List ℕ) (index : SoughtTable) (table after : GivenTable) (owned : List NumberedAim) → IsTableOf rs index → AreLevelled level owners i table → slice_get owners i ≡ Some o → depth_of cs o ≡ level → owned ≡ dependents cs places o → ((trees : ℕ → List MarkTree) → AreMarkedIn table trees → AreMarkedIn after (with_answer trees o (payload_sought index trees owned (payload_of cs o)))) → AreLevelled level owners (i + 1) after
   level-filled level i o owners index table after owned sought a stands at_level own fills =
       let ts : List MarkTree = payload_sought index a.trees owned (payload_of cs o) in
       let now = with_answer a.trees o ts in
@@ -164,11 +164,11 @@ module _ (rs : List Address) (cs : List Change) (places : ℕ → Path) where
       }
 
   -- ---- all levels
-  alone : (c : ℕ) (index : SoughtIndex) → IsTableOf rs index → dependents cs places c ≡ [] → payload_sought index (λ n. []) [] (payload_of cs c) ≡ marks_given rs cs places c
+  alone : (c : ℕ) (index : SoughtTable) → IsTableOf rs index → dependents cs places c ≡ [] → payload_sought index (λ n. []) [] (payload_of cs c) ≡ marks_given rs cs places c
   alone c index sought none =
       ap (λ f. map f (payload_of cs c)) (fun_ext (λ e. rewritten-agree (wanted (sought_at index (address e))) (λ n. []) (marks_given rs cs places) [] tt (subtree e))) ∙ ap (λ ds. payload_sought index (marks_given rs cs places) ds (payload_of cs c)) (sym none) ∙ payload-given c index sought
 
-  pub from-payloads : (owned : List (Vec Dependent Global)) (owners : List (Vec ℕ Global)) (index : SoughtIndex) (table : GivenTable) → IsTableOf rs index → AreMarkedIn table (λ c. payload_sought index (λ n. []) [] (payload_of cs c)) → AreDependents cs places owned → AreOwners cs owned owners → AreMarksFrom rs cs places (length owners) table
+  pub from-payloads : (owned : List (Vec Dependent Global)) (owners : List (Vec ℕ Global)) (index : SoughtTable) (table : GivenTable) → IsTableOf rs index → AreMarkedIn table (λ c. payload_sought index (λ n. []) [] (payload_of cs c)) → AreDependents cs places owned → AreOwners cs owned owners → AreMarksFrom rs cs places (length owners) table
   from-payloads owned owners index table sought marked_are are levels = record {
     trees = λ c. payload_sought index (λ n. []) [] (payload_of cs c);
     are = marked_are;
@@ -180,7 +180,7 @@ module _ (rs : List Address) (cs : List Change) (places : ℕ → Path) where
   to-the-top level table none a c = subst (λ ts. IsMarkedIn table.top (slice_get table.entries.items c) ts) (a.deep c (omega (arith, none))) (a.are c)
 
 -- ---- the payloads alone
-module _ (index : SoughtIndex) where
+module _ (index : SoughtTable) where
   -- an entry has the payload of a change
   pub record IsBrought (o : Option MarkedGiven) (es : List Element) : Type 0 where
     pub trees : option_map_or (λ g. given_trees g.elements) o [] ≡ map subtree es

@@ -26,12 +26,12 @@ use Rattle.edit_change.specs.NewTree.{OriginTree, Origin, origin, given, indepen
 use Rattle.edit_change.specs.Results.{changed}
 use Rattle.one_pass.specs.inner.Sought.{sought_from, sought_at, registered_at}
 use Rattle.one_pass.specs.inner.Marks.{with_marks, marks_given, IsTableOf, paths_of_mark}
-use Rattle.one_pass.specs.declared.sought.SoughtIndex.{SoughtIndex}
-use Rattle.edit_change.proofs.Brought.{shown, alone}
-use Rattle.edit_change.proofs.Brought as brought
+use Rattle.one_pass.specs.declared.sought.SoughtTable.{SoughtTable}
+use Rattle.edit_change.proofs.BroughtTops.{shown, alone}
+use Rattle.edit_change.proofs.BroughtTops as brought
 use Rattle.one_pass.proofs.CopiesFound.{tree-marked, in-turn, other-number, all-of}
 use Rattle.one_pass.proofs.MarksFilled.{seen-from}
-use Rattle.one_pass.proofs.Whole.{not_given, changed-whole}
+use Rattle.one_pass.proofs.WholeTree.{not_given, changed-whole}
 
 -- ---- trees that stand in a place
 below-dropped : (i : ℕ) (ps : List Path) → map (drop 1) (map (λ p. i ∷ p) ps) ≡ ps
@@ -84,7 +84,7 @@ own-past : (rs : List Address) (x : Address) → own_number (length rs) (registe
 own-past rs x = all-of (length rs) [] (registered_at rs x) ∙ ap (map (λ (m : ℕ). [])) (past-number 0 (length rs) rs x (omega arith))
 
 -- ---- the new tree
-module _ (rs : List Address) (cs : List Change) (places : ℕ → Path) (index : SoughtIndex) (root : Element) (table : IsTableOf rs index) where
+module _ (rs : List Address) (cs : List Change) (places : ℕ → Path) (index : SoughtTable) (root : Element) (table : IsTableOf rs index) where
   abbrev label_at : Path → ℕ → List ℕ
   label_at = wanted (sought_at index (address root))
 

@@ -2,7 +2,7 @@ ghost use Rattle.std.specs.Prelude.{◌≡◌, [], ◌∷◌, map, length, IfOk,
 ghost use Rattle.std.specs.List.{list_any};
 ghost use Rattle.edit_change.specs.Rewriting.{is_replaced};
 ghost use Rattle.edit_change.specs.inner.Aimed.{aims_of, has_parent, formed, formed_below, alter_below};
-ghost use Rattle.one_pass.specs.inner.Groups.{GrowsInside, StaysBefore, StaysBehind, AreGrouped};
+ghost use Rattle.one_pass.specs.inner.Groups.{GrowsInside, StaysBefore, StaysAfter, AreGrouped};
 
 use crate::groups::Groups;
 use edit_change::Aimed;
@@ -84,7 +84,7 @@ fn push_into<'a>(
     ensures size { length groups.new ≡ length groups.old }
     ensures inside { OnOk result (GrowsInside groups.old groups.new first count aim.entry) }
     ensures before { OnOk result (StaysBefore groups.old groups.new first count) }
-    ensures behind { OnOk result (StaysBehind groups.old groups.new first count) }
+    ensures after { OnOk result (StaysAfter groups.old groups.new first count) }
 {
     let end = first.saturating_add(count).min(groups.len());
     for slot in first..end {

@@ -19,7 +19,7 @@ pub(crate) fn levels(changes: &[Change]) -> usize
 }
 
 // One more owner of a depth.
-fn enter(owners: &mut Vec<Vec<usize>>, level: usize, owner: usize) -> Result<(), AllocError>
+fn push_owner(owners: &mut Vec<Vec<usize>>, level: usize, owner: usize) -> Result<(), AllocError>
     requires { level < length owners.now.items }
     ensures long { OnOk result (length owners.new.items ≡ length owners.old.items) }
     ensures here { OnOk result (owners_at owners.new.items level ≡ owners_at owners.old.items level ++ owner ∷ []) }
@@ -43,7 +43,7 @@ pub(crate) fn owners_by_depth(
     for owner in 0..changes.len() {
         let owned = dependents[owner].as_slice();
         if !owned.is_empty() {
-            enter(&mut owners, depth(&changes[owner]), owner)?;
+            push_owner(&mut owners, depth(&changes[owner]), owner)?;
         }
     }
     Ok(owners)

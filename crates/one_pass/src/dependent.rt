@@ -39,7 +39,7 @@ pub(crate) fn moved_aims<'a, 'b>(
     Ok(aims)
 }
 
-fn enter<'a>(
+fn push_dependent<'a>(
     table: &mut Vec<Vec<Dependent<'a>>>,
     owner: usize,
     dependent: Dependent<'a>,
@@ -98,7 +98,7 @@ pub(crate) fn dependents<'a>(
                 &changes[owner],
                 place_at(places, owner),
             )?;
-            enter(&mut table, owner, dependent)?;
+            push_dependent(&mut table, owner, dependent)?;
         }
     }
     Ok(table)

@@ -20,8 +20,8 @@ use crate::by_depth::owners_by_depth;
 use crate::dependent::{Dependent, moved_aims};
 use crate::mark::Mark;
 use crate::marked_given::{GivenTable, MarkedGiven};
-use crate::pass::rebuild;
-use crate::sought::SoughtIndex;
+use crate::pass::rewrite_element;
+use crate::sought::SoughtTable;
 use crate::walk::Walk;
 use cst_core::{GreenElement, SyntaxElement};
 use edit_change::{Aimed, Change, Given, green_payload};
@@ -33,7 +33,7 @@ fn rewritten_element(
     walk: &mut Walk,
     element: &SyntaxElement,
     aims: &[Aimed],
-    index: &SoughtIndex,
+    index: &SoughtTable,
     given: &GivenTable,
 ) -> Result<GreenElement, AllocError>
     ensures count { OnOk result (CountsElement aims.now element.now walk.old.builds walk.new.builds) }
@@ -41,7 +41,7 @@ fn rewritten_element(
     ensures marks { OnOk result (FindsElement given.now aims.now index.now element.now walk.old walk.new) }
 {
     let old = element.green(alloc)?;
-    let new = rebuild(alloc, walk, &old, aims, index.at(element), given)?;
+    let new = rewrite_element(alloc, walk, &old, aims, index.at(element), given)?;
     Ok(new)
 }
 
@@ -50,7 +50,7 @@ fn rewritten_each<'a>(
     alloc: Global,
     elements: &[SyntaxElement],
     aims: &[Aimed],
-    index: &SoughtIndex,
+    index: &SoughtTable,
     given: &GivenTable,
     builds: &mut u64,
 ) -> Result<MarkedGiven<'a>, AllocError>
@@ -78,7 +78,7 @@ fn rewritten_each<'a>(
 fn marked_payload<'a>(
     alloc: Global,
     change: &'a Change,
-    index: &SoughtIndex,
+    index: &SoughtTable,
 ) -> Result<MarkedGiven<'a>, AllocError>
     ensures trees { IfOk result (λ g. given_trees g.elements ≡ map subtree (payload change.now)) }
     ensures marks { IfOk result (λ g. IsMarked None g (payload_sought index.now (λ n. []) [] (payload change.now))) }
@@ -102,7 +102,7 @@ fn marked_payload<'a>(
 fn payloads<'a>(
     alloc: Global,
     changes: &'a [Change],
-    index: &SoughtIndex,
+    index: &SoughtTable,
 ) -> Result<GivenTable<'a>, AllocError>
     ensures top { IfOk result (λ t. t.top ≡ None) }
     ensures long { IfOk result (λ t. length t.entries.items ≡ length changes.now) }
@@ -130,7 +130,7 @@ fn fill(
     changes: &[Change],
     owner: usize,
     dependents: &[Dependent],
-    index: &SoughtIndex,
+    index: &SoughtTable,
 ) -> Result<(), AllocError>
     requires there { owner < length changes.now }
     requires long { length filling.now.given.entries.items ≡ length changes.now }
@@ -164,7 +164,7 @@ fn fill_level(
     changes: &[Change],
     dependents: &[Vec<Dependent>],
     owners: &[usize],
-    index: &SoughtIndex,
+    index: &SoughtTable,
 ) -> Result<(), AllocError>
     requires owned { length dependents.now ≡ length changes.now }
     requires there { All (λ c. c < length changes.now) owners.now }
@@ -195,7 +195,7 @@ pub(crate) fn given_table<'a>(
     alloc: Global,
     changes: &'a [Change],
     dependents: &[Vec<Dependent>],
-    index: &SoughtIndex,
+    index: &SoughtTable,
     builds: &mut u64,
 ) -> Result<GivenTable<'a>, AllocError>
     requires { length dependents.now ≡ length changes.now }

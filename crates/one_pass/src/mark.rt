@@ -42,7 +42,7 @@ pub fn push_here(
 }
 
 // One more at the end of a list.
-fn enter<'a>(
+fn push_sought<'a>(
     lists: &mut Vec<Vec<Sought<'a>>>,
     slot: usize,
     mark: Sought<'a>,
@@ -57,7 +57,7 @@ fn enter<'a>(
 }
 
 // One mark goes to the list of the child that its path leads to or below, if there is one.
-fn deal<'a>(lists: &mut Vec<Vec<Sought<'a>>>, mark: Sought<'a>) -> Result<(), AllocError>
+fn give_to_child<'a>(lists: &mut Vec<Vec<Sought<'a>>>, mark: Sought<'a>) -> Result<(), AllocError>
     ensures size { length lists.new.items ≡ length lists.old.items }
     ensures lists { OnOk result (IsDealt lists.old.items lists.new.items mark.entry.number mark.entry.path.now) }
 {
@@ -71,7 +71,7 @@ fn deal<'a>(lists: &mut Vec<Vec<Sought<'a>>>, mark: Sought<'a>) -> Result<(), Al
         number: mark.number,
         path,
     };
-    enter(lists, *slot, inner)?;
+    push_sought(lists, *slot, inner)?;
     Ok(())
 }
 
@@ -89,7 +89,7 @@ pub fn marks_by_child<'a>(
     }
     let mut lists = empty_lists(alloc, count)?;
     for mark in sought {
-        deal(&mut lists, *mark)?;
+        give_to_child(&mut lists, *mark)?;
     }
     Ok(lists)
 }

@@ -20,7 +20,7 @@ fn below_top(mut path: Vec<usize>) -> Vec<usize>
 }
 
 // One more at the end of a list.
-fn enter(
+fn push_path(
     lists: &mut Vec<Vec<Vec<usize>>>,
     number: usize,
     path: Vec<usize>,
@@ -46,7 +46,7 @@ fn deal(
 {
     let Mark { number, path } = mark;
     if number < lists.len() {
-        enter(lists, number, below_top(path))?;
+        push_path(lists, number, below_top(path))?;
         return Ok(());
     }
     if number == lists.len() {

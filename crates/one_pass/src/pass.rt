@@ -8,8 +8,8 @@ ghost use Rattle.one_pass.specs.inner.Pass.{changes_at};
 ghost use Rattle.one_pass.specs.inner.Pass.{TouchesAtMost, CountsBuilt, CountsBuiltWhole, CountsTouched};
 ghost use Rattle.one_pass.specs.inner.Pass.{CountsOn, CountsAltered, CountsSlot, children_built, new_trees};
 ghost use Rattle.one_pass.specs.inner.Pass.{PutsAltered, PutsSlot, FindsAltered, FindsSlot, FindsChildren};
-ghost use Rattle.one_pass.specs.inner.Pass.{remade, remade_whole};
-ghost use Rattle.one_pass.specs.inner.Pass.{FindsRebuilt, FindsWhole};
+ghost use Rattle.one_pass.specs.inner.Pass.{green_rewritten, green_rewritten_whole};
+ghost use Rattle.one_pass.specs.inner.Pass.{FindsRewritten, FindsWhole};
 
 use crate::aim_list::{
     aims_below, aims_by_child, alter_below, alter_some, is_replaced, top_is_replaced,
@@ -167,11 +167,11 @@ pub struct Child<'a> {
 /// begin with the walk's: `sought` has those of the old element.
 ///
 /// Only the nodes above an aim are built, and what no aim is in or below is shared; the walk counts the nodes, exactly,
-/// up to its greatest number. An aim over the top itself is passed over: see `rebuild_whole`. Takes time linear in the
+/// up to its greatest number. An aim over the top itself is passed over: see `rewrite_whole`. Takes time linear in the
 /// aims times their depth, the children of the nodes that are built or above a sought mark, the children that are
 /// replaced, and the lengths of the marks' paths.
-#[cycle(rebuild)]
-pub fn rebuild(
+#[cycle(rewrite_element)]
+pub fn rewrite_element(
     alloc: Global,
     walk: &mut Walk,
     element: &GreenElement,
@@ -183,8 +183,8 @@ pub fn rebuild(
     ensures builds { OnOk result (TouchesAtMost aims.now element.now walk.old.builds walk.new.builds) }
     ensures count { OnOk result (CountsBuilt aims.now element.now walk.old.builds walk.new.builds) }
     ensures whole { OnOk result (CountsTouched aims.now element.now walk.old.builds walk.new.builds) }
-    ensures tree { IfOk result (λ e. element_tree e ≡ remade given.now aims.now element.now) }
-    ensures marks { OnOk result (FindsRebuilt given.now aims.now sought.now element.now walk.old walk.new) }
+    ensures tree { IfOk result (λ e. element_tree e ≡ green_rewritten given.now aims.now element.now) }
+    ensures marks { OnOk result (FindsRewritten given.now aims.now sought.now element.now walk.old walk.new) }
 {
     let _count = walk.builds;
     if !alter_some(aims) {
@@ -200,7 +200,7 @@ pub fn rebuild(
 }
 
 // What is made of the children of a node, where the new node is at the walk's path.
-#[cycle(rebuild)]
+#[cycle(rewrite_element)]
 fn new_children(
     alloc: Global,
     walk: &mut Walk,
@@ -244,7 +244,7 @@ fn new_children(
 }
 
 // What stands in the slot of a child, by the aims that concern it.
-#[cycle(rebuild)]
+#[cycle(rewrite_element)]
 fn push_in_slot(
     alloc: Global,
     walk: &mut Walk,
@@ -273,7 +273,7 @@ fn push_in_slot(
 }
 
 // A child, made anew by those of its aims that are at it or below it.
-#[cycle(rebuild)]
+#[cycle(rewrite_element)]
 fn push_altered(
     alloc: Global,
     walk: &mut Walk,
@@ -289,32 +289,32 @@ fn push_altered(
     let inner = aims_below(alloc, child.aims, child.slot)?;
     let next = out.len();
     walk.path.push(next)?;
-    out.push(rebuild(alloc, walk, child.element, &inner, child.sought, given)?)?;
+    out.push(rewrite_element(alloc, walk, child.element, &inner, child.sought, given)?)?;
     walk.path.pop();
     Ok(())
 }
 
 /// Elements that stand in the place of one, and the marks of them: the first slot of each path is the element's index.
 #[derive(Drop)]
-pub struct Rebuilt {
+pub struct RewrittenElements {
     pub elements: Vec<GreenElement>,
     pub marks: Vec<Mark>,
 }
 
-/// What stands in the place of the element: what `rebuild` makes of it, or, where an aim is over the top itself, what
+/// What stands in the place of the element: what `rewrite_element` makes of it, or, where an aim is over the top itself, what
 /// that change gives.
-pub fn rebuild_whole(
+pub fn rewrite_whole(
     alloc: Global,
     element: &GreenElement,
     aims: &[Aimed],
     sought: &[Sought],
     given: &GivenTable,
     builds: &mut u64,
-) -> Result<Rebuilt, AllocError>
+) -> Result<RewrittenElements, AllocError>
     ensures builds { OnOk result (TouchesAtMost aims.now element.now builds.old builds.new) }
     ensures count { OnOk result (CountsBuiltWhole aims.now element.now builds.old builds.new) }
     ensures whole { OnOk result (CountsTouched aims.now element.now builds.old builds.new) }
-    ensures trees { IfOk result (λ r. element_trees r.elements.items ≡ remade_whole given.now aims.now element.now) }
+    ensures trees { IfOk result (λ r. element_trees r.elements.items ≡ green_rewritten_whole given.now aims.now element.now) }
     ensures marks { IfOk result (λ r. FindsWhole given.now aims.now sought.now element.now r.marks) }
 {
     let mut elements = Vec::new(alloc);
@@ -323,10 +323,10 @@ pub fn rebuild_whole(
         push_changes(alloc, &mut walk, &mut elements, given, aims, Place::Top)?;
     } else {
         walk.path.push(0)?;
-        elements.push(rebuild(alloc, &mut walk, element, aims, sought, given)?)?;
+        elements.push(rewrite_element(alloc, &mut walk, element, aims, sought, given)?)?;
     }
     *builds = walk.builds;
-    Ok(Rebuilt {
+    Ok(RewrittenElements {
         elements,
         marks: walk.found,
     })

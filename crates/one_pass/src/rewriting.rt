@@ -10,7 +10,7 @@ ghost use Rattle.edit_change.specs.NewTree.{independents};
 ghost use Rattle.edit_change.specs.inner.Aimed.{aims_of};
 ghost use Rattle.edit_change.specs.inner.Fate.{fate};
 ghost use Rattle.edit_change.specs.inner.OwnerPlaces.{places_in};
-ghost use Rattle.edit_change.specs.inner.TargetIndex.{IsIndex};
+ghost use Rattle.edit_change.specs.inner.TargetTable.{IsTargetTable};
 ghost use Rattle.one_pass.specs.inner.Root.{CountsAll, IsOnePass, KeepsTop};
 ghost use Rattle.one_pass.specs.inner.Root.{root_rewritten, FindsInRoot, CountsRoot};
 
@@ -18,11 +18,11 @@ use crate::dependent::dependents;
 use crate::given_table::given_table;
 use crate::mark_paths::mark_paths;
 use crate::marked_given::GivenTable;
-use crate::pass::{Rebuilt, rebuild_whole};
-use crate::sought::SoughtIndex;
+use crate::pass::{RewrittenElements, rewrite_whole};
+use crate::sought::SoughtTable;
 use cst_core::{GreenNode, SyntaxElement, SyntaxNode};
 use edit_change::{
-    Aimed, Change, Fate, Planned, TargetIndex, node_for_root, numbered_aim, only_node,
+    Aimed, Change, Fate, Planned, TargetTable, node_for_root, numbered_aim, only_node,
 };
 use std::alloc::{AllocError, Global};
 
@@ -52,7 +52,7 @@ pub fn rewrite(
     requires node { IsNode planned.root.now }
     requires fit { All (Fits planned.root.now) planned.changes.now }
     requires apart { first_clash planned.changes.now ≡ None }
-    requires targets { IsIndex planned.changes.now planned.targets.now }
+    requires targets { IsTargetTable planned.changes.now planned.targets.now }
     requires fates { planned.fates.now ≡ map (fate planned.changes.now) planned.changes.now }
     requires places { length planned.places.now ≡ length planned.changes.now }
     ensures made { IfOk result (IsOnePass planned.entry.root.now planned.entry.changes.now (places_in planned.entry.places.now) registered.now) }
@@ -67,10 +67,10 @@ pub fn rewrite(
     } = planned;
     let aims = independent_aims(alloc, changes, fates)?;
     let dependents = dependents(alloc, changes, fates, places)?;
-    let index = SoughtIndex::of(alloc, registered)?;
+    let index = SoughtTable::of(alloc, registered)?;
     let mut given = given_table(alloc, changes, &dependents, &index, builds)?;
     given.top = Some(registered.len());
-    let Rebuilt { elements, marks } = rebuilt_root(alloc, root, &aims, &index, &given, builds)?;
+    let RewrittenElements { elements, marks } = rewritten_root(alloc, root, &aims, &index, &given, builds)?;
     keep_top(root, changes, targets);
     let paths = mark_paths(alloc, marks, registered.len())?;
     Ok(OnePass {
@@ -100,14 +100,14 @@ fn independent_aims<'a>(
 }
 
 // What stands in the place of the root, with the marks of it: those of a table, and those of what changes give.
-fn rebuilt_root(
+fn rewritten_root(
     alloc: Global,
     root: &SyntaxNode,
     aims: &[Aimed],
-    index: &SoughtIndex,
+    index: &SoughtTable,
     given: &GivenTable,
     builds: &mut u64,
-) -> Result<Rebuilt, AllocError>
+) -> Result<RewrittenElements, AllocError>
     ensures count { OnOk result (CountsRoot root.now aims.now builds.old builds.new) }
     ensures trees { IfOk result (λ r. element_trees r.elements.items ≡ root_rewritten root.now aims.now given.now) }
     ensures marks { IfOk result (λ r. FindsInRoot root.now aims.now given.now index.now r.marks) }
@@ -115,16 +115,16 @@ fn rebuilt_root(
     let root = SyntaxElement::Node(root.try_clone(alloc)?);
     let old = root.green(alloc)?;
     let sought = index.at(&root);
-    let rebuilt = rebuild_whole(alloc, &old, aims, sought, given, builds)?;
-    Ok(rebuilt)
+    let rewritten = rewrite_whole(alloc, &old, aims, sought, given, builds)?;
+    Ok(rewritten)
 }
 
 // One node stands in the place of the root: the root itself, or the node that replaces it.
-fn keep_top(root: &SyntaxNode, changes: &[Change], targets: &TargetIndex)
+fn keep_top(root: &SyntaxNode, changes: &[Change], targets: &TargetTable)
     requires node { IsNode root.now }
     requires fit { All (Fits root.now) changes.now }
     requires apart { first_clash changes.now ≡ None }
-    requires targets { IsIndex changes.now targets.now }
+    requires targets { IsTargetTable changes.now targets.now }
     ensures { KeepsTop root.now changes.now }
 {
     let _ = root;

@@ -6,7 +6,7 @@ ghost use Rattle.cst_core.specs.SyntaxElement.{element_of};
 ghost use Rattle.path_table.specs.inner.PathTable.{size};
 ghost use Rattle.one_pass.specs.inner.Marked.{sought_as, sought_in};
 ghost use Rattle.one_pass.specs.inner.OneMore.{HasOneMore, StaysElsewhere};
-ghost use Rattle.one_pass.specs.inner.Sought.{addresses, sought_from, sought_at, IsSoughtIndex};
+ghost use Rattle.one_pass.specs.inner.Sought.{addresses, sought_from, sought_at, IsSoughtTable};
 ghost use Rattle.one_pass.specs.inner.Sought.{HasSameLists, HasListedMore, IsMarkEntered, HasRegisteredMore};
 
 use crate::mark::Sought;
@@ -16,22 +16,22 @@ use std::alloc::{AllocError, Global};
 
 /// The registered elements at an element or below it, by that element. An element is told by its tree number and its path.
 #[derive(Drop)]
-pub(crate) struct SoughtIndex<'a> {
+pub(crate) struct SoughtTable<'a> {
     // The tree's number comes first on the path, and then come the slots.
     cells: PathTable,
     // By cell.
     lists: Vec<Vec<Sought<'a>>>,
 }
 
-impl<'a> SoughtIndex<'a> {
+impl<'a> SoughtTable<'a> {
     // A table of nothing, with room for the lists of so many cells.
-    fn with_capacity(alloc: Global, cells: usize) -> Result<SoughtIndex<'a>, AllocError>
-        ensures index { IfOk result IsSoughtIndex }
+    fn with_capacity(alloc: Global, cells: usize) -> Result<SoughtTable<'a>, AllocError>
+        ensures index { IfOk result IsSoughtTable }
         ensures empty { IfOk result (λ x. (a : Address) → sought_at x a ≡ []) }
     {
         let lists = Vec::with_capacity(alloc, cells)?;
         let cells = PathTable::with_capacity(alloc, cells)?;
-        Ok(SoughtIndex { cells, lists })
+        Ok(SoughtTable { cells, lists })
     }
 
     /// Whether nothing is registered. Where this says no, an element may still have none.
@@ -97,14 +97,14 @@ impl<'a> SoughtIndex<'a> {
     }
 
     // One more mark at the cell below another one, at a slot.
-    fn enter(
+    fn enter_mark(
         &mut self,
         alloc: Global,
         cell: usize,
         slot: usize,
         mark: Sought<'a>,
     ) -> Result<usize, AllocError>
-        requires index { IsSoughtIndex self.old }
+        requires index { IsSoughtTable self.old }
         requires here { cell ≤ size self.old.cells }
         ensures { IfOk result (λ next. IsMarkEntered self.old self.new cell slot (sought_as mark.entry) next) }
     {
@@ -120,20 +120,20 @@ impl<'a> SoughtIndex<'a> {
         number: usize,
         element: &'a SyntaxElement,
     ) -> Result<(), AllocError>
-        requires { IsSoughtIndex self.old }
-        ensures index { OnOk result (IsSoughtIndex self.new) }
+        requires { IsSoughtTable self.old }
+        ensures index { OnOk result (IsSoughtTable self.new) }
         ensures more { OnOk result (HasRegisteredMore self.old self.new number (address (element_of element.now))) }
     {
         let path = element.slots();
         let tree = element.tree() as usize;
-        let mut cell = self.enter(alloc, 0, tree, Sought { number, path })?;
+        let mut cell = self.enter_mark(alloc, 0, tree, Sought { number, path })?;
         for depth in 0..path.len() {
             let (_, below) = path.split_at(depth + 1);
             let mark = Sought {
                 number,
                 path: below,
             };
-            cell = self.enter(alloc, cell, path[depth], mark)?;
+            cell = self.enter_mark(alloc, cell, path[depth], mark)?;
         }
         Ok(())
     }
@@ -142,10 +142,10 @@ impl<'a> SoughtIndex<'a> {
     pub(crate) fn of(
         alloc: Global,
         elements: &'a [SyntaxElement],
-    ) -> Result<SoughtIndex<'a>, AllocError>
+    ) -> Result<SoughtTable<'a>, AllocError>
         ensures { IfOk result (λ x. (a : Address) → sought_at x a ≡ sought_from 0 (addresses elements.now) a) }
     {
-        let mut index = SoughtIndex::with_capacity(alloc, elements.len())?;
+        let mut index = SoughtTable::with_capacity(alloc, elements.len())?;
         for number in 0..elements.len() {
             index.register(alloc, number, &elements[number])?;
         }

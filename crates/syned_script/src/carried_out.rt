@@ -96,15 +96,15 @@ fn record(alloc: Global, session: &mut Session, lines: &[&str]) -> Result<usize,
 {
     for (index, text) in lines.iter().enumerate() {
         let number = index + 1;
-        if is_finish(alloc, session, text).map_err(|stop| stop.at(number))? {
+        if carry_out_line(alloc, session, text).map_err(|stop| stop.at(number))? {
             return Ok(number);
         }
     }
     Err(Stop::Bad.at(lines.len() + 1))
 }
 
-// Whether the line is `finish`. Any other one is carried out.
-fn is_finish(alloc: Global, session: &mut Session, text: &str) -> Result<bool, Stop> {
+// Carries the line out. Answers whether it was `finish`.
+fn carry_out_line(alloc: Global, session: &mut Session, text: &str) -> Result<bool, Stop> {
     match read_line(alloc, text)? {
         Line::Finish => Ok(true),
         line => {

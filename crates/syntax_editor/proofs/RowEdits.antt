@@ -32,7 +32,7 @@ tree_hash = branch ATTR (token POUND (codes "#") ∷ [])
 abbrev pub tree_hash_fn : SyntaxTree
 tree_hash_fn = branch SOURCE_FILE (tree_hash ∷ branch FN (token FN_KW (codes "fn") ∷ []) ∷ [])
 
--- the list J behind a new line with 1,020 spaces
+-- the list J after a new line with 1,020 spaces
 abbrev pub tree_deep : SyntaxTree
 tree_deep = branch SOURCE_FILE (token WHITESPACE (newline ∷ replicate 1020 space) ∷ tree_J ∷ [])
 

@@ -100,10 +100,10 @@ attributes_and_comments_deleted = refl
 attributes_and_comments_deleted_outcome : outcome (remove_attrs_and_docs (element_of (in_tree tree_H [])) []) tree_H ≡ (codes "fn f() {}", [])
 attributes_and_comments_deleted_outcome = refl
 
--- only what is of the kind WHITESPACE directly behind an attribute or a comment goes with it, a node too
+-- only what is of the kind WHITESPACE directly after an attribute or a comment goes with it, a node too
 abbrev spaced_out : SyntaxTree
 spaced_out =
     branch FN (token WHITESPACE (codes " ") ∷ branch ATTR [] ∷ token WHITESPACE (codes " ") ∷ token WHITESPACE (codes " ") ∷ token DOC_COMMENT (codes "///") ∷ branch WHITESPACE [] ∷ token FN_KW (codes "fn") ∷ token WHITESPACE (codes " ") ∷ [])
 
-slots_of_whitespace_directly_behind : removed_slots spaced_out ≡ 1 ∷ 2 ∷ 4 ∷ 5 ∷ []
-slots_of_whitespace_directly_behind = refl
+slots_of_whitespace_directly_after : removed_slots spaced_out ≡ 1 ∷ 2 ∷ 4 ∷ 5 ∷ []
+slots_of_whitespace_directly_after = refl

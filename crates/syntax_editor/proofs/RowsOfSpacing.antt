@@ -19,21 +19,21 @@ use Rattle.syntax_editor.proofs.RowEdits.{outcome, in_tree, R, A3, S1, G, V, has
 abbrev inserted : Position → SyntaxElement → List Change
 inserted at e = recorded (spaced_insert 20 at (e ∷ [])) []
 
-space_behind_a_new_element : outcome (inserted (After (R (2 ∷ []))) A3) tree_L ≡ (codes "(1, 3 2)", (3 ∷ []) ∷ (4 ∷ []) ∷ [])
+space_after_a_new_element : outcome (inserted (After (R (2 ∷ []))) A3) tree_L ≡ (codes "(1, 3 2)", (3 ∷ []) ∷ (4 ∷ []) ∷ [])
 unfolding chars
-space_behind_a_new_element = refl
+space_after_a_new_element = refl
 
-space_behind_a_new_first_child : outcome (inserted (FirstChild (element_of (R []))) A3) tree_L ≡ (codes "3 (1, 2)", (0 ∷ []) ∷ (1 ∷ []) ∷ [])
+space_after_a_new_first_child : outcome (inserted (FirstChild (element_of (R []))) A3) tree_L ≡ (codes "3 (1, 2)", (0 ∷ []) ∷ (1 ∷ []) ∷ [])
 unfolding chars
-space_behind_a_new_first_child = refl
+space_after_a_new_first_child = refl
 
 new_line_before_a_new_statement : outcome (inserted (After (in_tree tree_B (0 ∷ 0 ∷ []))) S1) tree_B ≡ (codes "{\n    let first = 1;\n    let second = 2;\n}", (0 ∷ 1 ∷ []) ∷ (0 ∷ 2 ∷ []) ∷ [])
 unfolding chars
 new_line_before_a_new_statement = refl
 
-new_line_behind_an_opening_brace : outcome (inserted (After (in_tree tree_J (0 ∷ []))) G) tree_J ≡ (codes "{\n    use }", (1 ∷ []) ∷ (2 ∷ []) ∷ (3 ∷ []) ∷ [])
+new_line_after_an_opening_brace : outcome (inserted (After (in_tree tree_J (0 ∷ []))) G) tree_J ≡ (codes "{\n    use }", (1 ∷ []) ∷ (2 ∷ []) ∷ (3 ∷ []) ∷ [])
 unfolding chars
-new_line_behind_an_opening_brace = refl
+new_line_after_an_opening_brace = refl
 
 new_lines_round_a_new_attribute : outcome (inserted (After (in_tree tree_hash_fn (0 ∷ []))) hash) tree_hash_fn ≡ (codes "#\n#\nfn", (1 ∷ []) ∷ (2 ∷ []) ∷ (3 ∷ []) ∷ [])
 unfolding chars

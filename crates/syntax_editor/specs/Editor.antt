@@ -4,7 +4,7 @@
 --     has_parent                    an element is not the root of its tree
 --     edited_root, new_editor       the root that a new editor edits, one of a tree of its own where it has a parent; that editor
 --     LacksRootNumber               such a tree is to be made, and its source of numbers is spent
---     after_call, Records           what a call that records leaves behind; it was carried out
+--     after_call, Records           what a call that records leaves after; it was carried out
 --     Takes, RecordRefuses          nothing speaks against a call; why it is refused
 --     MemoryLast                    where a call can look for its reasons without memory, as where all that it is given is owned, it runs out only where nothing speaks against the call
 --     HasPairs, Maps                a factory with these pairs, whose copies win over those that it had; an editor whose factory took them up

@@ -4,7 +4,7 @@
 --     all_children                 each is a child of its node, and of its tree
 --     all_at                       what is true of all pairs is true of one
 --     nodes_in                     the pairs of two nodes
---     enough, no_stranger, no_other_shape, behind, ahead      what a builder makes of them
+--     enough, no_stranger, no_other_shape, after, ahead      what a builder makes of them
 --     comes, along                 what it can refuse them for, and why a node is not indented then
 use Rattle.std.specs.Prelude.{◌≡◌, ◌≢◌, ℕ, zero, suc, ◌<◌, ◌≤◌, ◌&&◌, not, nat_eq, nat_le, Bool, true, false, All, List, [], ◌∷◌, ◌++◌, length, map, filter_map, slice_get, zip, Option, Some, None, option_map, option_and_then, unwrap_or, IsSome, refl}
 use Rattle.std.specs.List.{AllByRecursion}
@@ -20,7 +20,7 @@ use Rattle.cst_core.specs.declared.element.SyntaxElement.{SyntaxElement}
 use Rattle.edit_map.specs.Builder.{IsPairUnder, RefusesFirst, RefusesChildren}
 use Rattle.edit_map.specs.declared.map_error.MapError.{MapError}
 use Rattle.edit_map.specs.declared.map_error.MapError.TheVariants.{NotAChild, NotYounger, OtherShape, MoreInputs, Memory}
-use Rattle.whitespace.specs.MappedAlong.{is_behind}
+use Rattle.whitespace.specs.MappedAlong.{is_too_old}
 use Rattle.whitespace.specs.inner.AlongRefusal.{AlongRefuses, of_pairs}
 use Rattle.whitespace.specs.declared.indent_error.IndentError.{IndentError}
 use Rattle.whitespace.specs.declared.indent_error.IndentError.TheVariants as indent
@@ -185,11 +185,11 @@ zip_some : (xs ys : List Element) (before : List (Element × Element)) (p : Elem
 zip_some [] ys before p after is = absurd (zip_none before p after is)
 zip_some (x ∷ xs) ys before p after is = omega arith
 
-yes_behind : (n a b : ℕ) → 0 < n → a ≤ b → (not (nat_eq n 0) && nat_le a b) ≡ true
-yes_behind n a b some le = grind (arith, nat_tests)
+yes_after : (n a b : ℕ) → 0 < n → a ≤ b → (not (nat_eq n 0) && nat_le a b) ≡ true
+yes_after n a b some le = grind (arith, nat_tests)
 
-not_behind : (n a b : ℕ) → b < a → (not (nat_eq n 0) && nat_le a b) ≡ false
-not_behind n a b less = grind (arith, nat_tests)
+not_after : (n a b : ℕ) → b < a → (not (nat_eq n 0) && nat_le a b) ≡ false
+not_after n a b less = grind (arith, nat_tests)
 
 module _ (old new : Element) where
   risen : (xs ys : List Element) → length xs ≡ length ys → AllByRecursion (IsPair old new) (zip xs ys) → AllByRecursion (IsPairUnder new) (zip xs ys) → (not (nat_eq (length xs) 0) && nat_le new.number old.number) ≡ false
@@ -199,7 +199,7 @@ module _ (old new : Element) where
       let less = taken.0.is_pair.rises.0 in
       let own = pairs.0.2 in
       let copy = pairs.0.3 in
-      not_behind (length (x ∷ xs)) new.number old.number (omega arith)
+      not_after (length (x ∷ xs)) new.number old.number (omega arith)
 
   module _ (parent : Element) (xs ys : List Element) (is_parent : parent ≡ new) (is_in : xs ≡ child_nodes old) (is_out : ys ≡ child_nodes new) (pairs : InPairs old new (child_nodes old) (child_nodes new)) where
     all : AllByRecursion (IsPair old new) (zip xs ys)
@@ -220,16 +220,16 @@ module _ (old new : Element) where
     pub no_other_shape : RefusesFirst parent (zip xs ys) OtherShape → ⊥
     no_other_shape r = r.refused.2 (found OtherShape r).0
 
-    pub behind : RefusesFirst parent (zip xs ys) NotYounger → is_behind old new.number ≡ true
-    behind r =
+    pub after : RefusesFirst parent (zip xs ys) NotYounger → is_too_old old new.number ≡ true
+    after r =
         let pair = found NotYounger r in
         let le = r.refused.1 in
         let some : 0 < length (child_nodes old) = subst (λ n. 0 < n) (ap length is_in) (zip_some xs ys r.before r.pair r.after r.is) in
         let own = pair.2 in
         let copy = pair.3 in
-        yes_behind (length (child_nodes old)) new.number old.number some (omega arith)
+        yes_after (length (child_nodes old)) new.number old.number some (omega arith)
 
-    pub ahead : All (IsPairUnder parent) (zip xs ys) → is_behind old new.number ≡ false
+    pub ahead : All (IsPairUnder parent) (zip xs ys) → is_too_old old new.number ≡ false
     ahead taken =
         subst (λ zs. (not (nat_eq (length zs) 0) && nat_le new.number old.number) ≡ false) is_in
         (risen xs ys count all (recursion_from_All (IsPairUnder new) (zip xs ys) (subst (λ p. All (IsPairUnder p) (zip xs ys)) is_parent taken)))
@@ -242,9 +242,9 @@ module _ (old new : Element) where
     comes MoreInputs r = absurd (enough r)
     comes Memory r = refl
 
-    pub along : (e : MapError) (f : IndentError) → RefusesChildren parent xs ys e → of_pairs e ≡ Some f → AlongRefuses (is_behind old new.number) f
+    pub along : (e : MapError) (f : IndentError) → RefusesChildren parent xs ys e → of_pairs e ≡ Some f → AlongRefuses (is_too_old old new.number) f
     along NotAChild f r is = absurd (no_stranger r.1)
-    along NotYounger f r is = subst (AlongRefuses (is_behind old new.number)) (same_Some indent.NotYounger f is) (behind r.1)
+    along NotYounger f r is = subst (AlongRefuses (is_too_old old new.number)) (same_Some indent.NotYounger f is) (after r.1)
     along OtherShape f r is = absurd (no_other_shape r.1)
     along MoreInputs f r is = absurd (enough r)
-    along Memory f r is = subst (AlongRefuses (is_behind old new.number)) (same_Some indent.Memory f is) tt
+    along Memory f r is = subst (AlongRefuses (is_too_old old new.number)) (same_Some indent.Memory f is) tt

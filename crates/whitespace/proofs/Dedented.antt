@@ -1,9 +1,9 @@
 -- Texts dedented line by line.
 --     stripped, kept               a line that begins with the spaces of a level, and one that does not
---     text_behind, line_more       what stands behind a newline is text; one line more
---     behind                       the lines of what stands behind a newline, dedented and joined
+--     text_after, line_more       what stands after a newline is text; one line more
+--     after                       the lines of what stands after a newline, dedented and joined
 --     dedented_at, dedented_none   a text cut at its first newline; one without a newline
---     behind_at, behind_none       the same of what stands behind a newline
+--     after_at, after_none       the same of what stands after a newline
 use Rattle.std.specs.Prelude.{◌≡◌, ℕ, ◌+◌, ◌*◌, ◌<◌, ◌≢◌, true, false, nat_eq, List, [], ◌∷◌, ◌++◌, length, take, drop, map, slice_index, None, refl}
 use Rattle.std.specs.List.{starts_with, join_with_byte, All}
 use Rattle.std.specs.Str.{IsUtf8}
@@ -41,9 +41,9 @@ module _ (l : ℕ) (line : List ℕ) where
       whole same = sym (take-append-drop (length spaces) line) ∙ ap (λ t. t ++ drop (length spaces) line) (sym same)
 
 -- ---- the lines of a text
--- what stands behind a newline is text
-pub text_behind : (s first rest : List ℕ) → IsUtf8 s → s ≡ first ++ newline ∷ rest → IsUtf8 rest
-text_behind s first rest text is =
+-- what stands after a newline is text
+pub text_after : (s first rest : List ℕ) → IsUtf8 s → s ≡ first ++ newline ∷ rest → IsUtf8 rest
+text_after s first rest text is =
     let size : length first < length s = subst (λ n. length first < n) (sym (ap length is ∙ length-append first (newline ∷ rest))) (omega arith) in
     let here : slice_index s (length first) ≡ newline = ap (λ t. slice_index t (length first)) is ∙ get_or-append_seam first newline rest 0 in
     let cut : IsUtf8 (drop (length first + 1) s) = IsUtf8-drop s (length first + 1) text (IsCharBoundary-after_ascii s (length first) text size (omega arith)) in
@@ -68,8 +68,8 @@ joined-more first [] view = cc
 joined-more first (p ∷ ps) view = refl
 
 module _ (l : ℕ) where
-  abbrev pub behind : List ℕ → List ℕ
-  behind s = join_with_byte newline (map (dedented_line l) (lines s))
+  abbrev pub after : List ℕ → List ℕ
+  after s = join_with_byte newline (map (dedented_line l) (lines s))
 
   some_lines : (s : List ℕ) → (p : List ℕ) × (ps : List (List ℕ)) × (map (dedented_line l) (lines s) ≡ p ∷ ps)
   some_lines s =
@@ -80,11 +80,11 @@ module _ (l : ℕ) where
     cut : lines s ≡ first ∷ lines rest
     cut = ap lines is ∙ slice_split_at is_newline first newline rest (other_bytes first other) refl
 
-    pub dedented_at : dedented_text l s ≡ first ++ newline ∷ behind rest
+    pub dedented_at : dedented_text l s ≡ first ++ newline ∷ after rest
     dedented_at = ap (λ ls. join_with_byte newline (dedented_lines l ls)) cut ∙ joined-more first (map (dedented_line l) (lines rest)) (some_lines rest)
 
-    pub behind_at : behind s ≡ dedented_line l first ++ newline ∷ behind rest
-    behind_at = ap (λ ls. join_with_byte newline (map (dedented_line l) ls)) cut ∙ joined-more (dedented_line l first) (map (dedented_line l) (lines rest)) (some_lines rest)
+    pub after_at : after s ≡ dedented_line l first ++ newline ∷ after rest
+    after_at = ap (λ ls. join_with_byte newline (map (dedented_line l) ls)) cut ∙ joined-more (dedented_line l first) (map (dedented_line l) (lines rest)) (some_lines rest)
 
   module _ (s : List ℕ) (other : (i : ℕ) → i < length s → slice_index s i ≢ newline) where
     whole : lines s ≡ s ∷ []
@@ -93,5 +93,5 @@ module _ (l : ℕ) where
     pub dedented_none : dedented_text l s ≡ s
     dedented_none = ap (λ ls. join_with_byte newline (dedented_lines l ls)) whole
 
-    pub behind_none : behind s ≡ dedented_line l s
-    behind_none = ap (λ ls. join_with_byte newline (map (dedented_line l) ls)) whole
+    pub after_none : after s ≡ dedented_line l s
+    after_none = ap (λ ls. join_with_byte newline (map (dedented_line l) ls)) whole

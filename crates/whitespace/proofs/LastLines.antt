@@ -1,5 +1,5 @@
--- What stands behind the last newline of a text, as a search from the end finds it.
---     behind_none, behind_found     where such a search finds no newline, and where it finds one
+-- What stands after the last newline of a text, as a search from the end finds it.
+--     after_none, after_found     where such a search finds no newline, and where it finds one
 use Rattle.std.specs.Prelude.{◌≡◌, ℕ, ◌<◌, true, false, ◌||◌, List, ◌∷◌, ◌++◌, length, take, drop, slice_index, Bool, cond, Option, Some, None, refl}
 use Rattle.std.specs.List.{after_last}
 use Rattle.std.specs.Str.{NoCharPasses}
@@ -25,11 +25,11 @@ no_newline s none =
           | inr isnt ↦ isnt
         ]
 
-abbrev pub Behind : List ℕ → Option (List ℕ) → Type 0
-Behind s line = line ≡ cond (has_newline s) (Some (after_last is_newline s)) None
+abbrev pub AfterElement : List ℕ → Option (List ℕ) → Type 0
+AfterElement s line = line ≡ cond (has_newline s) (Some (after_last is_newline s)) None
 
-pub behind_none : (s : List ℕ) → RFindsChar newline s None → Behind s None
-behind_none s none = sym (cond-false _ _ _ (no_newline s none))
+pub after_none : (s : List ℕ) → RFindsChar newline s None → AfterElement s None
+after_none s none = sym (cond-false _ _ _ (no_newline s none))
 
 module _ (s : List ℕ) (i j : ℕ) (found : RFindsChar newline s (Some (i, j))) where
   whole : take i s ++ newline ∷ drop j s ≡ s
@@ -45,8 +45,8 @@ module _ (s : List ℕ) (i j : ℕ) (found : RFindsChar newline s (Some (i, j)))
   last : after_last is_newline s ≡ drop j s
   last = subst (λ t. after_last is_newline t ≡ drop j s) whole (after_last-last (take i s) (drop j s) (no_newline (drop j s) found.0))
 
-pub behind_found : (s front back : List ℕ) → SplitsAroundMatch (RFindsChar newline) s front back → Behind s (Some back)
-behind_found s front back split =
+pub after_found : (s front back : List ℕ) → SplitsAroundMatch (RFindsChar newline) s front back → AfterElement s (Some back)
+after_found s front back split =
     let i = split.0 in
     let j = split.1 in
     ap Some (split.4 ∙ sym (last s i j split.2)) ∙ sym (cond-true _ _ _ (holds s i j split.2))

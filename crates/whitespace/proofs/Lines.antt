@@ -1,7 +1,7 @@
 -- The lines of a text that holds a newline, and its last one.
---     LastLine, last_line       a text by what stands before its last newline and what stands behind; the parts of each text that holds one
+--     LastLine, last_line       a text by what stands before its last newline and what stands after; the parts of each text that holds one
 --     lines-last                its lines
---     after_last-last           what stands behind its last newline
+--     after_last-last           what stands after its last newline
 use Rattle.std.specs.Prelude.{◌≡◌, ℕ, suc, ◌+◌, ◌-◌, ◌<◌, ◌≤◌, Bool, true, false, cond, not, ◌||◌, List, [], ◌∷◌, ◌++◌, length, drop, All, refl}
 use Rattle.std.specs.List.{slice_split, onto_first, list_any, suffix_len, after_last, slice_index_or}
 use Rattle.std.proofs.Common.{ap, ◌∙◌, arith}
@@ -73,13 +73,13 @@ pub lines-last : (before last : List ℕ) → list_any is_newline last ≡ false
 lines-last before last none =
     slice_split-cut is_newline before newline last refl ∙ ap (λ parts. lines before ++ parts) (slice_split_none is_newline last (none_pass is_newline last none))
 
--- ---- what stands behind it
+-- ---- what stands after it
 module _ (before last : List ℕ) where
   abbrev whole : List ℕ
   whole = before ++ newline ∷ last
 
-  behind : (k : ℕ) → length before + 1 ≤ k → slice_index_or whole k 0 ≡ slice_index_or last (k - (length before + 1)) 0
-  behind k from =
+  after : (k : ℕ) → length before + 1 ≤ k → slice_index_or whole k 0 ≡ slice_index_or last (k - (length before + 1)) 0
+  after k from =
       let next : k - length before ≡ suc (k - (length before + 1)) = omega arith in
       get_or-append_right before (newline ∷ last) (length before) k 0 refl (omega arith) ∙ ap (λ i. slice_index_or (newline ∷ last) i 0) next
 
@@ -102,7 +102,7 @@ module _ (before last : List ℕ) where
       other : (k : ℕ) → length before + 1 ≤ k → k < length whole → is_other (slice_index_or whole k 0) ≡ true
       other k from below =
           let inside : k - (length before + 1) < length last = omega (arith, size) in
-          ap is_other (behind k from) ∙ ap not (none_pass is_newline last none (k - (length before + 1)) 0 inside)
+          ap is_other (after k from) ∙ ap not (none_pass is_newline last none (k - (length before + 1)) 0 inside)
 
   pub after_last-last : list_any is_newline last ≡ false → after_last is_newline whole ≡ last
   after_last-last none =

@@ -1,4 +1,4 @@
--- The whitespace behind an anchor, by the kinds of what stands round it.
+-- The whitespace after an anchor, by the kinds of what stands round it.
 --     parent_is                    the parent that a call answers
 --     opened, not_opened           where the new element is on a line of its own, and where the table says it
 use Rattle.std.specs.Prelude.{◌≡◌, ℕ, suc, Bool, true, false, [], ◌∷◌, Some, Result}
@@ -7,7 +7,7 @@ use Rattle.std.proofs.lemmas.Bool.{cond-true, cond-false}
 use Rattle.cst_core.specs.Path.{Path, parent_path}
 use Rattle.cst_core.specs.Tree.{SyntaxTree}
 use Rattle.cst_core.specs.Element.{Element, element_at, parent_of}
-use Rattle.whitespace.specs.Spacing.{NewLine, Neighbor, opens_list, space_behind, between}
+use Rattle.whitespace.specs.Spacing.{NewLine, Neighbor, opens_list, space_in_parent, between}
 use Rattle.whitespace.specs.inner.SpaceInCode.{FindsSpace}
 use Rattle.whitespace.specs.declared.space_error.SpaceError.{SpaceError}
 use Rattle.whitespace.specs.declared.space.Space as code
@@ -28,8 +28,8 @@ module _ (parent anchor first : Neighbor) (kp ka kf : ℕ) (opens : Bool) (is_pa
       ∙ ap (λ k. opens_list parent anchor (record { kind = k; level = first.level })) is_first
 
   module _ (r : Result code.Space SpaceError) where
-    pub opened : opens ≡ true → FindsSpace (NewLine (suc parent.level)) r → FindsSpace (space_behind parent anchor first) r
+    pub opened : opens ≡ true → FindsSpace (NewLine (suc parent.level)) r → FindsSpace (space_in_parent parent anchor first) r
     opened does found = subst (λ s. FindsSpace s r) (sym (cond-true _ _ _ (sym test ∙ does))) found
 
-    pub not_opened : opens ≡ false → FindsSpace (between anchor first) r → FindsSpace (space_behind parent anchor first) r
+    pub not_opened : opens ≡ false → FindsSpace (between anchor first) r → FindsSpace (space_in_parent parent anchor first) r
     not_opened does found = subst (λ s. FindsSpace s r) (sym (cond-false _ _ _ (sym test ∙ does))) found

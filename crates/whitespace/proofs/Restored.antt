@@ -27,7 +27,7 @@ only_spaces (b ∷ s) all =
     let parts = and_parts (is_space b) (list_all is_space s) all in
     ap₂ (λ c t. c ∷ t) (eqb-true b space parts.0) (only_spaces s parts.1)
 
--- spaces behind it may as well stand before it
+-- spaces after it may as well stand before it
 turned : (l : ℕ) (s : List ℕ) → list_all is_space s ≡ true → s ++ level_text l ≡ level_text l ++ s
 turned l s all =
     let spaces = only_spaces s all in

@@ -44,7 +44,7 @@ too_deep_at_the_limit = refl
 level_printed : level_text 3 ≡ codes "            "
 level_printed = refl
 
--- the last newline counts, and each character behind it, spaces or not; the last text ends with one of two bytes
+-- the last newline counts, and each character after it, spaces or not; the last text ends with one of two bytes
 levels_of_whitespace : ◌≡◌ {A = List ℕ} (map level_alone (codes "\n    \n        " ∷ codes "    " ∷ codes "\n  x " ∷ (newline ∷ space ∷ space ∷ 195 ∷ 169 ∷ []) ∷ [])) (2 ∷ 0 ∷ 1 ∷ 0 ∷ [])
 unfolding chars
 levels_of_whitespace = refl

@@ -23,15 +23,15 @@ new_line_between = refl
 one_space_between : between_kinds ((NAME, NAME) ∷ (AMP, NAME) ∷ (NAME, LIFETIME) ∷ (USE, NAME) ∷ (NAME, ATTR) ∷ (L_CURLY, FN) ∷ []) ≡ OneSpace ∷ OneSpace ∷ OneSpace ∷ OneSpace ∷ OneSpace ∷ OneSpace ∷ []
 one_space_between = refl
 
--- ---- behind an opening brace
+-- ---- after an opening brace
 abbrev opened : SyntaxKind → SyntaxKind → Space
 opened parent first = space_before (After (syntax_of (element_of_tree 1 (branch parent (token L_CURLY (codes "{") ∷ [])) (0 ∷ [])))) (element_of_tree 2 (branch first []) [])
 
-new_line_behind_an_opening_brace : ◌≡◌ {A = List Space} (opened ITEM_LIST USE ∷ opened STMT_LIST USE ∷ opened STMT_LIST FN ∷ opened STMT_LIST EXPR_STMT ∷ []) (NewLine 1 ∷ NewLine 1 ∷ NewLine 1 ∷ NewLine 1 ∷ [])
+new_line_after_an_opening_brace : ◌≡◌ {A = List Space} (opened ITEM_LIST USE ∷ opened STMT_LIST USE ∷ opened STMT_LIST FN ∷ opened STMT_LIST EXPR_STMT ∷ []) (NewLine 1 ∷ NewLine 1 ∷ NewLine 1 ∷ NewLine 1 ∷ [])
 unfolding chars
-new_line_behind_an_opening_brace = refl
+new_line_after_an_opening_brace = refl
 
 -- an item in the braces of items, a literal, an import in another node's braces
-as_between_behind_other_braces : ◌≡◌ {A = List Space} (opened ITEM_LIST FN ∷ opened STMT_LIST LITERAL ∷ opened BLOCK_EXPR USE ∷ []) (OneSpace ∷ OneSpace ∷ NewLine 0 ∷ [])
+as_between_after_other_braces : ◌≡◌ {A = List Space} (opened ITEM_LIST FN ∷ opened STMT_LIST LITERAL ∷ opened BLOCK_EXPR USE ∷ []) (OneSpace ∷ OneSpace ∷ NewLine 0 ∷ [])
 unfolding chars
-as_between_behind_other_braces = refl
+as_between_after_other_braces = refl

@@ -46,7 +46,7 @@ module _ (shift : Shift) (k : ℕ) (s : List ℕ) where
 
 -- ---- the children of a node
 module _ (shift : Shift) where
-  -- these begin the new children of a node, and those behind them up to this slot stay
+  -- these begin the new children of a node, and those after them up to this slot stay
   pub record Built (old new : List SyntaxTree) (n : ℕ) : Type 0 where
     pub short : length new ≤ n
     pub made : new ++ drop (length new) (take n old) ≡ map (shifted shift) (take n old)

@@ -18,7 +18,7 @@ use Rattle.cst_core.specs.Tree.{Forest, Token, Node, end, more, SyntaxTree, at, 
 use Rattle.cst_core.specs.Order.{token_paths, tokens_before}
 use Rattle.cst_core.specs.Element.{Element, IsToken, element_at, below, subtree}
 use Rattle.cst_core.specs.SyntaxElement.{token_before}
-use Rattle.whitespace.specs.Level.{breaks_line, tokens_up_to, level_behind, token_level, level, is_too_deep}
+use Rattle.whitespace.specs.Level.{breaks_line, tokens_up_to, level_after, token_level, level, is_too_deep}
 use Rattle.whitespace.specs.LevelCalls.{ReadsLevel}
 use Rattle.whitespace.specs.declared.level.IndentLevel.{IndentLevel}
 
@@ -120,7 +120,7 @@ none_before : (p : Path) (ps : List Path) → AllByRecursion (λ q. precedes p q
 none_before p [] all = refl
 none_before p (q ∷ ps) all = cond-false _ _ _ (precedes-turned p q all.0) ∙ none_before p ps all.1
 
--- what stands behind an element that is not before e is not before e either
+-- what stands after an element that is not before e is not before e either
 none_further : (p e : Path) (ps : List Path) → precedes p e ≡ false → AllByRecursion (λ q. precedes p q ≡ true) ps → filter (λ q. precedes q e) ps ≡ []
 none_further p e [] not all = refl
 none_further p e (q ∷ ps) not all =
@@ -185,7 +185,7 @@ level_of_token e is = at_tree (at e.root e.path) refl is
         ap (λ t. option_map_or token_level (option_map (below e) (first_item (token_paths t))) 0) (ap (λ o. unwrap_or o (Token 0 [])) was) ∙ ap (λ p. token_level (element_at e p)) (itself e.path)
 
 abbrev level_of : Element → ℕ
-level_of whitespace = level_behind (text (subtree whitespace))
+level_of whitespace = level_after (text (subtree whitespace))
 
 abbrev read : List Element → ℕ
 read tokens = option_map_or level_of (last_item (filter breaks_line tokens)) 0
@@ -214,7 +214,7 @@ module _ (e : Element) where
   up_to : tokens_up_to e ≡ map (element_at e) before ++ e ∷ []
   up_to = map-append (element_at e) before (e.path ∷ [])
 
-  pub level_here : breaks_line e ≡ true → token_level e ≡ level_behind (text (subtree e))
+  pub level_here : breaks_line e ≡ true → token_level e ≡ level_after (text (subtree e))
   level_here here =
       ap read up_to ∙ ap (λ l. option_map_or level_of (last_item l) 0) (filter-last (map (element_at e) before) e ∙ ap (λ b. filter breaks_line (map (element_at e) before) ++ cond b (e ∷ []) []) here) ∙ ap (λ l. option_map_or level_of l 0) (last_of_joined (filter breaks_line (map (element_at e) before)) e)
 

@@ -4,7 +4,7 @@
 --     has_newline                     a text holds a newline
 --     breaks_line                     a whitespace token that holds a newline
 --     tokens_up_to                    the tokens of a tree up to this one, in document order
---     level_behind                    the level of what stands behind a text that holds a newline
+--     level_after                    the level of what stands after a text that holds a newline
 --     token_level, level              of a token: by the nearest whitespace token that breaks the line, at it or before it; of an element: of the first token in it
 --     is_too_deep                     a level that is past the greatest one
 use Rattle.std.specs.Prelude.{ℕ, ◌*◌, ◌/◌, ◌==◌, ◌&&◌, Bool, nat_lt, List, [], ◌∷◌, ◌++◌, length, replicate, map, filter}
@@ -41,11 +41,11 @@ abbrev pub tokens_up_to : Element → List Element
 tokens_up_to token = map (element_at token) (tokens_before token.root token.path ++ token.path ∷ [])
 
 -- the characters after the last newline, of which each four are a level
-abbrev pub level_behind : List ℕ → ℕ
-level_behind s = length (chars (after_last is_newline s)) / 4
+abbrev pub level_after : List ℕ → ℕ
+level_after s = length (chars (after_last is_newline s)) / 4
 
 abbrev pub token_level : Element → ℕ
-token_level token = option_map_or (λ whitespace. level_behind (text (subtree whitespace))) (last_item (filter breaks_line (tokens_up_to token))) 0
+token_level token = option_map_or (λ whitespace. level_after (text (subtree whitespace))) (last_item (filter breaks_line (tokens_up_to token))) 0
 
 abbrev pub level : Element → ℕ
 level e = option_map_or token_level (first_token_of e) 0

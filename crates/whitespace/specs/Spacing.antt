@@ -4,7 +4,7 @@
 --     is_statement, opens_list     a neighbor is a statement; a new element is an import or a statement, first in the braces of its list
 --     between                      the whitespace between two neighbors: the first line of the table that fits
 --     space_before, space_after    the whitespace at a position before the first new element, and after the last
---     space_behind                 that after an element, where the parent and the first new element are these
+--     space_in_parent                 that after an element, where the parent and the first new element are these
 --     space_following              that after an element, before a first new one
 --     next_of                      the element that stands after a position
 --     is_deep                      a new line at a level past the greatest one
@@ -82,11 +82,11 @@ is_statement n = list_any (is n) statement_kinds
 abbrev pub opens_list : Neighbor → Neighbor → Neighbor → Bool
 opens_list parent anchor first = is anchor L_CURLY && ((is parent ITEM_LIST && is first USE) || (is parent STMT_LIST && is_statement first))
 
-abbrev pub space_behind : Neighbor → Neighbor → Neighbor → Space
-space_behind parent anchor first = cond (opens_list parent anchor first) (NewLine (suc parent.level)) (between anchor first)
+abbrev pub space_in_parent : Neighbor → Neighbor → Neighbor → Space
+space_in_parent parent anchor first = cond (opens_list parent anchor first) (NewLine (suc parent.level)) (between anchor first)
 
 abbrev pub space_following : Element → Element → Space
-space_following anchor first = space_behind (neighbor (element_at anchor (parent_path anchor.path))) (neighbor anchor) (neighbor first)
+space_following anchor first = space_in_parent (neighbor (element_at anchor (parent_path anchor.path))) (neighbor anchor) (neighbor first)
 
 abbrev pub space_before : Position → Element → Space
 space_before (FirstChild n) first = NoSpace

@@ -5,7 +5,7 @@ ghost use Rattle.std.specs.Fmt.{styled_text};
 ghost use Rattle.cst_core.specs.SyntaxElement.{element_of};
 ghost use Rattle.cst_core.specs.declared.element.SyntaxElement.TheVariants.{Node, Token};
 ghost use Rattle.cst_core.specs.Tree.{text};
-ghost use Rattle.whitespace.specs.Level.{space, level_text, has_newline, breaks_line, level_behind, token_level, level};
+ghost use Rattle.whitespace.specs.Level.{space, level_text, has_newline, breaks_line, level_after, token_level, level};
 ghost use Rattle.whitespace.specs.LevelCalls.{ReadsLevel, ReadsAtOnce};
 ghost use Rattle.whitespace.specs.inner.LastLine.{last_line};
 
@@ -128,7 +128,7 @@ impl IndentLevel {
         ensures at_once { ReadsAtOnce (Token token.now) result }
     {
         if breaks_line(token) {
-            return level_behind(token.text());
+            return level_after(token.text());
         }
         match token.prev_token(alloc)? {
             Some(before) => level_back(alloc, before),
@@ -186,13 +186,13 @@ fn level_back(alloc: Global, token: SyntaxToken) -> Result<IndentLevel, IndentEr
         };
         current = before;
     }
-    level_behind(current.text())
+    level_after(current.text())
 }
 
 // The level of what stands after a text that holds a newline.
-fn level_behind(text: &str) -> Result<IndentLevel, IndentError>
+fn level_after(text: &str) -> Result<IndentLevel, IndentError>
     requires { has_newline text.now ≡ true }
-    ensures level { ReadsLevel (level_behind text.now) result }
+    ensures level { ReadsLevel (level_after text.now) result }
     ensures without_memory { ¬ (result ≡ Err IndentError.Memory) }
 {
     let Some(line) = last_line(text) else {

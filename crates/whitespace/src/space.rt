@@ -101,7 +101,7 @@ fn line_below(alloc: Global, parent: &SyntaxNode) -> Result<Space, SpaceError>
 }
 
 // The whitespace between an anchor and the first new element after it.
-fn space_behind(
+fn space_in_parent(
     alloc: Global,
     anchor: &SyntaxElement,
     first: &SyntaxElement,
@@ -122,7 +122,7 @@ fn space_before(alloc: Global, at: &Position, first: &SyntaxElement) -> Result<S
     ensures { FindsSpace (space_before at.now (element_of first.now)) result }
 {
     match at.after_of() {
-        Some(anchor) => space_behind(alloc, anchor, first),
+        Some(anchor) => space_in_parent(alloc, anchor, first),
         None => Ok(Space::Nothing),
     }
 }

@@ -15,8 +15,8 @@ use Rattle.cst_core.specs.declared.element.SyntaxElement.{SyntaxElement}
 use Rattle.edit_change.specs.declared.change.Change.{Change}
 use Rattle.edit_change.specs.declared.change.Change.TheVariants.{Replace}
 use Rattle.change_list.specs.inner.ByPath.{replacements_at, is_replace_at}
-use Rattle.change_list.specs.declared.replace_index.Replaced.{Replaced}
-use Rattle.change_list.specs.declared.replace_index.ReplaceIndex.{ReplaceIndex}
+use Rattle.change_list.specs.declared.replace_table.Replaced.{Replaced}
+use Rattle.change_list.specs.declared.replace_table.ReplaceTable.{ReplaceTable}
 
 abbrev pub replaced_at : Path → List Change → Option Replaced
 replaced_at p cs = option_map (λ i. record { first = i; is_deleted = list_any is_none (replacements_at p cs) }) (position (is_replace_at p) cs)
@@ -26,25 +26,25 @@ as_deleted None = None
 as_deleted (Some r) = Some (record { first = r.first; is_deleted = true })
 
 -- ---- the index
-abbrev pub entry_at : ReplaceIndex → Path → Option Replaced
+abbrev pub entry_at : ReplaceTable → Path → Option Replaced
 entry_at x p = get_by (λ k. same_path p k.items) x.entries
 
-abbrev pub SaysAt : Path → Option Replaced → ReplaceIndex → ReplaceIndex → Type 0
+abbrev pub SaysAt : Path → Option Replaced → ReplaceTable → ReplaceTable → Type 0
 SaysAt path replaced before after = (p : Path) → entry_at after p ≡ cond (same_path path p) replaced (entry_at before p)
 
-abbrev pub SaysDeleted : Path → ReplaceIndex → ReplaceIndex → Type 0
+abbrev pub SaysDeleted : Path → ReplaceTable → ReplaceTable → Type 0
 SaysDeleted path before after = (p : Path) → entry_at after p ≡ cond (same_path path p) (as_deleted (entry_at before p)) (entry_at before p)
 
-abbrev pub room : ReplaceIndex → ℕ
+abbrev pub room : ReplaceTable → ℕ
 room x = spare x.entries
 
-abbrev pub Agrees : ReplaceIndex → List Change → Type 0
+abbrev pub Agrees : ReplaceTable → List Change → Type 0
 Agrees x cs = (p : Path) → entry_at x p ≡ replaced_at p cs
 
 -- ---- more changes at the end, which an index is told of where the call is not refused
-abbrev pub Notes : {A E : Type 0} → Result A E → ℕ → List Change → ReplaceIndex → ReplaceIndex → Type 0
+abbrev pub Notes : {A E : Type 0} → Result A E → ℕ → List Change → ReplaceTable → ReplaceTable → Type 0
 Notes r number more before after = (cs : List Change) → length cs ≡ number → Agrees before cs → OnOk r (Agrees after (cs ++ more))
 
-abbrev pub NotesReplace : {A E : Type 0} → Result A E → ℕ → SyntaxElement → Bool → ReplaceIndex → ReplaceIndex → Type 0
+abbrev pub NotesReplace : {A E : Type 0} → Result A E → ℕ → SyntaxElement → Bool → ReplaceTable → ReplaceTable → Type 0
 NotesReplace r number e deletes before after =
     (cs : List Change) (new : Option SyntaxElement) → length cs ≡ number → is_none new ≡ deletes → Agrees before cs → OnOk r (Agrees after (cs ++ Replace e new ∷ []))

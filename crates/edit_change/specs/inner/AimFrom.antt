@@ -4,7 +4,7 @@
 use Rattle.std.specs.Prelude.{ℕ, suc, ◌-◌, length}
 use Rattle.cst_core.specs.Path.{Path, last_slot}
 use Rattle.cst_core.specs.SyntaxElement.{element_of}
-use Rattle.edit_change.specs.Aim.{Aim, FirstIn, Behind, Over}
+use Rattle.edit_change.specs.Aim.{Aim, FirstIn, AfterElement, Over}
 use Rattle.edit_change.specs.inner.Aimed.{siblings_from}
 use Rattle.edit_change.specs.Position.{anchor}
 use Rattle.edit_change.specs.ChangeAim.{aim_path}
@@ -15,7 +15,7 @@ use Rattle.edit_change.specs.declared.change.Change.TheVariants.{Insert, InsertA
 
 abbrev pub position_aim_from : Path → Position → Aim
 position_aim_from p (FirstChild n) = FirstIn p
-position_aim_from p (After e) = Behind p
+position_aim_from p (After e) = AfterElement p
 
 abbrev pub aim_from : Path → Change → Aim
 aim_from p (Insert at e) = position_aim_from p at

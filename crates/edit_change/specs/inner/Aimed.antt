@@ -12,7 +12,7 @@
 --     alter_below                   some aim, as it is seen from a child slot, alters the children of a node
 use Rattle.std.specs.Prelude.{◌||◌, ℕ, zero, suc, Bool, true, false, cond, nat_eq, List, [], ◌∷◌, ◌++◌, map, Option, Some, None, option_map}
 use Rattle.green_tree.specs.Path.{has_path, Path, parent_path, last_slot, counted_from}
-use Rattle.edit_change.specs.Aim.{Aim, FirstIn, Behind, Over, parents}
+use Rattle.edit_change.specs.Aim.{Aim, FirstIn, AfterElement, Over, parents}
 use Rattle.std.specs.List.{list_any}
 use Rattle.edit_change.specs.Rewriting.{NumberedAim}
 use Rattle.edit_change.specs.declared.aimed.AimForm.{AimForm}
@@ -26,7 +26,7 @@ siblings_from (i ∷ p) n = map (λ j. parent_path (i ∷ p) ++ j ∷ []) (count
 
 abbrev pub aim_in : Path → AimForm → Aim
 aim_in p form.FirstIn = FirstIn p
-aim_in p form.Behind = Behind p
+aim_in p form.AfterElement = AfterElement p
 aim_in p (form.Over n) = Over (siblings_from p n)
 
 pub record FormedAim : Type 0 where
@@ -79,7 +79,7 @@ alter_below i xs = list_any has_parent (map of_formed (formed_below i xs))
 abbrev pub reaches : ℕ → Path → AimForm → Bool
 reaches i [] w = false
 reaches i (j ∷ q) form.FirstIn = nat_eq i j
-reaches i (j ∷ q) form.Behind = nat_eq i j
+reaches i (j ∷ q) form.AfterElement = nat_eq i j
 reaches i (j ∷ []) (form.Over n) = nat_eq i j || has_path (map (λ s. s ∷ []) (counted_from j n)) (i ∷ [])
 reaches i (j ∷ k ∷ q) (form.Over n) = nat_eq i j
 

@@ -13,8 +13,8 @@ use Rattle.cst_core.specs.declared.element.SyntaxElement.{SyntaxElement}
 use Rattle.edit_map.specs.Mapping.{Mapping, mapped_elements}
 use Rattle.edit_plan.specs.Plan.{Plan, IsPlan, new_plan}
 use Rattle.edit_change.specs.inner.Fate.{fate}
-use Rattle.edit_change.specs.inner.TargetIndex.{IsIndex}
-use Rattle.edit_change.specs.declared.target_index.TargetIndex.{TargetIndex}
+use Rattle.edit_change.specs.inner.TargetTable.{IsTargetTable}
+use Rattle.edit_change.specs.declared.target_table.TargetTable.{TargetTable}
 use Rattle.edit_change.specs.inner.OwnerPlaces.{places_in}
 use Rattle.edit_change.specs.declared.change.Change.{Change}
 use Rattle.edit_change.specs.Places.{ArePlaces}
@@ -22,15 +22,15 @@ use Rattle.edit_plan.specs.declared.edit_error.EditError.{EditError}
 use Rattle.edit_plan.specs.declared.edit_error.EditError.TheVariants.{NoTreeNumber, Memory}
 use Rattle.edit_change.specs.declared.fate.Fate.{Fate}
 
-pub record IsPlanned (p : Plan) (targets : TargetIndex) (fates : List Fate) (places : List (Option (Vec ℕ Global))) : Type 0 where
+pub record IsPlanned (p : Plan) (targets : TargetTable) (fates : List Fate) (places : List (Option (Vec ℕ Global))) : Type 0 where
   pub is_plan : IsPlan p
-  pub targets_are : IsIndex p.changes targets
+  pub targets_are : IsTargetTable p.changes targets
   pub fates_are : fates ≡ map (fate p.changes) p.changes
   pub long : length places ≡ length p.changes
   pub placed : ArePlaces p.mapping p.changes (places_in places)
 
 -- the same of what code has
-abbrev pub IsPlanKept : Element → Vec Change Global → Vec (SyntaxElement × ℕ) Global → Mapping → TargetIndex → Vec Fate Global → Vec (Option (Vec ℕ Global)) Global → Type 0
+abbrev pub IsPlanKept : Element → Vec Change Global → Vec (SyntaxElement × ℕ) Global → Mapping → TargetTable → Vec Fate Global → Vec (Option (Vec ℕ Global)) Global → Type 0
 IsPlanKept root changes rs m targets fates places = IsPlanned (new_plan root changes rs m) targets fates.items places.items
 
 pub record IsNewRoot (e : Element) : Type 0 where

@@ -8,7 +8,7 @@ use Rattle.std.specs.Prelude.{◌-◌, ℕ, zero, suc, cond, nat_lt, min, [], �
 use Rattle.green_tree.specs.Path.{Path, parent_path, last_slot}
 use Rattle.green_tree.specs.Tree.{Token, Node, SyntaxTree, trees, at}
 use Rattle.edit_change.specs.declared.aimed.AimForm.{AimForm}
-use Rattle.edit_change.specs.declared.aimed.AimForm.TheVariants.{FirstIn, Behind, Over}
+use Rattle.edit_change.specs.declared.aimed.AimForm.TheVariants.{FirstIn, AfterElement, Over}
 use Rattle.edit_steps.specs.declared.stage.done.Among.{Among}
 use Rattle.edit_steps.specs.declared.stage.done.Among.TheVariants.{Gap, Slots}
 use Rattle.edit_steps.specs.declared.stage.aim_target.OldChild.{OldChild}
@@ -46,6 +46,6 @@ site_of a = (a.parent.now, a.at)
 
 abbrev pub live_target : SyntaxTree → Path → AimForm → Option Site
 live_target t p FirstIn = option_map (λ count. (p, Gap 0)) (child_count t p)
-live_target t p Behind = option_map (λ c. (c.parent, Gap (suc c.slot))) (child_at t p)
+live_target t p AfterElement = option_map (λ c. (c.parent, Gap (suc c.slot))) (child_at t p)
 live_target t p (Over zero) = None
 live_target t p (Over (suc n)) = option_map (λ c. (c.parent, Slots c.slot (min (suc n) c.left))) (child_at t p)

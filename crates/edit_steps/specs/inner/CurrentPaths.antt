@@ -15,7 +15,7 @@ use Rattle.green_tree.specs.Path.{Path, same_path}
 use Rattle.edit_steps.specs.declared.stage.done.Among.{Among}
 use Rattle.edit_steps.specs.declared.stage.done.Among.TheVariants.{Gap, Slots}
 use Rattle.edit_steps.specs.declared.stage.done.Done.{Done}
-use Rattle.edit_steps.specs.declared.stage.done_index.DoneIndex.{DoneIndex}
+use Rattle.edit_steps.specs.declared.stage.done_table.DoneTable.{DoneTable}
 
 -- ---- among the children of one node
 abbrev pub index_of : Among → ℕ
@@ -61,14 +61,14 @@ current_path done [] = []
 current_path done (i ∷ p) = start (done []) (Slots i 1) ∷ current_path (λ q. done (i ∷ q)) p
 
 -- ---- in code
-abbrev pub done_at : DoneIndex → Path → List Done
+abbrev pub done_at : DoneTable → Path → List Done
 done_at index p = option_map_or (λ v. v.items) (get_by (λ k. same_path p k.items) index.lists) []
 
-abbrev pub done_below : DoneIndex → Path → Path → List Done
+abbrev pub done_below : DoneTable → Path → Path → List Done
 done_below index p q = done_at index (p ++ q)
 
-abbrev pub HasOneMore : DoneIndex → DoneIndex → Path → Done → Type 0
+abbrev pub HasOneMore : DoneTable → DoneTable → Path → Done → Type 0
 HasOneMore before after at d = (p : Path) → done_at after p ≡ cond (same_path p at) (done_at before at ++ d ∷ []) (done_at before p)
 
-abbrev pub SameDone : DoneIndex → DoneIndex → Type 0
+abbrev pub SameDone : DoneTable → DoneTable → Type 0
 SameDone before after = (p : Path) → done_at after p ≡ done_at before p

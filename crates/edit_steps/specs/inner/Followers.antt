@@ -15,7 +15,7 @@ use Rattle.std.specs.List.{enumerate_from}
 use Rattle.edit_change.specs.Aim.{Aim, same_gap}
 use Rattle.edit_change.specs.ChangeAim.{aim}
 use Rattle.edit_change.specs.Nesting.{is_dropped, owner, Numbered}
-use Rattle.edit_change.specs.inner.TargetIndex.{target_at}
+use Rattle.edit_change.specs.inner.TargetTable.{target_at}
 use Rattle.edit_change.specs.declared.change.Change.{Change}
 use Rattle.edit_steps.specs.Schedule.{anchor_token, index_in}
 use Rattle.edit_steps.specs.declared.order.followers.Followers.{Followers}

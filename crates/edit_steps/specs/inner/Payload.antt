@@ -11,7 +11,7 @@ use Rattle.edit_change.specs.Nesting.{is_keeping}
 use Rattle.edit_change.specs.inner.Fate.{fate, is_dropped_in}
 use Rattle.edit_change.specs.declared.change.Change.{Change}
 use Rattle.edit_change.specs.declared.fate.Fate.{Fate}
-use Rattle.edit_steps.specs.inner.Stage.{old_tree, new_tree, IsStage}
+use Rattle.edit_steps.specs.inner.Stage.{old_tree, present_tree, IsStage}
 use Rattle.edit_steps.specs.declared.stage.Stage.{Stage}
 
 abbrev pub keeps_payload : Change → Fate → Bool
@@ -33,4 +33,4 @@ pub record BeginPayloads (cs : List Change) (stages : List (Option Stage)) : Typ
 
 abbrev pub payload_trees : Change → Option Stage → List SyntaxTree
 payload_trees c None = map subtree (payload c)
-payload_trees c (Some s) = new_tree s ∷ []
+payload_trees c (Some s) = present_tree s ∷ []

@@ -1,11 +1,11 @@
 -- An element with some changes carried out, one at a time.
---     old_tree, new_tree            the element with nothing done; as it stands now
+--     old_tree, present_tree            the element with nothing done; as it stands now
 --     IsStage                       these aims are done, each of which gave this: the new tree is the old one, rewritten by them
 --     IsNext                        an aim can be the next to be done, with its number between those of these and those of these
---     CanStep                       it is so of some aims that are done
---     TakesStep                     whatever was done, that aim is done too, which gave these elements
---     StaysAs                       whatever was done, nothing more is
---     CountsStep                    how a count of built nodes rises
+--     StageCanStep                       it is so of some aims that are done
+--     StageTakesStep                     whatever was done, that aim is done too, which gave these elements
+--     StageStaysAs                       whatever was done, nothing more is
+--     StageCountsStep                    how a count of built nodes rises
 use Rattle.std.specs.Prelude.{◌≡◌, ℕ, suc, true, false, List, [], ◌∷◌, ◌++◌, length, Some}
 use Rattle.green_tree.specs.Path.{Path}
 use Rattle.green_tree.specs.Tree.{Forest, Node, SyntaxTree, trees, at}
@@ -22,11 +22,11 @@ use Rattle.edit_steps.specs.inner.Counts.{IsCounted}
 abbrev pub old_tree : Stage → SyntaxTree
 old_tree s = element_tree s.original
 
-abbrev pub new_tree : Stage → SyntaxTree
-new_tree s = element_tree s.current
+abbrev pub present_tree : Stage → SyntaxTree
+present_tree s = element_tree s.current
 
 pub record IsStage (given : ℕ → List SyntaxTree) (cs : List NumberedAim) (s : Stage) : Type 0 where
-  pub tree : new_tree s ≡ rewritten kind_only given cs [] (old_tree s)
+  pub tree : present_tree s ≡ rewritten kind_only given cs [] (old_tree s)
   pub counted : (p : Path) (k : ℕ) (f : Forest ℕ) → at (old_tree s) p ≡ Some (Node k f) → IsCounted given cs p (length (trees f)) (done_at s.done p)
 
 -- ---- what can be done next
@@ -40,18 +40,18 @@ pub record IsNext (xs : List NumberedAim) (c : NumberedAim) (ys : List NumberedA
   -- and nothing is put between two of them
   pub none_between : (p : Path) (i : ℕ) → replaces (p ++ i ∷ []) c.1 ≡ true → replaces (p ++ suc i ∷ []) c.1 ≡ true → inserts_at (xs ++ ys) p (suc i) ≡ []
 
-abbrev pub CanStep : Stage → NumberedAim → Type 0
-CanStep s c =
+abbrev pub StageCanStep : Stage → NumberedAim → Type 0
+StageCanStep s c =
     (given : ℕ → List SyntaxTree) × (xs : List NumberedAim) × (ys : List NumberedAim) × IsStage given (xs ++ ys) s × IsNext xs c ys
 
 -- ---- a step
-abbrev pub TakesStep : Stage → Stage → NumberedAim → List SyntaxTree → Type 0
-TakesStep before after c ts =
+abbrev pub StageTakesStep : Stage → Stage → NumberedAim → List SyntaxTree → Type 0
+StageTakesStep before after c ts =
     (given : ℕ → List SyntaxTree) (xs ys : List NumberedAim) → IsStage given (xs ++ ys) before → IsNext xs c ys → given c.0 ≡ ts → IsStage given (xs ++ c ∷ ys) after
 
-abbrev pub StaysAs : Stage → Stage → Type 0
-StaysAs before after = (given : ℕ → List SyntaxTree) (cs : List NumberedAim) → IsStage given cs before → IsStage given cs after
+abbrev pub StageStaysAs : Stage → Stage → Type 0
+StageStaysAs before after = (given : ℕ → List SyntaxTree) (cs : List NumberedAim) → IsStage given cs before → IsStage given cs after
 
 -- ---- how much it takes
-abbrev pub CountsStep : Stage → NumberedAim → ℕ → ℕ → Type 0
-CountsStep s c before after = after ≡ counted before (step_builds (old_tree s) c.1)
+abbrev pub StageCountsStep : Stage → NumberedAim → ℕ → ℕ → Type 0
+StageCountsStep s c before after = after ≡ counted before (step_builds (old_tree s) c.1)

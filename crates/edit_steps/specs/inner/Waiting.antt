@@ -3,7 +3,7 @@
 --     HasChange                     there is a change with this number
 --     is_done, done_list            a change is done; of each change, whether it is
 use Rattle.std.specs.Prelude.{◌≡◌, ◌<◌, ℕ, Bool, true, false, List, map, length, slice_get, slice_index_or, Some}
-use Rattle.edit_change.specs.inner.TargetIndex.{IsApart}
+use Rattle.edit_change.specs.inner.TargetTable.{IsApart}
 use Rattle.edit_change.specs.declared.change.Change.{Change}
 use Rattle.edit_steps.specs.inner.Followers.{owner_link, gap_link, token_link}
 use Rattle.edit_steps.specs.inner.Waits.{IsCounted, standing_of}

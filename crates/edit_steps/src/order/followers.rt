@@ -1,12 +1,12 @@
 ghost use Rattle.std.specs.Prelude.{◌≡◌, ◌<◌, None, map, length, slice_get, option_map, option_and_then, IfOk, OnOk};
 ghost use Rattle.edit_change.specs.inner.Fate.{fate};
-ghost use Rattle.edit_change.specs.inner.TargetIndex.{number_at, IsApart, IsIndex};
+ghost use Rattle.edit_change.specs.inner.TargetTable.{number_at, IsApart, IsTargetTable};
 ghost use Rattle.edit_steps.specs.Schedule.{token_before, anchor_token};
 ghost use Rattle.edit_steps.specs.inner.Followers.{owner_link, gap_link, token_link, IsLinked, AreFollowers};
 
 use crate::order::gap_table::GapTable;
 use cst_core::SyntaxElement;
-use edit_change::{Change, Fate, Position, TargetIndex};
+use edit_change::{Change, Fate, Position, TargetTable};
 use std::alloc::{AllocError, Global};
 
 /// Of each change, by its number, the changes that have to wait for it: at most one for each reason. A dropped change has
@@ -76,7 +76,7 @@ fn next_in_gaps(
 }
 
 // What replaces the token that a change stands after.
-fn replacement(targets: &TargetIndex, change: &Change) -> Option<usize>
+fn replacement(targets: &TargetTable, change: &Change) -> Option<usize>
     ensures { result ≡ option_and_then (number_at targets.now) (anchor_token change.now) }
 {
     targets.get(anchor_token(change)?)
@@ -84,11 +84,11 @@ fn replacement(targets: &TargetIndex, change: &Change) -> Option<usize>
 
 fn replacements(
     alloc: Global,
-    targets: &TargetIndex,
+    targets: &TargetTable,
     changes: &[Change],
     fates: &[Fate],
 ) -> Result<Vec<Option<usize>>, AllocError>
-    requires targets { IsIndex changes.now targets.now }
+    requires targets { IsTargetTable changes.now targets.now }
     requires fates { fates.now ≡ map (fate changes.now) changes.now }
     ensures { IfOk result (λ v. IsLinked (token_link changes.now) changes.now v.items) }
 {
@@ -107,11 +107,11 @@ fn replacements(
 impl Followers {
     pub(crate) fn of(
         alloc: Global,
-        targets: &TargetIndex,
+        targets: &TargetTable,
         changes: &[Change],
         fates: &[Fate],
     ) -> Result<Followers, AllocError>
-        requires targets { IsIndex changes.now targets.now }
+        requires targets { IsTargetTable changes.now targets.now }
         requires fates { fates.now ≡ map (fate changes.now) changes.now }
         ensures linked { IfOk result (AreFollowers changes.now) }
         ensures apart { OnOk result (IsApart changes.now) }

@@ -13,7 +13,7 @@ pub(crate) struct GapTable {
     // By the path of the node whose first gap it is.
     first: HashMap<Vec<usize>, usize>,
     // By the path of the element that it is after.
-    behind: HashMap<Vec<usize>, usize>,
+    after_element: HashMap<Vec<usize>, usize>,
 }
 
 impl GapTable {
@@ -22,7 +22,7 @@ impl GapTable {
     {
         GapTable {
             first: HashMap::new(alloc),
-            behind: HashMap::new(alloc),
+            after_element: HashMap::new(alloc),
         }
     }
 
@@ -40,7 +40,7 @@ impl GapTable {
         if position.first_of().is_some() {
             Ok(self.first.insert(path, number)?)
         } else {
-            Ok(self.behind.insert(path, number)?)
+            Ok(self.after_element.insert(path, number)?)
         }
     }
 

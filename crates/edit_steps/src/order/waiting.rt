@@ -1,6 +1,6 @@
 ghost use Rattle.std.specs.Prelude.{◌≡◌, ◌<◌, ℕ, None, Some, Bool, true, false, ◌&&◌, ◌||◌, nat_eq, slice_index, slice_set, List, map, length, slice_get, IfOk};
 ghost use Rattle.std.specs.List.{list_all};
-ghost use Rattle.edit_change.specs.inner.TargetIndex.{IsIndex};
+ghost use Rattle.edit_change.specs.inner.TargetTable.{IsTargetTable};
 ghost use Rattle.edit_change.specs.inner.Fate.{fate};
 ghost use Rattle.edit_change.specs.declared.change.Change.{Change};
 ghost use Rattle.edit_steps.specs.Schedule.{is_complete, is_ready};
@@ -9,7 +9,7 @@ ghost use Rattle.edit_steps.specs.inner.Waits.{is_settled, standing_in};
 
 use crate::order::followers::Followers;
 use crate::order::waits::Waits;
-use edit_change::{Change, Fate, TargetIndex};
+use edit_change::{Change, Fate, TargetTable};
 use std::alloc::{AllocError, Global};
 
 /// How far a change is.
@@ -73,11 +73,11 @@ impl Waiting {
     /// Takes time near linear in the paths of the changes.
     pub fn new(
         alloc: Global,
-        targets: &TargetIndex,
+        targets: &TargetTable,
         changes: &[Change],
         fates: &[Fate],
     ) -> Result<Waiting, AllocError>
-        requires targets { IsIndex changes.now targets.now }
+        requires targets { IsTargetTable changes.now targets.now }
         requires fates { fates.now ≡ map (fate changes.now) changes.now }
         ensures waiting { IfOk result (IsWaiting changes.now (λ n. false)) }
         ensures none { IfOk result (λ w. done_list w ≡ map (λ c. false) changes.now) }

@@ -67,7 +67,7 @@ impl<'a> AimTarget<'a> {
                     at: Among::Gap(0),
                 })
             }
-            AimForm::Behind => {
+            AimForm::AfterElement => {
                 let child = child_at(element, aim.path)?;
                 Some(AimTarget {
                     parent: child.parent,

@@ -5,7 +5,7 @@ ghost use Rattle.edit_steps.specs.inner.Putting.{CanPutFrom, IsPutFrom, CountsPu
 
 use crate::stage::aim_target::AimTarget;
 use crate::stage::done::{Among, Done};
-use crate::stage::done_index::DoneIndex;
+use crate::stage::done_table::DoneTable;
 use green_tree::{GreenElement, GreenNode, share_all};
 use std::alloc::{AllocError, Global};
 
@@ -51,7 +51,7 @@ fn splice_node(
 #[derive(Clone, Copy)]
 pub(crate) struct Splice<'a> {
     pub(crate) alloc: Global,
-    pub(crate) done: &'a DoneIndex,
+    pub(crate) done: &'a DoneTable,
     pub(crate) target: &'a AimTarget<'a>,
     pub(crate) given: &'a [GreenElement],
 }

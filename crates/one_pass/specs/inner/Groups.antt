@@ -3,7 +3,7 @@
 --     AreNumbers                    numbers of n groups, where no two are the same, but for zero
 --     AreEmptyGroups                no group has any aim
 --     GrowsInside                   n groups, from one on, have one aim more at their ends
---     StaysBefore, StaysBehind      the groups before these, and those behind them, are as they were
+--     StaysBefore, StaysAfter      the groups before these, and those after them, are as they were
 --     AreGrouped                    groups have the aims that matter for each child, n of them
 use Rattle.edit_change.specs.inner.Aimed.{concerns}
 use Rattle.std.specs.Prelude.{◌≡◌, ◌<◌, ◌≤◌, ◌+◌, ℕ, zero, suc, List, [], ◌∷◌, ◌++◌, filter, length, get_or}
@@ -30,8 +30,8 @@ module _ (before after : List (List Aimed)) (first count : ℕ) where
   abbrev pub StaysBefore : Type 0
   StaysBefore = (k : ℕ) (d : List Aimed) → k < first → get_or after k d ≡ get_or before k d
 
-  abbrev pub StaysBehind : Type 0
-  StaysBehind = (k : ℕ) (d : List Aimed) → first + count ≤ k → get_or after k d ≡ get_or before k d
+  abbrev pub StaysAfter : Type 0
+  StaysAfter = (k : ℕ) (d : List Aimed) → first + count ≤ k → get_or after k d ≡ get_or before k d
 
 abbrev pub AreGrouped : List Aimed → ℕ → List (List Aimed) → Type 0
 AreGrouped aims count groups = (k : ℕ) (d : List Aimed) → k < count → get_or groups k d ≡ filter (concerns k) aims

@@ -26,7 +26,7 @@ use Rattle.edit_change.specs.inner.OwnerPlaces.{depth_of}
 use Rattle.edit_change.specs.NewTree.{OriginTree, dependents, given}
 use Rattle.one_pass.specs.inner.Sought.{sought_from, sought_at, registered_at}
 use Rattle.edit_change.specs.declared.change.Change.{Change}
-use Rattle.one_pass.specs.declared.sought.SoughtIndex.{SoughtIndex}
+use Rattle.one_pass.specs.declared.sought.SoughtTable.{SoughtTable}
 
 abbrev pub with_marks : List Address → OriginTree → MarkTree
 with_marks rs t = relabelled (λ o. registered_at rs o.address) t
@@ -34,13 +34,13 @@ with_marks rs t = relabelled (λ o. registered_at rs o.address) t
 abbrev pub marks_given : List Address → List Change → (ℕ → Path) → ℕ → List MarkTree
 marks_given rs changes places c = map (with_marks rs) (given changes places c)
 
-abbrev pub IsTableOf : List Address → SoughtIndex → Type 0
+abbrev pub IsTableOf : List Address → SoughtTable → Type 0
 IsTableOf rs index = (a : Address) → sought_at index a ≡ sought_from 0 rs a
 
-abbrev pub element_sought : SoughtIndex → (ℕ → List MarkTree) → List NumberedAim → Element → MarkTree
+abbrev pub element_sought : SoughtTable → (ℕ → List MarkTree) → List NumberedAim → Element → MarkTree
 element_sought index trees cs e = rewritten (wanted (sought_at index (address e))) trees cs [] (subtree e)
 
-abbrev pub payload_sought : SoughtIndex → (ℕ → List MarkTree) → List NumberedAim → List Element → List MarkTree
+abbrev pub payload_sought : SoughtTable → (ℕ → List MarkTree) → List NumberedAim → List Element → List MarkTree
 payload_sought index trees cs es = map (element_sought index trees cs) es
 
 abbrev pub with_answer : (ℕ → List MarkTree) → ℕ → List MarkTree → ℕ → List MarkTree

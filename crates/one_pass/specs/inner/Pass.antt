@@ -14,8 +14,8 @@
 --     FindsChild                    it finds those of an untouched element that is put next
 --     kept_marks                    an untouched element, labelled by the marks that are sought in it
 --     aims_inside                   the aims at a child slot or below, as they are seen from the child
---     child_made, slot_made         what is made of a child; what stands in its slot
---     children_made, new_trees      what is made of all children; the same, labelled by kinds
+--     child_rewritten, slot_rewritten         what is made of a child; what stands in its slot
+--     children_rewritten, new_trees      what is made of all children; the same, labelled by kinds
 --     CountsOn                      a count rose by so many nodes, whatever is counted after
 --     child_built, slot_built       how many nodes are built of a child that is kept; in a slot
 --     children_built                how many are built of all children
@@ -25,10 +25,10 @@
 --     FindsAltered, FindsSlot       a walk finds their marks
 --     TouchesAtMost, CountsBuilt, CountsBuiltWhole      how a count of built nodes rises
 --     CountsTouched                 how it rises where all that is touched is built
---     remade, remade_whole          the tree that a pass makes; what stands in the place of an element
+--     green_rewritten, green_rewritten_whole          the tree that a pass makes; what stands in the place of an element
 --     FindsHere                     a walk finds marks, whose paths are counted from its own
 --     FindsKept, FindsChildren      it finds those of an untouched element; of all children of a node
---     FindsRebuilt, FindsWhole      it finds those of a rebuilt element; those of what stands in its place are found
+--     FindsRewritten, FindsWhole      it finds those of a rewritten element; those of what stands in its place are found
 use Rattle.edit_change.specs.inner.KindOnly.{kind_only}
 use Rattle.std.specs.Prelude.{◌≡◌, ◌<◌, ◌≤◌, ◌+◌, ℕ, Bool, cond, List, [], ◌∷◌, ◌++◌, map, flat_map, length, get_or, slice_get, Option, Some, None, Vec}
 use Rattle.std.specs.Global.{Global}
@@ -121,17 +121,17 @@ abbrev pub aims_inside : List Aimed → ℕ → List NumberedAim
 aims_inside aims i = map of_formed (formed_below i (map formed aims))
 
 module _ {L : Type 0} (label_at : Path → ℕ → L) (given : ℕ → List (Tree L)) (aims : List Aimed) where
-  abbrev pub child_made : ℕ → GreenElement → Tree L
-  child_made i e = rewritten label_at given (aims_inside aims i) [] (element_tree e)
+  abbrev pub child_rewritten : ℕ → GreenElement → Tree L
+  child_rewritten i e = rewritten label_at given (aims_inside aims i) [] (element_tree e)
 
-  abbrev pub slot_made : ℕ → GreenElement → List (Tree L)
-  slot_made i e = slot label_at given (aims_of aims) (i ∷ []) (child_made i e)
+  abbrev pub slot_rewritten : ℕ → GreenElement → List (Tree L)
+  slot_rewritten i e = slot label_at given (aims_of aims) (i ∷ []) (child_rewritten i e)
 
-  abbrev pub children_made : List GreenElement → List (Tree L)
-  children_made es = rewritten_from label_at given (aims_of aims) [] 0 (forest (element_trees es))
+  abbrev pub children_rewritten : List GreenElement → List (Tree L)
+  children_rewritten es = rewritten_from label_at given (aims_of aims) [] 0 (forest (element_trees es))
 
 abbrev pub new_trees : GivenTable → List Aimed → List GreenElement → List SyntaxTree
-new_trees table aims es = children_made kind_only (given_in table) aims es
+new_trees table aims es = children_rewritten kind_only (given_in table) aims es
 
 -- whatever is counted after, from before it is n more
 abbrev pub CountsOn : ℕ → ℕ → ℕ → Type 0
@@ -150,10 +150,10 @@ module _ (aims : List Aimed) where
 -- of one child, with the aims that concern it
 module _ (child : Child) where
   abbrev altered : {L : Type 0} → (Path → ℕ → L) → (ℕ → List (Tree L)) → List (Tree L)
-  altered label_at given = child_made label_at given child.aims.now child.slot child.element.now ∷ []
+  altered label_at given = child_rewritten label_at given child.aims.now child.slot child.element.now ∷ []
 
   abbrev in_slot : {L : Type 0} → (Path → ℕ → L) → (ℕ → List (Tree L)) → List (Tree L)
-  in_slot label_at given = slot_made label_at given child.aims.now child.slot child.element.now
+  in_slot label_at given = slot_rewritten label_at given child.aims.now child.slot child.element.now
 
   abbrev pub CountsAltered : Walk → Walk → Type 0
   CountsAltered before after =
@@ -194,11 +194,11 @@ CountsTouched aims e before after =
     AreBuilt (aims_of aims) (element_tree e) →
     after ≡ counted before (touched (element_tree e) (parents_of (aims_of aims)))
 
-abbrev pub remade : GivenTable → List Aimed → GreenElement → SyntaxTree
-remade table aims e = rewritten kind_only (given_in table) (aims_of aims) [] (element_tree e)
+abbrev pub green_rewritten : GivenTable → List Aimed → GreenElement → SyntaxTree
+green_rewritten table aims e = rewritten kind_only (given_in table) (aims_of aims) [] (element_tree e)
 
-abbrev pub remade_whole : GivenTable → List Aimed → GreenElement → List SyntaxTree
-remade_whole table aims e = rewritten_whole kind_only (given_in table) (aims_of aims) (element_tree e)
+abbrev pub green_rewritten_whole : GivenTable → List Aimed → GreenElement → List SyntaxTree
+green_rewritten_whole table aims e = rewritten_whole kind_only (given_in table) (aims_of aims) (element_tree e)
 
 -- ---- where marks are, from the path of a walk on
 abbrev pub FindsHere : Walk → Walk → List Marking → Type 0
@@ -211,10 +211,10 @@ module _ (table : GivenTable) (aims : List Aimed) (sought : List Sought) where
   abbrev pub FindsChildren : List GreenElement → Walk → Walk → Type 0
   FindsChildren es before after =
       (trees : ℕ → List MarkTree) → AreMarkedIn table trees →
-      FindsHere before after (marked_from 0 (children_made (wanted (sought_in sought)) trees aims es))
+      FindsHere before after (marked_from 0 (children_rewritten (wanted (sought_in sought)) trees aims es))
 
-  abbrev pub FindsRebuilt : GreenElement → Walk → Walk → Type 0
-  FindsRebuilt e before after =
+  abbrev pub FindsRewritten : GreenElement → Walk → Walk → Type 0
+  FindsRewritten e before after =
       (trees : ℕ → List MarkTree) → AreMarkedIn table trees →
       FindsHere before after (marked (rewritten (wanted (sought_in sought)) trees (aims_of aims) [] (element_tree e)))
 

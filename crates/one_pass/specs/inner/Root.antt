@@ -33,7 +33,7 @@ use Rattle.edit_change.specs.Effort.{touched, parents_of}
 use Rattle.one_pass.specs.inner.Built.{AreBuilt}
 use Rattle.edit_change.specs.TouchedNodes.{Raises, touched_by}
 use Rattle.edit_change.specs.declared.change.Change.{Change}
-use Rattle.one_pass.specs.declared.sought.SoughtIndex.{SoughtIndex}
+use Rattle.one_pass.specs.declared.sought.SoughtTable.{SoughtTable}
 use Rattle.one_pass.specs.inner.GivenTables.{ArePayloadsBuilt}
 use Rattle.one_pass.specs.declared.rewriting.OnePass.{OnePass}
 
@@ -64,7 +64,7 @@ module _ (root : Element) (aims : List Aimed) where
   abbrev pub root_rewritten : GivenTable → List SyntaxTree
   root_rewritten table = rewritten_whole kind_only (given_in table) (aims_of aims) (subtree root)
 
-  abbrev pub FindsInRoot : GivenTable → SoughtIndex → Vec Mark Global → Type 0
+  abbrev pub FindsInRoot : GivenTable → SoughtTable → Vec Mark Global → Type 0
   FindsInRoot table index found =
       (trees : ℕ → List MarkTree) → AreMarkedIn table trees →
       marks_of found.items ≡ marked_from 0 (rewritten_whole (wanted (sought_at index (address root))) trees (aims_of aims) (subtree root))

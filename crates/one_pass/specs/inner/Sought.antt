@@ -5,7 +5,7 @@
 --     addresses                     the addresses of elements in code
 --     listed_at, sought_at          what a table lists for a cell; what it has at an address
 --     registered_at                 the numbers of the registered elements that are at an address
---     IsSoughtIndex                 such a table, which lists nothing for cells that there are not
+--     IsSoughtTable                 such a table, which lists nothing for cells that there are not
 --     HasSameLists                  it lists the same for each cell
 --     HasListedMore                 one mark more in the list of a cell
 --     HasMarkMore                   one mark more at the address with this path
@@ -20,7 +20,7 @@ use Rattle.cst_core.specs.SyntaxElement.{element_of}
 use Rattle.cst_core.specs.declared.element.SyntaxElement.{SyntaxElement}
 use Rattle.path_table.specs.inner.PathTable.{cell_below, cell_at, size, IsTree, IsGrown}
 use Rattle.one_pass.specs.inner.Marked.{Marking, sought_for, marks_at}
-use Rattle.one_pass.specs.declared.sought.SoughtIndex.{SoughtIndex}
+use Rattle.one_pass.specs.declared.sought.SoughtTable.{SoughtTable}
 
 abbrev pub path_below : Path → Path → Option Path
 path_below [] p = Some p
@@ -37,21 +37,21 @@ sought_from n (r ∷ rs) a = sought_one a n r ++ sought_from (suc n) rs a
 abbrev pub addresses : List SyntaxElement → List Address
 addresses es = map (λ e. address (element_of e)) es
 
-abbrev pub listed_at : SoughtIndex → ℕ → List Marking
+abbrev pub listed_at : SoughtTable → ℕ → List Marking
 listed_at index cell = sought_for index.lists.items cell
 
-abbrev pub sought_at : SoughtIndex → Address → List Marking
+abbrev pub sought_at : SoughtTable → Address → List Marking
 sought_at index a = option_map_or (listed_at index) (cell_at index.cells (address_path a)) []
 
 abbrev pub registered_at : List Address → Address → List ℕ
 registered_at rs a = marks_at (sought_from 0 rs a) []
 
-pub record IsSoughtIndex (index : SoughtIndex) : Type 0 where
+pub record IsSoughtTable (index : SoughtTable) : Type 0 where
   pub tree : IsTree index.cells
   pub unused : (k : ℕ) → size index.cells < k → listed_at index k ≡ []
 
 -- ---- a table before and after
-module _ (before after : SoughtIndex) where
+module _ (before after : SoughtTable) where
   abbrev pub HasSameLists : Type 0
   HasSameLists = (k : ℕ) → listed_at after k ≡ listed_at before k
 
@@ -63,7 +63,7 @@ module _ (before after : SoughtIndex) where
       (a : Address) → sought_at after a ≡ sought_at before a ++ cond (same_path p (address_path a)) (m ∷ []) []
 
   pub record IsMarkEntered (cell slot : ℕ) (m : Marking) (next : ℕ) : Type 0 where
-    pub index : IsSoughtIndex after
+    pub index : IsSoughtTable after
     pub grown : IsGrown before.cells after.cells
     pub leads : cell_below after.cells cell slot ≡ Some next
     pub more : (p : Path) → cell_at before.cells p ≡ Some cell → HasMarkMore (p ++ slot ∷ []) m

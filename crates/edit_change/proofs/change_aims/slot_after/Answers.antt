@@ -7,7 +7,7 @@ use Rattle.cst_core.specs.Green.{branch_tree}
 use Rattle.cst_core.specs.GreenElement.{element_tree}
 use Rattle.cst_core.specs.GreenElementRef.{ref_tree}
 use Rattle.cst_core.specs.SyntaxElement.{element_of}
-use Rattle.edit_change.proofs.Counted.{child-there, within-children, no-child-of-token, no-child-of-none}
+use Rattle.edit_change.proofs.SlotsOfParents.{child-there, within-children, no-child-of-token, no-child-of-none}
 use Rattle.edit_change.proofs.Paths.{not-empty}
 use Rattle.edit_change.proofs.change_aims.slot_after.Goals as goal
 

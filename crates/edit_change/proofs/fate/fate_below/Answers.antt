@@ -2,7 +2,7 @@ use Rattle.std.proofs.Common.{[], true, false, cond, sym, ◌∙◌, ap}
 use Rattle.edit_change.specs.Change.{targets}
 use Rattle.edit_change.specs.inner.Fate.{is_dropped_in}
 use Rattle.edit_change.specs.declared.fate.Fate.TheVariants.{Dropped, Owned}
-use Rattle.edit_change.proofs.Walk.{found-at, region-told, fate-past, fate-dropped, fate-kept}
+use Rattle.edit_change.proofs.WayOfRegions.{found-at, region-told, fate-past, fate-dropped, fate-kept}
 use Rattle.edit_change.proofs.Regions.{region-none}
 use Rattle.edit_change.proofs.fate.fate_below.Goals as goal
 

@@ -4,7 +4,7 @@ use Rattle.cst_core.specs.Path.{up_to}
 use Rattle.path_table.specs.inner.PathTable.{number_in}
 use Rattle.path_table.proofs.PathTables.{cell-more}
 use Rattle.edit_change.specs.inner.Fate.{fate_within}
-use Rattle.edit_change.proofs.Walk.{up_to-more}
+use Rattle.edit_change.proofs.WayOfRegions.{up_to-more}
 use Rattle.edit_change.proofs.fate.fate_within.Goals as goal
 
 pub loop-slot-init : goal.loop-slot-init

@@ -1,5 +1,5 @@
 use Rattle.std.proofs.Common.{◌∙◌}
-use Rattle.edit_change.proofs.Moved.{owner-at-number, any-owner-there}
+use Rattle.edit_change.proofs.MovedAims.{owner-at-number, any-owner-there}
 use Rattle.edit_change.proofs.staged.owner_of.Goals as goal
 
 pub returns-clause-owner : goal.returns-clause-owner

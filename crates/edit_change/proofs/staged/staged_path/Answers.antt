@@ -3,7 +3,7 @@ use Rattle.edit_change.specs.ChangeAim.{aim_path}
 use Rattle.edit_change.specs.NewTree.{moved_path}
 use Rattle.edit_change.specs.inner.OwnerPlaces.{places_in, AimsFrom}
 use Rattle.edit_change.proofs.Lists.{if-ok-weaker}
-use Rattle.edit_change.proofs.Moved.{change-at, owner-is, aims-free, aims-owned}
+use Rattle.edit_change.proofs.MovedAims.{change-at, owner-is, aims-free, aims-owned}
 use Rattle.edit_change.proofs.staged.staged_path.Goals as goal
 
 pub returns-in-Some : goal.returns-in-Some

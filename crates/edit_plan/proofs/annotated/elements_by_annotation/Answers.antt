@@ -7,7 +7,7 @@ use Rattle.edit_plan.specs.inner.Annotating.{elements_at}
 use Rattle.edit_plan.specs.Engine.{annotated_path}
 use Rattle.edit_change.specs.Results.{paths_with}
 use Rattle.edit_plan.proofs.ByAnnotation.{one-less}
-use Rattle.edit_plan.proofs.Leading.{leads}
+use Rattle.edit_plan.proofs.PathsOfResults.{leads}
 use Rattle.edit_plan.proofs.annotated.elements_by_annotation.Goals as goal
 
 pub unreachable-requires : goal.unreachable-requires

@@ -4,7 +4,7 @@ use Rattle.cst_core.specs.Green.{branch_tree}
 use Rattle.cst_core.specs.GreenElement.{element_tree}
 use Rattle.green_tree.proofs.Slots.{size_at}
 use Rattle.edit_plan.specs.inner.FirstNode.{first_from}
-use Rattle.edit_plan.proofs.FirstNode.{first-here, first-below, start-first, found-in, found-behind, room, next-begins, found-nowhere, reverse-last}
+use Rattle.edit_plan.proofs.FirstNode.{first-here, first-below, start-first, found-in, found-after, room, next-begins, found-nowhere, reverse-last}
 use Rattle.edit_plan.proofs.first_node.+way_back.Goals.{in-Some+in_ok-way+in_default-2, in_default}
 use Rattle.edit_plan.proofs.first_node.+way_back.Goals as goal
 
@@ -55,7 +55,7 @@ loop-slot-preserved t c =
     ] in
     record {
       begins = next-begins c.args.kind.0 c.args.begin c.args.offset c.args.node.now c.children-child-items.result.now c.loop-slot.slot c.child-item.result c.children-child-items.ensures c.loop-slot-test.true c.child-item.is c.loop-slot.next c.length-next.result c.loop-slot.invariant.begins c.requires.fits c.length-next.ensures;
-      left = found-behind c.args.kind.0 c.args.begin c.args.offset c.args.node.now c.children-child-items.result.now c.loop-slot.slot c.child-item.result c.children-child-items.ensures c.loop-slot-test.true c.child-item.is c.loop-slot.next _ c.loop-slot.invariant.begins c.loop-slot.invariant.left none;
+      left = found-after c.args.kind.0 c.args.begin c.args.offset c.args.node.now c.children-child-items.result.now c.loop-slot.slot c.child-item.result c.children-child-items.ensures c.loop-slot-test.true c.child-item.is c.loop-slot.next _ c.loop-slot.invariant.begins c.loop-slot.invariant.left none;
     }
 
 pub returns : goal.returns

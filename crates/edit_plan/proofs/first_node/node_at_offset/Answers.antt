@@ -1,11 +1,11 @@
 use Rattle.std.proofs.Common.{arith, ◌<◌, ◌+◌}
 use Rattle.cst_core.specs.Tree.{text_length}
 use Rattle.cst_core.specs.Green.{branch_tree}
-use Rattle.edit_plan.proofs.FirstNode.{none-behind, none-past}
+use Rattle.edit_plan.proofs.FirstNode.{none-after, none-past}
 use Rattle.edit_plan.proofs.first_node.node_at_offset.Goals as goal
 
 pub returns-then-offset-begin-clause-none : goal.returns-then-offset-begin-clause-none
-returns-then-offset-begin-clause-none c = λ kind. rw c.in-Node.is (none-behind kind c.args.begin c.args.offset (branch_tree c.in-Node.node) c.if-offset-begin.true)
+returns-then-offset-begin-clause-none c = λ kind. rw c.in-Node.is (none-after kind c.args.begin c.args.offset (branch_tree c.in-Node.node) c.if-offset-begin.true)
 
 pub returns-then-begin-length-clause-none : goal.returns-then-begin-length-clause-none
 returns-then-begin-length-clause-none c =

@@ -3,7 +3,7 @@ use Rattle.std.proofs.Common.{ap, sym, ◌∙◌, arith}
 use Rattle.std.proofs.lemmas.Option.{same_Some}
 use Rattle.edit_steps.specs.Schedule.{index_in, is_ready}
 use Rattle.edit_steps.proofs.AllowedSteps.{allowed-step, allowed-complete}
-use Rattle.edit_plan.proofs.Running.{all-carried}
+use Rattle.edit_plan.proofs.StagesOfRuns.{all-carried}
 use Rattle.edit_plan.proofs.laws.allowed_orders_agree.Goals as goal
 
 pub returns-clause-next : goal.returns-clause-next

@@ -1,4 +1,4 @@
-use Rattle.edit_change.proofs.Settled.{given_is, given_unique}
+use Rattle.edit_change.proofs.GivenTrees.{given_is, given_unique}
 use Rattle.edit_plan.proofs.laws.given_is_settled.Goals as goal
 
 pub returns-clause-gives : goal.returns-clause-gives

@@ -8,7 +8,7 @@ use Rattle.edit_change.specs.Nesting.{region, surroundings}
 use Rattle.edit_change.specs.declared.change.Change.{Change}
 use Rattle.edit_change.proofs.Owners.{owner_region}
 use Rattle.edit_plan.proofs.GapOrder.{gap-two}
-use Rattle.edit_change.proofs.Settled.{owns_nothing, plain-given}
+use Rattle.edit_change.proofs.GivenTrees.{owns_nothing, plain-given}
 use Rattle.edit_plan.proofs.laws.inserts_stand_in_order.Goals as goal
 
 no_region : (o : Option Change) (r : Change) → IsSomeAnd o (λ change. region change ≡ []) → o ≡ Some r → region r ≡ []

@@ -3,7 +3,7 @@ use Rattle.std.proofs.Common.{ap}
 use Rattle.cst_core.specs.Element.{address, subtree}
 use Rattle.edit_change.specs.NewTree.{given, is_free, new_tree}
 use Rattle.edit_change.proofs.RewrittenAlike.{plain-untouched, untouched_by_none}
-use Rattle.edit_plan.proofs.Untold.{all_changed-none}
+use Rattle.edit_plan.proofs.UnchangedTree.{all_changed-none}
 use Rattle.edit_plan.proofs.laws.no_change_makes_no_difference.Goals as goal
 
 pub returns-clause-tree : goal.returns-clause-tree

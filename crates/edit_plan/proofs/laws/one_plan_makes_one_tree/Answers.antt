@@ -1,4 +1,4 @@
-use Rattle.edit_plan.proofs.Agreed.{one-root, one-changed, one-annotated}
+use Rattle.edit_plan.proofs.TwoPlaces.{one-root, one-changed, one-annotated}
 use Rattle.edit_plan.proofs.laws.one_plan_makes_one_tree.Goals as goal
 
 pub returns-clause-root : goal.returns-clause-root

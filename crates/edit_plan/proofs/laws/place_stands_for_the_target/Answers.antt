@@ -5,7 +5,7 @@ use Rattle.cst_core.specs.Element.{subtree, NumbersTell}
 use Rattle.cst_core.specs.SyntaxElement.{element_of}
 use Rattle.edit_map.specs.Mapping.{mapped_elements}
 use Rattle.edit_change.specs.Change.{elements}
-use Rattle.edit_plan.proofs.ToldTarget.{told-target}
+use Rattle.edit_plan.proofs.NumbersOfTarget.{told-target}
 use Rattle.edit_plan.proofs.laws.place_stands_for_the_target.Goals as goal
 
 there : (o : Option SyntaxTree) (t : SyntaxTree) → IsSomeAnd o (SameShape t) → IsSome o

@@ -1,7 +1,7 @@
 use Rattle.std.proofs.Common.{◌≡◌, sym, ◌∙◌}
 use Rattle.edit_steps.specs.Schedule.{ListsEachOnce, owned_first, gap_first, token_first, respects}
-use Rattle.edit_steps.proofs.Carried.{owners-carry, gaps-carry, tokens-carry}
-use Rattle.edit_steps.proofs.Decided.{links-within, links-decide}
+use Rattle.edit_steps.proofs.LinkTables.{owners-carry, gaps-carry, tokens-carry}
+use Rattle.edit_steps.proofs.TestsOfLinks.{links-within, links-decide}
 use Rattle.edit_steps.proofs.order.check.Goals as goal
 
 pub keeps-requires-clause-within : goal.keeps-requires-clause-within

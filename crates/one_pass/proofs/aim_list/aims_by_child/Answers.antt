@@ -13,8 +13,8 @@ loop-aim-preserved c = record {
       (c.loop-aim.invariant.groups k d l)
       (λ u v. c.in_ok-push_into.ensures.inside k d inside u v)
       (λ u. c.in_ok-push_into.ensures.before k d u)
-      (λ u. c.in_ok-push_into.ensures.behind k d u)
+      (λ u. c.in_ok-push_into.ensures.after k d u)
       (λ u v. c.reach-first.ensures.inside k u v)
       (λ u. c.reach-first.ensures.before k u)
-      (λ u. c.reach-first.ensures.behind k u);
+      (λ u. c.reach-first.ensures.after k u);
 }

@@ -2,7 +2,7 @@ use Rattle.std.proofs.Common.{◌∙◌, ap, ap₂}
 use Rattle.edit_change.specs.ChangeAim.{aim_path}
 use Rattle.edit_change.specs.NewTree.{moved_path}
 use Rattle.edit_change.specs.inner.AimFrom.{aim_from}
-use Rattle.edit_change.proofs.Moved.{moved-own}
+use Rattle.edit_change.proofs.MovedAims.{moved-own}
 use Rattle.one_pass.proofs.dependent.dependent_of.Goals as goal
 
 pub returns : goal.returns

@@ -12,7 +12,7 @@ use Rattle.one_pass.proofs.Counting.{raises-none, raises-both, raises-weaker, ra
 use Rattle.std.proofs.lemmas.Option.{slice_get-get_or}
 use Rattle.one_pass.specs.inner.OwnerTables.{moved_dependent, dependents_in}
 use Rattle.one_pass.proofs.Levels.{owner-at}
-use Rattle.one_pass.proofs.Nested.{level-begins, level-ends, level-filled, owned-at}
+use Rattle.one_pass.proofs.GivenByLevel.{level-begins, level-ends, level-filled, owned-at}
 use Rattle.one_pass.proofs.MarksFilled as marks
 use Rattle.one_pass.proofs.given_table.fill_level.Goals as goal
 

@@ -6,7 +6,7 @@ use Rattle.one_pass.specs.inner.OwnerTables.{owns_at, AreDependents, AreGivenFro
 use Rattle.one_pass.specs.inner.Marks.{IsTableOf, AreMarksFrom}
 use Rattle.edit_change.specs.TouchedNodes.{touched_in, Raises}
 use Rattle.one_pass.specs.inner.GivenTables.{ArePayloadsBuilt}
-use Rattle.one_pass.proofs.Nested.{IsLevelled}
+use Rattle.one_pass.proofs.GivenByLevel.{IsLevelled}
 use Rattle.one_pass.proofs.MarksFilled.{AreLevelled}
 use Rattle.one_pass.proofs.given_table.fill_level.Given as goal
 

@@ -6,13 +6,13 @@ use Rattle.edit_change.specs.declared.change.Change.{Change}
 use Rattle.edit_change.specs.NewTree.{payload_of, dependents}
 use Rattle.edit_change.specs.TouchedNodes.{touched_each, touched_in}
 use Rattle.one_pass.specs.inner.GivenTables.{ArePayloadsBuilt}
-use Rattle.one_pass.proofs.ByLevel.{from-alone}
+use Rattle.one_pass.proofs.EnteredByLevel.{from-alone}
 use Rattle.one_pass.proofs.Counting.{raises-none, raises-both, raises-same, raises-empty, deep, none-deep, one-level, all-deep, by-number}
 use Rattle.edit_change.specs.inner.OwnerPlaces.{depth_of}
 use Rattle.one_pass.specs.inner.OwnerTables.{dependents_in, owns_at, owners_at, AreGivenFrom}
 use Rattle.one_pass.specs.inner.Marks.{AreMarksFrom}
 use Rattle.one_pass.proofs.Levels.{owners-are-there, list-at}
-use Rattle.one_pass.proofs.Nested.{from-payloads, to-the-top}
+use Rattle.one_pass.proofs.GivenByLevel.{from-payloads, to-the-top}
 use Rattle.one_pass.proofs.MarksFilled as marks
 use Rattle.one_pass.proofs.given_table.given_table.Goals as goal
 

@@ -11,7 +11,7 @@ use Rattle.one_pass.specs.inner.Pass.{IsMarked, AreMarkedIn, given_in}
 use Rattle.one_pass.specs.inner.Marked.{MarkTree}
 use Rattle.edit_change.specs.Rewriting.{rewritten}
 use Rattle.one_pass.specs.declared.marked_given.GivenTable.{GivenTable}
-use Rattle.edit_change.proofs.Untouched.{nothing_made}
+use Rattle.edit_change.proofs.Untouched.{nothing_rewritten}
 use Rattle.one_pass.specs.inner.Marks.{payload_sought}
 use Rattle.edit_change.proofs.Lists.{if-ok-weaker}
 use Rattle.one_pass.proofs.MarksFilled.{unsought, none-marked}
@@ -26,7 +26,7 @@ returns-clause-trees c =
     let nothing : GivenTable = record { entries = c.new-2.result; top = None } in
     let es = c.payload.result.now in
     let brought = map subtree (payload c.args.change.now) in
-    if-ok-weaker (λ g. given_trees g.elements ≡ map (rewritten kind_only (given_in nothing) [] []) (map subtree (map element_of es))) (λ g. given_trees g.elements ≡ brought) (λ g h. h ∙ ap (λ xs. map (rewritten kind_only (given_in nothing) [] []) (map subtree xs)) c.payload.ensures ∙ ap (λ f. map f brought) (fun_ext (λ t. nothing_made (given_in nothing) [] t refl)) ∙ map-id brought) c.rewritten_each.result c.rewritten_each.ensures.trees
+    if-ok-weaker (λ g. given_trees g.elements ≡ map (rewritten kind_only (given_in nothing) [] []) (map subtree (map element_of es))) (λ g. given_trees g.elements ≡ brought) (λ g h. h ∙ ap (λ xs. map (rewritten kind_only (given_in nothing) [] []) (map subtree xs)) c.payload.ensures ∙ ap (λ f. map f brought) (fun_ext (λ t. nothing_rewritten (given_in nothing) [] t refl)) ∙ map-id brought) c.rewritten_each.result c.rewritten_each.ensures.trees
 
 pub returns-clause-marks : goal.returns-clause-marks
 returns-clause-marks c =

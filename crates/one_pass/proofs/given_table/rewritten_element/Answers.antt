@@ -23,6 +23,6 @@ pub returns-clause-count : goal.returns-clause-count
 returns-clause-count c =
     let aims = aims_of c.args.aims.now in
     let before = c.args.walk.now.builds in
-    let after = c.rebuild.new.walk.builds in
+    let after = c.rewrite_element.new.walk.builds in
     let own = element_tree c.in_ok-old.old in
     subst (λ t. Raises (AreBuilt aims t) (touched t (parents_of aims)) before after) c.in_ok-old.ensures (raises-built (AreBuilt aims own) (touched own (parents_of aims)) (nodes_built aims own) before after c.in_ok-new.ensures.builds c.in_ok-new.ensures.count c.in_ok-new.ensures.whole)

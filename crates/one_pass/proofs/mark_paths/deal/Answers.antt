@@ -4,7 +4,7 @@ use Rattle.one_pass.proofs.CopiesFound.{put, not_put}
 use Rattle.one_pass.proofs.mark_paths.deal.Goals as goal
 
 pub returns-then-number-len-clause-lists : goal.returns-then-number-len-clause-lists
-returns-then-number-len-clause-lists c = λ k d l. put (λ i. (get_or c.args.lists.now.items i d).items) (λ i. (get_or c.enter.new.lists.items i d).items) c.below_top.result k c.args.mark.number c.args.mark.path.items (c.in_ok-enter.ensures.here d) (c.in_ok-enter.ensures.elsewhere k d) c.below_top.ensures
+returns-then-number-len-clause-lists c = λ k d l. put (λ i. (get_or c.args.lists.now.items i d).items) (λ i. (get_or c.push_path.new.lists.items i d).items) c.below_top.result k c.args.mark.number c.args.mark.path.items (c.in_ok-push_path.ensures.here d) (c.in_ok-push_path.ensures.elsewhere k d) c.below_top.ensures
 
 pub returns-then-number-len-clause-others : goal.returns-then-number-len-clause-others
 returns-then-number-len-clause-others c =

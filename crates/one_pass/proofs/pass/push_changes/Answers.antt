@@ -5,7 +5,7 @@ use Rattle.one_pass.specs.inner.Marked.{marks_of}
 use Rattle.one_pass.specs.inner.Pass.{given_in, changes_at}
 use Rattle.one_pass.proofs.Marks.{shown}
 use Rattle.one_pass.proofs.MarksGiven.{pushed, width, as_many, change_more}
-use Rattle.one_pass.proofs.Passing.{changes-next, changes-past}
+use Rattle.one_pass.proofs.ChangesOfAims.{changes-next, changes-past}
 use Rattle.one_pass.proofs.pass.push_changes.Goals as goal
 use Rattle.one_pass.proofs.pass.push_changes.Goals.{then-has+in_ok-push_change, else-has}
 

@@ -2,7 +2,7 @@ use Rattle.std.proofs.Common.{◌∙◌, [], ◌∷◌, ◌++◌, sym, ap, ap₂
 use Rattle.std.proofs.lemmas.List.{map-append}
 use Rattle.edit_change.specs.inner.Aimed.{aims_of, numbered}
 use Rattle.edit_change.proofs.Independents.{one-more, passed-at, independents-whole, independent-at}
-use Rattle.edit_change.proofs.Moved.{change-at}
+use Rattle.edit_change.proofs.MovedAims.{change-at}
 use Rattle.one_pass.proofs.rewriting.independent_aims.Goals as goal
 use Rattle.one_pass.proofs.rewriting.independent_aims.Goals.{then-is_independent+in_ok-push, else-is_independent}
 

@@ -1,6 +1,6 @@
 use Rattle.std.proofs.Common.{[], Some, None, sym, ◌∙◌, arith}
-use Rattle.edit_change.proofs.Moved.{fit_at}
-use Rattle.edit_change.proofs.Walk.{found-at, found-within, found-target}
+use Rattle.edit_change.proofs.MovedAims.{fit_at}
+use Rattle.edit_change.proofs.WayOfRegions.{found-at, found-within, found-target}
 use Rattle.one_pass.proofs.Rooted.{stays-a-node, takes-its-place}
 use Rattle.one_pass.proofs.rewriting.keep_top.Goals as goal
 

@@ -72,5 +72,5 @@ returns-clause-count c =
     let are : AreDependents changes places c.deref.result.now = subst (AreDependents changes places) (sym c.deref.ensures.value) c.in_ok-dependents.ensures.dependents in
     let middle = c.given_table.new.builds in
     let aims = ap aims_of c.deref-2.ensures.value ∙ c.in_ok-aims.ensures in
-    let tree = subst (λ ds. Raises (AreBuilt ds (subtree root)) (touched (subtree root) (parents_of ds)) middle c.rebuilt_root.new.builds) aims c.in_ok-elements.ensures.count in
-    all-counted root changes places c.args.builds.now middle c.rebuilt_root.new.builds (c.in_ok-given.ensures.count places are) tree
+    let tree = subst (λ ds. Raises (AreBuilt ds (subtree root)) (touched (subtree root) (parents_of ds)) middle c.rewritten_root.new.builds) aims c.in_ok-elements.ensures.count in
+    all-counted root changes places c.args.builds.now middle c.rewritten_root.new.builds (c.in_ok-given.ensures.count places are) tree

@@ -1,5 +1,5 @@
 use Rattle.std.proofs.Common.{sym, ◌∙◌, subst, ap}
-use Rattle.whitespace.specs.Level.{level_behind}
+use Rattle.whitespace.specs.Level.{level_after}
 use Rattle.whitespace.specs.LevelCalls.{ReadsLevel}
 use Rattle.whitespace.proofs.TokensBefore.{OneBack, level_here, back_one, zero_first, zero_read}
 use Rattle.whitespace.proofs.level.level_back.Goals as goal
@@ -18,6 +18,6 @@ back-preserved c = c.back.invariant ∙ (back c).same
 
 pub returns : goal.returns
 returns c =
-    subst (λ n. ReadsLevel n c.level_behind.result)
-    (ap level_behind c.text.ensures ∙ sym (level_here c.back.current (sym c.breaks_line.ensures ∙ c.back-test.false)) ∙ sym c.back.invariant)
-    c.level_behind.ensures.level
+    subst (λ n. ReadsLevel n c.level_after.result)
+    (ap level_after c.text.ensures ∙ sym (level_here c.back.current (sym c.breaks_line.ensures ∙ c.back-test.false)) ∙ sym c.back.invariant)
+    c.level_after.ensures.level

@@ -1,6 +1,6 @@
 use Rattle.std.proofs.Common.{length, sym, ◌∙◌}
 use Rattle.std.proofs.lemmas.Bool.{eqb-false}
-use Rattle.edit_change.proofs.Here.{some_slot, parent_over}
+use Rattle.edit_change.proofs.AimsHere.{some_slot, parent_over}
 use Rattle.edit_change.proofs.aimed.Aimed.has_parent.Goals as goal
 
 pub returns-then-not-is_empty : goal.returns-then-not-is_empty

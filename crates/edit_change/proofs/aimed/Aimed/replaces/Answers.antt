@@ -1,5 +1,5 @@
 use Rattle.std.proofs.Common.{sym}
-use Rattle.edit_change.proofs.Here.{replaces_deeper, replaces_before, replaces_here}
+use Rattle.edit_change.proofs.AimsHere.{replaces_deeper, replaces_before, replaces_here}
 use Rattle.edit_change.proofs.aimed.Aimed.replaces.Goals as goal
 
 pub returns-in_default-2 : goal.returns-in_default-2

@@ -1,6 +1,6 @@
 use Rattle.std.proofs.Common.{length, sym, ◌∙◌}
 use Rattle.std.proofs.lemmas.Bool.{eqb-false}
-use Rattle.edit_change.proofs.Here.{some_slot, top_deeper, top_start}
+use Rattle.edit_change.proofs.AimsHere.{some_slot, top_deeper, top_start}
 use Rattle.edit_change.proofs.aimed.Aimed.replaces_top.Goals as goal
 
 pub returns-else-is_empty-clause-over : goal.returns-else-is_empty-clause-over

@@ -1,6 +1,6 @@
 use Rattle.std.proofs.Common.{◌&&◌, nat_lt, get_or, ap, sym, ◌∙◌}
 use Rattle.std.proofs.lemmas.Bool.{eq-eqb, ne_eqb}
-use Rattle.edit_change.proofs.Here.{start_deeper, start_here}
+use Rattle.edit_change.proofs.AimsHere.{start_deeper, start_here}
 use Rattle.edit_change.proofs.aimed.Aimed.starts_at.Goals as goal
 
 pub returns-in_default-2 : goal.returns-in_default-2

@@ -1,6 +1,6 @@
 use Rattle.std.proofs.Common.{subst}
 use Rattle.edit_plan.specs.Plan.{RunRefuses}
-use Rattle.edit_plan.proofs.Carrying.{err-gives}
+use Rattle.edit_plan.proofs.PromisesOfRuns.{err-gives}
 use Rattle.edit_plan.proofs.edit_run.EditRun.finish_counting.Goals as goal
 
 pub returns-in_err-edit-clause-refused : goal.returns-in_err-edit-clause-refused

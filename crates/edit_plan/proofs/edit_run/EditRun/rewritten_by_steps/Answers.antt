@@ -3,7 +3,7 @@ use Rattle.std.specs.Prelude.{true}
 use Rattle.edit_steps.specs.Schedule.{is_complete}
 use Rattle.edit_plan.specs.Run.{is_done}
 use Rattle.edit_plan.proofs.RunFacts.{some-way, tree-shown, carried-tree}
-use Rattle.edit_plan.proofs.Carrying.{with-tree}
+use Rattle.edit_plan.proofs.PromisesOfRuns.{with-tree}
 use Rattle.edit_plan.proofs.edit_run.EditRun.rewritten_by_steps.Goals as goal
 
 pub green-requires : goal.green-requires

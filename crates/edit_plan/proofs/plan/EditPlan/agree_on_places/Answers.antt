@@ -1,6 +1,6 @@
 use Rattle.std.proofs.Common.{subst}
 use Rattle.edit_plan.specs.inner.PlanStages.{AgreeOnPlaces}
-use Rattle.edit_plan.proofs.Running.{places-agree}
+use Rattle.edit_plan.proofs.StagesOfRuns.{places-agree}
 use Rattle.edit_plan.proofs.plan.EditPlan.agree_on_places.Goals as goal
 
 pub returns : goal.returns

@@ -1,6 +1,6 @@
 use Rattle.std.proofs.Common.{map, length, sym, ◌∙◌, ap, subst, rules}
 use Rattle.edit_change.specs.inner.Fate.{fate}
-use Rattle.edit_change.specs.inner.TargetIndex.{IsIndex}
+use Rattle.edit_change.specs.inner.TargetTable.{IsTargetTable}
 use Rattle.edit_change.specs.Nesting.{first_clash}
 use Rattle.edit_change.specs.inner.OwnerPlaces.{places_in}
 use Rattle.edit_change.specs.Places.{ArePlaces}
@@ -20,7 +20,7 @@ invariant_of-result c =
         places = places_in c.in_ok-places.places.items;
         placed = placed;
       };
-      targets_are = subst (λ ds. IsIndex ds c.in_ok-targets.targets) c.deref.ensures.value c.in_ok-targets.ensures.indexed;
+      targets_are = subst (λ ds. IsTargetTable ds c.in_ok-targets.targets) c.deref.ensures.value c.in_ok-targets.ensures.indexed;
       fates_are = c.in_ok-fates.ensures ∙ ap (λ ds. map (fate ds) ds) c.deref-2.ensures.value;
       long = c.in_ok-places.ensures.long ∙ ap length c.deref-3.ensures.value;
       placed = placed;

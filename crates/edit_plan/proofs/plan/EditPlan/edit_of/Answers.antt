@@ -7,8 +7,8 @@ use Rattle.edit_plan.specs.inner.PlanRun.{IsOfRoot}
 use Rattle.edit_plan.specs.Engine.{annotated_path}
 use Rattle.edit_plan.specs.EditRefusal.{of_tree}
 use Rattle.edit_plan.proofs.ByAnnotation.{found-in}
-use Rattle.edit_plan.proofs.Carrying.{makes, refuses, of-root, err-gives}
-use Rattle.edit_plan.proofs.Leading.{changed-there, annotated-there}
+use Rattle.edit_plan.proofs.PromisesOfRuns.{makes, refuses, of-root, err-gives}
+use Rattle.edit_plan.proofs.PathsOfResults.{changed-there, annotated-there}
 use Rattle.edit_plan.proofs.plan.EditPlan.edit_of.Goals as goal
 
 pub elements_at-requires : goal.elements_at-requires

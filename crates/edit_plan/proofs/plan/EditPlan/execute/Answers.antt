@@ -1,6 +1,6 @@
 use Rattle.edit_plan.specs.ExecuteRefusal.{of_order, ExecuteRefuses}
 use Rattle.edit_plan.proofs.AllowedRuns.{order-refused}
-use Rattle.edit_plan.proofs.Carrying.{err-gives}
+use Rattle.edit_plan.proofs.PromisesOfRuns.{err-gives}
 use Rattle.edit_plan.proofs.plan.EditPlan.execute.Goals as goal
 
 pub returns-in_err-check-clause-refused : goal.returns-in_err-check-clause-refused

@@ -1,5 +1,5 @@
 use Rattle.std.proofs.Common.{rules}
-use Rattle.edit_plan.proofs.Carrying.{ran-with}
+use Rattle.edit_plan.proofs.PromisesOfRuns.{ran-with}
 use Rattle.edit_plan.proofs.plan.EditPlan.run_with.Goals as goal
 
 pub returns-clause-ok : goal.returns-clause-ok

@@ -4,7 +4,7 @@ use Rattle.cst_core.specs.Green.{branch_tree, length_limit}
 use Rattle.cst_core.specs.Tree.{text_length}
 use Rattle.edit_change.specs.Topmost.{paths_of}
 use Rattle.edit_plan.specs.Engine.{annotated_path}
-use Rattle.edit_plan.proofs.Carrying.{too-long}
+use Rattle.edit_plan.proofs.PromisesOfRuns.{too-long}
 use Rattle.edit_plan.proofs.plan.EditPlan.within_limit.Goals as goal
 
 pub returns-then-length-ge-LENGTH_LIMIT-clause-refused : goal.returns-then-length-ge-LENGTH_LIMIT-clause-refused

@@ -6,7 +6,7 @@ use Rattle.edit_change.specs.ChangeAim.{aim}
 use Rattle.edit_steps.specs.inner.Followers.{link}
 use Rattle.edit_steps.specs.inner.GapTable.{gap_entry}
 use Rattle.edit_steps.proofs.Gaps.{seen-kept, seen-passed}
-use Rattle.edit_steps.proofs.Links.{put-before, put-behind, passed-before}
+use Rattle.edit_steps.proofs.Links.{put-before, put-after, passed-before}
 use Rattle.edit_steps.proofs.Undropped.{fate-at}
 use Rattle.edit_steps.proofs.order.followers.next_in_gaps.Goals as goal
 use Rattle.edit_steps.proofs.order.followers.next_in_gaps.Goals.{then-not-is_dropped+in_ok-links-2, else-not-is_dropped}
@@ -31,7 +31,7 @@ loop-number-preserved c =
             seen = λ a. ap (λ t. gap_entry t a) w.seen-is ∙ seen-kept cs n change at (n + 1) next c.loop-number.seen kept.seen w.put.new.self stays w.in_ok-links-2.ensures.after a;
             long = ap length put ∙ length-set links n o ∙ kept.long;
             before = λ k d l is. ap (λ xs. link xs k) put ∙ put-before cs n (n + 1) next change at links kept.before o (omega (arith, within, kept.long)) stays (w.in_ok-links-2.ensures.before ∙ kept.seen (aim change)) k d l is;
-            behind = λ k l. ap (λ xs. link xs k) put ∙ put-behind cs n (n + 1) next change at links kept.before o (omega (arith, within, kept.long)) kept.behind k l;
+            after = λ k l. ap (λ xs. link xs k) put ∙ put-after cs n (n + 1) next change at links kept.before o (omega (arith, within, kept.long)) kept.after k l;
           }
       | else-not-is_dropped w ↦
           let gone = sym told ∙ w.if-not-is_dropped.false in
@@ -39,8 +39,8 @@ loop-number-preserved c =
           record {
             seen = λ a. ap (λ t. gap_entry t a) w.seen-is ∙ seen-passed cs n change at (n + 1) next c.loop-number.seen kept.seen gone a;
             long = ap length same ∙ kept.long;
-            before = λ k d l is. ap (λ xs. link xs k) same ∙ passed-before cs n (n + 1) next change at links kept.before gone (kept.behind n (omega arith)) k d l is;
-            behind = λ k l. ap (λ xs. link xs k) same ∙ kept.behind k (omega (arith, l));
+            before = λ k d l is. ap (λ xs. link xs k) same ∙ passed-before cs n (n + 1) next change at links kept.before gone (kept.after n (omega arith)) k d l is;
+            after = λ k l. ap (λ xs. link xs k) same ∙ kept.after k (omega (arith, l));
           }
     ]
 

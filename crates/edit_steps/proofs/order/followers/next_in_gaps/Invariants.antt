@@ -11,5 +11,5 @@ invariant-loop-number l = record {
   seen : (a : Aim) → gap_entry l.seen a ≡ next_in_gap l.changes l.number a;
   long : length l.links.items ≡ length l.changes;
   before : (n : ℕ) (c : Change) → n < l.number → slice_get l.changes n ≡ Some c → link l.links.items n ≡ gap_link l.changes n c;
-  behind : (n : ℕ) → l.number ≤ n → link l.links.items n ≡ None;
+  after : (n : ℕ) → l.number ≤ n → link l.links.items n ≡ None;
 }

@@ -11,7 +11,7 @@ use Rattle.edit_steps.specs.inner.Putting.{CanPut, put}
 use Rattle.edit_steps.specs.inner.AimTargets.{site_of}
 use Rattle.edit_steps.proofs.Aims.{found-live, found-dead, found-none}
 use Rattle.edit_steps.proofs.Stepping.{dead-tree, dead-counted}
-use Rattle.edit_steps.proofs.Taken.{made-live, builds-live, builds-dead}
+use Rattle.edit_steps.proofs.StepOfStage.{made-live, builds-live, builds-dead}
 use Rattle.edit_steps.proofs.stage.Stage.step.Goals as goal
 
 pub returns-in_default-clause-done : goal.returns-in_default-clause-done

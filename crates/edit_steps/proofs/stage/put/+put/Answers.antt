@@ -6,7 +6,7 @@ use Rattle.green_tree.specs.GreenElement.{element_tree, element_trees}
 use Rattle.green_tree.proofs.Lookup.{trees-forest}
 use Rattle.green_tree.proofs.Slots.{path_ends, slice_get-child}
 use Rattle.edit_change.specs.Effort.{counted}
-use Rattle.edit_change.proofs.Built.{on_ok, if_ok-map}
+use Rattle.edit_change.proofs.AlteredNodes.{on_ok, if_ok-map}
 use Rattle.edit_steps.specs.declared.stage.done.Among.TheVariants.{Slots}
 use Rattle.edit_steps.specs.inner.CurrentPaths.{count_of, start, current_path, done_at, done_below, StartFits}
 use Rattle.edit_steps.proofs.Putting.{no-token, at-end, put-end, further, put-further, done_here, way_here, done_next}

@@ -4,7 +4,7 @@ use Rattle.edit_change.specs.NewTree.{independents, only}
 use Rattle.edit_steps.specs.inner.Stages.{HasNewRoot}
 use Rattle.edit_change.specs.Rewriting.{rewritten}
 use Rattle.edit_change.specs.inner.KindOnly.{kind_only}
-use Rattle.edit_steps.proofs.Replaced.{root-replaced, root-kept}
+use Rattle.edit_steps.proofs.ReplacedRoot.{root-replaced, root-kept}
 use Rattle.edit_steps.proofs.stages.Stages.green.Goals as goal
 
 pub returns-in-Some : goal.returns-in-Some

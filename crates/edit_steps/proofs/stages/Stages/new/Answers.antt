@@ -1,5 +1,5 @@
 use Rattle.std.proofs.Common.{refl, sym, ◌∙◌}
-use Rattle.edit_steps.proofs.Begun.{begun}
+use Rattle.edit_steps.proofs.FirstStages.{begun}
 use Rattle.edit_steps.proofs.stages.Stages.new.Goals as goal
 
 pub returns-clause-stages : goal.returns-clause-stages

@@ -1,7 +1,7 @@
 use Rattle.std.proofs.Common.{◌∷◌, [], length, ap, arith}
 use Rattle.std.proofs.lemmas.List.{length-append}
 use Rattle.std.proofs.lemmas.Option.{slice_get_within}
-use Rattle.edit_steps.proofs.Begun.{begun-more}
+use Rattle.edit_steps.proofs.FirstStages.{begun-more}
 use Rattle.edit_steps.proofs.stages.payload.payload_stages.Goals as goal
 
 pub loop-number-init : goal.loop-number-init

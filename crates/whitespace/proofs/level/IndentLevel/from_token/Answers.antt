@@ -1,12 +1,12 @@
 use Rattle.std.proofs.Common.{refl, sym, ◌∙◌, subst, ap}
-use Rattle.whitespace.specs.Level.{level_behind}
+use Rattle.whitespace.specs.Level.{level_after}
 use Rattle.whitespace.specs.LevelCalls.{ReadsLevel}
 use Rattle.whitespace.proofs.TokensBefore.{level_here, back_one, zero_first, zero_read}
 use Rattle.whitespace.proofs.level.IndentLevel.from_token.Goals as goal
 
 pub returns-then-breaks_line-clause-level : goal.returns-then-breaks_line-clause-level
 returns-then-breaks_line-clause-level c =
-    subst (λ n. ReadsLevel n c.level_behind.result) (ap level_behind c.text.ensures ∙ sym (level_here c.args.token.now (sym c.breaks_line.ensures ∙ c.if-breaks_line.true))) c.level_behind.ensures.level
+    subst (λ n. ReadsLevel n c.level_after.result) (ap level_after c.text.ensures ∙ sym (level_here c.args.token.now (sym c.breaks_line.ensures ∙ c.if-breaks_line.true))) c.level_after.ensures.level
 
 pub returns-in-Some-clause-level : goal.returns-in-Some-clause-level
 returns-in-Some-clause-level c =
