@@ -13,14 +13,12 @@ mod order_error;
 mod waiting;
 mod waits;
 
-pub use document_order::default_order;
-pub use order_error::OrderError;
-pub(crate) use waiting::Waiting;
-
 use crate::order::followers::Followers;
-
+pub use document_order::default_order;
 use edit_change::{Change, Fate, TargetTable};
+pub use order_error::OrderError;
 use std::alloc::{AllocError, Global};
+pub(crate) use waiting::Waiting;
 
 fn are_dropped(alloc: Global, fates: &[Fate]) -> Result<Vec<bool>, AllocError>
     ensures { IfOk result (λ v. v.items ≡ map is_dropped_in fates.now) }

@@ -13,8 +13,8 @@ use crate::stage::aim_target::AimTarget;
 use crate::stage::done::Done;
 use crate::stage::done_table::DoneTable;
 use crate::stage::put::{Splice, put};
-use green_tree::GreenElement;
 use edit_change::Aimed;
+use green_tree::GreenElement;
 use std::alloc::{AllocError, Global};
 
 /// An element with some changes carried out, one at a time.

@@ -28,16 +28,16 @@ module _ {L X : Type 0} (shown : ℕ → List (Tree L) → List X) (is_shown : I
       ap₂ (λ ps k. ps ++ shown k rest) a x ∙ append_assoc before (shown start g) (shown (start + length g) rest) ∙ ap (λ ps. before ++ ps) (sym (is_shown.append start g rest)) ∙ ap (λ us. before ++ shown start us) (gap-slots label_at given cs 0 (forest ts))
 
   -- a slot and the gap after it
-  pub step : (before middle after all : List X) (next between after : ℕ) (s : List (Tree L)) (i : ℕ) (ts : List SyntaxTree) (d : SyntaxTree) → i < length ts → s ≡ slot label_at given cs (i ∷ []) (rewritten label_at given cs (i ∷ []) (get_or ts i d)) → middle ≡ before ++ shown next s → between ≡ next + length s → after ≡ middle ++ shown between (in_gap (i + 1)) → after ≡ between + length (in_gap (i + 1)) → before ++ shown next (to_come i ts) ≡ all → after ++ shown after (to_come (i + 1) ts) ≡ all
-  step before middle after all next between after s i ts d l is m x a y h =
+  pub step : (before middle after all : List X) (next between past : ℕ) (s : List (Tree L)) (i : ℕ) (ts : List SyntaxTree) (d : SyntaxTree) → i < length ts → s ≡ slot label_at given cs (i ∷ []) (rewritten label_at given cs (i ∷ []) (get_or ts i d)) → middle ≡ before ++ shown next s → between ≡ next + length s → after ≡ middle ++ shown between (in_gap (i + 1)) → past ≡ between + length (in_gap (i + 1)) → before ++ shown next (to_come i ts) ≡ all → after ++ shown past (to_come (i + 1) ts) ≡ all
+  step before middle after all next between past s i ts d l is m x a y h =
       let g = in_gap (i + 1) in
       let rest = to_come (i + 1) ts in
       let whole : to_come i ts ≡ s ++ g ++ rest = split label_at given cs i ts d l ∙ ap (λ u. u ++ g ++ rest) (sym is) in
       let at_gap : next + length s ≡ between = sym x in
-      let at_rest : next + length (s ++ g) ≡ after = omega (arith, length-append s g) in
-      let shown_whole : shown next (to_come i ts) ≡ shown next s ++ shown between g ++ shown after rest = ap (shown next) whole ∙ is_shown.append next (s ++ g) rest ∙ ap₂ (λ ps k. ps ++ shown k rest) (is_shown.append next s g ∙ ap (λ k. shown next s ++ shown k g) at_gap) at_rest in
-      let grouped : before ++ shown next s ++ shown between g ++ shown after rest ≡ before ++ (shown next s ++ shown between g ++ shown after rest) = simp append_assoc in
-      ap (λ ps. ps ++ shown after rest) (a ∙ ap (λ ps. ps ++ shown between g) m) ∙ grouped ∙ ap (λ ps. before ++ ps) (sym shown_whole) ∙ h
+      let at_rest : next + length (s ++ g) ≡ past = omega (arith, length-append s g) in
+      let shown_whole : shown next (to_come i ts) ≡ shown next s ++ shown between g ++ shown past rest = ap (shown next) whole ∙ is_shown.append next (s ++ g) rest ∙ ap₂ (λ ps k. ps ++ shown k rest) (is_shown.append next s g ∙ ap (λ k. shown next s ++ shown k g) at_gap) at_rest in
+      let grouped : before ++ shown next s ++ shown between g ++ shown past rest ≡ before ++ (shown next s ++ shown between g ++ shown past rest) = simp append_assoc in
+      ap (λ ps. ps ++ shown past rest) (a ∙ ap (λ ps. ps ++ shown between g) m) ∙ grouped ∙ ap (λ ps. before ++ ps) (sym shown_whole) ∙ h
 
   -- nothing is left after the last gap
   pub all_shown : (found all : List X) (next i : ℕ) (ts : List SyntaxTree) → length ts ≤ i → found ++ shown next (to_come i ts) ≡ all → found ≡ all

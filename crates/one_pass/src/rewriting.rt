@@ -9,9 +9,8 @@ ghost use Rattle.edit_change.specs.Nesting.{first_clash};
 ghost use Rattle.edit_change.specs.NewTree.{independents};
 ghost use Rattle.edit_change.specs.inner.Aimed.{aims_of};
 ghost use Rattle.edit_change.specs.inner.Fate.{fate};
-ghost use Rattle.edit_change.specs.inner.OwnerPlaces.{places_in};
 ghost use Rattle.edit_change.specs.inner.TargetTable.{IsTargetTable};
-ghost use Rattle.one_pass.specs.inner.Root.{CountsAll, IsOnePass, KeepsTop};
+ghost use Rattle.one_pass.specs.inner.Root.{CountsAllOf, IsOnePassOf, KeepsTop};
 ghost use Rattle.one_pass.specs.inner.Root.{root_rewritten, FindsInRoot, CountsRoot};
 
 use crate::dependent::dependents;
@@ -55,8 +54,8 @@ pub fn rewrite(
     requires targets { IsTargetTable planned.changes.now planned.targets.now }
     requires fates { planned.fates.now ≡ map (fate planned.changes.now) planned.changes.now }
     requires places { length planned.places.now ≡ length planned.changes.now }
-    ensures made { IfOk result (IsOnePass planned.entry.root.now planned.entry.changes.now (places_in planned.entry.places.now) registered.now) }
-    ensures count { OnOk result (CountsAll planned.entry.root.now planned.entry.changes.now (places_in planned.entry.places.now) builds.old builds.new) }
+    ensures made { IfOk result (IsOnePassOf planned.entry registered.now) }
+    ensures count { OnOk result (CountsAllOf planned.entry builds.old builds.new) }
 {
     let Planned {
         root,
@@ -70,7 +69,9 @@ pub fn rewrite(
     let index = SoughtTable::of(alloc, registered)?;
     let mut given = given_table(alloc, changes, &dependents, &index, builds)?;
     given.top = Some(registered.len());
-    let RewrittenElements { elements, marks } = rewritten_root(alloc, root, &aims, &index, &given, builds)?;
+    let RewrittenElements { elements, marks } = rewritten_root(
+        alloc, root, &aims, &index, &given, builds,
+    )?;
     keep_top(root, changes, targets);
     let paths = mark_paths(alloc, marks, registered.len())?;
     Ok(OnePass {

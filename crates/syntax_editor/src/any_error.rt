@@ -2,9 +2,9 @@ use crate::error::{MergeError, RecordError};
 use cst_core::TreeError;
 use edit_map::MapError;
 use edit_plan::{EditError, ExecuteError};
-use whitespace::IndentError;
 use std::alloc::{AllocError, AllocFailed};
 use thiserror::Error;
+use whitespace::IndentError;
 
 /// Any refusal of a call of these crates, for callers that need no more than `?` and a text. Its text is that of the refusal.
 #[derive(Debug, PartialEq, Eq, Drop, Error)]

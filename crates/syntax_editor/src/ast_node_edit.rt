@@ -12,8 +12,8 @@ ghost use Rattle.syntax_editor.specs.TypedIndents.{indented_root, dedented_root,
 
 use crate::factory::SyntaxFactory;
 use cst_core::{AstNode, SyntaxNode, TreeIds};
-use whitespace::{IndentError, IndentLevel, dedent, indent};
 use std::alloc::Global;
+use whitespace::{IndentError, IndentLevel, dedent, indent};
 
 /// Levels and indentation of typed nodes. What is indented or dedented is the root of a tree of its own, under the next
 /// number; a refusal draws none.

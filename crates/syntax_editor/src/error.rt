@@ -1,9 +1,9 @@
 ghost use Rattle.std.specs.Prelude.{◌≡◌};
 ghost use Rattle.syntax_editor.specs.RecordRefusal.{of_space};
 
-use whitespace::SpaceError;
 use std::alloc::{AllocError, AllocFailed};
 use thiserror::Error;
+use whitespace::SpaceError;
 
 /// Why a change is not recorded.
 #[derive(Debug, PartialEq, Eq, Drop, Error)]

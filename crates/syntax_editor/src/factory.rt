@@ -14,10 +14,9 @@ ghost use Rattle.syntax_editor.specs.Lending.{LendsMappings};
 
 use cst_core::{SyntaxNode, SyntaxToken, TreeError, TreeIds};
 use edit_map::{SyntaxMapping, SyntaxMappingBuilder};
-use whitespace::{IndentError, map_children};
-use whitespace::whitespace;
 use std::alloc::{AllocError, Global};
 use std::marker::Model;
+use whitespace::{IndentError, map_children, whitespace};
 
 /// What makes new elements, and keeps which node is the copy of which one where it has mappings.
 #[derive(Drop)]

@@ -8,8 +8,8 @@ use crate::editor::SyntaxEditor;
 use crate::error::RecordError;
 use cst_core::{SyntaxElement, TreeIds};
 use edit_plan::{Element, Position};
-use whitespace::elements_with_spaces;
 use std::alloc::Global;
+use whitespace::elements_with_spaces;
 
 impl SyntaxEditor {
     /// Inserts elements at a position, in their order, with whitespace before and after them as the kinds and levels of their

@@ -6,10 +6,10 @@ mod compared;
 use crate::scripts::compared::Compared;
 use anyhow::{Context, Result};
 use cst_core::SyntaxNode;
+use plain_model::{Answers, Edited, answers_to, engine_answers, ordered_answers, stepped_answers};
 use std::alloc::Global;
 use syned_script::{Recorded, Told, record_script};
 use syntax_editor::{EditEngine, OnePassEngine, SpliceEngine};
-use plain_model::{Answers, Edited, answers_to, engine_answers, ordered_answers, stepped_answers};
 
 fn edited<'a>(root: &'a SyntaxNode, told: &'a Told) -> Edited<'a> {
     Edited {

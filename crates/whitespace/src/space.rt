@@ -6,12 +6,12 @@ ghost use Rattle.whitespace.specs.Spacing.{NewLine, neighbor, between, space_fol
 ghost use Rattle.whitespace.specs.inner.SpaceInCode.{FindsLevel, FindsSpace};
 ghost use Rattle.whitespace.specs.inner.SpaceRefusal.{of_level};
 
+use crate::indent_error::IndentError;
+use crate::level::IndentLevel;
 use crate::space_error::SpaceError;
 use crate::space_rule::{SpaceRule, opens_list, space_rule};
 use cst_core::{SyntaxElement, SyntaxNode};
 use edit_change::Position;
-use crate::indent_error::IndentError;
-use crate::level::IndentLevel;
 use std::alloc::{AllocError, Global};
 
 /// The whitespace that goes between two elements.

@@ -1,8 +1,8 @@
 ghost use Rattle.std.specs.Prelude.{◌≡◌, Some, IsSome};
 ghost use Rattle.whitespace.specs.inner.SpaceRefusal.{of_level, of_whitespace};
 
-use cst_core::TreeError;
 use crate::indent_error::IndentError;
+use cst_core::TreeError;
 use std::alloc::AllocError;
 use thiserror::Error;
 

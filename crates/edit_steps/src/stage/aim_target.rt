@@ -3,8 +3,8 @@ ghost use Rattle.green_tree.specs.GreenElement.{element_tree};
 ghost use Rattle.edit_steps.specs.inner.AimTargets.{child_count, child_at, child_of, live_target, site_of};
 
 use crate::stage::done::Among;
-use green_tree::{GreenElement, GreenElementRef};
 use edit_change::{AimForm, Aimed};
+use green_tree::{GreenElement, GreenElementRef};
 
 /// The node whose children an aim alters, by its path, and where among them.
 #[derive(Clone, Copy)]

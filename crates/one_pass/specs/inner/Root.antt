@@ -1,11 +1,11 @@
 -- What the pass makes of the old root.
 --     TellsNewTree                  the new tree, without its origins, where the copies of each of some elements are in it, and the paths of changed elements
---     IsOnePass                     the same of values in code
+--     IsOnePass, IsOnePassOf        the same of values in code; where the tree and its changes are values in code too
 --     KeepsTop                      one node stands in the place of the root
 --     root_rewritten, FindsInRoot   what stands in the place of the root; where its marks are
 --     CountsRoot                    how a count of nodes is raised by what stands in the place of the root
 --     IsAllBuilt                    each node whose children a change alters is there, in the old tree or in a payload, and stays
---     CountsAll                     how the count is raised by the old tree and all payloads
+--     CountsAll, CountsAllOf        how the count is raised by the old tree and all payloads
 use Rattle.std.specs.Prelude.{◌≡◌, ℕ, List, [], ◌∷◌, map, Vec}
 use Rattle.std.specs.Global.{Global}
 use Rattle.cst_core.specs.Path.{Path}
@@ -33,6 +33,8 @@ use Rattle.edit_change.specs.Effort.{touched, parents_of}
 use Rattle.one_pass.specs.inner.Built.{AreBuilt}
 use Rattle.edit_change.specs.TouchedNodes.{Raises, touched_by}
 use Rattle.edit_change.specs.declared.change.Change.{Change}
+use Rattle.edit_change.specs.declared.planned.Planned.{Planned}
+use Rattle.edit_change.specs.inner.OwnerPlaces.{places_in}
 use Rattle.one_pass.specs.declared.sought.SoughtTable.{SoughtTable}
 use Rattle.one_pass.specs.inner.GivenTables.{ArePayloadsBuilt}
 use Rattle.one_pass.specs.declared.rewriting.OnePass.{OnePass}
@@ -54,6 +56,13 @@ module _ (root : Element) (changes : List Change) (places : ℕ → Path) where
 
   abbrev pub CountsAll : ℕ → ℕ → Type 0
   CountsAll before after = Raises IsAllBuilt (touched_by changes places root) before after
+
+-- ---- of a tree and its changes in code
+abbrev pub IsOnePassOf : Planned → List SyntaxElement → OnePass → Type 0
+IsOnePassOf p es o = IsOnePass p.root.now p.changes.now (places_in p.places.now) es o
+
+abbrev pub CountsAllOf : Planned → ℕ → ℕ → Type 0
+CountsAllOf p before after = CountsAll p.root.now p.changes.now (places_in p.places.now) before after
 
 -- ---- what stands in the place of the root
 abbrev pub KeepsTop : Element → List Change → Type 0

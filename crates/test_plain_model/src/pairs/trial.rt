@@ -3,9 +3,9 @@ use crate::pairs::single::Single;
 use crate::pairs::trees::Trees;
 use anyhow::{Context, Result};
 use cst_core::TreeIds;
+use plain_model::{Answers, Edited, answers_to, stepped_answers};
 use std::alloc::Global;
 use syntax_editor::{SyntaxEditor, SyntaxMapping};
-use plain_model::{Answers, Edited, answers_to, stepped_answers};
 
 /// A change with its number.
 #[derive(Clone, Copy)]

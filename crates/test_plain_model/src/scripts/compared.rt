@@ -1,6 +1,6 @@
 use anyhow::Result;
-use std::fmt::{self, Display, Formatter, Write};
 use plain_model::{Answer, Answers};
+use std::fmt::{self, Display, Formatter, Write};
 
 /// How many paths of changed and of annotated elements were compared with those of the model, in every way together.
 #[derive(Drop)]

@@ -1,4 +1,4 @@
-use Rattle.std.proofs.Common.{[], Some, None, sym, ◌∙◌, arith}
+use Rattle.std.proofs.Common.{[], sym, ◌∙◌, arith}
 use Rattle.edit_change.proofs.MovedAims.{fit_at}
 use Rattle.edit_change.proofs.WayOfRegions.{found-at, found-within, found-target}
 use Rattle.one_pass.proofs.Rooted.{stays-a-node, takes-its-place}
