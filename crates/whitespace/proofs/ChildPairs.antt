@@ -20,7 +20,7 @@ use Rattle.cst_core.specs.declared.element.SyntaxElement.{SyntaxElement}
 use Rattle.edit_map.specs.Builder.{IsPairUnder, RefusesFirst, RefusesChildren}
 use Rattle.edit_map.specs.declared.map_error.MapError.{MapError}
 use Rattle.edit_map.specs.declared.map_error.MapError.TheVariants.{NotAChild, NotYounger, OtherShape, MoreInputs, Memory}
-use Rattle.whitespace.specs.MappedAlong.{is_too_old}
+use Rattle.whitespace.specs.MappedAlong.{is_not_younger}
 use Rattle.whitespace.specs.inner.AlongRefusal.{AlongRefuses, of_pairs}
 use Rattle.whitespace.specs.declared.indent_error.IndentError.{IndentError}
 use Rattle.whitespace.specs.declared.indent_error.IndentError.TheVariants as indent
@@ -220,7 +220,7 @@ module _ (old new : Element) where
     pub no_other_shape : RefusesFirst parent (zip xs ys) OtherShape → ⊥
     no_other_shape r = r.refused.2 (found OtherShape r).0
 
-    pub after : RefusesFirst parent (zip xs ys) NotYounger → is_too_old old new.number ≡ true
+    pub after : RefusesFirst parent (zip xs ys) NotYounger → is_not_younger old new.number ≡ true
     after r =
         let pair = found NotYounger r in
         let le = r.refused.1 in
@@ -229,7 +229,7 @@ module _ (old new : Element) where
         let copy = pair.3 in
         yes_after (length (child_nodes old)) new.number old.number some (omega arith)
 
-    pub ahead : All (IsPairUnder parent) (zip xs ys) → is_too_old old new.number ≡ false
+    pub ahead : All (IsPairUnder parent) (zip xs ys) → is_not_younger old new.number ≡ false
     ahead taken =
         subst (λ zs. (not (nat_eq (length zs) 0) && nat_le new.number old.number) ≡ false) is_in
         (risen xs ys count all (recursion_from_All (IsPairUnder new) (zip xs ys) (subst (λ p. All (IsPairUnder p) (zip xs ys)) is_parent taken)))
@@ -242,9 +242,9 @@ module _ (old new : Element) where
     comes MoreInputs r = absurd (enough r)
     comes Memory r = refl
 
-    pub along : (e : MapError) (f : IndentError) → RefusesChildren parent xs ys e → of_pairs e ≡ Some f → AlongRefuses (is_too_old old new.number) f
+    pub along : (e : MapError) (f : IndentError) → RefusesChildren parent xs ys e → of_pairs e ≡ Some f → AlongRefuses (is_not_younger old new.number) f
     along NotAChild f r is = absurd (no_stranger r.1)
-    along NotYounger f r is = subst (AlongRefuses (is_too_old old new.number)) (same_Some indent.NotYounger f is) (after r.1)
+    along NotYounger f r is = subst (AlongRefuses (is_not_younger old new.number)) (same_Some indent.NotYounger f is) (after r.1)
     along OtherShape f r is = absurd (no_other_shape r.1)
     along MoreInputs f r is = absurd (enough r)
-    along Memory f r is = subst (AlongRefuses (is_too_old old new.number)) (same_Some indent.Memory f is) tt
+    along Memory f r is = subst (AlongRefuses (is_not_younger old new.number)) (same_Some indent.Memory f is) tt

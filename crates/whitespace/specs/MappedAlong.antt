@@ -1,5 +1,5 @@
 -- What is mapped along with a copy of a node.
---     is_too_old, is_too_old       a node with a child node, and a copy whose number is not greater; and mappings are kept
+--     is_not_younger, is_too_old    a node with a child node, and a copy whose number is not greater; and mappings are kept
 --     MapsAlong                   what mappings become, where some are kept
 use Rattle.std.specs.Prelude.{◌≡◌, ◌&&◌, not, nat_le, nat_eq, ℕ, Bool, List, ◌++◌, length, reverse, Option, Some, None, is_some}
 use Rattle.cst_core.specs.Element.{Element}
@@ -8,11 +8,11 @@ use Rattle.edit_map.specs.Mapping.{Mapping}
 use Rattle.edit_map.specs.Builder.{IsMadeOf}
 
 -- where nothing would be mapped, any number will do
-abbrev pub is_too_old : Element → ℕ → Bool
-is_too_old old number = not (nat_eq (length (child_nodes old)) 0) && nat_le number old.number
+abbrev pub is_not_younger : Element → ℕ → Bool
+is_not_younger old number = not (nat_eq (length (child_nodes old)) 0) && nat_le number old.number
 
 abbrev pub is_too_old : Option Mapping → Element → ℕ → Bool
-is_too_old kept old number = is_some kept && is_too_old old number
+is_too_old kept old number = is_some kept && is_not_younger old number
 
 abbrev pub MapsAlong : List (Element × Element) → Option Mapping → Option Mapping → Type 0
 MapsAlong pairs None after = after ≡ None

@@ -4,7 +4,7 @@ ghost use Rattle.cst_core.specs.Tree.{SameShape};
 ghost use Rattle.cst_core.specs.Element.{subtree};
 ghost use Rattle.edit_map.specs.Builder.{IsMadeOf};
 ghost use Rattle.whitespace.specs.Indentation.{mapped_children};
-ghost use Rattle.whitespace.specs.MappedAlong.{is_too_old};
+ghost use Rattle.whitespace.specs.MappedAlong.{is_not_younger};
 ghost use Rattle.whitespace.specs.inner.AlongRefusal.{AlongRefuses};
 
 use crate::indent_error::IndentError;
@@ -25,8 +25,8 @@ pub fn map_children(
 ) -> Result<(), IndentError>
     requires { SameShape (subtree old.now) (subtree new.now) }
     ensures ok { OnOk result (IsMadeOf (reverse (mapped_children old.now new.now) ++ mapping.old) mapping.new) }
-    ensures accepted { OnOk result (is_too_old old.now new.now.number ≡ false) }
-    ensures refused { IfErr result (AlongRefuses (is_too_old old.now new.now.number)) }
+    ensures accepted { OnOk result (is_not_younger old.now new.now.number ≡ false) }
+    ensures refused { IfErr result (AlongRefuses (is_not_younger old.now new.now.number)) }
     ensures unchanged { OnErr result (mapping.new ≡ mapping.old) }
 {
     let builder = children_builder(alloc, old, new)?;
@@ -41,8 +41,8 @@ fn children_builder(
 ) -> Result<SyntaxMappingBuilder, IndentError>
     requires { SameShape (subtree old.now) (subtree new.now) }
     ensures ok { IfOk result (λ b. b.pairs ≡ reverse (mapped_children old.now new.now)) }
-    ensures accepted { OnOk result (is_too_old old.now new.now.number ≡ false) }
-    ensures refused { IfErr result (AlongRefuses (is_too_old old.now new.now.number)) }
+    ensures accepted { OnOk result (is_not_younger old.now new.now.number ≡ false) }
+    ensures refused { IfErr result (AlongRefuses (is_not_younger old.now new.now.number)) }
 {
     // What stands at their paths are nodes.
     let _ = (old.kind(), new.kind());
