@@ -5,6 +5,7 @@
 - What docs/CALLING.md and README.md show of a caller, and docs/SCRIPTS.md of a script, is in its file, word for word.
 - docs/GUARANTEES.md names each public call once, and its contracts cite the definitions that the row names.
 - Each file that a page names is there. No line of a page is over 120 columns but in a table, README.md is one page, and it names the kit.
+- docs/ARCHITECTURE.md says how many crates, files and functions its walks have (tests/walk.py).
 - Each file of rows is read for one group, and is not too long (tests/rows.py).
 - Each planted bug can be made. Each public function has one (tests/public_bugs.py). There are as many as tests/planted_bugs.txt says, a
   number that never falls. Each inner one was refused over the files that are there now, by this kit, by the record in
@@ -22,6 +23,7 @@ import inner_record
 import public_bugs
 import public_calls
 import rows
+import walk
 
 ROOT = Path(__file__).resolve().parent.parent
 # Libraries whose files no table lists: they are for tests.
@@ -248,6 +250,16 @@ def compare_readme():
             wrong.append(f"README.md: does not name the kit as rt version does: {kit}")
 
 
+def compare_walks():
+    """docs/ARCHITECTURE.md says how many functions each of its walks has."""
+    text = (ROOT / "docs/ARCHITECTURE.md").read_text()
+    sources = walk.Sources()
+    for call in walk.WALKS:
+        told = f"**`{call}`: {walk.counted(sources.walk(call))}**"
+        if told not in text:
+            wrong.append(f"docs/ARCHITECTURE.md: does not say {told}")
+
+
 def compare_believed():
     """What a reader has to believe is short, and stands outside inner/; what stands there is that, and no more."""
     specs = believed.Specs()
@@ -298,6 +310,7 @@ compare_names()
 compare_widths()
 compare_readme()
 compare_believed()
+compare_walks()
 compare_planted_bugs()
 compare_record()
 wrong.extend(rows.wrong_files())
