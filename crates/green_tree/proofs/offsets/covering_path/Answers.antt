@@ -1,8 +1,9 @@
-use Rattle.std.proofs.Common.{arith, sym}
+use Rattle.std.proofs.Common.{arith}
 use Rattle.green_tree.specs.Green.{branch_tree}
 use Rattle.green_tree.proofs.Covering.{covering_none-back, covering_none-past, covering_there}
 use Rattle.green_tree.proofs.offsets.covering_path.Goals as goal
 use Rattle.green_tree.proofs.offsets.covering_path.Goals.{then-end-start-via-then-end-start, then-end-start-via-else-end-start+then-length-end}
+use Rattle.std.proofs.Common.{sym}
 
 pub returns-then-end-start-clause-ok : goal.returns-then-end-start-clause-ok
 returns-then-end-start-clause-ok c =
