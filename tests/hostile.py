@@ -144,7 +144,7 @@ def tree_rows():
     return [
         ("200 levels", f"tree A {nested(200)}\nedit R A\nfinish\n", 'text ""\nchanged\n'),
         ("201 levels", f"tree A {nested(201)}\nedit R A\nfinish\n", bad(1)),
-        ("201 levels behind good lines", f"{OPENING}tree B {nested(201)}\nfinish\n", bad(4)),
+        ("201 levels after good lines", f"{OPENING}tree B {nested(201)}\nfinish\n", bad(4)),
         ("an edit below 200 levels", *deep_answer(200)),
         ("levels without end", filled("tree A ", "(ATTR ", "\n"), bad(1)),
         ("levels that all close", f"tree A {nested(100_000)}\nedit R A\nfinish\n", bad(1)),

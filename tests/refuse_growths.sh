@@ -69,7 +69,7 @@ changes.table: two ranges that meet
 orders.table: inserts into a wrapped block by 1 0 2
 orders.table: inserts into a wrapped block by 0 2 1
 words.table: every word
-bad.table: a line behind the end
+bad.table: a line after the end
 ROWS
 # Seven changes carried out in an order, some of them in what two others bring.
 refuse_each syned tests/corpus/orders/388 fails_in_silence

@@ -40,7 +40,7 @@ impl<'a> LentNode<'a> {
     pub(crate) fn to_node(&self, alloc: Global) -> Result<SyntaxNode, AllocError>
         ensures { IfOk result (λ n. n ≡ self.now) }
     {
-        // A node stands at the path.
+        // For the proof: a node stands at the path.
         let _ = &self.green;
         let path = Vec::from_slice(alloc, self.path)?;
         Ok(SyntaxNode {
@@ -99,7 +99,7 @@ impl<'a> LentNode<'a> {
         ensures ok { IfOk result (λ r. r ≡ first_item (nodes_from_slot self.now start)) }
         ensures none { first_item (nodes_from_slot self.now start) ≡ None → result ≡ Ok None }
     {
-        // A node stands at the path.
+        // For the proof: a node stands at the path.
         let _ = &self.green;
         for slot in start..self.len() {
             if let Some(node) = self.node_in(alloc, slot)? {
@@ -119,7 +119,7 @@ impl<'a> LentNode<'a> {
         ensures ok { IfOk result (λ r. r ≡ last_item (nodes_up_to self.now end)) }
         ensures none { last_item (nodes_up_to self.now end) ≡ None → result ≡ Ok None }
     {
-        // A node stands at the path.
+        // For the proof: a node stands at the path.
         let _ = &self.green;
         for slot in (0..end).rev() {
             if let Some(node) = self.node_in(alloc, slot)? {

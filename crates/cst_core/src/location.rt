@@ -239,7 +239,7 @@ impl Location {
         ensures ok { IfOk result (λ r. r ≡ previous_node self.now) }
         ensures none { previous_node self.now ≡ None → result ≡ Ok None }
     {
-        // An element stands at the path.
+        // For the proof: an element stands at the path.
         let _ = &self.path;
         match self.lent_parent() {
             Some(parent) => parent.last_node_before(alloc, self.index()),
@@ -251,7 +251,7 @@ impl Location {
     fn family(&self, alloc: Global) -> Result<Vec<SyntaxElement>, AllocError>
         ensures { IfOk result (λ all. all.items ≡ family_of self.now) }
     {
-        // The root is a node.
+        // For the proof: the root is a node.
         let _ = &self.root;
         if let Some(parent) = self.parent(alloc)? {
             return parent.children_with_tokens(alloc);
@@ -269,7 +269,7 @@ impl Location {
     ) -> Result<Vec<SyntaxElement>, AllocError>
         ensures { IfOk result (λ all. all.items ≡ siblings_on direction self.now) }
     {
-        // An element stands at the path.
+        // For the proof: an element stands at the path.
         let _ = &self.path;
         let mut all = self.family(alloc)?;
         match direction {

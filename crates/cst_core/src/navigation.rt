@@ -150,7 +150,7 @@ impl SyntaxNode {
         requires { IsTokenOf (subtree self.now) found.now }
         ensures { IfOk result (λ t. t ≡ below self.now found.now.path.items) }
     {
-        // A node stands at the path of `self`.
+        // For the proof: a node stands at the path of `self`.
         let _ = &self.green;
         let mut path = Vec::from_slice(alloc, self.slots())?;
         path.extend_from_slice(&found.path)?;
@@ -254,7 +254,7 @@ fn push_descendants(
 ) -> Result<(), AllocError>
     ensures { OnOk result (out.new.items ≡ out.old.items ++ descendants_of node.now) }
 {
-    // A node stands at the path of `node`.
+    // For the proof: a node stands at the path of `node`.
     let _ = &node.green;
     out.push(node.try_clone(alloc)?)?;
     let children = node.children(alloc)?;
@@ -271,7 +271,7 @@ fn push_elements(
 ) -> Result<(), AllocError>
     ensures { OnOk result (out.new.items ≡ out.old.items ++ elements_of node.now) }
 {
-    // A node stands at the path of `node`.
+    // For the proof: a node stands at the path of `node`.
     let _ = &node.green;
     out.push(SyntaxElement::Node(node.try_clone(alloc)?))?;
     let children = node.children_with_tokens(alloc)?;

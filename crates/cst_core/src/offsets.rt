@@ -22,7 +22,7 @@ impl SyntaxNode {
         ensures ok { IfOk result (λ r. r ≡ token_at self.now offset) }
         ensures none { token_at self.now offset ≡ TokenAtOffset.None → result ≡ Ok TokenAtOffset.None }
     {
-        // A node stands at the path of `self`.
+        // For the proof: a node stands at the path of `self`.
         let _ = &self.green;
         let base = self.text_start();
         if offset < base {
@@ -51,7 +51,7 @@ impl SyntaxNode {
         ensures ok { IfOk result (λ r. r ≡ covering_of self.now start end) }
         ensures none { covering_of self.now start end ≡ None → result ≡ Ok None }
     {
-        // A node stands at the path of `self`.
+        // For the proof: a node stands at the path of `self`.
         let _ = &self.green;
         let base = self.text_start();
         if start < base || end < start {

@@ -153,7 +153,7 @@ pub fn node_for_root(change: &Change) -> &SyntaxNode
         Change::ReplaceWithMany(_, elements) => one_node(elements.as_slice()),
         Change::ReplaceAll(_, _, _) => unreachable!(),
     };
-    // It is a node.
+    // For the proof: it is a node.
     let _ = node.kind();
     node
 }
@@ -195,7 +195,7 @@ fn count_of_range(first: &SyntaxElement, last: &SyntaxElement) -> usize
 pub fn slot_after(element: &SyntaxElement) -> usize
     ensures { result ≡ suc (last_slot (element_of element.now).path) }
 {
-    // Its path leads to it.
+    // For the proof: its path leads to it.
     let _ = element.as_green();
     if element.slots().is_empty() {
         return 1;

@@ -42,8 +42,8 @@ Stands m pair = copy m (address pair.0) ≡ Some pair.1
 stands-first : (pair : Element × Element) (m : Mapping) → Stands (pair ∷ m) pair
 stands-first pair m = ap (λ b. option_map (λ (d : Element × Element). d.1) (cond b (Some pair) (find (λ d. same_address (address d.0) (address pair.0)) m))) (same_address-itself (address pair.0))
 
-stands-behind : (pair q : Element × Element) (m : Mapping) → IsApart pair q → Stands m q → Stands (pair ∷ m) q
-stands-behind pair q m other stands =
+stands-cons : (pair q : Element × Element) (m : Mapping) → IsApart pair q → Stands m q → Stands (pair ∷ m) q
+stands-cons pair q m other stands =
     (elim (same_address (address pair.0) (address q.0)) as (λ b. same_address (address pair.0) (address q.0) ≡ b → option_map (λ (d : Element × Element). d.1) (cond b (Some pair) (find (λ d. same_address (address d.0) (address q.0)) m)) ≡ Some q.1) [
       | true ↦ λ same. absurd (other (same_address-true (address pair.0) (address q.0) same))
       | false ↦ λ _. stands
@@ -54,4 +54,4 @@ distinct-stands [] distinct = All-nil (Stands [])
 distinct-stands (pair ∷ m) distinct =
     let rest : All (Stands m) m = distinct-stands m (λ i j d below within. distinct (suc i) (suc j) d (omega (arith, below)) (omega (arith, within))) in
     let others : All (IsApart pair) m = λ k d within. distinct zero (suc k) d (omega arith) (omega (arith, within)) in
-    All-cons (Stands (pair ∷ m)) pair m (stands-first pair m) (λ k d within. stands-behind pair (slice_index_or m k d) m (others k d within) (rest k d within))
+    All-cons (Stands (pair ∷ m)) pair m (stands-first pair m) (λ k d within. stands-cons pair (slice_index_or m k d) m (others k d within) (rest k d within))

@@ -1,4 +1,4 @@
--- Following ends: each step uses a pair of the mapping whose address has the number that is left behind.
+-- Following ends: each step uses a pair of the mapping whose address has the number that is left.
 --     counted                        how many pairs have this number or a greater one at their address
 --     copy-falls                     a copy has a greater number, and fewer pairs count there
 --     followed-is_followed           the element that is reached where no step is possible is reached, and none is possible there

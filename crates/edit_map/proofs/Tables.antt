@@ -2,7 +2,7 @@
 --     alike, alike-laws              nodes of equal number and path
 --     lookup-copy                    a look-up at a node finds the copy of its address
 --     put-made                       the table after a node is removed and put in again
---     copy-behind                    a pair before two lists that give an address the same copy
+--     copy-cons                      a pair before two lists that give an address the same copy
 --     made-itself, made-more, made-reordered    a mapping is made of itself; with one pair more; in another order
 use Rattle.std.specs.Prelude.{◌≡◌, Bool, true, false, cond, [], ◌∷◌, ◌++◌, ◌==◌, find, Option, Some, None, option_map, MatchOption, All, Contains, refl}
 use Rattle.std.specs.Cmp.{IsEquivalence}
@@ -63,8 +63,8 @@ module _ (before removed after : Mapping) (k v : Element) (removed-gives : (q : 
   put-made old is put = record { copies = put-copies; among = put-among old is put }
 
 -- ---- what pairs make, pair by pair
-pub copy-behind : (pair : Element × Element) (m n : Mapping) (x : Address) → copy m x ≡ copy n x → copy (pair ∷ m) x ≡ copy (pair ∷ n) x
-copy-behind pair m n x same =
+pub copy-cons : (pair : Element × Element) (m n : Mapping) (x : Address) → copy m x ≡ copy n x → copy (pair ∷ m) x ≡ copy (pair ∷ n) x
+copy-cons pair m n x same =
     elim (same_address (address pair.0) x) as (λ b. option_map (λ (d : Element × Element). d.1) (cond b (Some pair) (find (λ d. same_address (address d.0) x) m)) ≡ option_map (λ (d : Element × Element). d.1) (cond b (Some pair) (find (λ d. same_address (address d.0) x) n))) [ true ↦ refl | false ↦ same ]
 
 pub made-itself : (m : Mapping) → IsMadeOf m m
@@ -72,7 +72,7 @@ made-itself m = record { copies = λ x. refl; among = All-contains_itself m }
 
 pub made-more : (pair : Element × Element) (pairs m n : Mapping) → IsMadeOf pairs m → IsMadeOf (pair ∷ m) n → IsMadeOf (pair ∷ pairs) n
 made-more pair pairs m n made more = record {
-  copies = λ x. more.copies x ∙ copy-behind pair m pairs x (made.copies x);
+  copies = λ x. more.copies x ∙ copy-cons pair m pairs x (made.copies x);
   among = All-weaker (Contains (pair ∷ m)) (Contains (pair ∷ pairs)) (λ d. held d) n more.among;
 }
   where
@@ -92,13 +92,13 @@ made-reordered m n moved same = record {
 -- the table that more pairs were put into, before or after it was put in another order
 pub made-again : (pairs m n o : Mapping) → IsMadeOf m n → IsMadeOf (pairs ++ n) o → IsMadeOf (pairs ++ m) o
 made-again pairs m n o made more = record {
-  copies = λ x. more.copies x ∙ behind pairs x;
+  copies = λ x. more.copies x ∙ rest pairs x;
   among = All-weaker (Contains (pairs ++ n)) (Contains (pairs ++ m)) (λ d. held d) o more.among;
 }
   where
-    behind : (ps : Mapping) (x : Address) → copy (ps ++ n) x ≡ copy (ps ++ m) x
-    behind [] x = made.copies x
-    behind (p ∷ ps) x = copy-behind p (ps ++ n) (ps ++ m) x (behind ps x)
+    rest : (ps : Mapping) (x : Address) → copy (ps ++ n) x ≡ copy (ps ++ m) x
+    rest [] x = made.copies x
+    rest (p ∷ ps) x = copy-cons p (ps ++ n) (ps ++ m) x (rest ps x)
 
     held : (d : Element × Element) → Contains (pairs ++ n) d → Contains (pairs ++ m) d
     held d there =

@@ -46,7 +46,7 @@ parent-of-ok e (Err f) is = tt
 parent-of-ok e (Ok None) is = tt
 parent-of-ok e (Ok (Some n)) is = above-parent e n is
 
--- ---- the last item of a list that one is put behind
+-- ---- the last item of a list that one is put after
 last_push : {X : Type 0} (xs : List X) (x : X) → last_item (xs ++ x ∷ []) ≡ Some x
 last_push [] x = refl
 last_push (y ∷ []) x = refl

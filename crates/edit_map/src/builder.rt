@@ -46,7 +46,7 @@ fn test_pair(parent: &SyntaxNode, input: &SyntaxNode, output: &SyntaxNode) -> Re
     ensures ok { OnOk result (IsPairUnder parent.now (input.now, output.now)) }
     ensures err { IfErr result (RefusesPair parent.now (input.now, output.now)) }
 {
-    // Both are nodes.
+    // For the proof: both are nodes.
     let _ = (input.kind(), output.kind());
     if !is_child(parent, output) {
         return Err(MapError::NotAChild);
@@ -132,7 +132,7 @@ impl SyntaxMappingBuilder {
         ensures unchanged { OnErr result (self.new ≡ self.old) }
         ensures pairs { ArePairsUnder self.new }
     {
-        // The pairs so far are such as the builder takes.
+        // For the proof: the pairs so far are such as the builder takes.
         let _ = &self.pairs;
         if inputs.len() > outputs.len() {
             return Err(MapError::MoreInputs);
@@ -151,7 +151,7 @@ impl SyntaxMappingBuilder {
         ensures pairs { ArePairsUnder self }
         ensures is_mapping { IsMapping mapping.new }
     {
-        // The pairs are such as the builder takes.
+        // For the proof: the pairs are such as the builder takes.
         let _ = &self.pairs;
         mapping.add_mapping(alloc, self)
     }

@@ -38,7 +38,7 @@ impl SyntaxMapping {
         ensures followed { IfOk result (LeadsTo self.now element.now) }
         ensures is_mapping { IsMapping self.now }
     {
-        // What is true of every mapping, and that the element is one of its tree.
+        // For the proof: what is true of every mapping, and that the element is one of its tree.
         let _ = &self.copies;
         let _ = element.kind();
         let _ = element.as_green();

@@ -79,7 +79,7 @@ impl SyntaxMapping {
         ensures err { OnErr result (self.new ≡ self.old) }
         ensures is_mapping { IsMapping self.new }
     {
-        // What is true of every mapping.
+        // For the proof: what is true of every mapping.
         let _ = &self.copies;
         let pairs = other.into_pairs(alloc)?;
         self.take_in(alloc, pairs)
@@ -91,7 +91,7 @@ impl SyntaxMapping {
         ensures is_mapping { IsMapping self.now }
         ensures clone { IfOk result IsMapping }
     {
-        // What is true of every mapping.
+        // For the proof: what is true of every mapping.
         let _ = &self.copies;
         let mut clone = SyntaxMapping::new(alloc);
         clone.take_in(alloc, self.cloned_pairs(alloc)?)?;
@@ -113,7 +113,7 @@ impl SyntaxMapping {
         ensures place { IfOk result (λ p. IsPlace self.now (address target.now) (address payload.now) (path_in p)) }
         ensures is_mapping { IsMapping self.now }
     {
-        // What is true of every mapping.
+        // For the proof: what is true of every mapping.
         let _ = &self.copies;
         let mut slots = Vec::new(alloc);
         let mut node = target.try_clone(alloc)?;

@@ -43,7 +43,7 @@ pub(crate) fn node_above(
     requires { depth < length node.now.path }
     ensures { IfOk result (λ n. n ≡ element_at node.now (take depth node.now.path)) }
 {
-    // The path leads to a node.
+    // For the proof: the path leads to a node.
     let _ = node.kind();
     let top = node.tree_top(alloc)?;
     match top.element_at(alloc, &node.slots()[..depth])? {

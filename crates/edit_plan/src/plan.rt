@@ -63,7 +63,7 @@ impl EditPlan {
         ensures planned { IfOk result IsPlan }
         ensures refused { IfErr result (BuildRefuses (new_plan root changes registrations mapping)) }
     {
-        // What is true of every mapping.
+        // For the proof: what is true of every mapping.
         let _ = mapping.len();
         let targets = TargetTable::of(alloc, &changes)?;
         let fates = fates(alloc, &targets, &changes)?;

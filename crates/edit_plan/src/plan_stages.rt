@@ -25,7 +25,7 @@ impl EditPlan {
     fn agree_on_places(&self)
         ensures { AgreeOnPlaces self.now }
     {
-        // What is true of every plan.
+        // For the proof: what is true of every plan.
         let _ = &self.root;
         place_is_unique();
         pairs_rise();
@@ -35,7 +35,7 @@ impl EditPlan {
     pub(crate) fn keep_shapes(&self)
         ensures { KeepsShapes self.now }
     {
-        // What is true of every plan.
+        // For the proof: what is true of every plan.
         let _ = &self.root;
         place_keeps_the_shape();
     }

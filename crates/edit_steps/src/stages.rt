@@ -206,7 +206,7 @@ impl Stages {
         ensures root { PutsRoot change.now (element_trees given.items) self.old.new_root self.new.new_root }
     {
         if change.replaces_root() {
-            // It brings one node.
+            // For the proof: it brings one node.
             let _ = node_for_root(change);
             self.new_root = Some(only_node(given));
         }

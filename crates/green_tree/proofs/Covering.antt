@@ -136,15 +136,15 @@ way_ends b from to old now h k same none =
     let only : covering (branch_tree b) from to ≡ Some [] = rw (covers-top (branch_tree b) from to h k, none) refl in
     ap Some (same ∙ sym (append-nil old)) ∙ ap (option_map (λ p. old ++ p)) (sym only)
 
--- and behind the last child there is none
-pub none_behind : (b : Branch) (es : List GreenElement) (n : ℕ) (from to : ℕ) → element_trees es ≡ b.children → length es ≤ n → filter (covers (branch_tree b) from to) (paths_from n (forest (drop n b.children))) ≡ []
-none_behind b es n from to same h =
+-- and after the last child there is none
+pub none_after : (b : Branch) (es : List GreenElement) (n : ℕ) (from to : ℕ) → element_trees es ≡ b.children → length es ≤ n → filter (covers (branch_tree b) from to) (paths_from n (forest (drop n b.children))) ≡ []
+none_after b es n from to same h =
     let past : drop n b.children ≡ [] = rw (← same) (drop_of_length-le (element_trees es) (rw length-map h)) in
     ap (λ ts. filter (covers (branch_tree b) from to) (paths_from n (forest ts))) past
 
--- the slot behind the last child is where the text ends
-pub start_behind : (b : Branch) (es : List GreenElement) (n m : ℕ) → element_trees es ≡ b.children → n ≡ length es → text_length (branch_tree b) < length_limit → m ≡ capped_length (texts b.children) → m ≡ start (branch_tree b) (n ∷ [])
-start_behind b es n m same h fits is =
+-- the slot after the last child is where the text ends
+pub start_after : (b : Branch) (es : List GreenElement) (n m : ℕ) → element_trees es ≡ b.children → n ≡ length es → text_length (branch_tree b) < length_limit → m ≡ capped_length (texts b.children) → m ≡ start (branch_tree b) (n ∷ [])
+start_after b es n m same h fits is =
     let whole : take n es ≡ es = rw h (take-length es) in
     let all : start (branch_tree b) (n ∷ []) ≡ length (texts b.children) = start-slot b es n same ∙ ap (λ xs. length (texts (element_trees xs))) whole ∙ ap (λ ts. length (texts ts)) same in
     omega (arith, is, all, fits)

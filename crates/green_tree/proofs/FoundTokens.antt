@@ -191,8 +191,8 @@ first_passed n {b} {i} {c} child none all found =
 pub last_found : (n : ℕ) {b : Branch} {j i : ℕ} {c : SyntaxTree} {o : Option Path} {old now found_way new : Path} {l : Leaf} → IsChildAt b i c → j ≡ i + 1 → tokens_before (branch_tree b) (n ∷ []) ≡ tokens_before (branch_tree b) (j ∷ []) → now ≡ old → new ≡ found_way ++ i ∷ [] → o ≡ last_item (token_paths c) → FindsToken c o now found_way (Some l) →
     FindsToken (branch_tree b) (last_item (tokens_before (branch_tree b) (n ∷ []))) old new (Some l)
 last_found n {b} {j} {i} {c} {o} {old} {now} {found_way} {new} {l} child down none kept push all found =
-    let none_behind = none ∙ ap (λ k. tokens_before (branch_tree b) (k ∷ [])) down in
-    found_below (branch_tree b) c i o (last_item (tokens_before (branch_tree b) (n ∷ []))) old found_way new l (kept_on old now kept found) push child.below (λ r own. last_in_child b i n c child none_behind r (sym all ∙ own))
+    let none_left = none ∙ ap (λ k. tokens_before (branch_tree b) (k ∷ [])) down in
+    found_below (branch_tree b) c i o (last_item (tokens_before (branch_tree b) (n ∷ []))) old found_way new l (kept_on old now kept found) push child.below (λ r own. last_in_child b i n c child none_left r (sym all ∙ own))
 
 -- a child has no token where none stands before slot n
 pub none_in_last_child : (n : ℕ) {b : Branch} {j i : ℕ} {c : SyntaxTree} → IsChildAt b i c → j ≡ i + 1 → tokens_before (branch_tree b) (n ∷ []) ≡ tokens_before (branch_tree b) (j ∷ []) → last_item (tokens_before (branch_tree b) (n ∷ [])) ≡ None → last_item (token_paths c) ≡ None

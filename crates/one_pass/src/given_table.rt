@@ -58,6 +58,7 @@ fn rewritten_each<'a>(
     ensures trees { IfOk result (λ g. given_trees g.elements ≡ each_rewritten given.now aims.now elements.now) }
     ensures marks { IfOk result (IsMarkedEach given.now aims.now index.now elements.now) }
 {
+    // For the proof: the count at the start.
     let _count = *builds;
     let mut greens = Vec::with_capacity(alloc, elements.len())?;
     let mut marks = Vec::new(alloc);
@@ -179,6 +180,7 @@ fn fill_level(
     ensures marks { OnOk result
         (FillsLevelMarks changes.now dependents.now index.now owners.now filling.old.given filling.new.given) }
 {
+    // For the proof: the count at the start.
     let _count = filling.builds;
     for owner in owners {
         fill(alloc, filling, changes, *owner, &dependents[*owner], index)?;

@@ -186,6 +186,7 @@ pub fn rewrite_element(
     ensures tree { IfOk result (λ e. element_tree e ≡ green_rewritten given.now aims.now element.now) }
     ensures marks { OnOk result (FindsRewritten given.now aims.now sought.now element.now walk.old walk.new) }
 {
+    // For the proof: the count at the start.
     let _count = walk.builds;
     if !alter_some(aims) {
         push_kept(alloc, walk, element, sought)?;
@@ -314,7 +315,8 @@ pub fn rewrite_whole(
     ensures builds { OnOk result (TouchesAtMost aims.now element.now builds.old builds.new) }
     ensures count { OnOk result (CountsBuiltWhole aims.now element.now builds.old builds.new) }
     ensures whole { OnOk result (CountsTouched aims.now element.now builds.old builds.new) }
-    ensures trees { IfOk result (λ r. element_trees r.elements.items ≡ green_rewritten_whole given.now aims.now element.now) }
+    ensures trees { IfOk result
+        (λ r. element_trees r.elements.items ≡ green_rewritten_whole given.now aims.now element.now) }
     ensures marks { IfOk result (λ r. FindsWhole given.now aims.now sought.now element.now r.marks) }
 {
     let mut elements = Vec::new(alloc);

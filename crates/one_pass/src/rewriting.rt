@@ -128,8 +128,10 @@ fn keep_top(root: &SyntaxNode, changes: &[Change], targets: &TargetTable)
     requires targets { IsTargetTable changes.now targets.now }
     ensures { KeepsTop root.now changes.now }
 {
+    // For the proof: the contract speaks of the root, and the code needs the table alone.
     let _ = root;
     if let Some(change) = targets.get(&[]) {
+        // For the proof: it brings one node.
         let _ = node_for_root(&changes[change]);
     }
 }

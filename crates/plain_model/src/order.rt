@@ -59,7 +59,7 @@ fn fill_one_gap(first: &Planned, second: &Planned) -> bool {
 }
 
 // Whether the first of two changes is an insert after a token that the second one replaces.
-fn stands_behind_replaced(first: &Planned, second: &Planned) -> bool {
+fn stands_after_replaced(first: &Planned, second: &Planned) -> bool {
     let replaces_token = match second.change {
         Change::Replace(SyntaxElement::Token(_), _) => true,
         Change::ReplaceWithMany(SyntaxElement::Token(_), _) => true,
@@ -87,7 +87,7 @@ impl Fated<'_> {
             Clause::NotEachOnce => false,
             Clause::OwnerTooEarly => matches!(fate, Fate::Moves { owner, .. } if *owner == second),
             Clause::GapOutOfOrder => first > second && fill_one_gap(own, other),
-            Clause::TokenTooEarly => stands_behind_replaced(own, other),
+            Clause::TokenTooEarly => stands_after_replaced(own, other),
         }
     }
 

@@ -55,7 +55,7 @@ pub(crate) fn expand(alloc: Global, rows: &[Row], expression: &str) -> Result<St
             }
             (state, c) => {
                 expanded.push(c)?;
-                behind(state, c)
+                next_state(state, c)
             }
         };
     }
@@ -63,7 +63,7 @@ pub(crate) fn expand(alloc: Global, rows: &[Row], expression: &str) -> Result<St
 }
 
 // Where the character after this one is, outside of names.
-fn behind(state: State, c: char) -> State {
+fn next_state(state: State, c: char) -> State {
     match (state, c) {
         (State::Outside, '"') => State::Text,
         (State::Text, '"') => State::Outside,

@@ -44,7 +44,7 @@ fn children_builder(
     ensures accepted { OnOk result (is_not_younger old.now new.now.number ≡ false) }
     ensures refused { IfErr result (AlongRefuses (is_not_younger old.now new.now.number)) }
 {
-    // What stands at their paths are nodes.
+    // For the proof: what stands at their paths are nodes.
     let _ = (old.kind(), new.kind());
     let inputs = old.children(alloc)?;
     let outputs = new.children(alloc)?;

@@ -100,7 +100,7 @@ impl IndentLevel {
         match element {
             SyntaxElement::Node(node) => IndentLevel::from_node(alloc, node),
             SyntaxElement::Token(token) => {
-                // What stands at its path is a token.
+                // For the proof: what stands at its path is a token.
                 let _ = token.kind();
                 IndentLevel::from_token(alloc, token)
             }

@@ -8,16 +8,16 @@ use Rattle.green_tree.specs.Green.{branch_tree, leaf_tree}
 use Rattle.green_tree.specs.GreenElement.{element_tree}
 use Rattle.green_tree.proofs.Slots.{size_at}
 use Rattle.green_tree.proofs.Touching.{span_at, span_length}
-use Rattle.green_tree.proofs.Covering.{on_ok, paths_on, passed-before, passed-after, way_in_child, way_at_token, way_ends, none_behind, start_behind}
+use Rattle.green_tree.proofs.Covering.{on_ok, paths_on, passed-before, passed-after, way_in_child, way_at_token, way_ends, none_after, start_after}
 use Rattle.green_tree.proofs.offsets.+push_covering.Goals as goal
 use Rattle.green_tree.proofs.offsets.+push_covering.Goals.{then-start-from-via-then-start-from, then-start-from-via-else-start-from+then-to-end}
 
 pub loop-slot-init : goal.loop-slot-init
 loop-slot-init t c = record {
   within = omega arith;
-  start = start_behind c.args.node.now c.children-children.result.now (length c.children-children.result.now) c.length-from.result c.children-children.ensures refl c.requires.fits c.length-from.ensures;
+  start = start_after c.args.node.now c.children-children.result.now (length c.children-children.result.now) c.length-from.result c.children-children.ensures refl c.requires.fits c.length-from.ensures;
   same = refl;
-  none = none_behind c.args.node.now c.children-children.result.now (length c.children-children.result.now) c.args.start c.args.end c.children-children.ensures (omega arith);
+  none = none_after c.args.node.now c.children-children.result.now (length c.children-children.result.now) c.args.start c.args.end c.children-children.ensures (omega arith);
 }
 
 pub overflow_sub-from : goal.overflow_sub-from

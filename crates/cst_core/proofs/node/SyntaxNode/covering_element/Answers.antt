@@ -29,33 +29,33 @@ covering_path-requires c =
 pub returns-in-Some-clause-ok : goal.returns-in-Some-clause-ok
 returns-in-Some-clause-ok c =
     let there : at c.args.self.now.root c.args.self.now.path ≡ Some (branch_tree c.self.inside.green) = rw (← c.self.view_is) c.self.invariant.there in
-    let behind : start c.args.self.now.root c.args.self.now.path ≤ c.args.start = omega (arith, c.text_start-base.ensures, c.if-start-base.false) in
+    let after : start c.args.self.now.root c.args.self.now.path ≤ c.args.start = omega (arith, c.text_start-base.ensures, c.if-start-base.false) in
     let ordered : c.args.start ≤ c.args.end = omega (arith, c.if-end-start.false) in
     let way : Some c.in-Some.path.items ≡ covering (branch_tree c.self.inside.green) (c.args.start - start c.args.self.now.root c.args.self.now.path) (c.args.end - start c.args.self.now.root c.args.self.now.path) = ap (option_map (λ path. path.items)) (sym c.in-Some.is) ∙ c.in_ok-path.ensures.ok ∙ ap (λ n. covering (branch_tree c.self.inside.green) (c.args.start - n) (c.args.end - n)) c.text_start-base.ensures in
-    let same : syntax_at c.args.self.now (c.args.self.now.path ++ c.deref.result.now) ≡ covering_of c.args.self.now c.args.start c.args.end = rw c.deref.ensures.value (syntax_covering c.args.self.now (branch_tree c.self.inside.green) c.args.start c.args.end c.in-Some.path.items there behind ordered way) in
+    let same : syntax_at c.args.self.now (c.args.self.now.path ++ c.deref.result.now) ≡ covering_of c.args.self.now c.args.start c.args.end = rw c.deref.ensures.value (syntax_covering c.args.self.now (branch_tree c.self.inside.green) c.args.start c.args.end c.in-Some.path.items there after ordered way) in
     subst (λ x. IfOk c.element_at.result (λ r. r ≡ x)) same c.element_at.ensures.ok
 
 pub returns-in-None-clause-ok : goal.returns-in-None-clause-ok
 returns-in-None-clause-ok c =
     let there : at c.args.self.now.root c.args.self.now.path ≡ Some (branch_tree c.self.inside.green) = rw (← c.self.view_is) c.self.invariant.there in
-    let behind : start c.args.self.now.root c.args.self.now.path ≤ c.args.start = omega (arith, c.text_start-base.ensures, c.if-start-base.false) in
+    let after : start c.args.self.now.root c.args.self.now.path ≤ c.args.start = omega (arith, c.text_start-base.ensures, c.if-start-base.false) in
     let ordered : c.args.start ≤ c.args.end = omega (arith, c.if-end-start.false) in
     let nowhere : None ≡ covering (branch_tree c.self.inside.green) (c.args.start - start c.args.self.now.root c.args.self.now.path) (c.args.end - start c.args.self.now.root c.args.self.now.path) = ap (option_map (λ path. path.items)) (sym c.in-None.is) ∙ c.in_ok-path.ensures.ok ∙ ap (λ n. covering (branch_tree c.self.inside.green) (c.args.start - n) (c.args.end - n)) c.text_start-base.ensures in
-    covering_nowhere c.args.self.now (branch_tree c.self.inside.green) c.args.start c.args.end there behind ordered nowhere
+    covering_nowhere c.args.self.now (branch_tree c.self.inside.green) c.args.start c.args.end there after ordered nowhere
 
 pub returns-in-Some-clause-none : goal.returns-in-Some-clause-none
 returns-in-Some-clause-none c nothing =
     let there : at c.args.self.now.root c.args.self.now.path ≡ Some (branch_tree c.self.inside.green) = rw (← c.self.view_is) c.self.invariant.there in
-    let behind : start c.args.self.now.root c.args.self.now.path ≤ c.args.start = omega (arith, c.text_start-base.ensures, c.if-start-base.false) in
+    let after : start c.args.self.now.root c.args.self.now.path ≤ c.args.start = omega (arith, c.text_start-base.ensures, c.if-start-base.false) in
     let ordered : c.args.start ≤ c.args.end = omega (arith, c.if-end-start.false) in
     let way : Some c.in-Some.path.items ≡ covering (branch_tree c.self.inside.green) (c.args.start - start c.args.self.now.root c.args.self.now.path) (c.args.end - start c.args.self.now.root c.args.self.now.path) = ap (option_map (λ path. path.items)) (sym c.in-Some.is) ∙ c.in_ok-path.ensures.ok ∙ ap (λ n. covering (branch_tree c.self.inside.green) (c.args.start - n) (c.args.end - n)) c.text_start-base.ensures in
-    let same : syntax_at c.args.self.now (c.args.self.now.path ++ c.deref.result.now) ≡ covering_of c.args.self.now c.args.start c.args.end = rw c.deref.ensures.value (syntax_covering c.args.self.now (branch_tree c.self.inside.green) c.args.start c.args.end c.in-Some.path.items there behind ordered way) in
+    let same : syntax_at c.args.self.now (c.args.self.now.path ++ c.deref.result.now) ≡ covering_of c.args.self.now c.args.start c.args.end = rw c.deref.ensures.value (syntax_covering c.args.self.now (branch_tree c.self.inside.green) c.args.start c.args.end c.in-Some.path.items there after ordered way) in
     c.element_at.ensures.none (same ∙ nothing)
 
 pub returns-in_err-path-clause-none : goal.returns-in_err-path-clause-none
 returns-in_err-path-clause-none c nothing =
     let there : at c.args.self.now.root c.args.self.now.path ≡ Some (branch_tree c.self.inside.green) = rw (← c.self.view_is) c.self.invariant.there in
-    let behind : start c.args.self.now.root c.args.self.now.path ≤ c.args.start = omega (arith, c.text_start-base.ensures, c.if-start-base.false) in
+    let after : start c.args.self.now.root c.args.self.now.path ≤ c.args.start = omega (arith, c.text_start-base.ensures, c.if-start-base.false) in
     let ordered : c.args.start ≤ c.args.end = omega (arith, c.if-end-start.false) in
-    let nowhere = none_covering_below c.args.self.now (branch_tree c.self.inside.green) c.args.start c.args.end there behind ordered nothing in
+    let nowhere = none_covering_below c.args.self.now (branch_tree c.self.inside.green) c.args.start c.args.end there after ordered nothing in
     absurd (err_is_not_ok (c.in_err-path.ensures.none (ap (λ n. covering (branch_tree c.self.inside.green) (c.args.start - n) (c.args.end - n)) c.text_start-base.ensures ∙ nowhere)))

@@ -25,16 +25,16 @@ tokens_at-requires c =
 pub returns-in-empty-clause-ok : goal.returns-in-empty-clause-ok
 returns-in-empty-clause-ok c =
     let there : at c.args.self.now.root c.args.self.now.path ≡ Some (branch_tree c.self.inside.green) = rw (← c.self.view_is) c.self.invariant.there in
-    let behind : start c.args.self.now.root c.args.self.now.path ≤ c.args.offset = omega (arith, c.text_start-base.ensures, c.if-offset-base.false) in
+    let after : start c.args.self.now.root c.args.self.now.path ≤ c.args.offset = omega (arith, c.text_start-base.ensures, c.if-offset-base.false) in
     let reaches : map reached c.in_ok-found.found.items ≡ reached_below [] (branch_tree c.self.inside.green) (tokens_touching (branch_tree c.self.inside.green) (c.args.offset - start c.args.self.now.root c.args.self.now.path)) = rw (← c.text_start-base.ensures) c.in_ok-found.ensures.found in
-    let whole = token_at-found c.args.self.now (branch_tree c.self.inside.green) c.args.offset c.in_ok-found.found.items there behind reaches in
+    let whole = token_at-found c.args.self.now (branch_tree c.self.inside.green) c.args.offset c.in_ok-found.found.items there after reaches in
     let none : length c.in_ok-found.found.items ≡ 0 = rw (← c.as_slice.ensures.value) (omega (arith, c.in-empty.len_below)) in
     sym (whole ∙ first_two-none c.args.self.now c.in_ok-found.found.items none)
 
 pub token_below-requires : goal.token_below-requires
 token_below-requires c =
     let there : at c.args.self.now.root c.args.self.now.path ≡ Some (branch_tree c.self.inside.green) = rw (← c.self.view_is) c.self.invariant.there in
-    let behind : start c.args.self.now.root c.args.self.now.path ≤ c.args.offset = omega (arith, c.text_start-base.ensures, c.if-offset-base.false) in
+    let after : start c.args.self.now.root c.args.self.now.path ≤ c.args.offset = omega (arith, c.text_start-base.ensures, c.if-offset-base.false) in
     let reaches : map reached c.in_ok-found.found.items ≡ reached_below [] (branch_tree c.self.inside.green) (tokens_touching (branch_tree c.self.inside.green) (c.args.offset - start c.args.self.now.root c.args.self.now.path)) = rw (← c.text_start-base.ensures) c.in_ok-found.ensures.found in
     let inside : 0 < length c.in_ok-found.found.items = rw (← c.as_slice.ensures.value) (omega (arith, c.in-len1.len_at_least)) in
     let item : c.token-item.result ≡ get_or c.in_ok-found.found.items 0 c.token-item.result = rw (← c.as_slice.ensures.value) c.token-item.is in
@@ -43,9 +43,9 @@ token_below-requires c =
 pub returns-in-len1-clause-ok : goal.returns-in-len1-clause-ok
 returns-in-len1-clause-ok c =
     let there : at c.args.self.now.root c.args.self.now.path ≡ Some (branch_tree c.self.inside.green) = rw (← c.self.view_is) c.self.invariant.there in
-    let behind : start c.args.self.now.root c.args.self.now.path ≤ c.args.offset = omega (arith, c.text_start-base.ensures, c.if-offset-base.false) in
+    let after : start c.args.self.now.root c.args.self.now.path ≤ c.args.offset = omega (arith, c.text_start-base.ensures, c.if-offset-base.false) in
     let reaches : map reached c.in_ok-found.found.items ≡ reached_below [] (branch_tree c.self.inside.green) (tokens_touching (branch_tree c.self.inside.green) (c.args.offset - start c.args.self.now.root c.args.self.now.path)) = rw (← c.text_start-base.ensures) c.in_ok-found.ensures.found in
-    let whole = token_at-found c.args.self.now (branch_tree c.self.inside.green) c.args.offset c.in_ok-found.found.items there behind reaches in
+    let whole = token_at-found c.args.self.now (branch_tree c.self.inside.green) c.args.offset c.in_ok-found.found.items there after reaches in
     let one : length c.in_ok-found.found.items ≡ 1 = rw (← c.as_slice.ensures.value) (omega (arith, c.in-len1.len_at_least, c.in-len1.len_below)) in
     let item : c.token-item.result ≡ get_or c.in_ok-found.found.items 0 c.token-item.result = rw (← c.as_slice.ensures.value) c.token-item.is in
     ap (λ e. tokens.Single e) c.in_ok-token_below-in-len1.ensures ∙ sym (whole ∙ first_two-one c.args.self.now c.in_ok-found.found.items c.token-item.result one item)
@@ -53,7 +53,7 @@ returns-in-len1-clause-ok c =
 pub token_below-requires-in-len2-up : goal.token_below-requires-in-len2-up
 token_below-requires-in-len2-up c =
     let there : at c.args.self.now.root c.args.self.now.path ≡ Some (branch_tree c.self.inside.green) = rw (← c.self.view_is) c.self.invariant.there in
-    let behind : start c.args.self.now.root c.args.self.now.path ≤ c.args.offset = omega (arith, c.text_start-base.ensures, c.if-offset-base.false) in
+    let after : start c.args.self.now.root c.args.self.now.path ≤ c.args.offset = omega (arith, c.text_start-base.ensures, c.if-offset-base.false) in
     let reaches : map reached c.in_ok-found.found.items ≡ reached_below [] (branch_tree c.self.inside.green) (tokens_touching (branch_tree c.self.inside.green) (c.args.offset - start c.args.self.now.root c.args.self.now.path)) = rw (← c.text_start-base.ensures) c.in_ok-found.ensures.found in
     let inside : 0 < length c.in_ok-found.found.items = rw (← c.as_slice.ensures.value) (omega (arith, c.in-len2-up.len_at_least)) in
     let item : c.left-item.result ≡ get_or c.in_ok-found.found.items 0 c.left-item.result = rw (← c.as_slice.ensures.value) c.left-item.is in
@@ -62,7 +62,7 @@ token_below-requires-in-len2-up c =
 pub token_below-requires-in-len2-up-2 : goal.token_below-requires-in-len2-up-2
 token_below-requires-in-len2-up-2 c =
     let there : at c.args.self.now.root c.args.self.now.path ≡ Some (branch_tree c.self.inside.green) = rw (← c.self.view_is) c.self.invariant.there in
-    let behind : start c.args.self.now.root c.args.self.now.path ≤ c.args.offset = omega (arith, c.text_start-base.ensures, c.if-offset-base.false) in
+    let after : start c.args.self.now.root c.args.self.now.path ≤ c.args.offset = omega (arith, c.text_start-base.ensures, c.if-offset-base.false) in
     let reaches : map reached c.in_ok-found.found.items ≡ reached_below [] (branch_tree c.self.inside.green) (tokens_touching (branch_tree c.self.inside.green) (c.args.offset - start c.args.self.now.root c.args.self.now.path)) = rw (← c.text_start-base.ensures) c.in_ok-found.ensures.found in
     let inside : 1 < length c.in_ok-found.found.items = rw (← c.as_slice.ensures.value) (omega (arith, c.in-len2-up.len_at_least)) in
     let item : c.right-item.result ≡ get_or c.in_ok-found.found.items 1 c.right-item.result = rw (← c.as_slice.ensures.value) c.right-item.is in
@@ -71,9 +71,9 @@ token_below-requires-in-len2-up-2 c =
 pub returns-clause-ok : goal.returns-clause-ok
 returns-clause-ok c =
     let there : at c.args.self.now.root c.args.self.now.path ≡ Some (branch_tree c.self.inside.green) = rw (← c.self.view_is) c.self.invariant.there in
-    let behind : start c.args.self.now.root c.args.self.now.path ≤ c.args.offset = omega (arith, c.text_start-base.ensures, c.if-offset-base.false) in
+    let after : start c.args.self.now.root c.args.self.now.path ≤ c.args.offset = omega (arith, c.text_start-base.ensures, c.if-offset-base.false) in
     let reaches : map reached c.in_ok-found.found.items ≡ reached_below [] (branch_tree c.self.inside.green) (tokens_touching (branch_tree c.self.inside.green) (c.args.offset - start c.args.self.now.root c.args.self.now.path)) = rw (← c.text_start-base.ensures) c.in_ok-found.ensures.found in
-    let whole = token_at-found c.args.self.now (branch_tree c.self.inside.green) c.args.offset c.in_ok-found.found.items there behind reaches in
+    let whole = token_at-found c.args.self.now (branch_tree c.self.inside.green) c.args.offset c.in_ok-found.found.items there after reaches in
     let two : 2 ≤ length c.in_ok-found.found.items = rw (← c.as_slice.ensures.value) c.in-len2-up.len_at_least in
     let left : c.left-item.result ≡ get_or c.in_ok-found.found.items 0 c.left-item.result = rw (← c.as_slice.ensures.value) c.left-item.is in
     let right : c.right-item.result ≡ get_or c.in_ok-found.found.items 1 c.right-item.result = rw (← c.as_slice.ensures.value) c.right-item.is in
@@ -82,16 +82,16 @@ returns-clause-ok c =
 pub returns-in_err-found-clause-none : goal.returns-in_err-found-clause-none
 returns-in_err-found-clause-none c nothing =
     let there : at c.args.self.now.root c.args.self.now.path ≡ Some (branch_tree c.self.inside.green) = rw (← c.self.view_is) c.self.invariant.there in
-    let behind : start c.args.self.now.root c.args.self.now.path ≤ c.args.offset = omega (arith, c.text_start-base.ensures, c.if-offset-base.false) in
-    let none = none_touching_below c.args.self.now (branch_tree c.self.inside.green) c.args.offset there behind nothing in
+    let after : start c.args.self.now.root c.args.self.now.path ≤ c.args.offset = omega (arith, c.text_start-base.ensures, c.if-offset-base.false) in
+    let none = none_touching_below c.args.self.now (branch_tree c.self.inside.green) c.args.offset there after nothing in
     let refused = c.in_err-found.ensures.none (ap (λ n. tokens_touching (branch_tree c.self.inside.green) (c.args.offset - n)) c.text_start-base.ensures ∙ none) in
     absurd (cc)
 
 pub returns-in_err-token_below-in-len1-clause-none : goal.returns-in_err-token_below-in-len1-clause-none
 returns-in_err-token_below-in-len1-clause-none c nothing =
     let there : at c.args.self.now.root c.args.self.now.path ≡ Some (branch_tree c.self.inside.green) = rw (← c.self.view_is) c.self.invariant.there in
-    let behind : start c.args.self.now.root c.args.self.now.path ≤ c.args.offset = omega (arith, c.text_start-base.ensures, c.if-offset-base.false) in
-    let none = none_touching_below c.args.self.now (branch_tree c.self.inside.green) c.args.offset there behind nothing in
+    let after : start c.args.self.now.root c.args.self.now.path ≤ c.args.offset = omega (arith, c.text_start-base.ensures, c.if-offset-base.false) in
+    let none = none_touching_below c.args.self.now (branch_tree c.self.inside.green) c.args.offset there after nothing in
     let reaches : map reached c.in_ok-found.found.items ≡ reached_below [] (branch_tree c.self.inside.green) (tokens_touching (branch_tree c.self.inside.green) (c.args.offset - start c.args.self.now.root c.args.self.now.path)) = rw (← c.text_start-base.ensures) c.in_ok-found.ensures.found in
     let empty = none_found (branch_tree c.self.inside.green) c.in_ok-found.found.items _ reaches none in
     let some : 0 < length c.in_ok-found.found.items = rw (← c.as_slice.ensures.value) (omega (arith, c.in-len1.len_at_least)) in
@@ -100,8 +100,8 @@ returns-in_err-token_below-in-len1-clause-none c nothing =
 pub returns-in_err-left-in-len2-up-clause-none : goal.returns-in_err-left-in-len2-up-clause-none
 returns-in_err-left-in-len2-up-clause-none c nothing =
     let there : at c.args.self.now.root c.args.self.now.path ≡ Some (branch_tree c.self.inside.green) = rw (← c.self.view_is) c.self.invariant.there in
-    let behind : start c.args.self.now.root c.args.self.now.path ≤ c.args.offset = omega (arith, c.text_start-base.ensures, c.if-offset-base.false) in
-    let none = none_touching_below c.args.self.now (branch_tree c.self.inside.green) c.args.offset there behind nothing in
+    let after : start c.args.self.now.root c.args.self.now.path ≤ c.args.offset = omega (arith, c.text_start-base.ensures, c.if-offset-base.false) in
+    let none = none_touching_below c.args.self.now (branch_tree c.self.inside.green) c.args.offset there after nothing in
     let reaches : map reached c.in_ok-found.found.items ≡ reached_below [] (branch_tree c.self.inside.green) (tokens_touching (branch_tree c.self.inside.green) (c.args.offset - start c.args.self.now.root c.args.self.now.path)) = rw (← c.text_start-base.ensures) c.in_ok-found.ensures.found in
     let empty = none_found (branch_tree c.self.inside.green) c.in_ok-found.found.items _ reaches none in
     let some : 0 < length c.in_ok-found.found.items = rw (← c.as_slice.ensures.value) (omega (arith, c.in-len2-up.len_at_least)) in
@@ -110,8 +110,8 @@ returns-in_err-left-in-len2-up-clause-none c nothing =
 pub returns-in_err-token_below-in-len2-up-clause-none : goal.returns-in_err-token_below-in-len2-up-clause-none
 returns-in_err-token_below-in-len2-up-clause-none c nothing =
     let there : at c.args.self.now.root c.args.self.now.path ≡ Some (branch_tree c.self.inside.green) = rw (← c.self.view_is) c.self.invariant.there in
-    let behind : start c.args.self.now.root c.args.self.now.path ≤ c.args.offset = omega (arith, c.text_start-base.ensures, c.if-offset-base.false) in
-    let none = none_touching_below c.args.self.now (branch_tree c.self.inside.green) c.args.offset there behind nothing in
+    let after : start c.args.self.now.root c.args.self.now.path ≤ c.args.offset = omega (arith, c.text_start-base.ensures, c.if-offset-base.false) in
+    let none = none_touching_below c.args.self.now (branch_tree c.self.inside.green) c.args.offset there after nothing in
     let reaches : map reached c.in_ok-found.found.items ≡ reached_below [] (branch_tree c.self.inside.green) (tokens_touching (branch_tree c.self.inside.green) (c.args.offset - start c.args.self.now.root c.args.self.now.path)) = rw (← c.text_start-base.ensures) c.in_ok-found.ensures.found in
     let empty = none_found (branch_tree c.self.inside.green) c.in_ok-found.found.items _ reaches none in
     let some : 0 < length c.in_ok-found.found.items = rw (← c.as_slice.ensures.value) (omega (arith, c.in-len2-up.len_at_least)) in
@@ -120,8 +120,8 @@ returns-in_err-token_below-in-len2-up-clause-none c nothing =
 pub returns-in-len1-clause-none : goal.returns-in-len1-clause-none
 returns-in-len1-clause-none c nothing =
     let there : at c.args.self.now.root c.args.self.now.path ≡ Some (branch_tree c.self.inside.green) = rw (← c.self.view_is) c.self.invariant.there in
-    let behind : start c.args.self.now.root c.args.self.now.path ≤ c.args.offset = omega (arith, c.text_start-base.ensures, c.if-offset-base.false) in
-    let none = none_touching_below c.args.self.now (branch_tree c.self.inside.green) c.args.offset there behind nothing in
+    let after : start c.args.self.now.root c.args.self.now.path ≤ c.args.offset = omega (arith, c.text_start-base.ensures, c.if-offset-base.false) in
+    let none = none_touching_below c.args.self.now (branch_tree c.self.inside.green) c.args.offset there after nothing in
     let reaches : map reached c.in_ok-found.found.items ≡ reached_below [] (branch_tree c.self.inside.green) (tokens_touching (branch_tree c.self.inside.green) (c.args.offset - start c.args.self.now.root c.args.self.now.path)) = rw (← c.text_start-base.ensures) c.in_ok-found.ensures.found in
     let empty = none_found (branch_tree c.self.inside.green) c.in_ok-found.found.items _ reaches none in
     let some : 0 < length c.in_ok-found.found.items = rw (← c.as_slice.ensures.value) (omega (arith, c.in-len1.len_at_least)) in
@@ -130,8 +130,8 @@ returns-in-len1-clause-none c nothing =
 pub returns-clause-none : goal.returns-clause-none
 returns-clause-none c nothing =
     let there : at c.args.self.now.root c.args.self.now.path ≡ Some (branch_tree c.self.inside.green) = rw (← c.self.view_is) c.self.invariant.there in
-    let behind : start c.args.self.now.root c.args.self.now.path ≤ c.args.offset = omega (arith, c.text_start-base.ensures, c.if-offset-base.false) in
-    let none = none_touching_below c.args.self.now (branch_tree c.self.inside.green) c.args.offset there behind nothing in
+    let after : start c.args.self.now.root c.args.self.now.path ≤ c.args.offset = omega (arith, c.text_start-base.ensures, c.if-offset-base.false) in
+    let none = none_touching_below c.args.self.now (branch_tree c.self.inside.green) c.args.offset there after nothing in
     let reaches : map reached c.in_ok-found.found.items ≡ reached_below [] (branch_tree c.self.inside.green) (tokens_touching (branch_tree c.self.inside.green) (c.args.offset - start c.args.self.now.root c.args.self.now.path)) = rw (← c.text_start-base.ensures) c.in_ok-found.ensures.found in
     let empty = none_found (branch_tree c.self.inside.green) c.in_ok-found.found.items _ reaches none in
     let some : 0 < length c.in_ok-found.found.items = rw (← c.as_slice.ensures.value) (omega (arith, c.in-len2-up.len_at_least)) in
