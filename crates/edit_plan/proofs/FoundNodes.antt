@@ -10,7 +10,7 @@ use Rattle.cst_core.specs.Tree.{SyntaxTree, Token, Node, at, label, is_token, pa
 use Rattle.cst_core.specs.Order.{node_paths, start}
 use Rattle.cst_core.specs.Element.{Element, subtree, element_at}
 use Rattle.cst_core.specs.SyntaxElement.{node_of, syntax_as, syntax_at}
-use Rattle.edit_plan.specs.inner.FirstNode.{starts_as, first_from}
+use Rattle.green_tree.specs.inner.FirstNode.{starts_as, first_from}
 use Rattle.edit_change.specs.Results.{stands_like, stand_in_path}
 
 find-same : {X : Type 0} (g h : X → Bool) (xs : List X) → ((x : X) → g x ≡ h x) → find g xs ≡ find h xs

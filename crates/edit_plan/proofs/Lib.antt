@@ -6,7 +6,6 @@ mod ByAnnotation
 mod PromisesOfRuns
 mod Exchanged
 mod Filled
-mod FirstNode
 mod FoundNodes
 mod GapOrder
 mod HeldSwapped

@@ -4,8 +4,8 @@ ghost use Rattle.edit_plan.specs.AnnotationTable.{found_for};
 
 use crate::annotation::SyntaxAnnotation;
 use crate::annotation_table::AnnotationTable;
-use crate::first_node::first_node;
 use cst_core::{SyntaxElement, SyntaxNode};
+use green_tree::first_node;
 use std::alloc::{AllocError, Global};
 use std::marker::Model;
 

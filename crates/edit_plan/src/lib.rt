@@ -11,7 +11,6 @@ mod engine;
 mod engine_error;
 mod execute;
 mod execute_error;
-mod first_node;
 pub mod laws;
 mod one_pass_engine;
 mod places;

@@ -11,3 +11,4 @@ pub mod TextLengths
 pub mod Written
 pub mod Touching
 pub mod Covering
+pub mod FirstNode

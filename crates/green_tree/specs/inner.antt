@@ -6,3 +6,4 @@ pub mod TokensByOffset
 pub mod Neighbors
 pub mod CappedLength
 pub mod TreeSize
+pub mod FirstNode

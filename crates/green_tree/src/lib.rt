@@ -2,6 +2,7 @@
 #![tactic(auto)]
 
 mod error;
+mod first_node;
 mod green;
 mod kind;
 pub mod laws;
@@ -12,6 +13,7 @@ mod text;
 mod tokens;
 
 pub use error::TreeError;
+pub use first_node::first_node;
 pub use green::{GreenElement, GreenElementRef, GreenNode, GreenToken, LENGTH_LIMIT, share_all};
 pub use kind::{KIND_NAMES, SyntaxKind};
 pub use offsets::{covering_path, tokens_at};

@@ -12,17 +12,17 @@ use Rattle.std.proofs.lemmas.List.{length-map, reverse-append}
 use Rattle.std.proofs.lemmas.Bool.{ne_eqb}
 use Rattle.std.proofs.lemmas.List.Folds.{find-append}
 use Rattle.std.proofs.Math.ListN.{drop_of_length-le}
-use Rattle.cst_core.specs.Path.{Path}
-use Rattle.cst_core.specs.Tree.{SyntaxTree, Forest, Node, end, more, at, label, is_token, children, trees, forest, text, forest_text, text_length}
-use Rattle.cst_core.specs.Order.{node_paths, start}
+use Rattle.green_tree.specs.Path.{Path}
+use Rattle.green_tree.specs.Tree.{SyntaxTree, Forest, Node, end, more, at, label, is_token, children, trees, forest, text, forest_text, text_length}
+use Rattle.green_tree.specs.Order.{node_paths, start}
 use Rattle.green_tree.proofs.Parts.{parts_from, parts-node}
 use Rattle.green_tree.proofs.Starts.{start-top, start-node, start-below, start-le, start_room}
-use Rattle.cst_core.specs.Green.{Branch, branch_tree, length_limit, capped_length}
-use Rattle.cst_core.specs.GreenElement.{element_tree, element_trees}
+use Rattle.green_tree.specs.Green.{Branch, branch_tree, length_limit, capped_length}
+use Rattle.green_tree.specs.GreenElement.{element_tree, element_trees}
 use Rattle.green_tree.specs.declared.green.GreenElement.{GreenElement}
 use Rattle.green_tree.proofs.Slots.{slice_get-child}
 use Rattle.green_tree.proofs.Lookup.{forest-trees, trees-forest}
-use Rattle.edit_plan.specs.inner.FirstNode.{starts_as, first_from}
+use Rattle.green_tree.specs.inner.FirstNode.{starts_as, first_from}
 
 abbrev is_node_tree : SyntaxTree → Bool
 is_node_tree t = not (is_token t)

@@ -1,8 +1,8 @@
 use Rattle.std.proofs.Common.{arith, ◌<◌, ◌+◌}
-use Rattle.cst_core.specs.Tree.{text_length}
-use Rattle.cst_core.specs.Green.{branch_tree}
-use Rattle.edit_plan.proofs.FirstNode.{none-after, none-past}
-use Rattle.edit_plan.proofs.first_node.node_at_offset.Goals as goal
+use Rattle.green_tree.specs.Tree.{text_length}
+use Rattle.green_tree.specs.Green.{branch_tree}
+use Rattle.green_tree.proofs.FirstNode.{none-after, none-past}
+use Rattle.green_tree.proofs.first_node.node_at_offset.Goals as goal
 
 pub returns-then-offset-begin-clause-none : goal.returns-then-offset-begin-clause-none
 returns-then-offset-begin-clause-none c = λ kind. rw c.in-Node.is (none-after kind c.args.begin c.args.offset (branch_tree c.in-Node.node) c.if-offset-begin.true)

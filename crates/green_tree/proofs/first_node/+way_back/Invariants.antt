@@ -1,10 +1,10 @@
 use Rattle.std.proofs.Common.{◌≡◌, ◌+◌, [], ◌∷◌}
 use Rattle.std.specs.Prelude.{find}
-use Rattle.cst_core.specs.Order.{start}
-use Rattle.cst_core.specs.Green.{branch_tree}
-use Rattle.edit_plan.specs.inner.FirstNode.{starts_as, first_from}
-use Rattle.edit_plan.proofs.FirstNode.{rest}
-use Rattle.edit_plan.proofs.first_node.+way_back.Given as goal
+use Rattle.green_tree.specs.Order.{start}
+use Rattle.green_tree.specs.Green.{branch_tree}
+use Rattle.green_tree.specs.inner.FirstNode.{starts_as, first_from}
+use Rattle.green_tree.proofs.FirstNode.{rest}
+use Rattle.green_tree.proofs.first_node.+way_back.Given as goal
 
 abbrev pub decreases-way_back : goal.decreases-way_back
 decreases-way_back l = goal.size-way_back l

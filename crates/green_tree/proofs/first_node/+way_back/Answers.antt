@@ -1,12 +1,12 @@
 use Rattle.std.proofs.Common.{arith, rules, ap, sym, ◌∙◌, ◌≡◌, Some, None, reverse}
-use Rattle.cst_core.specs.Tree.{forest}
-use Rattle.cst_core.specs.Green.{branch_tree}
-use Rattle.cst_core.specs.GreenElement.{element_tree}
+use Rattle.green_tree.specs.Tree.{forest}
+use Rattle.green_tree.specs.Green.{branch_tree}
+use Rattle.green_tree.specs.GreenElement.{element_tree}
 use Rattle.green_tree.proofs.Slots.{size_at}
-use Rattle.edit_plan.specs.inner.FirstNode.{first_from}
-use Rattle.edit_plan.proofs.FirstNode.{first-here, first-below, start-first, found-in, found-after, room, next-begins, found-nowhere, reverse-last}
-use Rattle.edit_plan.proofs.first_node.+way_back.Goals.{in-Some+in_ok-way+in_default-2, in_default}
-use Rattle.edit_plan.proofs.first_node.+way_back.Goals as goal
+use Rattle.green_tree.specs.inner.FirstNode.{first_from}
+use Rattle.green_tree.proofs.FirstNode.{first-here, first-below, start-first, found-in, found-after, room, next-begins, found-nowhere, reverse-last}
+use Rattle.green_tree.proofs.first_node.+way_back.Goals.{in-Some+in_ok-way+in_default-2, in_default}
+use Rattle.green_tree.proofs.first_node.+way_back.Goals as goal
 
 pub returns-then-starts_as : goal.returns-then-starts_as
 returns-then-starts_as t c =

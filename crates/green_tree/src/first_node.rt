@@ -1,12 +1,13 @@
 //! The first node of a kind that starts somewhere.
 
 ghost use Rattle.std.specs.Prelude.{ℕ, ◌≡◌, ◌+◌, ◌<◌, [], None, option_map, IfOk, IfSome, IfNone};
-ghost use Rattle.cst_core.specs.Tree.{text_length};
-ghost use Rattle.cst_core.specs.Green.{branch_tree, length_limit};
-ghost use Rattle.cst_core.specs.GreenElement.{element_tree};
-ghost use Rattle.edit_plan.specs.inner.FirstNode.{starts_as, first_from, path_back};
+ghost use Rattle.green_tree.specs.Tree.{text_length};
+ghost use Rattle.green_tree.specs.Green.{branch_tree, length_limit};
+ghost use Rattle.green_tree.specs.GreenElement.{element_tree};
+ghost use Rattle.green_tree.specs.inner.FirstNode.{starts_as, first_from, path_back};
 
-use cst_core::{GreenElement, GreenNode, SyntaxKind};
+use crate::green::{GreenElement, GreenNode};
+use crate::kind::SyntaxKind;
 use std::alloc::{AllocError, Global};
 
 // The child, if it is a node and the offset is in it or at one of its ends. It begins at `begin`.
@@ -65,7 +66,7 @@ fn way_back(
 /// The path of the first node of this kind, in document order, that starts at this offset in bytes.
 ///
 /// Takes time linear in the children of the nodes that have the offset in them or at one of their ends.
-pub(crate) fn first_node(
+pub fn first_node(
     alloc: Global,
     root: &GreenNode,
     kind: SyntaxKind,

@@ -1,8 +1,8 @@
 use Rattle.std.proofs.Common.{◌≡◌, ap, sym, ◌∙◌, nat_eq, true}
 use Rattle.std.specs.Prelude.{◌&&◌}
-use Rattle.cst_core.specs.Tree.{forest}
-use Rattle.edit_plan.proofs.FirstNode.{top-starts}
-use Rattle.edit_plan.proofs.first_node.starts_as.Goals as goal
+use Rattle.green_tree.specs.Tree.{forest}
+use Rattle.green_tree.proofs.FirstNode.{top-starts}
+use Rattle.green_tree.proofs.first_node.starts_as.Goals as goal
 
 pub returns-then-eq : goal.returns-then-eq
 returns-then-eq c =

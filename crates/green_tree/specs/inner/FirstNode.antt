@@ -5,9 +5,9 @@
 use Rattle.std.specs.Prelude.{ℕ, ◌+◌, nat_eq, ◌&&◌, Bool, false, find, reverse, Option, option_map, Vec}
 use Rattle.std.specs.Global.{Global}
 use Rattle.std.specs.Option.{option_map_or}
-use Rattle.cst_core.specs.Path.{Path}
-use Rattle.cst_core.specs.Tree.{SyntaxTree, label, at}
-use Rattle.cst_core.specs.Order.{node_paths, start}
+use Rattle.green_tree.specs.Path.{Path}
+use Rattle.green_tree.specs.Tree.{SyntaxTree, label, at}
+use Rattle.green_tree.specs.Order.{node_paths, start}
 
 abbrev pub starts_as : ℕ → ℕ → ℕ → SyntaxTree → Path → Bool
 starts_as kind begin offset t p = option_map_or (λ e. nat_eq (label e) kind) (at t p) false && nat_eq (begin + start t p) offset
