@@ -9,6 +9,7 @@ pub use Rattle.green_tree.specs.Kind
 pub use Rattle.green_tree.specs.Green
 pub use Rattle.green_tree.specs.GreenElement
 pub use Rattle.green_tree.specs.GreenElementRef
+pub use Rattle.green_tree.specs.TreeErrorName
 pub mod TreeIds
 pub mod Element
 pub mod SyntaxElement

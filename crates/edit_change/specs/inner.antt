@@ -5,6 +5,7 @@ pub mod Targets
 pub mod TargetTable
 pub mod Fate
 pub mod Clash
+pub mod ClashErrorName
 pub mod OwnerPlaces
 pub mod OneNode
 pub mod Given
