@@ -7,3 +7,5 @@ pub mod Ancestors
 pub mod Elements
 pub mod Families
 pub mod Touched
+pub mod Levels
+pub mod Sizes

@@ -1,10 +1,12 @@
 -- Elements by where their texts stand, in bytes from the tree's start.
+--     end_of                      where the element's text ends
 --     tokens_touching             of the tokens at or below an element, those whose text is not empty, begins at an offset or before it, and ends there or after it
 --     first_two, token_at         of a list of tokens none, the only one, or the first two; that of these tokens
 --     covering_of                 of the elements at or below one, the last whose text contains a range of bytes
-use Rattle.std.specs.Prelude.{ℕ, List, [], ◌∷◌, map, filter, Option}
+use Rattle.std.specs.Prelude.{ℕ, ◌+◌, List, [], ◌∷◌, map, filter, Option}
 use Rattle.green_tree.specs.Path.{last_item}
-use Rattle.green_tree.specs.Order.{token_paths}
+use Rattle.green_tree.specs.Tree.{text_length}
+use Rattle.green_tree.specs.Order.{token_paths, start}
 use Rattle.green_tree.specs.Offsets.{touches, covers}
 use Rattle.cst_core.specs.Element.{Element, subtree, below}
 use Rattle.cst_core.specs.SyntaxElement.{element_of}
@@ -12,6 +14,9 @@ use Rattle.cst_core.specs.Navigation.{elements_of}
 use Rattle.cst_core.specs.declared.element.SyntaxElement.{SyntaxElement}
 use Rattle.cst_core.specs.declared.offsets.TokenAtOffset.{TokenAtOffset}
 use Rattle.cst_core.specs.declared.offsets.TokenAtOffset.TheVariants.{None, Single, Between}
+
+abbrev pub end_of : Element → ℕ
+end_of e = start e.root e.path + text_length (subtree e)
 
 abbrev pub tokens_touching : Element → ℕ → List Element
 tokens_touching e offset = filter (λ token. touches token.root offset token.path) (map (below e) (token_paths (subtree e)))

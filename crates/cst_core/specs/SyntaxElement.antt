@@ -6,13 +6,15 @@
 --     child_elements, child_nodes      the children, and those that are nodes, in order
 --     next_sibling, previous_sibling   the sibling one slot on, one slot back, if there is one
 --     descendants_of                   the nodes at or below an element, in document order
+--     descendants_of_kind              those of one kind
 --     first_token_of, last_token_of    the first token at or below it, in document order; the last one
 --     token_before, token_after        the last token that stands before it in its tree; the first one that stands after it
-use Rattle.std.specs.Prelude.{List, [], ◌∷◌, length, map, filter_map, Option, Some, None, option_map, option_and_then}
+use Rattle.std.specs.Prelude.{List, [], ◌∷◌, ◌==◌, length, map, filter, filter_map, Option, Some, None, option_map, option_and_then}
 use Rattle.green_tree.specs.Path.{Path, next_path, previous_path, counted_from, first_item, last_item}
 use Rattle.green_tree.specs.Tree as tree
-use Rattle.green_tree.specs.Tree.{SyntaxTree, at, children}
+use Rattle.green_tree.specs.Tree.{SyntaxTree, at, children, label}
 use Rattle.green_tree.specs.Order.{node_paths, token_paths, tokens_before, tokens_after}
+use Rattle.green_tree.specs.declared.kind.SyntaxKind.{SyntaxKind}
 use Rattle.cst_core.specs.Element.{Element, subtree, element_at, below}
 use Rattle.cst_core.specs.declared.element.SyntaxElement.{SyntaxElement}
 use Rattle.cst_core.specs.declared.element.SyntaxElement.TheVariants.{Node, Token}
@@ -53,6 +55,9 @@ previous_sibling e = option_and_then (syntax_at e) (previous_path e.path)
 
 abbrev pub descendants_of : Element → List Element
 descendants_of e = map (below e) (node_paths (subtree e))
+
+abbrev pub descendants_of_kind : SyntaxKind → Element → List Element
+descendants_of_kind kind e = filter (λ n. label (subtree n) == kind.0) (descendants_of e)
 
 abbrev pub first_token_of : Element → Option Element
 first_token_of e = option_map (below e) (first_item (token_paths (subtree e)))

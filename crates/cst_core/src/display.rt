@@ -56,7 +56,7 @@ impl fmt::Debug for SyntaxNode {
     fn fmt<W: fmt::Write>(&self, f: &mut fmt::Formatter<W>) -> fmt::Result {
         let kind = self.kind();
         let start = self.location.text_start();
-        let end = start + self.text_len();
+        let end = self.text_end();
         write!(f, "{kind:?}@{start}..{end}")
     }
 }
@@ -70,7 +70,7 @@ impl fmt::Debug for SyntaxToken {
     fn fmt<W: fmt::Write>(&self, f: &mut fmt::Formatter<W>) -> fmt::Result {
         let kind = self.kind();
         let start = self.location.text_start();
-        let end = start + self.text_len();
+        let end = self.text_end();
         let text = self.text();
         write!(f, "{kind:?}@{start}..{end} {text:?}")
     }

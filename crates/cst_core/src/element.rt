@@ -8,6 +8,7 @@ ghost use Rattle.green_tree.specs.GreenElementRef.{ref_tree};
 ghost use Rattle.cst_core.specs.Element.{subtree, parent_of, root_of};
 ghost use Rattle.cst_core.specs.SyntaxElement.{element_of, node_of, token_of, syntax_of, next_sibling, previous_sibling};
 ghost use Rattle.cst_core.specs.Navigation.{siblings_on, element_ancestors};
+ghost use Rattle.cst_core.specs.AtOffset.{end_of};
 
 use crate::direction::Direction;
 use crate::location::Location;
@@ -155,6 +156,17 @@ impl SyntaxElement {
         ensures { result ≡ start (element_of self.now).root (element_of self.now).path }
     {
         self.location().text_start()
+    }
+
+    /// Where the element's text ends, in bytes from the start of the tree's text: the offset of the first byte after it.
+    pub fn text_end(&self) -> u64
+        ensures end { result ≡ end_of (element_of self.now) }
+        ensures fits { result < length_limit }
+    {
+        match self {
+            SyntaxElement::Node(node) => node.text_end(),
+            SyntaxElement::Token(token) => token.text_end(),
+        }
     }
 
     /// The element's text: the texts of its tokens, one after another.

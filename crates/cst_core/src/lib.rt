@@ -9,6 +9,7 @@ mod ast_node;
 mod direction;
 mod display;
 mod element;
+pub mod laws;
 mod lent_node;
 mod location;
 mod navigation;
@@ -23,7 +24,7 @@ pub use direction::Direction;
 pub use element::SyntaxElement;
 pub use green_tree::{
     GreenElement, GreenElementRef, GreenNode, GreenToken, KIND_NAMES, LENGTH_LIMIT, SyntaxKind,
-    TreeError, laws,
+    TreeError,
 };
 pub use node::SyntaxNode;
 pub use offsets::TokenAtOffset;

@@ -3,7 +3,7 @@ ghost use Rattle.green_tree.specs.Path.{first_item, last_item};
 ghost use Rattle.green_tree.specs.Tree.{children};
 ghost use Rattle.green_tree.specs.inner.FoundToken.{IsTokenOf};
 ghost use Rattle.cst_core.specs.Element.{subtree, below, parent_of, root_of};
-ghost use Rattle.cst_core.specs.SyntaxElement.{node_of, syntax_at, child_elements, child_nodes, next_sibling, previous_sibling, descendants_of, first_token_of, last_token_of};
+ghost use Rattle.cst_core.specs.SyntaxElement.{node_of, syntax_at, child_elements, child_nodes, next_sibling, previous_sibling, descendants_of, descendants_of_kind, first_token_of, last_token_of};
 ghost use Rattle.cst_core.specs.Navigation.{next_node, previous_node, siblings_on, ancestors_of, elements_of};
 
 use crate::direction::Direction;
@@ -11,7 +11,7 @@ use crate::element::SyntaxElement;
 use crate::lent_node::LentNode;
 use crate::node::SyntaxNode;
 use crate::token::SyntaxToken;
-use green_tree::{FoundToken, first_token, last_token};
+use green_tree::{FoundToken, SyntaxKind, first_token, last_token};
 use std::alloc::{AllocError, Global};
 
 impl SyntaxNode {
@@ -166,6 +166,19 @@ impl SyntaxNode {
     {
         let mut all = Vec::new(alloc);
         push_descendants(alloc, self, &mut all)?;
+        Ok(all)
+    }
+
+    /// The nodes of one kind at or below this one in document order, this one first if it is of that kind.
+    pub fn descendants_of_kind(
+        &self,
+        alloc: Global,
+        kind: SyntaxKind,
+    ) -> Result<Vec<SyntaxNode>, AllocError>
+        ensures { IfOk result (λ all. all.items ≡ descendants_of_kind kind self.now) }
+    {
+        let mut all = self.descendants(alloc)?;
+        all.retain(|node| node.kind() == kind);
         Ok(all)
     }
 

@@ -10,6 +10,7 @@ ghost use Rattle.green_tree.specs.Order.{start};
 ghost use Rattle.green_tree.specs.Green.{branch_tree, length_limit, IsTooLong};
 ghost use Rattle.cst_core.specs.TreeIds.{IsSpent, LacksNumber};
 ghost use Rattle.cst_core.specs.Element.{subtree, IsNode};
+ghost use Rattle.cst_core.specs.AtOffset.{end_of};
 
 use crate::location::Location;
 use crate::tree_ids::TreeIds;
@@ -161,6 +162,15 @@ impl SyntaxNode {
         ensures { result ≡ start self.now.root self.now.path }
     {
         self.location.text_start()
+    }
+
+    /// Where the node's text ends, in bytes from the start of the tree's text: the offset of the first byte after it.
+    pub fn text_end(&self) -> u64
+        ensures end { result ≡ end_of self.now }
+        ensures fits { result < length_limit }
+    {
+        let start = self.location.text_start();
+        start + self.text_len()
     }
 
     /// The node's text: the texts of its tokens, one after another.

@@ -10,6 +10,7 @@ ghost use Rattle.green_tree.specs.Order.{start};
 ghost use Rattle.green_tree.specs.Green.{branch_tree, leaf_tree, length_limit};
 ghost use Rattle.cst_core.specs.Element.{subtree, parent_of, root_of, IsNode, IsToken};
 ghost use Rattle.cst_core.specs.SyntaxElement.{next_sibling, previous_sibling, token_before, token_after};
+ghost use Rattle.cst_core.specs.AtOffset.{end_of};
 ghost use Rattle.cst_core.specs.Navigation.{siblings_on, nodes_above};
 
 use crate::direction::Direction;
@@ -116,6 +117,15 @@ impl SyntaxToken {
         ensures { result ≡ start self.now.root self.now.path }
     {
         self.location.text_start()
+    }
+
+    /// Where the token's text ends, in bytes from the start of the tree's text: the offset of the first byte after it.
+    pub fn text_end(&self) -> u64
+        ensures end { result ≡ end_of self.now }
+        ensures fits { result < length_limit }
+    {
+        let start = self.location.text_start();
+        start + self.text_len()
     }
 
     /// The token's text.

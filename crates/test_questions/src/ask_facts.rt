@@ -15,6 +15,7 @@ pub enum FactQuestion {
     Path,
     Index,
     TextStart,
+    TextEnd,
     TextLen,
     Text,
     Display,
@@ -23,13 +24,14 @@ pub enum FactQuestion {
     Green,
 }
 
-const NAMES: [(&str, FactQuestion); 12] = [
+const NAMES: [(&str, FactQuestion); 13] = [
     ("kind", FactQuestion::Kind),
     ("tree_number", FactQuestion::Tree),
     ("slots", FactQuestion::Slots),
     ("path", FactQuestion::Path),
     ("index", FactQuestion::Index),
     ("text_start", FactQuestion::TextStart),
+    ("text_end", FactQuestion::TextEnd),
     ("text_len", FactQuestion::TextLen),
     ("text", FactQuestion::Text),
     ("display", FactQuestion::Display),
@@ -126,6 +128,7 @@ fn of_element(
         FactQuestion::Path => told_path(alloc, "SyntaxElement::path", element.path(alloc)),
         FactQuestion::Index => number(alloc, element.index() as u64),
         FactQuestion::TextStart => number(alloc, element.text_start()),
+        FactQuestion::TextEnd => number(alloc, element.text_end()),
         FactQuestion::TextLen => number(alloc, element.text_len()),
         FactQuestion::Text => told_text(alloc, "SyntaxElement::text", element.text(alloc)),
         FactQuestion::Display => told_text(
@@ -150,6 +153,7 @@ fn of_node(alloc: Global, question: FactQuestion, node: &SyntaxNode) -> Result<S
         FactQuestion::Path => told_path(alloc, "SyntaxNode::path", node.path(alloc)),
         FactQuestion::Index => number(alloc, node.index() as u64),
         FactQuestion::TextStart => number(alloc, node.text_start()),
+        FactQuestion::TextEnd => number(alloc, node.text_end()),
         FactQuestion::TextLen => number(alloc, node.text_len()),
         FactQuestion::Text => told_text(alloc, "SyntaxNode::text", node.text(alloc)),
         FactQuestion::Display => told_text(alloc, "SyntaxNode::to_string", node.to_string(alloc)),
@@ -174,6 +178,7 @@ fn of_token(
         FactQuestion::Path => told_path(alloc, "SyntaxToken::path", token.path(alloc)),
         FactQuestion::Index => number(alloc, token.index() as u64),
         FactQuestion::TextStart => number(alloc, token.text_start()),
+        FactQuestion::TextEnd => number(alloc, token.text_end()),
         FactQuestion::TextLen => number(alloc, token.text_len()),
         FactQuestion::Text => quote(alloc, token.text()),
         FactQuestion::Display => told_text(alloc, "SyntaxToken::to_string", token.to_string(alloc)),

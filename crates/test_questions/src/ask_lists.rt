@@ -3,18 +3,19 @@
 use crate::memory::Standing;
 use crate::shown::agree;
 use crate::told::{told_addresses, told_node_addresses};
-use cst_core::{Direction, SyntaxElement};
+use cst_core::{Direction, SyntaxElement, SyntaxKind};
 use std::alloc::Global;
-use test_trees::{NoAnswer, Trees, find_named};
+use test_trees::{NoAnswer, Trees, Words, find_named};
 
 #[derive(Clone, Copy)]
 pub enum ListQuestion {
     Ancestors,
     Siblings(Direction),
     DescendantsWithTokens,
+    DescendantsOfKind,
 }
 
-const NAMES: [(&str, ListQuestion); 4] = [
+const NAMES: [(&str, ListQuestion); 5] = [
     ("ancestors", ListQuestion::Ancestors),
     ("siblings_on", ListQuestion::Siblings(Direction::Next)),
     ("siblings_back", ListQuestion::Siblings(Direction::Prev)),
@@ -22,6 +23,7 @@ const NAMES: [(&str, ListQuestion); 4] = [
         "descendants_with_tokens",
         ListQuestion::DescendantsWithTokens,
     ),
+    ("descendants_of_kind", ListQuestion::DescendantsOfKind),
 ];
 
 impl ListQuestion {
@@ -30,19 +32,21 @@ impl ListQuestion {
     }
 }
 
-/// `QUESTION ELEMENT`
+/// `QUESTION ELEMENT`, or `descendants_of_kind NODE KIND`
 pub fn answer(
     alloc: Global,
     trees: &Trees,
     question: ListQuestion,
-    address: &str,
+    arguments: &str,
 ) -> Result<String, NoAnswer> {
-    let element = trees.element(alloc, address)?;
+    let mut words = Words::of(arguments);
+    let element = trees.element(alloc, words.word()?)?;
     let before = Standing::of(&element);
     let answer = match question {
         ListQuestion::Ancestors => ancestors(alloc, &element),
         ListQuestion::Siblings(direction) => siblings(alloc, direction, &element),
         ListQuestion::DescendantsWithTokens => descendants(alloc, &element),
+        ListQuestion::DescendantsOfKind => of_kind(alloc, &element, kind_in(&mut words)?),
     };
     before.answer_if_kept(&element, answer)
 }
@@ -116,5 +120,22 @@ fn descendants(alloc: Global, element: &SyntaxElement) -> Result<String, NoAnswe
         node.tree(),
         "SyntaxNode::descendants_with_tokens",
         node.descendants_with_tokens(alloc),
+    )
+}
+
+// The kind that the next word names.
+fn kind_in(words: &mut Words) -> Result<SyntaxKind, NoAnswer> {
+    SyntaxKind::from_name(words.word()?).ok_or(NoAnswer::Arguments)
+}
+
+fn of_kind(alloc: Global, element: &SyntaxElement, kind: SyntaxKind) -> Result<String, NoAnswer> {
+    let SyntaxElement::Node(node) = element else {
+        return Err(NoAnswer::Form);
+    };
+    told_node_addresses(
+        alloc,
+        node.tree(),
+        "SyntaxNode::descendants_of_kind",
+        node.descendants_of_kind(alloc, kind),
     )
 }
