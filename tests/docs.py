@@ -126,6 +126,33 @@ def compare_heads():
             wrong.append(f"{file.relative_to(ROOT)}: its head does not name {name}")
 
 
+def compare_defined_names():
+    """Each name in the first column of a table of DEFINITIONS is a definition, or a law, a clause or a case of the sources."""
+    known = set()
+    for file in ROOT.glob("crates/*/specs/**/*.antt"):
+        text = file.read_text()
+        known |= defined_names(text)[0] | set(head_names(text))
+    for file in ROOT.glob("crates/*/src/**/*.rt"):
+        found = re.finditer(r"\b(?:fn|ensures) (\w+)|^    ([A-Z]\w*),$", file.read_text(), re.M)
+        known |= {each[1] or each[2] for each in found}
+    for number, line in enumerate((ROOT / "docs/DEFINITIONS.md").read_text().splitlines(), 1):
+        for name in re.findall(r"`([^`]+)`", line.split("|")[1]) if line.startswith("| `") else []:
+            if name not in known:
+                wrong.append(f"docs/DEFINITIONS.md:{number}: names {name}, which is not defined")
+
+
+def compare_reads():
+    """A value that a library reads and does not use is read for the proof: the comment before it says so in one phrase."""
+    for crate in library_files("src", ".rt"):
+        for file in sorted((ROOT / "crates" / crate / "src").rglob("*.rt")):
+            before = ""
+            for number, line in enumerate(file.read_text().splitlines(), 1):
+                read = re.match(r"\s*let _(?:count)? = (?!.*\.(?:unwrap|remove)\()", line)
+                if read and not before.lstrip().startswith("// For the proof: "):
+                    wrong.append(f"{file.relative_to(ROOT)}:{number}: reads a value without a comment 'For the proof: ..'")
+                before = before if read else line
+
+
 def shown_code(text):
     return re.findall(r"```rust\n(.*?)```", text, re.S)
 
@@ -303,6 +330,8 @@ def compare_record():
 
 compare_tables()
 compare_heads()
+compare_defined_names()
+compare_reads()
 compare_examples()
 compare_scripts()
 compare_guarantees()

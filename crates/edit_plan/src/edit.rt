@@ -5,7 +5,7 @@ ghost use Rattle.edit_plan.specs.AnnotationTable.{found_for};
 use crate::annotation::SyntaxAnnotation;
 use crate::annotation_table::AnnotationTable;
 use cst_core::{SyntaxElement, SyntaxNode};
-use green_tree::first_node;
+use green_tree::first_node_of_kind;
 use std::alloc::{AllocError, Global};
 use std::marker::Model;
 
@@ -79,7 +79,7 @@ impl SyntaxEdit {
         ensures { IfOk result (λ r. r ≡ stand_in self.now old.now) }
     {
         let root = self.new_root.as_green();
-        let Some(path) = first_node(alloc, root, old.kind(), old.text_start())? else {
+        let Some(path) = first_node_of_kind(alloc, root, old.kind(), old.text_start())? else {
             return Ok(None);
         };
         match self.new_root.element_at(alloc, &path)? {

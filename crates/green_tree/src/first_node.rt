@@ -66,7 +66,7 @@ fn way_back(
 /// The path of the first node of this kind, in document order, that starts at this offset in bytes.
 ///
 /// Takes time linear in the children of the nodes that have the offset in them or at one of their ends.
-pub fn first_node(
+pub fn first_node_of_kind(
     alloc: Global,
     root: &GreenNode,
     kind: SyntaxKind,

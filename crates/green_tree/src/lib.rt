@@ -13,7 +13,7 @@ mod text;
 mod tokens;
 
 pub use error::TreeError;
-pub use first_node::first_node;
+pub use first_node::first_node_of_kind;
 pub use green::{GreenElement, GreenElementRef, GreenNode, GreenToken, LENGTH_LIMIT, share_all};
 pub use kind::{KIND_NAMES, SyntaxKind};
 pub use offsets::{covering_path, tokens_at};
