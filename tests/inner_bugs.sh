@@ -4,16 +4,17 @@
 # kept on this machine, or over new ones. If all are refused, tests/inner_bugs.txt gets what was tried and over which files; tests/docs.py
 # fails if one of these changes.
 #
-# inner_bugs.sh --sample: tries those of a few crates, at least 24 bugs, chosen by the hash of the commit, and writes nothing. tests/all.sh
-# calls it, so that a record which was written by hand is found out.
+# inner_bugs.sh --sample: tries 24 of them, of as few crates, chosen by the hash of the commit, and writes nothing. tests/all.sh calls it, so
+# that a record which was written by hand is found out.
 set -euo pipefail
 cd "$(dirname "$0")/.."
 source tests/lanes.sh
 record=yes
 if [ "${1:-}" = --sample ]; then
     record=no
-    set -- $(python3 tests/inner_record.py sample "$(git rev-parse HEAD)")
-    echo "inner planted bugs of this commit's sample: $(cd crates && ls $(printf '%s/must-fail-inner/*.edit ' "$@") | tr '\n' ' ')"
+    sample=$(python3 tests/inner_record.py sample "$(git rev-parse HEAD)")
+    echo "inner planted bugs of this commit's sample: ${sample//$'\n'/ }"
+    set -- $(cut -d/ -f1 <<<"$sample" | sort -u)
 fi
 copy=$(mktemp -d)
 trap 'rm -rf "$copy"' EXIT
@@ -26,5 +27,11 @@ rm -rf "$copy"/crates/*/must-fail
 for crate; do
     mv "$copy/crates/$crate/must-fail-inner" "$copy/crates/$crate/must-fail"
 done
+if [ "$record" = no ]; then
+    for bug in "$copy"/crates/*/must-fail/*.edit; do
+        name=$(basename "$bug" .edit)
+        grep -qx "$(basename "$(dirname "$(dirname "$bug")")")/$name" <<<"$sample" || rm "$bug"
+    done
+fi
 (cd "$copy" && env RT_JOBS="${RT_JOBS:-$(lanes)}" rt ci)
 [ "$record" = no ] || python3 tests/inner_record.py write <<<"$tried"

@@ -7,7 +7,7 @@ its name and a checksum of its file. tests/planted_bugs.txt has the number of al
     inner_record.py lines FOLDER CRATE..     prints the lines of these crates of a copy of the repository
     inner_record.py write                    puts such lines, from standard input, in the record
     inner_record.py needed CRATE..           prints these crates and all libraries below them
-    inner_record.py sample COMMIT            prints crates that have 24 inner planted bugs or more together, chosen by a commit's hash
+    inner_record.py sample COMMIT            prints 24 inner planted bugs of as few crates, CRATE/NAME, chosen by a commit's hash
 """
 
 import hashlib
@@ -105,13 +105,15 @@ def wrong_count(root):
 
 
 def sample(root, commit):
-    """Crates in an order that the commit's hash gives, as many as have 24 bugs together."""
-    chosen, bugs = [], 0
-    for crate in sorted(crates_with_bugs(root), key=lambda name: hashlib.sha256(f"{commit} {name}".encode()).hexdigest()):
-        if bugs < SAMPLE:
-            chosen.append(crate)
-            bugs += len(bugs_of(root, crate))
-    return chosen
+    """The first bugs in an order of crates, and of the bugs of each, that the commit's hash gives."""
+
+    def drawn(name):
+        return hashlib.sha256(f"{commit} {name}".encode()).hexdigest()
+
+    chosen = []
+    for crate in sorted(crates_with_bugs(root), key=drawn):
+        chosen += sorted((f"{crate}/{bug.stem}" for bug in bugs_of(root, crate)), key=drawn)
+    return chosen[:SAMPLE]
 
 
 def write(lines):
@@ -133,6 +135,6 @@ if __name__ == "__main__":
     elif sys.argv[1:2] == ["needed"]:
         print(*sorted(set(sys.argv[2:]).union(*(crates_below(ROOT, crate) for crate in sys.argv[2:]))))
     elif sys.argv[1:2] == ["sample"]:
-        print(*sample(ROOT, sys.argv[2]))
+        print(*sample(ROOT, sys.argv[2]), sep="\n")
     else:
         sys.exit(__doc__)
