@@ -1,7 +1,4 @@
 -- Annotated paths, and the elements that they lead to, by annotation.
---     added                         a table with one element more for an annotation
---     one-less                      a table with one more element has it for its annotation, and one path is left less
---     followed-more                 one more registered element is followed
 --     is_rewritten                  the annotated paths of a plan, from where its registered elements lead to
 --     found-in                      what an edit has for an annotation is what the table has
 use Rattle.std.specs.Prelude.{◌≡◌, All, ℕ, ◌+◌, ◌<◌, Bool, true, false, cond, nat_eq, List, [], ◌∷◌, ◌++◌, map, flat_map, filter, take, length, Vec, Option, Some, IsSome, get_or, refl}
@@ -20,55 +17,20 @@ use Rattle.std.specs.Option.{option_map_or}
 use Rattle.std.specs.HashMap.{HashMap, get, get_by, Updates}
 use Rattle.std.proofs.lemmas.Bool.{cases_Bool, eqb-true, eq-eqb, or_left, or_right}
 use mathlib.Core.Logic.{inl, inr}
-use Rattle.edit_plan.specs.AnnotationTable.{entries_of, found_for}
+use Rattle.annotations.specs.AnnotationTable.{entries_of, found_for}
+use Rattle.annotations.proofs.AnnotatedElements.{Tells, leads_to}
 use Rattle.edit_plan.specs.Plan.{Plan, registered_elements, is_registered}
 use Rattle.std.specs.List.{AllByRecursion, list_any}
 use Rattle.edit_change.proofs.Lists.{all-append}
 use Rattle.edit_change.specs.NewTree.{OriginTree}
 use Rattle.edit_plan.specs.Engine.{IsRewritten}
-use Rattle.edit_plan.specs.inner.Annotating.{numbered_paths}
+use Rattle.annotations.specs.inner.Annotating.{numbered_paths}
 use Rattle.one_pass.specs.inner.Root.{TellsNewTree}
 use Rattle.edit_change.specs.Places.{ArePlaces}
 use Rattle.edit_change.specs.Results.{annotated, copies_of, paths_with}
 use Rattle.edit_plan.proofs.PathsOfResults.{numbered-lead}
 use Rattle.edit_plan.proofs.NumbersOfRegistered.{all-told}
 use mathlib.Core.List.{map-map}
-
--- ---- a table with one element more
-module _ {X : Type 0} where
-  abbrev pub items_of : Option (Vec X Global) → List X
-  items_of o = option_map_or (λ v. v.items) o []
-
-  -- where the key k gets w, which has one more than the key had
-  pub added : {S : Type 0} (m n : HashMap ℕ (Vec X Global) S) (k : ℕ) (x : X) (w : Vec X Global) → Updates nat_eq m n k (Some w) → w.items ≡ items_of (get nat_eq m k) ++ x ∷ [] → (a : ℕ) → items_of (get_by (nat_eq a) n) ≡ items_of (get_by (nat_eq a) m) ++ cond (nat_eq k a) (x ∷ []) []
-  added m n k x w put more a =
-      let before = items_of (get nat_eq m a) in
-      ap items_of (put.0 a) ∙ elim (cases_Bool (nat_eq k a)) [
-        | inl same ↦ ap (λ b. items_of (cond b (Some w) (get nat_eq m a))) same ∙ more ∙ ap (λ q. items_of (get nat_eq m q) ++ x ∷ []) (eqb-true k a same) ∙ ap (λ b. before ++ cond b (x ∷ []) []) (sym same)
-        | inr other ↦ ap (λ b. items_of (cond b (Some w) (get nat_eq m a))) other ∙ sym (append-nil before) ∙ ap (λ b. before ++ cond b (x ∷ []) []) (sym other)
-      ]
-
--- ---- the paths of one annotation
--- one of them is found, and the others are left
-pub one-less : (root : Element) (a : ℕ) (n : ℕ × Path) (rest : List (ℕ × Path)) (e : SyntaxElement) (before after : List SyntaxElement) → Some e ≡ syntax_at root n.1 → after ≡ before ++ cond (nat_eq n.0 a) (e ∷ []) [] → map Some after ++ map (syntax_at root) (paths_with a rest) ≡ map Some before ++ map (syntax_at root) (paths_with a (n ∷ rest))
-one-less root a n rest e before after leads are =
-    let others = map (syntax_at root) (paths_with a rest) in
-    ap (λ es. map (λ x. Some x) es ++ others) are ∙ (elim (nat_eq n.0 a) as (λ b. map (λ x. Some x) (before ++ cond b (e ∷ []) []) ++ others ≡ map (λ x. Some x) before ++ map (syntax_at root) (map (λ (m : ℕ × Path). m.1) (cond b (n ∷ filter (λ m. nat_eq m.0 a) rest) (filter (λ m. nat_eq m.0 a) rest)))) [
-      | true ↦ ap (λ os. os ++ others) (map-append (λ x. Some x) before (e ∷ [])) ∙ append_assoc (map (λ x. Some x) before) (Some e ∷ []) others ∙ ap (λ o. map (λ x. Some x) before ++ o ∷ others) leads
-      | false ↦ ap (λ es. map (λ x. Some x) es ++ others) (append-nil before)
-    ])
-
--- ---- where registered elements are followed to
-abbrev Tells : Mapping → SyntaxElement × ℕ → Type 0
-Tells m r = NumbersTell (element_of r.0 ∷ mapped_elements m)
-
-abbrev leads_to : Mapping → SyntaxElement × ℕ → Element
-leads_to m r = followed m (element_of r.0)
-
-pub followed-more : (m : Mapping) (rs : List (SyntaxElement × ℕ)) (i : ℕ) (r : SyntaxElement × ℕ) (x : SyntaxElement) (xs ys : List SyntaxElement) → i < length rs → r ≡ get_or rs i r → ys ≡ xs ++ x ∷ [] → (Tells m r → element_of x ≡ leads_to m r) → (All (Tells m) rs → map element_of xs ≡ map (leads_to m) (take i rs)) → All (Tells m) rs → map element_of ys ≡ map (leads_to m) (take (i + 1) rs)
-followed-more m rs i r x xs ys lt is more leads before all =
-    let tells : Tells m r = subst (Tells m) (sym is) (All-get_or (Tells m) rs i r lt all) in
-    ap (map element_of) more ∙ map-append element_of xs (x ∷ []) ∙ ap₂ (λ us e. us ++ e ∷ []) (before all) (leads tells ∙ ap (leads_to m) is) ∙ sym (ap (map (leads_to m)) (take_more rs i r lt) ∙ map-append (leads_to m) (take i rs) (get_or rs i r ∷ []))
 
 -- ---- the annotated paths of a plan
 numbered-each : {R : Type 0} (f : R → List Path) (number : R → ℕ) (rs : List R) → numbered_paths (map number rs) (map f rs) ≡ flat_map (λ r. map (λ p. (number r, p)) (f r)) rs

@@ -2,7 +2,6 @@
 --     topmost-there                 those of the topmost elements that pass a test
 --     numbered-lead                 those of copies, with annotations
 --     changed-there, annotated-there      those of the changed and of the annotated elements of a plan
---     leads                         a path that leads to an element leads to its value
 use Rattle.std.specs.Prelude.{◌≡◌, ℕ, ◌&&◌, not, Bool, true, false, List, [], ◌∷◌, ◌++◌, map, Some, None, option_map, is_some, IsSome, All, refl}
 use Rattle.std.specs.List.{AllByRecursion}
 use Rattle.std.specs.Option.{option_map_or}
@@ -17,7 +16,7 @@ use Rattle.edit_change.specs.Topmost.{holds_at, parent_holds, topmost}
 use Rattle.edit_plan.specs.Plan.{Plan}
 use Rattle.edit_plan.specs.Engine.{IsRewritten}
 use Rattle.edit_change.specs.NewTree.{OriginTree, plain, is_free}
-use Rattle.edit_plan.specs.inner.Annotating.{numbered_paths}
+use Rattle.annotations.specs.inner.Annotating.{numbered_paths}
 use Rattle.edit_change.specs.Results.{is_brought, copies_of}
 use Rattle.edit_change.proofs.Lists.{all_filter, all_weaker}
 use Rattle.edit_change.proofs.Relabelled.{at-relabelled}
@@ -64,14 +63,3 @@ numbered-lead t tree ns rs is =
 
 pub annotated-there : (p : Plan) (tree : SyntaxTree) (changed : List Path) (annotated : List (ℕ × Path)) → IsRewritten p tree changed annotated → (e : Element) → e.root ≡ tree → All (λ n. IsElement (element_at e n.1)) annotated
 annotated-there p tree changed annotated r e is = subst (λ t. All (λ n. IsSome (at t n.1)) annotated) (sym is) r.leads
-
-no-value-nowhere : (e : Element) (q : Path) → IsSome (at e.root q) → syntax_at e q ≡ None → ⊥
-no-value-nowhere e q some none =
-    (elim (at e.root q) as (λ o. is_some o ≡ true → option_map (λ t. syntax_as t (element_at e q)) o ≡ None → ⊥) [
-      | None ↦ λ h n. cc
-      | Some t ↦ λ h n. cc
-    ]) some none
-
--- where an element stands, its value is found
-pub leads : (e : Element) (q : Path) → IsElement (element_at e q) → syntax_at e q ≡ None → ⊥
-leads = no-value-nowhere

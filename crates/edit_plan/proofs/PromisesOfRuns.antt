@@ -15,9 +15,10 @@ use Rattle.cst_core.specs.Green.{Branch, branch_tree, length_limit}
 use Rattle.cst_core.specs.SyntaxElement.{syntax_at}
 use Rattle.cst_core.specs.TreeError.{TreeError}
 use Rattle.cst_core.specs.TreeError.TheVariants as tree
-use Rattle.edit_plan.specs.AnnotationTable.{found_for}
+use Rattle.annotations.specs.AnnotationTable.{found_for}
 use Rattle.edit_plan.specs.Plan.{Plan, Edit, Makes, MakesTooLong, RunRefuses, is_registered}
-use Rattle.edit_plan.specs.Engine.{annotated_path, IsRewritten, HasRewritten, RanBefore}
+use Rattle.edit_plan.specs.Engine.{IsRewritten, HasRewritten, RanBefore}
+use Rattle.annotations.specs.AnnotationTable.{annotated_path}
 use Rattle.edit_plan.specs.EditRefusal.{of_tree, of_engine}
 use Rattle.edit_change.specs.Places.{ArePlaces}
 use Rattle.edit_change.specs.Results.{paths_with}

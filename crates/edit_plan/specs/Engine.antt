@@ -1,5 +1,4 @@
 -- What an engine makes of a plan.
---     annotated_path                a path with the number of its annotation, in code
 --     IsRewritten                   a tree with changed and annotated paths is what a plan makes
 --     HasRewritten                  the same, of values in code
 --     EngineRefuses                 why an engine does not carry a plan out
@@ -22,9 +21,6 @@ use Rattle.edit_plan.specs.declared.engine_error.EngineError.{EngineError}
 use Rattle.edit_plan.specs.declared.engine_error.EngineError.TheVariants.{TooLong, Memory}
 use Rattle.edit_plan.specs.declared.edit_error.EditError.{EditError}
 use Rattle.edit_plan.specs.declared.edit_error.EditError.TheVariants as edit
-
-abbrev pub annotated_path : ℕ × Vec ℕ Global → ℕ × Path
-annotated_path n = (n.0, n.1.items)
 
 -- The annotated paths are told where equal numbers have equal trees. In any case they lead to elements of the tree, and each stands with an
 -- annotation that something is registered with.

@@ -26,7 +26,7 @@ use Rattle.edit_map.specs.Builder.{IsMapping}
 use Rattle.edit_change.specs.Nesting.{first_clash}
 use Rattle.edit_change.specs.NewTree.{OriginTree, plain, is_free, new_tree}
 use Rattle.edit_change.specs.Results.{changed, annotated, paths_with, stand_in_path}
-use Rattle.edit_plan.specs.AnnotationTable.{found_for}
+use Rattle.annotations.specs.AnnotationTable.{found_for}
 use Rattle.edit_change.specs.Places.{IsFirstUnplaced, ArePlaces, TextIsTooLong, elements_held}
 use Rattle.edit_change.specs.declared.change.Change.{Change}
 use Rattle.edit_plan.specs.declared.edit_error.EditError.{EditError}

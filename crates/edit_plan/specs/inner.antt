@@ -3,5 +3,4 @@ pub mod PlaceTables
 pub mod PlacesRefusal
 pub mod PlanRun
 pub mod PlanStages
-pub mod Annotating
 pub mod Codes

@@ -1,9 +1,8 @@
 ghost use Rattle.std.specs.Prelude.{◌≡◌, IfOk};
 ghost use Rattle.edit_plan.specs.Plan.{stand_in};
-ghost use Rattle.edit_plan.specs.AnnotationTable.{found_for};
+ghost use Rattle.annotations.specs.AnnotationTable.{found_for};
 
-use crate::annotation::SyntaxAnnotation;
-use crate::annotation_table::AnnotationTable;
+use annotations::{AnnotationTable, SyntaxAnnotation};
 use cst_core::{SyntaxElement, SyntaxNode};
 use green_tree::first_node_of_kind;
 use std::alloc::{AllocError, Global};
@@ -21,7 +20,7 @@ pub struct SyntaxEdit {
 impl Model for SyntaxEdit {
     ghost use Rattle.edit_plan.specs.Plan.{Edit, new_edit};
     ghost use Rattle.edit_plan.specs.inner.Codes.{edit_code};
-    ghost use Rattle.edit_plan.specs.AnnotationTable.{entries_of};
+    ghost use Rattle.annotations.specs.AnnotationTable.{entries_of};
 
     ghost Value = { Edit };
 

@@ -16,7 +16,7 @@ ghost use Rattle.edit_change.specs.ChangeAim.{aim};
 ghost use Rattle.edit_change.specs.Nesting.{owner, region};
 ghost use Rattle.edit_change.specs.Rewriting.{NumberedAim, gap, rewritten};
 ghost use Rattle.edit_change.specs.NewTree.{Origin, OriginTree, origin, plain, payload_of, is_free, given, Gives, new_tree, stage_tree};
-ghost use Rattle.edit_plan.specs.AnnotationTable.{found_for};
+ghost use Rattle.annotations.specs.AnnotationTable.{found_for};
 ghost use Rattle.edit_plan.specs.Plan.{Plan, Edit, IsPlan, Makes, registered_elements};
 ghost use Rattle.edit_change.specs.Results.{changed};
 ghost use Rattle.edit_change.specs.Places.{HasPlace, elements_held};

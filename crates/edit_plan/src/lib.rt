@@ -1,9 +1,6 @@
 //! The tree that a set of changes makes of a tree.
 #![tactic(auto)]
 
-mod annotated;
-mod annotation;
-mod annotation_table;
 mod edit;
 mod edit_error;
 mod edit_run;
@@ -20,7 +17,7 @@ mod rewritten;
 mod run;
 mod splice_engine;
 
-pub use annotation::{Annotations, SyntaxAnnotation};
+pub use annotations::{Annotations, SyntaxAnnotation};
 pub use edit::SyntaxEdit;
 pub use edit_change::{
     Change, Element, ElementList, Position, is_native, is_node, is_one_node, is_range, is_root,

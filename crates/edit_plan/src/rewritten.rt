@@ -1,6 +1,6 @@
 ghost use Rattle.std.specs.Prelude.{◌≡◌};
 
-use crate::annotation::SyntaxAnnotation;
+use annotations::SyntaxAnnotation;
 use cst_core::GreenNode;
 
 /// The new tree of a plan, before it is a root's, and where its changed and annotated elements are.

@@ -10,13 +10,13 @@ ghost use Rattle.edit_plan.specs.Plan.{Makes, RunRefuses};
 ghost use Rattle.edit_plan.specs.Engine.{HasRewritten, EngineRefuses, RanBefore, CountsTouched};
 ghost use Rattle.edit_plan.specs.inner.PlanRun.{IsOfRoot, IsPlanned};
 
-use crate::annotated::{annotated_paths, elements_by_annotation, registered_copies};
 use crate::edit::SyntaxEdit;
 use crate::edit_error::EditError;
 use crate::engine::EditEngine;
 use crate::engine_error::EngineError;
 use crate::plan::EditPlan;
 use crate::rewritten::Rewritten;
+use annotations::{annotated_paths, elements_by_annotation, registered_copies};
 use cst_core::{LENGTH_LIMIT, SyntaxElement, SyntaxNode, TreeIds};
 use edit_change::Planned;
 use one_pass::{OnePass, rewrite};

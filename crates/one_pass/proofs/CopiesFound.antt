@@ -24,7 +24,8 @@ use Rattle.one_pass.specs.inner.Marked.{Marking, marks_on, marked, marked_from, 
 use Rattle.edit_change.specs.Results.{copies_of}
 use Rattle.edit_change.specs.NewTree.{OriginTree, origin, given, independents, new_tree}
 use Rattle.one_pass.specs.inner.Sought.{path_below, sought_one, sought_from, sought_at, registered_at, addresses}
-use Rattle.one_pass.specs.inner.Marks.{with_marks, marks_given, IsTableOf, paths_of_mark, path_lists}
+use Rattle.one_pass.specs.inner.Marks.{with_marks, marks_given, IsTableOf, paths_of_mark}
+use Rattle.edit_change.specs.Topmost.{path_lists}
 use Rattle.edit_change.specs.declared.change.Change.{Change}
 use Rattle.one_pass.specs.declared.sought.SoughtTable.{SoughtTable}
 use Rattle.one_pass.proofs.MarksFilled.{seen-from, exact, found, at-append}

@@ -5,7 +5,6 @@
 --     element_sought, payload_sought      an element, rewritten, with what a table has there as marks; several
 --     with_answer                     another answer for one change
 --     paths_of_mark                 of marks in the trees that stand in a place, the paths of one mark in its tree
---     path_lists                    lists of paths in code
 --     AreMarksFrom                  a table has the marks of what changes of this depth or more give, and of those that own nothing
 --     ArePathsOf                    n lists have the paths of these marks, each those of its number
 --     HasPathMore, PathsStay        a list has one path more at its end; the others are as they were
@@ -55,9 +54,6 @@ pub record AreMarksFrom (rs : List Address) (changes : List Change) (places : �
 -- ---- dealt out
 abbrev pub paths_of_mark : ℕ → List Marking → List Path
 paths_of_mark n ms = map (λ m. drop 1 m.1) (filter (λ m. nat_eq n m.0) ms)
-
-abbrev pub path_lists : List (Vec (Vec ℕ Global) Global) → List (List Path)
-path_lists ls = map (λ l. paths_of l.items) ls
 
 -- ---- lists of paths, for one number after another
 abbrev pub ArePathsOf : List Marking → ℕ → List (Vec (Vec ℕ Global) Global) → Type 0

@@ -2,7 +2,7 @@ use Rattle.std.proofs.Common.{[], Vec, sym, ◌∙◌, ap}
 use Rattle.std.specs.Global.{Global}
 use Rattle.std.specs.Option.{option_map_or}
 use Rattle.cst_core.specs.declared.element.SyntaxElement.{SyntaxElement}
-use Rattle.edit_plan.specs.AnnotationTable.{found_for}
+use Rattle.annotations.specs.AnnotationTable.{found_for}
 use Rattle.edit_plan.specs.Plan.{Edit}
 use Rattle.edit_plan.proofs.ByAnnotation.{found-in}
 use Rattle.edit_plan.proofs.edit.SyntaxEdit.find_annotation.Goals as goal

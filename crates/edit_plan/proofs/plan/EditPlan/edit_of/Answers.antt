@@ -4,7 +4,7 @@ use Rattle.cst_core.specs.Tree.{text_length}
 use Rattle.edit_change.specs.Topmost.{paths_of}
 use Rattle.edit_plan.specs.Plan.{RunRefuses}
 use Rattle.edit_plan.specs.inner.PlanRun.{IsOfRoot}
-use Rattle.edit_plan.specs.Engine.{annotated_path}
+use Rattle.annotations.specs.AnnotationTable.{annotated_path}
 use Rattle.edit_plan.specs.EditRefusal.{of_tree}
 use Rattle.edit_plan.proofs.ByAnnotation.{found-in}
 use Rattle.edit_plan.proofs.PromisesOfRuns.{makes, refuses, of-root, err-gives}

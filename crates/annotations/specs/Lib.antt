@@ -1,0 +1,3 @@
+pub mod Annotation
+pub mod AnnotationTable
+pub mod inner
