@@ -147,7 +147,7 @@ def compare_reads():
         for file in sorted((ROOT / "crates" / crate / "src").rglob("*.rt")):
             before = ""
             for number, line in enumerate(file.read_text().splitlines(), 1):
-                read = re.match(r"\s*let _(?:count)? = (?!.*\.(?:unwrap|remove)\()", line)
+                read = re.match(r"\s*let _(?:count|builds)? = (?!.*\.(?:unwrap|remove)\()", line)
                 if read and not before.lstrip().startswith("// For the proof: "):
                     wrong.append(f"{file.relative_to(ROOT)}:{number}: reads a value without a comment 'For the proof: ..'")
                 before = before if read else line

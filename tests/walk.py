@@ -18,8 +18,8 @@ WALKS = ["SyntaxEditor::finish", "EditRun::step"]
 BELOW = {"green_tree", "cst_core"}
 ENGINES = {"E": "OnePassEngine"}
 LIBRARIES = [
-    "green_tree", "cst_core", "path_table", "edit_map", "edit_change", "one_pass", "edit_steps", "edit_plan", "change_list", "whitespace",
-    "syntax_editor", "list_removal",
+    "green_tree", "cst_core", "path_table", "edit_map", "edit_change", "one_pass", "annotations", "edit_steps", "edit_plan", "change_list",
+    "whitespace", "syntax_editor", "list_removal",
 ]
 
 

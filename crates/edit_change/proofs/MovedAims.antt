@@ -1,10 +1,10 @@
 -- Changes moved into the payloads of their owners.
 --     moved-own                     where a change aims that is moved, by its own path
 --     owner-there, owned-is-inside  there is an owner; what is owned aims deeper
---     change-at, owner-at-number, owner-is      the change and the owner at a number
+--     change-at, owner-at-number, owner-is, owner-within      the change and the owner at a number; the owner is a change
 --     fit_at                        a change fits its tree
 --     aims-free, aims-owned         the path from which a change aims
-use Rattle.std.specs.Prelude.{◌≡◌, ◌≢◌, ℕ, zero, suc, ◌+◌, ◌-◌, ◌<◌, ◌≤◌, true, false, List, [], ◌∷◌, ◌++◌, map, length, drop, slice_get, unwrap_or, Option, Some, None, option_map, option_and_then, IfSome, get_or, refl, All}
+use Rattle.std.specs.Prelude.{◌≡◌, ℕ, zero, suc, ◌+◌, ◌-◌, ◌<◌, ◌≤◌, true, List, [], ◌∷◌, ◌++◌, map, length, drop, slice_get, unwrap_or, Option, Some, None, option_map, option_and_then, IfSome, get_or, refl, All}
 use Rattle.std.specs.List.{AllByRecursion}
 use Rattle.std.specs.Option.{option_map_or}
 use Rattle.std.proofs.Common.{ap, ap₂, sym, subst, ◌∙◌, arith, get_or}
@@ -15,7 +15,6 @@ use Rattle.std.proofs.lemmas.Option.{same_Some, none-some, slice_get-get_or, sli
 use mathlib.Core.List.{map-map}
 use mathlib.Core.Path.{fun_ext}
 use Rattle.cst_core.specs.Path.{Path, parent_path, last_slot, counted_from, siblings, first_item}
-use Rattle.cst_core.specs.Tree as tree
 use Rattle.cst_core.specs.Element.{Element}
 use Rattle.cst_core.specs.SyntaxElement.{element_of}
 use Rattle.cst_core.proofs.LastSlot.{parent_path-push, last_slot-push, parent-and-slot}
@@ -39,7 +38,7 @@ use Rattle.edit_change.proofs.OwnerDepth.{owner_is_above}
 use Rattle.edit_change.proofs.OwnersKeep.{owner-keeps, target-is}
 use Rattle.cst_core.specs.Tree.{at}
 use Rattle.edit_change.specs.StagedChange.{staged_aim}
-use Rattle.edit_change.specs.inner.OwnerPlaces.{AimsFrom}
+use Rattle.edit_change.specs.inner.OwnerPlaces.{owner_at, AimsFrom}
 
 -- ---- where a moved change aims
 drop-push : (n : ℕ) (p : Path) (j : ℕ) → n ≤ length p → drop n (p ++ j ∷ []) ≡ drop n p ++ j ∷ []
@@ -124,6 +123,9 @@ any-owner-there cs n o is = subst (λ x. IfSome x (λ k. k < length cs)) (sym is
 
 pub owner-is : (cs : List Change) (n : ℕ) (c : Change) (o : Option ℕ) → slice_get cs n ≡ Some c → o ≡ option_and_then (owner cs) (slice_get cs n) → owner cs c ≡ o
 owner-is cs n c o is by = sym (by ∙ ap (option_and_then (owner cs)) is)
+
+pub owner-within : (cs : List Change) (n : ℕ) (c : Change) (o : ℕ) → slice_get cs n ≡ Some c → Some o ≡ owner_at cs n → o < length cs
+owner-within cs n c o is by = let r = owner-keeps cs c o (owner-is cs n c (Some o) is by) in slice_get_within cs o r.0 r.1
 
 -- ---- elements of a tree
 pub fit_at : (root : Element) (cs : List Change) → All (Fits root) cs → (i : ℕ) (c : Change) → slice_get cs i ≡ Some c → Fits root c

@@ -1,7 +1,7 @@
 -- The topmost elements of a tree that pass a test of their label.
 --     holds_at, parent_holds        the element at a path passes; its parent does, and the top has none
 --     topmost                       the paths, in document order, of the elements that pass and whose parent does not
---     paths_of, path_lists          paths in code; lists of these
+--     paths_of                      paths in code
 use Rattle.std.specs.Prelude.{ℕ, ◌&&◌, Bool, false, not, List, [], ◌∷◌, map, filter, Vec}
 use Rattle.std.specs.Global.{Global}
 use Rattle.std.specs.Option.{option_map_or}
@@ -20,6 +20,3 @@ topmost test t = filter (λ p. holds_at test t p && not (parent_holds test t p))
 
 abbrev pub paths_of : List (Vec ℕ Global) → List Path
 paths_of vs = map (λ v. v.items) vs
-
-abbrev pub path_lists : List (Vec (Vec ℕ Global) Global) → List (List Path)
-path_lists ls = map (λ l. paths_of l.items) ls

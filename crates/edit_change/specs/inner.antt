@@ -13,3 +13,4 @@ pub mod KindOnly
 pub mod PositionCode
 pub mod Codes
 pub mod ChangeCodes
+pub mod PathLists

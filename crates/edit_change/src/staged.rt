@@ -1,12 +1,11 @@
 //! Where a change is carried out: in the payload of its owner, if it has one, and else in the tree.
 
-ghost use Rattle.std.specs.Prelude.{◌≡◌, ◌<◌, map, length, slice_get, option_and_then, All, IfOk, IfSome};
+ghost use Rattle.std.specs.Prelude.{◌≡◌, ◌<◌, map, length, All, IfOk, IfSome};
 ghost use Rattle.cst_core.specs.Element.{Element};
 ghost use Rattle.edit_change.specs.Fits.{Fits};
-ghost use Rattle.edit_change.specs.Nesting.{owner};
 ghost use Rattle.edit_change.specs.NewTree.{moved_path};
 ghost use Rattle.edit_change.specs.inner.Fate.{fate};
-ghost use Rattle.edit_change.specs.inner.OwnerPlaces.{places_in, AimsFrom};
+ghost use Rattle.edit_change.specs.inner.OwnerPlaces.{owner_at, places_in, AimsFrom};
 
 use crate::change::Change;
 use crate::change_aims::aim_path;
@@ -33,7 +32,7 @@ pub fn moved_path(
 pub fn owner_of(changes: &[Change], fates: &[Fate], number: usize) -> Option<usize>
     requires there { number < length changes.now }
     requires fates { fates.now ≡ map (fate changes.now) changes.now }
-    ensures owner { result ≡ option_and_then (owner changes.now) (slice_get changes.now number) }
+    ensures owner { result ≡ owner_at changes.now number }
     ensures there { IfSome result (λ o. o < length changes.now) }
 {
     fates[number].owner()
@@ -50,23 +49,23 @@ pub fn place_at(places: &[Option<Vec<usize>>], owner: usize) -> &[usize]
     }
 }
 
-/// The path from which a change aims: in the payload of its owner, if it has one, and else in the tree. `fates` has what becomes of each
-/// change, and `places` the place of each owner's target in its payload.
+/// The path from which a change aims: in the payload of `owner`, its owner, if it has one, and else in the tree. `places` has the place of
+/// each owner's target in its payload.
 pub fn staged_path(
     alloc: Global,
     changes: &[Change],
-    fates: &[Fate],
     places: &[Option<Vec<usize>>],
     number: usize,
+    owner: Option<usize>,
 ) -> Result<Vec<usize>, AllocError>
     requires there { number < length changes.now }
     requires fit { (root : Element) × All (Fits root) changes.now }
-    requires fates { fates.now ≡ map (fate changes.now) changes.now }
+    requires owner { owner ≡ owner_at changes.now number }
     requires places { length places.now ≡ length changes.now }
     ensures { IfOk result (λ v. AimsFrom changes.now (places_in places.now) number v.items) }
 {
     let path = aim_path(&changes[number]);
-    match owner_of(changes, fates, number) {
+    match owner {
         Some(owner) => {
             let target = aim_path(&changes[owner]);
             moved_path(alloc, target, place_at(places, owner), path)

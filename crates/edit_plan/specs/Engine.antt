@@ -11,6 +11,7 @@ use Rattle.cst_core.specs.Tree.{SyntaxTree, at}
 use Rattle.cst_core.specs.Green.{branch_tree}
 use Rattle.cst_core.specs.Element.{NumbersTell}
 use Rattle.edit_change.specs.Topmost.{paths_of}
+use Rattle.annotations.specs.AnnotationTable.{annotated_path}
 use Rattle.edit_change.specs.NewTree.{OriginTree, plain, is_free}
 use Rattle.edit_change.specs.Results.{changed, annotated}
 use Rattle.edit_change.specs.Places.{ArePlaces, elements_held}

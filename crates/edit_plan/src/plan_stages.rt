@@ -6,7 +6,7 @@ ghost use Rattle.edit_plan.specs.Run.{CanStep, CountsStep};
 ghost use Rattle.edit_plan.specs.inner.PlanStages.{AgreeOnPlaces, IsRunning, KeepsShapes, run_of};
 
 use crate::plan::EditPlan;
-use edit_change::{numbered_aim_from, staged_path};
+use edit_change::{numbered_aim_from, owner_of, staged_path};
 use edit_map::laws::{pairs_rise, place_is_unique, place_keeps_the_shape};
 use edit_steps::Stages;
 use std::alloc::{AllocError, Global};
@@ -57,8 +57,9 @@ impl EditPlan {
     {
         self.agree_on_places();
         self.keep_shapes();
-        let path = staged_path(alloc, &self.changes, &self.fates, &self.places, change)?;
+        let owner = owner_of(&self.changes, &self.fates, change);
+        let path = staged_path(alloc, &self.changes, &self.places, change, owner)?;
         let aim = numbered_aim_from(&self.changes[change], change, &path);
-        stages.step(alloc, &self.changes, &self.fates, change, &aim)
+        stages.step(alloc, &self.changes, change, owner, &aim)
     }
 }

@@ -26,6 +26,7 @@ mod Orders
 mod PathOrder
 mod Putting
 mod Readiness
+mod RootSteps
 mod ReplacedRoot
 mod Rows
 pub mod Splits

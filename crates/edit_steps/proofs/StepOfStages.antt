@@ -6,9 +6,9 @@
 --     can-splice                     it can be put where it aims
 --     taken, counts, kept            the trees after that, the count; the same where it was refused
 --     rooted                         the new root after that
---     payload-read, splice-can, splice-counts, splice-takes, splice-rooted, splice-kept, waits-there     the same as code asks for it
+--     payload-read, splice-can, splice-counts, splice-takes, splice-rooted, splice-top, splice-kept, waits-there     the same as code asks for it
 --     one-node                       a change that brings one node gives one
-use Rattle.std.specs.Prelude.{◌≡◌, ◌<◌, ℕ, Bool, true, false, cond, not, ◌&&◌, ◌||◌, nat_eq, List, [], ◌∷◌, map, filter, length, slice_get, unwrap_or, Option, Some, None, option_map, is_none, All, MatchBool, IsSomeAnd, Result, Ok, Err, OnErr, refl}
+use Rattle.std.specs.Prelude.{◌≡◌, ◌<◌, ℕ, Bool, true, false, cond, not, ◌&&◌, ◌||◌, nat_eq, List, [], ◌∷◌, map, filter, length, slice_get, unwrap_or, Option, Some, None, option_map, option_and_then, is_none, All, MatchBool, IsSomeAnd, Result, Ok, Err, OnErr, refl}
 use Rattle.std.specs.List.{AllByRecursion, list_all, enumerate_from}
 use Rattle.std.specs.Option.{option_map_or}
 use Rattle.std.proofs.Common.{ap, ap₂, sym, subst, ◌∙◌, arith, get_or}
@@ -19,7 +19,7 @@ use Rattle.cst_core.specs.Path.{Path, has_path, first_item}
 use Rattle.cst_core.specs.Tree.{SyntaxTree, Node, Token, at, is_token, forest}
 use Rattle.cst_core.specs.Green.{Branch, branch_tree}
 use Rattle.cst_core.specs.Element.{Element, IsNode, subtree}
-use Rattle.edit_change.specs.Aim.{Aim}
+use Rattle.edit_change.specs.Aim.{Aim, replaces}
 use Rattle.edit_change.specs.Effort.{counted}
 use Rattle.edit_change.specs.Rewriting.{NumberedAim, rewritten, rewritten_from}
 use Rattle.edit_change.specs.inner.KindOnly.{kind_only}
@@ -29,14 +29,14 @@ use Rattle.edit_change.specs.ChangeAim.{aim}
 use Rattle.edit_change.specs.Fits.{Fits}
 use Rattle.edit_change.specs.Nesting.{is_keeping, is_dropped, is_independent, owner, has_owner, undropped}
 use Rattle.edit_change.specs.declared.change.Change.{Change}
-use Rattle.edit_change.specs.inner.Fate.{fate, owner_in}
-use Rattle.edit_change.specs.declared.fate.Fate.{Fate}
+use Rattle.edit_change.specs.inner.OwnerPlaces.{owner_at}
 use Rattle.edit_change.proofs.Clashes.{at-index}
-use Rattle.edit_change.proofs.Regions.{owner-told}
+use Rattle.edit_change.proofs.RootAlone.{at-root, free-at-root}
 use Rattle.edit_change.proofs.Lists.{all_enumerated, all_filter, all_weaker}
 use Rattle.edit_change.proofs.Owners.{owner_cases, owner_from}
 use Rattle.edit_steps.specs.Schedule.{owned_first, gap_first, token_first, comes_first, is_ready}
 use Rattle.edit_steps.specs.inner.Waiting.{IsWaiting, HasChange}
+use Rattle.edit_steps.specs.declared.order.waiting.Waiting.{Waiting}
 use Rattle.edit_steps.proofs.Undropped.{all-undropped}
 use Rattle.edit_steps.specs.inner.Stage.{old_tree, IsStage}
 use Rattle.edit_steps.specs.StepCount.{step_builds}
@@ -44,12 +44,12 @@ use Rattle.edit_steps.specs.declared.stage.Stage.{Stage}
 use Rattle.edit_change.specs.NewTree.{targets_of, payload_of, moved_aim, independents, dependents, only}
 use Rattle.edit_change.specs.inner.OneNode.{IsNodeTree, IsOneNode, BringsNode}
 use Rattle.edit_steps.specs.inner.Payload.{payload_trees}
-use Rattle.edit_steps.specs.inner.Splicing.{payload_at, CanSplice, Splices, SpliceStays, CountsSplice, RestStays, TreesStay, WaitsOn, PutsRoot}
+use Rattle.edit_steps.specs.inner.Splicing.{payload_at, CanSplice, Splices, SpliceStays, CountsSplice, RestStays, AimsAtTop, PutsRoot}
 use Rattle.edit_steps.specs.inner.Stages.{GivesTrees, IsPayload, IsPayloadStage, HasNewRoot, HasTrees, IsStages, builds_of, Taking, EachTaking, Takes, StaysAs}
 use Rattle.edit_change.specs.StagedChange.{staged_aim, has_stage, tree_of}
 use Rattle.edit_steps.specs.declared.stages.Stages.{Stages}
 use Rattle.edit_change.proofs.MovedAims.{fit_at}
-use Rattle.edit_steps.proofs.FirstStages.{fate-read}
+use Rattle.edit_steps.proofs.LinkTables.{replaces-targets}
 use Rattle.edit_steps.proofs.NextAims.{one_more, IsSplit, independent-next, owned-next}
 use Rattle.edit_change.proofs.OwnersKeep.{owner-keeps, owner-undropped}
 use Rattle.edit_steps.proofs.Splits.{all_map, only-other}
@@ -315,23 +315,31 @@ payload-read cs n a s places g done root c d x ts way read given =
     let within : n < length s.payloads.items = omega (arith, way.stages.trees.long, slice_get_within cs n c way.there) in
     given ∙ ap (payload_trees d) (sym (get_or_from_slice_get s.payloads.items n x None (slice_get-get_or s.payloads.items n x within ∙ ap Some (sym read))))
 
-told-owner : (cs : List Change) (fs : List Fate) (n : ℕ) (c : Change) (other : Fate) (o : Option ℕ) → fs ≡ map (fate cs) cs → slice_get cs n ≡ Some c → o ≡ owner_in (get_or fs n other) → o ≡ owner cs c
-told-owner cs fs n c other o are at is = is ∙ ap owner_in (fate-read cs fs n c other are at) ∙ owner-told cs c
+told-owner : (cs : List Change) (n : ℕ) (c : Change) (o : Option ℕ) → slice_get cs n ≡ Some c → o ≡ owner_at cs n → o ≡ owner cs c
+told-owner cs n c o at is = is ∙ ap (option_and_then (owner cs)) at
 
-pub splice-can : (cs : List Change) (n : ℕ) (a : NumberedAim) (s : Stages) (places : ℕ → Path) (g : ℕ → List SyntaxTree) (done : ℕ → Bool) (root : Element) (c : Change) (fs : List Fate) (other : Fate) (o : Option ℕ) → Taking cs n a s places g done root c → fs ≡ map (fate cs) cs → o ≡ owner_in (get_or fs n other) → CanSplice s o a
-splice-can cs n a s places g done root c fs other o t are is =
-    let owner_is = told-owner cs fs n c other o are t.there is in
+pub splice-can : (cs : List Change) (n : ℕ) (a : NumberedAim) (s : Stages) (places : ℕ → Path) (g : ℕ → List SyntaxTree) (done : ℕ → Bool) (root : Element) (c : Change) (o : Option ℕ) → Taking cs n a s places g done root c → o ≡ owner_at cs n → CanSplice s o a
+splice-can cs n a s places g done root c o t is =
+    let owner_is = told-owner cs n c o t.there is in
     subst (CanSplice s o) (sym t.aims) (subst (λ x. CanSplice s x (n, staged_aim cs places c)) (sym owner_is) (can-splice cs root t.fit places g done s t.stages n c t.there t.ready))
 
-pub splice-counts : (cs : List Change) (n : ℕ) (a : NumberedAim) (s t : Stages) (fs : List Fate) (other : Fate) (o : Option ℕ) → fs ≡ map (fate cs) cs → o ≡ owner_in (get_or fs n other) → CountsSplice s t o a → EachTaking cs n a s (λ places g done root c. builds_of t ≡ counted (builds_of s) (step_builds (tree_of cs (subtree root) c) a.1))
-splice-counts cs n a s t fs other o are is h = λ places g done root c way.
-    let owner_is = told-owner cs fs n c other o are way.there is in
+pub splice-counts : (cs : List Change) (n : ℕ) (a : NumberedAim) (s t : Stages) (o : Option ℕ) → o ≡ owner_at cs n → CountsSplice s t o a → EachTaking cs n a s (λ places g done root c. builds_of t ≡ counted (builds_of s) (step_builds (tree_of cs (subtree root) c) a.1))
+splice-counts cs n a s t o is h = λ places g done root c way.
+    let owner_is = told-owner cs n c o way.there is in
     let there : CountsSplice s t (owner cs c) (n, staged_aim cs places c) = subst (λ x. CountsSplice s t x (n, staged_aim cs places c)) owner_is (subst (CountsSplice s t o) way.aims h) in
     counts cs root way.fit places g done s way.stages n c way.there way.ready t there ∙ ap (λ b. counted (builds_of s) (step_builds (tree_of cs (subtree root) c) b.1)) (sym way.aims)
 
-pub splice-takes : (cs : List Change) (n : ℕ) (a : NumberedAim) (s t u : Stages) (fs : List Fate) (other : Fate) (o : Option ℕ) (d : Change) (ts : List SyntaxTree) → fs ≡ map (fate cs) cs → o ≡ owner_in (get_or fs n other) → d ≡ get_or cs n d → ts ≡ payload_trees d (payload_at s.payloads.items n) → Splices s t o a ts → RestStays s t → TreesStay t u → WaitsOn t.waiting u.waiting n → PutsRoot d ts t.new_root u.new_root → Takes cs n a s u
-splice-takes cs n a s t u fs other o d ts are is read given h rest stays waits puts = λ places g done root c way.
-    let owner_is = told-owner cs fs n c other o are way.there is in
+-- one change more is done
+abbrev WaitsOn : Waiting → Waiting → ℕ → Type 0
+WaitsOn before after n =
+    (cs : List Change) (done : ℕ → Bool) (c : Change) → IsWaiting cs done before → slice_get cs n ≡ Some c → is_ready cs done (n, c) ≡ true → IsWaiting cs (λ m. nat_eq n m || done m) after
+
+abbrev noted : Stages → Waiting → Stages
+noted t w = record { tree = t.tree; new_root = t.new_root; payloads = t.payloads; waiting = w; builds = t.builds }
+
+pub splice-takes : (cs : List Change) (n : ℕ) (a : NumberedAim) (s t : Stages) (w : Waiting) (o : Option ℕ) (d : Change) (ts : List SyntaxTree) → o ≡ owner_at cs n → d ≡ get_or cs n d → ts ≡ payload_trees d (payload_at s.payloads.items n) → Splices s t o a ts → t.waiting ≡ s.waiting → PutsRoot d ts s.new_root t.new_root → WaitsOn t.waiting w n → Takes cs n a s (noted t w)
+splice-takes cs n a s t w o d ts is read given h still puts waits = λ places g done root c way.
+    let owner_is = told-owner cs n c o way.there is in
     let within = slice_get_within cs n c way.there in
     let same : d ≡ c = same_Some d c (sym (at-index cs n d within read) ∙ way.there) in
     let gives_now : ts ≡ g n = given ∙ ap (λ e. payload_trees e (payload_at s.payloads.items n)) same ∙ given-now cs places g way.gives done n c way.there way.ready (payload_at s.payloads.items n) (way.stages.trees.payloads n within) in
@@ -339,15 +347,10 @@ splice-takes cs n a s t u fs other o d ts are is read given h rest stays waits p
     let trees = taken cs root way.fit places g done s way.stages n c way.there way.ready t there in
     record {
       apart = way.stages.apart;
-      waiting = waits cs done c (subst (IsWaiting cs done) (sym rest.waiting) way.stages.waiting) way.there way.ready;
+      waiting = waits cs done c (subst (IsWaiting cs done) (sym still) way.stages.waiting) way.there way.ready;
       root_node = way.stages.root_node;
-      trees = record {
-        root_is = ap old_tree stays.tree ∙ trees.root_is;
-        tree = subst (IsStage g (only (one_more n done) (independents cs))) (sym stays.tree) trees.tree;
-        long = ap (λ v. length v.items) stays.payloads ∙ trees.long;
-        payloads = λ m l. subst (λ v. IsPayloadStage cs places g (one_more n done) m (payload_at v.items m)) (sym stays.payloads) (trees.payloads m l);
-      };
-      new_root = rooted cs places g done n c way.there t.new_root u.new_root (subst (HasNewRoot cs places g done) (sym rest.new_root) way.stages.new_root) (subst (λ x. PutsRoot c x t.new_root u.new_root) gives_now (subst (λ e. PutsRoot e ts t.new_root u.new_root) same puts));
+      trees = record { root_is = trees.root_is; tree = trees.tree; long = trees.long; payloads = trees.payloads };
+      new_root = rooted cs places g done n c way.there s.new_root t.new_root way.stages.new_root (subst (λ x. PutsRoot c x s.new_root t.new_root) gives_now (subst (λ e. PutsRoot e ts s.new_root t.new_root) same puts));
     }
 
 pub splice-rooted : (cs : List Change) (n : ℕ) (a : NumberedAim) (s : Stages) (places : ℕ → Path) (g : ℕ → List SyntaxTree) (done : ℕ → Bool) (root : Element) (c d : Change) (ts : List SyntaxTree) → Taking cs n a s places g done root c → d ≡ get_or cs n d → ts ≡ payload_trees d (payload_at s.payloads.items n) → (Fits root d) × (BringsNode d → IsOneNode ts)
@@ -357,9 +360,23 @@ splice-rooted cs n a s places g done root c d ts way read given =
     let gives_now : ts ≡ g n = given ∙ ap (λ e. payload_trees e (payload_at s.payloads.items n)) same ∙ given-now cs places g way.gives done n c way.there way.ready (payload_at s.payloads.items n) (way.stages.trees.payloads n within) in
     (subst (Fits root) (sym same) (fit_at root cs way.fit n c way.there), λ brings. subst IsOneNode (sym gives_now) (one-node cs places g way.gives done n c way.there way.ready (subst BringsNode same brings)))
 
-pub splice-kept : {T E : Type 0} (r : Result T E) (s t : Stages) (o : Option ℕ) (a : NumberedAim) → CanSplice s o a → SpliceStays s t o → RestStays s t → OnErr r (StaysAs s t)
-splice-kept r s t o a can stays rest = on_err-given r (StaysAs s t) (λ cs places g done root gives is. kept s t o a can stays rest cs places g done root is)
+-- a change that replaces the root
+no-owner : (o : Option ℕ) → is_none o ≡ true → o ≡ None
+no-owner None h = refl
+no-owner (Some x) h = absurd (false≢true h)
 
-pub waits-there : (cs : List Change) (n : ℕ) (a : NumberedAim) (s t : Stages) (places : ℕ → Path) (g : ℕ → List SyntaxTree) (done : ℕ → Bool) (root : Element) (c : Change) → Taking cs n a s places g done root c → RestStays s t → HasChange t.waiting n
-waits-there cs n a s t places g done root c way rest =
-    (cs, done, subst (IsWaiting cs done) (sym rest.waiting) way.stages.waiting, slice_get_within cs n c way.there)
+pub splice-top : (cs : List Change) (n : ℕ) (a : NumberedAim) (s : Stages) (places : ℕ → Path) (g : ℕ → List SyntaxTree) (done : ℕ → Bool) (root : Element) (c d : Change) (o : Option ℕ) → Taking cs n a s places g done root c → o ≡ owner_at cs n → d ≡ get_or cs n d → AimsAtTop d o a
+splice-top cs n a s places g done root c d o way is read = λ top.
+    let same : d ≡ c = same_Some d c (sym (at-index cs n d (slice_get_within cs n c way.there) read) ∙ way.there) in
+    let here : has_path (targets c) [] ≡ true = ap (λ e. has_path (targets e) []) (sym same) ∙ top in
+    let alone = free-at-root cs c (at-root c here) in
+    let free : owner cs c ≡ None = no-owner (owner cs c) (and_parts (not (is_dropped cs c)) (is_none (owner cs c)) alone).1 in
+    let own : staged_aim cs places c ≡ aim c = ap (λ x. option_map_or (λ m. moved_aim (unwrap_or (first_item (targets_of cs m)) []) (places m) (aim c)) x (aim c)) free in
+    (told-owner cs n c o way.there is ∙ free, ap (λ b. replaces [] b.1) way.aims ∙ ap (replaces []) own ∙ replaces-targets [] c ∙ here)
+
+pub splice-kept : {T E : Type 0} (r : Result T E) (s t : Stages) (o : Option ℕ) (a : NumberedAim) → CanSplice s o a → SpliceStays s t o → t.new_root ≡ s.new_root → t.waiting ≡ s.waiting → OnErr r (StaysAs s t)
+splice-kept r s t o a can stays root waiting = on_err-given r (StaysAs s t) (λ cs places g done top gives is. kept s t o a can stays (record { new_root = root; waiting = waiting }) cs places g done top is)
+
+pub waits-there : (cs : List Change) (n : ℕ) (a : NumberedAim) (s t : Stages) (places : ℕ → Path) (g : ℕ → List SyntaxTree) (done : ℕ → Bool) (root : Element) (c : Change) → Taking cs n a s places g done root c → t.waiting ≡ s.waiting → HasChange t.waiting n
+waits-there cs n a s t places g done root c way still =
+    (cs, done, subst (IsWaiting cs done) (sym still) way.stages.waiting, slice_get_within cs n c way.there)

@@ -58,12 +58,12 @@ impl Stage {
         &mut self,
         alloc: Global,
         aim: &Aimed,
-        given: &[GreenElement],
+        given: Vec<GreenElement>,
         builds: &mut u64,
     ) -> Result<(), AllocError>
         requires { StageCanStep self.old (numbered aim.now) }
         ensures old { old_tree self.new ≡ old_tree self.old }
-        ensures done { OnOk result (StageTakesStep self.old self.new (numbered aim.now) (element_trees given.now)) }
+        ensures done { OnOk result (StageTakesStep self.old self.new (numbered aim.now) (element_trees given.items)) }
         ensures count { OnOk result (StageCountsStep self.old (numbered aim.now) builds.old builds.new) }
         ensures refused { OnErr result (StageStaysAs self.old self.new) }
         ensures refused_count { OnErr result (builds.new ≡ builds.old) }
@@ -72,17 +72,16 @@ impl Stage {
         let Some(target) = AimTarget::of(&self.original, aim) else {
             return Ok(());
         };
-        let splice = Splice {
-            alloc,
-            done: &self.done,
-            target: &target,
-            given,
-        };
-        let new = put(&splice, &self.current, 0, &mut count)?;
         let done = Done {
             at: target.at,
             width: given.len(),
         };
+        let splice = Splice {
+            alloc,
+            done: &self.done,
+            target: &target,
+        };
+        let new = put(&splice, given, &self.current, 0, &mut count)?;
         self.done.add(alloc, target.parent, done)?;
         self.current = new;
         *builds = count;

@@ -7,11 +7,11 @@ ghost use Rattle.edit_change.specs.Fits.{Fits};
 ghost use Rattle.edit_change.specs.Nesting.{first_clash};
 ghost use Rattle.edit_change.specs.inner.TargetTable.{IsTargetTable};
 ghost use Rattle.edit_change.specs.inner.Fate.{fate};
-ghost use Rattle.edit_steps.specs.inner.Waiting.{HasChange};
+ghost use Rattle.edit_change.specs.inner.OwnerPlaces.{owner_at};
 ghost use Rattle.edit_change.specs.inner.OneNode.{BringsNode, IsNodeTree, IsOneNode};
 ghost use Rattle.edit_steps.specs.inner.Splicing.{CanStepIn, StepsIn, StaysIn, CountsStepIn, OthersStay};
 ghost use Rattle.edit_steps.specs.inner.Splicing.{CanSplice, Splices, SpliceStays, CountsSplice, RestStays};
-ghost use Rattle.edit_steps.specs.inner.Splicing.{TreesStay, WaitsOn, PutsRoot};
+ghost use Rattle.edit_steps.specs.inner.Splicing.{AimsAtTop, PutsRoot};
 ghost use Rattle.edit_steps.specs.inner.Stages.{Begins, SomeWay, StaysAs, CanTake, Takes, CountsTaken};
 ghost use Rattle.edit_steps.specs.inner.Stages.{builds_of, done_in, HasNumber, TellsReady, TellsComplete};
 ghost use Rattle.edit_steps.specs.inner.Stages.{ShowsTree, ShowsPayload};
@@ -55,14 +55,14 @@ fn step_in_payload(
     payloads: &mut Vec<Option<Stage>>,
     owner: usize,
     aim: &Aimed,
-    given: &[GreenElement],
+    given: Vec<GreenElement>,
     builds: &mut u64,
 ) -> Result<(), AllocError>
     requires there { owner < length payloads.now.items }
     requires can { CanStepIn payloads.now.items owner (numbered aim.now) }
     ensures others { OthersStay payloads.old.items payloads.new.items owner }
     ensures done { OnOk result (StepsIn payloads.old.items payloads.new.items owner
-        (numbered aim.now) (element_trees given.now)) }
+        (numbered aim.now) (element_trees given.items)) }
     ensures count { OnOk result (CountsStepIn payloads.old.items owner (numbered aim.now) builds.old builds.new) }
     ensures refused { OnErr result (StaysIn payloads.old.items payloads.new.items owner) }
     ensures refused_count { OnErr result (builds.new ≡ builds.old) }
@@ -143,18 +143,18 @@ impl Stages {
         }
     }
 
-    /// Carries out one change more, which aims there: in its owner's payload, if it has one, and else in the tree.
+    /// Carries out one change more, which has this owner and aims there: in the owner's payload, if there is one, and else in the tree.
     ///
     /// The count of built nodes rises by those on the way to it. After a refusal nothing has changed, the count included.
     pub fn step(
         &mut self,
         alloc: Global,
         changes: &[Change],
-        fates: &[Fate],
         number: usize,
+        owner: Option<usize>,
         aim: &Aimed,
     ) -> Result<(), AllocError>
-        requires fates { fates.now ≡ map (fate changes.now) changes.now }
+        requires owner { owner ≡ owner_at changes.now number }
         requires can { CanTake changes.now number (numbered aim.now) self.old }
         ensures done { OnOk result (Takes changes.now number (numbered aim.now) self.old self.new) }
         ensures list { OnOk result (done_in self.new ≡ slice_set (done_in self.old) number true) }
@@ -165,10 +165,42 @@ impl Stages {
     {
         let change = &changes[number];
         let given = given_elements(alloc, change, &self.payloads[number])?;
-        let owner = fates[number].owner();
-        self.splice(alloc, owner, aim, &given)?;
-        self.note_done(change, number, given);
+        self.put(alloc, change, owner, aim, given)?;
+        self.waiting.done(number);
         Ok(())
+    }
+
+    // Puts what a change gives in the place of the root, if it replaces that, and else where it aims.
+    fn put(
+        &mut self,
+        alloc: Global,
+        change: &Change,
+        owner: Option<usize>,
+        aim: &Aimed,
+        given: Vec<GreenElement>,
+    ) -> Result<(), AllocError>
+        requires can { CanSplice self.old owner (numbered aim.now) }
+        requires fits { (root : Element) × Fits root change.now }
+        requires node { BringsNode change.now → IsOneNode (element_trees given.items) }
+        requires top { AimsAtTop change.now owner (numbered aim.now) }
+        ensures done { OnOk result (Splices self.old self.new owner (numbered aim.now) (element_trees given.items)) }
+        ensures count { OnOk result (CountsSplice self.old self.new owner (numbered aim.now)) }
+        ensures root { OnOk result (PutsRoot change.now (element_trees given.items)
+            self.old.new_root self.new.new_root) }
+        ensures waiting { self.new.waiting ≡ self.old.waiting }
+        ensures refused { OnErr result (SpliceStays self.old self.new owner) }
+        ensures refused_root { OnErr result (self.new.new_root ≡ self.old.new_root) }
+        ensures refused_count { OnErr result (builds_of self.new ≡ builds_of self.old) }
+    {
+        if change.replaces_root() {
+            // Nothing of the old tree changes, so no node is built.
+            // For the proof: it brings one node, and the count at the start.
+            let _ = node_for_root(change);
+            let _builds = self.builds;
+            self.new_root = Some(only_node(given));
+            return Ok(());
+        }
+        self.splice(alloc, owner, aim, given)
     }
 
     // Puts what a change gives where it aims, in the payload of this owner or in the tree.
@@ -177,10 +209,10 @@ impl Stages {
         alloc: Global,
         owner: Option<usize>,
         aim: &Aimed,
-        given: &[GreenElement],
+        given: Vec<GreenElement>,
     ) -> Result<(), AllocError>
         requires { CanSplice self.old owner (numbered aim.now) }
-        ensures done { OnOk result (Splices self.old self.new owner (numbered aim.now) (element_trees given.now)) }
+        ensures done { OnOk result (Splices self.old self.new owner (numbered aim.now) (element_trees given.items)) }
         ensures count { OnOk result (CountsSplice self.old self.new owner (numbered aim.now)) }
         ensures refused { OnErr result (SpliceStays self.old self.new owner) }
         ensures refused_count { OnErr result (builds_of self.new ≡ builds_of self.old) }
@@ -193,23 +225,5 @@ impl Stages {
             }
             None => self.tree.step(alloc, aim, given, &mut self.builds),
         }
-    }
-
-    // A change, which gave these elements, is done.
-    fn note_done(&mut self, change: &Change, number: usize, given: Vec<GreenElement>)
-        requires waiting { HasChange self.old.waiting number }
-        requires fits { (root : Element) × Fits root change.now }
-        requires root { BringsNode change.now → IsOneNode (element_trees given.items) }
-        ensures trees { TreesStay self.old self.new }
-        ensures waits { WaitsOn self.old.waiting self.new.waiting number }
-        ensures list { done_in self.new ≡ slice_set (done_in self.old) number true }
-        ensures root { PutsRoot change.now (element_trees given.items) self.old.new_root self.new.new_root }
-    {
-        if change.replaces_root() {
-            // For the proof: it brings one node.
-            let _ = node_for_root(change);
-            self.new_root = Some(only_node(given));
-        }
-        self.waiting.done(number);
     }
 }

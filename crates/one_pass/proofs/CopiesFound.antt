@@ -25,7 +25,7 @@ use Rattle.edit_change.specs.Results.{copies_of}
 use Rattle.edit_change.specs.NewTree.{OriginTree, origin, given, independents, new_tree}
 use Rattle.one_pass.specs.inner.Sought.{path_below, sought_one, sought_from, sought_at, registered_at, addresses}
 use Rattle.one_pass.specs.inner.Marks.{with_marks, marks_given, IsTableOf, paths_of_mark}
-use Rattle.edit_change.specs.Topmost.{path_lists}
+use Rattle.edit_change.specs.inner.PathLists.{path_lists}
 use Rattle.edit_change.specs.declared.change.Change.{Change}
 use Rattle.one_pass.specs.declared.sought.SoughtTable.{SoughtTable}
 use Rattle.one_pass.proofs.MarksFilled.{seen-from, exact, found, at-append}

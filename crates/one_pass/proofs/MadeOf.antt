@@ -24,7 +24,7 @@ use Rattle.edit_change.specs.NewTree.{OriginTree, plain, given, independents, ne
 use Rattle.edit_change.specs.declared.change.Change.{Change}
 use Rattle.one_pass.specs.inner.OwnerTables.{AreGiven}
 use Rattle.one_pass.specs.inner.Marks.{IsTableOf, marks_given, with_marks, paths_of_mark}
-use Rattle.edit_change.specs.Topmost.{path_lists}
+use Rattle.edit_change.specs.inner.PathLists.{path_lists}
 use Rattle.one_pass.specs.inner.Root.{KeepsTop, TellsNewTree}
 use Rattle.edit_change.specs.inner.OneNode.{IsOneNode}
 use Rattle.one_pass.specs.inner.Sought.{addresses, sought_at}

@@ -18,7 +18,7 @@ use Rattle.edit_change.specs.Results.{paths_with}
 use Rattle.annotations.specs.AnnotationTable.{annotated_path}
 use Rattle.annotations.specs.declared.annotation_table.AnnotationTable.{AnnotationTable}
 use Rattle.edit_change.specs.Topmost.{paths_of}
-use Rattle.edit_change.specs.Topmost.{path_lists}
+use Rattle.edit_change.specs.inner.PathLists.{path_lists}
 
 abbrev pub numbered_paths : List ℕ → List (List Path) → List (ℕ × Path)
 numbered_paths [] ls = []

@@ -1,5 +1,6 @@
 -- How deep changes are, and where the targets of owners stand in their payloads, from a table.
 --     depth_of                      the depth of the change at a number
+--     owner_at                      the owner of the change at a number, if it has one
 --     path_at, places_in            the place of an owner, from a table by its number; the empty path where there is none
 --     aim_in_payload                the aim of a change in the payload of its owner, where the owner's target has this place
 --     AimsFrom                      with this path in place of its own, a change aims where it is carried out
@@ -18,6 +19,9 @@ use Rattle.edit_change.specs.StagedChange.{staged_aim}
 
 abbrev pub depth_of : List Change → ℕ → ℕ
 depth_of changes c = option_map_or depth (slice_get changes c) 0
+
+abbrev pub owner_at : List Change → ℕ → Option ℕ
+owner_at changes c = option_and_then (owner changes) (slice_get changes c)
 
 abbrev pub path_at : List (Option (Vec ℕ Global)) → ℕ → Option Path
 path_at table c = option_and_then path_in (slice_get table c)

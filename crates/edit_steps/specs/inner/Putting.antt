@@ -2,7 +2,7 @@
 --     CanPut                         what it aims at is there, and no more was replaced before it than there was
 --     put                            the tree with these put there
 --     IsSplicedNode                  an element is this node with these in the place of the children from a slot up to another one
---     CanPutFrom, IsPutFrom          what a splice puts, in code, from an element that so many slots of its target's path lead to
+--     CanPutFrom, IsPutFrom          these put in code, from an element that so many slots of the target's path lead to
 --     CountsPut                      a count rises by a node for each further slot of the path, and by the node whose children change
 use Rattle.std.specs.Prelude.{◌≡◌, ◌≤◌, ◌+◌, ℕ, List, ◌∷◌, ◌++◌, length, take, drop}
 use Rattle.green_tree.specs.Path.{Path}
@@ -37,9 +37,9 @@ module _ (e : GreenElement) (depth : ℕ) (s : Splice) where
   CanPutFrom =
       CanPut (element_tree e) (done_below s.done.now (take depth s.target.now.parent.now)) (drop depth s.target.now.parent.now) s.target.now.at
 
-  abbrev pub IsPutFrom : GreenElement → Type 0
-  IsPutFrom new =
-      element_tree new ≡ put (element_tree e) (done_below s.done.now (take depth s.target.now.parent.now)) (drop depth s.target.now.parent.now) s.target.now.at (element_trees s.given.now)
+  abbrev pub IsPutFrom : List SyntaxTree → GreenElement → Type 0
+  IsPutFrom ts new =
+      element_tree new ≡ put (element_tree e) (done_below s.done.now (take depth s.target.now.parent.now)) (drop depth s.target.now.parent.now) s.target.now.at ts
 
 abbrev pub CountsPut : ℕ → Splice → ℕ → ℕ → Type 0
 CountsPut depth s before after = after ≡ counted before (length (drop depth s.target.now.parent.now) + 1)

@@ -6,17 +6,16 @@
 --     OthersStay                     the other payloads are as they were
 --     CanSplice, Splices, SpliceStays, CountsSplice      the same in the payload of this owner, or in the tree
 --     RestStays                      all that is not a tree is as it was
---     TreesStay, WaitsOn, PutsRoot   trees and the count are as they were; one change more is done; what it gives is the new root, if it replaces the root
-use Rattle.std.specs.Prelude.{◌≡◌, ◌≢◌, ◌<◌, ◌||◌, ℕ, Bool, true, nat_eq, List, ◌∷◌, [], length, slice_get, slice_index_or, Option, Some, None, IsSomeAnd, MatchBool}
+--     AimsAtTop                      if a change replaces the root, it has no owner, and aims at the top
+--     PutsRoot                       what a change gives is the new root, if it replaces the root
+use Rattle.std.specs.Prelude.{◌≡◌, ◌≢◌, ◌<◌, ℕ, true, List, ◌∷◌, [], length, slice_index_or, Option, Some, None, IsSomeAnd, MatchBool}
 use Rattle.green_tree.specs.Path.{has_path}
 use Rattle.green_tree.specs.Tree.{SyntaxTree}
 use Rattle.green_tree.specs.Green.{Branch, branch_tree}
+use Rattle.edit_change.specs.Aim.{replaces}
 use Rattle.edit_change.specs.Rewriting.{NumberedAim}
 use Rattle.edit_change.specs.Change.{targets}
 use Rattle.edit_change.specs.declared.change.Change.{Change}
-use Rattle.edit_steps.specs.Schedule.{is_ready}
-use Rattle.edit_steps.specs.inner.Waiting.{IsWaiting}
-use Rattle.edit_steps.specs.declared.order.waiting.Waiting.{Waiting}
 use Rattle.edit_steps.specs.inner.Stage.{old_tree, StageCanStep, StageTakesStep, StageCountsStep}
 use Rattle.edit_steps.specs.inner.Stage as stage
 use Rattle.edit_steps.specs.declared.stage.Stage.{Stage}
@@ -71,15 +70,9 @@ module _ (before after : Stages) where
     pub new_root : after.new_root ≡ before.new_root
     pub waiting : after.waiting ≡ before.waiting
 
-  pub record TreesStay : Type 0 where
-    pub tree : after.tree ≡ before.tree
-    pub payloads : after.payloads ≡ before.payloads
-    pub builds : after.builds ≡ before.builds
-
--- ---- what is done
-abbrev pub WaitsOn : Waiting → Waiting → ℕ → Type 0
-WaitsOn before after n =
-    (cs : List Change) (done : ℕ → Bool) (c : Change) → IsWaiting cs done before → slice_get cs n ≡ Some c → is_ready cs done (n, c) ≡ true → IsWaiting cs (λ m. nat_eq n m || done m) after
+-- ---- a change that replaces the root
+abbrev pub AimsAtTop : Change → Option ℕ → NumberedAim → Type 0
+AimsAtTop c o a = has_path (targets c) [] ≡ true → (o ≡ None) × (replaces [] a.1 ≡ true)
 
 abbrev pub PutsRoot : Change → List SyntaxTree → Option Branch → Option Branch → Type 0
 PutsRoot c ts before after =

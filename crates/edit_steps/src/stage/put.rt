@@ -1,4 +1,5 @@
 ghost use Rattle.std.specs.Prelude.{◌≡◌, ◌≤◌, length, IfOk, OnOk};
+ghost use Rattle.green_tree.specs.GreenElement.{element_trees};
 ghost use Rattle.edit_change.specs.Effort.{counted};
 ghost use Rattle.edit_steps.specs.inner.CurrentPaths.{start, StartFits};
 ghost use Rattle.edit_steps.specs.inner.Putting.{CanPutFrom, IsPutFrom, CountsPut, IsSplicedNode};
@@ -6,7 +7,7 @@ ghost use Rattle.edit_steps.specs.inner.Putting.{CanPutFrom, IsPutFrom, CountsPu
 use crate::stage::aim_target::AimTarget;
 use crate::stage::done::{Among, Done};
 use crate::stage::done_table::DoneTable;
-use green_tree::{GreenElement, GreenNode, share_all};
+use green_tree::{GreenElement, GreenNode};
 use std::alloc::{AllocError, Global};
 
 // Where in the new child list of a node a gap or slots of the old one begin, after these changes.
@@ -18,15 +19,6 @@ fn start(done: &[Done], at: Among) -> usize
     let removed: usize = done.iter().map(|d| d.removed_before(slot)).sum();
     let added: usize = done.iter().map(|d| d.added_before(at)).sum();
     slot - removed + added
-}
-
-// These elements again, without a copy of what is in them.
-fn share_list(alloc: Global, elements: &[GreenElement]) -> Result<Vec<GreenElement>, AllocError>
-    ensures { IfOk result (λ v. v.items ≡ elements.now) }
-{
-    let mut out = Vec::with_capacity(alloc, elements.len())?;
-    share_all(alloc, &mut out, elements)?;
-    Ok(out)
 }
 
 // Nodes are made here alone, and counted. At the greatest number the count stays.
@@ -47,26 +39,26 @@ fn splice_node(
     Ok(GreenElement::Node(node.splice_children(alloc, first, end, new)?))
 }
 
-/// What one step puts into an element: these elements, where its target is after the changes that are done.
+/// Where one step puts elements: where its target is after the changes that are done.
 #[derive(Clone, Copy)]
 pub(crate) struct Splice<'a> {
     pub(crate) alloc: Global,
     pub(crate) done: &'a DoneTable,
     pub(crate) target: &'a AimTarget<'a>,
-    pub(crate) given: &'a [GreenElement],
 }
 
-// An element of the new tree with this splice done: the first `depth` slots of the target's path lead to the element. The nodes on the way are
-// built anew, and counted, and all else is shared. Only the changes at these nodes are looked at.
+// An element of the new tree with these elements put in: the first `depth` slots of the target's path lead to the element. The nodes on the way
+// are built anew, and counted, and all else is shared. Only the changes at these nodes are looked at.
 pub(crate) fn put(
     splice: &Splice,
+    given: Vec<GreenElement>,
     element: &GreenElement,
     depth: usize,
     builds: &mut u64,
 ) -> Result<GreenElement, AllocError>
     requires above { depth ≤ length splice.now.target.now.parent.now }
     requires there { CanPutFrom element.now depth splice.now }
-    ensures tree { IfOk result (IsPutFrom element.now depth splice.now) }
+    ensures tree { IfOk result (IsPutFrom element.now depth splice.now (element_trees given.items)) }
     ensures count { OnOk result (CountsPut depth splice.now builds.old builds.new) }
 {
     let GreenElement::Node(node) = element else {
@@ -79,15 +71,14 @@ pub(crate) fn put(
     let [slot, ..] = below else {
         let first = start(done_here, splice.target.at);
         let end = first + splice.target.at.count();
-        let new = share_list(alloc, splice.given)?;
-        return splice_node(alloc, node, first, end, new, builds);
+        return splice_node(alloc, node, first, end, given, builds);
     };
     let here = Among::Slots {
         first: *slot,
         count: 1,
     };
     let slot = start(done_here, here);
-    let child = put(splice, &children[slot], depth + 1, builds)?;
+    let child = put(splice, given, &children[slot], depth + 1, builds)?;
     let mut only = Vec::with_capacity(alloc, 1)?;
     only.push(child)?;
     splice_node(alloc, node, slot, slot + 1, only, builds)

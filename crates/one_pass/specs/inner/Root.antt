@@ -14,7 +14,7 @@ use Rattle.cst_core.specs.Green.{branch_tree}
 use Rattle.cst_core.specs.Element.{Element, address, subtree}
 use Rattle.cst_core.specs.SyntaxElement.{element_of}
 use Rattle.cst_core.specs.declared.element.SyntaxElement.{SyntaxElement}
-use Rattle.edit_change.specs.Topmost.{path_lists}
+use Rattle.edit_change.specs.inner.PathLists.{path_lists}
 use Rattle.one_pass.specs.inner.Sought.{sought_at}
 use Rattle.one_pass.specs.inner.OwnerTables.{AreGiven}
 use Rattle.edit_change.specs.Results.{changed, copies_of}

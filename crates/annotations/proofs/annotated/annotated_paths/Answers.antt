@@ -4,7 +4,7 @@ use Rattle.cst_core.specs.Path.{Path}
 use Rattle.edit_change.specs.Topmost.{paths_of}
 use Rattle.annotations.specs.AnnotationTable.{annotated_path}
 use Rattle.annotations.specs.inner.Annotating.{numbered_paths}
-use Rattle.edit_change.specs.Topmost.{path_lists}
+use Rattle.edit_change.specs.inner.PathLists.{path_lists}
 use Rattle.annotations.proofs.annotated.annotated_paths.Goals as goal
 
 none-numbered : (ns : List ℕ) → numbered_paths ns [] ≡ []

@@ -1,7 +1,7 @@
 use Rattle.std.proofs.Common.{◌≡◌, ◌++◌, map}
 use Rattle.annotations.specs.AnnotationTable.{annotated_path}
 use Rattle.annotations.specs.inner.Annotating.{numbered_paths}
-use Rattle.edit_change.specs.Topmost.{path_lists}
+use Rattle.edit_change.specs.inner.PathLists.{path_lists}
 use Rattle.annotations.proofs.annotated.annotated_paths.Given as goal
 
 abbrev pub invariant-loop-registration : goal.invariant-loop-registration

@@ -8,7 +8,7 @@ use Rattle.edit_change.specs.Topmost.{paths_of}
 use Rattle.edit_plan.specs.Plan.{Plan}
 use Rattle.annotations.specs.AnnotationTable.{annotated_path}
 use Rattle.annotations.specs.inner.Annotating.{numbered_paths}
-use Rattle.edit_change.specs.Topmost.{path_lists}
+use Rattle.edit_change.specs.inner.PathLists.{path_lists}
 use Rattle.std.specs.Prelude.{length}
 use Rattle.cst_core.specs.Element.{IsNode}
 use Rattle.edit_change.specs.Fits.{Fits}

@@ -49,9 +49,9 @@ returns-clause-done c = λ given xs ys stage next gives.
     let a = c.in-Some.target.at in
     let live = found-live (old_tree s) aim.path.now aim.form (site_of c.in-Some.target) (sym c.in-Some.ensures) in
     let made = made-live (old_tree s) given xs (numbered aim) ys (done_at s.done) p a stage.counted live next in
-    let wide : length c.args.given.now ≡ length (given aim.change) = sym (length-map c.args.given.now element_tree) ∙ ap length (sym gives) in
+    let wide : c.len.result ≡ length (given aim.change) = c.len.ensures ∙ c.args.given.ok.0 ∙ sym (length-map c.args.given.items element_tree) ∙ ap length (sym gives) in
     record {
-      tree = c.in_ok-new.ensures.tree ∙ ap (λ t. put t (done_at s.done) p a (element_trees c.args.given.now)) stage.tree ∙ ap (put _ (done_at s.done) p a) (sym gives) ∙ made.tree;
+      tree = c.in_ok-new.ensures.tree ∙ ap (λ t. put t (done_at s.done) p a (element_trees c.args.given.items)) stage.tree ∙ ap (put _ (done_at s.done) p a) (sym gives) ∙ made.tree;
       counted = made.counted (done_at c.add.new.self) (λ q. c.in_ok-add.ensures.ok q ∙ ap (λ w. let d : Done = record { at = a; width = w } in cond (same_path q p) (done_at s.done p ++ d ∷ []) (done_at s.done q)) wide);
     }
 

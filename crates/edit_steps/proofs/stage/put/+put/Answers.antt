@@ -8,7 +8,7 @@ use Rattle.green_tree.proofs.Slots.{path_ends, slice_get-child}
 use Rattle.edit_change.specs.Effort.{counted}
 use Rattle.edit_change.proofs.AlteredNodes.{on_ok, if_ok-map}
 use Rattle.edit_steps.specs.declared.stage.done.Among.TheVariants.{Slots}
-use Rattle.edit_steps.specs.inner.CurrentPaths.{count_of, start, current_path, done_at, done_below, StartFits}
+use Rattle.edit_steps.specs.inner.CurrentPaths.{start, current_path, done_at, done_below, StartFits}
 use Rattle.edit_steps.proofs.Putting.{no-token, at-end, put-end, further, put-further, done_here, way_here, done_next}
 use Rattle.edit_steps.proofs.stage.put.+put.Goals as goal
 
@@ -82,11 +82,10 @@ returns-in_default-below-clause-tree t c =
     let none = sym c.split_at.ensures.back ∙ path_ends c.split_at.result.1.now c.in_default-below.len_below in
     let e = at-end (element_tree c.args.element.now) branch.kind branch.children top done ds these (drop d path) a none c.requires.there in
     let many = ap length (sym c.children-children.ensures) ∙ length-map c.children-children.result.now element_tree in
-    let given = c.args.splice.now.given.now in
-    let first = ap₂ (λ s n. node branch.kind (take s branch.children ++ element_trees c.in_ok-new.new.items ++ drop (s + n) branch.children)) c.start-first.ensures c.count.ensures in
-    let new = ap (λ es. node branch.kind (take (start ds a) branch.children ++ element_trees es ++ drop (start ds a + count_of a) branch.children)) c.in_ok-new.ensures in
+    let given = c.args.given.items in
+    let first = ap₂ (λ s n. node branch.kind (take s branch.children ++ element_trees given ++ drop (s + n) branch.children)) c.start-first.ensures c.count.ensures in
     let put_here = sym (put-end (element_tree c.args.element.now) branch.kind branch.children top done ds these (drop d path) a none (element_trees given)) in
-    if_ok-map _ _ c.splice_node.result (λ e made. made ∙ first ∙ new ∙ put_here) c.splice_node.ensures.tree
+    if_ok-map _ _ c.splice_node.result (λ e made. made ∙ first ∙ put_here) c.splice_node.ensures.tree
 
 pub returns-in_default-below-clause-count : goal.returns-in_default-below-clause-count
 returns-in_default-below-clause-count t c =
@@ -236,7 +235,7 @@ returns-clause-tree t c =
     let found = ap (slice_get branch.children) (sym begins) ∙ sym (ap (λ us. slice_get us c.start-slot.result) (trees-forest branch.children)) ∙ slice_get-child branch c.children-children.result.now c.start-slot.result child c.children-children.ensures (omega (arith, f.inside)) c.index-children-slot.is in
     let only = ap element_trees (c.in_ok-push.ensures.items ∙ ap (λ es. es ++ c.in_ok-child.child ∷ []) c.in_ok-only.ensures.items) ∙ ap (λ u. u ∷ []) c.in_ok-child.ensures.tree in
     let new = ap₂ (λ us s. node branch.kind (take s branch.children ++ us ++ drop (s + 1) branch.children)) only begins in
-    let put_below = sym (put-further (element_tree c.args.element.now) branch.kind branch.children top done ds these (drop d path) a i rest (way_here index path d long) (done_below index (take (d + 1) path)) (done_next index path d long) (element_trees c.args.splice.now.given.now) (element_tree child) found) in
+    let put_below = sym (put-further (element_tree c.args.element.now) branch.kind branch.children top done ds these (drop d path) a i rest (way_here index path d long) (done_below index (take (d + 1) path)) (done_next index path d long) (element_trees c.args.given.items) (element_tree child) found) in
     if_ok-map _ _ c.splice_node-2.result (λ e made. made ∙ new ∙ put_below) c.splice_node-2.ensures.tree
 
 pub returns-clause-count : goal.returns-clause-count
