@@ -4,6 +4,7 @@ mod AllTouched
 mod AllowedRuns
 mod ByAnnotation
 mod PromisesOfRuns
+mod NextReady
 mod Exchanged
 mod Filled
 mod FoundNodes

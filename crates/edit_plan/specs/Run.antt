@@ -4,11 +4,13 @@
 --     is_done                       the change at a number is done
 --     IsRun                         what is true of every run
 --     TellsReady, CanStep           an answer tells whether a change can be the next; it can be
+--     next_ready                    the least change that can be the next
 --     ShowsTree, IsPayloadAt         the tree at this stage; the payload of a change at this stage
 --     ShowsPayload                  the same of a payload in code, which there is exactly if other changes can be carried out in it
 --     way_length                    one more than the length of the path of the node whose children a change alters: 0 for a replaced root
 --     CountsWay, CountsStep         how a count rises by the way to a change; by a step
-use Rattle.std.specs.Prelude.{◌≡◌, ◌+◌, ℕ, Bool, true, false, List, [], ◌∷◌, map, length, sum_by, slice_get, slice_index_or, Option, Some, is_some, IfSome, IsSomeAnd}
+use Rattle.std.specs.Prelude.{◌≡◌, ◌+◌, ℕ, Bool, true, false, List, [], ◌∷◌, map, length, sum_by, slice_get, slice_index_or, find, Option, Some, option_map, is_some, IfSome, IsSomeAnd}
+use Rattle.std.specs.List.{enumerate_from}
 use Rattle.std.specs.Borrow.{Bor}
 use Rattle.cst_core.specs.Path.{Path}
 use Rattle.cst_core.specs.Tree.{SyntaxTree}
@@ -49,6 +51,9 @@ TellsReady r n answer = (c : Change) → slice_get r.plan.changes n ≡ Some c �
 
 abbrev pub CanStep : Run → ℕ → Type 0
 CanStep r n = IsSomeAnd (slice_get r.plan.changes n) (λ c. is_ready r.plan.changes (is_done r) (n, c) ≡ true)
+
+abbrev pub next_ready : Run → Option ℕ
+next_ready r = option_map (λ c. c.0) (find (is_ready r.plan.changes (is_done r)) (enumerate_from 0 r.plan.changes))
 
 -- ---- the stage
 abbrev pub ShowsTree : Run → SyntaxTree → Type 0

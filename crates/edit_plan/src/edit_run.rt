@@ -1,12 +1,13 @@
 //! A plan carried out one change at a time, in any order that is allowed.
 
-ghost use Rattle.std.specs.Prelude.{◌≡◌, ◌+◌, ◌<◌, Some, true, slice_set, length, slice_get, IfOk, IfErr, OnOk, OnErr};
+ghost use Rattle.std.specs.Prelude.{◌≡◌, ◌↔◌, ◌+◌, ◌<◌, None, true, slice_set, length, IfOk, IfErr, IfSome, OnOk, OnErr};
 ghost use Rattle.cst_core.specs.Green.{branch_tree, length_limit};
 ghost use Rattle.cst_core.specs.Tree.{text_length};
-ghost use Rattle.edit_steps.specs.Schedule.{is_ready, is_complete};
+ghost use Rattle.edit_steps.specs.Schedule.{is_complete};
 ghost use Rattle.edit_plan.specs.Plan.{Makes, RunRefuses};
 ghost use Rattle.edit_plan.specs.Engine.{HasRewritten, EngineRefuses, CountsTouched};
-ghost use Rattle.edit_plan.specs.Run.{IsRun, new_run, is_done, TellsReady, CanStep, ShowsTree, ShowsPayload, CountsStep};
+ghost use Rattle.edit_plan.specs.Run.{IsRun, new_run, is_done, TellsReady, CanStep, next_ready};
+ghost use Rattle.edit_plan.specs.Run.{ShowsTree, ShowsPayload, CountsStep};
 
 use crate::edit::SyntaxEdit;
 use crate::edit_error::EditError;
@@ -76,6 +77,23 @@ impl<'a> EditRun<'a> {
         ensures { TellsReady self.now change result }
     {
         self.stages.ready(change)
+    }
+
+    /// The least change that may be carried out next. `None` where the run is complete, and only there.
+    ///
+    /// Looks at one change after another, so a run that asks for each of its steps takes time in the square of the changes at the worst;
+    /// `EditPlan::default_order` gives all steps at once.
+    pub fn next_ready(&self) -> Option<usize>
+        ensures least { result ≡ next_ready self.now }
+        ensures step { IfSome result (CanStep self.now) }
+        ensures none { (result ≡ None) ↔ (is_complete self.now.plan.changes (is_done self.now) ≡ true) }
+    {
+        for change in 0..self.plan().len() {
+            if self.ready(change) {
+                return Some(change);
+            }
+        }
+        None
     }
 
     /// Carries out a change: one splice of the tree, or of the payload of the change's owner.

@@ -94,6 +94,13 @@ impl EditPlan {
         self.changes.is_empty()
     }
 
+    /// The changes, in the order of their numbers.
+    pub fn changes(&self) -> &[Change]
+        ensures { result.now ≡ self.now.changes }
+    {
+        self.changes.as_slice()
+    }
+
     /// Whether a change lies in what another one takes away.
     pub fn is_dropped(&self, change: usize) -> bool
         requires { change < length self.now.changes }

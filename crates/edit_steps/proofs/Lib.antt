@@ -27,6 +27,7 @@ mod PathOrder
 mod Putting
 mod Readiness
 mod RootSteps
+pub mod SomeReady
 mod ReplacedRoot
 mod Rows
 pub mod Splits

@@ -6,6 +6,7 @@ use crate::answers::{number_answer, number_or_none, ok, refusal_text, truth};
 use crate::arguments::{insertion, insertions, range_replacements, replacements, two_elements};
 use crate::editors::take_last;
 use crate::making::annotation;
+use crate::recorded::deleted_paths;
 use crate::roots::Roots;
 use crate::session::Session;
 use cst_core::SyntaxNode;
@@ -27,6 +28,7 @@ pub fn answer(
         "register" => register(alloc, session, words),
         "build" => build(alloc, session, words),
         "is_empty" => is_empty(alloc, session),
+        "plan_deletions" => deletions(alloc, session),
         "is_dropped" => is_dropped(alloc, session, words),
         "owner" => owner(alloc, session, words),
         _ => return None,
@@ -160,6 +162,11 @@ fn change_number(plan: &EditPlan, words: &mut Words) -> Result<usize, NoAnswer>
 
 fn is_empty(alloc: Global, session: &mut Session) -> Result<String, NoAnswer> {
     truth(alloc, last(session)?.is_empty())
+}
+
+// The paths of what the changes of the last plan delete, one element each, in their order.
+fn deletions(alloc: Global, session: &mut Session) -> Result<String, NoAnswer> {
+    deleted_paths(alloc, last(session)?.changes())
 }
 
 fn is_dropped(alloc: Global, session: &mut Session, words: &mut Words) -> Result<String, NoAnswer> {

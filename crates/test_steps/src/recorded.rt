@@ -48,8 +48,13 @@ fn truth_or_memory(alloc: Global, called: Result<bool, AllocError>) -> Result<St
 // The paths of what is deleted, one element each, in the order of the changes.
 fn deletions(alloc: Global, session: &mut Session) -> Result<String, NoAnswer> {
     let editor = last(&mut session.editors)?;
+    deleted_paths(alloc, editor.changes())
+}
+
+/// The paths of what changes delete, one element each, in the order of the changes.
+pub fn deleted_paths(alloc: Global, changes: &[Change]) -> Result<String, NoAnswer> {
     let mut paths = String::new(alloc);
-    for change in editor.changes() {
+    for change in changes {
         if let Change::Replace(element, None) = change {
             push_item(&mut paths, element.slots())?;
         }

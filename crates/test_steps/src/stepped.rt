@@ -72,6 +72,7 @@ impl<'a> Stepped<'a> {
         match word {
             "green" => self.push_tree(),
             "ready" => self.push_ready(),
+            "next" => self.push_next(),
             "builds" => self.push_builds(),
             "complete" => self.push_complete(),
             "plan" => self.push_plan(),
@@ -156,6 +157,14 @@ impl<'a> Stepped<'a> {
     fn push_ready(&mut self) -> Result<(), NoAnswer> {
         let ready = self.ready()?;
         self.push(&ready)
+    }
+
+    // The least change that may be the next one.
+    fn push_next(&mut self) -> Result<(), NoAnswer> {
+        match self.run.next_ready() {
+            Some(change) => Ok(write!(self.answer, " {change}")?),
+            None => self.push("none"),
+        }
     }
 
     // The changes that may be the next ones, between braces.
