@@ -16,6 +16,7 @@ pub use Rattle.edit_change.specs.TouchedNodes
 pub mod EditRefusal
 pub mod Plan
 pub mod Engine
+pub mod PlanErrorNames
 pub mod Run
 pub mod ExecuteRefusal
 pub use Rattle.edit_change.specs.RewritingLaws

@@ -1,3 +1,6 @@
+ghost use Rattle.std.specs.Prelude.{◌≡◌};
+ghost use Rattle.edit_plan.specs.PlanErrorNames.{edit_error_name};
+
 use crate::engine_error::EngineError;
 use cst_core::TreeError;
 use edit_change::ClashError;
@@ -8,20 +11,35 @@ use thiserror::Error;
 #[derive(Debug, PartialEq, Eq, Drop, Error)]
 pub enum EditError {
     /// Two replacements have a target in common: those with the least second number, and then with the least first.
-    #[error("Intersecting {first} {second}")]
+    #[error("changes {first} and {second} replace or delete the same element")]
     Intersecting { first: usize, second: usize },
     /// A change lies inside a node that another one, its owner, replaces by a node, and has no place in that node: the least such change.
-    #[error("MissingMapping {change} {owner}")]
+    #[error("change {change} lies at or in the node that change {owner} replaces, and no mapping says where that node is inside the new one")]
     MissingMapping { change: usize, owner: usize },
     /// The text of the new tree passes 4,294,967,295 bytes.
-    #[error("TooLong")]
+    #[error("the text of the new tree is longer than 4,294,967,295 bytes")]
     TooLong,
     /// The source of tree numbers is spent.
-    #[error("NoTreeNumber")]
+    #[error("the source of tree numbers has no number left")]
     NoTreeNumber,
     /// Memory was refused.
-    #[error("Memory")]
+    #[error("memory ran out")]
     Memory,
+}
+
+impl EditError {
+    /// The name of the case alone, as `Intersecting`.
+    pub fn name(&self) -> &'static str
+        ensures { result.now ≡ edit_error_name self.now }
+    {
+        match self {
+            EditError::Intersecting { .. } => "Intersecting",
+            EditError::MissingMapping { .. } => "MissingMapping",
+            EditError::TooLong => "TooLong",
+            EditError::NoTreeNumber => "NoTreeNumber",
+            EditError::Memory => "Memory",
+        }
+    }
 }
 
 impl From<AllocError> for EditError {

@@ -1,3 +1,6 @@
+ghost use Rattle.std.specs.Prelude.{◌≡◌};
+ghost use Rattle.edit_plan.specs.PlanErrorNames.{execute_error_name};
+
 use crate::edit_error::EditError;
 use edit_steps::OrderError;
 use std::alloc::{AllocError, AllocFailed};
@@ -7,20 +10,35 @@ use thiserror::Error;
 #[derive(Debug, PartialEq, Eq, Drop, Error)]
 pub enum ExecuteError {
     /// A change that is not dropped is missing from the order or there twice, or another number is there.
-    #[error("NotEachOnce")]
+    #[error("the order must have each change that is not dropped exactly once, and no other number")]
     NotEachOnce,
     /// A change comes after its owner.
-    #[error("OwnerTooEarly")]
+    #[error("a change must come before its owner, the change that replaces the node round it")]
     OwnerTooEarly,
     /// Two inserts of one gap come in the wrong order.
-    #[error("GapOutOfOrder")]
+    #[error("of two inserts into one gap, the one that was recorded last must come first")]
     GapOutOfOrder,
     /// A token is replaced before an insert after it.
-    #[error("TokenTooEarly")]
+    #[error("an insert after a token must come before the change that replaces or deletes the token")]
     TokenTooEarly,
     /// The order is allowed, and the edit is refused: `TooLong`, `NoTreeNumber` or `Memory`.
     #[error(transparent)]
     Edit(EditError),
+}
+
+impl ExecuteError {
+    /// The name of the case alone, as `NotEachOnce`.
+    pub fn name(&self) -> &'static str
+        ensures { result.now ≡ execute_error_name self.now }
+    {
+        match self {
+            ExecuteError::NotEachOnce => "NotEachOnce",
+            ExecuteError::OwnerTooEarly => "OwnerTooEarly",
+            ExecuteError::GapOutOfOrder => "GapOutOfOrder",
+            ExecuteError::TokenTooEarly => "TokenTooEarly",
+            ExecuteError::Edit(inner) => inner.name(),
+        }
+    }
 }
 
 impl From<OrderError> for ExecuteError {

@@ -1,1 +1,2 @@
+pub mod RefusalText
 pub mod inner

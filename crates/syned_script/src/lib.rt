@@ -5,6 +5,7 @@ mod carried_out;
 mod line;
 mod name;
 mod reference;
+mod refusal;
 mod roots;
 mod session;
 mod stop;
@@ -12,6 +13,7 @@ mod told;
 mod words;
 
 pub use carried_out::{CarriedOut, Recorded, carry_out, record_script};
-pub use stop::{Refusal, Stop, Stopped};
+pub use refusal::Refusal;
+pub use stop::{Stop, Stopped};
 pub use told::Told;
 pub use words::{Word, Words};

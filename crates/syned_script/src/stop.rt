@@ -1,7 +1,7 @@
+use crate::refusal::Refusal;
 use cst_core::TreeError;
 use std::alloc::{AllocError, AllocFailed};
 use syntax_editor::{EditError, ExecuteError, MapError, RecordError};
-use thiserror::Error;
 use tree_text::ExpressionError;
 
 /// Why a script ends at a line.
@@ -26,21 +26,6 @@ impl Stop {
     pub(crate) fn at(self, line: usize) -> Stopped {
         Stopped { line, stop: self }
     }
-}
-
-/// A refusal of a call, which prints its name.
-#[derive(Debug, Drop, Error)]
-pub enum Refusal {
-    #[error("{0}")]
-    Tree(TreeError),
-    #[error("{0}")]
-    Map(MapError),
-    #[error("{0}")]
-    Record(RecordError),
-    #[error("{0}")]
-    Edit(EditError),
-    #[error("{0}")]
-    Order(ExecuteError),
 }
 
 impl From<AllocError> for Stop {

@@ -1,6 +1,7 @@
 pub use Rattle.cst_core.specs.Kinds
 pub use Rattle.cst_core.specs.SyntaxKind
 pub use Rattle.cst_core.specs.TreeError
+pub use Rattle.cst_core.specs.TreeErrorName
 pub use Rattle.cst_core.specs.Path
 pub use Rattle.cst_core.specs.Tree
 pub use Rattle.cst_core.specs.Order
@@ -12,6 +13,7 @@ pub use Rattle.cst_core.specs.SyntaxElement
 pub use Rattle.cst_core.specs.Navigation
 pub use Rattle.cst_core.specs.declared.element.SyntaxElement as ElementForms
 pub use Rattle.edit_map.specs.declared.map_error.MapError
+pub use Rattle.edit_map.specs.MapErrorName
 pub use Rattle.edit_map.specs.Mapping
 pub use Rattle.edit_map.specs.Builder
 pub use Rattle.edit_map.specs.Following
@@ -34,6 +36,7 @@ pub use Rattle.edit_plan.specs.EditRefusal
 pub use Rattle.edit_plan.specs.declared.edit_error.EditError
 pub use Rattle.edit_plan.specs.declared.engine_error.EngineError
 pub use Rattle.edit_plan.specs.declared.execute_error.ExecuteError
+pub use Rattle.edit_plan.specs.PlanErrorNames
 pub use Rattle.edit_plan.specs.Plan
 pub use Rattle.edit_plan.specs.Engine
 pub use Rattle.edit_plan.specs.Run
@@ -43,6 +46,7 @@ pub use Rattle.edit_change.specs.Rewriting
 pub use Rattle.edit_change.specs.RewritingLaws
 pub use Rattle.whitespace.specs.declared.level.IndentLevel
 pub use Rattle.whitespace.specs.declared.indent_error.IndentError
+pub use Rattle.whitespace.specs.IndentErrorName
 pub use Rattle.whitespace.specs.Level
 pub use Rattle.whitespace.specs.LevelCalls
 pub use Rattle.whitespace.specs.Indentation
@@ -62,4 +66,5 @@ pub mod Merging
 pub mod TypedIndents
 pub mod Lending
 pub mod EditorLaws
+pub mod EditorErrorNames
 pub mod inner

@@ -1,3 +1,6 @@
+ghost use Rattle.std.specs.Prelude.{◌≡◌};
+ghost use Rattle.syntax_editor.specs.EditorErrorNames.{error_name};
+
 use crate::error::{MergeError, RecordError};
 use cst_core::TreeError;
 use edit_map::MapError;
@@ -31,8 +34,26 @@ pub enum Error {
     #[error(transparent)]
     Execute(ExecuteError),
     /// Memory was refused to a call that is refused for nothing else.
-    #[error("Memory")]
+    #[error("memory ran out")]
     Memory,
+}
+
+impl Error {
+    /// The name of the case alone, as `Foreign`.
+    pub fn name(&self) -> &'static str
+        ensures { result.now ≡ error_name self.now }
+    {
+        match self {
+            Error::Tree(inner) => inner.name(),
+            Error::Map(inner) => inner.name(),
+            Error::Record(inner) => inner.name(),
+            Error::Merge(inner) => inner.name(),
+            Error::Indent(inner) => inner.name(),
+            Error::Edit(inner) => inner.name(),
+            Error::Execute(inner) => inner.name(),
+            Error::Memory => "Memory",
+        }
+    }
 }
 
 impl From<AllocError> for Error {

@@ -1,17 +1,41 @@
-//! What errors print.
+//! What errors print: for a user a sentence, and the name of the case.
 
 use cst_core::TreeError;
 use std::alloc::{AllocError, Global};
+use std::fmt::Display;
+use syntax_editor::{
+    EditError, EngineError, Error, ExecuteError, IndentError, MapError, MergeError, RecordError,
+};
 use test_trees::{NoAnswer, RowError, find_named};
+use tree_text::ExpressionError;
 
 #[derive(Clone, Copy)]
 pub enum ErrorQuestion {
     TreeError,
+    MapError,
+    RecordError,
+    MergeError,
+    IndentError,
+    EditError,
+    EngineError,
+    ExecuteError,
+    Error,
+    ExpressionError,
     RowError,
 }
 
-const NAMES: [(&str, ErrorQuestion); 2] = [
+// By the type of the error.
+const NAMES: [(&str, ErrorQuestion); 11] = [
     ("tree_error", ErrorQuestion::TreeError),
+    ("map_error", ErrorQuestion::MapError),
+    ("record_error", ErrorQuestion::RecordError),
+    ("merge_error", ErrorQuestion::MergeError),
+    ("indent_error", ErrorQuestion::IndentError),
+    ("edit_error", ErrorQuestion::EditError),
+    ("engine_error", ErrorQuestion::EngineError),
+    ("execute_error", ErrorQuestion::ExecuteError),
+    ("error", ErrorQuestion::Error),
+    ("expression_error", ErrorQuestion::ExpressionError),
     ("row_error", ErrorQuestion::RowError),
 ];
 
@@ -19,6 +43,89 @@ const TREE_ERRORS: [(&str, TreeError); 3] = [
     ("TooLong", TreeError::TooLong),
     ("NoTreeNumber", TreeError::NoTreeNumber),
     ("Memory", TreeError::Memory),
+];
+
+const MAP_ERRORS: [(&str, MapError); 5] = [
+    ("NotAChild", MapError::NotAChild),
+    ("NotYounger", MapError::NotYounger),
+    ("OtherShape", MapError::OtherShape),
+    ("MoreInputs", MapError::MoreInputs),
+    ("Memory", MapError::Memory),
+];
+
+const RECORD_ERRORS: [(&str, RecordError); 7] = [
+    ("Foreign", RecordError::Foreign),
+    ("BadRange", RecordError::BadRange),
+    ("DeletesRoot", RecordError::DeletesRoot),
+    ("RootReplacement", RecordError::RootReplacement),
+    ("LevelTooLarge", RecordError::LevelTooLarge),
+    ("NoTreeNumber", RecordError::NoTreeNumber),
+    ("Memory", RecordError::Memory),
+];
+
+const MERGE_ERRORS: [(&str, MergeError); 2] = [
+    ("OtherRoot", MergeError::OtherRoot),
+    ("Memory", MergeError::Memory),
+];
+
+const INDENT_ERRORS: [(&str, IndentError); 5] = [
+    ("LevelTooLarge", IndentError::LevelTooLarge),
+    ("TooLong", IndentError::TooLong),
+    ("NoTreeNumber", IndentError::NoTreeNumber),
+    ("NotYounger", IndentError::NotYounger),
+    ("Memory", IndentError::Memory),
+];
+
+const EDIT_ERRORS: [(&str, EditError); 5] = [
+    (
+        "Intersecting",
+        EditError::Intersecting {
+            first: 0,
+            second: 2,
+        },
+    ),
+    (
+        "MissingMapping",
+        EditError::MissingMapping {
+            change: 1,
+            owner: 0,
+        },
+    ),
+    ("TooLong", EditError::TooLong),
+    ("NoTreeNumber", EditError::NoTreeNumber),
+    ("Memory", EditError::Memory),
+];
+
+const ENGINE_ERRORS: [(&str, EngineError); 2] = [
+    ("TooLong", EngineError::TooLong),
+    ("Memory", EngineError::Memory),
+];
+
+const EXECUTE_ERRORS: [(&str, ExecuteError); 5] = [
+    ("NotEachOnce", ExecuteError::NotEachOnce),
+    ("OwnerTooEarly", ExecuteError::OwnerTooEarly),
+    ("GapOutOfOrder", ExecuteError::GapOutOfOrder),
+    ("TokenTooEarly", ExecuteError::TokenTooEarly),
+    ("Edit", ExecuteError::Edit(EditError::TooLong)),
+];
+
+const ANY_ERRORS: [(&str, Error); 8] = [
+    ("Tree", Error::Tree(TreeError::TooLong)),
+    ("Map", Error::Map(MapError::NotAChild)),
+    ("Record", Error::Record(RecordError::BadRange)),
+    ("Merge", Error::Merge(MergeError::OtherRoot)),
+    ("Indent", Error::Indent(IndentError::LevelTooLarge)),
+    ("Edit", Error::Edit(EditError::NoTreeNumber)),
+    ("Execute", Error::Execute(ExecuteError::NotEachOnce)),
+    ("Memory", Error::Memory),
+];
+
+const EXPRESSION_ERRORS: [(&str, ExpressionError); 5] = [
+    ("Malformed", ExpressionError::Malformed),
+    ("UnknownKind", ExpressionError::UnknownKind),
+    ("TooDeep", ExpressionError::TooDeep),
+    ("Tree", ExpressionError::Tree(TreeError::NoTreeNumber)),
+    ("Memory", ExpressionError::Memory),
 ];
 
 const ROW_ERRORS: [(&str, RowError); 5] = [
@@ -35,29 +142,88 @@ impl ErrorQuestion {
     }
 }
 
-/// `tree_error VARIANT` or `row_error VARIANT`
-pub fn answer(alloc: Global, question: ErrorQuestion, variant: &str) -> Result<String, NoAnswer> {
+/// `map_error CASE`, and the same of each other type: the name of the case, and the sentence that it prints. An error that
+/// holds another one is by the name of its variant, as `execute_error Edit`. Of `row_error VARIANT` the name alone.
+pub fn answer(alloc: Global, question: ErrorQuestion, case: &str) -> Result<String, NoAnswer> {
     match question {
-        ErrorQuestion::TreeError => tree_error(alloc, variant),
-        ErrorQuestion::RowError => row_error(alloc, variant),
+        ErrorQuestion::TreeError => tree_error(alloc, case),
+        ErrorQuestion::MapError => map_error(alloc, case),
+        ErrorQuestion::RecordError => record_error(alloc, case),
+        ErrorQuestion::MergeError => merge_error(alloc, case),
+        ErrorQuestion::IndentError => indent_error(alloc, case),
+        ErrorQuestion::EditError => edit_error(alloc, case),
+        ErrorQuestion::EngineError => engine_error(alloc, case),
+        ErrorQuestion::ExecuteError => execute_error(alloc, case),
+        ErrorQuestion::Error => error(alloc, case),
+        ErrorQuestion::ExpressionError => expression_error(alloc, case),
+        ErrorQuestion::RowError => row_error(alloc, case),
     }
 }
 
-fn tree_error(alloc: Global, variant: &str) -> Result<String, NoAnswer> {
-    if variant == "AllocError" {
+fn told<E: Display>(alloc: Global, name: &str, error: &E) -> Result<String, NoAnswer> {
+    Ok(format!(in alloc; "{name}: {error}")?)
+}
+
+fn tree_error(alloc: Global, case: &str) -> Result<String, NoAnswer> {
+    if case == "AllocError" {
         return want_of_memory(alloc);
     }
-    let error = find_named(&TREE_ERRORS, variant).ok_or(NoAnswer::Arguments)?;
-    Ok(error.to_string(alloc)?)
+    let error = find_named(&TREE_ERRORS, case).ok_or(NoAnswer::Arguments)?;
+    told(alloc, error.name(), error)
 }
 
 // The tree error that want of memory is turned into.
 fn want_of_memory(alloc: Global) -> Result<String, NoAnswer> {
     let error = TreeError::from(AllocError);
-    Ok(error.to_string(alloc)?)
+    told(alloc, error.name(), &error)
 }
 
-fn row_error(alloc: Global, variant: &str) -> Result<String, NoAnswer> {
-    let error = find_named(&ROW_ERRORS, variant).ok_or(NoAnswer::Arguments)?;
+fn map_error(alloc: Global, case: &str) -> Result<String, NoAnswer> {
+    let error = find_named(&MAP_ERRORS, case).ok_or(NoAnswer::Arguments)?;
+    told(alloc, error.name(), error)
+}
+
+fn record_error(alloc: Global, case: &str) -> Result<String, NoAnswer> {
+    let error = find_named(&RECORD_ERRORS, case).ok_or(NoAnswer::Arguments)?;
+    told(alloc, error.name(), error)
+}
+
+fn merge_error(alloc: Global, case: &str) -> Result<String, NoAnswer> {
+    let error = find_named(&MERGE_ERRORS, case).ok_or(NoAnswer::Arguments)?;
+    told(alloc, error.name(), error)
+}
+
+fn indent_error(alloc: Global, case: &str) -> Result<String, NoAnswer> {
+    let error = find_named(&INDENT_ERRORS, case).ok_or(NoAnswer::Arguments)?;
+    told(alloc, error.name(), error)
+}
+
+fn edit_error(alloc: Global, case: &str) -> Result<String, NoAnswer> {
+    let error = find_named(&EDIT_ERRORS, case).ok_or(NoAnswer::Arguments)?;
+    told(alloc, error.name(), error)
+}
+
+fn engine_error(alloc: Global, case: &str) -> Result<String, NoAnswer> {
+    let error = find_named(&ENGINE_ERRORS, case).ok_or(NoAnswer::Arguments)?;
+    told(alloc, error.name(), error)
+}
+
+fn execute_error(alloc: Global, case: &str) -> Result<String, NoAnswer> {
+    let error = find_named(&EXECUTE_ERRORS, case).ok_or(NoAnswer::Arguments)?;
+    told(alloc, error.name(), error)
+}
+
+fn error(alloc: Global, case: &str) -> Result<String, NoAnswer> {
+    let error = find_named(&ANY_ERRORS, case).ok_or(NoAnswer::Arguments)?;
+    told(alloc, error.name(), error)
+}
+
+fn expression_error(alloc: Global, case: &str) -> Result<String, NoAnswer> {
+    let error = find_named(&EXPRESSION_ERRORS, case).ok_or(NoAnswer::Arguments)?;
+    told(alloc, error.name(), error)
+}
+
+fn row_error(alloc: Global, case: &str) -> Result<String, NoAnswer> {
+    let error = find_named(&ROW_ERRORS, case).ok_or(NoAnswer::Arguments)?;
     Ok(error.to_string(alloc)?)
 }

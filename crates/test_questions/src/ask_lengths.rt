@@ -3,7 +3,7 @@
 use crate::shown::{number_or_error, number_or_none, row_refusal};
 use cst_core::{GreenNode, LENGTH_LIMIT, SyntaxKind, SyntaxNode, TreeError, TreeIds};
 use std::alloc::Global;
-use test_trees::{NoAnswer, Trees, Words, find_named, halves, number, p};
+use test_trees::{NoAnswer, Trees, Words, find_named, halves, number, p, word};
 
 #[derive(Clone, Copy)]
 pub enum LengthQuestion {
@@ -60,7 +60,7 @@ fn node_of_halves(alloc: Global, count: usize) -> Result<String, NoAnswer> {
     match GreenNode::new(alloc, SyntaxKind::LITERAL, halves(alloc, count)?) {
         Ok(node) => number(alloc, node.length()),
         Err(TreeError::Memory) => Err(NoAnswer::Refused("GreenNode::new")),
-        Err(error) => Ok(error.to_string(alloc)?),
+        Err(error) => word(alloc, error.name()),
     }
 }
 

@@ -1,8 +1,8 @@
 //! What a step answers, as a row has it: `ok` and what it gives, or the name of the refusal; or a fact.
 
+use crate::refused::{Refused, refusal_text};
 use cst_core::{SyntaxElement, SyntaxNode};
 use std::alloc::{AllocError, Global};
-use std::fmt::Display;
 use test_trees::{NoAnswer, push_path, push_quoted, word};
 
 // Texts up to this length are shown.
@@ -24,10 +24,6 @@ pub fn some(alloc: Global, is_some: bool) -> Result<String, NoAnswer> {
     if is_some { ok(alloc) } else { none(alloc) }
 }
 
-pub fn refusal_text<E: Display + Drop>(alloc: Global, refusal: E) -> Result<String, NoAnswer> {
-    Ok(refusal.to_string(alloc)?)
-}
-
 /// The answer of a call that is refused because memory ran out, and for nothing else.
 pub fn memory(alloc: Global) -> Result<String, NoAnswer> {
     word(alloc, MEMORY)
@@ -47,10 +43,7 @@ pub fn truth(alloc: Global, holds: bool) -> Result<String, NoAnswer> {
 }
 
 /// The answer of a call that gives nothing.
-pub fn ok_or_refusal<E: Display + Drop>(
-    alloc: Global,
-    called: Result<(), E>,
-) -> Result<String, NoAnswer> {
+pub fn ok_or_refusal<E: Refused>(alloc: Global, called: Result<(), E>) -> Result<String, NoAnswer> {
     match called {
         Ok(()) => ok(alloc),
         Err(refusal) => refusal_text(alloc, refusal),
@@ -105,7 +98,7 @@ pub fn text_of(alloc: Global, node: &SyntaxNode) -> Result<String, NoAnswer> {
 }
 
 /// The answer of a call that makes a node.
-pub fn node_or_refusal<E: Display + Drop>(
+pub fn node_or_refusal<E: Refused>(
     alloc: Global,
     called: Result<SyntaxNode, E>,
 ) -> Result<String, NoAnswer> {

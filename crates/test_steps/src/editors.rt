@@ -1,7 +1,8 @@
 //! Editors: new ones, merged ones, and one whose changes are finished.
 
-use crate::answers::{node_answer, ok, refusal_text};
+use crate::answers::{node_answer, ok};
 use crate::edits::keep_edit;
+use crate::refused::refusal_text;
 use crate::session::{Session, last};
 use crate::shifts::factory;
 use cst_core::ast::BlockExpr;

@@ -17,6 +17,7 @@ mod pairs;
 mod plans;
 mod recorded;
 mod recording;
+mod refused;
 mod roots;
 mod runs;
 mod session;

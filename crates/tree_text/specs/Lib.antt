@@ -1,3 +1,4 @@
 pub mod Escape
 pub mod Depth
+pub mod ExpressionErrorName
 pub mod inner

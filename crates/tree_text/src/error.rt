@@ -1,5 +1,7 @@
 ghost use Rattle.std.specs.Prelude.{◌≡◌, ◌≢◌};
+ghost use Rattle.tree_text.specs.ExpressionErrorName.{expression_error_name};
 
+use crate::open_nodes::DEPTH_LIMIT;
 use cst_core::TreeError;
 use std::alloc::{AllocError, AllocFailed};
 use thiserror::Error;
@@ -8,19 +10,19 @@ use thiserror::Error;
 #[derive(Debug, PartialEq, Eq, Drop, Error)]
 pub enum ExpressionError {
     /// The text is no tree expression.
-    #[error("Malformed")]
+    #[error("the text is not a tree expression")]
     Malformed,
     /// No kind has this name.
-    #[error("UnknownKind")]
+    #[error("the text names a kind that does not exist")]
     UnknownKind,
     /// More parentheses than `DEPTH_LIMIT` are open at once.
-    #[error("TooDeep")]
+    #[error("the tree expression has more than {limit} parentheses open at once", limit = DEPTH_LIMIT)]
     TooDeep,
     /// The tree cannot be made, and not because memory ran out.
-    #[error("{0}")]
+    #[error(transparent)]
     Tree(TreeError),
     /// Memory was refused.
-    #[error("Memory")]
+    #[error("memory ran out")]
     Memory,
 }
 
@@ -47,6 +49,19 @@ impl<T: Drop> From<AllocFailed<T>> for ExpressionError {
 }
 
 impl ExpressionError {
+    /// The name of the case alone, as `Malformed`.
+    pub fn name(&self) -> &'static str
+        ensures { result.now ≡ expression_error_name self.now }
+    {
+        match self {
+            ExpressionError::Malformed => "Malformed",
+            ExpressionError::UnknownKind => "UnknownKind",
+            ExpressionError::TooDeep => "TooDeep",
+            ExpressionError::Tree(inner) => inner.name(),
+            ExpressionError::Memory => "Memory",
+        }
+    }
+
     /// Why there is no tree where the tree itself was refused.
     pub(crate) fn of_tree(error: TreeError) -> ExpressionError
         ensures memory { error ≡ TreeError.Memory → result ≡ ExpressionError.Memory }

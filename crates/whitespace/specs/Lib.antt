@@ -3,6 +3,7 @@ pub mod LevelCalls
 pub mod Indentation
 pub mod IndentCalls
 pub mod IndentRefusal
+pub mod IndentErrorName
 pub mod MappedAlong
 pub mod Restorable
 pub mod Table

@@ -4,4 +4,5 @@ pub mod LastLine
 pub mod AlongRefusal
 pub mod SpaceRule
 pub mod SpaceInCode
+pub mod SpaceErrorName
 pub mod SpaceRefusal

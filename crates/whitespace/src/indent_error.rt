@@ -1,4 +1,5 @@
 ghost use Rattle.std.specs.Prelude.{◌≡◌, Some, IsSome};
+ghost use Rattle.whitespace.specs.IndentErrorName.{indent_error_name};
 ghost use Rattle.whitespace.specs.inner.AlongRefusal.{of_pairs};
 
 use cst_core::TreeError;
@@ -10,19 +11,19 @@ use thiserror::Error;
 #[derive(Debug, PartialEq, Eq, Drop, Error)]
 pub enum IndentError {
     /// A level passes 255.
-    #[error("LevelTooLarge")]
+    #[error("a level of indentation is greater than 255")]
     LevelTooLarge,
     /// The new text passes 4,294,967,295 bytes.
-    #[error("TooLong")]
+    #[error("the new text is longer than 4,294,967,295 bytes")]
     TooLong,
     /// The source of tree numbers is spent.
-    #[error("NoTreeNumber")]
+    #[error("the source of tree numbers has no number left")]
     NoTreeNumber,
     /// The number of the new tree is not greater than that of the node's, whose children are to be mapped.
-    #[error("NotYounger")]
+    #[error("the number of the new tree is not greater than that of the node whose children are to be mapped")]
     NotYounger,
     /// Memory was refused.
-    #[error("Memory")]
+    #[error("memory ran out")]
     Memory,
 }
 
@@ -64,6 +65,19 @@ impl From<TreeError> for IndentError {
 }
 
 impl IndentError {
+    /// The name of the case alone, as `TooLong`.
+    pub fn name(&self) -> &'static str
+        ensures { result.now ≡ indent_error_name self.now }
+    {
+        match self {
+            IndentError::LevelTooLarge => "LevelTooLarge",
+            IndentError::TooLong => "TooLong",
+            IndentError::NoTreeNumber => "NoTreeNumber",
+            IndentError::NotYounger => "NotYounger",
+            IndentError::Memory => "Memory",
+        }
+    }
+
     /// Why a node is not indented with a mapping where the pairs of its child nodes and their copies were not taken up.
     pub(crate) fn of_pairs(error: MapError) -> IndentError
         requires { IsSome (of_pairs error) }

@@ -1,4 +1,5 @@
 ghost use Rattle.std.specs.Prelude.{◌≡◌, Some, IsSome};
+ghost use Rattle.whitespace.specs.inner.SpaceErrorName.{space_error_name};
 ghost use Rattle.whitespace.specs.inner.SpaceRefusal.{of_level, of_whitespace};
 
 use crate::indent_error::IndentError;
@@ -10,13 +11,13 @@ use thiserror::Error;
 #[derive(Debug, PartialEq, Eq, Drop, Error)]
 pub enum SpaceError {
     /// A new line would have a level past 255.
-    #[error("LevelTooLarge")]
+    #[error("the level of a new line would be greater than 255")]
     LevelTooLarge,
     /// The source of tree numbers is spent.
-    #[error("NoTreeNumber")]
+    #[error("the source of tree numbers has no number left")]
     NoTreeNumber,
     /// Memory was refused.
-    #[error("Memory")]
+    #[error("memory ran out")]
     Memory,
 }
 
@@ -32,6 +33,17 @@ impl From<AllocError> for SpaceError {
 }
 
 impl SpaceError {
+    /// The name of the case alone, as `LevelTooLarge`.
+    pub fn name(&self) -> &'static str
+        ensures { result.now ≡ space_error_name self.now }
+    {
+        match self {
+            SpaceError::LevelTooLarge => "LevelTooLarge",
+            SpaceError::NoTreeNumber => "NoTreeNumber",
+            SpaceError::Memory => "Memory",
+        }
+    }
+
     /// Why whitespace is not found where a level was not read.
     pub(crate) fn of_level(error: IndentError) -> SpaceError
         requires { IsSome (of_level error) }
