@@ -62,4 +62,6 @@ pub mod Merging
 pub mod TypedIndents
 pub mod Lending
 pub mod EditorLaws
+pub mod Making
+pub mod Wrapping
 pub mod inner
