@@ -8,7 +8,7 @@
 A public clause is a clause of a call that a user can name, of a law, or of a trait; so are the views of public types. What is proved of a
 type needs no belief: its invariant, its size, which only has to decrease, and the code by which it is a model's value, which is proved to be
 one-to-one.
-Imports, comments and the table of the kinds' names don't count."""
+Imports, comments, the table of the kinds' names and the rows of tables of errors' names (`Memory = codes "Memory"`) don't count."""
 
 import re
 import sys
@@ -20,6 +20,7 @@ ROOT = Path(__file__).resolve().parent.parent
 WORD = re.compile(r"[^\s(){}\[\],;.]+")
 START = re.compile(r"^(\s*)(?:abbrev |unfoldable )?(?:pub )?(?:(record|data) )?([^\s(){}:]+)(?: [^=]*)? :(?: |$)")
 TABLE = {"named_kinds"}
+NAME_ROW = re.compile(r'^\w+_error_name (.*) = codes "\w+"$')
 MOST = 1500
 
 
@@ -168,7 +169,8 @@ def counted(from_where):
     lines = {}
     for definition in from_where:
         if definition.name not in TABLE:
-            lines[definition.crate] = lines.get(definition.crate, 0) + len(definition.lines)
+            counting = [line for line in definition.lines if not NAME_ROW.match(line)]
+            lines[definition.crate] = lines.get(definition.crate, 0) + len(counting)
     return lines
 
 

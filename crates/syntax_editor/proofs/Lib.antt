@@ -8,3 +8,5 @@ mod Called
 mod Merged
 mod Removed
 mod OneDepth
+mod FreshNodes
+mod Wrappers

@@ -67,4 +67,6 @@ pub mod TypedIndents
 pub mod Lending
 pub mod EditorLaws
 pub mod EditorErrorNames
+pub mod Making
+pub mod Wrapping
 pub mod inner

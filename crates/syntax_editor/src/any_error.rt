@@ -2,6 +2,7 @@ ghost use Rattle.std.specs.Prelude.{◌≡◌};
 ghost use Rattle.syntax_editor.specs.EditorErrorNames.{error_name};
 
 use crate::error::{MergeError, RecordError};
+use crate::wrap_error::WrapError;
 use cst_core::TreeError;
 use edit_map::MapError;
 use edit_plan::{EditError, ExecuteError};
@@ -27,6 +28,9 @@ pub enum Error {
     /// A level is not read, or a tree is not indented.
     #[error(transparent)]
     Indent(IndentError),
+    /// A node is not put between other elements.
+    #[error(transparent)]
+    Wrap(WrapError),
     /// Changes are not planned, or not carried out.
     #[error(transparent)]
     Edit(EditError),
@@ -130,6 +134,17 @@ impl From<IndentError> for Error {
 
     fn from(error: IndentError) -> Error {
         Error::Indent(error)
+    }
+}
+
+impl From<WrapError> for Error {
+    ghost use Rattle.std.specs.Prelude.{◌≡◌};
+    ghost use Rattle.syntax_editor.specs.declared.any_error.Error.{Error};
+
+    ghost from_gives = { λ x e. e ≡ Error.Wrap x };
+
+    fn from(error: WrapError) -> Error {
+        Error::Wrap(error)
     }
 }
 

@@ -1,22 +1,26 @@
 ghost use Rattle.std.specs.Prelude.{◌≡◌, ◌↔◌, ◌+◌, ◌<◌, ◌≤◌, [], length, false, None, Some, unwrap_or, option_map, IfOk, IfErr, OnOk, OnErr};
 ghost use Rattle.std.specs.Borrow.{sem};
-ghost use Rattle.cst_core.specs.Tree.{SameShape};
+ghost use Rattle.cst_core.specs.Tree.{SameShape, text};
 ghost use Rattle.cst_core.specs.Element.{subtree};
 ghost use Rattle.edit_map.specs.Builder.{IsMadeOf};
 ghost use Rattle.whitespace.specs.Indentation.{mapped_children};
 ghost use Rattle.whitespace.specs.MappedAlong.{is_too_old, MapsAlong};
 ghost use Rattle.whitespace.specs.inner.AlongRefusal.{AlongRefuses};
-ghost use Rattle.cst_core.specs.Green.{length_limit};
+ghost use Rattle.cst_core.specs.Green.{length_limit, IsTooLong};
+ghost use Rattle.cst_core.specs.TreeIds.{LacksNumber};
 ghost use Rattle.cst_core.specs.declared.element.SyntaxElement.TheVariants.{Token};
-ghost use Rattle.whitespace.specs.Spacing.{whitespace, LacksTokenNumber};
+ghost use Rattle.whitespace.specs.IndentCalls.{fresh_root};
+ghost use Rattle.whitespace.specs.Spacing.{lone_token, whitespace, LacksTokenNumber};
 ghost use Rattle.syntax_editor.specs.Editor.{HasPairs};
+ghost use Rattle.syntax_editor.specs.Making.{node_tree};
 ghost use Rattle.syntax_editor.specs.Lending.{LendsMappings};
 
-use cst_core::{SyntaxNode, SyntaxToken, TreeError, TreeIds};
+use crate::fresh_node::fresh_node;
+use cst_core::{SyntaxElement, SyntaxKind, SyntaxNode, SyntaxToken, TreeError, TreeIds};
 use edit_map::{SyntaxMapping, SyntaxMappingBuilder};
 use std::alloc::{AllocError, Global};
 use std::marker::Model;
-use whitespace::{IndentError, map_children, whitespace};
+use whitespace::{IndentError, map_children, token, whitespace};
 
 /// What makes new elements, and keeps which node is the copy of which one where it has mappings.
 #[derive(Drop)]
@@ -118,6 +122,53 @@ impl SyntaxFactory {
         ensures err { OnErr result (ids.new ≡ ids.old) }
     {
         whitespace(alloc, ids, text)
+    }
+
+    /// A token of this kind and text, alone below a root of the kind SOURCE_FILE, in a tree of its own under the next number of
+    /// `ids`. Whether a token of the kind has such a text is not looked at.
+    ///
+    /// `TooLong` comes first, where the text passes 4,294,967,295 bytes, then `NoTreeNumber`, then `Memory`; none of them draws
+    /// a number.
+    pub fn token(
+        &self,
+        alloc: Global,
+        ids: &mut TreeIds,
+        kind: SyntaxKind,
+        text: &str,
+    ) -> Result<SyntaxToken, TreeError>
+        ensures ok { IfOk result (λ t. Token t ≡ lone_token ids.old kind text.now) }
+        ensures drawn { OnOk result (ids.new ≡ ids.old + 1) }
+        ensures too_long { (result ≡ Err TreeError.TooLong) ↔ (length_limit ≤ length text.now) }
+        ensures no_number { (result ≡ Err TreeError.NoTreeNumber) ↔ LacksTokenNumber ids.old text.now }
+        ensures err { OnErr result (ids.new ≡ ids.old) }
+    {
+        token(alloc, ids, kind, text)
+    }
+
+    /// A node of this kind with these elements as its children, in order: the root of a tree of its own under the next number of
+    /// `ids`. The elements may be of any trees, and stay as they are; what is below them is shared, not copied. Nothing is mapped.
+    ///
+    /// ```text
+    /// let name = make.token(alloc, ids, SyntaxKind::IDENT, "total")?;
+    /// let name = make.node(alloc, ids, SyntaxKind::NAME, &[SyntaxElement::Token(name)])?;
+    /// ```
+    ///
+    /// `TooLong` comes first, where the text passes 4,294,967,295 bytes, then `NoTreeNumber`, then `Memory`; none of them draws
+    /// a number.
+    pub fn node(
+        &self,
+        alloc: Global,
+        ids: &mut TreeIds,
+        kind: SyntaxKind,
+        children: &[SyntaxElement],
+    ) -> Result<SyntaxNode, TreeError>
+        ensures ok { IfOk result (λ n. n ≡ fresh_root ids.old (node_tree kind children.now)) }
+        ensures drawn { OnOk result (ids.new ≡ ids.old + 1) }
+        ensures too_long { (result ≡ Err TreeError.TooLong) ↔ IsTooLong (text (node_tree kind children.now)) }
+        ensures no_number { (result ≡ Err TreeError.NoTreeNumber) ↔ LacksNumber ids.old (node_tree kind children.now) }
+        ensures err { OnErr result (ids.new ≡ ids.old) }
+    {
+        fresh_node(alloc, ids, kind, children)
     }
 
     // Maps each child node of a node as the copy of which the child node of another one at the same index is, where the factory

@@ -1,6 +1,6 @@
 //! Which answers each call owes a row.
 //!
-//! No row is owed where a text of 2^32 bytes would have to be made: `GreenToken::new` and `whitespace` that are too long.
+//! No row is owed where a text of 2^32 bytes would have to be made: `GreenToken::new`, `whitespace` and `token` that are too long.
 //! `dedent` and `reset_indent` make no text longer, so they have no row that is.
 
 /// A call as a row has it, its name in the sources, and what it can answer where memory is there: that it is done, and each refusal
@@ -310,6 +310,21 @@ pub const OWED: &[Owed] = &[
         call: "whitespace",
         name: "SyntaxFactory::whitespace",
         answers: &["ok", "NoTreeNumber"],
+    },
+    Owed {
+        call: "token",
+        name: "SyntaxFactory::token",
+        answers: &["ok", "NoTreeNumber"],
+    },
+    Owed {
+        call: "node",
+        name: "SyntaxFactory::node",
+        answers: &["ok", "TooLong", "NoTreeNumber"],
+    },
+    Owed {
+        call: "wrap",
+        name: "SyntaxEditor::wrap",
+        answers: &["ok", "TooLong", "NoTreeNumber", "NotYounger", "Foreign"],
     },
     Owed {
         call: "from_element",

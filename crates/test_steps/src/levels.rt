@@ -49,13 +49,14 @@ fn whitespace_of(
     }
 }
 
-fn text_of_tree(alloc: Global, text: &str) -> Result<String, NoAnswer> {
+/// The text of a tree, which is written as a row has it.
+pub fn text_of_tree(alloc: Global, text: &str) -> Result<String, NoAnswer> {
     let root = SyntaxNode::new_root(alloc, &mut TreeIds::new(1), read_tree(alloc, text)?)?;
     Ok(root.text(alloc)?)
 }
 
-// The token's kind, its text, the number of its tree, and what it stands below.
-fn token_answer(alloc: Global, token: &SyntaxToken) -> Result<String, NoAnswer> {
+/// The token's kind, its text, the number of its tree, and what it stands below.
+pub fn token_answer(alloc: Global, token: &SyntaxToken) -> Result<String, NoAnswer> {
     let parent = token.parent(alloc)?.ok_or(NoAnswer::Missing("no parent"))?;
     let mut answer = String::from_str(alloc, "ok ")?;
     push_token(&mut answer, token)?;

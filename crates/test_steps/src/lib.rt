@@ -11,6 +11,7 @@ mod editors;
 mod edits;
 mod engines;
 mod levels;
+mod made;
 mod making;
 mod mappings;
 mod pairs;
@@ -89,6 +90,9 @@ fn other_answer(
         return answer;
     }
     if let Some(answer) = edits::answer(alloc, session, name, words) {
+        return answer;
+    }
+    if let Some(answer) = made::answer(alloc, session, name, words) {
         return answer;
     }
     if let Some(answer) = levels::answer(alloc, session, name, words) {

@@ -9,7 +9,8 @@
 --     next_of                      the element that stands after a position
 --     is_deep                      a new line at a level past the greatest one
 --     space_text                   whitespace as a text
---     whitespace_tree, whitespace  the tree of a whitespace token alone; the token, in such a tree with this number
+--     lone_tree, lone_token        the tree of a token of a kind alone; the token, in such a tree with this number
+--     whitespace                   such a token of whitespace
 --     LacksTokenNumber             no number is left for such a tree, of a text that is not too long
 --     space_elements               whitespace as such a token, or as nothing
 --     space_in_front, space_at_end  the whitespace round a list of new elements
@@ -110,11 +111,14 @@ space_text NoSpace = []
 space_text OneSpace = space ∷ []
 space_text (NewLine level) = newline ∷ level_text level
 
-abbrev pub whitespace_tree : List ℕ → SyntaxTree
-whitespace_tree s = node SOURCE_FILE.0 (tree.Token WHITESPACE.0 s ∷ [])
+abbrev pub lone_tree : SyntaxKind → List ℕ → SyntaxTree
+lone_tree kind s = node SOURCE_FILE.0 (tree.Token kind.0 s ∷ [])
+
+abbrev pub lone_token : ℕ → SyntaxKind → List ℕ → SyntaxElement
+lone_token number kind s = Token (record { number = number; root = lone_tree kind s; path = 0 ∷ [] })
 
 abbrev pub whitespace : ℕ → List ℕ → SyntaxElement
-whitespace number s = Token (record { number = number; root = whitespace_tree s; path = 0 ∷ [] })
+whitespace number s = lone_token number WHITESPACE s
 
 abbrev pub LacksTokenNumber : ℕ → List ℕ → Type 0
 LacksTokenNumber number s = IsSpent number × (length s < length_limit)

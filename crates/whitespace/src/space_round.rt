@@ -3,9 +3,9 @@ ghost use Rattle.cst_core.specs.TreeIds.{spent};
 ghost use Rattle.whitespace.specs.Spacing.{space_text, space_elements, with_spaces, spaced, numbers_needed, space_refusal};
 ghost use Rattle.whitespace.specs.inner.SpaceInCode.{space_of, numbers_of, NumbersRefuse, IsRound, RoundRefuses, SpacedRefuses};
 
+use crate::lone_token::whitespace;
 use crate::space::{Space, space_at_end, space_in_front};
 use crate::space_error::SpaceError;
-use crate::whitespace_token::whitespace;
 use cst_core::{SyntaxElement, TreeIds};
 use edit_change::Position;
 use std::alloc::{AllocError, Global};

@@ -2,7 +2,7 @@ ghost use Rattle.std.specs.Prelude.{◌≡◌, ◌↔◌, ◌+◌, ◌<◌, ◌�
 ghost use Rattle.cst_core.specs.Green.{length_limit, branch_tree};
 ghost use Rattle.cst_core.specs.TreeIds.{spent};
 ghost use Rattle.cst_core.specs.declared.element.SyntaxElement.TheVariants.{Token};
-ghost use Rattle.whitespace.specs.Spacing.{whitespace, whitespace_tree, LacksTokenNumber};
+ghost use Rattle.whitespace.specs.Spacing.{lone_tree, lone_token, whitespace, LacksTokenNumber};
 
 use cst_core::{
     GreenElement, GreenNode, GreenToken, LENGTH_LIMIT, SyntaxKind, SyntaxNode, SyntaxToken,
@@ -10,13 +10,18 @@ use cst_core::{
 };
 use std::alloc::{AllocError, Global};
 
-/// A token of the kind WHITESPACE, alone below a root of the kind SOURCE_FILE, in a tree of its own under the next number of
-/// `ids`. Its text is not looked at.
+/// A token of this kind and text, alone below a root of the kind SOURCE_FILE, in a tree of its own under the next number of
+/// `ids`.
 ///
 /// `TooLong` comes first, where the text passes 4,294,967,295 bytes, then `NoTreeNumber`, then `Memory`; none of them draws
 /// a number.
-pub fn whitespace(alloc: Global, ids: &mut TreeIds, text: &str) -> Result<SyntaxToken, TreeError>
-    ensures ok { IfOk result (λ t. Token t ≡ whitespace ids.old text.now) }
+pub fn token(
+    alloc: Global,
+    ids: &mut TreeIds,
+    kind: SyntaxKind,
+    text: &str,
+) -> Result<SyntaxToken, TreeError>
+    ensures ok { IfOk result (λ t. Token t ≡ lone_token ids.old kind text.now) }
     ensures drawn { OnOk result (ids.new ≡ ids.old + 1) }
     ensures too_long { (result ≡ Err TreeError.TooLong) ↔ (length_limit ≤ length text.now) }
     ensures no_number { (result ≡ Err TreeError.NoTreeNumber) ↔ LacksTokenNumber ids.old text.now }
@@ -29,30 +34,51 @@ pub fn whitespace(alloc: Global, ids: &mut TreeIds, text: &str) -> Result<Syntax
         return Err(TreeError::NoTreeNumber);
     };
     // The number is drawn last, when nothing can fail any more.
-    let token = whitespace_of(alloc, number, text)?;
+    let token = token_of(alloc, number, kind, text)?;
     ids.next();
     Ok(token)
 }
 
+/// Such a token of the kind WHITESPACE. Its text is not looked at. The refusals are the same.
+pub fn whitespace(alloc: Global, ids: &mut TreeIds, text: &str) -> Result<SyntaxToken, TreeError>
+    ensures ok { IfOk result (λ t. Token t ≡ whitespace ids.old text.now) }
+    ensures drawn { OnOk result (ids.new ≡ ids.old + 1) }
+    ensures too_long { (result ≡ Err TreeError.TooLong) ↔ (length_limit ≤ length text.now) }
+    ensures no_number { (result ≡ Err TreeError.NoTreeNumber) ↔ LacksTokenNumber ids.old text.now }
+    ensures err { OnErr result (ids.new ≡ ids.old) }
+{
+    token(alloc, ids, SyntaxKind::WHITESPACE, text)
+}
+
 // Such a token in a tree of this number, of a text that is not too long.
-fn whitespace_of(alloc: Global, number: u64, text: &str) -> Result<SyntaxToken, AllocError>
+fn token_of(
+    alloc: Global,
+    number: u64,
+    kind: SyntaxKind,
+    text: &str,
+) -> Result<SyntaxToken, AllocError>
     requires number { number < spent }
     requires fits { length text.now < length_limit }
-    ensures { IfOk result (λ t. Token t ≡ whitespace number text.now) }
+    ensures { IfOk result (λ t. Token t ≡ lone_token number kind text.now) }
 {
-    let Some(token) = whitespace_root(alloc, number, text)?.first_token(alloc)? else {
+    let Some(token) = root_of(alloc, number, kind, text)?.first_token(alloc)? else {
         unreachable!();
     };
     Ok(token)
 }
 
 // The root above it.
-fn whitespace_root(alloc: Global, number: u64, text: &str) -> Result<SyntaxNode, AllocError>
+fn root_of(
+    alloc: Global,
+    number: u64,
+    kind: SyntaxKind,
+    text: &str,
+) -> Result<SyntaxNode, AllocError>
     requires number { number < spent }
     requires fits { length text.now < length_limit }
-    ensures { IfOk result (λ n. n ≡ record { number = number; root = whitespace_tree text.now; path = [] }) }
+    ensures { IfOk result (λ n. n ≡ record { number = number; root = lone_tree kind text.now; path = [] }) }
 {
-    let green = whitespace_green(alloc, text)?;
+    let green = green_of(alloc, kind, text)?;
     match SyntaxNode::new_root(alloc, &mut TreeIds::new(number), green) {
         Ok(root) => Ok(root),
         Err(TreeError::TooLong) => unreachable!(),
@@ -62,11 +88,11 @@ fn whitespace_root(alloc: Global, number: u64, text: &str) -> Result<SyntaxNode,
 }
 
 // The shared tree of that root.
-fn whitespace_green(alloc: Global, text: &str) -> Result<GreenNode, AllocError>
+fn green_of(alloc: Global, kind: SyntaxKind, text: &str) -> Result<GreenNode, AllocError>
     requires { length text.now < length_limit }
-    ensures { IfOk result (λ n. branch_tree n ≡ whitespace_tree text.now) }
+    ensures { IfOk result (λ n. branch_tree n ≡ lone_tree kind text.now) }
 {
-    let token = match GreenToken::new(alloc, SyntaxKind::WHITESPACE, text) {
+    let token = match GreenToken::new(alloc, kind, text) {
         Ok(token) => token,
         Err(TreeError::TooLong) => unreachable!(),
         Err(TreeError::NoTreeNumber) => unreachable!(),

@@ -1,5 +1,5 @@
 use Rattle.std.proofs.Common.{rules}
-use Rattle.whitespace.proofs.whitespace_token.whitespace.Goals as goal
+use Rattle.whitespace.proofs.lone_token.token.Goals as goal
 
 pub returns-then-text-ge-LENGTH_LIMIT-clause-too_long : goal.returns-then-text-ge-LENGTH_LIMIT-clause-too_long
 returns-then-text-ge-LENGTH_LIMIT-clause-too_long c = search rules
