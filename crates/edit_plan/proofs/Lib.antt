@@ -5,6 +5,7 @@ mod AllowedRuns
 mod ByAnnotation
 mod PromisesOfRuns
 mod NextReady
+mod PlanLines
 mod Exchanged
 mod Filled
 mod FoundNodes

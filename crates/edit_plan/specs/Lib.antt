@@ -15,6 +15,7 @@ pub use Rattle.edit_change.specs.Places
 pub use Rattle.edit_change.specs.TouchedNodes
 pub mod EditRefusal
 pub mod Plan
+pub mod PlanText
 pub mod Engine
 pub mod PlanErrorNames
 pub mod Run

@@ -13,6 +13,7 @@ mod one_pass_engine;
 mod places;
 mod plan;
 mod plan_stages;
+mod plan_text;
 mod rewritten;
 mod run;
 mod splice_engine;

@@ -14,7 +14,7 @@ use cst_core::SyntaxNode;
 use std::alloc::Global;
 use std::mem::replace;
 use syntax_editor::{Change, EditError, EditPlan, ElementList, SyntaxMapping};
-use test_trees::{NoAnswer, Words, word};
+use test_trees::{NoAnswer, Words, quote, word};
 
 /// What the step of this name answers, if it is one of these.
 pub fn answer(
@@ -30,6 +30,7 @@ pub fn answer(
         "build" => build(alloc, session, words),
         "is_empty" => is_empty(alloc, session),
         "plan_deletions" => deletions(alloc, session),
+        "plan_text" => text(alloc, session),
         "is_dropped" => is_dropped(alloc, session, words),
         "owner" => owner(alloc, session, words),
         _ => return None,
@@ -168,6 +169,12 @@ fn is_empty(alloc: Global, session: &mut Session) -> Result<String, NoAnswer> {
 // The paths of what the changes of the last plan delete, one element each, in their order.
 fn deletions(alloc: Global, session: &mut Session) -> Result<String, NoAnswer> {
     deleted_paths(alloc, last(session)?.changes())
+}
+
+// The text of the last plan.
+fn text(alloc: Global, session: &mut Session) -> Result<String, NoAnswer> {
+    let text = last(session)?.to_string(alloc)?;
+    quote(alloc, &text)
 }
 
 fn is_dropped(alloc: Global, session: &mut Session, words: &mut Words) -> Result<String, NoAnswer> {
