@@ -53,6 +53,7 @@ impl Error {
             Error::Record(inner) => inner.name(),
             Error::Merge(inner) => inner.name(),
             Error::Indent(inner) => inner.name(),
+            Error::Wrap(inner) => inner.name(),
             Error::Edit(inner) => inner.name(),
             Error::Execute(inner) => inner.name(),
             Error::Memory => "Memory",

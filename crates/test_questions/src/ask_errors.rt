@@ -5,6 +5,7 @@ use std::alloc::{AllocError, Global};
 use std::fmt::Display;
 use syntax_editor::{
     EditError, EngineError, Error, ExecuteError, IndentError, MapError, MergeError, RecordError,
+    WrapError,
 };
 use test_trees::{NoAnswer, RowError, find_named};
 use tree_text::ExpressionError;
@@ -15,6 +16,7 @@ pub enum ErrorQuestion {
     MapError,
     RecordError,
     MergeError,
+    WrapError,
     IndentError,
     EditError,
     EngineError,
@@ -30,6 +32,7 @@ const NAMES: [(&str, ErrorQuestion); 11] = [
     ("map_error", ErrorQuestion::MapError),
     ("record_error", ErrorQuestion::RecordError),
     ("merge_error", ErrorQuestion::MergeError),
+    ("wrap_error", ErrorQuestion::WrapError),
     ("indent_error", ErrorQuestion::IndentError),
     ("edit_error", ErrorQuestion::EditError),
     ("engine_error", ErrorQuestion::EngineError),
@@ -61,6 +64,14 @@ const RECORD_ERRORS: [(&str, RecordError); 7] = [
     ("LevelTooLarge", RecordError::LevelTooLarge),
     ("NoTreeNumber", RecordError::NoTreeNumber),
     ("Memory", RecordError::Memory),
+];
+
+const WRAP_ERRORS: [(&str, WrapError); 5] = [
+    ("TooLong", WrapError::TooLong),
+    ("NoTreeNumber", WrapError::NoTreeNumber),
+    ("NotYounger", WrapError::NotYounger),
+    ("Foreign", WrapError::Foreign),
+    ("Memory", WrapError::Memory),
 ];
 
 const MERGE_ERRORS: [(&str, MergeError); 2] = [
@@ -109,12 +120,13 @@ const EXECUTE_ERRORS: [(&str, ExecuteError); 5] = [
     ("Edit", ExecuteError::Edit(EditError::TooLong)),
 ];
 
-const ANY_ERRORS: [(&str, Error); 8] = [
+const ANY_ERRORS: [(&str, Error); 9] = [
     ("Tree", Error::Tree(TreeError::TooLong)),
     ("Map", Error::Map(MapError::NotAChild)),
     ("Record", Error::Record(RecordError::BadRange)),
     ("Merge", Error::Merge(MergeError::OtherRoot)),
     ("Indent", Error::Indent(IndentError::LevelTooLarge)),
+    ("Wrap", Error::Wrap(WrapError::NotYounger)),
     ("Edit", Error::Edit(EditError::NoTreeNumber)),
     ("Execute", Error::Execute(ExecuteError::NotEachOnce)),
     ("Memory", Error::Memory),
@@ -150,6 +162,7 @@ pub fn answer(alloc: Global, question: ErrorQuestion, case: &str) -> Result<Stri
         ErrorQuestion::MapError => map_error(alloc, case),
         ErrorQuestion::RecordError => record_error(alloc, case),
         ErrorQuestion::MergeError => merge_error(alloc, case),
+        ErrorQuestion::WrapError => wrap_error(alloc, case),
         ErrorQuestion::IndentError => indent_error(alloc, case),
         ErrorQuestion::EditError => edit_error(alloc, case),
         ErrorQuestion::EngineError => engine_error(alloc, case),
@@ -190,6 +203,11 @@ fn record_error(alloc: Global, case: &str) -> Result<String, NoAnswer> {
 
 fn merge_error(alloc: Global, case: &str) -> Result<String, NoAnswer> {
     let error = find_named(&MERGE_ERRORS, case).ok_or(NoAnswer::Arguments)?;
+    told(alloc, error.name(), error)
+}
+
+fn wrap_error(alloc: Global, case: &str) -> Result<String, NoAnswer> {
+    let error = find_named(&WRAP_ERRORS, case).ok_or(NoAnswer::Arguments)?;
     told(alloc, error.name(), error)
 }
 

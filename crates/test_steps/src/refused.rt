@@ -3,7 +3,7 @@
 use cst_core::TreeError;
 use std::alloc::Global;
 use syntax_editor::{
-    EditError, EngineError, ExecuteError, IndentError, MapError, MergeError, RecordError,
+    EditError, EngineError, ExecuteError, IndentError, MapError, MergeError, RecordError, WrapError,
 };
 use test_trees::{NoAnswer, word};
 
@@ -52,6 +52,12 @@ impl Refused for MergeError {
 }
 
 impl Refused for IndentError {
+    fn case(&self) -> &'static str {
+        self.name()
+    }
+}
+
+impl Refused for WrapError {
     fn case(&self) -> &'static str {
         self.name()
     }
