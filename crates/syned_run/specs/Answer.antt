@@ -3,7 +3,7 @@
 --     spaced, paths_text         paths, each after one space
 --     Note, note_text            an annotation word with the paths of its elements; the line of these
 --     edit_text                  what is printed of an edit: the new text, escaped, the paths of what changed, and the notes
---     refused_text, bad_text     the line of a refusal with this name; that of a bad line with this number
+--     refused_text, bad_text     the line of a refusal that prints this; that of a bad line with this number
 --     IsEditText                 these bytes are what is printed of some edit
 --     IsRefusalText              these bytes are the line of some refusal
 --     IsPrinted                  a run that ends with this status, below 3, prints these bytes
@@ -17,6 +17,8 @@ use Rattle.std.specs.List.{flat_map}
 use Rattle.std.specs.Io.KnownBytes.{Appends, Consumes, Keeps}
 use Rattle.cst_core.specs.Path.{Path}
 use Rattle.tree_text.specs.Escape.{escaped}
+use Rattle.syned_script.specs.RefusalText.{refusal_text}
+use Rattle.syned_script.specs.declared.refusal.Refusal.{Refusal}
 use Rattle.syned_run.specs.declared.ends.TheConstants.{SCRIPT_LIMIT}
 use Rattle.syned_run.specs.Ends.{IsFrontOf}
 
@@ -43,10 +45,10 @@ abbrev pub edit_text : List ℕ → List Path → List Note → List ℕ
 edit_text new changed notes = codes "text \"" ++ escaped new ++ codes "\"\nchanged" ++ paths_text changed ++ codes "\n" ++ flat_map note_text notes
 
 abbrev pub refused_text : List ℕ → List ℕ
-refused_text name = codes "refused " ++ name ++ codes "\n"
+refused_text printed = codes "refused " ++ printed ++ codes "\n"
 
 abbrev pub IsRefusalText : List ℕ → Type 0
-IsRefusalText bytes = (name : List ℕ) × (bytes ≡ refused_text name)
+IsRefusalText bytes = (refusal : Refusal) × (bytes ≡ refused_text (refusal_text refusal))
 
 abbrev pub bad_text : ℕ → List ℕ
 bad_text line = codes "bad script line " ++ decimal line ++ codes "\n"
