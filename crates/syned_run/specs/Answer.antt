@@ -1,9 +1,8 @@
 -- What a run prints, and what becomes of its ends.
---     slot_text, path_text       a path as it is printed: its slots with slashes between them, the root as a dot
 --     spaced, paths_text         paths, each after one space
 --     Note, note_text            an annotation word with the paths of its elements; the line of these
 --     edit_text                  what is printed of an edit: the new text, escaped, the paths of what changed, and the notes
---     refused_text, bad_text     the line of a refusal with this name; that of a bad line with this number
+--     refused_text, bad_text     the line of a refusal that prints this; that of a bad line with this number
 --     IsEditText                 these bytes are what is printed of some edit
 --     IsRefusalText              these bytes are the line of some refusal
 --     IsPrinted                  a run that ends with this status, below 3, prints these bytes
@@ -12,20 +11,16 @@
 --     Answers                    a run with this status read its script to the end and wrote all of its answer
 --     WritesBeginning            a run read its script to the end and wrote a beginning of an answer to it
 --     Fails                      it did, or wrote nothing
-use Rattle.std.specs.Prelude.{◌≡◌, ◌⊎◌, ℕ, zero, suc, ◌+◌, ◌<◌, List, [], ◌∷◌, ◌++◌, length, take, Option, codes, decimal, IsUtf8}
+use Rattle.std.specs.Prelude.{◌≡◌, ◌⊎◌, ℕ, zero, suc, ◌+◌, ◌<◌, List, ◌++◌, length, take, Option, codes, decimal, IsUtf8}
 use Rattle.std.specs.List.{flat_map}
 use Rattle.std.specs.Io.KnownBytes.{Appends, Consumes, Keeps}
 use Rattle.cst_core.specs.Path.{Path}
+use Rattle.syntax_editor.specs.PlanText.{path_text}
 use Rattle.tree_text.specs.Escape.{escaped}
+use Rattle.syned_script.specs.RefusalText.{refusal_text}
+use Rattle.syned_script.specs.declared.refusal.Refusal.{Refusal}
 use Rattle.syned_run.specs.declared.ends.TheConstants.{SCRIPT_LIMIT}
 use Rattle.syned_run.specs.Ends.{IsFrontOf}
-
-abbrev pub slot_text : ℕ → List ℕ
-slot_text slot = codes "/" ++ decimal slot
-
-abbrev pub path_text : Path → List ℕ
-path_text [] = codes "."
-path_text (slot ∷ slots) = decimal slot ++ flat_map slot_text slots
 
 abbrev pub spaced : Path → List ℕ
 spaced path = codes " " ++ path_text path
@@ -43,10 +38,10 @@ abbrev pub edit_text : List ℕ → List Path → List Note → List ℕ
 edit_text new changed notes = codes "text \"" ++ escaped new ++ codes "\"\nchanged" ++ paths_text changed ++ codes "\n" ++ flat_map note_text notes
 
 abbrev pub refused_text : List ℕ → List ℕ
-refused_text name = codes "refused " ++ name ++ codes "\n"
+refused_text printed = codes "refused " ++ printed ++ codes "\n"
 
 abbrev pub IsRefusalText : List ℕ → Type 0
-IsRefusalText bytes = (name : List ℕ) × (bytes ≡ refused_text name)
+IsRefusalText bytes = (refusal : Refusal) × (bytes ≡ refused_text (refusal_text refusal))
 
 abbrev pub bad_text : ℕ → List ℕ
 bad_text line = codes "bad script line " ++ decimal line ++ codes "\n"

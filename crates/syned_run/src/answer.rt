@@ -91,8 +91,7 @@ fn bad_script(alloc: Global, line: usize) -> Result<Answer, AllocError>
 fn refusal_answer(alloc: Global, refusal: Refusal) -> Result<Answer, AllocError>
     ensures { IfOk result (λ a. (exit_code a.status ≡ 1) × IsRefusalText (string_bytes a.text)) }
 {
-    let name = format!(in alloc; "{refusal}")?;
-    let text = format!(in alloc; "refused {name}\n")?;
+    let text = format!(in alloc; "refused {refusal}\n")?;
     Ok(Answer {
         status: Status::Refused,
         text,

@@ -1,6 +1,7 @@
 //! What is printed of an edit that was made.
 ghost use Rattle.std.specs.Prelude.{◌≡◌, ◌++◌, IfOk, OnOk, string_bytes};
-ghost use Rattle.syned_run.specs.Answer.{Note, note_text, path_text, paths_text};
+ghost use Rattle.syntax_editor.specs.PlanText.{path_text};
+ghost use Rattle.syned_run.specs.Answer.{Note, note_text, paths_text};
 ghost use Rattle.syned_run.specs.inner.Printing.{PrintsEdit, paths_of};
 
 use cst_core::SyntaxElement;

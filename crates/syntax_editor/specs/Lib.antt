@@ -37,6 +37,7 @@ pub use Rattle.edit_plan.specs.declared.edit_error.EditError
 pub use Rattle.edit_plan.specs.declared.engine_error.EngineError
 pub use Rattle.edit_plan.specs.declared.execute_error.ExecuteError
 pub use Rattle.edit_plan.specs.PlanErrorNames
+pub use Rattle.edit_plan.specs.PlanText
 pub use Rattle.edit_plan.specs.Plan
 pub use Rattle.edit_plan.specs.Engine
 pub use Rattle.edit_plan.specs.Run

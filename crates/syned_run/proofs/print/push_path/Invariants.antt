@@ -1,6 +1,6 @@
 use Rattle.std.proofs.Common.{◌≡◌, ◌++◌, take, string_bytes}
 use Rattle.std.specs.List.{flat_map}
-use Rattle.syned_run.specs.Answer.{slot_text}
+use Rattle.syntax_editor.specs.PlanText.{slot_text}
 use Rattle.syned_run.proofs.print.push_path.Given as goal
 
 abbrev pub invariant-loop-slot : goal.invariant-loop-slot
