@@ -27,7 +27,7 @@ pub enum ErrorQuestion {
 }
 
 // By the type of the error.
-const NAMES: [(&str, ErrorQuestion); 11] = [
+const NAMES: [(&str, ErrorQuestion); 12] = [
     ("tree_error", ErrorQuestion::TreeError),
     ("map_error", ErrorQuestion::MapError),
     ("record_error", ErrorQuestion::RecordError),
