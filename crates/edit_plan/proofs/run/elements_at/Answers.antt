@@ -4,7 +4,7 @@ use Rattle.std.proofs.lemmas.List.Elements.{All-head, All-tail}
 use Rattle.cst_core.specs.Element.{IsElement, element_at}
 use Rattle.cst_core.specs.SyntaxElement.{syntax_at}
 use Rattle.edit_change.specs.Topmost.{paths_of}
-use Rattle.edit_plan.proofs.PathsOfResults.{leads}
+use Rattle.annotations.proofs.AnnotatedElements.{leads}
 use Rattle.edit_plan.proofs.run.elements_at.Goals as goal
 
 pub unreachable-requires : goal.unreachable-requires
