@@ -1,4 +1,4 @@
-ghost use Rattle.std.specs.Prelude.{◌≡◌, ◌++◌, ◌∷◌, [], take, drop, IfOk, string_bytes};
+ghost use Rattle.std.specs.Prelude.{◌≡◌, ◌++◌, ◌∷◌, [], cond, true, false, take, drop, IfOk, string_bytes};
 ghost use Rattle.std.specs.Fmt.{WritesOnOk};
 ghost use Rattle.cst_core.specs.Green.{texts};
 ghost use Rattle.cst_core.specs.GreenElement.{element_trees};
@@ -23,13 +23,30 @@ const RESET: &str = "\x1b[0m\x1b[K";
 
 /// Prints the text that shows the change, as `Change::text` gives it.
 impl fmt::Display for Change {
-    ghost use Rattle.std.specs.Prelude.{Some};
+    ghost use Rattle.std.specs.Prelude.{Some, true};
     ghost use Rattle.edit_change.specs.Display.{change_text};
 
-    ghost output = { λ change. Some (change_text change) };
+    ghost output = { λ change. Some (change_text true change) };
 
     fn fmt<W: fmt::Write>(&self, f: &mut fmt::Formatter<W>) -> fmt::Result {
-        write_change(self, f)
+        write_change(self, true, f)
+    }
+}
+
+// A change that is printed without colours.
+#[derive(Clone, Copy)]
+struct Plain<'a> {
+    change: &'a Change,
+}
+
+impl<'a> fmt::Display for Plain<'a> {
+    ghost use Rattle.std.specs.Prelude.{Some, false};
+    ghost use Rattle.edit_change.specs.Display.{change_text};
+
+    ghost output = { λ plain. Some (change_text false plain.change.now) };
+
+    fn fmt<W: fmt::Write>(&self, f: &mut fmt::Formatter<W>) -> fmt::Result {
+        write_change(self.change, false, f)
     }
 }
 
@@ -40,43 +57,77 @@ impl Change {
     /// An insert, or a change of a range, is shown inside the text of the parent. Any other change is the old text and
     /// the new text alone, and a deletion by `Replace` is the old text alone.
     pub fn text(&self, alloc: Global) -> Result<String, AllocError>
-        ensures { IfOk result (λ s. string_bytes s ≡ change_text self.now) }
+        ensures { IfOk result (λ s. string_bytes s ≡ change_text true self.now) }
     {
         self.to_string(alloc)
     }
+
+    /// The text that `text` gives, without the escape sequences: for a log, a file or a test.
+    ///
+    /// Of a replacement it is the old text and then the new one, with nothing between them.
+    pub fn plain_text(&self, alloc: Global) -> Result<String, AllocError>
+        ensures { IfOk result (λ s. string_bytes s ≡ change_text false self.now) }
+    {
+        Plain { change: self }.to_string(alloc)
+    }
 }
 
-fn write_change<W: fmt::Write>(change: &Change, f: &mut fmt::Formatter<W>) -> fmt::Result
-    ensures { WritesOnOk W.write_str_gives f.old result (change_text change.now) f.new }
+fn write_change<W: fmt::Write>(
+    change: &Change,
+    coloured: bool,
+    f: &mut fmt::Formatter<W>,
+) -> fmt::Result
+    ensures { WritesOnOk W.write_str_gives f.old result (change_text coloured change.now) f.new }
 {
     match change {
-        Change::Insert(position, element) => write_insert(position, slice::from_ref(element), f),
-        Change::InsertAll(position, elements) => write_insert(position, elements.as_slice(), f),
-        Change::Replace(target, None) => write_deletion(target, f),
+        Change::Insert(position, element) => {
+            write_insert(position, slice::from_ref(element), coloured, f)
+        }
+        Change::InsertAll(position, elements) => {
+            write_insert(position, elements.as_slice(), coloured, f)
+        }
+        Change::Replace(target, None) => write_deletion(target, coloured, f),
         Change::Replace(target, Some(element)) => {
-            write_replacement(target, slice::from_ref(element), f)
+            write_replacement(target, slice::from_ref(element), coloured, f)
         }
         Change::ReplaceWithMany(target, elements) => {
-            write_replacement(target, elements.as_slice(), f)
+            write_replacement(target, elements.as_slice(), coloured, f)
         }
         Change::ReplaceAll(first, last, elements) => {
-            write_range(first, last, elements.as_slice(), f)
+            write_range(first, last, elements.as_slice(), coloured, f)
         }
     }
+}
+
+// The code of a colour, or nothing.
+fn write_code<W: fmt::Write>(code: &str, coloured: bool, f: &mut fmt::Formatter<W>) -> fmt::Result
+    ensures { WritesOnOk W.write_str_gives f.old result (cond coloured code.now []) f.new }
+{
+    if coloured { f.write_str(code) } else { Ok(()) }
 }
 
 // The parent's text, with the elements put in at the position.
 fn write_insert<W: fmt::Write>(
     position: &Position,
     elements: &[SyntaxElement],
+    coloured: bool,
     f: &mut fmt::Formatter<W>,
 ) -> fmt::Result
-    ensures { WritesOnOk W.write_str_gives f.old result (at_position position.now (element_texts elements.now)) f.new }
+    ensures { let bytes = at_position coloured position.now (element_texts elements.now) in
+        WritesOnOk W.write_str_gives f.old result bytes f.new }
 {
     match position.after_of() {
-        Some(element) => write_opened(siblings(element), slot_after(element), elements, f),
+        Some(element) => {
+            write_opened(
+                siblings(element),
+                slot_after(element),
+                elements,
+                coloured,
+                f,
+            )
+        }
         None => match position.first_of() {
-            Some(node) => write_opened(node.as_green().children(), 0, elements, f),
+            Some(node) => write_opened(node.as_green().children(), 0, elements, coloured, f),
             None => unreachable!(),
         },
     }
@@ -87,48 +138,60 @@ fn write_opened<W: fmt::Write>(
     siblings: &[GreenElement],
     slot: usize,
     elements: &[SyntaxElement],
+    coloured: bool,
     f: &mut fmt::Formatter<W>,
 ) -> fmt::Result
-    ensures { let bytes = with_insert (element_trees siblings.now) slot (element_texts elements.now) in
+    ensures { let bytes = with_insert coloured (element_trees siblings.now) slot (element_texts elements.now) in
         WritesOnOk W.write_str_gives f.old result bytes f.new }
 {
     write_shared(before(siblings, slot), f)?;
-    f.write_str(PUT_IN)?;
+    write_code(PUT_IN, coloured, f)?;
     write_elements(elements, f)?;
-    f.write_str(RESET)?;
+    write_code(RESET, coloured, f)?;
     write_shared(from_slot(siblings, slot), f)
 }
 
 // The old text, taken away.
-fn write_deletion<W: fmt::Write>(target: &SyntaxElement, f: &mut fmt::Formatter<W>) -> fmt::Result
-    ensures { WritesOnOk W.write_str_gives f.old result (taken_away ++ element_texts (target.now ∷ []) ++ reset) f.new }
+fn write_deletion<W: fmt::Write>(
+    target: &SyntaxElement,
+    coloured: bool,
+    f: &mut fmt::Formatter<W>,
+) -> fmt::Result
+    ensures { let bytes = taken_away coloured ++ element_texts (target.now ∷ []) ++ reset coloured in
+        WritesOnOk W.write_str_gives f.old result bytes f.new }
 {
-    f.write_str(TAKEN_AWAY)?;
+    write_code(TAKEN_AWAY, coloured, f)?;
     write_elements(slice::from_ref(target), f)?;
-    f.write_str(RESET)
+    write_code(RESET, coloured, f)
 }
 
 // The old text, taken away, and the elements, put in.
 fn write_replacement<W: fmt::Write>(
     target: &SyntaxElement,
     elements: &[SyntaxElement],
+    coloured: bool,
     f: &mut fmt::Formatter<W>,
 ) -> fmt::Result
-    ensures { let bytes = exchanged (element_texts (target.now ∷ [])) (element_texts elements.now) in
+    ensures { let bytes = exchanged coloured (element_texts (target.now ∷ [])) (element_texts elements.now) in
         WritesOnOk W.write_str_gives f.old result bytes f.new }
 {
-    f.write_str(TAKEN_AWAY)?;
+    write_code(TAKEN_AWAY, coloured, f)?;
     write_elements(slice::from_ref(target), f)?;
-    write_put_in(elements, f)
+    write_put_in(elements, coloured, f)
 }
 
 // The elements, put in, with the end of the colour.
-fn write_put_in<W: fmt::Write>(elements: &[SyntaxElement], f: &mut fmt::Formatter<W>) -> fmt::Result
-    ensures { WritesOnOk W.write_str_gives f.old result (put_in ++ element_texts elements.now ++ reset) f.new }
+fn write_put_in<W: fmt::Write>(
+    elements: &[SyntaxElement],
+    coloured: bool,
+    f: &mut fmt::Formatter<W>,
+) -> fmt::Result
+    ensures { let bytes = put_in coloured ++ element_texts elements.now ++ reset coloured in
+        WritesOnOk W.write_str_gives f.old result bytes f.new }
 {
-    f.write_str(PUT_IN)?;
+    write_code(PUT_IN, coloured, f)?;
     write_elements(elements, f)?;
-    f.write_str(RESET)
+    write_code(RESET, coloured, f)
 }
 
 // The text of the parent of `first`, in which the siblings up to `last` are exchanged for the elements.
@@ -136,9 +199,10 @@ fn write_range<W: fmt::Write>(
     first: &SyntaxElement,
     last: &SyntaxElement,
     elements: &[SyntaxElement],
+    coloured: bool,
     f: &mut fmt::Formatter<W>,
 ) -> fmt::Result
-    ensures { let bytes = change_text (Change.ReplaceAll first.now last.now elements.now) in
+    ensures { let bytes = change_text coloured (Change.ReplaceAll first.now last.now elements.now) in
         WritesOnOk W.write_str_gives f.old result bytes f.new }
 {
     write_exchanged(
@@ -146,6 +210,7 @@ fn write_range<W: fmt::Write>(
         first.index(),
         slot_after(last),
         elements,
+        coloured,
         f,
     )
 }
@@ -156,15 +221,16 @@ fn write_exchanged<W: fmt::Write>(
     start: usize,
     end: usize,
     elements: &[SyntaxElement],
+    coloured: bool,
     f: &mut fmt::Formatter<W>,
 ) -> fmt::Result
-    ensures { let bytes = with_range (element_trees siblings.now) start end (element_texts elements.now) in
+    ensures { let bytes = with_range coloured (element_trees siblings.now) start end (element_texts elements.now) in
         WritesOnOk W.write_str_gives f.old result bytes f.new }
 {
     write_shared(before(siblings, start), f)?;
-    f.write_str(TAKEN_AWAY)?;
+    write_code(TAKEN_AWAY, coloured, f)?;
     write_shared(from_slot(before(siblings, end), start), f)?;
-    write_put_in(elements, f)?;
+    write_put_in(elements, coloured, f)?;
     write_shared(from_slot(siblings, end), f)
 }
 

@@ -1,5 +1,5 @@
 -- Worked examples of annotations, of nodes found again, and of the texts of changes.
-use Rattle.std.specs.Prelude.{◌≡◌, ℕ, List, [], ◌∷◌, ◌++◌, codes, flat_map, map, Option, Some, None, refl}
+use Rattle.std.specs.Prelude.{◌≡◌, ℕ, true, false, List, [], ◌∷◌, ◌++◌, codes, flat_map, map, Option, Some, None, refl}
 use Rattle.cst_core.specs.Path.{Path}
 use Rattle.cst_core.specs.Element.{Element, address}
 use Rattle.edit_map.proofs.Rows.{R}
@@ -48,8 +48,12 @@ green s = escape ∷ codes "[42m" ++ s
 abbrev plain_again : List ℕ → List ℕ
 plain_again s = escape ∷ codes "[0m" ++ escape ∷ codes "[K" ++ s
 
-texts_of_a_deletion_and_an_insert : ◌≡◌ {A = List (List ℕ)} (map change_text (delete (R (1 ∷ [])) ∷ insert (after (R (0 ∷ []))) X ∷ [])) (red (codes "1" ++ plain_again []) ∷ (codes "(" ++ green (codes "x" ++ plain_again (codes "1, 2)"))) ∷ [])
+texts_of_a_deletion_and_an_insert : ◌≡◌ {A = List (List ℕ)} (map (change_text true) (delete (R (1 ∷ [])) ∷ insert (after (R (0 ∷ []))) X ∷ [])) (red (codes "1" ++ plain_again []) ∷ (codes "(" ++ green (codes "x" ++ plain_again (codes "1, 2)"))) ∷ [])
 texts_of_a_deletion_and_an_insert = refl
 
-texts_of_ranges : ◌≡◌ {A = List (List ℕ)} (map change_text (replace_all (R (1 ∷ [])) (R (3 ∷ [])) [] ∷ replace_with_many (R (1 ∷ [])) [] ∷ [])) ((codes "(" ++ red (codes "1, " ++ green (plain_again (codes "2)")))) ∷ red (codes "1" ++ green (plain_again [])) ∷ [])
+texts_of_ranges : ◌≡◌ {A = List (List ℕ)} (map (change_text true) (replace_all (R (1 ∷ [])) (R (3 ∷ [])) [] ∷ replace_with_many (R (1 ∷ [])) [] ∷ [])) ((codes "(" ++ red (codes "1, " ++ green (plain_again (codes "2)")))) ∷ red (codes "1" ++ green (plain_again [])) ∷ [])
 texts_of_ranges = refl
+
+-- the same without the escape sequences
+plain_texts : ◌≡◌ {A = List (List ℕ)} (map (change_text false) (insert (after (R (0 ∷ []))) X ∷ replace_all (R (1 ∷ [])) (R (3 ∷ [])) [] ∷ [])) (codes "(x1, 2)" ∷ codes "(1, 2)" ∷ [])
+plain_texts = refl

@@ -218,6 +218,11 @@ pub const OWED: &[Owed] = &[
         answers: &["ok"],
     },
     Owed {
+        call: "plain_text",
+        name: "Change::plain_text",
+        answers: &["ok"],
+    },
+    Owed {
         call: "merge",
         name: "SyntaxEditor::merge",
         answers: &["ok", "OtherRoot"],

@@ -4,7 +4,7 @@ use crate::answers::{memory, none, push_item, some_or_none, truth};
 use crate::session::{Session, last};
 use cst_core::{SyntaxElement, SyntaxNode};
 use std::alloc::{AllocError, Global};
-use syntax_editor::Change;
+use syntax_editor::{Change, SyntaxEditor};
 use test_trees::{NoAnswer, Words, number, push_quoted, quote};
 
 /// What the step of this name answers, if it is one of these.
@@ -21,6 +21,7 @@ pub fn answer(
         "inserted" => inserted_texts(alloc, session),
         "fits" => fits(alloc, session, words),
         "text" => text(alloc, session, words),
+        "plain_text" => plain_text(alloc, session, words),
         _ => return None,
     };
     Some(answer)
@@ -114,15 +115,29 @@ fn fits(alloc: Global, session: &mut Session, words: &mut Words) -> Result<Strin
     truth(alloc, fits)
 }
 
-// The text that shows a change, by its number.
-fn text(alloc: Global, session: &mut Session, words: &mut Words) -> Result<String, NoAnswer> {
+// A change of an editor, by its number.
+fn change_of<'a>(editor: &'a SyntaxEditor, words: &mut Words) -> Result<&'a Change, NoAnswer> {
     let number = words.count()?;
-    let editor = last(&mut session.editors)?;
-    let change = editor
+    editor
         .changes()
         .get(number)
-        .ok_or(NoAnswer::Missing("no such change"))?;
-    match change.text(alloc) {
+        .ok_or(NoAnswer::Missing("no such change"))
+}
+
+// The text that shows a change, by its number.
+fn text(alloc: Global, session: &mut Session, words: &mut Words) -> Result<String, NoAnswer> {
+    let change = change_of(last(&mut session.editors)?, words)?;
+    shown_or_memory(alloc, change.text(alloc))
+}
+
+// The same without the escape sequences.
+fn plain_text(alloc: Global, session: &mut Session, words: &mut Words) -> Result<String, NoAnswer> {
+    let change = change_of(last(&mut session.editors)?, words)?;
+    shown_or_memory(alloc, change.plain_text(alloc))
+}
+
+fn shown_or_memory(alloc: Global, called: Result<String, AllocError>) -> Result<String, NoAnswer> {
+    match called {
         Ok(text) => with_escape_shown(alloc, &text),
         Err(_) => memory(alloc),
     }
