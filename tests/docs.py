@@ -23,6 +23,7 @@ import inner_record
 import public_bugs
 import public_calls
 import rows
+import signatures
 import walk
 
 ROOT = Path(__file__).resolve().parent.parent
@@ -340,6 +341,8 @@ compare_names()
 compare_widths()
 compare_readme()
 compare_believed()
+if signatures.wrong():
+    wrong.append("docs/CALLING.md: not the signatures of the sources: python3 tests/signatures.py write")
 compare_walks()
 compare_planted_bugs()
 compare_record()
