@@ -59,7 +59,7 @@ impl<'a> Fields<'a> {
 
     pub(crate) fn name(&mut self) -> Result<Name<'a>, Fault> {
         let field = self.field(Wanted::Name)?;
-        Name::new(field).ok_or(Fault::wanted(field.at, Wanted::Name))
+        Name::new(field.text, field.at).ok_or(Fault::wanted(field.at, Wanted::Name))
     }
 
     /// A kind, after which nothing is left.

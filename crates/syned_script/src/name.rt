@@ -1,8 +1,6 @@
 ghost use Rattle.std.specs.Prelude.{◌≡◌, ◌↔◌, IsSome, IfSome};
 ghost use Rattle.syned_script.specs.inner.Name.{IsName};
 
-use crate::field::Field;
-
 /// How many characters a name has at most.
 const NAME_LIMIT: usize = 32;
 
@@ -15,12 +13,11 @@ pub(crate) struct Name<'a> {
 }
 
 impl<'a> Name<'a> {
-    /// The name that is spelled like this field.
-    pub(crate) fn new(field: Field<'a>) -> Option<Name<'a>>
-        ensures name { IsSome result ↔ IsName field.text.now }
-        ensures text { IfSome result (λ n. n.text.now ≡ field.text.now) }
+    /// The name that is spelled like this, at this byte of its line.
+    pub(crate) fn new(text: &'a str, at: usize) -> Option<Name<'a>>
+        ensures name { IsSome result ↔ IsName text.now }
+        ensures text { IfSome result (λ n. n.text.now ≡ text.now) }
     {
-        let Field { text, at } = field;
         let starts = text
             .bytes()
             .next()

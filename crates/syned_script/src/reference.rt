@@ -19,7 +19,7 @@ impl<'a> Reference<'a> {
             None => (field.text, None),
         };
         let wanted = Fault::wanted(field.at, Wanted::Reference);
-        let Some(name) = Name::new(Field { text, at: field.at }) else {
+        let Some(name) = Name::new(text, field.at) else {
             return Err(Stop::from(wanted));
         };
         let Some(slots) = read_slots(alloc, slots)? else {
