@@ -3,11 +3,11 @@
 
 mod answer;
 mod ends;
-mod explain;
+mod explained;
 mod print;
 mod program;
 mod status;
 
 pub use ends::SCRIPT_LIMIT;
-pub use explain::explain;
+pub use explained::explain;
 pub use program::{run, run_explained};

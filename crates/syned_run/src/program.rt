@@ -6,7 +6,7 @@ ghost use Rattle.syned_run.specs.inner.Responding.{Responds, WritesSome};
 
 use crate::answer::answer_to;
 use crate::ends::{EndFailed, SCRIPT_LIMIT, read_script, write_all_of};
-use crate::explain::write_reason;
+use crate::explained::write_reason;
 use crate::status::{Failure, Status};
 use std::alloc::Global;
 use std::io::{Read, Write};
