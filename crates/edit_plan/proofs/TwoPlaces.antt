@@ -45,7 +45,7 @@ module _ (cs : List Change) (a b : ℕ → Path) (agree : (n o : ℕ) (c : Chang
       let owned = filter (λ d. has_owner cs n d.1) (enumerate_from 0 cs) in
       map-agree (λ d. (d.0, moved_aim target (a n) (aim d.1))) (λ d. (d.0, moved_aim target (b n) (aim d.1))) owned (all_weaker _ (λ d. (d.0, moved_aim target (a n) (aim d.1)) ≡ (d.0, moved_aim target (b n) (aim d.1))) owned (λ d both. ap (λ p. (d.0, moved_aim target p (aim d.1))) (agree d.0 n d.1 both.0 (owner_from cs n d.1 both.1))) (all_filter (λ d. slice_get cs d.0 ≡ Some d.1) (λ d. has_owner cs n d.1) (enumerate_from 0 cs) (all_enumerated cs)))
 
-  given-agree : (n : ℕ) → given cs a n ≡ given cs b n
+  pub given-agree : (n : ℕ) → given cs a n ≡ given cs b n
   given-agree n =
       given_unique cs b (given cs a) (λ c. given_is cs a c ∙ ap (λ ds. payload_rewritten cs (given cs a) ds c) (dependents-agree c)) n
 
