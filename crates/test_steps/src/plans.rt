@@ -62,7 +62,7 @@ fn keep_plan(
 
 // Each text edit: its offsets and its text.
 fn text_edits(alloc: Global, session: &Session) -> Result<String, NoAnswer> {
-    let Ok(edits) = last(&session.plans)?.text_edits(alloc) else {
+    let Ok(edits) = last(session)?.text_edits(alloc) else {
         return memory(alloc);
     };
     let mut answer = String::from_str(alloc, "ok")?;
