@@ -1,6 +1,7 @@
 -- What a set of changes does to the text of the old tree, piece by piece.
 --     TextPiece, as_piece           a text that stands in the place of what is from one offset of the old text up to another one; a text edit in code
 --     in_text_order                 the changes without an owner, from left to right: as what they give stands in the new tree
+--     number_token                  a change as one token
 --     offset                        where what a change takes away starts, or where it inserts
 --     old_text                      what it takes away
 --     text_piece                    what a change does to the text, with all that it owns carried out in its payload
@@ -44,7 +45,7 @@ offset root c = start root.root (aim_path c)
 abbrev pub old_text : Element → Change → List ℕ
 old_text root c = flat_map (λ p. text (subtree (element_at root p))) (targets c)
 
--- A change stands as one token, which is labelled by its number.
+-- labelled by its number
 abbrev pub number_token : List Change → ℕ → List (Tree (List ℕ))
 number_token changes c = option_map_or (λ d. Token (c ∷ []) [] ∷ []) (slice_get changes c) []
 
