@@ -255,12 +255,12 @@ module _ (root : Element) where
       on-no-start : replacements_at aims (p ++ i ∷ []) ≡ []
       on-no-start =
           ap numbers (none-of (FreeAim cs) (λ a. starts_at (p ++ i ∷ []) a.1) aims (frees cs) (λ a of start.
-              let d = of.0 in
-              let begins : starts_at (p ++ i ∷ []) (aim d) ≡ true = ap (starts_at (p ++ i ∷ [])) (sym of.2) ∙ start in
-              let own : Has d (p ++ i ∷ []) = start_in_targets d (p ++ i ∷ []) (starts (aim d) (p ++ i ∷ []) begins) in
-              let same : d ≡ on.change = one-change cs apart a.0 on.number d on.change (p ++ i ∷ []) of.1.0 on.free.0 own on-has in
-              let first : i ≡ on.run.first = starts-run root on.change p i on.run (subst (λ x. starts_at (p ++ i ∷ []) (aim x) ≡ true) same begins) in
-              omega (arith, first, on.before)))
+          let d = of.0 in
+          let begins : starts_at (p ++ i ∷ []) (aim d) ≡ true = ap (starts_at (p ++ i ∷ [])) (sym of.2) ∙ start in
+          let own : Has d (p ++ i ∷ []) = start_in_targets d (p ++ i ∷ []) (starts (aim d) (p ++ i ∷ []) begins) in
+          let same : d ≡ on.change = one-change cs apart a.0 on.number d on.change (p ++ i ∷ []) of.1.0 on.free.0 own on-has in
+          let first : i ≡ on.run.first = starts-run root on.change p i on.run (subst (λ x. starts_at (p ++ i ∷ []) (aim x) ≡ true) same begins) in
+          omega (arith, first, on.before)))
 
       on-no-insert : inserts_at aims p i ≡ []
       on-no-insert =
@@ -268,12 +268,12 @@ module _ (root : Element) where
           let next : i ≡ suc l = omega (arith, on.before) in
           let there : Has on.change (p ++ l ∷ []) = run-has on.change p on.run l (omega (arith, on.before)) (omega (arith, on.long, next)) in
           ap numbers (none-of (FreeAim cs) (λ a. aims_at_gap p i a.1) aims (frees cs) (λ a of here.
-              let d = of.0 in
-              let aimed : aims_at_gap p i (aim d) ≡ true = ap (aims_at_gap p i) (sym of.2) ∙ here in
-              elim on.run.many [
-                | inl none ↦ omega (arith, none, on.before, on.long)
-                | inr wide ↦ dropped-inside cs on.number on.change d (p ++ l ∷ []) on.free.0 wide.0 wide.1 there (gap-around d p i l aimed next) of.1.1
-              ]))
+          let d = of.0 in
+          let aimed : aims_at_gap p i (aim d) ≡ true = ap (aims_at_gap p i) (sym of.2) ∙ here in
+          elim on.run.many [
+            | inl none ↦ omega (arith, none, on.before, on.long)
+            | inr wide ↦ dropped-inside cs on.number on.change d (p ++ l ∷ []) on.free.0 wide.0 wide.1 there (gap-around d p i l aimed next) of.1.1
+          ]))
 
     -- ---- the children of a node
     module _ (p : Path) (kind : ℕ) (f : Forest ℕ) (here : at root.root p ≡ Some (Node kind f)) where
@@ -330,9 +330,9 @@ module _ (root : Element) where
           let r = run-of root c p i (fit_at root cs fit n c of.1.0) has in
           let inside = has-run c p r i has in
           let earlier : r.first < i → ⊥ = λ less.
-              let l = i - 1 in
-              let next : i ≡ suc l = omega (arith, less) in
-              standing n c of.1 has l next (run-has c p r l (omega (arith, less)) (omega (arith, inside.1, next))) in
+          let l = i - 1 in
+          let next : i ≡ suc l = omega (arith, less) in
+          standing n c of.1 has l next (run-has c p r l (omega (arith, less)) (omega (arith, inside.1, next))) in
           let first : r.first ≡ i = omega (arith, inside.0, earlier) in
           let starts_here : starts_at q (aim c) ≡ true = subst (λ x. starts_at (p ++ x ∷ []) (aim c) ≡ true) first (run-starts root c p r) in
           let alone : replacements_at aims q ≡ n ∷ [] = alone-at cs apart q n c of.1 starts_here in
@@ -342,10 +342,10 @@ module _ (root : Element) where
           let fits : r.more ≤ length ts = omega (arith, far, left, first) in
           let path : aim_path c ≡ q = r.path_is ∙ ap (λ x. p ++ x ∷ []) first in
           let takes : old_text root c ≡ text t ++ flat_map text (take r.more ts) =
-              ap (flat_map (λ x. text (subtree (element_at root x)))) (r.targets_are ∙ ap (λ x. side_by_side p x (suc r.more)) first) ∙ flat_map-map (λ x. text (subtree (element_at root x))) (λ j. p ++ j ∷ []) (counted_from i (suc r.more)) ∙ range-text p kind f here i (suc r.more) (t ∷ ts) rest (omega (arith, fits)) in
+          ap (flat_map (λ x. text (subtree (element_at root x)))) (r.targets_are ∙ ap (λ x. side_by_side p x (suc r.more)) first) ∙ flat_map-map (λ x. text (subtree (element_at root x))) (λ j. p ++ j ∷ []) (counted_from i (suc r.more)) ∙ range-text p kind f here i (suc r.more) (t ∷ ts) rest (omega (arith, fits)) in
           let begins : offset root c ≡ base p kind f here i = replaced-offset c q has ∙ ap (start root.root) path ∙ base-is p kind f here i in
           let own : pieces (in_slot i t) ≡ does root cs new n =
-              ap pieces (ap (λ b. cond b (flat_map (number_token cs) (replacements_at aims q)) (remade q t ∷ [])) rep) ∙ pieces-numbers root cs new (replacements_at aims q) ∙ ap (flat_map (does root cs new)) alone ∙ append-nil (does root cs new n) in
+          ap pieces (ap (λ b. cond b (flat_map (number_token cs) (replacements_at aims q)) (remade q t ∷ [])) rep) ∙ pieces-numbers root cs new (replacements_at aims q) ∙ ap (flat_map (does root cs new)) alone ∙ append-nil (does root cs new n) in
           let filled_is : slot_filled i t ≡ new n = ap (λ b. cond b (flat_map new (replacements_at aims q)) (filled q t)) rep ∙ ap (flat_map new) alone ∙ append-nil (new n) in
           record {
             more_slots = r.more;
@@ -422,7 +422,7 @@ module _ (root : Element) where
               let takes = root-takes c has in
               let begins : offset root c ≡ 0 = replaced-offset c [] has ∙ ap (start root.root) takes.0 ∙ start-top root.root in
               let own : pieces (slot (λ q k. []) (number_token cs) aims [] (remade [] root.root)) ≡ does root cs new n =
-                  ap pieces (ap (λ b. cond b (flat_map (number_token cs) (replacements_at aims [])) (remade [] root.root ∷ [])) rep) ∙ pieces-numbers root cs new (replacements_at aims []) ∙ ap (flat_map (does root cs new)) alone ∙ append-nil (does root cs new n) in
+              ap pieces (ap (λ b. cond b (flat_map (number_token cs) (replacements_at aims [])) (remade [] root.root ∷ [])) rep) ∙ pieces-numbers root cs new (replacements_at aims []) ∙ ap (flat_map (does root cs new)) alone ∙ append-nil (does root cs new n) in
               let filled_is : text_filled new aims root.root ≡ new n = ap (λ b. cond b (flat_map new (replacements_at aims [])) (filled_text new aims [] root.root)) rep ∙ ap (flat_map new) alone ∙ append-nil (new n) in
               subst (λ es. Made 0 (text root.root) es (text_filled new aims root.root)) (sym own) (subst (λ s. Made 0 (text root.root) (does root cs new n) s) (sym filled_is) (made-change root cs new n c 0 (text root.root) of.1.0 begins takes.1))
           | inr stays ↦

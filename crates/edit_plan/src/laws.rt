@@ -25,7 +25,7 @@ ghost use Rattle.edit_change.specs.RewritingLaws.{StandsThere, IsUntouched, is_a
 ghost use Rattle.edit_plan.specs.Plan.{with_changes};
 ghost use Rattle.one_pass.specs.TextEdits.{as_piece, applied};
 ghost use Rattle.one_pass.specs.declared.text_edit.TextEdit.{TextEdit};
-ghost use Rattle.edit_plan.specs.PlanTextEdits.{AreTextEdits};
+ghost use Rattle.edit_plan.specs.PlanTextEdits.{AreTextEdits, AreApart};
 
 use edit_map::laws::{pairs_rise, place_is_unique, place_keeps_the_shape};
 
@@ -102,9 +102,11 @@ pub fn edit_text_is_filled()
         → text edit.new_root.root ≡ changed_text plan.changes (subtree plan.root) }
 {}
 
-/// The text edits of a plan, applied to the old text, make the new text of each edit that the plan makes.
+/// The text edits of a plan are in order and apart. Applied to the old text, they make the new text of each edit that the plan makes.
 pub fn text_edits_make_the_new_text()
-    ensures { (plan : Plan) (number : ℕ) (edit : Edit) (edits : List TextEdit)
+    ensures apart { (plan : Plan) (edits : List TextEdit)
+        → IsPlan plan → AreTextEdits plan edits → AreApart 0 (map as_piece edits) }
+    ensures makes { (plan : Plan) (number : ℕ) (edit : Edit) (edits : List TextEdit)
         → IsPlan plan → Makes plan number edit → AreTextEdits plan edits
         → applied (map as_piece edits) (text (subtree plan.root)) ≡ text edit.new_root.root }
 {}

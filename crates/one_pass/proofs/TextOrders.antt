@@ -9,25 +9,21 @@
 --     piece-is                      an edit, as a piece
 --     pieces-none, pieces-same, pieces-other      what a change does to the text
 --     numbers-of-marks              the marks of what stands in the place of the root, in which each change is one token
-use Rattle.std.specs.Prelude.{◌≡◌, ℕ, zero, suc, ◌+◌, ◌-◌, ◌<◌, ◌≤◌, ◌&&◌, true, false, cond, List, [], ◌∷◌, ◌++◌, map, flat_map, length, slice_get, Option, Some, None, IsSome, IsTrue, option_map, refl}
+use Rattle.std.specs.Prelude.{◌≡◌, ℕ, zero, suc, ◌+◌, ◌-◌, ◌<◌, ◌≤◌, true, false, cond, List, [], ◌∷◌, ◌++◌, map, flat_map, length, slice_get, Option, Some, None, option_map, refl}
 use Rattle.std.specs.Option.{option_map_or}
 use Rattle.std.proofs.Common.{ap, ap₂, sym, subst, ◌∙◌, arith, get_or}
-use Rattle.std.proofs.lemmas.Bool.{and_parts, false≢true}
 use Rattle.std.proofs.lemmas.Option.{none-some, same_Some}
-use Rattle.std.proofs.lemmas.List.{append_assoc, append-nil, map-append}
+use Rattle.std.proofs.lemmas.List.{append-nil, map-append}
 use Rattle.std.proofs.lemmas.Grind.{flat_map-append}
-use mathlib.Core.Logic.{◌⊎◌, inl, inr}
 use Rattle.cst_core.specs.Path.{Path, same_path, counted_from}
-use Rattle.cst_core.specs.Tree.{Tree, Forest, Token, Node, end, more, SyntaxTree, trees, forest, at, is_token, text, forest_text, forest_relabelled, tokens, forest_tokens}
+use Rattle.cst_core.specs.Tree.{Tree, Forest, Token, Node, end, more, SyntaxTree, trees, forest, at, text, forest_text, forest_relabelled, tokens, forest_tokens}
 use Rattle.cst_core.specs.Order.{start}
 use Rattle.cst_core.specs.AtOffset.{end_of}
-use Rattle.cst_core.specs.Element.{Element, element_at, subtree}
+use Rattle.cst_core.specs.Element.{Element, element_at}
 use Rattle.cst_core.specs.SyntaxElement.{element_of, syntax_at, syntax_as}
 use Rattle.cst_core.specs.declared.element.SyntaxElement.{SyntaxElement}
-use Rattle.cst_core.specs.declared.element.SyntaxElement.TheVariants as element
 use Rattle.edit_change.specs.Aim.{AfterElement}
 use Rattle.edit_change.specs.ChangeAim.{aim, aim_path}
-use Rattle.edit_change.specs.Fits.{Fits, is_native}
 use Rattle.edit_change.specs.PositionForm.{FirstChild, After}
 use Rattle.edit_change.specs.declared.change.Change.{Change}
 use Rattle.edit_change.specs.declared.change.Change.TheVariants.{Insert, InsertAll, Replace, ReplaceWithMany, ReplaceAll}

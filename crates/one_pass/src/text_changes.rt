@@ -49,7 +49,12 @@ fn text_at(alloc: Global, root: &SyntaxNode, target: &SyntaxElement) -> Result<S
         (λ s. string_bytes s ≡ text (subtree (element_at root.now (element_of target.now).path))) }
 {
     let mut out = String::new(alloc);
-    push_text_at(alloc, &mut out, root, Vec::from_slice(alloc, target.slots())?)?;
+    push_text_at(
+        alloc,
+        &mut out,
+        root,
+        Vec::from_slice(alloc, target.slots())?,
+    )?;
     Ok(out)
 }
 
@@ -80,7 +85,7 @@ fn range_text(
 ) -> Result<String, AllocError>
     ensures { IfOk result (λ s. string_bytes s
         ≡ flat_map (λ p. text (subtree (element_at root.now p)))
-            (siblings (element_of first.now).path (element_of last.now).path)) }
+        (siblings (element_of first.now).path (element_of last.now).path)) }
 {
     let mut out = String::new(alloc);
     for slot in first.index()..slot_after(last) {

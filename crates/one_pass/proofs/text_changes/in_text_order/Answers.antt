@@ -1,12 +1,9 @@
-use Rattle.std.proofs.Common.{◌≡◌, [], ◌∷◌, List, map, flat_map, IfOk, ap, sym, ◌∙◌, refl, rules, ℕ}
-use Rattle.cst_core.specs.Tree.{SyntaxTree}
+use Rattle.std.proofs.Common.{map, ap, ◌∙◌}
 use Rattle.cst_core.specs.Green.{branch_tree}
 use Rattle.cst_core.specs.Element.{subtree}
-use Rattle.edit_change.specs.Rewriting.{rewritten_whole}
 use Rattle.edit_change.specs.inner.Aimed.{aims_of}
 use Rattle.edit_change.proofs.AlteredNodes.{if_ok-map}
 use Rattle.one_pass.specs.TextEdits.{number_token}
-use Rattle.one_pass.specs.inner.Marked.{marks_of, marked_from}
 use Rattle.one_pass.specs.inner.TextOrder.{in_order_of}
 use Rattle.one_pass.proofs.TextOrders.{numbers-of, numbers-of-marks}
 use Rattle.one_pass.proofs.text_changes.in_text_order.Goals as goal

@@ -1,16 +1,4 @@
-use Rattle.std.proofs.Common.{rules, ◌≡◌, ◌++◌, ◌∷◌, [], map, flat_map, length, All, IfOk, OnOk, string_bytes, ◌<◌, ℕ, ◌+◌, ◌-◌, ◌*◌, ◌≤◌, ◌/◌, ◌%◌, Bool, true, false, nat_eq, nat_lt, List, slice_index_or, slice_set, bit_and, bit_or, w8, w32, w64, Bor, MutBor}
-use Rattle.cst_core.specs.Tree.{text}
-use Rattle.cst_core.specs.Path.{siblings}
-use Rattle.cst_core.specs.Green.{length_limit}
-use Rattle.cst_core.specs.Element.{element_at, subtree}
-use Rattle.cst_core.specs.SyntaxElement.{element_of}
-use Rattle.edit_change.specs.Fits.{Fits}
-use Rattle.edit_change.specs.inner.Aimed.{aims_of}
-use Rattle.edit_change.specs.inner.Fate.{fate}
-use Rattle.edit_change.specs.inner.Given.{given_trees}
-use Rattle.one_pass.specs.TextEdits.{offset, old_text}
-use Rattle.one_pass.specs.inner.Pass.{given_in}
-use Rattle.one_pass.specs.inner.TextOrder.{PushesPiece, AreMarkedByNumber, in_order_of, AreEditsOf}
+use Rattle.std.proofs.Common.{◌≡◌, ◌∷◌, [], length, ℕ, ◌+◌}
 use Rattle.one_pass.proofs.text_changes.numbered_table.Goals as goal
 use Rattle.std.proofs.Common.{length, Some, None, slice_get, refl, arith, ap, ap₂, sym, subst, ◌∙◌}
 use Rattle.std.proofs.lemmas.List.{length-append}
@@ -21,6 +9,7 @@ use Rattle.one_pass.specs.declared.marked_given.MarkedGiven.{MarkedGiven}
 use Rattle.std.specs.Option.{option_map_or}
 use Rattle.one_pass.specs.inner.Marked.{marks_of}
 use Rattle.one_pass.proofs.TextOrders.{pushed-each, one-marked, all-marked}
+
 pub loop-number-init : goal.loop-number-init
 loop-number-init c = record {
   long = ap length c.in_ok-entries.ensures.items;

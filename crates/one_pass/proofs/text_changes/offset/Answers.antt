@@ -1,16 +1,4 @@
-use Rattle.std.proofs.Common.{rules, ◌≡◌, ◌++◌, ◌∷◌, [], map, flat_map, length, All, IfOk, OnOk, string_bytes, ◌<◌, ℕ, ◌+◌, ◌-◌, ◌*◌, ◌≤◌, ◌/◌, ◌%◌, Bool, true, false, nat_eq, nat_lt, List, slice_index_or, slice_set, bit_and, bit_or, w8, w32, w64, Bor, MutBor}
-use Rattle.cst_core.specs.Tree.{text}
-use Rattle.cst_core.specs.Path.{siblings}
-use Rattle.cst_core.specs.Green.{length_limit}
-use Rattle.cst_core.specs.Element.{element_at, subtree}
-use Rattle.cst_core.specs.SyntaxElement.{element_of}
-use Rattle.edit_change.specs.Fits.{Fits}
-use Rattle.edit_change.specs.inner.Aimed.{aims_of}
-use Rattle.edit_change.specs.inner.Fate.{fate}
-use Rattle.edit_change.specs.inner.Given.{given_trees}
-use Rattle.one_pass.specs.TextEdits.{offset, old_text}
-use Rattle.one_pass.specs.inner.Pass.{given_in}
-use Rattle.one_pass.specs.inner.TextOrder.{PushesPiece, AreMarkedByNumber, in_order_of, AreEditsOf}
+use Rattle.std.proofs.Common.{◌≡◌}
 use Rattle.one_pass.proofs.text_changes.offset.Goals as goal
 use Rattle.std.proofs.Common.{ap, sym, ◌∙◌}
 use Rattle.std.proofs.lemmas.Bool.{false≢true}
@@ -19,6 +7,7 @@ use Rattle.cst_core.specs.SyntaxElement.{syntax_at}
 use Rattle.edit_change.specs.Aim.{AfterElement}
 use Rattle.edit_change.specs.ChangeAim.{aim, aim_path}
 use Rattle.one_pass.proofs.TextOrders.{syntax-there, offset-start}
+
 pub returns-clause-is : goal.returns-clause-is
 returns-clause-is c =
     let root = c.args.root.now in

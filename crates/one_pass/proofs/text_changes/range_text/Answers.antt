@@ -1,21 +1,13 @@
-use Rattle.std.proofs.Common.{rules, ◌≡◌, ◌++◌, ◌∷◌, [], map, flat_map, length, All, IfOk, OnOk, string_bytes, ◌<◌, ℕ, ◌+◌, ◌-◌, ◌*◌, ◌≤◌, ◌/◌, ◌%◌, Bool, true, false, nat_eq, nat_lt, List, slice_index_or, slice_set, bit_and, bit_or, w8, w32, w64, Bor, MutBor}
+use Rattle.std.proofs.Common.{◌≡◌, ◌++◌, ◌∷◌, [], flat_map, string_bytes, ℕ, ◌+◌, ◌-◌}
 use Rattle.cst_core.specs.Tree.{text}
-use Rattle.cst_core.specs.Path.{siblings}
-use Rattle.cst_core.specs.Green.{length_limit}
 use Rattle.cst_core.specs.Element.{element_at, subtree}
 use Rattle.cst_core.specs.SyntaxElement.{element_of}
-use Rattle.edit_change.specs.Fits.{Fits}
-use Rattle.edit_change.specs.inner.Aimed.{aims_of}
-use Rattle.edit_change.specs.inner.Fate.{fate}
-use Rattle.edit_change.specs.inner.Given.{given_trees}
-use Rattle.one_pass.specs.TextEdits.{offset, old_text}
-use Rattle.one_pass.specs.inner.Pass.{given_in}
-use Rattle.one_pass.specs.inner.TextOrder.{PushesPiece, AreMarkedByNumber, in_order_of, AreEditsOf}
 use Rattle.one_pass.proofs.text_changes.range_text.Goals as goal
 use Rattle.std.proofs.Common.{suc, ap, ap₂, sym, ◌∙◌}
 use Rattle.std.proofs.lemmas.List.{append_assoc, append-nil}
 use Rattle.cst_core.specs.Path.{counted_from, last_slot, parent_path}
 use Rattle.one_pass.proofs.TextOrders.{range-next, range-none, flat_map-map}
+
 pub loop-slot-init : goal.loop-slot-init
 loop-slot-init c =
     let own = λ (i : ℕ). text (subtree (element_at c.args.root.now (parent_path (element_of c.args.first.now).path ++ i ∷ []))) in

@@ -1,4 +1,4 @@
-use Rattle.std.proofs.Common.{List, flat_map, ap, ap₂, sym, subst, ◌∙◌}
+use Rattle.std.proofs.Common.{flat_map, ap, sym, subst, ◌∙◌}
 use Rattle.cst_core.specs.Element.{subtree}
 use Rattle.edit_change.specs.inner.Aimed.{aims_of}
 use Rattle.edit_change.specs.inner.OwnerPlaces.{places_in}

@@ -1,21 +1,12 @@
-use Rattle.std.proofs.Common.{rules, ◌≡◌, ◌++◌, ◌∷◌, [], map, flat_map, length, All, IfOk, OnOk, string_bytes, ◌<◌, ℕ, ◌+◌, ◌-◌, ◌*◌, ◌≤◌, ◌/◌, ◌%◌, Bool, true, false, nat_eq, nat_lt, List, slice_index_or, slice_set, bit_and, bit_or, w8, w32, w64, Bor, MutBor}
+use Rattle.std.proofs.Common.{rules, ◌≡◌, ◌++◌, [], flat_map, length, string_bytes, ◌<◌, ◌+◌, ◌≤◌, List}
 use Rattle.cst_core.specs.Tree.{text}
-use Rattle.cst_core.specs.Path.{siblings}
-use Rattle.cst_core.specs.Green.{length_limit}
-use Rattle.cst_core.specs.Element.{element_at, subtree}
-use Rattle.cst_core.specs.SyntaxElement.{element_of}
-use Rattle.edit_change.specs.Fits.{Fits}
-use Rattle.edit_change.specs.inner.Aimed.{aims_of}
-use Rattle.edit_change.specs.inner.Fate.{fate}
 use Rattle.edit_change.specs.inner.Given.{given_trees}
-use Rattle.one_pass.specs.TextEdits.{offset, old_text}
-use Rattle.one_pass.specs.inner.Pass.{given_in}
-use Rattle.one_pass.specs.inner.TextOrder.{PushesPiece, AreMarkedByNumber, in_order_of, AreEditsOf}
 use Rattle.one_pass.proofs.text_changes.text_of_given.Goals as goal
 use Rattle.std.proofs.Common.{List, drop, arith, rules, ap, sym, ◌∙◌}
 use Rattle.std.proofs.lemmas.List.{append_assoc, append-nil, at_drop_more, at_drop_all}
 use Rattle.green_tree.specs.Tree.{SyntaxTree, Token}
 use Rattle.green_tree.specs.GreenElement.{element_tree}
+
 pub loop-index-init : goal.loop-index-init
 loop-index-init c = ap (λ s. s ++ flat_map text (given_trees c.args.given.now)) c.new-out.ensures.bytes
 
