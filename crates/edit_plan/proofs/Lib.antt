@@ -1,3 +1,6 @@
+mod Applied
+mod Ranges
+mod MadeByChanges
 mod TwoPlaces
 mod AllBuilt
 mod AllTouched

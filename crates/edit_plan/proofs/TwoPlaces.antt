@@ -1,7 +1,8 @@
 -- Two tables of places of one plan make one tree.
 --     new_tree-agree                where two tables agree on owners, they make one tree
+--     pieces-agree                  they make one list of text edits
 --     one-made, one-root, one-changed, one-annotated      what a plan makes, told of two edits of it
-use Rattle.std.specs.Prelude.{◌≡◌, ℕ, List, [], ◌∷◌, map, filter, slice_get, unwrap_or, Some, None, refl}
+use Rattle.std.specs.Prelude.{◌≡◌, ℕ, List, [], ◌∷◌, map, flat_map, filter, slice_get, unwrap_or, Some, None, refl}
 use Rattle.std.specs.List.{AllByRecursion, enumerate_from}
 use Rattle.std.proofs.Common.{ap, ap₂, sym, ◌∙◌}
 use Rattle.std.proofs.lemmas.Option.{same_Some}
@@ -19,6 +20,9 @@ use Rattle.edit_change.proofs.Owners.{owner_from}
 use Rattle.edit_change.specs.NewTree.{OriginTree, plain, is_free, origin, moved_aim, targets_of, payload_rewritten, independents, dependents, given, new_tree}
 use Rattle.annotations.specs.AnnotationTable.{found_for}
 use Rattle.edit_change.specs.Places.{elements_held}
+use Rattle.std.specs.Option.{option_map_or}
+use Rattle.cst_core.specs.Tree.{text}
+use Rattle.one_pass.specs.TextEdits.{in_text_order, altering_pieces, text_pieces}
 use Rattle.edit_plan.specs.Plan.{Plan, Edit, Makes, WouldMake, registered_elements}
 use Rattle.edit_change.specs.Results.{changed, annotated, paths_with}
 use Rattle.edit_plan.proofs.StagesOfRuns.{PlaceIsUnique, places-agree}
@@ -51,6 +55,9 @@ module _ (cs : List Change) (a b : ℕ → Path) (agree : (n o : ℕ) (c : Chang
 
   pub new_tree-agree : (root : Element) → new_tree cs a root ≡ new_tree cs b root
   new_tree-agree root = ap (λ g. rewritten_whole (origin (address root) None) g (independents cs) (subtree root)) (fun_ext given-agree)
+
+  pub pieces-agree : (root : Element) → text_pieces root cs a ≡ text_pieces root cs b
+  pieces-agree root = ap (λ (g : ℕ → List OriginTree). flat_map (λ n. option_map_or (altering_pieces root (flat_map text (g n))) (slice_get cs n) []) (in_text_order root cs)) (fun_ext given-agree)
 
 -- ---- two edits of one plan
 module _ (unique : PlaceIsUnique) (p : Plan) (rises : IsRising p.mapping) where

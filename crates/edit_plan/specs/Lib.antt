@@ -19,6 +19,8 @@ pub mod PlanText
 pub mod Engine
 pub mod PlanErrorNames
 pub mod Run
+pub mod PlanTextEdits
 pub mod ExecuteRefusal
 pub use Rattle.edit_change.specs.RewritingLaws
+pub use Rattle.one_pass.specs.TextEdits
 pub mod inner

@@ -23,6 +23,9 @@ ghost use Rattle.edit_change.specs.Places.{HasPlace, elements_held};
 ghost use Rattle.edit_steps.specs.Schedule.{IsAllowed, index_in, is_ready};
 ghost use Rattle.edit_change.specs.RewritingLaws.{StandsThere, IsUntouched, is_at_depth, changed_text};
 ghost use Rattle.edit_plan.specs.Plan.{with_changes};
+ghost use Rattle.one_pass.specs.TextEdits.{as_piece, applied};
+ghost use Rattle.one_pass.specs.declared.text_edit.TextEdit.{TextEdit};
+ghost use Rattle.edit_plan.specs.PlanTextEdits.{AreTextEdits, AreApart};
 
 use edit_map::laws::{pairs_rise, place_is_unique, place_keeps_the_shape};
 
@@ -97,6 +100,15 @@ pub fn edit_text_is_filled()
     ensures { (plan : Plan) (number : ℕ) (edit : Edit)
         → Makes plan number edit → All (λ c. owner plan.changes c ≡ None) plan.changes
         → text edit.new_root.root ≡ changed_text plan.changes (subtree plan.root) }
+{}
+
+/// The text edits of a plan are in order and apart. Applied to the old text, they make the new text of each edit that the plan makes.
+pub fn text_edits_make_the_new_text()
+    ensures apart { (plan : Plan) (edits : List TextEdit)
+        → IsPlan plan → AreTextEdits plan edits → AreApart 0 (map as_piece edits) }
+    ensures makes { (plan : Plan) (number : ℕ) (edit : Edit) (edits : List TextEdit)
+        → IsPlan plan → Makes plan number edit → AreTextEdits plan edits
+        → applied (map as_piece edits) (text (subtree plan.root)) ≡ text edit.new_root.root }
 {}
 
 /// No change is owned where each one is at the same depth, as those of the children of one node are: what is around it is

@@ -28,6 +28,7 @@ pub use edit_run::EditRun;
 pub use engine::EditEngine;
 pub use engine_error::EngineError;
 pub use execute_error::ExecuteError;
+pub use one_pass::TextEdit;
 pub use one_pass_engine::OnePassEngine;
 pub use plan::EditPlan;
 pub use rewritten::Rewritten;

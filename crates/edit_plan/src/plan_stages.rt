@@ -22,7 +22,7 @@ impl EditPlan {
     }
 
     // Any two tables of places agree on the owners of changes.
-    fn agree_on_places(&self)
+    pub(crate) fn agree_on_places(&self)
         ensures { AgreeOnPlaces self.now }
     {
         // For the proof: what is true of every plan.

@@ -8,6 +8,7 @@ ghost use Rattle.cst_core.specs.SyntaxElement.{syntax_at};
 ghost use Rattle.edit_change.specs.Topmost.{paths_of};
 ghost use Rattle.edit_plan.specs.Plan.{Makes, RunRefuses};
 ghost use Rattle.edit_plan.specs.Engine.{HasRewritten, EngineRefuses, RanBefore, CountsTouched};
+ghost use Rattle.edit_plan.specs.PlanTextEdits.{AreTextEdits};
 ghost use Rattle.edit_plan.specs.inner.PlanRun.{IsOfRoot, IsPlanned};
 
 use crate::edit::SyntaxEdit;
@@ -19,7 +20,7 @@ use crate::rewritten::Rewritten;
 use annotations::{annotated_paths, elements_by_annotation, registered_copies};
 use cst_core::{LENGTH_LIMIT, SyntaxElement, SyntaxNode, TreeIds};
 use edit_change::Planned;
-use one_pass::{OnePass, rewrite};
+use one_pass::{OnePass, TextEdit, rewrite, text_edits};
 use std::alloc::{AllocError, Global};
 
 impl EditPlan {
@@ -93,6 +94,24 @@ impl EditPlan {
             return Err(EngineError::TooLong);
         }
         Ok(rewritten)
+    }
+
+    /// What the plan does to the text of the old tree, as edits for an editor of texts, from left to right: one for each change that is
+    /// neither dropped nor owned and alters the text. Its new text is that of its payload, with all that it owns carried out in it.
+    ///
+    /// Offsets are in bytes of the old text. Edits do not overlap; several inserts of one gap are edits at one offset, in recorded order,
+    /// and an insert after a token that is replaced comes after the replacement. Together they make the new text
+    /// (`edit_plan::laws::text_edits_make_the_new_text`). Takes time near linear in what carrying the plan out takes and in the texts that
+    /// are replaced and brought, and for each change the children before its way. See docs/CALLING.md, 'Text edits'.
+    ///
+    /// ```text
+    /// for edit in plan.text_edits(alloc)?.iter() { send(edit.start, edit.end, &edit.text); }
+    /// ```
+    pub fn text_edits(&self, alloc: Global) -> Result<Vec<TextEdit>, AllocError>
+        ensures { IfOk result (λ v. AreTextEdits self.now v.items) }
+    {
+        self.agree_on_places();
+        text_edits(alloc, self.planned())
     }
 
     // What an engine is told of the plan.

@@ -1,1 +1,2 @@
+pub mod TextEdits
 pub mod inner

@@ -7,6 +7,7 @@ pub mod Marked
 pub mod Built
 pub mod Lists
 pub mod Sought
+pub mod TextOrder
 pub mod OwnerTables
 pub mod GivenTables
 pub mod Marks

@@ -17,6 +17,10 @@ mod pass;
 mod place;
 mod rewriting;
 mod sought;
+mod text_changes;
+mod text_edit;
 mod walk;
 
 pub use rewriting::{OnePass, rewrite};
+pub use text_changes::text_edits;
+pub use text_edit::TextEdit;

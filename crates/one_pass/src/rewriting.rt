@@ -82,7 +82,7 @@ pub fn rewrite(
 }
 
 // The changes without an owner, by where they aim.
-fn independent_aims<'a>(
+pub(crate) fn independent_aims<'a>(
     alloc: Global,
     changes: &'a [Change],
     fates: &[Fate],

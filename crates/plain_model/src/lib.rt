@@ -25,6 +25,7 @@ mod planned;
 mod rewriter;
 mod stage;
 mod stepper;
+mod text;
 mod walk;
 
 pub use answer::Answer;

@@ -25,7 +25,7 @@ pub use edit_map::{MapError, SyntaxMapping, SyntaxMappingBuilder};
 pub use edit_plan::{
     Annotations, Change, EditEngine, EditError, EditPlan, EditRun, Element, ElementList,
     EngineError, ExecuteError, OnePassEngine, Position, Rewritten, SpliceEngine, SyntaxAnnotation,
-    SyntaxEdit,
+    SyntaxEdit, TextEdit,
 };
 pub use editor::SyntaxEditor;
 pub use error::{MergeError, RecordError};

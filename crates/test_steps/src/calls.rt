@@ -253,6 +253,11 @@ pub const OWED: &[Owed] = &[
         answers: &["ok", "TooLong"],
     },
     Owed {
+        call: "text_edits",
+        name: "EditPlan::text_edits",
+        answers: &["ok"],
+    },
+    Owed {
         call: "default_order",
         name: "EditPlan::default_order",
         answers: &["ok"],

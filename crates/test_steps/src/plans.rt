@@ -2,7 +2,7 @@
 ghost use Rattle.std.specs.Prelude.{◌≡◌, ◌↔◌, ◌<◌, [], length, IsTrue, IfOk, All};
 ghost use Rattle.edit_plan.specs.Fits.{Fits};
 
-use crate::answers::{number_answer, number_or_none, ok, truth};
+use crate::answers::{memory, number_answer, number_or_none, ok, truth};
 use crate::arguments::{insertion, insertions, range_replacements, replacements, two_elements};
 use crate::editors::take_last;
 use crate::making::annotation;
@@ -14,7 +14,7 @@ use cst_core::SyntaxNode;
 use std::alloc::Global;
 use std::mem::replace;
 use syntax_editor::{Change, EditError, EditPlan, ElementList, SyntaxMapping};
-use test_trees::{NoAnswer, Words, quote, word};
+use test_trees::{NoAnswer, Words, push_quoted, quote, word};
 
 /// What the step of this name answers, if it is one of these.
 pub fn answer(
@@ -31,6 +31,7 @@ pub fn answer(
         "is_empty" => is_empty(alloc, session),
         "plan_deletions" => deletions(alloc, session),
         "plan_text" => text(alloc, session),
+        "text_edits" => text_edits(alloc, session),
         "is_dropped" => is_dropped(alloc, session, words),
         "owner" => owner(alloc, session, words),
         _ => return None,
@@ -57,6 +58,19 @@ fn keep_plan(
         }
         Err(refusal) => refusal_text(alloc, refusal),
     }
+}
+
+// Each text edit: its offsets and its text.
+fn text_edits(alloc: Global, session: &Session) -> Result<String, NoAnswer> {
+    let Ok(edits) = last(session)?.text_edits(alloc) else {
+        return memory(alloc);
+    };
+    let mut answer = String::from_str(alloc, "ok")?;
+    for edit in &edits {
+        write!(answer, " {}-{} ", edit.start, edit.end)?;
+        push_quoted(&mut answer, &edit.text)?;
+    }
+    Ok(answer)
 }
 
 // One more change of the plan that is built.
