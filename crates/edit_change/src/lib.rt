@@ -36,4 +36,4 @@ pub use one_node::only_node;
 pub use planned::Planned;
 pub use position::Position;
 pub use staged::{moved_path, owner_of, place_at, staged_path};
-pub use target_table::TargetTable;
+pub use target_table::{TargetTable, first_clash};
