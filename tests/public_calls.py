@@ -56,7 +56,8 @@ def libraries(root="."):
 
 def sources(crate, root="."):
     """The texts of a crate's sources, by file name."""
-    for folder, _, files in os.walk(f"{root}/crates/{crate}/src"):
+    for folder, folders, files in os.walk(f"{root}/crates/{crate}/src"):
+        folders.sort()
         for name in sorted(files):
             if name.endswith(".rt"):
                 with open(f"{folder}/{name}", encoding="utf-8") as text:

@@ -5,6 +5,7 @@
 #   bad_lines.txt      lines that are bad after three good ones, each in a script of its own
 #   bad_first_lines.txt, bad_ends.txt    lines that are bad as the first one, and after `finish`
 #   good_lines.txt     lines that change nothing
+#   explained.txt      scripts with their answers and what is said on the standard error
 # tests/corpus has a folder of scripts, NAME with its answer NAME.stdout; examples has NAME.script with its answer NAME.stdout.
 set -euo pipefail
 cd "$(dirname "$0")/.."
@@ -41,12 +42,25 @@ is_wrong() {
 try() {
     local status=0 wanted
     wanted=$(status_of "$room/answer")
-    timeout 20 "$program" <"$room/script" >"$room/out" || status=$?
+    timeout 20 "$program" <"$room/script" >"$room/out" 2>"$room/said" || status=$?
     ran=$((ran + 1))
     if [ "$status" -ne "$wanted" ] || ! cmp -s "$room/answer" "$room/out"; then
         head -c 300 "$room/out"
         head -c 300 "$room/answer"
         is_wrong "$1: status $status, $wanted is wanted; above is what it printed, and what it should have printed"
+    fi
+    # A sentence where there is no edit, and nothing where there is one.
+    if [ "$(grep -c . "$room/said" || true)" -ne $((wanted > 0)) ]; then
+        is_wrong "$1: its standard error has $(head -c 300 "$room/said")"
+    fi
+}
+
+# The same, and its standard error is to be the sentence $2.
+says() {
+    try "$1"
+    if [ "$(cat "$room/said")" != "$2" ]; then
+        cat "$room/said"
+        is_wrong "$1: above is what it said; '$2' is wanted"
     fi
 }
 
@@ -101,6 +115,44 @@ lines() {
         printf 'text "(1, 2)"\nchanged\n' >"$room/answer"
         try "good line $line"
     done <"$scripts/good_lines.txt"
+}
+
+# Scripts without an edit, with the sentence that says why: rows of '== NAME', the script, '-- answer', the answer, '-- says', the sentence.
+explained() {
+    local name='' part='' line
+    while IFS= read -r line; do
+        case $line in
+        '== '*) name=${line#== } part=script && : >"$room/script" ;;
+        '-- '*) part=${line#-- } && : >"$room/$part" ;;
+        '') ;;
+        *)
+            if [ "$part" = says ]; then
+                says "$name" "$line"
+            else
+                printf '%s\n' "$line" >>"$room/$part"
+            fi
+            ;;
+        esac
+    done <"$scripts/explained.txt"
+    is_bad_text 'a text that is not UTF-8' 'the script is not UTF-8'
+}
+
+# Bytes that are no text.
+is_bad_text() {
+    printf '\377\n' >"$room/script"
+    echo 'bad script line 0' >"$room/answer"
+    says "$1" "$2"
+}
+
+# Called with an argument it says how it is called, reads nothing and prints nothing.
+argument() {
+    local status=0
+    printf 'left\n' >"$room/script"
+    { timeout 20 "$program" --help >"$room/out" 2>"$room/said" || status=$?; cat >"$room/left"; } <"$room/script"
+    ran=$((ran + 1))
+    if [ "$status" -ne 2 ] || [ -s "$room/out" ] || ! grep -qF 'syned < SCRIPT' "$room/said" || ! cmp -s "$room/script" "$room/left"; then
+        is_wrong "an argument: status $status, and it said $(head -c 300 "$room/said")"
+    fi
 }
 
 # Lines that end by a carriage return, a last line without its newline, and bytes that are no text.
@@ -253,15 +305,16 @@ within_a_second() {
 ends() {
     local status=0
     printf '%s\nfinish\n' "$opening" >"$room/script"
-    "$program" </ >"$room/out" 2>&1 || status=$?
-    [ "$status" -eq 3 ] && [ ! -s "$room/out" ] || is_wrong "a folder as input: status $status"
+    "$program" </ >"$room/out" 2>"$room/said" || status=$?
+    [ "$status" -eq 3 ] && [ ! -s "$room/out" ] && [ "$(cat "$room/said")" = 'the script could not be read' ] ||
+        is_wrong "a folder as input: status $status"
     status=0
-    "$program" <"$room/script" >/dev/full 2>"$room/out" || status=$?
-    [ "$status" -eq 3 ] && [ ! -s "$room/out" ] || is_wrong "a full output: status $status"
+    "$program" <"$room/script" >/dev/full 2>"$room/said" || status=$?
+    [ "$status" -eq 3 ] && [ "$(cat "$room/said")" = 'the answer could not be written' ] || is_wrong "a full output: status $status"
     ran=$((ran + 2))
 }
 
-[ $# -gt 0 ] || set -- tables examples corpus lines ends_of_lines beginnings limits long_answers recording ends
+[ $# -gt 0 ] || set -- tables examples corpus lines explained argument ends_of_lines beginnings limits long_answers recording ends
 for part; do
     "$part"
 done

@@ -1,19 +1,17 @@
 -- What search and replacement record of the nodes of a file.
 --     is_match, is_block            a node has a pattern's kind and text; it is a block
 --     with_match, with_matches      the changes with the replacement of a node, of each of some nodes, that matches
---     wrapped_tree                  a tree between parentheses
---     wrapper                       the root of a tree of its own: a copy of a node between parentheses
+--     in_parentheses                the root of a tree of its own: a copy of a node between parentheses, where this is the next tree number
 --     with_block, with_blocks       the next tree number and the changes with the wrapper of a node, of each of some nodes, that is a block
 --     ReplacesMatches, WrapsBlocks  an editor is another one after the replacement of the matches among some nodes, after their blocks were wrapped
 --     rewriting                     the next tree number and the changes once all nodes of a root were looked at, matches first
 --     Rewrites                      an editor is another one after that
 --     IsRewritten                   an edit is what these changes make of a file, where this is the next tree number
-use Rattle.std.specs.Prelude.{◌≡◌, ℕ, ◌+◌, Bool, ◌&&◌, ◌==◌, cond, List, [], ◌∷◌}
+use Rattle.std.specs.Prelude.{◌≡◌, ℕ, ◌+◌, Bool, ◌&&◌, ◌==◌, cond, List, [], ◌∷◌, codes}
 use Rattle.std.specs.List.{fold}
 use Rattle.std.specs.Cmp.Lexicographic.{pointwise}
 use Rattle.syntax_editor.specs.Kinds.{BLOCK_EXPR, TUPLE_EXPR, L_PAREN, R_PAREN}
-use Rattle.syntax_editor.specs.Tree.{SyntaxTree, end, more, label, text}
-use Rattle.syntax_editor.specs.Tree as tree
+use Rattle.syntax_editor.specs.Tree.{label, text}
 use Rattle.syntax_editor.specs.Element.{Element, subtree}
 use Rattle.syntax_editor.specs.SyntaxElement.{descendants_of}
 use Rattle.syntax_editor.specs.ElementForms.TheVariants.{Node}
@@ -21,6 +19,8 @@ use Rattle.syntax_editor.specs.ChangeForms.{Change}
 use Rattle.syntax_editor.specs.Plan.{Plan, Edit, Makes}
 use Rattle.syntax_editor.specs.Editor.{Editor, has_parent, edited_root}
 use Rattle.syntax_editor.specs.RecordCall.{Replacing, recorded}
+use Rattle.syntax_editor.specs.Spacing.{lone_token}
+use Rattle.syntax_editor.specs.Wrapping.{wrapper}
 
 -- ---- matches
 abbrev pub is_match : Element → Element → Bool
@@ -36,14 +36,11 @@ with_matches pattern new ns cs = fold (with_match pattern new) cs ns
 abbrev pub is_block : Element → Bool
 is_block n = label (subtree n) == BLOCK_EXPR.0
 
-abbrev pub wrapped_tree : SyntaxTree → SyntaxTree
-wrapped_tree t = tree.Node TUPLE_EXPR.0 (more (tree.Token L_PAREN.0 (40 ∷ [])) (more t (more (tree.Token R_PAREN.0 (41 ∷ [])) end)))
-
-abbrev pub wrapper : ℕ → Element → Element
-wrapper number n = record { number = number; root = wrapped_tree (subtree n); path = [] }
+abbrev pub in_parentheses : ℕ → Element → Element
+in_parentheses next n = wrapper (next + 2) TUPLE_EXPR (lone_token next L_PAREN (codes "(") ∷ []) n (lone_token (next + 1) R_PAREN (codes ")") ∷ [])
 
 abbrev pub with_block : ℕ × List Change → Element → ℕ × List Change
-with_block s n = cond (is_block n) (s.0 + 1, recorded (Replacing (Node n) (Node (wrapper s.0 n))) s.1) s
+with_block s n = cond (is_block n) (s.0 + 3, recorded (Replacing (Node n) (Node (in_parentheses s.0 n))) s.1) s
 
 abbrev pub with_blocks : List Element → ℕ × List Change → ℕ × List Change
 with_blocks ns s = fold with_block s ns

@@ -13,6 +13,7 @@ ghost use Rattle.callers.specs.Rearranged.{calls, after_calls, Rearranges, IsRea
 
 use crate::tree::{new_text, root_of};
 use anyhow::{Result, anyhow};
+use cst_core::laws::children_are_one_level_below;
 use cst_core::{SyntaxElement, SyntaxKind, SyntaxNode, TreeIds};
 use edit_plan::laws::edit_text_is_filled;
 use list_removal::laws::removal_is_at_the_depth_of_the_element;
@@ -62,6 +63,7 @@ fn text_is_told()
         → text edit.new_root.root ≡ changed_text after.changes (subtree after.root) }
 {
     edit_text_is_filled();
+    children_are_one_level_below();
     calls_at_one_depth_own_nothing();
     removal_is_at_the_depth_of_the_element();
 }

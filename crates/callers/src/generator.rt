@@ -9,10 +9,8 @@ use syntax_editor::{
 };
 
 fn first_of_kind(alloc: Global, node: &SyntaxNode, kind: SyntaxKind) -> Result<SyntaxNode> {
-    let mut nodes = node.descendants(alloc)?.into_iter();
-    nodes
-        .find(|node| node.kind() == kind)
-        .context("no node of this kind")
+    let mut nodes = node.descendants_of_kind(alloc, kind)?.into_iter();
+    nodes.next().context("no node of this kind")
 }
 
 // A newline with the spaces of the level that a node has.

@@ -6,14 +6,15 @@ ghost use Rattle.syntax_editor.specs.Element.{Element, subtree};
 ghost use Rattle.syntax_editor.specs.Nesting.{owner};
 ghost use Rattle.syntax_editor.specs.Plan.{Edit};
 ghost use Rattle.syntax_editor.specs.RewritingLaws.{changed_text};
-ghost use Rattle.callers.specs.Rewritten.{is_match, wrapper, ReplacesMatches, WrapsBlocks, Rewrites, IsRewritten};
+ghost use Rattle.syntax_editor.specs.Spacing.{lone_token};
+ghost use Rattle.callers.specs.Rewritten.{is_match, ReplacesMatches, WrapsBlocks, Rewrites, IsRewritten};
 
 use crate::tree::{new_text, root_of};
-use anyhow::{Context, Result};
-use cst_core::{GreenElement, GreenNode, GreenToken, SyntaxKind, SyntaxNode, TreeIds};
+use anyhow::Result;
+use cst_core::{SyntaxElement, SyntaxKind, SyntaxNode, TreeIds};
 use edit_plan::laws::edit_text_is_filled;
 use std::alloc::Global;
-use syntax_editor::{SyntaxEdit, SyntaxEditor, SyntaxMappingBuilder};
+use syntax_editor::{SyntaxEdit, SyntaxEditor};
 
 // A match has the pattern's kind and its text.
 fn is_match(alloc: Global, node: &SyntaxNode, pattern: &SyntaxNode) -> Result<bool>
@@ -52,48 +53,21 @@ fn replace_matches(
     Ok(())
 }
 
-// `(COPY)`, the root of a tree of its own.
-fn wrapper_of(alloc: Global, ids: &mut TreeIds, node: &SyntaxNode) -> Result<SyntaxNode>
-    ensures ok { IfOk result (λ w. w ≡ wrapper ids.old node.now) }
+fn parenthesis(
+    alloc: Global,
+    ids: &mut TreeIds,
+    editor: &SyntaxEditor,
+    kind: SyntaxKind,
+    text: &str,
+) -> Result<SyntaxElement>
+    ensures ok { IfOk result (λ e. e ≡ lone_token ids.old kind text.now) }
     ensures drawn { OnOk result (ids.new ≡ ids.old + 1) }
 {
-    let copy = GreenElement::Node(node.green(alloc)?);
-    let children = vec![in alloc;
-        GreenElement::Token(GreenToken::new(alloc, SyntaxKind::L_PAREN, "(")?),
-        copy,
-        GreenElement::Token(GreenToken::new(alloc, SyntaxKind::R_PAREN, ")")?),
-    ]?;
-    let wrapper = GreenNode::new(alloc, SyntaxKind::TUPLE_EXPR, children)?;
-    Ok(SyntaxNode::new_root(alloc, ids, wrapper)?)
+    let token = editor.make().token(alloc, ids, kind, text)?;
+    Ok(SyntaxElement::Token(token))
 }
 
-// The pair of a node and its copy, the one child node of the wrapper.
-fn pair_with_copy(
-    alloc: Global,
-    node: &SyntaxNode,
-    wrapper: &SyntaxNode,
-) -> Result<SyntaxMappingBuilder> {
-    let copy = wrapper
-        .first_child(alloc)?
-        .context("the wrapper has one child node")?;
-    let mut builder = SyntaxMappingBuilder::new(alloc, wrapper.try_clone(alloc)?);
-    builder.map_node(alloc, node.try_clone(alloc)?, copy)?;
-    Ok(builder)
-}
-
-// A block is mapped to its copy in the wrapper, so that changes inside the block move there.
-fn map_to_copy(
-    alloc: Global,
-    editor: &mut SyntaxEditor,
-    node: &SyntaxNode,
-    wrapper: &SyntaxNode,
-) -> Result<()>
-    ensures { OnOk result (editor.new ≡ record editor.old { factory = editor.new.factory }) }
-{
-    let pair = pair_with_copy(alloc, node, wrapper)?;
-    Ok(editor.add_mapping(alloc, pair)?)
-}
-
+// What is replaced inside the block is replaced in its copy between the parentheses.
 fn wrap_block(
     alloc: Global,
     ids: &mut TreeIds,
@@ -103,9 +77,9 @@ fn wrap_block(
     ensures { OnOk result (WrapsBlocks (node.now ∷ []) ids.old ids.new editor.old editor.new) }
 {
     if node.kind() == SyntaxKind::BLOCK_EXPR {
-        let wrapper = wrapper_of(alloc, ids, node)?;
-        map_to_copy(alloc, editor, node, &wrapper)?;
-        editor.replace(alloc, node, wrapper)?;
+        let open = parenthesis(alloc, ids, editor, SyntaxKind::L_PAREN, "(")?;
+        let close = parenthesis(alloc, ids, editor, SyntaxKind::R_PAREN, ")")?;
+        editor.wrap(alloc, ids, node, SyntaxKind::TUPLE_EXPR, &[open], &[close])?;
     }
     Ok(())
 }

@@ -1,6 +1,10 @@
+ghost use Rattle.std.specs.Fmt.{WritesOnOk};
+ghost use Rattle.cst_core.specs.Debug.{node_debug};
+
 use crate::element::SyntaxElement;
 use crate::node::SyntaxNode;
 use crate::token::SyntaxToken;
+use green_tree::{GreenElement, GreenNode};
 use std::fmt;
 
 /// Prints the node's text, as `SyntaxNode::text` gives it. Options of a format, as a width, change nothing.
@@ -47,6 +51,15 @@ impl fmt::Display for SyntaxElement {
 }
 
 /// Prints the node as `KIND@START..END`, in bytes of the whole tree's text.
+///
+/// `{:#?}` prints a line for the node and for each element below it, in document order. Each level is indented by two
+/// spaces, and a token's line has its text as well. A nested node takes stack, as when its text is printed.
+///
+/// ```text
+/// ARG_LIST@0..6
+///   LITERAL@1..2
+///     INT_NUMBER@1..2 "1"
+/// ```
 impl fmt::Debug for SyntaxNode {
     ghost use Rattle.std.specs.Prelude.{Some};
     ghost use Rattle.cst_core.specs.Debug.{node_debug};
@@ -54,14 +67,65 @@ impl fmt::Debug for SyntaxNode {
     ghost debug_output = { λ n. Some (node_debug n) };
 
     fn fmt<W: fmt::Write>(&self, f: &mut fmt::Formatter<W>) -> fmt::Result {
-        let kind = self.kind();
-        let start = self.location.text_start();
-        let end = self.text_end();
-        write!(f, "{kind:?}@{start}..{end}")
+        if f.alternate() {
+            return write_lines(self, f);
+        }
+        write_node(self, f)
+    }
+}
+
+fn write_node<W: fmt::Write>(node: &SyntaxNode, f: &mut fmt::Formatter<W>) -> fmt::Result
+    ensures { WritesOnOk W.write_str_gives f.old result (node_debug node.now) f.new }
+{
+    let kind = node.kind();
+    let start = node.location.text_start();
+    let end = node.text_end();
+    write!(f, "{kind:?}@{start}..{end}")
+}
+
+fn write_lines<W: fmt::Write>(node: &SyntaxNode, f: &mut fmt::Formatter<W>) -> fmt::Result {
+    write_node(node, f)?;
+    f.write_str("\n")?;
+    write_below(&node.green, node.location.text_start(), 1, f)
+}
+
+// The lines of all below a node that starts at this byte. Neither sum passes its type in a tree of an element value.
+fn write_below<W: fmt::Write>(
+    node: &GreenNode,
+    start: u64,
+    level: usize,
+    f: &mut fmt::Formatter<W>,
+) -> fmt::Result {
+    let mut start = start;
+    for child in node.children() {
+        f.write_repeated("  ", level)?;
+        write_line(child, start, f)?;
+        if let GreenElement::Node(below) = child {
+            write_below(below, start, level.saturating_add(1), f)?;
+        }
+        start = start.saturating_add(child.length());
+    }
+    Ok(())
+}
+
+fn write_line<W: fmt::Write>(
+    element: &GreenElement,
+    start: u64,
+    f: &mut fmt::Formatter<W>,
+) -> fmt::Result {
+    let kind = element.kind();
+    let end = start.saturating_add(element.length());
+    match element {
+        GreenElement::Node(_) => writeln!(f, "{kind:?}@{start}..{end}"),
+        GreenElement::Token(token) => {
+            let text = token.text();
+            writeln!(f, "{kind:?}@{start}..{end} {text:?}")
+        }
     }
 }
 
 /// Prints the token as `KIND@START..END "TEXT"`, with the whole text as `{:?}` quotes it. The contract speaks of texts in ASCII.
+/// `{:#?}` prints the same.
 impl fmt::Debug for SyntaxToken {
     ghost use Rattle.cst_core.specs.Debug.{token_debug};
 
@@ -76,13 +140,20 @@ impl fmt::Debug for SyntaxToken {
     }
 }
 
-/// Prints `Node(..)` or `Token(..)` round what the node or token prints that it is.
+/// Prints `Node(..)` or `Token(..)` round what the node or token prints that it is. `{:#?}` prints only what the node or
+/// token prints.
 impl fmt::Debug for SyntaxElement {
     ghost use Rattle.cst_core.specs.Debug.{element_debug};
 
     ghost debug_output = { element_debug };
 
     fn fmt<W: fmt::Write>(&self, f: &mut fmt::Formatter<W>) -> fmt::Result {
+        if f.alternate() {
+            return match self {
+                SyntaxElement::Node(node) => fmt::Debug::fmt(node, f),
+                SyntaxElement::Token(token) => fmt::Debug::fmt(token, f),
+            };
+        }
         match self {
             SyntaxElement::Node(node) => write!(f, "Node({node:?})"),
             SyntaxElement::Token(token) => write!(f, "Token({token:?})"),

@@ -1,9 +1,10 @@
-ghost use Rattle.std.specs.Prelude.{◌≡◌, ◌++◌, ◌∷◌, [], cond, true, false, take, drop, IfOk, string_bytes};
+ghost use Rattle.std.specs.Prelude.{◌≡◌, ◌++◌, ◌∷◌, [], take, drop, IfOk, string_bytes};
 ghost use Rattle.std.specs.Fmt.{WritesOnOk};
 ghost use Rattle.cst_core.specs.Green.{texts};
 ghost use Rattle.cst_core.specs.GreenElement.{element_trees};
-ghost use Rattle.edit_change.specs.Display.{put_in, taken_away, reset, element_texts, siblings_of};
+ghost use Rattle.edit_change.specs.Display.{in_style, put_in, taken_away, reset, element_texts, siblings_of};
 ghost use Rattle.edit_change.specs.Display.{exchanged, with_insert, with_range, at_position, change_text};
+ghost use Rattle.edit_change.specs.declared.change_text.Style.TheVariants.{Coloured, Plain};
 
 use crate::change::Change;
 use crate::change_aims::slot_after;
@@ -23,30 +24,39 @@ const RESET: &str = "\x1b[0m\x1b[K";
 
 /// Prints the text that shows the change, as `Change::text` gives it.
 impl fmt::Display for Change {
-    ghost use Rattle.std.specs.Prelude.{Some, true};
+    ghost use Rattle.std.specs.Prelude.{Some};
     ghost use Rattle.edit_change.specs.Display.{change_text};
+    ghost use Rattle.edit_change.specs.declared.change_text.Style.TheVariants.{Coloured};
 
-    ghost output = { λ change. Some (change_text true change) };
+    ghost output = { λ change. Some (change_text Coloured change) };
 
     fn fmt<W: fmt::Write>(&self, f: &mut fmt::Formatter<W>) -> fmt::Result {
-        write_change(self, true, f)
+        write_change(self, Style::Coloured, f)
     }
+}
+
+/// Whether a text has escape sequences.
+#[derive(Clone, Copy)]
+pub(crate) enum Style {
+    Coloured,
+    Plain,
 }
 
 // A change that is printed without colours.
 #[derive(Clone, Copy)]
-struct Plain<'a> {
+struct PlainText<'a> {
     change: &'a Change,
 }
 
-impl<'a> fmt::Display for Plain<'a> {
-    ghost use Rattle.std.specs.Prelude.{Some, false};
+impl<'a> fmt::Display for PlainText<'a> {
+    ghost use Rattle.std.specs.Prelude.{Some};
     ghost use Rattle.edit_change.specs.Display.{change_text};
+    ghost use Rattle.edit_change.specs.declared.change_text.Style.TheVariants.{Plain};
 
-    ghost output = { λ plain. Some (change_text false plain.change.now) };
+    ghost output = { λ plain. Some (change_text Plain plain.change.now) };
 
     fn fmt<W: fmt::Write>(&self, f: &mut fmt::Formatter<W>) -> fmt::Result {
-        write_change(self.change, false, f)
+        write_change(self.change, Style::Plain, f)
     }
 }
 
@@ -57,7 +67,7 @@ impl Change {
     /// An insert, or a change of a range, is shown inside the text of the parent. Any other change is the old text and
     /// the new text alone, and a deletion by `Replace` is the old text alone.
     pub fn text(&self, alloc: Global) -> Result<String, AllocError>
-        ensures { IfOk result (λ s. string_bytes s ≡ change_text true self.now) }
+        ensures { IfOk result (λ s. string_bytes s ≡ change_text Coloured self.now) }
     {
         self.to_string(alloc)
     }
@@ -66,68 +76,65 @@ impl Change {
     ///
     /// Of a replacement it is the old text and then the new one, with nothing between them.
     pub fn plain_text(&self, alloc: Global) -> Result<String, AllocError>
-        ensures { IfOk result (λ s. string_bytes s ≡ change_text false self.now) }
+        ensures { IfOk result (λ s. string_bytes s ≡ change_text Plain self.now) }
     {
-        Plain { change: self }.to_string(alloc)
+        PlainText { change: self }.to_string(alloc)
     }
 }
 
 fn write_change<W: fmt::Write>(
     change: &Change,
-    coloured: bool,
+    style: Style,
     f: &mut fmt::Formatter<W>,
 ) -> fmt::Result
-    ensures { WritesOnOk W.write_str_gives f.old result (change_text coloured change.now) f.new }
+    ensures { WritesOnOk W.write_str_gives f.old result (change_text style change.now) f.new }
 {
     match change {
         Change::Insert(position, element) => {
-            write_insert(position, slice::from_ref(element), coloured, f)
+            write_insert(position, slice::from_ref(element), style, f)
         }
         Change::InsertAll(position, elements) => {
-            write_insert(position, elements.as_slice(), coloured, f)
+            write_insert(position, elements.as_slice(), style, f)
         }
-        Change::Replace(target, None) => write_deletion(target, coloured, f),
+        Change::Replace(target, None) => write_deletion(target, style, f),
         Change::Replace(target, Some(element)) => {
-            write_replacement(target, slice::from_ref(element), coloured, f)
+            write_replacement(target, slice::from_ref(element), style, f)
         }
         Change::ReplaceWithMany(target, elements) => {
-            write_replacement(target, elements.as_slice(), coloured, f)
+            write_replacement(target, elements.as_slice(), style, f)
         }
         Change::ReplaceAll(first, last, elements) => {
-            write_range(first, last, elements.as_slice(), coloured, f)
+            write_range(first, last, elements.as_slice(), style, f)
         }
     }
 }
 
 // The code of a colour, or nothing.
-fn write_code<W: fmt::Write>(code: &str, coloured: bool, f: &mut fmt::Formatter<W>) -> fmt::Result
-    ensures { WritesOnOk W.write_str_gives f.old result (cond coloured code.now []) f.new }
+fn write_code<W: fmt::Write>(code: &str, style: Style, f: &mut fmt::Formatter<W>) -> fmt::Result
+    ensures { WritesOnOk W.write_str_gives f.old result (in_style style code.now) f.new }
 {
-    if coloured { f.write_str(code) } else { Ok(()) }
+    match style {
+        Style::Coloured => f.write_str(code),
+        Style::Plain => Ok(()),
+    }
 }
 
 // The parent's text, with the elements put in at the position.
 fn write_insert<W: fmt::Write>(
     position: &Position,
     elements: &[SyntaxElement],
-    coloured: bool,
+    style: Style,
     f: &mut fmt::Formatter<W>,
 ) -> fmt::Result
-    ensures { let bytes = at_position coloured position.now (element_texts elements.now) in
+    ensures { let bytes = at_position style position.now (element_texts elements.now) in
         WritesOnOk W.write_str_gives f.old result bytes f.new }
 {
     match position.after_of() {
         Some(element) => {
-            write_opened(
-                siblings(element),
-                slot_after(element),
-                elements,
-                coloured,
-                f,
-            )
+            write_opened(siblings(element), slot_after(element), elements, style, f)
         }
         None => match position.first_of() {
-            Some(node) => write_opened(node.as_green().children(), 0, elements, coloured, f),
+            Some(node) => write_opened(node.as_green().children(), 0, elements, style, f),
             None => unreachable!(),
         },
     }
@@ -138,60 +145,60 @@ fn write_opened<W: fmt::Write>(
     siblings: &[GreenElement],
     slot: usize,
     elements: &[SyntaxElement],
-    coloured: bool,
+    style: Style,
     f: &mut fmt::Formatter<W>,
 ) -> fmt::Result
-    ensures { let bytes = with_insert coloured (element_trees siblings.now) slot (element_texts elements.now) in
+    ensures { let bytes = with_insert style (element_trees siblings.now) slot (element_texts elements.now) in
         WritesOnOk W.write_str_gives f.old result bytes f.new }
 {
     write_shared(before(siblings, slot), f)?;
-    write_code(PUT_IN, coloured, f)?;
+    write_code(PUT_IN, style, f)?;
     write_elements(elements, f)?;
-    write_code(RESET, coloured, f)?;
+    write_code(RESET, style, f)?;
     write_shared(from_slot(siblings, slot), f)
 }
 
 // The old text, taken away.
 fn write_deletion<W: fmt::Write>(
     target: &SyntaxElement,
-    coloured: bool,
+    style: Style,
     f: &mut fmt::Formatter<W>,
 ) -> fmt::Result
-    ensures { let bytes = taken_away coloured ++ element_texts (target.now ∷ []) ++ reset coloured in
+    ensures { let bytes = taken_away style ++ element_texts (target.now ∷ []) ++ reset style in
         WritesOnOk W.write_str_gives f.old result bytes f.new }
 {
-    write_code(TAKEN_AWAY, coloured, f)?;
+    write_code(TAKEN_AWAY, style, f)?;
     write_elements(slice::from_ref(target), f)?;
-    write_code(RESET, coloured, f)
+    write_code(RESET, style, f)
 }
 
 // The old text, taken away, and the elements, put in.
 fn write_replacement<W: fmt::Write>(
     target: &SyntaxElement,
     elements: &[SyntaxElement],
-    coloured: bool,
+    style: Style,
     f: &mut fmt::Formatter<W>,
 ) -> fmt::Result
-    ensures { let bytes = exchanged coloured (element_texts (target.now ∷ [])) (element_texts elements.now) in
+    ensures { let bytes = exchanged style (element_texts (target.now ∷ [])) (element_texts elements.now) in
         WritesOnOk W.write_str_gives f.old result bytes f.new }
 {
-    write_code(TAKEN_AWAY, coloured, f)?;
+    write_code(TAKEN_AWAY, style, f)?;
     write_elements(slice::from_ref(target), f)?;
-    write_put_in(elements, coloured, f)
+    write_put_in(elements, style, f)
 }
 
 // The elements, put in, with the end of the colour.
 fn write_put_in<W: fmt::Write>(
     elements: &[SyntaxElement],
-    coloured: bool,
+    style: Style,
     f: &mut fmt::Formatter<W>,
 ) -> fmt::Result
-    ensures { let bytes = put_in coloured ++ element_texts elements.now ++ reset coloured in
+    ensures { let bytes = put_in style ++ element_texts elements.now ++ reset style in
         WritesOnOk W.write_str_gives f.old result bytes f.new }
 {
-    write_code(PUT_IN, coloured, f)?;
+    write_code(PUT_IN, style, f)?;
     write_elements(elements, f)?;
-    write_code(RESET, coloured, f)
+    write_code(RESET, style, f)
 }
 
 // The text of the parent of `first`, in which the siblings up to `last` are exchanged for the elements.
@@ -199,10 +206,10 @@ fn write_range<W: fmt::Write>(
     first: &SyntaxElement,
     last: &SyntaxElement,
     elements: &[SyntaxElement],
-    coloured: bool,
+    style: Style,
     f: &mut fmt::Formatter<W>,
 ) -> fmt::Result
-    ensures { let bytes = change_text coloured (Change.ReplaceAll first.now last.now elements.now) in
+    ensures { let bytes = change_text style (Change.ReplaceAll first.now last.now elements.now) in
         WritesOnOk W.write_str_gives f.old result bytes f.new }
 {
     write_exchanged(
@@ -210,7 +217,7 @@ fn write_range<W: fmt::Write>(
         first.index(),
         slot_after(last),
         elements,
-        coloured,
+        style,
         f,
     )
 }
@@ -221,16 +228,16 @@ fn write_exchanged<W: fmt::Write>(
     start: usize,
     end: usize,
     elements: &[SyntaxElement],
-    coloured: bool,
+    style: Style,
     f: &mut fmt::Formatter<W>,
 ) -> fmt::Result
-    ensures { let bytes = with_range coloured (element_trees siblings.now) start end (element_texts elements.now) in
+    ensures { let bytes = with_range style (element_trees siblings.now) start end (element_texts elements.now) in
         WritesOnOk W.write_str_gives f.old result bytes f.new }
 {
     write_shared(before(siblings, start), f)?;
-    write_code(TAKEN_AWAY, coloured, f)?;
+    write_code(TAKEN_AWAY, style, f)?;
     write_shared(from_slot(before(siblings, end), start), f)?;
-    write_put_in(elements, coloured, f)?;
+    write_put_in(elements, style, f)?;
     write_shared(from_slot(siblings, end), f)
 }
 

@@ -7,6 +7,7 @@ use Rattle.edit_change.specs.NewTree.{plain, new_tree}
 use Rattle.edit_change.specs.Results.{annotated, paths_with, stand_in_path}
 use Rattle.one_pass.specs.inner.Sought.{sought_from}
 use Rattle.edit_change.specs.Display.{escape, change_text}
+use Rattle.edit_change.specs.declared.change_text.Style.TheVariants.{Coloured, Plain}
 use Rattle.edit_change.specs.declared.change.Change.{Change}
 use Rattle.edit_plan.proofs.RowChanges.{no_places, after, insert, delete, replace, replace_with_many, replace_all, X}
 use Rattle.edit_plan.proofs.Rows.{changes_before_both_literals}
@@ -48,12 +49,12 @@ green s = escape ∷ codes "[42m" ++ s
 abbrev plain_again : List ℕ → List ℕ
 plain_again s = escape ∷ codes "[0m" ++ escape ∷ codes "[K" ++ s
 
-texts_of_a_deletion_and_an_insert : ◌≡◌ {A = List (List ℕ)} (map (change_text true) (delete (R (1 ∷ [])) ∷ insert (after (R (0 ∷ []))) X ∷ [])) (red (codes "1" ++ plain_again []) ∷ (codes "(" ++ green (codes "x" ++ plain_again (codes "1, 2)"))) ∷ [])
+texts_of_a_deletion_and_an_insert : ◌≡◌ {A = List (List ℕ)} (map (change_text Coloured) (delete (R (1 ∷ [])) ∷ insert (after (R (0 ∷ []))) X ∷ [])) (red (codes "1" ++ plain_again []) ∷ (codes "(" ++ green (codes "x" ++ plain_again (codes "1, 2)"))) ∷ [])
 texts_of_a_deletion_and_an_insert = refl
 
-texts_of_ranges : ◌≡◌ {A = List (List ℕ)} (map (change_text true) (replace_all (R (1 ∷ [])) (R (3 ∷ [])) [] ∷ replace_with_many (R (1 ∷ [])) [] ∷ [])) ((codes "(" ++ red (codes "1, " ++ green (plain_again (codes "2)")))) ∷ red (codes "1" ++ green (plain_again [])) ∷ [])
+texts_of_ranges : ◌≡◌ {A = List (List ℕ)} (map (change_text Coloured) (replace_all (R (1 ∷ [])) (R (3 ∷ [])) [] ∷ replace_with_many (R (1 ∷ [])) [] ∷ [])) ((codes "(" ++ red (codes "1, " ++ green (plain_again (codes "2)")))) ∷ red (codes "1" ++ green (plain_again [])) ∷ [])
 texts_of_ranges = refl
 
 -- the same without the escape sequences
-plain_texts : ◌≡◌ {A = List (List ℕ)} (map (change_text false) (insert (after (R (0 ∷ []))) X ∷ replace_all (R (1 ∷ [])) (R (3 ∷ [])) [] ∷ [])) (codes "(x1, 2)" ∷ codes "(1, 2)" ∷ [])
+plain_texts : ◌≡◌ {A = List (List ℕ)} (map (change_text Plain) (insert (after (R (0 ∷ []))) X ∷ replace_all (R (1 ∷ [])) (R (3 ∷ [])) [] ∷ [])) (codes "(x1, 2)" ∷ codes "(1, 2)" ∷ [])
 plain_texts = refl

@@ -2,3 +2,4 @@
 pub mod ExitCode
 pub mod Printing
 pub mod ReadOn
+pub mod Responding

@@ -5,35 +5,9 @@ ghost use Rattle.syned_run.specs.inner.ExitCode.{exit_code};
 
 use crate::ends::SCRIPT_LIMIT;
 use crate::print::print_edit;
+use crate::status::Status;
 use std::alloc::{AllocError, Global};
 use syned_script::{CarriedOut, Refusal, Stop, Stopped, carry_out};
-
-/// How a run ended.
-#[derive(Clone, Copy, Debug, PartialEq, Eq)]
-pub(crate) enum Status {
-    /// The new tree was made.
-    Done,
-    /// A call was refused.
-    Refused,
-    /// A line is bad.
-    BadScript,
-    /// A read or a write failed, or memory was refused.
-    Failed,
-}
-
-impl Status {
-    /// The exit status.
-    pub(crate) fn code(self) -> u8
-        ensures { result ≡ exit_code self }
-    {
-        match self {
-            Status::Done => 0,
-            Status::Refused => 1,
-            Status::BadScript => 2,
-            Status::Failed => 3,
-        }
-    }
-}
 
 /// What a run prints, whole, and how it ended.
 #[derive(Drop)]
@@ -52,7 +26,7 @@ pub(crate) fn answer_to(alloc: Global, script: &[u8]) -> Result<Answer, AllocErr
     match carry_out(alloc, script) {
         Ok(done) => edit_answer(alloc, &done),
         Err(Stopped { line, stop }) => match stop {
-            Stop::Bad => bad_script(alloc, line),
+            Stop::Bad(_) => bad_script(alloc, line),
             Stop::Refused(refusal) => refusal_answer(alloc, refusal),
             Stop::Memory => Err(AllocError),
         },

@@ -14,19 +14,24 @@ pub const SCRIPT_LIMIT: usize = 1_048_576;
 // How many bytes are asked for at once.
 const BLOCK: usize = 4096;
 
-/// An end that failed, or that memory ran out.
+/// Why a script was not read, or an answer not written.
 #[derive(Debug, Drop)]
-pub(crate) struct EndFailed;
+pub(crate) enum EndFailed {
+    /// A read or a write failed.
+    End,
+    /// Memory was refused.
+    Memory,
+}
 
 impl From<io::Error> for EndFailed {
     fn from(_: io::Error) -> EndFailed {
-        EndFailed
+        EndFailed::End
     }
 }
 
 impl From<AllocError> for EndFailed {
     fn from(_: AllocError) -> EndFailed {
-        EndFailed
+        EndFailed::Memory
     }
 }
 
@@ -70,7 +75,7 @@ pub(crate) fn write_all_of<W: Write>(writer: &mut W, bytes: &[u8]) -> Result<(),
     while !rest.is_empty() {
         let count = writer.write(rest)?;
         if count == 0 {
-            return Err(EndFailed);
+            return Err(EndFailed::End);
         }
         rest = &rest[count..];
     }

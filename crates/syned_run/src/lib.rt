@@ -3,8 +3,11 @@
 
 mod answer;
 mod ends;
+mod explain;
 mod print;
 mod program;
+mod status;
 
 pub use ends::SCRIPT_LIMIT;
-pub use program::run;
+pub use explain::explain;
+pub use program::{run, run_explained};

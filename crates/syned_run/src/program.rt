@@ -1,9 +1,13 @@
 ghost use Rattle.std.specs.Prelude.{◌≡◌, ◌≤◌, ◌<◌, ◌+◌};
 ghost use Rattle.syned_run.specs.Ends.{TakesFront, TakesAtMost};
 ghost use Rattle.syned_run.specs.Answer.{Answers, Fails};
+ghost use Rattle.syned_run.specs.inner.ExitCode.{exit_code};
+ghost use Rattle.syned_run.specs.inner.Responding.{Responds, WritesSome};
 
-use crate::answer::{Status, answer_to};
-use crate::ends::{SCRIPT_LIMIT, read_script, write_all_of};
+use crate::answer::answer_to;
+use crate::ends::{EndFailed, SCRIPT_LIMIT, read_script, write_all_of};
+use crate::explain::write_reason;
+use crate::status::{Failure, Status};
 use std::alloc::Global;
 use std::io::{Read, Write};
 
@@ -23,15 +27,71 @@ pub fn run<R: Read, W: Write>(alloc: Global, reader: &mut R, writer: &mut W) -> 
     ensures failed { result ≡ 3 → Fails R.remaining W.contents reader.old reader.new writer.old writer.new }
     ensures taken { TakesAtMost (R.remaining reader.old) (R.remaining reader.new) (SCRIPT_LIMIT + 1) }
 {
-    let Ok(script) = read_script(alloc, reader) else {
-        return Status::Failed.code();
-    };
-    let Ok(answer) = answer_to(alloc, &script) else {
-        return Status::Failed.code();
-    };
-    let status = match write_all_of(writer, answer.text.as_bytes()) {
-        Ok(()) => answer.status,
-        Err(_) => Status::Failed,
-    };
+    match read_script(alloc, reader) {
+        Ok(script) => respond(alloc, &script, writer).code(),
+        Err(_) => Status::Failed(Failure::Read).code(),
+    }
+}
+
+/// The same, and where the exit status is not 0 it also writes a sentence to `errors`: what `explain` says of the
+/// script, or what failed. Whether this one could be written makes no difference.
+pub fn run_explained<R: Read, W: Write, E: Write>(
+    alloc: Global,
+    reader: &mut R,
+    writer: &mut W,
+    errors: &mut E,
+) -> u8
+    ensures status { result ≤ 3 }
+    ensures read { result < 3 → TakesFront (R.remaining reader.old) (R.remaining reader.new) (SCRIPT_LIMIT + 1) }
+    ensures answered { result < 3 → Answers R.remaining W.contents reader.old reader.new writer.old writer.new result }
+    ensures failed { result ≡ 3 → Fails R.remaining W.contents reader.old reader.new writer.old writer.new }
+    ensures taken { TakesAtMost (R.remaining reader.old) (R.remaining reader.new) (SCRIPT_LIMIT + 1) }
+{
+    match read_script(alloc, reader) {
+        Ok(script) => respond_and_explain(alloc, &script, writer, errors),
+        Err(failed) => explain_failed_read(alloc, failed, errors),
+    }
+}
+
+fn respond_and_explain<W: Write, E: Write>(
+    alloc: Global,
+    script: &[u8],
+    writer: &mut W,
+    errors: &mut E,
+) -> u8
+    ensures answered { result < 3 → Responds W.contents script.now writer.old writer.new result }
+    ensures failed { result ≡ 3 → WritesSome W.contents script.now writer.old writer.new }
+    ensures status { result ≤ 3 }
+{
+    let status = respond(alloc, script, writer);
+    write_reason(alloc, errors, script, status);
     status.code()
+}
+
+fn explain_failed_read<E: Write>(alloc: Global, failed: EndFailed, errors: &mut E) -> u8
+    ensures { result ≡ 3 }
+{
+    let failure = match failed {
+        EndFailed::End => Failure::Read,
+        EndFailed::Memory => Failure::Memory,
+    };
+    let status = Status::Failed(failure);
+    write_reason(alloc, errors, &[], status);
+    status.code()
+}
+
+// Writes the answer to a script of these bytes.
+fn respond<W: Write>(alloc: Global, script: &[u8], writer: &mut W) -> Status
+    ensures answered { exit_code result < 3 → Responds W.contents script.now writer.old writer.new (exit_code result) }
+    ensures failed { exit_code result ≡ 3 → WritesSome W.contents script.now writer.old writer.new }
+    ensures status { exit_code result ≤ 3 }
+{
+    let Ok(answer) = answer_to(alloc, script) else {
+        return Status::Failed(Failure::Memory);
+    };
+    match write_all_of(writer, answer.text.as_bytes()) {
+        Ok(()) => answer.status,
+        Err(EndFailed::End) => Status::Failed(Failure::Write),
+        Err(EndFailed::Memory) => Status::Failed(Failure::Memory),
+    }
 }

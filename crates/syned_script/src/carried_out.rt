@@ -1,6 +1,7 @@
 //! A script's lines in order: what they record, and the edit that is made of it.
 ghost use Rattle.std.specs.Prelude.{◌<◌, ◌^◌, IfOk};
 
+use crate::fault::Reason;
 use crate::line::{Line, is_blank, read_line};
 use crate::session::{Editing, Session};
 use crate::stop::{Stop, Stopped};
@@ -100,7 +101,7 @@ fn record(alloc: Global, session: &mut Session, lines: &[&str]) -> Result<usize,
             return Ok(number);
         }
     }
-    Err(Stop::Bad.at(lines.len() + 1))
+    Err(Stop::bad(0, Reason::NoFinish).at(lines.len() + 1))
 }
 
 // Carries the line out. Answers whether it was `finish`.
@@ -119,11 +120,11 @@ fn test_end(session: &Session, lines: &[&str], number: usize) -> Result<(), Stop
     requires { number < 2 ^ 63 }
 {
     if !session.is_editing() {
-        return Err(Stop::Bad.at(number));
+        return Err(Stop::bad(0, Reason::NoEdit).at(number));
     }
     for (index, text) in lines.iter().enumerate().skip(number) {
         if !is_blank(text) {
-            return Err(Stop::Bad.at(index + 1));
+            return Err(Stop::bad(0, Reason::AfterFinish).at(index + 1));
         }
     }
     Ok(())

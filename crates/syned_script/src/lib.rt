@@ -2,6 +2,9 @@
 #![tactic(auto)]
 
 mod carried_out;
+mod explained;
+mod fault;
+mod field;
 mod line;
 mod name;
 mod reference;
@@ -13,6 +16,7 @@ mod told;
 mod words;
 
 pub use carried_out::{CarriedOut, Recorded, carry_out, record_script};
+pub use fault::{Fault, Reason, Wanted};
 pub use refusal::Refusal;
 pub use stop::{Stop, Stopped};
 pub use told::Told;

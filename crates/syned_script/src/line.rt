@@ -1,7 +1,9 @@
 //! The lines of a script.
 
+use crate::fault::{Fault, Wanted};
+use crate::field::{Field, Fields};
 use crate::name::Name;
-use crate::reference::{Reference, read_number};
+use crate::reference::Reference;
 use crate::stop::Stop;
 use cst_core::{GreenNode, SyntaxKind};
 use std::alloc::Global;
@@ -83,7 +85,7 @@ pub(crate) fn read_line<'a>(alloc: Global, text: &'a str) -> Result<Line<'a>, St
     let Some(word) = fields.word() else {
         return Ok(Line::Blank);
     };
-    match word {
+    match word.text {
         "tree" => tree_line(alloc, &mut fields),
         "edit" => edit_line(alloc, &mut fields),
         "map" => map_line(alloc, &mut fields),
@@ -95,7 +97,7 @@ pub(crate) fn read_line<'a>(alloc: Global, text: &'a str) -> Result<Line<'a>, St
         "remove" => remove_line(alloc, &mut fields),
         "order" => order_line(alloc, &mut fields),
         "finish" => finish_line(&fields),
-        _ => Err(Stop::Bad),
+        _ => Err(Stop::from(Fault::wanted(word.at, Wanted::Word))),
     }
 }
 
@@ -106,8 +108,12 @@ pub(crate) fn is_blank(text: &str) -> bool {
 
 fn tree_line<'a>(alloc: Global, fields: &mut Fields<'a>) -> Result<Line<'a>, Stop> {
     let name = fields.name()?;
-    let root = read_tree(alloc, fields.take_rest())?;
+    let root = tree_of(alloc, fields.take_rest())?;
     Ok(Line::Tree { name, root })
+}
+
+fn tree_of(alloc: Global, expression: Field<'_>) -> Result<GreenNode, Stop> {
+    read_tree(alloc, expression.text).map_err(|error| Stop::of_expression(expression.at, error))
 }
 
 fn edit_line<'a>(alloc: Global, fields: &mut Fields<'a>) -> Result<Line<'a>, Stop> {
@@ -134,14 +140,14 @@ fn insert_line<'a>(alloc: Global, fields: &mut Fields<'a>) -> Result<Line<'a>, S
 }
 
 fn read_position<'a>(alloc: Global, fields: &mut Fields<'a>) -> Result<WrittenPosition<'a>, Stop> {
-    let word = fields.next().ok_or(Stop::Bad)?;
+    let word = fields.field(Wanted::Place)?;
     let beside = fields.reference(alloc)?;
-    match word {
+    match word.text {
         "first" => Ok(WrittenPosition::First(beside)),
         "last" => Ok(WrittenPosition::Last(beside)),
         "before" => Ok(WrittenPosition::Before(beside)),
         "after" => Ok(WrittenPosition::After(beside)),
-        _ => Err(Stop::Bad),
+        _ => Err(Stop::from(Fault::wanted(word.at, Wanted::Place))),
     }
 }
 
@@ -184,100 +190,7 @@ fn order_line<'a>(alloc: Global, fields: &mut Fields<'a>) -> Result<Line<'a>, St
     Ok(Line::Order { order })
 }
 
-fn finish_line<'a>(fields: &Fields<'a>) -> Result<Line<'a>, Stop> {
+fn finish_line<'a>(fields: &Fields<'_>) -> Result<Line<'a>, Stop> {
     fields.end()?;
     Ok(Line::Finish)
-}
-
-// What is left of a line, without spaces at its ends. Spaces stand between its fields.
-#[derive(Drop)]
-struct Fields<'a> {
-    rest: &'a str,
-}
-
-impl<'a> Fields<'a> {
-    fn of_line(text: &'a str) -> Fields<'a> {
-        let text = text.strip_suffix('\r').unwrap_or(text);
-        let rest = text.trim_matches(' ');
-        Fields { rest }
-    }
-
-    // The first field, if there is one and it begins no comment.
-    fn word(&mut self) -> Option<&'a str> {
-        self.next().filter(|word| !word.starts_with('#'))
-    }
-
-    fn next(&mut self) -> Option<&'a str> {
-        if self.rest.is_empty() {
-            return None;
-        }
-        let (field, rest) = self.rest.split_once(' ').unwrap_or((self.rest, ""));
-        self.rest = rest.trim_start_matches(' ');
-        Some(field)
-    }
-
-    // The next field, after which nothing may be left.
-    fn last(&mut self) -> Result<&'a str, Stop> {
-        let field = self.next().ok_or(Stop::Bad)?;
-        self.end()?;
-        Ok(field)
-    }
-
-    fn name(&mut self) -> Result<Name<'a>, Stop> {
-        let field = self.next().ok_or(Stop::Bad)?;
-        Name::new(field).ok_or(Stop::Bad)
-    }
-
-    // A kind, after which nothing is left.
-    fn last_kind(&mut self) -> Result<SyntaxKind, Stop> {
-        let field = self.last()?;
-        SyntaxKind::from_name(field).ok_or(Stop::Bad)
-    }
-
-    fn reference(&mut self, alloc: Global) -> Result<Reference<'a>, Stop> {
-        let field = self.next().ok_or(Stop::Bad)?;
-        Reference::read(alloc, field)?.ok_or(Stop::Bad)
-    }
-
-    // A reference, after which nothing is left.
-    fn last_reference(&mut self, alloc: Global) -> Result<Reference<'a>, Stop> {
-        let field = self.last()?;
-        Reference::read(alloc, field)?.ok_or(Stop::Bad)
-    }
-
-    // All fields that are left.
-    fn references(&mut self, alloc: Global) -> Result<Vec<Reference<'a>>, Stop> {
-        let mut references = Vec::new(alloc);
-        let fields = self.take_rest().split(' ');
-        for field in fields.filter(|field| !field.is_empty()) {
-            references.push(Reference::read(alloc, field)?.ok_or(Stop::Bad)?)?;
-        }
-        Ok(references)
-    }
-
-    // All fields that are left.
-    fn numbers(&mut self, alloc: Global) -> Result<Vec<usize>, Stop> {
-        let mut numbers = Vec::new(alloc);
-        let fields = self.take_rest().split(' ');
-        for field in fields.filter(|field| !field.is_empty()) {
-            numbers.push(read_number(field).ok_or(Stop::Bad)?)?;
-        }
-        Ok(numbers)
-    }
-
-    // All that is left, as one field.
-    fn take_rest(&mut self) -> &'a str {
-        let rest = self.rest;
-        self.rest = "";
-        rest
-    }
-
-    // Nothing may be left.
-    fn end(&self) -> Result<(), Stop> {
-        if self.rest.is_empty() {
-            Ok(())
-        } else {
-            Err(Stop::Bad)
-        }
-    }
 }

@@ -1,6 +1,8 @@
 ghost use Rattle.std.specs.Prelude.{◌≡◌, ◌↔◌, IsSome, IfSome};
 ghost use Rattle.syned_script.specs.inner.Name.{IsName};
 
+use crate::field::Field;
+
 /// How many characters a name has at most.
 const NAME_LIMIT: usize = 32;
 
@@ -8,14 +10,17 @@ const NAME_LIMIT: usize = 32;
 #[derive(Clone, Copy)]
 pub(crate) struct Name<'a> {
     text: &'a str,
+    /// Where it begins in its line, in bytes from 0.
+    pub(crate) at: usize,
 }
 
 impl<'a> Name<'a> {
-    /// The name that is spelled like this.
-    pub(crate) fn new(text: &'a str) -> Option<Name<'a>>
-        ensures name { IsSome result ↔ IsName text.now }
-        ensures text { IfSome result (λ n. n.text.now ≡ text.now) }
+    /// The name that is spelled like this field.
+    pub(crate) fn new(field: Field<'a>) -> Option<Name<'a>>
+        ensures name { IsSome result ↔ IsName field.text.now }
+        ensures text { IfSome result (λ n. n.text.now ≡ field.text.now) }
     {
+        let Field { text, at } = field;
         let starts = text
             .bytes()
             .next()
@@ -24,7 +29,7 @@ impl<'a> Name<'a> {
             .bytes()
             .all(|byte| byte.is_ascii_alphanumeric() || byte == b'_');
         if starts && goes_on && text.len() <= NAME_LIMIT {
-            Some(Name { text })
+            Some(Name { text, at })
         } else {
             None
         }

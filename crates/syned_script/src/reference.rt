@@ -1,4 +1,7 @@
+use crate::fault::{Fault, Wanted};
+use crate::field::Field;
 use crate::name::Name;
+use crate::stop::Stop;
 use std::alloc::{AllocError, Global};
 
 /// The way to an element: the name of a tree, and child slots from its root down.
@@ -10,18 +13,19 @@ pub(crate) struct Reference<'a> {
 
 impl<'a> Reference<'a> {
     /// The reference that is spelled like this: a name, and before each slot a `/`.
-    pub(crate) fn read(alloc: Global, text: &'a str) -> Result<Option<Reference<'a>>, AllocError> {
-        let (name, slots) = match text.split_once('/') {
+    pub(crate) fn read(alloc: Global, field: Field<'a>) -> Result<Reference<'a>, Stop> {
+        let (text, slots) = match field.text.split_once('/') {
             Some((name, slots)) => (name, Some(slots)),
-            None => (text, None),
+            None => (field.text, None),
         };
-        let Some(name) = Name::new(name) else {
-            return Ok(None);
+        let wanted = Fault::wanted(field.at, Wanted::Reference);
+        let Some(name) = Name::new(Field { text, at: field.at }) else {
+            return Err(Stop::from(wanted));
         };
         let Some(slots) = read_slots(alloc, slots)? else {
-            return Ok(None);
+            return Err(Stop::from(wanted));
         };
-        Ok(Some(Reference { name, slots }))
+        Ok(Reference { name, slots })
     }
 }
 

@@ -1,5 +1,6 @@
 //! The trees of a script by name.
 
+use crate::fault::Reason;
 use crate::line::WrittenPosition;
 use crate::name::Name;
 use crate::reference::Reference;
@@ -47,8 +48,12 @@ impl Roots {
         alloc: Global,
         reference: &Reference<'_>,
     ) -> Result<SyntaxElement, Stop> {
-        let root = self.get(reference.name).ok_or(Stop::Bad)?;
-        root.element_at(alloc, &reference.slots)?.ok_or(Stop::Bad)
+        let at = reference.name.at;
+        let root = self
+            .get(reference.name)
+            .ok_or(Stop::bad(at, Reason::NoTree))?;
+        let element = root.element_at(alloc, &reference.slots)?;
+        element.ok_or(Stop::bad(at, Reason::NoElement))
     }
 
     /// The same of some references, in order.
@@ -70,7 +75,8 @@ impl Roots {
         alloc: Global,
         reference: &Reference<'_>,
     ) -> Result<SyntaxNode, Stop> {
-        self.element(alloc, reference)?.into_node().ok_or(Stop::Bad)
+        let node = self.element(alloc, reference)?.into_node();
+        node.ok_or(Stop::bad(reference.name.at, Reason::NotANode))
     }
 
     /// The position that is written so; `Bad` where there is none.
@@ -82,8 +88,8 @@ impl Roots {
         match at {
             WrittenPosition::First(node) => self.first_in(alloc, node),
             WrittenPosition::Last(node) => self.last_in(alloc, node),
-            WrittenPosition::Before(element) => gap(self.before(alloc, element)?),
-            WrittenPosition::After(element) => gap(self.after(alloc, element)?),
+            WrittenPosition::Before(element) => gap(element, self.before(alloc, element)?),
+            WrittenPosition::After(element) => gap(element, self.after(alloc, element)?),
         }
     }
 
@@ -109,6 +115,6 @@ impl Roots {
 }
 
 // A root has no gap beside it.
-fn gap(position: Option<Position>) -> Result<Position, Stop> {
-    position.ok_or(Stop::Bad)
+fn gap(beside: &Reference<'_>, position: Option<Position>) -> Result<Position, Stop> {
+    position.ok_or(Stop::bad(beside.name.at, Reason::BesideRoot))
 }

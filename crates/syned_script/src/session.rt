@@ -1,5 +1,6 @@
 //! The state of a script that is carried out line by line.
 
+use crate::fault::Reason;
 use crate::line::{Line, WrittenPosition};
 use crate::name::Name;
 use crate::reference::Reference;
@@ -84,7 +85,7 @@ impl Session {
             Line::Note { word, element } => self.note(word, &element),
             Line::Remove { element, separator } => self.remove(&element, separator),
             Line::Order { order } => self.order(order),
-            Line::Finish => Err(Stop::Bad),
+            Line::Finish => Err(Stop::bad(0, Reason::NoFinish)),
         }
     }
 
@@ -101,7 +102,8 @@ impl Session {
             editing,
             ..
         } = self;
-        Ok((editing.ok_or(Stop::Bad)?, ids, words))
+        let editing = editing.ok_or(Stop::bad(0, Reason::NoEdit))?;
+        Ok((editing, ids, words))
     }
 
     /// What the first of these lines, so many of them, tell its editor beside the changes. It has carried them out.
@@ -115,15 +117,18 @@ impl Session {
 
     fn add_tree(&mut self, name: Name<'_>, root: GreenNode) -> Result<(), Stop> {
         if self.roots.is_taken(name) {
-            return Err(Stop::Bad);
+            return Err(Stop::bad(name.at, Reason::NameTaken));
         }
         let root = SyntaxNode::new_root(self.alloc, &mut self.ids, root)?;
         self.roots.add(self.alloc, name, root)
     }
 
     fn edit(&mut self, name: Name<'_>, node: &Reference<'_>) -> Result<(), Stop> {
-        if self.is_editing() || self.roots.is_taken(name) {
-            return Err(Stop::Bad);
+        if self.is_editing() {
+            return Err(Stop::bad(0, Reason::SecondEdit));
+        }
+        if self.roots.is_taken(name) {
+            return Err(Stop::bad(name.at, Reason::NameTaken));
         }
         let node = self.roots.node(self.alloc, node)?;
         let (editor, root) = SyntaxEditor::new(self.alloc, &mut self.ids, node)?;
@@ -267,9 +272,10 @@ impl Session {
     }
 
     fn order(&mut self, order: Vec<usize>) -> Result<(), Stop> {
-        let editing = self.editing.as_mut().ok_or(Stop::Bad)?;
+        let no_edit = Stop::bad(0, Reason::NoEdit);
+        let editing = self.editing.as_mut().ok_or(no_edit)?;
         if editing.order.is_some() {
-            return Err(Stop::Bad);
+            return Err(Stop::bad(0, Reason::SecondOrder));
         }
         editing.order = Some(order);
         Ok(())
@@ -280,7 +286,7 @@ impl Session {
 fn editor_of(editing: &mut Option<Editing>) -> Result<&mut SyntaxEditor, Stop> {
     match editing {
         Some(editing) => Ok(&mut editing.editor),
-        None => Err(Stop::Bad),
+        None => Err(Stop::bad(0, Reason::NoEdit)),
     }
 }
 

@@ -1,3 +1,4 @@
+use crate::fault::{Fault, Reason};
 use crate::refusal::Refusal;
 use cst_core::TreeError;
 use std::alloc::{AllocError, AllocFailed};
@@ -8,7 +9,7 @@ use tree_text::ExpressionError;
 #[derive(Debug, Drop)]
 pub enum Stop {
     /// The line is bad.
-    Bad,
+    Bad(Fault),
     /// Its call was refused, and not because memory ran out.
     Refused(Refusal),
     /// Memory was refused.
@@ -23,8 +24,28 @@ pub struct Stopped {
 }
 
 impl Stop {
+    /// The line is bad for this reason, which shows at a byte of it.
+    pub(crate) fn bad(at: usize, reason: Reason) -> Stop {
+        Stop::Bad(Fault::new(at, reason))
+    }
+
+    /// The same of a tree expression that begins at a byte of the line, unless memory ran out or the tree was refused.
+    pub(crate) fn of_expression(at: usize, error: ExpressionError) -> Stop {
+        match error {
+            ExpressionError::Tree(error) => Stop::from(error),
+            ExpressionError::Memory => Stop::Memory,
+            error => Stop::bad(at, Reason::Expression(error)),
+        }
+    }
+
     pub(crate) fn at(self, line: usize) -> Stopped {
         Stopped { line, stop: self }
+    }
+}
+
+impl From<Fault> for Stop {
+    fn from(fault: Fault) -> Stop {
+        Stop::Bad(fault)
     }
 }
 
@@ -45,17 +66,6 @@ impl From<TreeError> for Stop {
         match error {
             TreeError::Memory => Stop::Memory,
             error => Stop::Refused(Refusal::Tree(error)),
-        }
-    }
-}
-
-impl From<ExpressionError> for Stop {
-    fn from(error: ExpressionError) -> Stop {
-        match error {
-            ExpressionError::Malformed | ExpressionError::UnknownKind | ExpressionError::TooDeep =>
-                Stop::Bad,
-            ExpressionError::Tree(error) => Stop::from(error),
-            ExpressionError::Memory => Stop::Memory,
         }
     }
 }

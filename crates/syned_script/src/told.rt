@@ -1,5 +1,6 @@
 //! What a script tells its editor beside its changes.
 
+use crate::fault::Reason;
 use crate::line::{Line, read_line};
 use crate::name::Name;
 use crate::reference::Reference;
@@ -82,5 +83,5 @@ impl Told {
 
 // The annotation of a word that was used.
 fn annotation_of(words: &Words, word: Name<'_>) -> Result<SyntaxAnnotation, Stop> {
-    words.get(word).ok_or(Stop::Bad)
+    words.get(word).ok_or(Stop::bad(word.at, Reason::NoTree))
 }

@@ -20,11 +20,12 @@ pub enum FactQuestion {
     Text,
     Display,
     Debug,
+    DebugLines,
     AsGreen,
     Green,
 }
 
-const NAMES: [(&str, FactQuestion); 13] = [
+const NAMES: [(&str, FactQuestion); 14] = [
     ("kind", FactQuestion::Kind),
     ("tree_number", FactQuestion::Tree),
     ("slots", FactQuestion::Slots),
@@ -36,6 +37,7 @@ const NAMES: [(&str, FactQuestion); 13] = [
     ("text", FactQuestion::Text),
     ("display", FactQuestion::Display),
     ("debug", FactQuestion::Debug),
+    ("debug_lines", FactQuestion::DebugLines),
     ("as_green", FactQuestion::AsGreen),
     ("green", FactQuestion::Green),
 ];
@@ -140,6 +142,11 @@ fn of_element(
             "SyntaxElement as {:?}",
             format!(in alloc; "{element:?}"),
         ),
+        FactQuestion::DebugLines => told_text(
+            alloc,
+            "SyntaxElement as {:#?}",
+            format!(in alloc; "{element:#?}"),
+        ),
         FactQuestion::AsGreen => green_facts(alloc, element.as_green()),
         FactQuestion::Green => shared_element(alloc, element),
     }
@@ -160,6 +167,11 @@ fn of_node(alloc: Global, question: FactQuestion, node: &SyntaxNode) -> Result<S
         FactQuestion::Debug => value_or_refusal(
             "SyntaxNode as {:?}",
             format!(in alloc; "Node({node:?})"),
+        ),
+        FactQuestion::DebugLines => told_text(
+            alloc,
+            "SyntaxNode as {:#?}",
+            format!(in alloc; "{node:#?}"),
         ),
         FactQuestion::AsGreen => node_facts(alloc, node.as_green()),
         FactQuestion::Green => told_green(alloc, "SyntaxNode::green", node.green(alloc)),
@@ -185,6 +197,11 @@ fn of_token(
         FactQuestion::Debug => value_or_refusal(
             "SyntaxToken as {:?}",
             format!(in alloc; "Token({token:?})"),
+        ),
+        FactQuestion::DebugLines => told_text(
+            alloc,
+            "SyntaxToken as {:#?}",
+            format!(in alloc; "{token:#?}"),
         ),
         FactQuestion::AsGreen => token_facts(alloc, token.as_green()),
         FactQuestion::Green => shared_token(alloc, token),

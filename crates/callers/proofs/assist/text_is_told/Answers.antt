@@ -20,5 +20,5 @@ returns k editor after number edit top none rearranges makes =
     ap (λ (e : Editor). e.changes) rearranges.recorded
     ∙ ap (λ cs. recorded (removal COMMA (Node c)) (recorded (Replacing (Node b) (Node a)) (recorded (Replacing (Node a) (Node b)) cs))) none in
     let unowned : All (λ d. owner (all_recorded (calls a b c)) d ≡ None) (all_recorded (calls a b c)) =
-    k.calls_at_one_depth_own_nothing.ensures 1 (calls a b c) (calls_depth editor.root a b c top rearranges.arguments (k.removal_is_at_the_depth_of_the_element.ensures COMMA (Node c))) in
+    k.calls_at_one_depth_own_nothing.ensures 1 (calls a b c) (calls_depth editor.root a b c top rearranges.arguments (k.children_are_one_level_below.ensures.nodes editor.root) (k.removal_is_at_the_depth_of_the_element.ensures COMMA (Node c))) in
     k.edit_text_is_filled.ensures (plan_of after) number edit makes (subst (λ (cs : List Change). All (λ d. owner cs d ≡ None) cs) (sym list) unowned)

@@ -1,5 +1,5 @@
 use Rattle.std.proofs.Common.{rules}
-use Rattle.syned_run.proofs.answer.Status.code.Goals as goal
+use Rattle.syned_run.proofs.status.Status.code.Goals as goal
 
 pub returns-in-Done : goal.returns-in-Done
 returns-in-Done c = search rules

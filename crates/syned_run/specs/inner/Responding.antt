@@ -1,0 +1,14 @@
+-- What is written of the answer to a script.
+--     Responds            all of the answer that ends with this status
+--     WritesSome          nothing, or a beginning of an answer
+use Rattle.std.specs.Prelude.{ℕ, List, take, Option, ◌⊎◌}
+use Rattle.std.specs.Io.KnownBytes.{Appends, Keeps}
+use Rattle.syned_run.specs.Answer.{IsAnswer}
+
+abbrev pub Responds : {W : Type 0} → (W → Option (List ℕ)) → List ℕ → W → W → ℕ → Type 0
+Responds contents script before after status = (bytes : List ℕ) × IsAnswer script status bytes × Appends (contents before) (contents after) bytes
+
+abbrev pub WritesSome : {W : Type 0} → (W → Option (List ℕ)) → List ℕ → W → W → Type 0
+WritesSome contents script before after =
+    Keeps (contents before) (contents after)
+    ⊎ ((status : ℕ) × (bytes : List ℕ) × IsAnswer script status bytes × (n : ℕ) × Appends (contents before) (contents after) (take n bytes))
