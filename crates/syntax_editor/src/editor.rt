@@ -126,7 +126,7 @@ impl SyntaxEditor {
     ///
     /// ```text
     /// if let Err(EditError::Intersecting { first, second }) = editor.check(alloc) {
-    ///     return Err(anyhow!("assists {first} and {second} change the same element"));
+    ///     return Err(anyhow!("changes {first} and {second} have the same target"));
     /// }
     /// ```
     ///

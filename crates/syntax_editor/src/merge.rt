@@ -18,7 +18,8 @@ use std::alloc::{AllocError, Global};
 
 impl SyntaxEditor {
     /// Appends the changes and the registrations of another editor of the same root. No change updates another one. Both mappings
-    /// are kept; where both map a node, `other`'s copy wins. After it the factory has mappings.
+    /// are kept; where both map a node, `other`'s copy wins. After it the factory has mappings. Two replacements that share a target
+    /// both stand in the list then, and `plan` refuses it: `first_clash_with` names them before.
     ///
     /// `OtherRoot` comes first, then `Memory`. Each hands the other editor back, and leaves both as they were. Takes time near linear
     /// in the changes, registrations and mappings of both.
@@ -52,7 +53,7 @@ impl SyntaxEditor {
     ///
     /// ```text
     /// match first.first_clash_with(alloc, &second)? {
-    ///     Some((kept, _)) => println!(rt; "change {kept} speaks against the second assist")?,
+    ///     Some((kept, _)) => println!(rt; "change {kept} stays, and the second assist is left out")?,
     ///     None => first.merge(alloc, second).map_err(|(refusal, _)| refusal)?,
     /// }
     /// ```
