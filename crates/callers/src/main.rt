@@ -4,6 +4,7 @@
 mod assist;
 mod formatter;
 mod generator;
+mod moved;
 mod rename;
 mod search_replace;
 mod tree;
@@ -21,5 +22,6 @@ fn main(rt: HostRuntime) -> Result<()> {
     show(&rt, &generator::example(rt.alloc())?)?;
     show(&rt, &formatter::example(rt.alloc())?)?;
     show(&rt, &rename::example(rt.alloc())?)?;
+    show(&rt, &moved::example(rt.alloc())?)?;
     Ok(())
 }

@@ -37,7 +37,7 @@ impl fmt::Display for Change {
 
 /// Whether a text has escape sequences.
 #[derive(Clone, Copy)]
-pub(crate) enum Style {
+pub enum Style {
     Coloured,
     Plain,
 }

@@ -25,6 +25,7 @@ pub use change::Change;
 pub use change_aims::{
     aim_path, depth, green_payload, node_for_root, numbered_aim, numbered_aim_from, slot_after,
 };
+pub use change_text::Style;
 pub use clash_error::ClashError;
 pub use element_like::Element;
 pub use element_list::ElementList;
@@ -36,4 +37,4 @@ pub use one_node::only_node;
 pub use planned::Planned;
 pub use position::Position;
 pub use staged::{moved_path, owner_of, place_at, staged_path};
-pub use target_table::TargetTable;
+pub use target_table::{TargetTable, first_clash};

@@ -1,4 +1,4 @@
-ghost use Rattle.std.specs.Prelude.{◌≡◌, ◌≤◌, ◌++◌, ◌∷◌, [], Some, None, OnOk, IfOk, IfErr};
+ghost use Rattle.std.specs.Prelude.{◌≡◌, ◌+◌, ◌<◌, ◌≤◌, ◌++◌, ◌∷◌, [], length, slice_get, Some, None, OnOk, IfOk, IfErr};
 ghost use Rattle.cst_core.specs.Path.{Path, siblings};
 ghost use Rattle.path_table.specs.inner.PathTable.{cell_at, size, IsTree};
 ghost use Rattle.edit_change.specs.Change.{targets};
@@ -25,6 +25,36 @@ fn lesser(one: Option<usize>, other: Option<usize>) -> Option<usize>
         (None, _) => other,
         (Some(_), None) => one,
         (Some(one), Some(other)) => Some(one.min(other)),
+    }
+}
+
+// The change with this number, where those of the second list are numbered on from those of the first one.
+fn change_in_both<'a>(own: &'a [Change], other: &'a [Change], number: usize) -> &'a Change
+    requires { number < length own.now + length other.now }
+    ensures { slice_get (own.now ++ other.now) number ≡ Some result.now }
+{
+    if number < own.len() {
+        &own[number]
+    } else {
+        &other[number - own.len()]
+    }
+}
+
+/// The first two changes with a target in common, by the second and then by the first, of two lists that are numbered on from the
+/// first one to the second. Nothing is copied.
+///
+/// Refused for memory alone. Takes time near linear in the paths of all elements that are replaced.
+pub fn first_clash(
+    alloc: Global,
+    own: &[Change],
+    other: &[Change],
+) -> Result<Option<(usize, usize)>, AllocError>
+    ensures { IfOk result (λ o. o ≡ first_clash (own.now ++ other.now)) }
+{
+    match TargetTable::of_both(alloc, own, other) {
+        Ok(_) => Ok(None),
+        Err(ClashError::Intersecting { first, second }) => Ok(Some((first, second))),
+        Err(ClashError::Memory) => Err(AllocError),
     }
 }
 
@@ -55,8 +85,19 @@ impl TargetTable {
         ensures apart { OnOk result (first_clash changes.now ≡ None) }
         ensures refused { IfErr result (ClashRefuses changes.now) }
     {
-        let mut index = TargetTable::with_capacity(alloc, changes.len())?;
-        for (second, change) in changes.iter().enumerate() {
+        TargetTable::of_both(alloc, &[], changes)
+    }
+
+    // The index of the changes of two lists, which are numbered on from the first one to the second.
+    fn of_both(alloc: Global, own: &[Change], other: &[Change]) -> Result<TargetTable, ClashError>
+        ensures indexed { IfOk result (IsTargetTable (own.now ++ other.now)) }
+        ensures apart { OnOk result (first_clash (own.now ++ other.now) ≡ None) }
+        ensures refused { IfErr result (ClashRefuses (own.now ++ other.now)) }
+    {
+        let count = own.len() + other.len();
+        let mut index = TargetTable::with_capacity(alloc, count)?;
+        for second in 0..count {
+            let change = change_in_both(own, other, second);
             if let Some(first) = index.enter_targets(change, second)? {
                 return Err(ClashError::Intersecting { first, second });
             }

@@ -5,6 +5,7 @@ mod TwoPlaces
 mod AllBuilt
 mod AllTouched
 mod AllowedRuns
+pub mod AnyRegistrations
 mod ByAnnotation
 mod PromisesOfRuns
 mod NextReady

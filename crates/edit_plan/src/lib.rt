@@ -14,6 +14,7 @@ mod places;
 mod plan;
 mod plan_stages;
 mod plan_text;
+mod prepared;
 mod rewritten;
 mod run;
 mod splice_engine;

@@ -1,14 +1,14 @@
-ghost use Rattle.std.specs.Prelude.{◌≡◌, ◌==◌, ◌<◌, [], length, slice_get, option_and_then, false, All, IfOk, IfErr};
+ghost use Rattle.std.specs.Prelude.{◌≡◌, ◌==◌, ◌<◌, [], length, slice_get, option_and_then, false, All, IfOk, IfErr, OnOk};
 ghost use Rattle.std.specs.Option.{option_map_or};
 ghost use Rattle.edit_change.specs.Fits.{Fits};
 ghost use Rattle.edit_change.specs.Nesting.{is_dropped, owner};
-ghost use Rattle.edit_plan.specs.Plan.{IsPlan, BuildRefuses, new_plan};
+ghost use Rattle.edit_plan.specs.Plan.{Plan, IsPlan, BuildRefuses, new_plan};
 
 use crate::edit_error::EditError;
-use crate::places::places;
+use crate::prepared::{Prepared, prepare};
 use annotations::SyntaxAnnotation;
 use cst_core::{SyntaxElement, SyntaxNode};
-use edit_change::{Change, Fate, TargetTable, fates};
+use edit_change::{Change, Fate, TargetTable};
 use edit_map::SyntaxMapping;
 use std::alloc::Global;
 use std::marker::Model;
@@ -63,11 +63,11 @@ impl EditPlan {
         ensures planned { IfOk result IsPlan }
         ensures refused { IfErr result (BuildRefuses (new_plan root changes registrations mapping)) }
     {
-        // For the proof: what is true of every mapping.
-        let _ = mapping.len();
-        let targets = TargetTable::of(alloc, &changes)?;
-        let fates = fates(alloc, &targets, &changes)?;
-        let places = places(alloc, &changes, &fates, &mapping)?;
+        let Prepared {
+            targets,
+            fates,
+            places,
+        } = prepare(alloc, &root, &changes, &mapping)?;
         Ok(EditPlan {
             root,
             changes,
@@ -77,6 +77,26 @@ impl EditPlan {
             fates,
             places,
         })
+    }
+
+    /// Tests whether `build` would refuse these, of which nothing is taken: `Ok` where they make a plan, with any registrations.
+    ///
+    /// `Intersecting` comes first, then `MissingMapping`, as in `build`; `Memory` may come at any time. Takes the time of `build`.
+    pub fn check(
+        alloc: Global,
+        root: &SyntaxNode,
+        changes: &[Change],
+        mapping: &SyntaxMapping,
+    ) -> Result<(), EditError>
+        requires is_root { root.now.path ≡ [] }
+        requires fit { All (Fits root.now) changes.now }
+        ensures planned { let plan : Plan = record { root = root.now; changes = changes.now; registrations = []; mapping = mapping.now } in
+            OnOk result (IsPlan plan) }
+        ensures refused { let plan : Plan = record { root = root.now; changes = changes.now; registrations = []; mapping = mapping.now } in
+            IfErr result (BuildRefuses plan) }
+    {
+        prepare(alloc, root, changes, mapping)?;
+        Ok(())
     }
 
     /// How many changes there are.

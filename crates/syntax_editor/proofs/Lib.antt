@@ -5,6 +5,7 @@ mod ByPath
 mod Absorbed
 mod Fitting
 mod Called
+mod Checked
 mod Merged
 mod Removed
 mod OneDepth

@@ -9,7 +9,7 @@ ghost use Rattle.syntax_editor.specs.Editor.{IsEditor, has_parent, edited_root, 
 use crate::factory::SyntaxFactory;
 use change_list::ChangeList;
 use cst_core::{SyntaxElement, SyntaxNode, TreeError, TreeIds};
-use edit_map::SyntaxMappingBuilder;
+use edit_map::{SyntaxMapping, SyntaxMappingBuilder};
 use edit_plan::{Change, EditError, EditPlan, OnePassEngine, SyntaxAnnotation, SyntaxEdit};
 use std::alloc::{AllocError, Global};
 use std::marker::Model;
@@ -120,6 +120,25 @@ impl SyntaxEditor {
         ensures is_editor { IsEditor self.now }
     {
         self.changes.as_slice()
+    }
+
+    /// Tests whether `plan` would be refused, and leaves the editor as it is. Nothing of the changes is copied.
+    ///
+    /// ```text
+    /// if let Err(EditError::Intersecting { first, second }) = editor.check(alloc) {
+    ///     return Err(anyhow!("changes {first} and {second} have the same target"));
+    /// }
+    /// ```
+    ///
+    /// `Intersecting` comes first, then `MissingMapping`, as in `plan`; `Memory` may come at any time. After `Ok`, `plan` is refused
+    /// for memory alone, and `finish` for `TooLong`, `NoTreeNumber` and `Memory`.
+    pub fn check(&self, alloc: Global) -> Result<(), EditError>
+        ensures planned { OnOk result (IsPlan (plan_of self.now)) }
+        ensures refused { IfErr result (BuildRefuses (plan_of self.now)) }
+    {
+        let nothing = SyntaxMapping::new(alloc);
+        let mapping = self.factory.mappings_or(&nothing);
+        EditPlan::check(alloc, &self.root, self.changes.as_slice(), mapping)
     }
 
     /// A plan of the changes, which can be carried out as it is. It keeps the registrations.

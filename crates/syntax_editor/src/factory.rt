@@ -94,6 +94,16 @@ impl SyntaxFactory {
         }
     }
 
+    /// The mappings, or these where the factory keeps none.
+    pub(crate) fn mappings_or<'a>(&'a self, nothing: &'a SyntaxMapping) -> &'a SyntaxMapping
+        ensures { result.now ≡ unwrap_or self.now nothing.now }
+    {
+        match &self.mappings {
+            Some(mapping) => mapping,
+            None => nothing,
+        }
+    }
+
     /// A copy of the mappings, of nothing where the factory keeps none.
     pub(crate) fn cloned_mapping(&self, alloc: Global) -> Result<SyntaxMapping, AllocError>
         ensures { IfOk result (IsMadeOf (unwrap_or self.now [])) }

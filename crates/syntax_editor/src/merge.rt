@@ -1,6 +1,8 @@
 //! One editor merged into another one.
 ghost use Rattle.std.specs.Prelude.{◌≡◌, ◌↔◌, [], ◌++◌, IsTrue, IfOk, IfErr, OnOk, OnErr, All, unwrap_or};
+ghost use Rattle.change_list.specs.Recording.{merged};
 ghost use Rattle.edit_map.specs.Builder.{IsMadeOf};
+ghost use Rattle.edit_plan.specs.Nesting.{first_clash};
 ghost use Rattle.edit_plan.specs.Fits.{Fits};
 ghost use Rattle.syntax_editor.specs.Merging.{AreMergeable, IsMerged, MergeRefuses};
 ghost use Rattle.syntax_editor.specs.inner.TakenOver.{taken_over};
@@ -9,13 +11,15 @@ use crate::editor::SyntaxEditor;
 use crate::error::MergeError;
 use crate::factory::SyntaxFactory;
 use cst_core::SyntaxNode;
+use edit_change::first_clash;
 use edit_map::SyntaxMapping;
 use edit_plan::Change;
 use std::alloc::{AllocError, Global};
 
 impl SyntaxEditor {
     /// Appends the changes and the registrations of another editor of the same root. No change updates another one. Both mappings
-    /// are kept; where both map a node, `other`'s copy wins. After it the factory has mappings.
+    /// are kept; where both map a node, `other`'s copy wins. After it the factory has mappings. Two replacements that share a target
+    /// both stand in the list then, and `plan` refuses it: `first_clash_with` names them before.
     ///
     /// `OtherRoot` comes first, then `Memory`. Each hands the other editor back, and leaves both as they were. Takes time near linear
     /// in the changes, registrations and mappings of both.
@@ -41,6 +45,29 @@ impl SyntaxEditor {
         }
         self.factory = SyntaxFactory::of_mapping(mapping);
         Ok(())
+    }
+
+    /// The first two replacements that would share a target after `merge` of the other editor, which is only looked at: their numbers
+    /// in the merged list, in which this editor's changes stand before the other's. `None` where no two of them would. `plan` of the
+    /// merged editor is refused with `Intersecting` and these two numbers.
+    ///
+    /// ```text
+    /// match first.first_clash_with(alloc, &second)? {
+    ///     Some((kept, _)) => println!(rt; "change {kept} stays, and the second assist is left out")?,
+    ///     None => first.merge(alloc, second).map_err(|(refusal, _)| refusal)?,
+    /// }
+    /// ```
+    ///
+    /// Targets are compared by their paths. So of an editor of another root, which `merge` refuses, the answer says nothing. Refused for memory
+    /// alone. Takes time near linear in the changes of both.
+    pub fn first_clash_with(
+        &self,
+        alloc: Global,
+        other: &SyntaxEditor,
+    ) -> Result<Option<(usize, usize)>, AllocError>
+        ensures { IfOk result (λ o. o ≡ first_clash (merged self.now.changes other.now.changes)) }
+    {
+        first_clash(alloc, self.changes.as_slice(), other.changes.as_slice())
     }
 
     // Whether another editor has the same root, and each of its changes fits the own one.

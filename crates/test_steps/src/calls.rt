@@ -223,6 +223,21 @@ pub const OWED: &[Owed] = &[
         answers: &["ok"],
     },
     Owed {
+        call: "check",
+        name: "SyntaxEditor::check",
+        answers: &["ok", "Intersecting", "MissingMapping"],
+    },
+    Owed {
+        call: "check_changes",
+        name: "EditPlan::check",
+        answers: &["ok", "Intersecting", "MissingMapping"],
+    },
+    Owed {
+        call: "first_clash_with",
+        name: "SyntaxEditor::first_clash_with",
+        answers: &["ok", "none"],
+    },
+    Owed {
         call: "merge",
         name: "SyntaxEditor::merge",
         answers: &["ok", "OtherRoot"],

@@ -1,6 +1,6 @@
 //! Editors: new ones, merged ones, and one whose changes are finished.
 
-use crate::answers::{node_answer, ok};
+use crate::answers::{memory, node_answer, none, ok};
 use crate::edits::keep_edit;
 use crate::refused::refusal_text;
 use crate::session::{Session, last};
@@ -21,7 +21,9 @@ pub fn answer(
     let answer = match name {
         "new" => new(alloc, session, words),
         "with_ast_node" => with_ast_node(alloc, session, words),
+        "first_clash_with" => first_clash_with(alloc, session),
         "merge" => merge(alloc, session),
+        "check" => check(alloc, session),
         "finish" => finish(alloc, session),
         "factory" => give_factory(alloc, session, words),
         _ => return None,
@@ -76,6 +78,30 @@ pub fn take_last(session: &mut Session) -> Result<SyntaxEditor, NoAnswer> {
         .editors
         .pop()
         .ok_or(NoAnswer::Missing("no editor was made"))
+}
+
+// The first clash that there would be if the last editor went into the one before it.
+fn first_clash_with(alloc: Global, session: &mut Session) -> Result<String, NoAnswer> {
+    let (other, before) = session
+        .editors
+        .split_last()
+        .ok_or(NoAnswer::Missing("no editor was made"))?;
+    let own = before
+        .last()
+        .ok_or(NoAnswer::Missing("one editor alone was made"))?;
+    match own.first_clash_with(alloc, other) {
+        Ok(Some((first, second))) => Ok(format!(in alloc; "ok {first} {second}")?),
+        Ok(None) => none(alloc),
+        Err(_) => memory(alloc),
+    }
+}
+
+// Whether the last editor's changes make a plan.
+fn check(alloc: Global, session: &mut Session) -> Result<String, NoAnswer> {
+    match last(&mut session.editors)?.check(alloc) {
+        Ok(()) => ok(alloc),
+        Err(refusal) => refusal_text(alloc, refusal),
+    }
 }
 
 // The last editor goes into the one before it.

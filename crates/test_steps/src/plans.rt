@@ -27,6 +27,7 @@ pub fn answer(
         "plan" => plan(alloc, session),
         "change" => change(alloc, session, words),
         "register" => register(alloc, session, words),
+        "check_changes" => check_changes(alloc, session, words),
         "build" => build(alloc, session, words),
         "is_empty" => is_empty(alloc, session),
         "plan_deletions" => deletions(alloc, session),
@@ -142,12 +143,38 @@ fn all_fit(root: &SyntaxNode, changes: &[Change]) -> bool
     changes.iter().all(|change| change.fits(root))
 }
 
-// A plan of the changes and registered elements so far, by the last mapping, or by none.
-fn build(alloc: Global, session: &mut Session, words: &mut Words) -> Result<String, NoAnswer> {
+// A node that is a root.
+fn root(alloc: Global, session: &Session, words: &mut Words) -> Result<SyntaxNode, NoAnswer>
+    ensures { IfOk result (λ root. root.path ≡ []) }
+{
     let root = session.trees.node(alloc, words.word()?)?;
     if !root.slots().is_empty() {
         return Err(NoAnswer::Missing("no root stands there"));
     }
+    Ok(root)
+}
+
+// Whether the changes so far make a plan, by the last mapping, or by none. All stay.
+fn check_changes(
+    alloc: Global,
+    session: &mut Session,
+    words: &mut Words,
+) -> Result<String, NoAnswer> {
+    let root = root(alloc, session, words)?;
+    if !all_fit(&root, &session.changes) {
+        return word(alloc, "not fitting");
+    }
+    let nothing = SyntaxMapping::new(alloc);
+    let mapping = session.mappings.last().unwrap_or(&nothing);
+    match EditPlan::check(alloc, &root, &session.changes, mapping) {
+        Ok(()) => ok(alloc),
+        Err(refusal) => refusal_text(alloc, refusal),
+    }
+}
+
+// A plan of the changes and registered elements so far, by the last mapping, or by none.
+fn build(alloc: Global, session: &mut Session, words: &mut Words) -> Result<String, NoAnswer> {
+    let root = root(alloc, session, words)?;
     let changes = replace(&mut session.changes, Vec::new(alloc));
     if !all_fit(&root, &changes) {
         return word(alloc, "not fitting");

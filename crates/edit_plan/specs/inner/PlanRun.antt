@@ -1,4 +1,5 @@
 -- What a plan keeps beside its changes, and what carrying it out comes to before there is a root.
+--     unregistered                  the plan of changes without registrations
 --     IsPlanned, IsPlanKept         which change replaces what, what becomes of each, and the places of owners; the same of what code has
 --     IsNewRoot                     a root whose text is within the limit, as that of every edit is
 --     IsOfRoot                      a refusal that may come once there is a tree whose text is within the limit
@@ -21,6 +22,9 @@ use Rattle.edit_change.specs.Places.{ArePlaces}
 use Rattle.edit_plan.specs.declared.edit_error.EditError.{EditError}
 use Rattle.edit_plan.specs.declared.edit_error.EditError.TheVariants.{NoTreeNumber, Memory}
 use Rattle.edit_change.specs.declared.fate.Fate.{Fate}
+
+abbrev pub unregistered : Element → List Change → Mapping → Plan
+unregistered root changes m = record { root = root; changes = changes; registrations = []; mapping = m }
 
 pub record IsPlanned (p : Plan) (targets : TargetTable) (fates : List Fate) (places : List (Option (Vec ℕ Global))) : Type 0 where
   pub is_plan : IsPlan p
