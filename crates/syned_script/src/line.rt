@@ -5,7 +5,7 @@ use crate::reference::{Reference, read_number};
 use crate::stop::Stop;
 use cst_core::{GreenNode, SyntaxKind};
 use std::alloc::Global;
-use tree_text::read_tree;
+use tree_text::read_line_tree;
 
 /// A line that is well formed. Whether its names stand for something is seen when it is carried out.
 #[derive(Drop)]
@@ -106,7 +106,7 @@ pub(crate) fn is_blank(text: &str) -> bool {
 
 fn tree_line<'a>(alloc: Global, fields: &mut Fields<'a>) -> Result<Line<'a>, Stop> {
     let name = fields.name()?;
-    let root = read_tree(alloc, fields.take_rest())?;
+    let root = read_line_tree(alloc, fields.take_rest())?;
     Ok(Line::Tree { name, root })
 }
 

@@ -52,8 +52,9 @@ impl From<TreeError> for Stop {
 impl From<ExpressionError> for Stop {
     fn from(error: ExpressionError) -> Stop {
         match error {
-            ExpressionError::Malformed | ExpressionError::UnknownKind | ExpressionError::TooDeep =>
-                Stop::Bad,
+            ExpressionError::Malformed { .. }
+            | ExpressionError::UnknownKind { .. }
+            | ExpressionError::TooDeep { .. } => Stop::Bad,
             ExpressionError::Tree(error) => Stop::from(error),
             ExpressionError::Memory => Stop::Memory,
         }

@@ -8,7 +8,7 @@ use syntax_editor::{
     WrapError,
 };
 use test_trees::{NoAnswer, RowError, find_named};
-use tree_text::ExpressionError;
+use tree_text::{Expected, ExpressionError};
 
 #[derive(Clone, Copy)]
 pub enum ErrorQuestion {
@@ -133,9 +133,15 @@ const ANY_ERRORS: [(&str, Error); 9] = [
 ];
 
 const EXPRESSION_ERRORS: [(&str, ExpressionError); 5] = [
-    ("Malformed", ExpressionError::Malformed),
-    ("UnknownKind", ExpressionError::UnknownKind),
-    ("TooDeep", ExpressionError::TooDeep),
+    (
+        "Malformed",
+        ExpressionError::Malformed {
+            at: 12,
+            expected: Expected::KindName,
+        },
+    ),
+    ("UnknownKind", ExpressionError::UnknownKind { at: 1 }),
+    ("TooDeep", ExpressionError::TooDeep { at: 201 }),
     ("Tree", ExpressionError::Tree(TreeError::NoTreeNumber)),
     ("Memory", ExpressionError::Memory),
 ];

@@ -5,6 +5,7 @@
 
 mod ask_around;
 mod ask_errors;
+mod ask_expressions;
 mod ask_facts;
 mod ask_green;
 mod ask_kin;
@@ -23,6 +24,7 @@ mod told;
 
 use crate::ask_around::AroundQuestion;
 use crate::ask_errors::ErrorQuestion;
+use crate::ask_expressions::ExpressionQuestion;
 use crate::ask_facts::FactQuestion;
 use crate::ask_green::GreenQuestion;
 use crate::ask_kin::KinQuestion;
@@ -95,6 +97,9 @@ fn other_answer(
     }
     if let Some(question) = NumberQuestion::from_name(name) {
         return ask_numbers::answer(alloc, trees, question, arguments);
+    }
+    if let Some(question) = ExpressionQuestion::from_name(name) {
+        return ask_expressions::answer(alloc, question, arguments);
     }
     if let Some(question) = ErrorQuestion::from_name(name) {
         return ask_errors::answer(alloc, question, arguments);

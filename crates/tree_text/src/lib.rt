@@ -3,11 +3,15 @@
 
 mod error;
 mod escape;
+mod expected;
 mod expression;
 mod open_node;
 mod open_nodes;
+mod root;
 
 pub use error::ExpressionError;
 pub use escape::push_escaped;
-pub use expression::read_tree;
+pub use expected::Expected;
+pub use expression::{read_line_tree, read_tree};
 pub use open_nodes::DEPTH_LIMIT;
+pub use root::read_root;
