@@ -1,2 +1,4 @@
 pub mod Depths
+pub mod Names
 pub mod Results
+pub mod Unnamed
