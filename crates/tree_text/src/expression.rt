@@ -7,6 +7,7 @@ ghost use Rattle.tree_text.specs.declared.open_nodes.TheConstants.{DEPTH_LIMIT};
 use crate::error::ExpressionError;
 use crate::escape::meant_by;
 use crate::expected::Expected;
+use crate::kind_names::KindNames;
 use crate::open_nodes::{DEPTH_LIMIT, OpenNodes};
 use cst_core::{GreenElement, GreenNode, GreenToken, SyntaxKind};
 use std::alloc::Global;
@@ -23,20 +24,31 @@ use std::alloc::Global;
 pub fn read_tree(alloc: Global, expression: &str) -> Result<GreenNode, ExpressionError>
     ensures { IfOk result (λ n. depth (branch_tree n) ≤ DEPTH_LIMIT) }
 {
-    read(alloc, Gaps::Lines, expression)
+    read_tree_with(alloc, expression, &KindNames::new(alloc))
+}
+
+/// `read_tree` with names of one's own. It reads what `write_tree_with` writes with the same names.
+pub fn read_tree_with(
+    alloc: Global,
+    expression: &str,
+    names: &KindNames,
+) -> Result<GreenNode, ExpressionError>
+    ensures { IfOk result (λ n. depth (branch_tree n) ≤ DEPTH_LIMIT) }
+{
+    read(expression, Reader::new(alloc, names, Gaps::Lines))
 }
 
 /// The tree of an expression that is a part of a line: `read_tree`, but only spaces stand between elements.
 pub fn read_line_tree(alloc: Global, expression: &str) -> Result<GreenNode, ExpressionError>
     ensures { IfOk result (λ n. depth (branch_tree n) ≤ DEPTH_LIMIT) }
 {
-    read(alloc, Gaps::Spaces, expression)
+    let names = KindNames::new(alloc);
+    read(expression, Reader::new(alloc, &names, Gaps::Spaces))
 }
 
-fn read(alloc: Global, gaps: Gaps, expression: &str) -> Result<GreenNode, ExpressionError>
+fn read(expression: &str, mut reader: Reader<'_>) -> Result<GreenNode, ExpressionError>
     ensures { IfOk result (λ n. depth (branch_tree n) ≤ DEPTH_LIMIT) }
 {
-    let mut reader = Reader::new(alloc, gaps);
     for (at, c) in expression.char_indices() {
         reader.at = at;
         reader.step(c)?;
@@ -78,8 +90,9 @@ enum State {
 }
 
 #[derive(Drop)]
-struct Reader {
+struct Reader<'a> {
     alloc: Global,
+    names: &'a KindNames,
     gaps: Gaps,
     open: OpenNodes,
     state: State,
@@ -93,10 +106,11 @@ struct Reader {
     ghost limited: { ForSome root (λ n. depth (branch_tree n) ≤ DEPTH_LIMIT) },
 }
 
-impl Reader {
-    fn new(alloc: Global, gaps: Gaps) -> Reader {
+impl<'a> Reader<'a> {
+    fn new(alloc: Global, names: &'a KindNames, gaps: Gaps) -> Reader<'a> {
         Reader {
             alloc,
+            names,
             gaps,
             open: OpenNodes::new(alloc),
             state: State::Between,
@@ -191,7 +205,10 @@ impl Reader {
             self.word_at = self.at;
         }
         let at = self.word_at;
-        let kind = SyntaxKind::from_name(&self.word).ok_or(ExpressionError::UnknownKind { at })?;
+        let kind = self
+            .names
+            .kind(&self.word)
+            .ok_or(ExpressionError::UnknownKind { at })?;
         self.word.clear();
         Ok(kind)
     }

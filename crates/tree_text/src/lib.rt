@@ -16,7 +16,7 @@ mod write_error;
 pub use error::ExpressionError;
 pub use escape::push_escaped;
 pub use expected::Expected;
-pub use expression::{read_line_tree, read_tree};
+pub use expression::{read_line_tree, read_tree, read_tree_with};
 pub use kind_names::KindNames;
 pub use name_error::NameError;
 pub use open_nodes::DEPTH_LIMIT;
