@@ -90,7 +90,11 @@ fn push_token(out: &mut String, names: &KindNames, token: &GreenToken) -> Result
 }
 
 // A kind's name; a kind without one as `{:?}` shows it.
-fn push_kind(out: &mut String, names: &KindNames, kind: SyntaxKind) -> Result<(), AllocError>
+pub(crate) fn push_kind(
+    out: &mut String,
+    names: &KindNames,
+    kind: SyntaxKind,
+) -> Result<(), AllocError>
     ensures { OnOk result (string_bytes out.new ≡ string_bytes out.old ++ text_in names.now kind.0) }
 {
     match names.name(kind) {
