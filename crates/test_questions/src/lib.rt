@@ -18,6 +18,7 @@ mod ask_offsets;
 mod ask_steps;
 mod ask_values;
 mod ask_views;
+mod ask_written;
 mod memory;
 mod shown;
 mod told;
@@ -36,6 +37,7 @@ use crate::ask_numbers::NumberQuestion;
 use crate::ask_offsets::OffsetQuestion;
 use crate::ask_steps::StepQuestion;
 use crate::ask_values::ValueQuestion;
+use crate::ask_written::WrittenQuestion;
 use std::alloc::Global;
 use test_trees::{NoAnswer, Trees, Words};
 
@@ -100,6 +102,9 @@ fn other_answer(
     }
     if let Some(question) = ExpressionQuestion::from_name(name) {
         return ask_expressions::answer(alloc, question, arguments);
+    }
+    if let Some(question) = WrittenQuestion::from_name(name) {
+        return ask_written::answer(alloc, trees, question, arguments);
     }
     if let Some(question) = ErrorQuestion::from_name(name) {
         return ask_errors::answer(alloc, question, arguments);

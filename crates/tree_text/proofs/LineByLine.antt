@@ -1,8 +1,8 @@
 -- Lines of a tree, element by element.
 --     exact_length      a text below the limit has the length that is kept of it
-use Rattle.std.proofs.Common.{◌≡◌, ℕ, ◌+◌, ◌<◌, ◌≤◌, List, [], ◌∷◌, ◌++◌, length, get_or, drop, min, refl, sym, ap, ◌∙◌, subst, append_assoc, append-nil, add-one, drop-cons, length-append, Result, Ok, Err, OnOk, is_ok, if◌then◌else◌, arith}
+use Rattle.std.proofs.Common.{◌≡◌, ℕ, ◌+◌, ◌<◌, ◌≤◌, List, ◌∷◌, ◌++◌, length, get_or, drop, refl, sym, ap, ◌∙◌, append_assoc, append-nil, add-one, drop-cons, length-append, Result, Ok, Err, OnOk, is_ok, if◌then◌else◌, arith}
 use Rattle.std.proofs.lemmas.List.{drop_all}
-use Rattle.cst_core.specs.Tree.{SyntaxTree, forest, text}
+use Rattle.cst_core.specs.Tree.{forest, text}
 use Rattle.cst_core.specs.Green.{capped_length, length_limit, texts}
 use Rattle.cst_core.specs.GreenElement.{element_tree, element_trees}
 use Rattle.green_tree.specs.declared.green.GreenElement.{GreenElement}

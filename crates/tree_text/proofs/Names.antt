@@ -6,7 +6,7 @@
 --     other_name         an entry with another name
 --     in_neither         a name that is in neither list
 --     one_more_named     one more kind with a name, that had none
-use Rattle.std.proofs.Common.{◌≡◌, ℕ, zero, suc, ◌+◌, ◌<◌, ◌≤◌, Bool, true, false, List, [], ◌∷◌, ◌++◌, length, get_or, drop, map, cond, Option, None, Some, refl, sym, ap, ◌∙◌, subst, add-one, drop-cons, nat_eq, string_bytes, if◌then◌else◌, arith}
+use Rattle.std.proofs.Common.{◌≡◌, ℕ, zero, suc, ◌+◌, ◌<◌, ◌≤◌, Bool, true, false, List, [], ◌∷◌, ◌++◌, length, get_or, drop, map, cond, Option, None, Some, sym, ap, ◌∙◌, subst, add-one, drop-cons, nat_eq, string_bytes, if◌then◌else◌, arith}
 use Rattle.std.specs.List.{All}
 use Rattle.std.proofs.lemmas.Cmp.{nat_eq_equiv}
 use Rattle.std.proofs.lemmas.List.{map-append}

@@ -1,12 +1,12 @@
 -- The first kind without a name, child by child.
 --     none_in_child     where a child has none, it is among the children after it
 --     first_in_child    where a child has one, it is that one
-use Rattle.std.proofs.Common.{◌≡◌, ℕ, ◌+◌, ◌<◌, ◌≤◌, Bool, true, false, List, [], ◌∷◌, ◌++◌, length, get_or, drop, cond, Option, None, Some, option_map, is_none, Bor, refl, sym, ap, ◌∙◌, add-one, drop-cons}
+use Rattle.std.proofs.Common.{◌≡◌, ℕ, ◌+◌, ◌<◌, ◌≤◌, Bool, true, false, List, ◌∷◌, length, get_or, drop, cond, Option, None, Some, sym, ap, ◌∙◌, add-one, drop-cons}
 use Rattle.std.specs.List.{find}
 use Rattle.std.specs.Option.{option_or}
 use Rattle.std.proofs.lemmas.List.{drop_all}
 use Rattle.std.proofs.lemmas.List.Folds.{find-append}
-use Rattle.cst_core.specs.Tree.{SyntaxTree, forest}
+use Rattle.cst_core.specs.Tree.{forest}
 use Rattle.cst_core.specs.GreenElement.{element_tree, element_trees}
 use Rattle.green_tree.specs.declared.green.GreenElement.{GreenElement}
 use Rattle.tree_text.specs.TreeText.{kinds, forest_kinds}

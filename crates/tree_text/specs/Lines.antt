@@ -2,7 +2,7 @@
 --     line                   how an element's line begins: its indentation, its kind, where its text starts and ends
 --     lines, forest_lines    those of a tree whose text starts at a byte; those of trees side by side
 use Rattle.std.specs.Prelude.{ℕ, ◌+◌, List, [], ◌++◌, length, codes, decimal}
-use Rattle.cst_core.specs.Tree.{SyntaxTree, Tree, Token, Node, Forest, end, more, text_length, forest_text}
+use Rattle.cst_core.specs.Tree.{SyntaxTree, Token, Node, Forest, end, more, text_length, forest_text}
 use Rattle.tree_text.specs.Escape.{escaped}
 
 abbrev pub line : List ℕ → List ℕ → ℕ → ℕ → List ℕ

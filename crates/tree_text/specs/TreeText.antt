@@ -4,7 +4,7 @@
 --     unnamed_in                  the first of these that has no name
 use Rattle.std.specs.Prelude.{ℕ, List, [], ◌∷◌, ◌++◌, Option, is_none, codes}
 use Rattle.std.specs.List.{find}
-use Rattle.cst_core.specs.Tree.{SyntaxTree, Tree, Token, Node, Forest, end, more}
+use Rattle.cst_core.specs.Tree.{SyntaxTree, Token, Node, Forest, end, more}
 use Rattle.tree_text.specs.Escape.{escaped}
 use Rattle.tree_text.specs.KindNames.{KindName, name_in}
 

@@ -1,4 +1,4 @@
-use Rattle.std.proofs.Common.{◌≡◌, ◌++◌, ◌+◌, ◌<◌, length, sym, ap, ◌∙◌, subst, string_bytes, codes, arith, rules}
+use Rattle.std.proofs.Common.{◌≡◌, ◌++◌, ◌+◌, ◌<◌, length, ap, ◌∙◌, string_bytes, codes, arith, rules}
 use Rattle.green_tree.proofs.Slots.{size_at}
 use Rattle.cst_core.specs.Green.{length_limit, texts}
 use Rattle.cst_core.specs.GreenElement.{element_tree, element_trees}

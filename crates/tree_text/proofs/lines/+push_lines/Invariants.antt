@@ -1,10 +1,7 @@
-use Rattle.std.proofs.Common.{◌≡◌, ◌+◌, ◌++◌, drop, length, string_bytes}
-use Rattle.cst_core.specs.Green.{branch_tree, texts}
-use Rattle.cst_core.specs.GreenElement.{element_trees}
-use Rattle.cst_core.specs.Tree.{forest}
+use Rattle.std.proofs.Common.{string_bytes}
+use Rattle.cst_core.specs.Green.{branch_tree}
 use Rattle.green_tree.specs.inner.TreeSize.{size}
 use Rattle.tree_text.specs.KindNames.{text_in}
-use Rattle.tree_text.specs.Lines.{forest_lines}
 use Rattle.tree_text.proofs.LineByLine.{IsLinedUpTo}
 use Rattle.tree_text.proofs.lines.+push_lines.Given as goal
 

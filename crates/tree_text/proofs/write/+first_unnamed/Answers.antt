@@ -1,4 +1,4 @@
-use Rattle.std.proofs.Common.{◌≡◌, ℕ, Bool, Some, None, option_map, is_none, cond, sym, ◌∙◌, ap, arith, rules}
+use Rattle.std.proofs.Common.{◌≡◌, ℕ, Bool, Some, None, option_map, is_none, sym, arith}
 use Rattle.std.specs.List.{find}
 use Rattle.cst_core.specs.GreenElement.{element_tree}
 use Rattle.green_tree.proofs.Slots.{size_at}

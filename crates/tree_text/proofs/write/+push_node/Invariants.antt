@@ -4,7 +4,7 @@ use Rattle.cst_core.specs.GreenElement.{element_trees}
 use Rattle.cst_core.specs.Tree.{forest}
 use Rattle.green_tree.specs.inner.TreeSize.{size}
 use Rattle.tree_text.specs.KindNames.{text_in}
-use Rattle.tree_text.specs.TreeText.{tree_text, elements_text}
+use Rattle.tree_text.specs.TreeText.{elements_text}
 use Rattle.tree_text.proofs.write.+push_node.Given as goal
 
 abbrev pub decreases-push_node : goal.decreases-push_node

@@ -1,6 +1,5 @@
-use Rattle.std.proofs.Common.{◌≡◌, Some, sym, refl, ◌∙◌, ap, nat_eq, string_bytes, true, false}
+use Rattle.std.proofs.Common.{◌≡◌, sym, refl, ◌∙◌, string_bytes}
 use Rattle.tree_text.specs.inner.NamedKinds.{AreNamed}
-use Rattle.std.specs.Map.{lookup}
 use Rattle.std.proofs.lemmas.Slice.Eq.{bytes_eq-Decides}
 use Rattle.tree_text.proofs.Names.{entries, next_entry, apart, own_name, name_of_its_own, other_name, in_neither, nowhere}
 use Rattle.tree_text.proofs.kind_names.KindNames.kind.Goals as goal
