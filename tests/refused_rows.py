@@ -39,7 +39,7 @@ EXCEPT = {
     "OnePassEngine::new": "asks for nothing",
     "OnePassEngine::starting_at": "asks for nothing",
     "SpliceEngine::new": "asks for nothing",
-    "read_tree": "each row reads its trees by it, and ends where that is refused",
+    "KindNames::new": "keeps the allocator, and asks for nothing",
     "run": "is the whole of the program `syned`, which tests/refuse_growths.sh runs with each allocation made to fail",
     "carry_out": "is what `run` carries a script out by",
     "record_script": "is for tests alone; it records by the calls that `carry_out` makes",

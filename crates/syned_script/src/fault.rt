@@ -1,7 +1,7 @@
 //! What is wrong with a line of a script.
 
 use std::fmt;
-use tree_text::ExpressionError;
+use tree_text::{DEPTH_LIMIT, Expected};
 
 /// What should stand in a field of a line.
 #[derive(Clone, Copy, Debug, PartialEq, Eq)]
@@ -41,12 +41,14 @@ impl Wanted {
 }
 
 /// Why a line is bad.
-#[derive(Debug, Drop)]
+#[derive(Clone, Copy, Debug, PartialEq, Eq)]
 pub enum Reason {
     /// Something else is wanted there.
     Wanted(Wanted),
-    /// There is no tree expression.
-    Expression(ExpressionError),
+    /// Something else is expected there in a tree expression.
+    Expected(Expected),
+    /// More than `DEPTH_LIMIT` parentheses of a tree expression are open there.
+    TooDeep,
     /// Another tree has the name.
     NameTaken,
     /// No tree has the name.
@@ -73,7 +75,8 @@ impl fmt::Display for Reason {
     fn fmt<W: fmt::Write>(&self, f: &mut fmt::Formatter<W>) -> fmt::Result {
         match self {
             Reason::Wanted(wanted) => f.write_str(wanted.as_str()),
-            Reason::Expression(error) => write!(f, "{error}"),
+            Reason::Expected(expected) => write!(f, "{expected} is expected"),
+            Reason::TooDeep => write!(f, "more than {DEPTH_LIMIT} parentheses are open at once"),
             Reason::NameTaken => f.write_str("another tree has this name"),
             Reason::NoTree => f.write_str("no tree before this line has this name"),
             Reason::NoElement => f.write_str("the tree has no element there"),
@@ -89,7 +92,7 @@ impl fmt::Display for Reason {
 }
 
 /// What is wrong with a line, and where.
-#[derive(Debug, Drop)]
+#[derive(Clone, Copy, Debug, PartialEq, Eq)]
 pub struct Fault {
     /// Where it is in the line, in bytes from 0.
     pub at: usize,

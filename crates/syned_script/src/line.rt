@@ -7,7 +7,7 @@ use crate::reference::Reference;
 use crate::stop::Stop;
 use cst_core::{GreenNode, SyntaxKind};
 use std::alloc::Global;
-use tree_text::read_tree;
+use tree_text::read_line_tree;
 
 /// A line that is well formed. Whether its names stand for something is seen when it is carried out.
 #[derive(Drop)]
@@ -113,7 +113,10 @@ fn tree_line<'a>(alloc: Global, fields: &mut Fields<'a>) -> Result<Line<'a>, Sto
 }
 
 fn tree_of(alloc: Global, expression: Field<'_>) -> Result<GreenNode, Stop> {
-    read_tree(alloc, expression.text).map_err(|error| Stop::of_expression(expression.at, error))
+    read_line_tree(alloc, expression.text).map_err(|error| Stop::of_expression(
+        expression.at,
+        error,
+    ))
 }
 
 fn edit_line<'a>(alloc: Global, fields: &mut Fields<'a>) -> Result<Line<'a>, Stop> {

@@ -1,4 +1,4 @@
-use crate::fault::{Fault, Reason};
+use crate::fault::{Fault, Reason, Wanted};
 use crate::refusal::Refusal;
 use cst_core::TreeError;
 use std::alloc::{AllocError, AllocFailed};
@@ -30,11 +30,19 @@ impl Stop {
     }
 
     /// The same of a tree expression that begins at a byte of the line, unless memory ran out or the tree was refused.
-    pub(crate) fn of_expression(at: usize, error: ExpressionError) -> Stop {
+    pub(crate) fn of_expression(start: usize, error: ExpressionError) -> Stop {
         match error {
+            ExpressionError::Malformed { at, expected } => {
+                Stop::bad(start.saturating_add(at), Reason::Expected(expected))
+            }
+            ExpressionError::UnknownKind { at } => {
+                Stop::bad(start.saturating_add(at), Reason::Wanted(Wanted::Kind))
+            }
+            ExpressionError::TooDeep { at } => {
+                Stop::bad(start.saturating_add(at), Reason::TooDeep)
+            }
             ExpressionError::Tree(error) => Stop::from(error),
             ExpressionError::Memory => Stop::Memory,
-            error => Stop::bad(at, Reason::Expression(error)),
         }
     }
 

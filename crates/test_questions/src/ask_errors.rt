@@ -1,6 +1,6 @@
 //! What errors print: for a user a sentence, and the name of the case.
 
-use cst_core::TreeError;
+use cst_core::{SyntaxKind, TreeError};
 use std::alloc::{AllocError, Global};
 use std::fmt::Display;
 use syntax_editor::{
@@ -8,7 +8,7 @@ use syntax_editor::{
     WrapError,
 };
 use test_trees::{NoAnswer, RowError, find_named};
-use tree_text::ExpressionError;
+use tree_text::{Expected, ExpressionError, NameError, WriteError};
 
 #[derive(Clone, Copy)]
 pub enum ErrorQuestion {
@@ -23,11 +23,13 @@ pub enum ErrorQuestion {
     ExecuteError,
     Error,
     ExpressionError,
+    WriteError,
+    NameError,
     RowError,
 }
 
 // By the type of the error.
-const NAMES: [(&str, ErrorQuestion); 12] = [
+const NAMES: [(&str, ErrorQuestion); 14] = [
     ("tree_error", ErrorQuestion::TreeError),
     ("map_error", ErrorQuestion::MapError),
     ("record_error", ErrorQuestion::RecordError),
@@ -39,6 +41,8 @@ const NAMES: [(&str, ErrorQuestion); 12] = [
     ("execute_error", ErrorQuestion::ExecuteError),
     ("error", ErrorQuestion::Error),
     ("expression_error", ErrorQuestion::ExpressionError),
+    ("write_error", ErrorQuestion::WriteError),
+    ("name_error", ErrorQuestion::NameError),
     ("row_error", ErrorQuestion::RowError),
 ];
 
@@ -133,11 +137,29 @@ const ANY_ERRORS: [(&str, Error); 9] = [
 ];
 
 const EXPRESSION_ERRORS: [(&str, ExpressionError); 5] = [
-    ("Malformed", ExpressionError::Malformed),
-    ("UnknownKind", ExpressionError::UnknownKind),
-    ("TooDeep", ExpressionError::TooDeep),
+    (
+        "Malformed",
+        ExpressionError::Malformed {
+            at: 12,
+            expected: Expected::KindName,
+        },
+    ),
+    ("UnknownKind", ExpressionError::UnknownKind { at: 1 }),
+    ("TooDeep", ExpressionError::TooDeep { at: 201 }),
     ("Tree", ExpressionError::Tree(TreeError::NoTreeNumber)),
     ("Memory", ExpressionError::Memory),
+];
+
+const WRITE_ERRORS: [(&str, WriteError); 2] = [
+    ("NoName", WriteError::NoName(SyntaxKind(65))),
+    ("Memory", WriteError::Memory),
+];
+
+const NAME_ERRORS: [(&str, NameError); 4] = [
+    ("Misspelled", NameError::Misspelled),
+    ("Named", NameError::Named),
+    ("Taken", NameError::Taken),
+    ("Memory", NameError::Memory),
 ];
 
 const ROW_ERRORS: [(&str, RowError); 5] = [
@@ -169,6 +191,8 @@ pub fn answer(alloc: Global, question: ErrorQuestion, case: &str) -> Result<Stri
         ErrorQuestion::ExecuteError => execute_error(alloc, case),
         ErrorQuestion::Error => error(alloc, case),
         ErrorQuestion::ExpressionError => expression_error(alloc, case),
+        ErrorQuestion::WriteError => write_error(alloc, case),
+        ErrorQuestion::NameError => name_error(alloc, case),
         ErrorQuestion::RowError => row_error(alloc, case),
     }
 }
@@ -238,6 +262,16 @@ fn error(alloc: Global, case: &str) -> Result<String, NoAnswer> {
 
 fn expression_error(alloc: Global, case: &str) -> Result<String, NoAnswer> {
     let error = find_named(&EXPRESSION_ERRORS, case).ok_or(NoAnswer::Arguments)?;
+    told(alloc, error.name(), error)
+}
+
+fn write_error(alloc: Global, case: &str) -> Result<String, NoAnswer> {
+    let error = find_named(&WRITE_ERRORS, case).ok_or(NoAnswer::Arguments)?;
+    told(alloc, error.name(), error)
+}
+
+fn name_error(alloc: Global, case: &str) -> Result<String, NoAnswer> {
+    let error = find_named(&NAME_ERRORS, case).ok_or(NoAnswer::Arguments)?;
     told(alloc, error.name(), error)
 }
 

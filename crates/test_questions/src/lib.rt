@@ -5,6 +5,7 @@
 
 mod ask_around;
 mod ask_errors;
+mod ask_expressions;
 mod ask_facts;
 mod ask_green;
 mod ask_kin;
@@ -17,12 +18,14 @@ mod ask_offsets;
 mod ask_steps;
 mod ask_values;
 mod ask_views;
+mod ask_written;
 mod memory;
 mod shown;
 mod told;
 
 use crate::ask_around::AroundQuestion;
 use crate::ask_errors::ErrorQuestion;
+use crate::ask_expressions::ExpressionQuestion;
 use crate::ask_facts::FactQuestion;
 use crate::ask_green::GreenQuestion;
 use crate::ask_kin::KinQuestion;
@@ -34,6 +37,7 @@ use crate::ask_numbers::NumberQuestion;
 use crate::ask_offsets::OffsetQuestion;
 use crate::ask_steps::StepQuestion;
 use crate::ask_values::ValueQuestion;
+use crate::ask_written::WrittenQuestion;
 use std::alloc::Global;
 use test_trees::{NoAnswer, Trees, Words};
 
@@ -95,6 +99,12 @@ fn other_answer(
     }
     if let Some(question) = NumberQuestion::from_name(name) {
         return ask_numbers::answer(alloc, trees, question, arguments);
+    }
+    if let Some(question) = ExpressionQuestion::from_name(name) {
+        return ask_expressions::answer(alloc, question, arguments);
+    }
+    if let Some(question) = WrittenQuestion::from_name(name) {
+        return ask_written::answer(alloc, trees, question, arguments);
     }
     if let Some(question) = ErrorQuestion::from_name(name) {
         return ask_errors::answer(alloc, question, arguments);

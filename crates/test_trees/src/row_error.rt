@@ -67,9 +67,9 @@ impl From<TreeError> for RowError {
 impl From<ExpressionError> for RowError {
     fn from(error: ExpressionError) -> RowError {
         match error {
-            ExpressionError::Malformed => RowError::Malformed,
-            ExpressionError::UnknownKind => RowError::UnknownKind,
-            ExpressionError::TooDeep => RowError::TooDeep,
+            ExpressionError::Malformed { .. } => RowError::Malformed,
+            ExpressionError::UnknownKind { .. } => RowError::UnknownKind,
+            ExpressionError::TooDeep { .. } => RowError::TooDeep,
             ExpressionError::Tree(error) => RowError::from(error),
             ExpressionError::Memory => RowError::Memory,
         }

@@ -1,2 +1,5 @@
 pub mod Depths
+pub mod LineByLine
+pub mod Names
 pub mod Results
+pub mod Unnamed

@@ -6,8 +6,8 @@ use Rattle.tree_text.specs.declared.error.ExpressionError.{ExpressionError}
 use Rattle.tree_text.specs.declared.error.ExpressionError.TheVariants.{Malformed, UnknownKind, TooDeep, Tree, Memory}
 
 abbrev pub expression_error_name : ExpressionError → List ℕ
-expression_error_name Malformed = codes "Malformed"
-expression_error_name UnknownKind = codes "UnknownKind"
-expression_error_name TooDeep = codes "TooDeep"
+expression_error_name (Malformed at expected) = codes "Malformed"
+expression_error_name (UnknownKind at) = codes "UnknownKind"
+expression_error_name (TooDeep at) = codes "TooDeep"
 expression_error_name (Tree e) = tree_error_name e
 expression_error_name Memory = codes "Memory"

@@ -1,4 +1,9 @@
 pub mod Escape
 pub mod Depth
 pub mod ExpressionErrorName
+pub mod KindNames
+pub mod Lines
+pub mod NameErrorName
+pub mod TreeText
+pub mod WriteErrorName
 pub mod inner

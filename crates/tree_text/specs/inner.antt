@@ -1,2 +1,3 @@
 -- What private calls cite.
 pub mod OpenDepth
+pub mod NamedKinds

@@ -1,23 +1,24 @@
 ghost use Rattle.std.specs.Prelude.{◌≡◌, ◌≢◌};
 ghost use Rattle.tree_text.specs.ExpressionErrorName.{expression_error_name};
 
+use crate::expected::Expected;
 use crate::open_nodes::DEPTH_LIMIT;
 use cst_core::TreeError;
 use std::alloc::{AllocError, AllocFailed};
 use thiserror::Error;
 
-/// Why there is no tree.
+/// Why there is no tree. Where the text is to blame, `at` says at which of its bytes, counted from 0.
 #[derive(Debug, PartialEq, Eq, Drop, Error)]
 pub enum ExpressionError {
-    /// The text is no tree expression.
-    #[error("the text is not a tree expression")]
-    Malformed,
-    /// No kind has this name.
-    #[error("the text names a kind that does not exist")]
-    UnknownKind,
-    /// More parentheses than `DEPTH_LIMIT` are open at once.
-    #[error("the tree expression has more than {limit} parentheses open at once", limit = DEPTH_LIMIT)]
-    TooDeep,
+    /// What stands at this byte is not what a tree expression may have there; at the text's length, the text ends too early.
+    #[error("byte {at}: {expected} is expected")]
+    Malformed { at: usize, expected: Expected },
+    /// No kind has the name that begins at this byte.
+    #[error("byte {at}: no kind has this name")]
+    UnknownKind { at: usize },
+    /// More parentheses than `DEPTH_LIMIT` are open at once. The kind of the first node that is too deep begins at this byte.
+    #[error("byte {at}: more than {limit} parentheses are open at once", limit = DEPTH_LIMIT)]
+    TooDeep { at: usize },
     /// The tree cannot be made, and not because memory ran out.
     #[error(transparent)]
     Tree(TreeError),
@@ -54,9 +55,9 @@ impl ExpressionError {
         ensures { result.now ≡ expression_error_name self.now }
     {
         match self {
-            ExpressionError::Malformed => "Malformed",
-            ExpressionError::UnknownKind => "UnknownKind",
-            ExpressionError::TooDeep => "TooDeep",
+            ExpressionError::Malformed { .. } => "Malformed",
+            ExpressionError::UnknownKind { .. } => "UnknownKind",
+            ExpressionError::TooDeep { .. } => "TooDeep",
             ExpressionError::Tree(inner) => inner.name(),
             ExpressionError::Memory => "Memory",
         }

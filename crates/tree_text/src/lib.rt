@@ -3,11 +3,25 @@
 
 mod error;
 mod escape;
+mod expected;
 mod expression;
+mod kind_names;
+mod lines;
+mod name_error;
 mod open_node;
 mod open_nodes;
+mod root;
+mod write;
+mod write_error;
 
 pub use error::ExpressionError;
 pub use escape::push_escaped;
-pub use expression::read_tree;
+pub use expected::Expected;
+pub use expression::{read_line_tree, read_tree, read_tree_with};
+pub use kind_names::KindNames;
+pub use lines::{dump, dump_node};
+pub use name_error::NameError;
 pub use open_nodes::DEPTH_LIMIT;
+pub use root::read_root;
+pub use write::{write_tree, write_tree_with};
+pub use write_error::WriteError;

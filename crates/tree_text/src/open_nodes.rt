@@ -6,6 +6,7 @@ ghost use Rattle.tree_text.specs.inner.OpenDepth.{open_depth};
 ghost use Rattle.tree_text.specs.declared.open_nodes.TheConstants.{DEPTH_LIMIT};
 
 use crate::error::ExpressionError;
+use crate::expected::Expected;
 use crate::open_node::OpenNode;
 use cst_core::{GreenElement, GreenNode, SyntaxKind};
 use std::alloc::Global;
@@ -33,34 +34,45 @@ impl OpenNodes {
         self.nodes.is_empty()
     }
 
-    /// Opens a node inside the innermost one.
-    pub(crate) fn begin(&mut self, alloc: Global, kind: SyntaxKind) -> Result<(), ExpressionError> {
+    /// Opens a node inside the innermost one. Its kind begins at this byte.
+    pub(crate) fn begin(
+        &mut self,
+        alloc: Global,
+        kind: SyntaxKind,
+        at: usize,
+    ) -> Result<(), ExpressionError> {
         if self.nodes.len() >= DEPTH_LIMIT {
-            return Err(ExpressionError::TooDeep);
+            return Err(ExpressionError::TooDeep { at });
         }
         let children = Vec::new(alloc);
         self.nodes.push(OpenNode { kind, children })?;
         Ok(())
     }
 
-    /// Puts an element at the end of the innermost node.
-    pub(crate) fn put(&mut self, element: GreenElement) -> Result<(), ExpressionError>
+    /// Puts an element that ends at this byte at the end of the innermost node.
+    pub(crate) fn put(&mut self, element: GreenElement, at: usize) -> Result<(), ExpressionError>
         requires { depth (element_tree element) ≤ DEPTH_LIMIT - length self.old.nodes.items }
     {
         let Some(mut node) = self.nodes.pop() else {
-            return Err(ExpressionError::Malformed);
+            return Err(ExpressionError::Malformed {
+                at,
+                expected: Expected::Node,
+            });
         };
         node.children.push(element)?;
         self.nodes.push(node)?;
         Ok(())
     }
 
-    /// Closes the innermost node.
-    pub(crate) fn end(&mut self, alloc: Global) -> Result<GreenNode, ExpressionError>
+    /// Closes the innermost node at this byte.
+    pub(crate) fn end(&mut self, alloc: Global, at: usize) -> Result<GreenNode, ExpressionError>
         ensures { IfOk result (λ n. depth (branch_tree n) + length self.new.nodes.items ≤ DEPTH_LIMIT) }
     {
         let Some(OpenNode { kind, children }) = self.nodes.pop() else {
-            return Err(ExpressionError::Malformed);
+            return Err(ExpressionError::Malformed {
+                at,
+                expected: Expected::Node,
+            });
         };
         GreenNode::new(alloc, kind, children).map_err(ExpressionError::of_tree)
     }

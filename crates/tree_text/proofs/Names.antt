@@ -1,0 +1,97 @@
+-- The names that kinds are given, one by one.
+--     entries            the names as a caller sees them
+--     next_entry         the entry at an index, and those after it
+--     own_name           each kind in the list has the name that stands beside it
+--     name_of_its_own    the name of one of the 65 is its name
+--     other_name         an entry with another name
+--     in_neither         a name that is in neither list
+--     one_more_named     one more kind with a name, that had none
+use Rattle.std.proofs.Common.{◌≡◌, ℕ, zero, suc, ◌+◌, ◌<◌, ◌≤◌, Bool, true, false, List, [], ◌∷◌, ◌++◌, length, get_or, drop, map, cond, Option, None, Some, sym, ap, ◌∙◌, subst, add-one, drop-cons, nat_eq, string_bytes, if◌then◌else◌, arith}
+use Rattle.std.specs.List.{All}
+use Rattle.std.proofs.lemmas.Cmp.{nat_eq_equiv}
+use Rattle.std.proofs.lemmas.List.{map-append}
+use Rattle.std.proofs.lemmas.List.Elements.{All-append, All-cons, All-nil}
+use Rattle.std.specs.Map.{lookup}
+use Rattle.std.specs.Option.{option_or}
+use Rattle.std.proofs.lemmas.List.{drop_all}
+use Rattle.cst_core.specs.Kind.{name_of}
+use Rattle.tree_text.specs.KindNames.{KindName, name_in}
+use Rattle.tree_text.specs.inner.NamedKinds.{AreNamed}
+use Rattle.tree_text.specs.declared.kind_names.GivenName.{GivenName}
+
+abbrev pub entry : GivenName → KindName
+entry g = (g.kind.0, string_bytes g.name)
+
+abbrev pub entries : List GivenName → List KindName
+entries gs = map entry gs
+
+pub next_entry : (gs : List GivenName) (i : ℕ) (g : GivenName) → i < length gs → g ≡ get_or gs i g → entries (drop i gs) ≡ entry g ∷ entries (drop (i + 1) gs)
+next_entry gs i g within is = let next : drop i gs ≡ g ∷ drop (i + 1) gs = rw (add-one, is) (drop-cons gs i g within) in ap entries next
+
+at_entry : (P : KindName → Type 0) (gs : List GivenName) (i : ℕ) (g : GivenName) → All P (entries gs) → i < length gs → g ≡ get_or gs i g → P (entry g)
+at_entry P [] i g all within is = absurd (omega arith)
+at_entry P (h ∷ gs) zero g all within is = subst (λ x. P (entry x)) (sym is) (all 0 (entry h) (omega arith))
+at_entry P (h ∷ gs) (suc i) g all within is = at_entry P gs i g (λ k d within. all (suc k) d (omega arith)) (omega arith) is
+
+pub own_name : (gs : List GivenName) (i : ℕ) (g : GivenName) → AreNamed (entries gs) → i < length gs → g ≡ get_or gs i g → name_in (entries gs) g.kind.0 ≡ Some (string_bytes g.name)
+own_name gs i g named within is = at_entry (λ e. name_in (entries gs) e.0 ≡ Some e.1) gs i g named within is
+
+pub name_of_its_own : {A : Type 0} (o l : Option A) (a : A) → o ≡ Some a → option_or o l ≡ Some a
+name_of_its_own o l a is = ap (λ x. option_or x l) is
+
+pub other_name : (b : Bool) (m n : List ℕ) (o : Option (List ℕ)) → (m ≡ n → ⊥) → cond b (Some m) o ≡ Some n → o ≡ Some n
+other_name true m n o differ is = absurd (differ (cc))
+other_name false m n o differ is = is
+
+in_either : {A : Type 0} (o l : Option A) (a : A) → (o ≡ Some a → ⊥) → (l ≡ Some a → ⊥) → option_or o l ≡ Some a → ⊥
+in_either None l a first second is = second is
+in_either (Some x) l a first second is = first is
+
+pub in_neither : (given : List KindName) (n : List ℕ) (k : ℕ) → (name_of k ≡ Some n → ⊥) → (lookup (nat_eq k) given ≡ Some n → ⊥) → name_in given k ≡ Some n → ⊥
+in_neither given n k first second is = in_either (name_of k) (lookup (nat_eq k) given) n first second is
+
+pub nowhere : (gs : List GivenName) (i k : ℕ) (n : List ℕ) → length gs ≤ i → lookup (nat_eq k) (entries (drop i gs)) ≡ Some n → ⊥
+nowhere gs i k n past found =
+    let none : None ≡ Some n = sym (ap (λ l. lookup (nat_eq k) (entries l)) (drop_all i gs past)) ∙ found in
+    absurd (cc)
+
+-- a kind that has a name keeps it as another one is given one
+lookup_more : (k : ℕ) (given : List KindName) (e : KindName) (n : List ℕ) → lookup (nat_eq k) given ≡ Some n → lookup (nat_eq k) (given ++ e ∷ []) ≡ Some n
+lookup_more k [] e n is = absurd (cc)
+lookup_more k (d ∷ given) e n is = elim (nat_eq k d.0) as (λ b. cond b (Some d.1) (lookup (nat_eq k) given) ≡ Some n → cond b (Some d.1) (lookup (nat_eq k) (given ++ e ∷ [])) ≡ Some n) [
+  | true ↦ λ h. h
+  | false ↦ λ h. lookup_more k given e n h
+] is
+
+kept_by : (o l m : Option (List ℕ)) (n : List ℕ) → (l ≡ Some n → m ≡ Some n) → option_or o l ≡ Some n → option_or o m ≡ Some n
+kept_by None l m n on is = on is
+kept_by (Some x) l m n on is = is
+
+name_more : (k : ℕ) (given : List KindName) (e : KindName) (n : List ℕ) → name_in given k ≡ Some n → name_in (given ++ e ∷ []) k ≡ Some n
+name_more k given e n is = kept_by (name_of k) (lookup (nat_eq k) given) (lookup (nat_eq k) (given ++ e ∷ [])) n (lookup_more k given e n) is
+
+pub apart : true ≡ false → ⊥
+apart is = absurd (cc)
+
+lookup_new : (k : ℕ) (n : List ℕ) (given : List KindName) → lookup (nat_eq k) given ≡ None → lookup (nat_eq k) (given ++ (k, n) ∷ []) ≡ Some n
+lookup_new k n [] none = ap (λ b. cond b (Some n) None) (nat_eq_equiv.refl k)
+lookup_new k n (d ∷ given) none = elim (nat_eq k d.0) as (λ b. cond b (Some d.1) (lookup (nat_eq k) given) ≡ None → cond b (Some d.1) (lookup (nat_eq k) (given ++ (k, n) ∷ [])) ≡ Some n) [
+  | true ↦ λ h. absurd (cc)
+  | false ↦ λ h. lookup_new k n given h
+] none
+
+fresh : (o l m : Option (List ℕ)) (n : List ℕ) → (l ≡ None → m ≡ Some n) → option_or o l ≡ None → option_or o m ≡ Some n
+fresh None l m n new none = new none
+fresh (Some x) l m n new none = absurd (cc)
+
+name_new : (k : ℕ) (n : List ℕ) (given : List KindName) → name_in given k ≡ None → name_in (given ++ (k, n) ∷ []) k ≡ Some n
+name_new k n given none = fresh (name_of k) (lookup (nat_eq k) given) (lookup (nat_eq k) (given ++ (k, n) ∷ [])) n (lookup_new k n given) none
+
+pub one_more_named : (given : List KindName) (e : KindName) → AreNamed given → name_in given e.0 ≡ None → AreNamed (given ++ e ∷ [])
+one_more_named given e named none =
+    let P : KindName → Type 0 = λ d. name_in (given ++ e ∷ []) d.0 ≡ Some d.1 in
+    All-append P given (e ∷ []) (λ k d within. name_more (get_or given k d).0 given e (get_or given k d).1 (named k d within)) (All-cons P e [] (name_new e.0 e.1 given none) (All-nil P))
+
+pub named_after : (gs hs : List GivenName) (g : GivenName) (b : Bool) → hs ≡ (if b then gs ++ g ∷ [] else gs) → AreNamed (entries gs) → name_in (entries gs) g.kind.0 ≡ None → AreNamed (entries hs)
+named_after gs hs g true is named none = subst (λ l. AreNamed l) (sym (ap entries is ∙ map-append entry gs (g ∷ []))) (one_more_named (entries gs) (entry g) named none)
+named_after gs hs g false is named none = subst (λ l. AreNamed (entries l)) (sym is) named

@@ -1,0 +1,27 @@
+-- Names of kinds, of one's own beside the 65.
+--     KindName           a kind by its number, and the name that it is given
+--     name_in            the name of a kind: its own, or else the one that it is given
+--     text_in            that name, or how a kind without one is shown
+--     is_name_byte       an ASCII letter, a digit or an underscore
+--     is_name            a text is spelled as a name of a kind: of these alone, and not empty
+use Rattle.std.specs.Prelude.{ℕ, Bool, not, ◌&&◌, ◌||◌, ◌==◌, List, Option, unwrap_or, nat_eq, length}
+use Rattle.std.specs.List.{list_all}
+use Rattle.std.specs.Char.{is_ascii_alphanumeric}
+use Rattle.std.specs.Map.{lookup}
+use Rattle.std.specs.Option.{option_or}
+use Rattle.cst_core.specs.Kind.{name_of, kind_text}
+
+abbrev pub KindName : Type 0
+KindName = ℕ × List ℕ
+
+abbrev pub name_in : List KindName → ℕ → Option (List ℕ)
+name_in given k = option_or (name_of k) (lookup (nat_eq k) given)
+
+abbrev pub text_in : List KindName → ℕ → List ℕ
+text_in given k = unwrap_or (name_in given k) (kind_text k)
+
+abbrev pub is_name_byte : ℕ → Bool
+is_name_byte b = is_ascii_alphanumeric b || b == 95
+
+abbrev pub is_name : List ℕ → Bool
+is_name s = not (length s == 0) && list_all is_name_byte s

@@ -1,0 +1,117 @@
+ghost use Rattle.std.specs.Prelude.{ℕ, ◌≡◌, ◌≢◌, ◌↔◌, ◌++◌, [], ◌∷◌, false, Some, None, Err, IsSome, IfSome, IsNone, OnOk, OnErr, option_map};
+ghost use Rattle.tree_text.specs.KindNames.{name_in, is_name, is_name_byte};
+
+use crate::name_error::NameError;
+use cst_core::SyntaxKind;
+use std::alloc::Global;
+use std::marker::Model;
+
+#[derive(Drop)]
+struct GivenName {
+    kind: SyntaxKind,
+    name: String,
+}
+
+/// Names of kinds, of one's own beside the 65 that `SyntaxKind` has.
+#[derive(Drop)]
+pub struct KindNames {
+    given: Vec<GivenName>,
+}
+
+impl Model for KindNames {
+    ghost use Rattle.std.specs.Prelude.{List, map, string_bytes};
+    ghost use Rattle.tree_text.specs.KindNames.{KindName};
+
+    ghost Value = { List KindName };
+
+    ghost view = { λ a. map (λ g. (g.kind.0, string_bytes g.name)) a.given.items };
+
+    ghost use Rattle.tree_text.specs.inner.NamedKinds.{AreNamed};
+
+    ghost invariant = { λ a. AreNamed (map (λ g. (g.kind.0, string_bytes g.name)) a.given.items) };
+}
+
+impl KindNames {
+    /// Only the names that `SyntaxKind` has. Takes no memory.
+    pub fn new(alloc: Global) -> KindNames
+        ensures { result ≡ [] }
+    {
+        KindNames {
+            given: Vec::new(alloc),
+        }
+    }
+
+    /// Gives a name to a kind, which may have any number that has none.
+    ///
+    /// `Misspelled` comes first, then `Named`, `Taken` and `Memory`. Each of them leaves the names as they were.
+    pub fn add(&mut self, alloc: Global, kind: SyntaxKind, name: &str) -> Result<(), NameError>
+        ensures ok { OnOk result (self.new ≡ self.old ++ (kind.0, name.now) ∷ []) }
+        ensures err { OnErr result (self.new ≡ self.old) }
+        ensures misspelled { (result ≡ Err NameError.Misspelled) ↔ (is_name name.now ≡ false) }
+        ensures unnamed { OnOk result (name_in self.old kind.0 ≡ None) }
+        ensures free { OnOk result ((k : ℕ) → name_in self.old k ≢ Some name.now) }
+        ensures named { result ≡ Err NameError.Named → IsSome (name_in self.old kind.0) }
+        ensures taken { result ≡ Err NameError.Taken → (k : ℕ) × (name_in self.old k ≡ Some name.now) }
+    {
+        if !is_spelled(name) {
+            return Err(NameError::Misspelled);
+        }
+        if self.name(kind).is_some() {
+            return Err(NameError::Named);
+        }
+        if self.kind(name).is_some() {
+            return Err(NameError::Taken);
+        }
+        let name = String::from_str(alloc, name)?;
+        self.given.push(GivenName { kind, name })?;
+        Ok(())
+    }
+
+    /// The kind of this name, if it is the name of one.
+    pub fn kind(&self, name: &str) -> Option<SyntaxKind>
+        ensures found { IfSome result (λ kind. name_in self.now kind.0 ≡ Some name.now) }
+        ensures none { IsNone result → (k : ℕ) → name_in self.now k ≢ Some name.now }
+    {
+        if let Some(kind) = SyntaxKind::from_name(name) {
+            return Some(kind);
+        }
+        for given in &self.given {
+            if given.name.as_str() == name {
+                return Some(given.kind);
+            }
+        }
+        None
+    }
+
+    /// The name of a kind, if it has one.
+    pub fn name(&self, kind: SyntaxKind) -> Option<&str>
+        ensures { option_map (λ s. s.now) result ≡ name_in self.now kind.0 }
+    {
+        if let Some(name) = kind.name() {
+            return Some(name);
+        }
+        for given in &self.given {
+            if kind == given.kind {
+                return Some(given.name.as_str());
+            }
+        }
+        None
+    }
+}
+
+fn is_spelled(name: &str) -> bool
+    ensures { result ≡ is_name name.now }
+{
+    for byte in name.as_bytes() {
+        if !is_part_of_name(*byte) {
+            return false;
+        }
+    }
+    !name.is_empty()
+}
+
+fn is_part_of_name(byte: u8) -> bool
+    ensures { result ≡ is_name_byte byte }
+{
+    byte.is_ascii_alphanumeric() || byte == b'_'
+}

@@ -1,0 +1,29 @@
+ghost use Rattle.std.specs.Prelude.{◌≡◌, ◌+◌, ◌≤◌, [], IfOk, OnOk, OnErr, Err};
+ghost use Rattle.cst_core.specs.TreeIds.{IsSpent};
+ghost use Rattle.tree_text.specs.Depth.{depth};
+ghost use Rattle.tree_text.specs.declared.open_nodes.TheConstants.{DEPTH_LIMIT};
+
+use crate::error::ExpressionError;
+use crate::expression::read_tree;
+use cst_core::{SyntaxNode, TreeError, TreeIds};
+use std::alloc::Global;
+
+/// The root of a new tree, which `read_tree` reads from the expression, under the next number of `ids`.
+///
+/// `Tree(NoTreeNumber)` comes first, exactly if `ids` is spent. No error draws a number.
+pub fn read_root(
+    alloc: Global,
+    ids: &mut TreeIds,
+    expression: &str,
+) -> Result<SyntaxNode, ExpressionError>
+    ensures root { IfOk result (λ n. n.number ≡ ids.old × n.path ≡ [] × depth n.root ≤ DEPTH_LIMIT) }
+    ensures drawn { OnOk result (ids.new ≡ ids.old + 1) }
+    ensures no_number { IsSpent ids.old → result ≡ Err (ExpressionError.Tree TreeError.NoTreeNumber) }
+    ensures err { OnErr result (ids.new ≡ ids.old) }
+{
+    if ids.is_spent() {
+        return Err(ExpressionError::Tree(TreeError::NoTreeNumber));
+    }
+    let root = read_tree(alloc, expression)?;
+    SyntaxNode::new_root(alloc, ids, root).map_err(ExpressionError::of_tree)
+}
