@@ -19,7 +19,7 @@ use std::alloc::{AllocError, Global};
 impl SyntaxEditor {
     /// Appends the changes and the registrations of another editor of the same root. No change updates another one. Both mappings
     /// are kept; where both map a node, `other`'s copy wins. After it the factory has mappings. Two replacements that share a target
-    /// both stand in the list then, and `plan` refuses it: `first_clash_with` names them before.
+    /// both stand in the list then, and `plan` refuses it: `clashes_with` names them before.
     ///
     /// `OtherRoot` comes first, then `Memory`. Each hands the other editor back, and leaves both as they were. Takes time near linear
     /// in the changes, registrations and mappings of both.
@@ -52,7 +52,7 @@ impl SyntaxEditor {
     /// merged editor is refused with `Intersecting` and these two numbers.
     ///
     /// ```text
-    /// match first.first_clash_with(alloc, &second)? {
+    /// match first.clashes_with(alloc, &second)? {
     ///     Some((kept, _)) => println!(rt; "change {kept} stays, and the second assist is left out")?,
     ///     None => first.merge(alloc, second).map_err(|(refusal, _)| refusal)?,
     /// }
@@ -60,7 +60,7 @@ impl SyntaxEditor {
     ///
     /// Targets are compared by their paths. So of an editor of another root, which `merge` refuses, the answer says nothing. Refused for memory
     /// alone. Takes time near linear in the changes of both.
-    pub fn first_clash_with(
+    pub fn clashes_with(
         &self,
         alloc: Global,
         other: &SyntaxEditor,

@@ -233,8 +233,8 @@ pub const OWED: &[Owed] = &[
         answers: &["ok", "Intersecting", "MissingMapping"],
     },
     Owed {
-        call: "first_clash_with",
-        name: "SyntaxEditor::first_clash_with",
+        call: "clashes_with",
+        name: "SyntaxEditor::clashes_with",
         answers: &["ok", "none"],
     },
     Owed {

@@ -21,7 +21,7 @@ pub fn answer(
     let answer = match name {
         "new" => new(alloc, session, words),
         "with_ast_node" => with_ast_node(alloc, session, words),
-        "first_clash_with" => first_clash_with(alloc, session),
+        "clashes_with" => clashes_with(alloc, session),
         "merge" => merge(alloc, session),
         "check" => check(alloc, session),
         "finish" => finish(alloc, session),
@@ -81,7 +81,7 @@ pub fn take_last(session: &mut Session) -> Result<SyntaxEditor, NoAnswer> {
 }
 
 // The first clash that there would be if the last editor went into the one before it.
-fn first_clash_with(alloc: Global, session: &mut Session) -> Result<String, NoAnswer> {
+fn clashes_with(alloc: Global, session: &mut Session) -> Result<String, NoAnswer> {
     let (other, before) = session
         .editors
         .split_last()
@@ -89,7 +89,7 @@ fn first_clash_with(alloc: Global, session: &mut Session) -> Result<String, NoAn
     let own = before
         .last()
         .ok_or(NoAnswer::Missing("one editor alone was made"))?;
-    match own.first_clash_with(alloc, other) {
+    match own.clashes_with(alloc, other) {
         Ok(Some((first, second))) => Ok(format!(in alloc; "ok {first} {second}")?),
         Ok(None) => none(alloc),
         Err(_) => memory(alloc),
