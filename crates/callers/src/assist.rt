@@ -11,7 +11,6 @@ ghost use Rattle.list_removal.specs.Removal.{removal};
 ghost use Rattle.syntax_editor.specs.Editor.{Editor, Records, new_editor, has_parent, plan_of};
 ghost use Rattle.callers.specs.Rearranged.{calls, after_calls, Rearranges, IsRearranged};
 
-use crate::tree::{new_text, root_of};
 use anyhow::{Result, anyhow};
 use cst_core::laws::children_are_one_level_below;
 use cst_core::{SyntaxElement, SyntaxKind, SyntaxNode, TreeIds};
@@ -21,6 +20,7 @@ use list_removal::remove_separated;
 use std::alloc::Global;
 use syntax_editor::laws::calls_at_one_depth_own_nothing;
 use syntax_editor::{SyntaxEdit, SyntaxEditor};
+use tree_text::read_root;
 
 fn remove(alloc: Global, editor: &mut SyntaxEditor, argument: &SyntaxNode) -> Result<()>
     ensures { OnOk result (Records (removal COMMA (Node argument.now)) editor.old editor.new) }
@@ -85,6 +85,10 @@ const LIST: &str =
 /// The new text of the list.
 pub(crate) fn example(alloc: Global) -> Result<String> {
     let mut ids = TreeIds::new(1);
-    let list = root_of(alloc, &mut ids, LIST)?;
-    new_text(alloc, &rearrange_edit(alloc, &mut ids, list)?)
+    let list = read_root(alloc, &mut ids, LIST)?;
+    Ok(
+        rearrange_edit(alloc, &mut ids, list)?
+            .new_root()
+            .text(alloc)?,
+    )
 }

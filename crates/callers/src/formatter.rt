@@ -1,11 +1,11 @@
 //! Gives a block the indentation that what is around it wants, whatever it had.
 
-use crate::tree::{new_text, root_of};
 use anyhow::{Context, Result};
 use cst_core::ast::BlockExpr;
 use cst_core::{AstNode, SyntaxNode, TreeIds};
 use std::alloc::Global;
 use syntax_editor::{AstNodeEdit, IndentLevel, SyntaxEdit, SyntaxEditor};
+use tree_text::read_root;
 
 fn block_of(alloc: Global, root: &SyntaxNode) -> Result<BlockExpr> {
     let mut nodes = root.descendants(alloc)?.into_iter();
@@ -64,6 +64,6 @@ const STATEMENTS: &str =
 /// The new text of the statements.
 pub(crate) fn example(alloc: Global) -> Result<String> {
     let mut ids = TreeIds::new(1);
-    let root = root_of(alloc, &mut ids, STATEMENTS)?;
-    new_text(alloc, &format_edit(alloc, &mut ids, root)?)
+    let root = read_root(alloc, &mut ids, STATEMENTS)?;
+    Ok(format_edit(alloc, &mut ids, root)?.new_root().text(alloc)?)
 }

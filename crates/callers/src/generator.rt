@@ -1,12 +1,12 @@
 //! Inserts a statement on a line of its own, and finds its placeholder in the new text.
 
-use crate::tree::{new_text, root_of};
 use anyhow::{Context, Result};
 use cst_core::{SyntaxElement, SyntaxKind, SyntaxNode, SyntaxToken, TreeIds};
 use std::alloc::Global;
 use syntax_editor::{
     Annotations, IndentLevel, Position, SyntaxAnnotation, SyntaxEdit, SyntaxEditor,
 };
+use tree_text::read_root;
 
 fn first_of_kind(alloc: Global, node: &SyntaxNode, kind: SyntaxKind) -> Result<SyntaxNode> {
     let mut nodes = node.descendants_of_kind(alloc, kind)?.into_iter();
@@ -82,8 +82,8 @@ const STATEMENT: &str =
 
 fn example_edit(alloc: Global, placeholder: SyntaxAnnotation) -> Result<SyntaxEdit> {
     let mut ids = TreeIds::new(1);
-    let block = root_of(alloc, &mut ids, BLOCK)?;
-    let statement = root_of(alloc, &mut ids, STATEMENT)?;
+    let block = read_root(alloc, &mut ids, BLOCK)?;
+    let statement = read_root(alloc, &mut ids, STATEMENT)?;
     statement_edit(alloc, &mut ids, block, statement, placeholder)
 }
 
@@ -96,7 +96,7 @@ fn text_with_placeholder(
         .find_annotation(placeholder)
         .first()
         .context("the placeholder is found")?;
-    let marked = text_with_mark(alloc, &new_text(alloc, edit)?, found)?;
+    let marked = text_with_mark(alloc, &edit.new_root().text(alloc)?, found)?;
     Ok(format!(in alloc; "at {}: {marked}", found.text_start())?)
 }
 

@@ -5,9 +5,11 @@ mod assist;
 mod formatter;
 mod generator;
 mod moved;
+mod organise;
+mod printed;
 mod rename;
 mod search_replace;
-mod tree;
+mod steps;
 
 use anyhow::Result;
 
@@ -23,5 +25,7 @@ fn main(rt: HostRuntime) -> Result<()> {
     show(&rt, &formatter::example(rt.alloc())?)?;
     show(&rt, &rename::example(rt.alloc())?)?;
     show(&rt, &moved::example(rt.alloc())?)?;
+    show(&rt, &steps::example(rt.alloc())?)?;
+    show(&rt, &organise::example(rt.alloc())?)?;
     Ok(())
 }

@@ -3,11 +3,11 @@
 //! One edit can't do both. A change inside a replaced block moves to where a mapping has that block in the new one, and never to where
 //! the block itself goes. So the first edit renames and registers the blocks, and the second one swaps what is found for them.
 
-use crate::tree::{new_text, root_of};
 use anyhow::{Result, anyhow};
 use cst_core::{SyntaxElement, SyntaxKind, SyntaxNode, TreeIds};
 use std::alloc::Global;
 use syntax_editor::{Annotations, SyntaxAnnotation, SyntaxEdit, SyntaxEditor};
+use tree_text::read_root;
 
 fn rename(
     alloc: Global,
@@ -64,11 +64,12 @@ const LIST: &str =
 /// The new text of the two blocks.
 pub(crate) fn example(alloc: Global) -> Result<String> {
     let mut ids = TreeIds::new(1);
-    let root = root_of(alloc, &mut ids, LIST)?;
-    let new = root_of(alloc, &mut ids, r#"(NAME_REF IDENT"total")"#)?;
+    let root = read_root(alloc, &mut ids, LIST)?;
+    let new = read_root(alloc, &mut ids, r#"(NAME_REF IDENT"total")"#)?;
     let blocks = Annotations::new(1)
         .next()
         .ok_or(anyhow!("an annotation is left"))?;
     let edit = renamed(alloc, &mut ids, root, &new, blocks)?;
-    new_text(alloc, &swapped(alloc, &mut ids, &edit, blocks)?)
+    let edit = swapped(alloc, &mut ids, &edit, blocks)?;
+    Ok(edit.new_root().text(alloc)?)
 }

@@ -1,10 +1,12 @@
-//! Renames a `let` and every use of it: `{let a = b; a+a;}` becomes `{let total = b; total+total;}`.
+//! Renames a `let` and every use of it: `{let a = b; a+a;}` becomes `{let total = b; total+total;}`. It prints the new text, and then the
+//! edits as a language server takes them.
 
-use crate::tree::{new_text, root_of};
+use crate::printed::text_and_edits;
 use anyhow::{Context, Result};
 use cst_core::{SyntaxKind, SyntaxNode, SyntaxToken, TreeIds};
 use std::alloc::Global;
-use syntax_editor::{SyntaxEdit, SyntaxEditor};
+use syntax_editor::{EditPlan, SyntaxEditor};
+use tree_text::read_root;
 
 // A definition is a NAME, a use a NAME_REF.
 fn is_called(alloc: Global, node: &SyntaxNode, name: &str) -> Result<bool> {
@@ -45,33 +47,30 @@ fn rename(
     replace_names(alloc, editor, &nodes, old, new)
 }
 
-fn rename_edit(
+fn rename_plan(
     alloc: Global,
     ids: &mut TreeIds,
     block: SyntaxNode,
     new: &SyntaxToken,
-) -> Result<SyntaxEdit> {
+) -> Result<EditPlan> {
     let (mut editor, root) = SyntaxEditor::new(alloc, ids, block)?;
     rename(alloc, &mut editor, &root, "a", new)?;
-    Ok(editor.finish(alloc, ids)?)
+    Ok(editor.plan(alloc)?)
 }
 
 const BLOCK: &str =
     r#"(BLOCK_EXPR L_CURLY"{" (LET_STMT LET_KW"let" WHITESPACE" " (NAME IDENT"a") WHITESPACE" " EQ"=" WHITESPACE" " (NAME_REF IDENT"b") SEMICOLON";") WHITESPACE" " (EXPR_STMT (BIN_EXPR (NAME_REF IDENT"a") PLUS"+" (NAME_REF IDENT"a")) SEMICOLON";") R_CURLY"}")"#;
 
 fn new_name(alloc: Global, ids: &mut TreeIds) -> Result<SyntaxToken> {
-    let name = root_of(alloc, ids, r#"(NAME IDENT"total")"#)?;
+    let name = read_root(alloc, ids, r#"(NAME IDENT"total")"#)?;
     identifier_of(alloc, &name)
 }
 
-fn example_edit(alloc: Global) -> Result<SyntaxEdit> {
+/// The new text of the block, and the edits that make it.
+pub(crate) fn example(alloc: Global) -> Result<String> {
     let mut ids = TreeIds::new(1);
     let new = new_name(alloc, &mut ids)?;
-    let block = root_of(alloc, &mut ids, BLOCK)?;
-    rename_edit(alloc, &mut ids, block, &new)
-}
-
-/// The new text of the block.
-pub(crate) fn example(alloc: Global) -> Result<String> {
-    new_text(alloc, &example_edit(alloc)?)
+    let block = read_root(alloc, &mut ids, BLOCK)?;
+    let plan = rename_plan(alloc, &mut ids, block, &new)?;
+    text_and_edits(alloc, &mut ids, &plan)
 }

@@ -9,12 +9,12 @@ ghost use Rattle.syntax_editor.specs.RewritingLaws.{changed_text};
 ghost use Rattle.syntax_editor.specs.Spacing.{lone_token};
 ghost use Rattle.callers.specs.Rewritten.{is_match, ReplacesMatches, WrapsBlocks, Rewrites, IsRewritten};
 
-use crate::tree::{new_text, root_of};
 use anyhow::Result;
 use cst_core::{SyntaxElement, SyntaxKind, SyntaxNode, TreeIds};
 use edit_plan::laws::edit_text_is_filled;
 use std::alloc::Global;
 use syntax_editor::{SyntaxEdit, SyntaxEditor};
+use tree_text::read_root;
 
 // A match has the pattern's kind and its text.
 fn is_match(alloc: Global, node: &SyntaxNode, pattern: &SyntaxNode) -> Result<bool>
@@ -150,18 +150,18 @@ fn rewrite_file(
     pattern: &SyntaxNode,
     new: &SyntaxNode,
 ) -> Result<SyntaxEdit> {
-    let file = root_of(alloc, ids, FILE)?;
+    let file = read_root(alloc, ids, FILE)?;
     rewrite_edit(alloc, ids, file, pattern, new)
 }
 
 fn example_edit(alloc: Global) -> Result<SyntaxEdit> {
     let mut ids = TreeIds::new(1);
-    let pattern = root_of(alloc, &mut ids, PATTERN)?;
-    let new = root_of(alloc, &mut ids, REPLACEMENT)?;
+    let pattern = read_root(alloc, &mut ids, PATTERN)?;
+    let new = read_root(alloc, &mut ids, REPLACEMENT)?;
     rewrite_file(alloc, &mut ids, &pattern, &new)
 }
 
 /// The new text of the file.
 pub(crate) fn example(alloc: Global) -> Result<String> {
-    new_text(alloc, &example_edit(alloc)?)
+    Ok(example_edit(alloc)?.new_root().text(alloc)?)
 }

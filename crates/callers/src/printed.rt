@@ -1,0 +1,22 @@
+//! What a plan makes, as it is printed.
+
+use anyhow::Result;
+use cst_core::TreeIds;
+use std::alloc::Global;
+use syntax_editor::{EditPlan, OnePassEngine, TextEdit};
+
+// A line for each edit: the bytes of the old text from here to there, and what stands there then.
+fn print_edits(out: &mut String, edits: &[TextEdit]) -> Result<()> {
+    for edit in edits {
+        write!(out, "\n{}..{} {:?}", edit.start, edit.end, edit.text)?;
+    }
+    Ok(())
+}
+
+/// The new text, and then the edits that make it of the old one, as a language server takes them.
+pub(crate) fn text_and_edits(alloc: Global, ids: &mut TreeIds, plan: &EditPlan) -> Result<String> {
+    let edit = plan.run_with(alloc, ids, &mut OnePassEngine::new(alloc))?;
+    let mut out = edit.new_root().text(alloc)?;
+    print_edits(&mut out, &plan.text_edits(alloc)?)?;
+    Ok(out)
+}
