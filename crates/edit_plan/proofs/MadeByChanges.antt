@@ -4,36 +4,33 @@
 --     On, NotOn, Standing           a range goes on in a slot; none does; how many slots it still has
 --     made-tree, made-from          an element; the children of a node from a slot on
 --     made-whole                    the whole tree
-use Rattle.std.specs.Prelude.{◌≡◌, ℕ, zero, suc, ◌+◌, ◌-◌, ◌<◌, ◌≤◌, ◌&&◌, nat_eq, Bool, true, false, cond, List, [], ◌∷◌, ◌++◌, map, filter, flat_map, length, take, drop, slice_get, unwrap_or, Option, Some, None, IsSome, All, option_and_then, refl}
-use Rattle.std.specs.List.{AllByRecursion, list_any}
+use Rattle.std.specs.Prelude.{◌≡◌, ℕ, zero, suc, ◌+◌, ◌-◌, ◌<◌, ◌≤◌, nat_eq, true, false, cond, List, [], ◌∷◌, ◌++◌, map, flat_map, length, take, drop, slice_get, unwrap_or, Option, Some, None, IsSome, All, option_and_then, refl}
+use Rattle.std.specs.List.{AllByRecursion}
 use Rattle.std.proofs.Common.{ap, ap₂, sym, subst, ◌∙◌, arith}
 use Rattle.std.proofs.lemmas.Bool.{cases_Bool, and_parts, or_left, or_right, true≢false, false≢true, eqb-true}
-use Rattle.std.proofs.lemmas.Option.{none-some, same_Some, slice_get_within}
+use Rattle.std.proofs.lemmas.Option.{slice_get_within}
 use Rattle.std.proofs.lemmas.List.{append_assoc, append-nil, length-append}
 use Rattle.std.proofs.lemmas.Grind.{flat_map-append}
-use mathlib.Core.Logic.{◌⊎◌, inl, inr}
+use mathlib.Core.Logic.{inl, inr}
 use Rattle.cst_core.specs.Path.{Path, same_path, has_path, parent_path, last_slot, counted_from, up_to}
-use Rattle.cst_core.specs.Tree.{Tree, Forest, Token, Node, end, more, SyntaxTree, trees, forest, text, forest_text, text_length, at}
+use Rattle.cst_core.specs.Tree.{Tree, Forest, Token, Node, end, more, SyntaxTree, trees, text, forest_text, text_length, at}
 use Rattle.cst_core.specs.Order.{start}
-use Rattle.cst_core.specs.AtOffset.{end_of}
 use Rattle.cst_core.specs.Element.{Element, element_at, subtree}
 use Rattle.cst_core.specs.SyntaxElement.{element_of}
-use Rattle.cst_core.specs.declared.element.SyntaxElement.{SyntaxElement}
 use Rattle.green_tree.proofs.Lookup.{at-append}
 use Rattle.green_tree.proofs.TextLengths.{start-append}
 use Rattle.green_tree.proofs.Starts.{start-next, start-top}
 use Rattle.green_tree.proofs.FirstNode.{start-first}
 use Rattle.green_tree.proofs.Parts.{slice_get-drop, drop-rest}
-use Rattle.cst_core.proofs.LastSlot.{parent_path-push, last_slot-push}
-use Rattle.edit_change.specs.Aim.{Aim, FirstIn, AfterElement, Over, aims_at_gap, starts_at, replaces}
-use Rattle.edit_change.specs.Rewriting.{NumberedAim, numbers, inserts_at, replacements_at, is_replaced, gap_order, gap, slot, rewritten, rewritten_from, rewritten_whole}
+use Rattle.edit_change.specs.Aim.{FirstIn, AfterElement, aims_at_gap, starts_at, replaces}
+use Rattle.edit_change.specs.Rewriting.{NumberedAim, numbers, inserts_at, replacements_at, is_replaced, gap_order, gap, slot, rewritten, rewritten_from}
 use Rattle.edit_change.specs.RewritingLaws.{filled_text, filled_text_from, text_filled}
 use Rattle.edit_change.specs.Change.{targets}
 use Rattle.edit_change.specs.ChangeAim.{aim, aim_path}
-use Rattle.edit_change.specs.Fits.{Fits, is_native_position}
-use Rattle.edit_change.specs.Nesting.{first_clash, is_independent, surroundings}
+use Rattle.edit_change.specs.Fits.{Fits}
+use Rattle.edit_change.specs.Nesting.{first_clash, surroundings}
 use Rattle.edit_change.specs.NewTree.{independents}
-use Rattle.edit_change.specs.PositionForm.{PositionForm, FirstChild, After}
+use Rattle.edit_change.specs.PositionForm.{FirstChild, After}
 use Rattle.edit_change.specs.declared.change.Change.{Change}
 use Rattle.edit_change.specs.declared.change.Change.TheVariants.{Insert, InsertAll, Replace, ReplaceWithMany, ReplaceAll}
 use Rattle.edit_change.proofs.Lists.{all_filter}
@@ -41,9 +38,9 @@ use Rattle.edit_change.proofs.MovedAims.{fit_at}
 use Rattle.edit_change.proofs.Paths.{same_path-true, same_path_from}
 use Rattle.edit_change.proofs.RootAlone.{root-alone}
 use Rattle.edit_change.proofs.WayOfRegions.{up_to-push}
-use Rattle.one_pass.specs.TextEdits.{TextPiece, offset, old_text, number_token, in_text_order, applied}
+use Rattle.one_pass.specs.TextEdits.{TextPiece, offset, old_text, number_token, in_text_order}
 use Rattle.edit_plan.proofs.Applied.{Made, made-none, made-seq, made-change, made-inserts, InsertsHere, does, pieces_of, pieces-append, pieces-numbers, pieces-node}
-use Rattle.edit_plan.proofs.Ranges.{Free, FreeAim, frees, only-path, any-of, none-of, side_by_side, has-range, range-has, Run, run-of, native_some, one-number, one-change, replaced-target, run-starts, starts-run, alone-at, replaced-by, parent-and-slot, dropped-inside}
+use Rattle.edit_plan.proofs.Ranges.{Free, FreeAim, frees, only-path, any-of, none-of, side_by_side, has-range, range-has, Run, run-of, native_some, one-change, replaced-target, run-starts, starts-run, alone-at, replaced-by, parent-and-slot, dropped-inside}
 use Rattle.edit_change.proofs.AimsApart.{starts, start_in_targets}
 
 flat_map-map : {X Y Z : Type 0} (g : Y → List Z) (h : X → Y) (xs : List X) → flat_map g (map h xs) ≡ flat_map (λ x. g (h x)) xs

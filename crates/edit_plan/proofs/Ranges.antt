@@ -9,13 +9,13 @@
 --     alone-at                      it alone starts there
 --     replaced-by                   what it replaces is replaced
 --     dropped-inside                an insert after a sibling that a range replaces is dropped
-use Rattle.std.specs.Prelude.{◌≡◌, ℕ, zero, suc, ◌+◌, ◌-◌, ◌<◌, ◌≤◌, ◌==◌, ◌&&◌, ◌||◌, not, Bool, true, false, cond, List, [], ◌∷◌, ◌++◌, map, filter, length, slice_get, Option, Some, None, IsSome, All, is_none, nat_le, refl}
+use Rattle.std.specs.Prelude.{◌≡◌, ℕ, zero, suc, ◌+◌, ◌-◌, ◌<◌, ◌≤◌, ◌==◌, ◌&&◌, ◌||◌, not, Bool, true, false, cond, List, [], ◌∷◌, ◌++◌, map, filter, length, slice_get, Option, Some, None, IsSome, is_none, nat_le, refl}
 use Rattle.std.specs.List.{AllByRecursion, list_any, enumerate_from}
 use Rattle.std.proofs.Common.{ap, ap₂, sym, subst, ◌∙◌, arith}
 use Rattle.std.proofs.lemmas.Bool.{cases_Bool, and_parts, or_left, or_right, true≢false, false≢true}
 use Rattle.std.proofs.lemmas.Option.{none-some, same_Some}
 use mathlib.Core.Logic.{◌⊎◌, inl, inr}
-use Rattle.cst_core.specs.Path.{Path, same_path, has_path, parent_path, last_slot, counted_from, up_to}
+use Rattle.cst_core.specs.Path.{Path, same_path, has_path, parent_path, last_slot, counted_from}
 use Rattle.std.specs.Option.{option_map_or}
 use Rattle.cst_core.specs.Tree.{SyntaxTree, at, is_token}
 use Rattle.cst_core.specs.declared.element.SyntaxElement.TheVariants as element
@@ -23,9 +23,9 @@ use Rattle.cst_core.specs.Element.{Element}
 use Rattle.cst_core.specs.SyntaxElement.{element_of}
 use Rattle.cst_core.specs.declared.element.SyntaxElement.{SyntaxElement}
 use Rattle.cst_core.proofs.LastSlot.{parent_path-push, last_slot-push}
-use Rattle.edit_change.specs.Aim.{Aim, FirstIn, AfterElement, Over, starts_at, replaces}
+use Rattle.edit_change.specs.Aim.{Over, starts_at, replaces}
 use Rattle.edit_change.specs.Rewriting.{NumberedAim, numbers, replacements_at, is_replaced}
-use Rattle.edit_change.specs.Change.{targets, shared_targets}
+use Rattle.edit_change.specs.Change.{targets}
 use Rattle.edit_change.specs.ChangeAim.{aim, aim_path}
 use Rattle.edit_change.specs.Fits.{Fits, is_native, is_root, have_one_path, are_siblings, is_range}
 use Rattle.edit_change.specs.Nesting.{region, is_keeping, is_around, is_dropped, surroundings, first_clash, is_independent, owner}

@@ -1,11 +1,11 @@
-use Rattle.std.specs.Prelude.{◌≡◌, ℕ, List, [], map, flat_map, None, refl}
+use Rattle.std.specs.Prelude.{ℕ, [], flat_map, None, refl}
 use Rattle.std.proofs.Common.{◌+◌, length, ap, ap₂, sym, subst, ◌∙◌}
 use Rattle.std.proofs.lemmas.List.{append-nil}
 use Rattle.cst_core.specs.Tree.{text}
 use Rattle.cst_core.specs.Element.{address, subtree}
 use Rattle.edit_change.specs.NewTree.{origin, independents, given, new_tree}
 use Rattle.edit_change.specs.RewritingLaws.{text_filled}
-use Rattle.one_pass.specs.TextEdits.{as_piece, applied, text_pieces}
+use Rattle.one_pass.specs.TextEdits.{applied, text_pieces}
 use Rattle.edit_plan.proofs.Filled.{text-rewritten_whole}
 use Rattle.edit_plan.proofs.Unowned.{text_of_made}
 use Rattle.edit_plan.specs.PlanTextEdits.{AreApart}
