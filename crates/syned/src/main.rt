@@ -27,7 +27,10 @@ fn main(rt: HostRuntime) -> ExitCode {
         return ExitCode::from(2);
     }
     let status = run_explained(
-        rt.alloc(), &mut rt.stdin(), &mut rt.stdout(), &mut rt.stderr(),
+        rt.alloc(),
+        &mut rt.stdin(),
+        &mut rt.stdout(),
+        &mut rt.stderr(),
     );
     ExitCode::from(status)
 }
