@@ -1,9 +1,10 @@
 -- What was written of an answer to what was read.
-use Rattle.std.proofs.Common.{◌≡◌, ◌⊎◌, ℕ, ◌+◌, List, Option, take, sym, subst, inl, inr}
+use Rattle.std.proofs.Common.{◌≡◌, ◌⊎◌, ℕ, ◌+◌, List, Option, length, take, sym, subst, inl, inr}
 use Rattle.std.specs.Io.KnownBytes.{Appends, Consumes, Keeps}
 use Rattle.syned_run.specs.declared.ends.TheConstants.{SCRIPT_LIMIT}
 use Rattle.syned_run.specs.Ends.{IsFrontOf}
 use Rattle.syned_run.specs.Answer.{IsAnswer, IsAnswerOf}
+use Rattle.syned_run.specs.Bytes.{PutsInto, AnswersInto}
 
 -- the answer to the script as code has it
 pub is_answer_of : (left left' : Option (List ℕ)) (read seen printed : List ℕ) (status : ℕ) → Consumes left left' read → IsFrontOf left (SCRIPT_LIMIT + 1) read → seen ≡ read → IsAnswer seen status printed → IsAnswerOf left left' status printed
@@ -19,3 +20,8 @@ pub wrote_some : (left left' held held' : Option (List ℕ)) (read seen : List �
 wrote_some left left' held held' read seen consumed front same (inl kept) = inl kept
 wrote_some left left' held held' read seen consumed front same (inr (status, bytes, answer, n, appended)) =
     inr (status, bytes, is_answer_of left left' read seen bytes status consumed front same answer, n, appended)
+
+-- all of it, into room for it
+pub put_into : (script printed text before after : List ℕ) (code status n : ℕ) → IsAnswer script status printed → code ≡ status → text ≡ printed → length text ≡ n → PutsInto text before after → AnswersInto script code n before after
+put_into script printed text before after code status n answer is same count put =
+    (text, subst (λ s. IsAnswer script s text) (sym is) (subst (λ b. IsAnswer script status b) (sym same) answer), count, put)

@@ -1,3 +1,4 @@
 pub mod Ends
 pub mod Answer
+pub mod Bytes
 pub mod inner

@@ -1,0 +1,67 @@
+//! A run over bytes, for callers that have a script in memory and room for its answer.
+ghost use Rattle.std.specs.Prelude.{◌≡◌, ◌≤◌, ◌<◌, length};
+ghost use Rattle.syned_run.specs.Bytes.{AnswersInto, PutsInto, PutsSome};
+
+use crate::answer::answer_to;
+use crate::explained::explain;
+use crate::status::{Failure, Status};
+use std::alloc::Global;
+
+/// How a run over bytes ended.
+#[derive(Clone, Copy, Debug, PartialEq, Eq)]
+pub struct Outcome {
+    /// The exit status that `run` would give.
+    pub status: u8,
+    /// How many bytes the answer has, whether there was room for it or not. 0 for status 3.
+    pub length: usize,
+}
+
+/// Carries out a script of these bytes and puts the answer at the beginning of `room`, if it fits; if it doesn't, and for status 3, the room
+/// stays as it was. Status and answer are those of `run`. Nothing is kept between two calls.
+///
+/// ```text
+/// let outcome = answer_into(alloc, script, &mut room);
+/// if outcome.length > room.len() { .. once more, with room for outcome.length bytes .. }
+/// ```
+pub fn answer_into(alloc: Global, script: &[u8], room: &mut [u8]) -> Outcome
+    ensures status { result.status ≤ 3 }
+    ensures answered { result.status < 3
+        → AnswersInto script.now result.status result.length room.old room.new }
+    ensures failed { result.status ≡ 3 → result.length ≡ 0 }
+    ensures failed_room { result.status ≡ 3 → room.new ≡ room.old }
+{
+    let Ok(answer) = answer_to(alloc, script) else {
+        let status = Status::Failed(Failure::Memory).code();
+        return Outcome { status, length: 0 };
+    };
+    let text = answer.text.as_bytes();
+    put(room, text);
+    Outcome {
+        status: answer.status.code(),
+        length: text.len(),
+    }
+}
+
+/// Puts why a script of these bytes has no edit at the beginning of `room`, if it fits: the sentence of `explain`, without a newline, or `memory
+/// ran out`. The answer is how many bytes the sentence has, 0 if the script has an edit.
+pub fn explain_into(alloc: Global, script: &[u8], room: &mut [u8]) -> usize
+    ensures { PutsSome result room.old room.new }
+{
+    match explain(alloc, script) {
+        Ok(None) => 0,
+        Ok(Some(reason)) => put(room, reason.as_bytes()),
+        Err(_) => put(room, Failure::Memory.as_str().as_bytes()),
+    }
+}
+
+// Puts the bytes at the beginning of the room, if they fit. The answer is how many they are.
+fn put(room: &mut [u8], bytes: &[u8]) -> usize
+    ensures length { result ≡ length bytes.now }
+    ensures put { PutsInto bytes.now room.old room.new }
+{
+    let count = bytes.len();
+    if count <= room.len() {
+        room[..count].copy_from_slice(bytes);
+    }
+    count
+}
