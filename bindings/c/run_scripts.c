@@ -1,0 +1,113 @@
+/* run_scripts FOLDER: asks syned for the answer to each NUMBER.script of a folder that bindings/scripts.py filled, with too little room and with
+ * enough, and compares status, answer and sentence; on 8 threads at a time, each over all scripts. */
+#include "syned.h"
+#include <pthread.h>
+#include <stdio.h>
+#include <stdlib.h>
+#include <string.h>
+
+enum { THREADS = 8 };
+
+static const char *folder;
+
+struct bytes {
+    uint8_t *data; /* never null */
+    size_t length;
+};
+
+/* The bytes of FOLDER/NUMBER.ENDING; data is null if there is no such file. */
+static struct bytes read_file(size_t number, const char *ending) {
+    char path[4096];
+    struct bytes read = {NULL, 0};
+    snprintf(path, sizeof path, "%s/%zu.%s", folder, number, ending);
+    FILE *file = fopen(path, "rb");
+    if (file == NULL) {
+        return read;
+    }
+    fseek(file, 0, SEEK_END);
+    read.length = (size_t)ftell(file);
+    rewind(file);
+    read.data = malloc(read.length + 1);
+    if (read.data == NULL || fread(read.data, 1, read.length, file) != read.length) {
+        exit(2);
+    }
+    fclose(file);
+    return read;
+}
+
+static int is(const uint8_t *room, size_t length, struct bytes wanted) {
+    return length == wanted.length && memcmp(room, wanted.data, length) == 0;
+}
+
+/* Whether a room without enough bytes is left as it was, and the length told all the same. */
+static int is_told_without_room(struct bytes script, struct bytes answer) {
+    uint8_t room = 7;
+    size_t length = 1;
+    syned_run(script.data, script.length, &room, answer.length > 1 ? 1 : 0, &length);
+    return length == answer.length && room == 7;
+}
+
+static int is_right(struct bytes script, struct bytes answer, struct bytes said, int status) {
+    size_t length = 1;
+    uint8_t *room = malloc(answer.length + said.length + 1);
+    if (room == NULL) {
+        exit(2);
+    }
+    int right = syned_run(script.data, script.length, room, answer.length, &length) == status && is(room, length, answer);
+    length = syned_explain(script.data, script.length, room, said.length);
+    right = right && is(room, length, said) && is_told_without_room(script, answer);
+    free(room);
+    return right;
+}
+
+struct tally {
+    size_t right;
+    size_t wrong;
+};
+
+static void *run_all(void *out) {
+    struct tally tally = {0, 0};
+    for (size_t number = 0;; number++) {
+        struct bytes script = read_file(number, "script");
+        if (script.data == NULL) {
+            break;
+        }
+        struct bytes answer = read_file(number, "answer");
+        struct bytes said = read_file(number, "said");
+        struct bytes status = read_file(number, "status");
+        if (is_right(script, answer, said, status.data[0] - '0')) {
+            tally.right++;
+        } else {
+            tally.wrong++;
+            printf("wrong: %zu.script\n", number);
+        }
+        free(script.data);
+        free(answer.data);
+        free(said.data);
+        free(status.data);
+    }
+    *(struct tally *)out = tally;
+    return NULL;
+}
+
+int main(int count, char **arguments) {
+    pthread_t threads[THREADS];
+    struct tally tallies[THREADS];
+    struct tally all = {0, 0};
+    if (count != 2) {
+        return 2;
+    }
+    folder = arguments[1];
+    for (int i = 0; i < THREADS; i++) {
+        if (pthread_create(&threads[i], NULL, run_all, &tallies[i]) != 0) {
+            return 2;
+        }
+    }
+    for (int i = 0; i < THREADS; i++) {
+        pthread_join(threads[i], NULL);
+        all.right += tallies[i].right;
+        all.wrong += tallies[i].wrong;
+    }
+    printf("c: %zu of %zu answers as expected, on %d threads\n", all.right, all.right + all.wrong, THREADS);
+    return all.wrong != 0 || all.right == 0;
+}

@@ -1,0 +1,60 @@
+#!/usr/bin/env python3
+"""Scripts with what `syned` makes of them, for the tests of the bindings.
+
+    scripts.py FOLDER    writes NUMBER.script, NUMBER.answer (what `syned` prints), NUMBER.said (its line on the standard error, without the
+                         newline) and NUMBER.status for each script of tests/scripts/*.table, each fourth one of tests/corpus, and for
+                         damaged ones"""
+import random
+import subprocess
+import sys
+from pathlib import Path
+
+ROOT = Path(__file__).resolve().parent.parent
+sys.path.insert(0, str(ROOT / "tests"))
+import tables
+
+DAMAGED = 300
+
+
+def scripts():
+    """The bytes of all scripts that are whole."""
+    for script, _ in tables.table_rows().values():
+        yield script.encode()
+    for answer in sorted(ROOT.glob("tests/corpus/*/*.stdout"))[::4]:
+        yield answer.with_suffix("").read_bytes()
+
+
+def damaged(whole):
+    """Some of these, with a byte changed, taken away or doubled, or cut off; the same ones in each run."""
+    chance = random.Random(1)
+    for _ in range(DAMAGED):
+        script = bytearray(chance.choice(whole))
+        at = chance.randrange(len(script))
+        how = chance.randrange(4)
+        if how == 0:
+            script[at] = chance.randrange(256)
+        elif how == 1:
+            del script[at]
+        elif how == 2:
+            script.insert(at, script[at])
+        else:
+            del script[at:]
+        yield bytes(script)
+
+
+def main():
+    folder = Path(sys.argv[1])
+    program = ROOT / subprocess.run([ROOT / "tests/program.sh", "syned"], capture_output=True, text=True, check=True).stdout.strip()
+    whole = list(scripts())
+    every = whole + list(damaged(whole))
+    for number, script in enumerate(every):
+        ran = subprocess.run([program], input=script, capture_output=True, check=False)
+        (folder / f"{number}.script").write_bytes(script)
+        (folder / f"{number}.answer").write_bytes(ran.stdout)
+        (folder / f"{number}.said").write_bytes(ran.stderr.removesuffix(b"\n"))
+        (folder / f"{number}.status").write_text(f"{ran.returncode}\n")
+    print(f"bindings: {len(every)} scripts, {DAMAGED} of them damaged")
+
+
+if __name__ == "__main__":
+    main()
