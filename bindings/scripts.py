@@ -27,6 +27,7 @@ def scripts():
 def damaged(whole):
     """Some of these, with a byte changed, taken away or doubled, or cut off; the same ones in each run."""
     chance = random.Random(1)
+    whole = [script for script in whole if script]
     for _ in range(DAMAGED):
         script = bytearray(chance.choice(whole))
         at = chance.randrange(len(script))
