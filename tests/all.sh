@@ -23,4 +23,5 @@ step tests/models.sh
 step python3 tests/hostile.py
 step tests/refuse_growths.sh
 step tests/growths.sh
+step bash bindings/test.sh
 step tests/broken_programs.sh

@@ -21,7 +21,7 @@ trap 'rm -rf "$copy"' EXIT
 [ $# -gt 0 ] || set -- $(cd crates && dirname */must-fail-inner)
 needed=$(python3 tests/inner_record.py needed "$@")
 git ls-files -z HANDLES $(printf 'crates/%s ' $needed) | xargs -0 cp --parents -t "$copy"
-grep -E "^(${needed// /|}):" crates.txt >"$copy/crates.txt"
+grep -E "^(${needed// /|})( staticlib)?:" crates.txt >"$copy/crates.txt"
 tried=$(python3 tests/inner_record.py lines "$copy" "$@")
 rm -rf "$copy"/crates/*/must-fail
 for crate; do

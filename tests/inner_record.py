@@ -33,7 +33,8 @@ def bugs_of(root, crate):
 def crates_below(root, crate):
     """The libraries of the repository that a crate stands on, whether it names them or not."""
     lines = (root / "crates.txt").read_text().splitlines()
-    named = dict(line.split(":") for line in lines if ":" in line and not line.startswith("#"))
+    parts = (line.split(":") for line in lines if ":" in line and not line.startswith("#"))
+    named = {name.split()[0]: uses for name, uses in parts}
     below, waiting = set(), [crate]
     while waiting:
         for name in named[waiting.pop()].split():
