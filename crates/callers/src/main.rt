@@ -4,6 +4,7 @@
 mod assist;
 mod formatter;
 mod generator;
+mod levels;
 mod moved;
 mod organise;
 mod printed;
@@ -23,6 +24,7 @@ fn main(rt: HostRuntime) -> Result<()> {
     show(&rt, &search_replace::example(rt.alloc())?)?;
     show(&rt, &generator::example(rt.alloc())?)?;
     show(&rt, &formatter::example(rt.alloc())?)?;
+    show(&rt, &levels::example(rt.alloc())?)?;
     show(&rt, &rename::example(rt.alloc())?)?;
     show(&rt, &moved::example(rt.alloc())?)?;
     show(&rt, &steps::example(rt.alloc())?)?;
