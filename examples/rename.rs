@@ -4,6 +4,7 @@
 //! From `bindings/rust`: `cargo run --example rename -- FILE OLD NEW`
 
 use std::error::Error;
+use std::process::ExitCode;
 use syned::{Kind, Script, Tree};
 
 /// The tokens of a source text, in order. Their texts together are the text, whatever it is: a character that begins
@@ -210,15 +211,27 @@ pub fn renamed(source: &str, old: &str, new: &str) -> Result<String, Box<dyn Err
     Ok(editing.finish()?.text)
 }
 
-fn main() -> Result<(), Box<dyn Error>> {
-    let arguments: Vec<String> = std::env::args().skip(1).collect();
-    let [file, old, new] = &arguments[..] else {
+fn renamed_file(arguments: &[String]) -> Result<String, Box<dyn Error>> {
+    let [file, old, new] = arguments else {
         return Err("call it with a file, an old name and a new one".into());
     };
-    let source = std::fs::read_to_string(file)?;
-    match renamed(&source, old, new) {
-        Ok(text) => print!("{text}"),
-        Err(error) => return Err(format!("{file}: {error}").into()),
+    let renamed = match std::fs::read_to_string(file) {
+        Ok(source) => renamed(&source, old, new),
+        Err(error) => Err(error.into()),
+    };
+    renamed.map_err(|error| format!("{file}: {error}").into())
+}
+
+fn main() -> ExitCode {
+    let arguments: Vec<String> = std::env::args().skip(1).collect();
+    match renamed_file(&arguments) {
+        Ok(text) => {
+            print!("{text}");
+            ExitCode::SUCCESS
+        }
+        Err(error) => {
+            eprintln!("{error}");
+            ExitCode::FAILURE
+        }
     }
-    Ok(())
 }

@@ -30,8 +30,8 @@ pub struct Note {
 }
 
 impl Edit {
-    /// The paths of a word's elements: none if all are gone, or if the word has no note.
-    pub fn paths_of(&self, word: &Word) -> &[Path] {
+    /// The paths of the elements of a word of the edit's own script: none if all are gone, or if it has no note.
+    pub fn paths_of(&self, word: Word) -> &[Path] {
         let name = word.name();
         let note = self.notes.iter().find(|note| note.word == name);
         note.map_or(&[], |note| &note.paths)

@@ -108,8 +108,8 @@ pub struct Script {
 /// editing.insert(Position::Before(&comma), &x)?;
 /// let edit = editing.finish()?;
 /// assert_eq!(edit.text, "x,");
-/// assert_eq!(edit.paths_of(&old), [[1]]);
-/// assert_eq!(edit.paths_of(&new), [[0, 0]]);
+/// assert_eq!(edit.paths_of(old), [[1]]);
+/// assert_eq!(edit.paths_of(new), [[0, 0]]);
 /// # Ok::<(), syned::Error>(())
 /// ```
 #[derive(Debug)]

@@ -219,10 +219,10 @@ fn notes_say_where_elements_are() {
     editing.note(moved, &x).unwrap();
     let edit = editing.finish().unwrap();
     assert_eq!(edit.text, "(,xx 2)");
-    assert_eq!(edit.paths_of(&both), [vec![6], vec![]]);
-    assert_eq!(edit.paths_of(&moved), [vec![5, 0], vec![2], vec![3]]);
-    assert_eq!(edit.paths_of(&gone), [[0usize; 0]; 0]);
-    assert_eq!(edit.paths_of(&unused), [[0usize; 0]; 0]);
+    assert_eq!(edit.paths_of(both), [vec![6], vec![]]);
+    assert_eq!(edit.paths_of(moved), [vec![5, 0], vec![2], vec![3]]);
+    assert_eq!(edit.paths_of(gone), [[0usize; 0]; 0]);
+    assert_eq!(edit.paths_of(unused), [[0usize; 0]; 0]);
     let words = edit.notes.iter().map(|note| note.word.clone());
     assert_eq!(
         words.collect::<Vec<_>>(),

@@ -4,7 +4,7 @@
 
 use std::path::{Path, PathBuf};
 use std::{env, fs, thread};
-use syned::{edit, explain, run, Error, Status};
+use syned::{edit, explain, run, Edit, Error, Status};
 
 const THREADS: usize = 8;
 
@@ -62,13 +62,7 @@ fn check_read(number: usize, row: &Row, status: Status) {
     match edit(&row.script) {
         Ok(edit) => {
             assert_eq!(status, Status::Done, "{number}");
-            assert_eq!(
-                format!("text {}", quoted(&edit.text)),
-                first,
-                "{number}.answer"
-            );
-            let notes = answer.lines().skip(2);
-            assert_eq!(edit.notes.len(), notes.count(), "{number}.answer");
+            assert_eq!(written(&edit), answer, "{number}.answer");
         }
         Err(Error::Refused { refusal, sentence }) => {
             assert_eq!(
@@ -91,12 +85,30 @@ fn check_read(number: usize, row: &Row, status: Status) {
     }
 }
 
-fn quoted(text: &str) -> String {
-    let mut out = text.replace('\\', "\\\\");
-    for (plain, written) in [("\n", "\\n"), ("\r", "\\r"), ("\t", "\\t"), ("\"", "\\\"")] {
-        out = out.replace(plain, written);
+// An answer that was read, written again.
+fn written(edit: &Edit) -> String {
+    let mut text = edit.text.replace('\\', "\\\\");
+    for (plain, escaped) in [("\n", "\\n"), ("\r", "\\r"), ("\t", "\\t"), ("\"", "\\\"")] {
+        text = text.replace(plain, escaped);
     }
-    format!("\"{out}\"")
+    let mut out = format!("text \"{text}\"\nchanged{}\n", paths(&edit.changed));
+    for note in &edit.notes {
+        out += &format!("note {}{}\n", note.word, paths(&note.paths));
+    }
+    out
+}
+
+fn paths(paths: &[Vec<usize>]) -> String {
+    paths.iter().map(|path| format!(" {}", way(path))).collect()
+}
+
+fn way(path: &[usize]) -> String {
+    let steps: Vec<String> = path.iter().map(usize::to_string).collect();
+    if steps.is_empty() {
+        ".".to_string()
+    } else {
+        steps.join("/")
+    }
 }
 
 #[test]
