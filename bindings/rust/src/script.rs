@@ -1,0 +1,465 @@
+//! Scripts that are built from trees and changes, so that nobody puts their text together by hand.
+#![forbid(unsafe_code)]
+
+use crate::answer::{edit, Edit};
+use crate::error::Error;
+use crate::kind::Kind;
+use crate::tree::{Shape, Tree};
+use std::fmt;
+use std::sync::atomic::{AtomicU64, Ordering};
+
+/// How many bytes a script may have.
+pub const SCRIPT_LIMIT: usize = 1_048_576;
+
+/// An element of a tree of a script: a node or a token. Whether there is one is looked at when it is used.
+///
+/// ```
+/// use syned::{Error, Kind, Script, Tree};
+///
+/// let mut script = Script::new();
+/// let file = script.tree(&Tree::new(Kind::Attr).node(Tree::new(Kind::Name).token(Kind::Ident, "a")))?;
+/// let mut editing = script.edit(&file)?;
+/// let ident = editing.root().at(&[0, 0]);
+/// assert_eq!(ident, editing.root().child(0).child(0));
+/// assert_eq!(editing.delete(&ident.child(0)), Err(Error::NoElement(vec![0, 0, 0])));
+/// editing.delete(&ident)?;
+/// assert_eq!(editing.finish()?.text, "");
+/// # Ok::<(), Error>(())
+/// ```
+#[derive(Clone, Debug, PartialEq, Eq, Hash)]
+pub struct Element {
+    script: u64,
+    tree: usize,
+    path: Vec<usize>,
+}
+
+impl Element {
+    /// Its child of this number, counted from 0; tokens are children too.
+    #[must_use]
+    pub fn child(&self, number: usize) -> Element {
+        self.at(&[number])
+    }
+
+    /// The element at the end of a path that begins here: the number of a child for each step down.
+    #[must_use]
+    pub fn at(&self, path: &[usize]) -> Element {
+        let mut element = self.clone();
+        element.path.extend_from_slice(path);
+        element
+    }
+}
+
+/// How its script refers to it: the name of the tree, and each number on the way, as `t0/4/0`.
+impl fmt::Display for Element {
+    fn fmt(&self, f: &mut fmt::Formatter<'_>) -> fmt::Result {
+        f.write_str(&name_of(self.tree))?;
+        self.path.iter().try_for_each(|child| write!(f, "/{child}"))
+    }
+}
+
+/// Where new elements are inserted.
+#[derive(Clone, Copy, Debug)]
+pub enum Position<'a> {
+    /// Before the first child of a node.
+    First(&'a Element),
+    /// After the last child of a node.
+    Last(&'a Element),
+    /// Before an element that has a parent.
+    Before(&'a Element),
+    /// After an element that has a parent.
+    After(&'a Element),
+}
+
+/// What notes are gathered under: [`Editing::word`] makes one.
+#[derive(Clone, Copy, Debug, PartialEq, Eq, Hash)]
+pub struct Word {
+    script: u64,
+    number: usize,
+}
+
+impl Word {
+    /// How the script has it.
+    pub fn name(&self) -> String {
+        format!("w{}", self.number)
+    }
+}
+
+/// A script before its edit: it has trees only. The example of the [crate](crate) shows one whole.
+#[derive(Debug)]
+pub struct Script {
+    lines: Lines,
+}
+
+/// A script with an edit: it takes changes, and more trees. A line that is an error is left out, and the script can go
+/// on without it.
+///
+/// ```
+/// use syned::{Kind, Position, Script, Tree};
+///
+/// // `x` comes before the comma, and two notes ask where both are.
+/// let mut script = Script::new();
+/// let file = script.tree(&Tree::new(Kind::ArgList).token(Kind::Comma, ","))?;
+/// let mut editing = script.edit(&file)?;
+/// let comma = editing.root().child(0);
+/// let x = editing.tree(&Tree::new(Kind::NameRef).token(Kind::Ident, "x"))?;
+/// let (old, new) = (editing.word(), editing.word());
+/// editing.note(old, &comma)?;
+/// editing.note(new, &x.child(0))?;
+/// editing.insert(Position::Before(&comma), &x)?;
+/// let edit = editing.finish()?;
+/// assert_eq!(edit.text, "x,");
+/// assert_eq!(edit.paths_of(old), [[1]]);
+/// assert_eq!(edit.paths_of(new), [[0, 0]]);
+/// # Ok::<(), syned::Error>(())
+/// ```
+#[derive(Debug)]
+pub struct Editing {
+    lines: Lines,
+    root: Element,
+    words: usize,
+}
+
+/// A script that also has an order, and only lacks its end.
+#[derive(Debug)]
+pub struct Ordered {
+    lines: Lines,
+}
+
+impl Default for Script {
+    fn default() -> Script {
+        Script::new()
+    }
+}
+
+impl Script {
+    /// An empty script.
+    pub fn new() -> Script {
+        static NEXT: AtomicU64 = AtomicU64::new(0);
+        Script {
+            lines: Lines {
+                script: NEXT.fetch_add(1, Ordering::Relaxed),
+                text: String::new(),
+                shapes: Vec::new(),
+            },
+        }
+    }
+
+    /// Makes a tree, and gives its root.
+    ///
+    /// Errors: [`Error::TooDeep`], [`Error::TooLong`].
+    pub fn tree(&mut self, tree: &Tree) -> Result<Element, Error> {
+        self.lines.tree(tree)
+    }
+
+    /// Begins the edit of a node. The elements to be changed are those below [`Editing::root`].
+    ///
+    /// Errors: [`Error::NoElement`], [`Error::NotANode`], [`Error::OtherScript`], [`Error::TooLong`].
+    pub fn edit(mut self, node: &Element) -> Result<Editing, Error> {
+        let shape = self.lines.shape_of(node)?.clone();
+        let mut line = Line::new("edit");
+        line.word(&name_of(self.lines.shapes.len()));
+        line.node(&self.lines, node)?;
+        self.lines.push(line)?;
+        let root = self.lines.root(shape);
+        Ok(Editing {
+            lines: self.lines,
+            root,
+            words: 0,
+        })
+    }
+
+    /// The text of the script so far.
+    pub fn text(&self) -> &str {
+        &self.lines.text
+    }
+}
+
+/// Each call is a line of docs/SCRIPTS.md, which says what it does. All of them have the errors
+/// [`Error::NoElement`] for a path that leads nowhere, [`Error::OtherScript`] for an element or a word of another
+/// script, and [`Error::TooLong`]. What the library refuses only shows in [`finish`](Editing::finish).
+impl Editing {
+    /// The root that the changes refer to: the edited node itself if it has no parent, else the root of a copy.
+    pub fn root(&self) -> Element {
+        self.root.clone()
+    }
+
+    /// Makes another tree, and gives its root. New elements are taken from such trees.
+    ///
+    /// Errors: also [`Error::TooDeep`].
+    pub fn tree(&mut self, tree: &Tree) -> Result<Element, Error> {
+        self.lines.tree(tree)
+    }
+
+    /// `map`: says that `copy`, a child of the node `parent`, is a copy of `node`. If a change replaces `node` by a
+    /// node that contains `copy`, changes inside `node` move into `copy`.
+    ///
+    /// Errors: also [`Error::NotANode`].
+    pub fn map(&mut self, parent: &Element, node: &Element, copy: &Element) -> Result<(), Error> {
+        let mut line = Line::new("map");
+        for node in [parent, node, copy] {
+            line.node(&self.lines, node)?;
+        }
+        self.lines.push(line)
+    }
+
+    /// `insert` of one element.
+    ///
+    /// Errors: also [`Error::NotANode`] and [`Error::BesideRoot`], for the position.
+    pub fn insert(&mut self, position: Position<'_>, element: &Element) -> Result<(), Error> {
+        self.insert_all(position, std::slice::from_ref(element))
+    }
+
+    /// `insert` of several elements, in order; of one it is [`insert`](Editing::insert). Of none it is a change too.
+    ///
+    /// Errors: also [`Error::NotANode`] and [`Error::BesideRoot`], for the position.
+    pub fn insert_all(
+        &mut self,
+        position: Position<'_>,
+        elements: &[Element],
+    ) -> Result<(), Error> {
+        let mut line = Line::new("insert");
+        line.position(&self.lines, position)?;
+        line.elements(&self.lines, elements)?;
+        self.lines.push(line)
+    }
+
+    /// `delete`: deletes an element.
+    pub fn delete(&mut self, element: &Element) -> Result<(), Error> {
+        let mut line = Line::new("delete");
+        line.element(&self.lines, element)?;
+        self.lines.push(line)
+    }
+
+    /// `replace` of an element by one.
+    pub fn replace(&mut self, old: &Element, new: &Element) -> Result<(), Error> {
+        self.replace_with_many(old, std::slice::from_ref(new))
+    }
+
+    /// `replace` of an element by several, in order; by one it is [`replace`](Editing::replace). By none it deletes the
+    /// element, as a change of its own.
+    pub fn replace_with_many(&mut self, old: &Element, new: &[Element]) -> Result<(), Error> {
+        let mut line = Line::new("replace");
+        line.element(&self.lines, old)?;
+        line.elements(&self.lines, new)?;
+        self.lines.push(line)
+    }
+
+    /// `range` without new elements: deletes the siblings from the first to the last.
+    pub fn delete_all(&mut self, first: &Element, last: &Element) -> Result<(), Error> {
+        self.replace_all(first, last, &[])
+    }
+
+    /// `range` with new elements: replaces the siblings from the first to the last by them, in order; by none it is
+    /// [`delete_all`](Editing::delete_all).
+    pub fn replace_all(
+        &mut self,
+        first: &Element,
+        last: &Element,
+        new: &[Element],
+    ) -> Result<(), Error> {
+        let mut line = Line::new("range");
+        line.element(&self.lines, first)?;
+        line.element(&self.lines, last)?;
+        line.elements(&self.lines, new)?;
+        self.lines.push(line)
+    }
+
+    /// `remove`: removes an element of a separated list, with a separator of this kind and the whitespace after it.
+    pub fn remove(&mut self, element: &Element, separator: Kind) -> Result<(), Error> {
+        let mut line = Line::new("remove");
+        line.element(&self.lines, element)?;
+        line.word(separator.name());
+        self.lines.push(line)
+    }
+
+    /// A new word for notes. The script has no line for it: its notes have it.
+    pub fn word(&mut self) -> Word {
+        let number = self.words;
+        self.words += 1;
+        Word {
+            script: self.lines.script,
+            number,
+        }
+    }
+
+    /// `note`: asks where an element is in the new tree, or where its copies are. One word may have several notes.
+    /// [`Edit::paths_of`] has the answer.
+    pub fn note(&mut self, word: Word, element: &Element) -> Result<(), Error> {
+        if word.script != self.lines.script {
+            return Err(Error::OtherScript);
+        }
+        let mut line = Line::new("note");
+        line.word(&word.name());
+        line.element(&self.lines, element)?;
+        self.lines.push(line)
+    }
+
+    /// `order`: the order in which the changes are carried out, one at a time, by their numbers. They count from 0 as
+    /// recorded; a second replacement or deletion of one element may update the first one, and then has no number.
+    pub fn order(mut self, numbers: &[usize]) -> Result<Ordered, Error> {
+        let mut line = Line::new("order");
+        for number in numbers {
+            line.word(&number.to_string());
+        }
+        self.lines.push(line)?;
+        Ok(Ordered { lines: self.lines })
+    }
+
+    /// `finish`: carries all changes out at once.
+    ///
+    /// Errors: [`Error::Refused`], [`Error::Failed`], [`Error::TooLong`].
+    pub fn finish(self) -> Result<Edit, Error> {
+        self.lines.finish()
+    }
+
+    /// The text of the script so far.
+    pub fn text(&self) -> &str {
+        &self.lines.text
+    }
+}
+
+impl Ordered {
+    /// `finish`: carries the changes out in the order.
+    ///
+    /// Errors: [`Error::Refused`], [`Error::Failed`], [`Error::TooLong`].
+    pub fn finish(self) -> Result<Edit, Error> {
+        self.lines.finish()
+    }
+
+    /// The text of the script so far.
+    pub fn text(&self) -> &str {
+        &self.lines.text
+    }
+}
+
+// The lines of a script, whole, with the shapes of the trees that they make.
+#[derive(Debug)]
+struct Lines {
+    script: u64,
+    text: String,
+    shapes: Vec<Shape>,
+}
+
+impl Lines {
+    fn tree(&mut self, tree: &Tree) -> Result<Element, Error> {
+        if tree.is_too_deep() {
+            return Err(Error::TooDeep);
+        }
+        let mut line = Line::new("tree");
+        line.word(&name_of(self.shapes.len()));
+        line.tree(tree);
+        self.push(line)?;
+        Ok(self.root(tree.shape()))
+    }
+
+    // The root of the tree that has been made.
+    fn root(&mut self, shape: Shape) -> Element {
+        let tree = self.shapes.len();
+        self.shapes.push(shape);
+        Element {
+            script: self.script,
+            tree,
+            path: Vec::new(),
+        }
+    }
+
+    fn shape_of(&self, element: &Element) -> Result<&Shape, Error> {
+        if element.script != self.script {
+            return Err(Error::OtherScript);
+        }
+        let tree = self.shapes.get(element.tree);
+        let shape = tree.and_then(|tree| tree.at(&element.path));
+        shape.ok_or_else(|| Error::NoElement(element.path.clone()))
+    }
+
+    // A line that makes the script too long is left out.
+    fn push(&mut self, line: Line) -> Result<(), Error> {
+        if self.text.len() + line.text.len() + 1 > SCRIPT_LIMIT {
+            return Err(Error::TooLong);
+        }
+        self.text.push_str(&line.text);
+        self.text.push('\n');
+        Ok(())
+    }
+
+    fn finish(mut self) -> Result<Edit, Error> {
+        self.push(Line::new("finish"))?;
+        edit(self.text.as_bytes())
+    }
+}
+
+// The name of the tree of this number. Words are in a space of their own.
+fn name_of(tree: usize) -> String {
+    format!("t{tree}")
+}
+
+// A line that is being put together.
+struct Line {
+    text: String,
+}
+
+impl Line {
+    fn new(first: &str) -> Line {
+        Line {
+            text: first.to_string(),
+        }
+    }
+
+    fn word(&mut self, word: &str) {
+        self.text.push(' ');
+        self.text.push_str(word);
+    }
+
+    fn tree(&mut self, tree: &Tree) {
+        self.text.push(' ');
+        tree.write(&mut self.text);
+    }
+
+    fn element(&mut self, lines: &Lines, element: &Element) -> Result<(), Error> {
+        lines.shape_of(element)?;
+        self.word(&element.to_string());
+        Ok(())
+    }
+
+    fn elements(&mut self, lines: &Lines, elements: &[Element]) -> Result<(), Error> {
+        elements
+            .iter()
+            .try_for_each(|element| self.element(lines, element))
+    }
+
+    fn node(&mut self, lines: &Lines, node: &Element) -> Result<(), Error> {
+        match lines.shape_of(node)? {
+            Shape::Node(_) => self.element(lines, node),
+            Shape::Token => Err(Error::NotANode(node.path.clone())),
+        }
+    }
+
+    fn beside(&mut self, lines: &Lines, element: &Element) -> Result<(), Error> {
+        self.element(lines, element)?;
+        if element.path.is_empty() {
+            return Err(Error::BesideRoot);
+        }
+        Ok(())
+    }
+
+    fn position(&mut self, lines: &Lines, position: Position<'_>) -> Result<(), Error> {
+        match position {
+            Position::First(node) => {
+                self.word("first");
+                self.node(lines, node)
+            }
+            Position::Last(node) => {
+                self.word("last");
+                self.node(lines, node)
+            }
+            Position::Before(element) => {
+                self.word("before");
+                self.beside(lines, element)
+            }
+            Position::After(element) => {
+                self.word("after");
+                self.beside(lines, element)
+            }
+        }
+    }
+}

@@ -1,0 +1,613 @@
+//! The builder: one test for each word of a line, for each refusal, and for each error of its own. All answers were
+//! worked out by hand.
+#![forbid(unsafe_code)]
+
+use std::fs;
+use std::path::Path;
+use syned::{edit, Edit, Editing, Element, Error, Kind, Position, Refusal, Script, Tree};
+use syned::{DEPTH_LIMIT, SCRIPT_LIMIT};
+
+fn number(text: &str) -> Tree {
+    Tree::new(Kind::Literal).token(Kind::IntNumber, text)
+}
+
+// `(1, 2)`: its children are `(`, the node `1`, `,`, a space, the node `2` and `)`.
+fn list() -> Tree {
+    Tree::new(Kind::ArgList)
+        .token(Kind::LParen, "(")
+        .node(number("1"))
+        .token(Kind::Comma, ",")
+        .token(Kind::Whitespace, " ")
+        .node(number("2"))
+        .token(Kind::RParen, ")")
+}
+
+// An edit of `(1, 2)`, and its root.
+fn list_edit() -> (Editing, Element) {
+    edit_of(&list())
+}
+
+fn edit_of(tree: &Tree) -> (Editing, Element) {
+    let mut script = Script::new();
+    let file = script.tree(tree).unwrap();
+    let editing = script.edit(&file).unwrap();
+    let root = editing.root();
+    (editing, root)
+}
+
+// A new token with this text.
+fn name(editing: &mut Editing, text: &str) -> Element {
+    let tree = Tree::new(Kind::SourceFile).token(Kind::Ident, text);
+    editing.tree(&tree).unwrap().child(0)
+}
+
+#[track_caller]
+fn assert_edit(edit: Result<Edit, Error>, text: &str, changed: &[&[usize]]) {
+    let edit = edit.unwrap();
+    assert_eq!(edit.text, text);
+    assert_eq!(edit.changed, changed);
+}
+
+#[track_caller]
+fn assert_refused(edit: Result<Edit, Error>, wanted: Refusal, said: &str) {
+    let error = edit.unwrap_err();
+    assert_eq!(error.to_string(), said);
+    assert!(matches!(error, Error::Refused { refusal, .. } if refusal == wanted));
+}
+
+// Words of lines
+
+#[test]
+fn tree_escapes_texts() {
+    let text = "\n\r\t\"\\é \u{2028}\0'";
+    let (editing, _) = edit_of(&Tree::new(Kind::Attr).token(Kind::Comment, text));
+    let wanted = "tree t0 (ATTR COMMENT\"\\n\\r\\t\\\"\\\\é \u{2028}\0'\")\nedit t1 t0\n";
+    assert_eq!(editing.text(), wanted);
+    assert_edit(editing.finish(), text, &[]);
+}
+
+#[test]
+fn tree_of_nothing() {
+    assert_edit(edit_of(&Tree::new(Kind::Attr)).0.finish(), "", &[]);
+    let (editing, root) = edit_of(&Tree::new(Kind::Attr).token(Kind::Comma, ""));
+    assert_eq!(root, editing.root());
+    assert_edit(editing.finish(), "", &[]);
+}
+
+#[test]
+fn edit_of_a_node_inside_is_one_of_a_copy() {
+    let mut script = Script::new();
+    let file = script.tree(&list()).unwrap();
+    let mut editing = script.edit(&file.child(4)).unwrap();
+    let root = editing.root();
+    let x = name(&mut editing, "x");
+    editing
+        .insert(Position::Before(&root.child(0)), &x)
+        .unwrap();
+    assert_edit(editing.finish(), "x2", &[&[0]]);
+}
+
+#[test]
+fn map_lets_changes_move() {
+    assert_edit(rename_in_block().0.finish(), "{total+total};", &[&[0]]);
+}
+
+// `a+a;`, where `a+a` is put into a block; both names are replaced before that.
+fn rename_in_block() -> (Editing, Element) {
+    let name = |text: &str| Tree::new(Kind::NameRef).token(Kind::Ident, text);
+    let sum = Tree::new(Kind::BinExpr)
+        .node(name("a"))
+        .token(Kind::Plus, "+")
+        .node(name("a"));
+    let block = Tree::new(Kind::BlockExpr)
+        .token(Kind::LCurly, "{")
+        .node(sum.clone())
+        .token(Kind::RCurly, "}");
+    let (mut editing, root) = edit_of(
+        &Tree::new(Kind::ExprStmt)
+            .node(sum)
+            .token(Kind::Semicolon, ";"),
+    );
+    let new = editing.tree(&name("total")).unwrap();
+    let block = editing.tree(&block).unwrap();
+    editing
+        .map(&block, &root.child(0), &block.child(1))
+        .unwrap();
+    editing.replace(&root.at(&[0, 0]), &new).unwrap();
+    editing.replace(&root.at(&[0, 2]), &new).unwrap();
+    editing.replace(&root.child(0), &block).unwrap();
+    (editing, root)
+}
+
+#[test]
+fn insert_at_each_position() {
+    let (mut editing, root) = list_edit();
+    let [x, y, z, w] = ["x", "y", "z", "w"].map(|text| name(&mut editing, text));
+    editing.insert(Position::First(&root.child(1)), &x).unwrap();
+    editing.insert(Position::Last(&root.child(1)), &y).unwrap();
+    editing
+        .insert(Position::Before(&root.child(2)), &z)
+        .unwrap();
+    editing.insert(Position::After(&root.child(2)), &w).unwrap();
+    assert_edit(
+        editing.finish(),
+        "(x1yz,w 2)",
+        &[&[1, 0], &[1, 2], &[2], &[4]],
+    );
+}
+
+#[test]
+fn insert_of_several_and_of_none() {
+    let (mut editing, root) = list_edit();
+    let elements = ["x", "y"].map(|text| name(&mut editing, text));
+    editing
+        .insert_all(Position::After(&root.child(0)), &elements)
+        .unwrap();
+    editing.insert_all(Position::First(&root), &[]).unwrap();
+    assert_edit(editing.finish(), "(xy1, 2)", &[&[1], &[2]]);
+}
+
+#[test]
+fn delete_takes_an_element_away() {
+    let (mut editing, root) = list_edit();
+    editing.delete(&root.child(4)).unwrap();
+    assert_edit(editing.finish(), "(1, )", &[]);
+}
+
+#[test]
+fn replace_by_one_by_several_and_by_none() {
+    let (mut editing, root) = list_edit();
+    let [x, y] = ["x", "y"].map(|text| name(&mut editing, text));
+    editing.replace(&root.child(4), &x).unwrap();
+    editing
+        .replace_with_many(&root.child(1), &[y.clone(), x])
+        .unwrap();
+    editing.replace_with_many(&root.child(3), &[]).unwrap();
+    assert_edit(editing.finish(), "(yx,x)", &[&[1], &[2], &[4]]);
+}
+
+#[test]
+fn replace_of_the_root_by_a_node() {
+    let (mut editing, root) = list_edit();
+    let seven = editing.tree(&number("7")).unwrap();
+    editing.replace(&root, &seven).unwrap();
+    assert_edit(editing.finish(), "7", &[&[]]);
+}
+
+#[test]
+fn range_deletes_or_replaces_siblings() {
+    let (mut editing, root) = list_edit();
+    editing.delete_all(&root.child(1), &root.child(3)).unwrap();
+    assert_edit(editing.finish(), "(2)", &[]);
+
+    let (mut editing, root) = list_edit();
+    let x = name(&mut editing, "x");
+    editing
+        .replace_all(&root.child(1), &root.child(3), &[x])
+        .unwrap();
+    assert_edit(editing.finish(), "(x2)", &[&[1]]);
+}
+
+#[test]
+fn remove_takes_a_separator_along() {
+    let (mut editing, root) = list_edit();
+    editing.remove(&root.child(1), Kind::Comma).unwrap();
+    assert_edit(editing.finish(), "(2)", &[]);
+
+    let (mut editing, root) = list_edit();
+    editing.remove(&root.child(4), Kind::Comma).unwrap();
+    assert_edit(editing.finish(), "(1)", &[]);
+
+    let (mut editing, root) = list_edit();
+    editing.remove(&root.child(4), Kind::Semicolon).unwrap();
+    assert_edit(editing.finish(), "(1, )", &[]);
+}
+
+#[test]
+fn notes_say_where_elements_are() {
+    let (mut editing, root) = list_edit();
+    let x = name(&mut editing, "x");
+    let [moved, unused, gone, both] = [(); 4].map(|()| editing.word());
+    editing.note(both, &root.child(5)).unwrap();
+    editing.note(both, &root).unwrap();
+    editing.note(moved, &root.at(&[4, 0])).unwrap();
+    editing.note(gone, &root.child(1)).unwrap();
+    editing.delete(&root.child(1)).unwrap();
+    editing
+        .insert_all(Position::After(&root.child(2)), &[x.clone(), x.clone()])
+        .unwrap();
+    editing.note(moved, &x).unwrap();
+    let edit = editing.finish().unwrap();
+    assert_eq!(edit.text, "(,xx 2)");
+    assert_eq!(edit.paths_of(both), [vec![6], vec![]]);
+    assert_eq!(edit.paths_of(moved), [vec![5, 0], vec![2], vec![3]]);
+    assert_eq!(edit.paths_of(gone), [[0usize; 0]; 0]);
+    assert_eq!(edit.paths_of(unused), [[0usize; 0]; 0]);
+    let words = edit.notes.iter().map(|note| note.word.clone());
+    assert_eq!(
+        words.collect::<Vec<_>>(),
+        [both.name(), moved.name(), gone.name()]
+    );
+}
+
+#[test]
+fn order_that_is_allowed() {
+    let (mut editing, root) = list_edit();
+    let [x, y] = ["x", "y"].map(|text| name(&mut editing, text));
+    editing.insert(Position::After(&root.child(0)), &x).unwrap();
+    editing.insert(Position::After(&root.child(0)), &y).unwrap();
+    editing.delete(&root.child(4)).unwrap();
+    let ordered = editing.order(&[2, 1, 0]).unwrap();
+    assert!(ordered.text().ends_with("\norder 2 1 0\n"));
+    assert_edit(ordered.finish(), "(xy1, )", &[&[1], &[2]]);
+}
+
+#[test]
+fn finish_without_changes() {
+    assert_edit(list_edit().0.finish(), "(1, 2)", &[]);
+    assert_edit(list_edit().0.order(&[]).unwrap().finish(), "(1, 2)", &[]);
+}
+
+#[test]
+fn finish_with_an_answer_much_longer_than_the_script() {
+    let (mut editing, root) = list_edit();
+    let long = name(&mut editing, &"é\n".repeat(1000));
+    editing
+        .insert_all(Position::First(&root), &vec![long; 1000])
+        .unwrap();
+    let edit = editing.finish().unwrap();
+    assert_eq!(edit.text, "é\n".repeat(1_000_000) + "(1, 2)");
+    assert_eq!(edit.changed.len(), 1000);
+}
+
+// Refusals
+
+const FOREIGN: &str = "a position or a target is not of the edited tree \
+                       (take it from the root that SyntaxEditor::new returns)";
+
+#[test]
+fn foreign() {
+    let (mut editing, _) = list_edit();
+    let x = name(&mut editing, "x");
+    editing.delete(&x).unwrap();
+    assert_refused(
+        editing.finish(),
+        Refusal::Foreign,
+        &format!("line 4: {FOREIGN}"),
+    );
+}
+
+#[test]
+fn bad_range() {
+    let (mut editing, root) = list_edit();
+    editing.delete_all(&root.child(4), &root.child(1)).unwrap();
+    assert_refused(
+        editing.finish(),
+        Refusal::BadRange,
+        "line 3: the ends of a range must be siblings, and the last must not come before the first",
+    );
+}
+
+#[test]
+fn deletes_root() {
+    let (mut editing, root) = list_edit();
+    editing.delete(&root).unwrap();
+    assert_refused(
+        editing.finish(),
+        Refusal::DeletesRoot,
+        "line 3: the root of the edited tree cannot be deleted",
+    );
+}
+
+#[test]
+fn root_replacement() {
+    let (mut editing, root) = list_edit();
+    let x = name(&mut editing, "x");
+    editing.replace(&root, &x).unwrap();
+    assert_refused(
+        editing.finish(),
+        Refusal::RootReplacement,
+        "line 4: the root of the edited tree can be replaced by one node only",
+    );
+}
+
+// An edit of `(1, 2)`, its root, and the tree of `(7)`.
+fn two_trees() -> (Editing, Element, Element) {
+    let (mut editing, root) = list_edit();
+    let tree = Tree::new(Kind::TupleExpr)
+        .token(Kind::LParen, "(")
+        .node(number("7"))
+        .token(Kind::RParen, ")");
+    let tree = editing.tree(&tree).unwrap();
+    (editing, root, tree)
+}
+
+#[test]
+fn not_a_child() {
+    let (mut editing, root, tree) = two_trees();
+    editing.map(&tree, &root.child(1), &tree).unwrap();
+    assert_refused(
+        editing.finish(),
+        Refusal::NotAChild,
+        "line 4: an output is not a child of the node for which the builder was made",
+    );
+}
+
+#[test]
+fn not_younger() {
+    let (mut editing, root, tree) = two_trees();
+    editing.map(&root, &tree.child(1), &root.child(1)).unwrap();
+    assert_refused(
+        editing.finish(),
+        Refusal::NotYounger,
+        "line 4: the tree number of an output is not greater than that of its input",
+    );
+}
+
+#[test]
+fn other_shape() {
+    let (mut editing, root, tree) = two_trees();
+    editing.map(&tree, &root, &tree.child(1)).unwrap();
+    assert_refused(
+        editing.finish(),
+        Refusal::OtherShape,
+        "line 4: an output differs from its input in more than the texts of its tokens",
+    );
+}
+
+#[test]
+fn intersecting() {
+    let (mut editing, root) = list_edit();
+    let x = name(&mut editing, "x");
+    editing.replace(&root.child(1), &x).unwrap();
+    editing.delete(&root.child(5)).unwrap();
+    editing.delete_all(&root.child(1), &root.child(4)).unwrap();
+    assert_refused(
+        editing.finish(),
+        Refusal::Intersecting {
+            first: 0,
+            second: 2,
+        },
+        "line 7: changes 0 and 2 replace or delete the same element",
+    );
+}
+
+#[test]
+fn missing_mapping() {
+    let (mut editing, root, tree) = two_trees();
+    let seven = tree.child(1);
+    editing.replace(&root, &tree).unwrap();
+    editing.insert(Position::First(&root), &seven).unwrap();
+    let error = editing.finish().unwrap_err();
+    assert!(error.to_string().starts_with("line 6: "));
+    let Error::Refused { refusal, .. } = error else {
+        panic!("{error}")
+    };
+    assert_eq!(
+        refusal,
+        Refusal::MissingMapping {
+            change: 1,
+            owner: 0
+        }
+    );
+}
+
+#[track_caller]
+fn assert_order_refused(editing: Editing, order: &[usize], wanted: Refusal) {
+    let error = editing.order(order).unwrap().finish().unwrap_err();
+    let Error::Refused { refusal, sentence } = error else {
+        panic!("{error}")
+    };
+    assert_eq!(refusal, wanted);
+    assert!(sentence.starts_with("line "), "{sentence}");
+}
+
+#[test]
+fn not_each_once() {
+    for order in [&[][..], &[0, 0], &[1]] {
+        let (mut editing, root) = list_edit();
+        editing.delete(&root.child(1)).unwrap();
+        assert_order_refused(editing, order, Refusal::NotEachOnce);
+    }
+}
+
+#[test]
+fn owner_too_early() {
+    assert_order_refused(rename_in_block().0, &[0, 2, 1], Refusal::OwnerTooEarly);
+    let ordered = rename_in_block().0.order(&[1, 0, 2]).unwrap();
+    assert_edit(ordered.finish(), "{total+total};", &[&[0]]);
+}
+
+#[test]
+fn gap_out_of_order() {
+    let (mut editing, root) = list_edit();
+    let x = name(&mut editing, "x");
+    editing.insert(Position::Last(&root), &x).unwrap();
+    editing.insert(Position::After(&root.child(5)), &x).unwrap();
+    assert_order_refused(editing, &[0, 1], Refusal::GapOutOfOrder);
+}
+
+#[test]
+fn token_too_early() {
+    let (mut editing, root) = list_edit();
+    let x = name(&mut editing, "x");
+    editing.delete(&root.child(2)).unwrap();
+    editing.insert(Position::After(&root.child(2)), &x).unwrap();
+    assert_order_refused(editing, &[0, 1], Refusal::TokenTooEarly);
+}
+
+#[test]
+fn too_long() {
+    // 8,600 times half a million bytes are some 5 million more than the largest text has.
+    let (mut editing, root) = list_edit();
+    let long = name(&mut editing, &"x".repeat(500_000));
+    editing
+        .insert_all(Position::First(&root), &vec![long; 8_600])
+        .unwrap();
+    let error = editing.finish().unwrap_err();
+    assert!(
+        matches!(
+            error,
+            Error::Refused {
+                refusal: Refusal::TooLong,
+                ..
+            }
+        ),
+        "{error}"
+    );
+}
+
+// Errors of the builder
+
+#[test]
+fn a_path_that_leads_nowhere() {
+    let (mut editing, root) = list_edit();
+    let before = editing.text().to_string();
+    for path in [&[6][..], &[1, 1], &[0, 0], &[usize::MAX]] {
+        let nowhere = root.at(path);
+        let error = Err(Error::NoElement(path.to_vec()));
+        assert_eq!(editing.delete(&nowhere), error);
+        assert_eq!(editing.insert(Position::First(&nowhere), &root), error);
+        assert_eq!(editing.insert(Position::After(&nowhere), &root), error);
+        assert_eq!(editing.replace(&root, &nowhere), error);
+        assert_eq!(editing.replace_all(&root, &nowhere, &[]), error);
+        assert_eq!(editing.map(&root, &nowhere, &root), error);
+        assert_eq!(editing.remove(&nowhere, Kind::Comma), error);
+        let word = editing.word();
+        assert_eq!(editing.note(word, &nowhere), error);
+    }
+    assert_eq!(editing.text(), before);
+    assert_edit(editing.finish(), "(1, 2)", &[]);
+
+    let mut script = Script::new();
+    let file = script.tree(&list()).unwrap();
+    let error = script.edit(&file.child(9)).unwrap_err();
+    assert_eq!(error, Error::NoElement(vec![9]));
+}
+
+#[test]
+fn a_token_for_a_node() {
+    let (mut editing, root) = list_edit();
+    let error = Err(Error::NotANode(vec![2]));
+    let comma = root.child(2);
+    assert_eq!(editing.insert(Position::First(&comma), &root), error);
+    assert_eq!(editing.insert(Position::Last(&comma), &root), error);
+    for [parent, node, copy] in [
+        [&comma, &root, &root],
+        [&root, &comma, &root],
+        [&root, &root, &comma],
+    ] {
+        assert_eq!(editing.map(parent, node, copy), error);
+    }
+    assert_edit(editing.finish(), "(1, 2)", &[]);
+
+    let mut script = Script::new();
+    let file = script.tree(&list()).unwrap();
+    assert_eq!(
+        script.edit(&file.child(2)).unwrap_err(),
+        Error::NotANode(vec![2])
+    );
+}
+
+#[test]
+fn a_position_beside_a_root() {
+    let (mut editing, root) = list_edit();
+    let x = name(&mut editing, "x");
+    assert_eq!(
+        editing.insert(Position::Before(&root), &x),
+        Err(Error::BesideRoot)
+    );
+    assert_eq!(
+        editing.insert(Position::After(&root), &x),
+        Err(Error::BesideRoot)
+    );
+    assert_edit(editing.finish(), "(1, 2)", &[]);
+}
+
+#[test]
+fn an_element_or_a_word_of_another_script() {
+    let (mut editing, root) = list_edit();
+    let (mut other, other_root) = list_edit();
+    let word = other.word();
+    assert_eq!(editing.delete(&other_root), Err(Error::OtherScript));
+    assert_eq!(editing.note(word, &root), Err(Error::OtherScript));
+    assert_eq!(Script::new().edit(&root).unwrap_err(), Error::OtherScript);
+    assert_edit(editing.finish(), "(1, 2)", &[]);
+}
+
+#[test]
+fn a_tree_that_is_too_deep() {
+    let nested = |depth: usize| {
+        (1..depth).fold(Tree::new(Kind::Attr).token(Kind::Ident, "x"), |tree, _| {
+            Tree::new(Kind::Attr).node(tree)
+        })
+    };
+    assert_edit(edit_of(&nested(DEPTH_LIMIT)).0.finish(), "x", &[]);
+    let mut script = Script::new();
+    for depth in [DEPTH_LIMIT + 1, 1_000_000] {
+        assert_eq!(script.tree(&nested(depth)), Err(Error::TooDeep));
+    }
+    assert_eq!(script.text(), "");
+    let error = list_edit().0.tree(&nested(DEPTH_LIMIT + 1)).unwrap_err();
+    assert_eq!(
+        error.to_string(),
+        "more than 200 nodes of a tree are within each other"
+    );
+}
+
+#[test]
+fn a_script_that_is_too_long() {
+    let frame = "tree t0 (ATTR IDENT\"\")\nedit t1 t0\nfinish\n".len();
+    let tree = |length: usize| Tree::new(Kind::Attr).token(Kind::Ident, "x".repeat(length));
+    let longest = SCRIPT_LIMIT - frame;
+    assert_eq!(
+        edit_of(&tree(longest)).0.finish().unwrap().text.len(),
+        longest
+    );
+    assert_eq!(edit_of(&tree(longest + 1)).0.finish(), Err(Error::TooLong));
+    let mut script = Script::new();
+    assert_eq!(script.tree(&tree(SCRIPT_LIMIT)), Err(Error::TooLong));
+    // The line was left out.
+    let file = script.tree(&list()).unwrap();
+    assert_edit(script.edit(&file).unwrap().finish(), "(1, 2)", &[]);
+}
+
+// What is written elsewhere
+
+#[test]
+fn bad_scripts_say_where() {
+    let said = "line 1, column 8, at \"ATTR\": ";
+    let Err(Error::BadScript { line, sentence }) = edit(b"tree A ATTR\n") else {
+        panic!("it is no bad script")
+    };
+    assert_eq!(line, 1);
+    assert!(sentence.starts_with(said), "{sentence}");
+    for script in [&b"\xff"[..], &vec![b'\n'; SCRIPT_LIMIT + 1]] {
+        assert!(matches!(
+            edit(script),
+            Err(Error::BadScript { line: 0, .. })
+        ));
+    }
+}
+
+#[test]
+fn kinds_are_those_of_the_docs() {
+    let docs = Path::new(env!("CARGO_MANIFEST_DIR")).join("../../docs/SCRIPTS.md");
+    let docs = fs::read_to_string(docs).unwrap();
+    let kinds = &docs[docs.find("WHITESPACE COMMENT").unwrap()..];
+    let kinds = kinds[..kinds.find("```").unwrap()].split_whitespace();
+    assert_eq!(kinds.collect::<Vec<_>>(), Kind::ALL.map(Kind::name));
+}
+
+#[test]
+fn every_kind_is_a_nodes_and_a_tokens() {
+    let mut tree = Tree::new(Kind::SourceFile);
+    for kind in Kind::ALL {
+        tree.push_node(Tree::new(kind).token(kind, kind.to_string()));
+    }
+    assert_edit(
+        edit_of(&tree).0.finish(),
+        &Kind::ALL.map(Kind::name).concat(),
+        &[],
+    );
+}

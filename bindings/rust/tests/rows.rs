@@ -1,0 +1,126 @@
+//! Each script of the folder SYNED_ROWS, which bindings/scripts.py fills, has the status, the answer and the sentence
+//! that the program `syned` gave; on 8 threads at a time, each over all scripts.
+#![forbid(unsafe_code)]
+
+use std::path::{Path, PathBuf};
+use std::{env, fs, thread};
+use syned::{edit, explain, run, Edit, Error, Status};
+
+const THREADS: usize = 8;
+
+struct Row {
+    script: Vec<u8>,
+    answer: Vec<u8>,
+    said: String,
+    status: String,
+}
+
+fn read(folder: &Path, number: usize, ending: &str) -> Vec<u8> {
+    let path = folder.join(format!("{number}.{ending}"));
+    fs::read(&path).unwrap_or_else(|error| panic!("{}: {error}", path.display()))
+}
+
+fn read_text(folder: &Path, number: usize, ending: &str) -> String {
+    String::from_utf8(read(folder, number, ending)).expect("a text")
+}
+
+fn rows() -> Vec<Row> {
+    let folder = PathBuf::from(env::var_os("SYNED_ROWS").expect("SYNED_ROWS names no folder"));
+    let files = fs::read_dir(&folder).expect("SYNED_ROWS names no folder");
+    let paths = files.map(|file| file.expect("a file").path());
+    let scripts = paths.filter(|path| path.extension().is_some_and(|ending| ending == "script"));
+    let rows: Vec<Row> = (0..scripts.count())
+        .map(|number| Row {
+            script: read(&folder, number, "script"),
+            answer: read(&folder, number, "answer"),
+            said: read_text(&folder, number, "said"),
+            status: read_text(&folder, number, "status"),
+        })
+        .collect();
+    assert!(!rows.is_empty(), "SYNED_ROWS has no scripts");
+    rows
+}
+
+fn check(number: usize, row: &Row) {
+    let (status, answer) = run(&row.script);
+    assert_eq!(
+        status.code().to_string(),
+        row.status.trim_end(),
+        "{number}.status"
+    );
+    assert_eq!(answer, row.answer, "{number}.answer");
+    let said = explain(&row.script);
+    assert_eq!(said.is_none(), status == Status::Done, "{number}.said");
+    assert_eq!(said.unwrap_or_default(), row.said, "{number}.said");
+    check_read(number, row, status);
+}
+
+// The answer, read, says the same.
+fn check_read(number: usize, row: &Row, status: Status) {
+    let answer = String::from_utf8_lossy(&row.answer);
+    let first = answer.lines().next().unwrap_or_default();
+    match edit(&row.script) {
+        Ok(edit) => {
+            assert_eq!(status, Status::Done, "{number}");
+            assert_eq!(written(&edit), answer, "{number}.answer");
+        }
+        Err(Error::Refused { refusal, sentence }) => {
+            assert_eq!(
+                (status, &sentence),
+                (Status::Refused, &row.said),
+                "{number}"
+            );
+            let name = first.split(' ').nth(1).expect("a name");
+            assert!(format!("{refusal:?}").starts_with(name), "{number}.answer");
+        }
+        Err(Error::BadScript { line, sentence }) => {
+            assert_eq!(
+                (status, &sentence),
+                (Status::BadScript, &row.said),
+                "{number}"
+            );
+            assert_eq!(format!("bad script line {line}"), first, "{number}.answer");
+        }
+        Err(error) => panic!("{number}: {error}"),
+    }
+}
+
+// An answer that was read, written again.
+fn written(edit: &Edit) -> String {
+    let mut text = edit.text.replace('\\', "\\\\");
+    for (plain, escaped) in [("\n", "\\n"), ("\r", "\\r"), ("\t", "\\t"), ("\"", "\\\"")] {
+        text = text.replace(plain, escaped);
+    }
+    let mut out = format!("text \"{text}\"\nchanged{}\n", paths(&edit.changed));
+    for note in &edit.notes {
+        out += &format!("note {}{}\n", note.word, paths(&note.paths));
+    }
+    out
+}
+
+fn paths(paths: &[Vec<usize>]) -> String {
+    paths.iter().map(|path| format!(" {}", way(path))).collect()
+}
+
+fn way(path: &[usize]) -> String {
+    let steps: Vec<String> = path.iter().map(usize::to_string).collect();
+    if steps.is_empty() {
+        ".".to_string()
+    } else {
+        steps.join("/")
+    }
+}
+
+#[test]
+fn all_answers_are_those_of_the_program() {
+    let rows = rows();
+    thread::scope(|scope| {
+        for _ in 0..THREADS {
+            scope.spawn(|| {
+                for (number, row) in rows.iter().enumerate() {
+                    check(number, row);
+                }
+            });
+        }
+    });
+}
