@@ -166,7 +166,7 @@ class Script:
         return str(self).encode()
 
     def _record(self, word: str, *elements: Element) -> None:
-        """A line of a word and elements. Another script gives the same names to other trees, so elements are checked."""
+        """A line of a word and elements. Those of another script are refused: their names are other trees' here."""
         for element in elements:
             if element.script is not self:
                 raise ValueError(f"{element} is an element of another script")

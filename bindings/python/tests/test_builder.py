@@ -1,7 +1,9 @@
 """What the builder writes and gets back: each line word, and each refusal. The answers are worked by hand."""
 import re
+import tempfile
 import unittest
 from pathlib import Path
+from unittest import mock
 
 from syned import (
     BadScript,
@@ -16,11 +18,10 @@ from syned import (
     Status,
     SynedError,
     node,
+    _edit,
     run,
     token,
 )
-from syned import _edit
-from unittest import mock
 
 ROOT = Path(__file__).resolve().parents[3]
 
@@ -378,6 +379,13 @@ class Calls(unittest.TestCase):
         with mock.patch.dict("os.environ", SYNED_LIB=str(ROOT / "docs")):
             with self.assertRaisesRegex(NoLibrary, "bash bindings/build.sh"):
                 run(b"")
+
+    def test_a_library_that_is_none(self):
+        with tempfile.TemporaryDirectory() as folder:
+            (Path(folder) / "libsyned.so").write_bytes(b"no library")
+            with mock.patch.dict("os.environ", SYNED_LIB=folder):
+                with self.assertRaisesRegex(NoLibrary, "can't be loaded .* `bash bindings/build.sh` makes it anew"):
+                    run(b"")
 
     def test_a_folder_for_the_library(self):
         with mock.patch.dict("os.environ", SYNED_LIB=str(ROOT / "bindings/out")):

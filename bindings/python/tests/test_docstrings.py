@@ -3,9 +3,14 @@ import doctest
 import importlib
 import inspect
 import pkgutil
+import sys
 import unittest
+from pathlib import Path
 
 import syned
+
+sys.path.insert(0, str(Path(__file__).resolve().parents[3] / "examples"))
+import remove_argument
 
 
 def load_tests(loader, tests, pattern):
@@ -15,6 +20,7 @@ def load_tests(loader, tests, pattern):
         if ">>>" in inspect.getsource(imported):
             tests.addTests(doctest.DocTestSuite(imported, optionflags=doctest.ELLIPSIS))
     tests.addTests(doctest.DocTestSuite(syned))
+    tests.addTests(doctest.DocTestSuite(remove_argument))
     return tests
 
 
