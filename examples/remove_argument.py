@@ -33,7 +33,7 @@ TOKENS = re.compile(
   | (?P<L_PAREN> \( ) | (?P<R_PAREN> \) )
   | (?P<L_BRACK> \[ ) | (?P<R_BRACK> \] )
   | (?P<L_CURLY> \{ ) | (?P<R_CURLY> \} )
-  | (?P<EQ> := | . )
+  | (?P<EQ> := | \.{3} | . )
     """,
     re.VERBOSE | re.DOTALL,
 )

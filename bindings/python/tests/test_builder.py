@@ -17,8 +17,10 @@ from syned import (
     Script,
     Status,
     SynedError,
-    node,
     _edit,
+    _library,
+    explain,
+    node,
     run,
     token,
 )
@@ -350,6 +352,11 @@ class Texts(unittest.TestCase):
             script.insert(Position.last(root), root[0])
             self.assertEqual(script.finish().text, 2 * text)
 
+    def test_escapes(self):
+        script = Script()
+        script.tree(node(Kind.NAME, token(Kind.COMMENT, 'a\n\r\t"\\\x0b')))
+        self.assertEqual(str(script), 'tree T0 (NAME COMMENT"a\\n\\r\\t\\"\\\\\x0b")\n')
+
     def test_each_kind_is_one_of_the_sources(self):
         source = (ROOT / "crates/green_tree/src/kind.rt").read_text(encoding="utf-8")
         names = re.findall(r'^    "(\w+)",$', source, flags=re.M)
@@ -364,6 +371,12 @@ class Calls(unittest.TestCase):
         script, root = begun(node(Kind.SOURCE_FILE, token(Kind.IDENT, "x" * 100000)))
         script.insert(Position.last(root), *[root[0]] * 100)
         self.assertEqual(script.finish().text, "x" * 10100000)
+
+    def test_a_sentence_that_needs_more_room(self):
+        said = explain(b"no")
+        self.assertTrue(said.startswith('line 1, column 1, at "no": '), said)
+        with mock.patch.object(_library, "SENTENCE_ROOM", 1):
+            self.assertEqual(explain(b"no"), said)
 
     def test_only_bytes_are_a_script(self):
         for script in (None, "finish", bytearray(b"finish")):

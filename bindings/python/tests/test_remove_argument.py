@@ -46,6 +46,8 @@ BY_HAND = [
     ("f(*a, b=1, **c)\n", "f", 1, "f(*a, **c)\n"),
     ("f((1), (2, 3))\n", "f", 0, "f((2, 3))\n"),
     ("f(x for x in y)\n", "f", 0, "f()\n"),
+    ("f(\n    x for x in y\n)\n", "f", 0, "f(\n    \n)\n"),
+    ("def g(): ...\nf(1, 2)\n", "f", 0, "def g(): ...\nf(2)\n"),
     ("f((x for x, y in z), 1)\n", "f", 1, "f((x for x, y in z))\n"),
     ("f(x for x, y in z for a, b in x)\n", "f", 0, "f()\n"),
     ("f(lambda x=1 in (2, 3), y=4: x, 5)\n", "f", 1, "f(lambda x=1 in (2, 3), y=4: x)\n"),
@@ -99,8 +101,11 @@ def argument_ranges(source, lines, call):
     bare = []
     for argument in call.args:
         start, end = start_of(source, lines, argument), end_of(source, lines, argument)
-        # The brackets of a generator can be those of the call.
-        bare.append((start + 1, end - 1) if start == opener else (start, end))
+        if start == opener:
+            # The parser takes the parentheses of the call for those of the generator.
+            inner = source[start + 1 : end - 1]
+            start, end = end - 1 - len(inner.lstrip()), start + 1 + len(inner.rstrip())
+        bare.append((start, end))
     for argument in call.keywords:
         start = start_of(source, lines, argument.value)
         name = re.search(rb"(?:\w+" + SPACE + rb"=|\*\*)[\s(]*\Z", source[opener + 1 : start])
