@@ -1,6 +1,6 @@
 #!/usr/bin/env bash
-# test.sh: runs all tests of the Python package, the examples in its docstrings, and mypy where it is installed. It needs
-# bindings/out (`bash bindings/build.sh`) and SYNED_ROWS, a folder that bindings/scripts.py filled.
+# test.sh: runs all tests of the Python package, the examples in its docstrings, and mypy where it is installed. It
+# needs bindings/out (`bash bindings/build.sh`) and SYNED_ROWS, a folder that bindings/scripts.py filled.
 set -euo pipefail
 : "${SYNED_ROWS:?names a folder that bindings/scripts.py filled}"
 SYNED_ROWS=$(realpath "$SYNED_ROWS")
