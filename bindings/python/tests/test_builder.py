@@ -1,0 +1,413 @@
+"""What the builder writes and gets back: each line word, and each refusal. The answers are worked by hand."""
+import re
+import tempfile
+import unittest
+from pathlib import Path
+from unittest import mock
+
+from syned import (
+    BadScript,
+    Edit,
+    Failed,
+    Kind,
+    NoLibrary,
+    Position,
+    Refusal,
+    Refused,
+    Script,
+    Status,
+    SynedError,
+    _edit,
+    _library,
+    explain,
+    node,
+    run,
+    token,
+)
+
+ROOT = Path(__file__).resolve().parents[3]
+
+
+def literal(digits):
+    return node(Kind.LITERAL, token(Kind.INT_NUMBER, digits))
+
+
+# `(1, 2)`. Its children are `(`, `1`, `,`, ` `, `2` and `)`.
+ARGUMENTS = node(
+    Kind.ARG_LIST,
+    token(Kind.L_PAREN, "("),
+    literal("1"),
+    token(Kind.COMMA, ","),
+    token(Kind.WHITESPACE, " "),
+    literal("2"),
+    token(Kind.R_PAREN, ")"),
+)
+# `{1}`, with a copy of the literal `1`.
+BLOCK = node(Kind.BLOCK_EXPR, token(Kind.L_CURLY, "{"), literal("1"), token(Kind.R_CURLY, "}"))
+
+
+def begun(tree=ARGUMENTS):
+    """A script that edits this tree, and the root that its changes refer to."""
+    script = Script()
+    return script, script.edit(script.tree(tree))
+
+
+def words(script, *texts):
+    """New tokens with these texts."""
+    return list(script.tree(node(Kind.SOURCE_FILE, *(token(Kind.IDENT, text) for text in texts))))
+
+
+class LineWords(unittest.TestCase):
+    def test_tree(self):
+        script = Script()
+        script.tree(node(Kind.ATTR))
+        script.tree(node(Kind.NAME, token(Kind.IDENT, ""), node(Kind.USE, literal("1"), node(Kind.USE))))
+        self.assertEqual(
+            str(script), 'tree T0 (ATTR)\ntree T1 (NAME IDENT"" (USE (LITERAL INT_NUMBER"1") (USE)))\n'
+        )
+
+    def test_edit(self):
+        script, root = begun()
+        self.assertEqual(str(script).split("\n")[1], "edit R T0")
+        self.assertEqual(script.finish(), Edit("(1, 2)", (), {}))
+        self.assertEqual(root.text, "(1, 2)")
+
+    def test_edit_of_an_inner_node_is_of_a_copy(self):
+        script = Script()
+        root = script.edit(script.tree(ARGUMENTS)[4])
+        script.replace(root[0], *words(script, "x"))
+        self.assertEqual(script.finish(), Edit("x", ((0,),), {}))
+
+    def test_map(self):
+        script, root = begun()
+        block = script.tree(BLOCK)
+        script.map(block, root[1], block[1])
+        script.replace(root[1][0], *words(script, "x"))
+        script.replace(root[1], block)
+        self.assertEqual(str(script).split("\n")[3], "map T1 R/1 T1/1")
+        self.assertEqual(script.finish(), Edit("({x}, 2)", ((1,),), {}))
+
+    def test_insert(self):
+        script, root = begun()
+        a, b, c, d, e = words(script, "a", "b", "c", "d", "e")
+        script.insert(Position.first(root), a)
+        script.insert(Position.last(root), b)
+        script.insert(Position.before(root[2]), c)
+        script.insert(Position.after(root[4]), d, e)
+        self.assertEqual(
+            str(script).split("\n")[3:7],
+            ["insert first R T1/0", "insert last R T1/1", "insert before R/2 T1/2", "insert after R/4 T1/3 T1/4"],
+        )
+        # a ( 1 c , ' ' 2 d e ) b
+        self.assertEqual(script.finish(), Edit("a(1c, 2de)b", ((0,), (3,), (7,), (8,), (10,)), {}))
+
+    def test_delete(self):
+        script, root = begun()
+        script.delete(root[1])
+        self.assertEqual(script.finish(), Edit("(, 2)", (), {}))
+
+    def test_replace(self):
+        script, root = begun()
+        a, b, c = words(script, "a", "b", "c")
+        script.replace(root[1], a)
+        script.replace(root[3])
+        script.replace(root[4], b, c)
+        self.assertEqual(str(script).split("\n")[3:6], ["replace R/1 T1/0", "replace R/3", "replace R/4 T1/1 T1/2"])
+        self.assertEqual(script.finish(), Edit("(a,bc)", ((1,), (3,), (4,)), {}))
+
+    def test_range(self):
+        script, root = begun()
+        a, b = words(script, "a", "b")
+        script.range(root[0], root[1], a, b)
+        script.range(root[3], root[4])
+        self.assertEqual(str(script).split("\n")[3:5], ["range R/0 R/1 T1/0 T1/1", "range R/3 R/4"])
+        self.assertEqual(script.finish(), Edit("ab,)", ((0,), (1,)), {}))
+
+    def test_note(self):
+        script, root = begun()
+        (new,) = words(script, "x")
+        script.note("number", root[4][0])
+        script.note("gone", root[1])
+        script.note("root", root)
+        script.note("number", new)
+        script.delete(root[1])
+        script.insert(Position.first(root), new)
+        notes = {"number": ((4, 0), (0,)), "gone": (), "root": ((),)}
+        self.assertEqual(script.finish(), Edit("x(, 2)", ((0,),), notes))
+
+    def test_remove(self):
+        script, root = begun()
+        script.remove(root[1], Kind.COMMA)
+        self.assertEqual(str(script).split("\n")[2], "remove R/1 COMMA")
+        self.assertEqual(script.finish(), Edit("(2)", (), {}))
+
+    def test_order(self):
+        script, root = begun()
+        a, b = words(script, "a", "b")
+        script.insert(Position.first(root), a)
+        script.insert(Position.first(root), b)
+        script.order(1, 0)
+        self.assertEqual(str(script).split("\n")[5], "order 1 0")
+        self.assertEqual(script.finish(), Edit("ab(1, 2)", ((0,), (1,)), {}))
+
+    def test_finish(self):
+        script, _ = begun()
+        script.finish()
+        self.assertTrue(bytes(script).endswith(b"edit R T0\nfinish\n"))
+
+
+class Refusals(unittest.TestCase):
+    def assert_refused(self, script, refusal, changes=(), line=None):
+        with self.assertRaises(Refused) as caught:
+            script.finish()
+        error = caught.exception
+        self.assertEqual((error.refusal, error.changes), (refusal, changes))
+        # The line that is refused is the last one, unless another is named.
+        line = line or str(script).count("\n")
+        self.assertTrue(str(error).startswith(f"line {line}: "), str(error))
+        self.assertEqual(str(error), error.sentence)
+
+    def test_foreign(self):
+        script, _ = begun()
+        other = script.tree(ARGUMENTS)
+        script.delete(other[0])
+        self.assert_refused(script, Refusal.FOREIGN, line=4)
+
+    def test_bad_range(self):
+        script, root = begun()
+        script.range(root[1], root[0])
+        self.assert_refused(script, Refusal.BAD_RANGE, line=3)
+
+    def test_deletes_root(self):
+        script, root = begun()
+        script.delete(root)
+        self.assert_refused(script, Refusal.DELETES_ROOT, line=3)
+
+    def test_root_replacement(self):
+        script, root = begun()
+        script.replace(root, *words(script, "x"))
+        self.assert_refused(script, Refusal.ROOT_REPLACEMENT, line=4)
+
+    def test_not_a_child(self):
+        script, root = begun()
+        block = script.tree(node(Kind.STMT_LIST, BLOCK))
+        script.map(block, root[1], block[0][1])
+        self.assert_refused(script, Refusal.NOT_A_CHILD, line=4)
+
+    def test_not_younger(self):
+        script, root = begun()
+        block = script.tree(BLOCK)
+        script.map(root, block[1], root[1])
+        self.assert_refused(script, Refusal.NOT_YOUNGER, line=4)
+
+    def test_other_shape(self):
+        script, root = begun()
+        block = script.tree(BLOCK)
+        script.map(block, root, block[1])
+        self.assert_refused(script, Refusal.OTHER_SHAPE, line=4)
+
+    def test_intersecting(self):
+        script, root = begun()
+        script.delete(root[3])
+        script.replace(root[1], *words(script, "x"))
+        script.range(root[1], root[2])
+        self.assert_refused(script, Refusal.INTERSECTING, (1, 2))
+
+    def test_missing_mapping(self):
+        script, root = begun()
+        script.replace(root[1], script.tree(BLOCK))
+        script.replace(root[1][0], *words(script, "x"))
+        self.assert_refused(script, Refusal.MISSING_MAPPING, (1, 0))
+
+    def test_not_each_once(self):
+        script, root = begun()
+        script.delete(root[1])
+        script.order(0, 0)
+        self.assert_refused(script, Refusal.NOT_EACH_ONCE)
+
+    def test_owner_too_early(self):
+        script, root = begun()
+        block = script.tree(BLOCK)
+        script.map(block, root[1], block[1])
+        script.replace(root[1][0], *words(script, "x"))
+        script.replace(root[1], block)
+        script.order(1, 0)
+        self.assert_refused(script, Refusal.OWNER_TOO_EARLY)
+
+    def test_gap_out_of_order(self):
+        script, root = begun()
+        a, b = words(script, "a", "b")
+        script.insert(Position.first(root), a)
+        script.insert(Position.first(root), b)
+        script.order(0, 1)
+        self.assert_refused(script, Refusal.GAP_OUT_OF_ORDER)
+
+    def test_token_too_early(self):
+        script, root = begun()
+        a, b = words(script, "a", "b")
+        script.replace(root[2], a)
+        script.insert(Position.after(root[2]), b)
+        script.order(0, 1)
+        self.assert_refused(script, Refusal.TOKEN_TOO_EARLY)
+
+    def test_too_long(self):
+        # 10,000 copies of 500,000 bytes are more than 4,294,967,295.
+        script, root = begun(node(Kind.SOURCE_FILE, token(Kind.IDENT, "x" * 500000)))
+        script.insert(Position.last(root), *[root[0]] * 10000)
+        self.assert_refused(script, Refusal.TOO_LONG)
+
+    def test_the_enum_has_all_that_the_page_names(self):
+        page = (ROOT / "docs/SCRIPTS.md").read_text(encoding="utf-8")
+        table = page.split("| refusal |")[1].split("\n\n")[0]
+        names = [name for row in table.split("\n")[2:] for name in re.findall(r"`([A-Z]\w+)", row.split("|")[1])]
+        self.assertEqual(sorted(names), sorted(refusal.value for refusal in Refusal))
+
+
+class Mistakes(unittest.TestCase):
+    """What isn't a refusal: lines that are bad, and what the builder finds itself."""
+
+    def assert_bad(self, script, line):
+        with self.assertRaises(BadScript) as caught:
+            script.finish()
+        self.assertEqual(caught.exception.line, line)
+        self.assertTrue(caught.exception.sentence)
+        self.assertEqual(str(caught.exception), caught.exception.sentence)
+
+    def test_lines_in_the_wrong_place(self):
+        script = Script()
+        script.delete(script.tree(ARGUMENTS)[0])
+        self.assert_bad(script, 2)
+        script, root = begun()
+        script.edit(root)
+        self.assert_bad(script, 3)
+        script, _ = begun()
+        script.order()
+        script.order()
+        self.assert_bad(script, 4)
+        script, _ = begun()
+        script.finish()
+        self.assert_bad(script, 4)
+
+    def test_elements_in_the_wrong_place(self):
+        script, root = begun()
+        script.insert(Position.before(root), root[0])
+        self.assert_bad(script, 3)
+        script, root = begun()
+        script.insert(Position.first(root[0]), root[0])
+        self.assert_bad(script, 3)
+        script, root = begun()
+        script.delete(root[0])
+        script.order(-1)
+        self.assert_bad(script, 4)
+
+    def test_a_tree_that_is_too_deep(self):
+        tree = node(Kind.TUPLE_EXPR)
+        for _ in range(199):
+            tree = node(Kind.TUPLE_EXPR, tree)
+        begun(tree)[0].finish()
+        self.assert_bad(begun(node(Kind.TUPLE_EXPR, tree))[0], 1)
+        for _ in range(5000):
+            tree = node(Kind.TUPLE_EXPR, tree)
+        self.assert_bad(begun(tree)[0], 1)
+
+    def test_a_script_that_is_too_long(self):
+        self.assert_bad(begun(node(Kind.SOURCE_FILE, token(Kind.IDENT, "x" * 1048576)))[0], 0)
+
+    def test_elements_of_another_script(self):
+        script, _ = begun()
+        _, other = begun()
+        for record in (script.delete, script.edit):
+            with self.assertRaises(ValueError):
+                record(other)
+        with self.assertRaises(ValueError):
+            script.insert(Position.first(other), script.tree(ARGUMENTS))
+
+    def test_children_that_are_not_there(self):
+        _, root = begun()
+        for element, number in ((root, 6), (root, -1), (root[0], 0)):
+            with self.assertRaises(IndexError):
+                element[number]
+
+    def test_what_would_be_other_lines(self):
+        script, root = begun()
+        for word in ("a b", "a\ndelete R/0", "a\n", "", "1a", "é", "a" * 33):
+            with self.assertRaises(ValueError):
+                script.note(word, root)
+        with self.assertRaises(ValueError):
+            token(Kind.IDENT, "\ud800")
+        for make in (lambda: token("IDENT", "a"), lambda: node("NAME"), lambda: node(Kind.NAME, "a")):
+            with self.assertRaises(TypeError):
+                make()
+        for make in (lambda: script.remove(root[1], "COMMA"), lambda: script.tree(token(Kind.IDENT, "a"))):
+            with self.assertRaises(TypeError):
+                make()
+        self.assertEqual(script.finish(), Edit("(1, 2)", (), {}))
+
+
+class Texts(unittest.TestCase):
+    def test_each_character_comes_back(self):
+        characters = [chr(code) for code in range(0x300)] + ["\u2028", "\u2029", "\ufeff", "\uffff", "\U0010ffff"]
+        for text in characters + ["\\n", '\\"', '"\n\\', " a ", 'x")\nfinish\n']:
+            script, root = begun(node(Kind.SOURCE_FILE, token(Kind.COMMENT, text)))
+            script.insert(Position.last(root), root[0])
+            self.assertEqual(script.finish().text, 2 * text)
+
+    def test_escapes(self):
+        script = Script()
+        script.tree(node(Kind.NAME, token(Kind.COMMENT, 'a\n\r\t"\\\x0b')))
+        self.assertEqual(str(script), 'tree T0 (NAME COMMENT"a\\n\\r\\t\\"\\\\\x0b")\n')
+
+    def test_each_kind_is_one_of_the_sources(self):
+        source = (ROOT / "crates/green_tree/src/kind.rt").read_text(encoding="utf-8")
+        names = re.findall(r'^    "(\w+)",$', source, flags=re.M)
+        self.assertEqual([kind.value for kind in Kind], names)
+        self.assertEqual([kind.name for kind in Kind], names)
+        for kind in Kind:
+            self.assertEqual(begun(node(kind, token(kind, kind.value)))[0].finish().text, kind.value)
+
+
+class Calls(unittest.TestCase):
+    def test_an_answer_that_needs_more_room(self):
+        script, root = begun(node(Kind.SOURCE_FILE, token(Kind.IDENT, "x" * 100000)))
+        script.insert(Position.last(root), *[root[0]] * 100)
+        self.assertEqual(script.finish().text, "x" * 10100000)
+
+    def test_a_sentence_that_needs_more_room(self):
+        said = explain(b"no")
+        self.assertTrue(said.startswith('line 1, column 1, at "no": '), said)
+        with mock.patch.object(_library, "SENTENCE_ROOM", 1):
+            self.assertEqual(explain(b"no"), said)
+
+    def test_only_bytes_are_a_script(self):
+        for script in (None, "finish", bytearray(b"finish")):
+            with self.assertRaises(TypeError):
+                run(script)
+
+    def test_no_memory(self):
+        with mock.patch.object(_edit, "run", return_value=(Status.FAILED, b"")):
+            with self.assertRaises(Failed):
+                begun()[0].finish()
+
+    def test_no_library(self):
+        with mock.patch.dict("os.environ", SYNED_LIB=str(ROOT / "docs")):
+            with self.assertRaisesRegex(NoLibrary, "bash bindings/build.sh"):
+                run(b"")
+
+    def test_a_library_that_is_none(self):
+        with tempfile.TemporaryDirectory() as folder:
+            (Path(folder) / "libsyned.so").write_bytes(b"no library")
+            with mock.patch.dict("os.environ", SYNED_LIB=folder):
+                with self.assertRaisesRegex(NoLibrary, "can't be loaded .* `bash bindings/build.sh` makes it anew"):
+                    run(b"")
+
+    def test_a_folder_for_the_library(self):
+        with mock.patch.dict("os.environ", SYNED_LIB=str(ROOT / "bindings/out")):
+            self.assertEqual(run(b"")[0], Status.BAD_SCRIPT)
+
+    def test_one_class_of_errors(self):
+        for error in (Refused, BadScript, Failed, NoLibrary):
+            self.assertTrue(issubclass(error, SynedError))
+
+
+if __name__ == "__main__":
+    unittest.main()
