@@ -86,9 +86,6 @@ const LIST: &str =
 pub(crate) fn example(alloc: Global) -> Result<String> {
     let mut ids = TreeIds::new(1);
     let list = read_root(alloc, &mut ids, LIST)?;
-    Ok(
-        rearrange_edit(alloc, &mut ids, list)?
-            .new_root()
-            .text(alloc)?,
-    )
+    let edit = rearrange_edit(alloc, &mut ids, list)?;
+    Ok(edit.new_root().text(alloc)?)
 }
