@@ -61,15 +61,27 @@ fn swapped(
 const LIST: &str =
     r#"(STMT_LIST (BLOCK_EXPR L_CURLY"{" (NAME_REF IDENT"a") R_CURLY"}") WHITESPACE" " (BLOCK_EXPR L_CURLY"{" (LITERAL INT_NUMBER"1") PLUS"+" (NAME_REF IDENT"a") R_CURLY"}"))"#;
 
+fn first_edit(alloc: Global, ids: &mut TreeIds, blocks: SyntaxAnnotation) -> Result<SyntaxEdit> {
+    let root = read_root(alloc, ids, LIST)?;
+    let new = read_root(alloc, ids, r#"(NAME_REF IDENT"total")"#)?;
+    renamed(alloc, ids, root, &new, blocks)
+}
+
+fn text_of_swapped(
+    alloc: Global,
+    ids: &mut TreeIds,
+    edit: &SyntaxEdit,
+    blocks: SyntaxAnnotation,
+) -> Result<String> {
+    let edit = swapped(alloc, ids, edit, blocks)?;
+    Ok(edit.new_root().text(alloc)?)
+}
+
 /// The new text of the two blocks.
 pub(crate) fn example(alloc: Global) -> Result<String> {
     let mut ids = TreeIds::new(1);
-    let root = read_root(alloc, &mut ids, LIST)?;
-    let new = read_root(alloc, &mut ids, r#"(NAME_REF IDENT"total")"#)?;
-    let blocks = Annotations::new(1)
-        .next()
-        .ok_or(anyhow!("an annotation is left"))?;
-    let edit = renamed(alloc, &mut ids, root, &new, blocks)?;
-    let edit = swapped(alloc, &mut ids, &edit, blocks)?;
-    Ok(edit.new_root().text(alloc)?)
+    let blocks = Annotations::new(1).next();
+    let blocks = blocks.ok_or(anyhow!("an annotation is left"))?;
+    let edit = first_edit(alloc, &mut ids, blocks)?;
+    text_of_swapped(alloc, &mut ids, &edit, blocks)
 }

@@ -88,6 +88,31 @@ fn put_in(
     Ok(())
 }
 
+// Puts the lines of a group at the end, and answers how many there are then.
+fn add_group(
+    alloc: Global,
+    wanted: &mut Vec<SyntaxNode>,
+    lines: &[SyntaxNode],
+    group: Group,
+) -> Result<usize> {
+    let sorted = sorted(alloc, lines, group)?;
+    put_in(alloc, wanted, &sorted)?;
+    Ok(wanted.len())
+}
+
+fn organise_lines(
+    alloc: Global,
+    ids: &mut TreeIds,
+    editor: &mut SyntaxEditor,
+    lines: &[SyntaxNode],
+) -> Result<()> {
+    let mut wanted = Vec::new(alloc);
+    let first_of_others = add_group(alloc, &mut wanted, lines, Group::Std)?;
+    add_group(alloc, &mut wanted, lines, Group::Others)?;
+    rearrange(alloc, editor, lines, &wanted)?;
+    part(alloc, ids, editor, lines, first_of_others)
+}
+
 fn organise(
     alloc: Global,
     ids: &mut TreeIds,
@@ -95,12 +120,7 @@ fn organise(
     root: &SyntaxNode,
 ) -> Result<()> {
     let lines = root.descendants_of_kind(alloc, SyntaxKind::USE)?;
-    let mut wanted = Vec::new(alloc);
-    put_in(alloc, &mut wanted, &sorted(alloc, &lines, Group::Std)?)?;
-    let first_of_others = wanted.len();
-    put_in(alloc, &mut wanted, &sorted(alloc, &lines, Group::Others)?)?;
-    rearrange(alloc, editor, &lines, &wanted)?;
-    part(alloc, ids, editor, &lines, first_of_others)
+    organise_lines(alloc, ids, editor, &lines)
 }
 
 fn organised(alloc: Global, ids: &mut TreeIds, root: SyntaxNode) -> Result<EditPlan> {

@@ -13,10 +13,15 @@ fn print_edits(out: &mut String, edits: &[TextEdit]) -> Result<()> {
     Ok(())
 }
 
+fn new_text(alloc: Global, ids: &mut TreeIds, plan: &EditPlan) -> Result<String> {
+    let edit = plan.run_with(alloc, ids, &mut OnePassEngine::new(alloc))?;
+    Ok(edit.new_root().text(alloc)?)
+}
+
 /// The new text, and then the edits that make it of the old one, as a language server takes them.
 pub(crate) fn text_and_edits(alloc: Global, ids: &mut TreeIds, plan: &EditPlan) -> Result<String> {
-    let edit = plan.run_with(alloc, ids, &mut OnePassEngine::new(alloc))?;
-    let mut out = edit.new_root().text(alloc)?;
-    print_edits(&mut out, &plan.text_edits(alloc)?)?;
+    let mut out = new_text(alloc, ids, plan)?;
+    let edits = plan.text_edits(alloc)?;
+    print_edits(&mut out, &edits)?;
     Ok(out)
 }

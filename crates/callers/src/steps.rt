@@ -1,30 +1,32 @@
 //! Merges what two assists recorded for one tree, and carries it out one change at a time: the text is printed after each.
 
 use anyhow::{Context, Result, anyhow};
-use cst_core::{SyntaxKind, SyntaxNode, TreeIds};
+use cst_core::{SyntaxNode, TreeIds};
 use std::alloc::Global;
 use syntax_editor::{EditPlan, EditRun, SyntaxEditor};
 use tree_text::read_root;
 
-// Both edit the root as it is, and so the same tree.
+// All editors of one root edit it as it is, and so the same tree.
 fn editor_of(alloc: Global, ids: &mut TreeIds, root: &SyntaxNode) -> Result<SyntaxEditor> {
     let (editor, _) = SyntaxEditor::new(alloc, ids, root.try_clone(alloc)?)?;
     Ok(editor)
 }
 
-fn first_assist(alloc: Global, ids: &mut TreeIds, root: &SyntaxNode) -> Result<SyntaxEditor> {
-    let mut editor = editor_of(alloc, ids, root)?;
-    let literal = root.first_child(alloc)?.context("an argument is wanted")?;
-    editor.delete(alloc, literal)?;
-    Ok(editor)
+fn first_assist(alloc: Global, editor: &mut SyntaxEditor, root: &SyntaxNode) -> Result<()> {
+    let argument = root.first_child(alloc)?;
+    editor.delete(alloc, argument.context("an argument is wanted")?)?;
+    Ok(())
 }
 
-fn second_assist(alloc: Global, ids: &mut TreeIds, root: &SyntaxNode) -> Result<SyntaxEditor> {
-    let mut editor = editor_of(alloc, ids, root)?;
-    let last = root.last_child(alloc)?.context("an argument is wanted")?;
-    let new = read_root(alloc, ids, r#"(NAME_REF IDENT"two")"#)?;
-    editor.replace(alloc, last, new)?;
-    Ok(editor)
+fn second_assist(
+    alloc: Global,
+    editor: &mut SyntaxEditor,
+    root: &SyntaxNode,
+    new: &SyntaxNode,
+) -> Result<()> {
+    let argument = root.last_child(alloc)?;
+    editor.replace(alloc, argument.context("an argument is wanted")?, new)?;
+    Ok(())
 }
 
 fn merge(alloc: Global, first: &mut SyntaxEditor, second: SyntaxEditor) -> Result<()> {
@@ -37,10 +39,27 @@ fn merge(alloc: Global, first: &mut SyntaxEditor, second: SyntaxEditor) -> Resul
     }
 }
 
-fn merged(alloc: Global, ids: &mut TreeIds, root: &SyntaxNode) -> Result<EditPlan> {
-    let mut first = first_assist(alloc, ids, root)?;
-    let second = second_assist(alloc, ids, root)?;
-    merge(alloc, &mut first, second)?;
+fn add_second(
+    alloc: Global,
+    ids: &mut TreeIds,
+    first: &mut SyntaxEditor,
+    root: &SyntaxNode,
+    new: &SyntaxNode,
+) -> Result<()> {
+    let mut second = editor_of(alloc, ids, root)?;
+    second_assist(alloc, &mut second, root, new)?;
+    merge(alloc, first, second)
+}
+
+fn merged(
+    alloc: Global,
+    ids: &mut TreeIds,
+    root: &SyntaxNode,
+    new: &SyntaxNode,
+) -> Result<EditPlan> {
+    let mut first = editor_of(alloc, ids, root)?;
+    first_assist(alloc, &mut first, root)?;
+    add_second(alloc, ids, &mut first, root, new)?;
     Ok(first.plan(alloc)?)
 }
 
@@ -58,14 +77,18 @@ fn step_texts(alloc: Global, plan: &EditPlan) -> Result<String> {
     Ok(out)
 }
 
-/// The text after each change.
+const LIST: &str =
+    r#"(ARG_LIST L_PAREN"(" (LITERAL INT_NUMBER"1") COMMA"," (LITERAL INT_NUMBER"2") R_PAREN")")"#;
+
+fn example_plan(alloc: Global, ids: &mut TreeIds) -> Result<EditPlan> {
+    let root = read_root(alloc, ids, LIST)?;
+    let new = read_root(alloc, ids, r#"(NAME_REF IDENT"two")"#)?;
+    merged(alloc, ids, &root, &new)
+}
+
+/// The text before all changes and after each.
 pub(crate) fn example(alloc: Global) -> Result<String> {
     let mut ids = TreeIds::new(1);
-    let root = read_root(
-        alloc,
-        &mut ids,
-        r#"(ARG_LIST L_PAREN"(" (LITERAL INT_NUMBER"1") COMMA"," (LITERAL INT_NUMBER"2") R_PAREN")")"#,
-    )?;
-    let plan = merged(alloc, &mut ids, &root)?;
+    let plan = example_plan(alloc, &mut ids)?;
     step_texts(alloc, &plan)
 }
