@@ -1,2 +1,3 @@
 mod Arguments
 mod Depths
+mod Wrapped
