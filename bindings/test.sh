@@ -17,6 +17,27 @@ test_c() {
     [ "$("$rows/first" '(1, 21, 1)')" = '(one, 21, one)' ] || { echo 'c: examples/first.c prints something else' && exit 1; }
 }
 
+# The example with each of its allocations made to fail: it prints all of its answer, or nothing and ends with status 3.
+refuse_each() {
+    local growth status
+    cc -O1 -shared -fPIC -o "$rows/refuse.so" tests/refuse_growth.c -ldl
+    for ((growth = 1; growth <= 5000; growth++)); do
+        status=0
+        REFUSE_GROWTH=$growth LD_PRELOAD=$rows/refuse.so "$rows/first" '(1, 21, 1)' >"$rows/out" 2>"$rows/err" || status=$?
+        case $status in
+        0) [ "$(cat "$rows/out")" = '(one, 21, one)' ] ;;
+        3) [ ! -s "$rows/out" ] ;;
+        *) false ;;
+        esac || { echo "c: with allocation $growth failed: status $status" && exit 1; }
+        if ! grep -q '^growth refused' "$rows/err"; then
+            echo "c: failed allocations: $((growth - 1)), each answered"
+            return
+        fi
+    done
+    echo 'c: more than 5000 allocations' && exit 1
+}
+
 test_c
+refuse_each
 SYNED_ROWS=$rows bash bindings/rust/test.sh
 SYNED_ROWS=$rows bash bindings/python/test.sh

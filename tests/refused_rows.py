@@ -40,7 +40,11 @@ EXCEPT = {
     "OnePassEngine::starting_at": "asks for nothing",
     "SpliceEngine::new": "asks for nothing",
     "KindNames::new": "keeps the allocator, and asks for nothing",
-    "run": "is the whole of the program `syned`, which tests/refuse_growths.sh runs with each allocation made to fail",
+    "run_explained": "is the whole of the program `syned`, which tests/refuse_growths.sh runs with each allocation made to fail",
+    "run": "is `run_explained` without the sentence",
+    "explain": "makes the sentence of `run_explained`",
+    "answer_into": "is a call for other languages, which bindings/test.sh makes with each allocation made to fail",
+    "explain_into": "is such a call, too",
     "carry_out": "is what `run` carries a script out by",
     "record_script": "is for tests alone; it records by the calls that `carry_out` makes",
 }
