@@ -2,8 +2,8 @@
 """Scripts with what `syned` makes of them, for the tests of the bindings.
 
     scripts.py FOLDER    writes NUMBER.script, NUMBER.answer (what `syned` prints), NUMBER.said (its line on the standard error, without the
-                         newline) and NUMBER.status for each script of tests/scripts/*.table, each fourth one of tests/corpus, and for
-                         damaged ones"""
+                         newline) and NUMBER.status for each script of tests/scripts, each fourth one of tests/corpus, and for damaged
+                         ones"""
 import random
 import subprocess
 import sys
@@ -16,9 +16,36 @@ import tables
 DAMAGED = 300
 
 
+OPENING = """tree A (ARG_LIST L_PAREN"(" (LITERAL INT_NUMBER"1") COMMA"," WHITESPACE" " (LITERAL INT_NUMBER"2") R_PAREN")")
+edit R A
+tree U (SOURCE_FILE UNDERSCORE"_")
+"""
+
+
+def with_lines():
+    """The scripts with one line each that tests/scripts.sh makes."""
+    forms = {
+        "bad_lines.txt": OPENING + "{}\nfinish\n",
+        "good_lines.txt": OPENING + "{}\nfinish\n",
+        "bad_first_lines.txt": "{}\nfinish\n",
+        "bad_ends.txt": OPENING + "finish\n\n{}\nno\n",
+    }
+    for name, form in forms.items():
+        for line in (ROOT / "tests/scripts" / name).read_text().splitlines():
+            yield form.replace("{}", line)
+
+
+def explained():
+    """The scripts of tests/scripts/explained.txt."""
+    for row in (ROOT / "tests/scripts/explained.txt").read_text().split("== ")[1:]:
+        yield row.split("\n", 1)[1].split("-- answer")[0]
+
+
 def scripts():
     """The bytes of all scripts that are whole."""
     for script, _ in tables.table_rows().values():
+        yield script.encode()
+    for script in (*with_lines(), *explained()):
         yield script.encode()
     for answer in sorted(ROOT.glob("tests/corpus/*/*.stdout"))[::4]:
         yield answer.with_suffix("").read_bytes()
