@@ -43,6 +43,7 @@ EXCEPT = {
     "run_explained": "is the whole of the program `syned`, which tests/refuse_growths.sh runs with each allocation made to fail",
     "run": "is `run_explained` without the sentence",
     "explain": "makes the sentence of `run_explained`",
+    "Stopped::explanation": "makes it for a script that ended",
     "answer_into": "is a call for other languages, which bindings/test.sh makes with each allocation made to fail",
     "explain_into": "is such a call, too",
     "carry_out": "is what `run` carries a script out by",
