@@ -23,17 +23,16 @@ START = re.compile(r"^(\s*)(?:abbrev |unfoldable )?(?:pub )?(?:(record|data) )?(
 TABLE = {"named_kinds"}
 NAME_ROW = re.compile(r'^\w+_error_name (.*) = codes "\w+"$')
 # What only a user of scripts has to believe; the other libraries are the editor's.
-SCRIPTS = {"tree_text", "syned_script", "syned_run"}
+SCRIPTS = {"tree_text", "script_lines", "syned_script", "syned_run"}
 MOST_OF_EDITOR = 1500
-MOST_OF_SCRIPTS = 350
+MOST_OF_SCRIPTS = 550
 
 
 class Definition:
     """A definition of a spec file: its crate, file, name, and lines."""
 
-    def __init__(self, file, name):
-        self.file, self.name, self.lines = file, name, []
-        self.crate = file.relative_to(ROOT / "crates").parts[0]
+    def __init__(self, crate, file, name):
+        self.crate, self.file, self.name, self.lines = crate, file, name, []
         self.is_inner = "inner" in file.parts
         self.leads_to = set()
 
@@ -44,7 +43,7 @@ class Definition:
 class Spec:
     """A spec file: its definitions by name, the forms of its data by their definition, and what it imports."""
 
-    def __init__(self, file):
+    def __init__(self, crate, file):
         self.file, self.definitions, self.parts, self.imported, self.modules = file, {}, {}, {}, {}
         current = None
         for line in file.read_text().splitlines():
@@ -60,7 +59,7 @@ class Spec:
                 continue
             start = START.match(line)
             if start and (current is None or self.is_new(line, start, current)):
-                current = Definition(file, start.group(3))
+                current = Definition(crate, file, start.group(3))
                 current.indent, current.kind = len(start.group(1)), start.group(2)
                 self.definitions[current.name] = current
             elif current and current.kind == "data":
@@ -86,13 +85,13 @@ class Spec:
 class Specs:
     """All spec files of the libraries, by crate and module."""
 
-    def __init__(self):
+    def __init__(self, root=ROOT):
         self.files, self.again = {}, {}
-        for crate in public_calls.libraries(ROOT):
-            folder = ROOT / "crates" / crate / "specs"
+        for crate in public_calls.libraries(root):
+            folder = root / "crates" / crate / "specs"
             for file in folder.rglob("*.antt"):
                 if file.stem not in ("Lib", "inner"):
-                    self.files[crate, ".".join(file.relative_to(folder).with_suffix("").parts)] = Spec(file)
+                    self.files[crate, ".".join(file.relative_to(folder).with_suffix("").parts)] = Spec(crate, file)
             for again in re.finditer(r"^pub use Rattle\.(\w+)\.specs\.([\w.]+?)(?: as (\w+))?$", (folder / "Lib.antt").read_text(), re.M):
                 self.again[crate, again.group(3) or again.group(2).split(".")[-1]] = (again.group(1), again.group(2))
 
@@ -108,7 +107,7 @@ class Specs:
     def named(self, text, imported, modules, own=None):
         """The definitions that a text names."""
         found = set()
-        for word in WORD.findall(text):
+        for word in [given for word in WORD.findall(text) for given in (word, f"◌{word}◌")]:
             if own and word in own.definitions:
                 found.add(own.definitions[word])
             elif own and word in own.parts:
@@ -152,12 +151,13 @@ def public_texts():
 
 def reached(specs):
     """The definitions that public clauses reach; each with one that leads to it, or None."""
-    from_where, waiting = {}, []
-    for text, uses in public_texts():
-        for found in specs.named(text, *uses):
-            if found not in from_where:
-                from_where[found] = None
-                waiting.append(found)
+    return reached_from(specs, [found for text, uses in public_texts() for found in specs.named(text, *uses)])
+
+
+def reached_from(specs, first):
+    """These definitions and those that they name, directly or through others; each with one that leads to it, or None."""
+    from_where = dict.fromkeys(first)
+    waiting = list(from_where)
     while waiting:
         definition = waiting.pop()
         spec = next(spec for spec in specs.files.values() if spec.file == definition.file)

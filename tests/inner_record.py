@@ -1,13 +1,18 @@
-"""The record of tests/inner_bugs.sh: over which files the inner planted bugs (crates/NAME/must-fail-inner) were last refused.
+"""The record of tests/inner_bugs.sh: over what each inner planted bug (crates/NAME/must-fail-inner) was last refused.
 
-tests/inner_bugs.txt begins with the kit. Then come a line for each crate, with its name and a checksum of all that its bugs are tried over
-(its sources, definitions and proofs, and the sources and definitions of all libraries below it), and a line for each bug, with its crate,
-its name and a checksum of its file. tests/planted_bugs.txt has the number of all planted bugs, those of the gate too.
+tests/inner_bugs.txt begins with the kit. Then comes a line for each bug, with its crate, its name, and a checksum of the bug and of all that
+it is tried over. tests/planted_bugs.txt has the number of all planted bugs, those of the gate too.
 
-    inner_record.py lines FOLDER CRATE..     prints the lines of these crates of a copy of the repository
+A bug is tried over the source file that it edits, the proofs of the calls in that file with the lemmas that these cite, and over what the
+prover knows there of other files and crates: the clauses of the calls that the file names, the types that these name, and each definition
+that one of these or a proof names, directly or through others. The body of a call in another file is no part of it: a call is proved by the
+clauses of those that it makes, and the kit shows a crate those below it without code.
+
+    inner_record.py lines FOLDER CRATE..     prints the lines of these crates' bugs of a copy of the repository
     inner_record.py write                    puts such lines, from standard input, in the record
+    inner_record.py stale CRATE..            prints the bugs of these crates that the record lacks, CRATE/NAME
     inner_record.py needed CRATE..           prints these crates and all libraries below them
-    inner_record.py sample COMMIT            prints 24 inner planted bugs of as few crates, CRATE/NAME, chosen by a commit's hash
+    inner_record.py sample COMMIT            prints 16 inner planted bugs of as few crates, CRATE/NAME, chosen by a commit's hash
 """
 
 import hashlib
@@ -16,10 +21,13 @@ import subprocess
 import sys
 from pathlib import Path
 
+import believed
+import public_calls
+
 ROOT = Path(__file__).resolve().parent.parent
 RECORD = ROOT / "tests/inner_bugs.txt"
 COUNT = ROOT / "tests/planted_bugs.txt"
-SAMPLE = 24
+SAMPLE = 16
 
 
 def crates_with_bugs(root):
@@ -30,38 +38,166 @@ def bugs_of(root, crate):
     return sorted((root / "crates" / crate / "must-fail-inner").glob("*.edit"))
 
 
-def crates_below(root, crate):
-    """The libraries of the repository that a crate stands on, whether it names them or not."""
+def uses_of(root):
+    """The crates that each crate names."""
     lines = (root / "crates.txt").read_text().splitlines()
     parts = (line.split(":") for line in lines if ":" in line and not line.startswith("#"))
-    named = {name.split()[0]: uses for name, uses in parts}
+    return {name.split()[0]: uses.split() for name, uses in parts}
+
+
+def crates_below(root, crate):
+    """The libraries of the repository that a crate stands on, whether it names them or not."""
+    named = uses_of(root)
     below, waiting = set(), [crate]
     while waiting:
-        for name in named[waiting.pop()].split():
+        for name in named[waiting.pop()]:
             if name in named and name not in below:
                 below.add(name)
                 waiting.append(name)
     return sorted(below)
 
 
-def checksum(file):
-    return hashlib.sha256(file.read_bytes()).hexdigest()
+WORD = re.compile(r"\w+")
+CALL = re.compile(r"^ *(?:pub(?:\([^)]*\))? )?fn (\w+)", re.M)
+ITEM = re.compile(r"^(?:pub(?:\([^)]*\))? )?(?:struct|enum|const) (\w+)[^{;]*(?:;|\{.*?^\})", re.M | re.S)
+USE = re.compile(r"^(?:pub )?use (\w[^;]*);", re.M)
+GHOST = re.compile(r"^    ghost (?!use |laws|respects_eq)([^;]*);", re.M)
+# What is hidden from the crates above.
+HIDDEN = re.compile(r"\s+(?!pub )\w+:|ghost (?:invariant|coded|size)")
 
 
-def digest(root, crate):
-    folders = [f"{crate}/{folder}" for folder in ("proofs", "specs", "src")]
-    folders += [f"{name}/{folder}" for name in crates_below(root, crate) for folder in ("specs", "src")]
-    total = hashlib.sha256()
-    for folder in folders:
-        for file in sorted((root / "crates" / folder).rglob("*")):
-            if file.is_file():
-                total.update(f"{file.relative_to(root)}\n{checksum(file)}\n".encode())
-    return total.hexdigest()
+def is_called(text, call, names):
+    """Whether names that are in use allow for this call: one that takes no `self` is called by its type's name."""
+    takes_self = re.match(r"[^(]*\(\s*(?:&(?:'\w+ )?(?:mut )?|mut )?self\b", text[call.end():])
+    if takes_self or not call[0].startswith(" "):
+        return True
+    heads = re.findall(r"^(?:impl|pub trait|trait)([^{]*)", text[:call.start()], re.M)
+    return not heads or bool(names & set(WORD.findall(heads[-1])))
+
+
+class Sources:
+    """The sources of some crates, each with its crate, its path in the crate and its text."""
+
+    def __init__(self, root, crates):
+        self.files = []
+        for crate in crates:
+            folder = root / "crates" / crate
+            for file in sorted((folder / "src").rglob("*.rt")):
+                self.files.append((crate, str(file.relative_to(folder)), file.read_text()))
+        self.given = {crate: public_calls.given(crate, root) for crate in crates}
+        self.direct = set(uses_of(root)[crates[0]])
+        self.handed_on = set().union(*(self.given[crate] for crate in self.direct if crate in self.given))
+
+    def shows(self, crate, own, name):
+        """Whether a crate's type can be named in this one: it is of a crate that this one uses, or such a crate hands it on."""
+        return crate == own or (crate in self.direct and name in self.given[crate]) or name in self.handed_on
+
+    def clauses(self, names, own):
+        """The calls with one of these names: each with its clauses and the imports of its file. Those of other crates are public."""
+        for crate, file, text in self.files:
+            uses = believed.ghost_uses(text)
+            if crate == own:
+                calls = [(it[1], it[0].strip() + public_calls.contract_after(text[it.end():])) for it in CALL.finditer(text) if is_called(text, it, names)]
+            else:
+                public = public_calls.calls_in(crate, file.split("/")[-1], text)
+                shown = [it for it in public if crate in self.direct or it.owner in self.handed_on]
+                calls = [(it.name.split("::")[-1], f"{it.owner} {it.name}({it.parameters}) {it.contract}") for it in shown]
+            yield from ((f"{crate} {file}: {said}", uses) for name, said in calls if name in names)
+
+    def types(self, names, own):
+        """The types with one of these names, and what is said of them and of traits. Those of other crates have no private fields."""
+        for crate, file, text in self.files:
+            uses = believed.ghost_uses(text)
+            for item in ITEM.finditer(text):
+                if item[1] in names and self.shows(crate, own, item[1]):
+                    is_whole = crate == own or "enum " in item[0].split("{")[0]
+                    shown = [line for line in item[0].splitlines() if is_whole or not HIDDEN.match(line)]
+                    yield f"{crate} {file}: " + "\n".join(line for line in shown if not line.strip().startswith("//")), uses
+            for block in re.split(r"^(?=impl|pub trait)", text, flags=re.M)[1:]:
+                head = block.split("{")[0]
+                if any(self.shows(crate, own, word) for word in names & set(WORD.findall(head))):
+                    for ghost in GHOST.findall(block):
+                        if crate == own or not HIDDEN.match(f"ghost {ghost}"):
+                            yield f"{crate} {file}: {head}: {ghost}", uses
+
+
+def proofs_of(folder, text):
+    """The proofs of the calls in a source, and the files of lemmas that these cite, directly or through others."""
+    calls = set(CALL.findall(text)) | set(re.findall(r"#\[cycle\((\w+)\)\]", text))
+    every = sorted(folder.rglob("*.antt"))
+    waiting = [file for file in every if file.parent != folder and file.parent.name.lstrip("+") in calls]
+    found = set(waiting)
+    while waiting:
+        for module in re.findall(rf"use Rattle\.{folder.parent.name}\.proofs\.([\w.+:]+?)(?:\.\{{| as |$)", waiting.pop().read_text(), re.M):
+            file = folder / (module.replace(".", "/") + ".antt")
+            if file.exists() and file not in found:
+                found.add(file)
+                waiting.append(file)
+    return sorted(found)
+
+
+def imported(specs, text):
+    """The definitions that a text imports."""
+    uses = re.findall(r"use Rattle\.(\w+)\.specs\.([\w.]+?)(?:\.\{([^}]*)\}| as \S+)?;?$", text, re.M)
+    for crate, module, names in uses:
+        spec = specs.module(crate, module)
+        if spec and not names:
+            yield from spec.definitions.values()
+        for name in names.split(","):
+            found = specs.find(crate, module, name.strip().partition(" as ")[0])
+            if found:
+                yield found
+
+
+class Tried:
+    """What the bugs of a crate are tried over."""
+
+    def __init__(self, root, crate):
+        self.crate, self.folder = crate, root / "crates" / crate
+        self.specs = believed.Specs(root)
+        below = crates_below(root, crate)
+        self.below, self.sources = below, Sources(root, [crate, *below])
+        self.over = {}
+
+    def seen_from(self, text):
+        """What a source sees of others: texts, each with the imports of its file."""
+        called = list(self.sources.clauses(set(WORD.findall(text)), self.crate))
+        imports = [statement for statement in USE.findall(text) if WORD.match(statement)[0] in ("crate", *self.below)]
+        names = {word for seen in imports + [seen for seen, _ in called] for word in WORD.findall(seen)}
+        return called + list(self.sources.types(names, self.crate))
+
+    def file(self, name):
+        """A checksum of all that the bugs in this source are tried over."""
+        if name not in self.over:
+            text = (self.folder / name).read_text()
+            texts, named = [text], list(imported(self.specs, text))
+            for proof in proofs_of(self.folder / "proofs", text):
+                texts.append(f"{proof.relative_to(self.folder)}\n{proof.read_text()}")
+                named += imported(self.specs, proof.read_text())
+            for seen, uses in self.seen_from(text):
+                texts.append(seen)
+                named += self.specs.named(seen, *uses)
+            texts += sorted(f"{it}\n" + "\n".join(it.lines) for it in believed.reached_from(self.specs, named))
+            self.over[name] = hashlib.sha256("\n".join(texts).encode()).hexdigest()
+        return self.over[name]
+
+    def bug(self, edit):
+        text = edit.read_text()
+        files = re.findall(r"^file: (.*)$", text, re.M)
+        return hashlib.sha256("\n".join([text, *map(self.file, files)]).encode()).hexdigest()
 
 
 def lines_of(root, crate):
     """What the record says of a crate whose bugs were all refused: what was tried, and over what."""
-    return {crate: digest(root, crate)} | {f"{crate}/{bug.stem}": checksum(bug) for bug in bugs_of(root, crate)}
+    tried = Tried(root, crate)
+    return {f"{crate}/{bug.stem}": tried.bug(bug) for bug in bugs_of(root, crate)}
+
+
+def stale(root):
+    """The bugs that were not refused over the files as they are, and lines of bugs that are not there."""
+    said = recorded()[1]
+    owed = {name: line for crate in crates_with_bugs(root) for name, line in lines_of(root, crate).items()}
+    return sorted(name for name in owed.keys() | said.keys() if owed.get(name) != said.get(name))
 
 
 def kit():
@@ -77,10 +213,14 @@ def recorded():
 
 def wrong_lines(root):
     """What the record doesn't say of the files that are there, or says of others."""
-    said_kit, said = recorded()
-    owed = {name: line for crate in crates_with_bugs(root) for name, line in lines_of(root, crate).items()}
-    stale = sorted({name.split("/")[0] for name in owed.keys() | said.keys() if owed.get(name) != said.get(name)})
-    wrong = [f"{crate}: its inner planted bugs were not refused over its files as they are: bash tests/inner_bugs.sh {crate}" for crate in stale]
+    of_crates = {}
+    for name in stale(root):
+        of_crates.setdefault(name.split("/")[0], []).append(name)
+    wrong = [
+        f"{crate}: {len(names)} inner planted bugs, {names[0]} among them, were not refused over what is there: bash tests/inner_bugs.sh {crate}"
+        for crate, names in of_crates.items()
+    ]
+    said_kit = recorded()[0]
     if said_kit != kit():
         wrong.append(f"tests/inner_bugs.txt: the inner planted bugs were refused by another kit, {said_kit}")
     return wrong
@@ -118,12 +258,10 @@ def sample(root, commit):
 
 
 def write(lines):
-    new = dict(line.split() for line in lines)
-    crates = {name.split("/")[0] for name in new}
-    kept = {name: line for name, line in recorded()[1].items() if name.split("/")[0] not in crates}
-    there = crates_with_bugs(ROOT)
-    said = sorted((name, line) for name, line in (kept | new).items() if name.split("/")[0] in there)
-    RECORD.write_text(f"kit {kit()}\n" + "".join(f"{name} {line}\n" for name, line in said))
+    """Puts these lines in the place of those of the same bugs; those of bugs that went are left out."""
+    there = {f"{crate}/{bug.stem}" for crate in crates_with_bugs(ROOT) for bug in bugs_of(ROOT, crate)}
+    said = recorded()[1] | dict(line.split() for line in lines)
+    RECORD.write_text(f"kit {kit()}\n" + "".join(f"{name} {line}\n" for name, line in sorted(said.items()) if name in there))
 
 
 if __name__ == "__main__":
@@ -133,6 +271,8 @@ if __name__ == "__main__":
                 print(name, line)
     elif sys.argv[1:2] == ["write"]:
         write(sys.stdin)
+    elif sys.argv[1:2] == ["stale"]:
+        print(*(name for name in stale(ROOT) if name.split("/")[0] in sys.argv[2:]), sep="\n")
     elif sys.argv[1:2] == ["needed"]:
         print(*sorted(set(sys.argv[2:]).union(*(crates_below(ROOT, crate) for crate in sys.argv[2:]))))
     elif sys.argv[1:2] == ["sample"]:

@@ -3,7 +3,7 @@ import os
 import re
 
 # The crates that users name. They re-export some names of others; what those have besides is below the surface.
-SURFACE = ["cst_core", "edit_map", "edit_plan", "syntax_editor", "list_removal", "tree_text", "syned_script", "syned_run"]
+SURFACE = ["cst_core", "edit_map", "edit_plan", "syntax_editor", "list_removal", "tree_text", "script_lines", "syned_script", "syned_run"]
 
 ITEM = re.compile(
     r"^(?:impl(?:<[^>]*>)? (?P<type>[^\n{]*)\{"

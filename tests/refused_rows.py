@@ -47,6 +47,7 @@ EXCEPT = {
     "answer_into": "is a call for other languages, which bindings/test.sh makes with each allocation made to fail",
     "explain_into": "is such a call, too",
     "carry_out": "is what `run` carries a script out by",
+    "read_line": "is what `carry_out` reads a line by",
     "record_script": "is for tests alone; it records by the calls that `carry_out` makes",
 }
 

@@ -1,14 +1,11 @@
 //! Swaps the first two arguments of a list and deletes the third with its comma: `(1, 2, 3)` becomes `(2, 1)`.
 
 ghost use Rattle.std.specs.Prelude.{◌≡◌, ℕ, ◌+◌, cond, [], IfOk, OnOk};
-ghost use Rattle.syntax_editor.specs.Kinds.{COMMA};
-ghost use Rattle.syntax_editor.specs.ElementForms.TheVariants.{Node};
 ghost use Rattle.syntax_editor.specs.Element.{subtree};
 ghost use Rattle.syntax_editor.specs.Tree.{text};
 ghost use Rattle.syntax_editor.specs.Plan.{Edit, Makes};
 ghost use Rattle.syntax_editor.specs.RewritingLaws.{changed_text};
-ghost use Rattle.list_removal.specs.Removal.{removal};
-ghost use Rattle.syntax_editor.specs.Editor.{Editor, Records, new_editor, has_parent, plan_of};
+ghost use Rattle.syntax_editor.specs.Editor.{Editor, new_editor, has_parent, plan_of};
 ghost use Rattle.callers.specs.Rearranged.{calls, after_calls, Rearranges, IsRearranged};
 
 use anyhow::{Result, anyhow};
@@ -22,13 +19,6 @@ use syntax_editor::laws::calls_at_one_depth_own_nothing;
 use syntax_editor::{SyntaxEdit, SyntaxEditor};
 use tree_text::read_root;
 
-fn remove(alloc: Global, editor: &mut SyntaxEditor, argument: &SyntaxNode) -> Result<()>
-    ensures { OnOk result (Records (removal COMMA (Node argument.now)) editor.old editor.new) }
-{
-    let argument = SyntaxElement::Node(argument.try_clone(alloc)?);
-    Ok(remove_separated(alloc, editor, &argument, SyntaxKind::COMMA)?)
-}
-
 // Each payload is taken as it was, so neither replacement sees the other.
 fn record(
     alloc: Global,
@@ -41,7 +31,8 @@ fn record(
 {
     editor.replace(alloc, first, second)?;
     editor.replace(alloc, second, first)?;
-    remove(alloc, editor, third)
+    let third = SyntaxElement::Node(third.try_clone(alloc)?);
+    Ok(remove_separated(alloc, editor, &third, SyntaxKind::COMMA)?)
 }
 
 // `(1, 2, 3)` becomes `(2, 1)`.

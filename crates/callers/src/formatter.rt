@@ -12,17 +12,6 @@ fn block_of(alloc: Global, root: &SyntaxNode) -> Result<BlockExpr> {
     nodes.find_map(BlockExpr::cast).context("a block is wanted")
 }
 
-// `reset_indent` is `dedent` by the level that the block has.
-fn at_level(
-    alloc: Global,
-    ids: &mut TreeIds,
-    block: &BlockExpr,
-    level: IndentLevel,
-) -> Result<BlockExpr> {
-    let reset = block.reset_indent(alloc, ids)?;
-    Ok(reset.indent(alloc, ids, level)?)
-}
-
 // The whitespace before a node becomes a newline with the spaces of a level.
 fn begin_line(
     alloc: Global,
@@ -38,7 +27,7 @@ fn begin_line(
     Ok(())
 }
 
-// The block is taken from the root that the editor edits.
+// The block is taken from the root that the editor edits. `reset_indent` is `dedent` by the level that it has.
 fn format_block(
     alloc: Global,
     ids: &mut TreeIds,
@@ -47,7 +36,8 @@ fn format_block(
 ) -> Result<()> {
     let block = block_of(alloc, root)?;
     let level = IndentLevel::from(1);
-    let indented = at_level(alloc, ids, &block, level)?;
+    let reset = block.reset_indent(alloc, ids)?;
+    let indented = reset.indent(alloc, ids, level)?;
     editor.replace(alloc, block.syntax(), indented.syntax())?;
     begin_line(alloc, ids, editor, block.syntax(), level)
 }

@@ -9,3 +9,4 @@ pub mod Families
 pub mod Touched
 pub mod Levels
 pub mod Sizes
+pub mod Walks

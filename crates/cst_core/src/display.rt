@@ -1,3 +1,4 @@
+ghost use Rattle.std.specs.Prelude.{◌≡◌, [], ◌∷◌, ◌++◌, OnOk};
 ghost use Rattle.std.specs.Fmt.{WritesOnOk};
 ghost use Rattle.cst_core.specs.Debug.{node_debug};
 
@@ -5,6 +6,7 @@ use crate::element::SyntaxElement;
 use crate::node::SyntaxNode;
 use crate::token::SyntaxToken;
 use green_tree::{GreenElement, GreenNode};
+use std::alloc::{AllocError, Global};
 use std::fmt;
 
 /// Prints the node's text, as `SyntaxNode::text` gives it. Options of a format, as a width, change nothing.
@@ -86,26 +88,43 @@ fn write_node<W: fmt::Write>(node: &SyntaxNode, f: &mut fmt::Formatter<W>) -> fm
 fn write_lines<W: fmt::Write>(node: &SyntaxNode, f: &mut fmt::Formatter<W>) -> fmt::Result {
     write_node(node, f)?;
     f.write_str("\n")?;
-    write_below(&node.green, node.location.text_start(), 1, f)
+    let alloc = *node.location.path.allocator();
+    write_below(alloc, &node.green, node.location.text_start(), f)
 }
 
 // The lines of all below a node that starts at this byte. Neither sum passes its type in a tree of an element value.
 fn write_below<W: fmt::Write>(
+    alloc: Global,
     node: &GreenNode,
     start: u64,
-    level: usize,
     f: &mut fmt::Formatter<W>,
 ) -> fmt::Result {
     let mut start = start;
-    for child in node.children() {
-        f.write_repeated("  ", level)?;
+    // Of each node on the way, the children that are still to come, the innermost last.
+    let mut waiting = Vec::new(alloc);
+    push_level(&mut waiting, node.children())?;
+    'walk: while let Some(children) = waiting.pop() {
+        let [child, rest @ ..] = children else {
+            continue;
+        };
+        f.write_repeated("  ", waiting.len().saturating_add(1))?;
         write_line(child, start, f)?;
-        if let GreenElement::Node(below) = child {
-            write_below(below, start, level.saturating_add(1), f)?;
+        push_level(&mut waiting, rest)?;
+        match child {
+            GreenElement::Node(below) => push_level(&mut waiting, below.children())?,
+            GreenElement::Token(_) => start = start.saturating_add(child.length()),
         }
-        start = start.saturating_add(child.length());
     }
     Ok(())
+}
+
+fn push_level<'a>(
+    waiting: &mut Vec<&'a [GreenElement]>,
+    children: &'a [GreenElement],
+) -> Result<(), AllocError>
+    ensures { OnOk result (waiting.new.items ≡ waiting.old.items ++ children.entry ∷ []) }
+{
+    Ok(waiting.push(children)?)
 }
 
 fn write_line<W: fmt::Write>(

@@ -165,7 +165,17 @@ impl SyntaxNode {
         ensures { IfOk result (λ all. all.items ≡ descendants_of self.now) }
     {
         let mut all = Vec::new(alloc);
-        push_descendants(alloc, self, &mut all)?;
+        // Those that are to come with all below them, the next one last.
+        let mut waiting = Vec::new(alloc);
+        waiting.push(self.try_clone(alloc)?)?;
+        'walk: while let Some(node) = waiting.pop() {
+            // For the proof: a node stands at the path of `node`.
+            let _ = &node.green;
+            let mut children = node.children(alloc)?;
+            children.reverse();
+            waiting.append(&mut children)?;
+            all.push(node)?;
+        }
         Ok(all)
     }
 
@@ -187,7 +197,19 @@ impl SyntaxNode {
         ensures { IfOk result (λ all. all.items ≡ elements_of self.now) }
     {
         let mut all = Vec::new(alloc);
-        push_elements(alloc, self, &mut all)?;
+        // Those that are to come with all below them, the next one last.
+        let mut waiting = Vec::new(alloc);
+        waiting.push(SyntaxElement::Node(self.try_clone(alloc)?))?;
+        'walk: while let Some(element) = waiting.pop() {
+            if let SyntaxElement::Node(node) = &element {
+                // For the proof: a node stands at the path of `node`.
+                let _ = &node.green;
+                let mut children = node.children_with_tokens(alloc)?;
+                children.reverse();
+                waiting.append(&mut children)?;
+            }
+            all.push(element)?;
+        }
         Ok(all)
     }
 
@@ -258,41 +280,4 @@ impl SyntaxNode {
     {
         self.location.siblings(alloc, direction)
     }
-}
-
-fn push_descendants(
-    alloc: Global,
-    node: &SyntaxNode,
-    out: &mut Vec<SyntaxNode>,
-) -> Result<(), AllocError>
-    ensures { OnOk result (out.new.items ≡ out.old.items ++ descendants_of node.now) }
-{
-    // For the proof: a node stands at the path of `node`.
-    let _ = &node.green;
-    out.push(node.try_clone(alloc)?)?;
-    let children = node.children(alloc)?;
-    for child in &children {
-        push_descendants(alloc, child, out)?;
-    }
-    Ok(())
-}
-
-fn push_elements(
-    alloc: Global,
-    node: &SyntaxNode,
-    out: &mut Vec<SyntaxElement>,
-) -> Result<(), AllocError>
-    ensures { OnOk result (out.new.items ≡ out.old.items ++ elements_of node.now) }
-{
-    // For the proof: a node stands at the path of `node`.
-    let _ = &node.green;
-    out.push(SyntaxElement::Node(node.try_clone(alloc)?))?;
-    let children = node.children_with_tokens(alloc)?;
-    for child in &children {
-        match child {
-            SyntaxElement::Node(below) => push_elements(alloc, below, out)?,
-            SyntaxElement::Token(_) => out.push(child.try_clone(alloc)?)?,
-        }
-    }
-    Ok(())
 }

@@ -1,43 +1,98 @@
 -- The index of the changes that are done, and paths by their last slot.
---     put                            what a table has at each path after one was put in
---     one-more                       one change more at a node
+--     set-here, set-other            a list that was exchanged; the others
+--     pushed-here, pushed-other      a list that was put at the end; the others
+--     empty-table                    an index of nothing
+--     more-done                      one change more at the path that has this number now
+--     one-more, first-one            in a list that there is; in a new one
 --     child-by-last                  a child by its path without the last slot, as code takes it apart
 --     count-token                    below a token there is no node
-use Rattle.std.specs.Prelude.{◌≡◌, ℕ, suc, ◌-◌, ◌≤◌, Bool, true, false, cond, List, [], ◌∷◌, ◌++◌, take, length, Some, None, option_and_then, Vec, refl}
+use Rattle.std.specs.Prelude.{◌≡◌, ◌≢◌, ℕ, zero, suc, ◌-◌, ◌≤◌, ◌<◌, Bool, false, cond, List, [], ◌∷◌, ◌++◌, take, length, slice_get, slice_set, Option, Some, None, option_and_then, Vec, refl}
 use Rattle.std.specs.Global.{Global}
-use Rattle.std.specs.Map.{lookup, KeepsOthers}
 use Rattle.std.specs.Option.{option_map_or}
+use Rattle.std.specs.Vec.{with_item}
 use Rattle.std.proofs.Common.{ap, ap₂, sym, ◌∙◌, arith, get_or}
-use Rattle.std.proofs.lemmas.Bool.{cases_Bool}
+use Rattle.std.proofs.lemmas.Bool.{cases_Bool, true≢false}
+use Rattle.std.proofs.lemmas.Option.{none-some}
 use mathlib.Core.Logic.{inl, inr}
 use Rattle.green_tree.specs.Path.{Path, same_path, parent_path, last_slot}
 use Rattle.green_tree.specs.Tree.{Token, SyntaxTree}
+use Rattle.path_table.specs.inner.PathTable.{number_by_path, IsPut, IsTree}
 use Rattle.edit_steps.specs.declared.stage.done.Done.{Done}
+use Rattle.edit_steps.specs.declared.stage.done_table.DoneTable.{DoneTable}
 use Rattle.edit_steps.specs.inner.AimTargets.{child_count, child_in, child_at}
-use Rattle.edit_steps.proofs.AimSteps.{same_path-true}
+use Rattle.edit_steps.specs.inner.CurrentPaths.{listed, done_at, HasOneMore, IsDoneTable}
+use Rattle.edit_steps.proofs.AimSteps.{same_path-true, same_path_from}
 
 -- ---- the index
-abbrev key : Path → Vec ℕ Global → Bool
-key p k = same_path p k.items
+abbrev list_in : List (Vec Done Global) → ℕ → List Done
+list_in vs k = option_map_or (λ v. v.items) (slice_get vs k) []
 
-pub put : {X : Type 0} (old new : List (Vec ℕ Global × X)) (k : Vec ℕ Global) (x : X) → lookup (key k.items) new ≡ Some x → KeepsOthers (λ a b. same_path a.items b.items) (key k.items) old new → (p : Path) → lookup (key p) new ≡ cond (same_path p k.items) (Some x) (lookup (key p) old)
-unfolding KeepsOthers
-put old new k x here others p =
-    elim (cases_Bool (same_path p k.items)) [
-      | inl same ↦ ap (λ q. lookup (key q) new) (same_path-true p k.items same) ∙ here ∙ sym (ap (λ b. cond b (Some x) (lookup (key p) old)) same)
-      | inr other ↦ others (key p) (λ a b h. ap (λ s. same_path s b.items) (same_path-true p a.items h)) (λ a h. ap (same_path p) (sym (same_path-true k.items a.items h)) ∙ other) ∙ sym (ap (λ b. cond b (Some x) (lookup (key p) old)) other)
-    ]
+set-here : (vs : List (Vec Done Global)) (n : ℕ) (v : Vec Done Global) → n < length vs → list_in (slice_set vs n v) n ≡ v.items
+set-here [] n v l = absurd (omega (arith, l))
+set-here (u ∷ vs) zero v l = refl
+set-here (u ∷ vs) (suc n) v l = set-here vs n v (omega (arith, l))
 
-abbrev list_in : List (Vec ℕ Global × Vec Done Global) → Path → List Done
-list_in es p = option_map_or (λ v. v.items) (lookup (key p) es) []
+set-other : (vs : List (Vec Done Global)) (n k : ℕ) (v : Vec Done Global) → k ≢ n → list_in (slice_set vs n v) k ≡ list_in vs k
+set-other [] n k v d = refl
+set-other (u ∷ vs) zero zero v d = absurd (d refl)
+set-other (u ∷ vs) zero (suc k) v d = refl
+set-other (u ∷ vs) (suc n) zero v d = refl
+set-other (u ∷ vs) (suc n) (suc k) v d = set-other vs n k v (λ e. d (ap suc e))
 
-pub one-more : (old new : List (Vec ℕ Global × Vec Done Global)) (k : Vec ℕ Global) (list : Vec Done Global) (at : Path) (d : Done) → k.items ≡ at → list.items ≡ list_in old at ++ d ∷ [] → lookup (key k.items) new ≡ Some list → KeepsOthers (λ a b. same_path a.items b.items) (key k.items) old new → (p : Path) → list_in new p ≡ cond (same_path p at) (list_in old at ++ d ∷ []) (list_in old p)
-one-more old new k list at d is has here others p =
-    ap (λ o. option_map_or (λ v. v.items) o []) (put old new k list here others p) ∙ split (same_path p k.items) ∙ ap₂ (λ q ds. cond (same_path p q) ds (list_in old p)) is has
-  where
-    split : (b : Bool) → option_map_or (λ v. v.items) (cond b (Some list) (lookup (key p) old)) [] ≡ cond b list.items (list_in old p)
-    split true = refl
-    split false = refl
+pushed-here : (vs : List (Vec Done Global)) (v : Vec Done Global) → list_in (vs ++ v ∷ []) (length vs) ≡ v.items
+pushed-here [] v = refl
+pushed-here (u ∷ vs) v = pushed-here vs v
+
+pushed-other : (vs : List (Vec Done Global)) (k : ℕ) (v : Vec Done Global) → k ≢ length vs → list_in (vs ++ v ∷ []) k ≡ list_in vs k
+pushed-other [] zero v d = absurd (d refl)
+pushed-other [] (suc k) v d = refl
+pushed-other (u ∷ vs) zero v d = refl
+pushed-other (u ∷ vs) (suc k) v d = pushed-other vs k v (λ e. d (ap suc e))
+
+pub empty-table : (index : DoneTable) → IsTree index.places → ((p : Path) → number_by_path index.places p ≡ None) → IsDoneTable index
+empty-table index tree none = record {
+  tree = tree;
+  within = λ p n h. absurd (none-some n (sym (none p) ∙ h));
+  apart = λ p q n h i. absurd (none-some n (sym (none p) ∙ h));
+}
+
+-- one more at this path, whose number is this one now
+module _ (old new : DoneTable) (p : Path) (n : ℕ) (d : Done) (put : IsPut old.places new.places p n) (alone : (q : Path) → number_by_path old.places q ≡ Some n → p ≡ q) where
+  abbrev put_at : Path → Bool → Option ℕ
+  put_at q b = cond b (Some n) (number_by_path old.places q)
+
+  abbrev more : Bool → List Done → List Done
+  more b ds = cond b (done_at old p ++ d ∷ []) ds
+
+  pub more-done : listed new n ≡ done_at old p ++ d ∷ [] → ((k : ℕ) → k ≢ n → listed new k ≡ listed old k) → HasOneMore old new p d
+  more-done here others q =
+      ap (λ o. option_map_or (listed new) o []) (put q) ∙ (elim (cases_Bool (same_path q p)) [
+        | inl same ↦ ap (λ b. option_map_or (listed new) (put_at q b) []) same ∙ here ∙ sym (ap (λ b. more b (done_at old q)) same)
+        | inr other ↦ ap (λ b. option_map_or (listed new) (put_at q b) []) other ∙ elsewhere other (number_by_path old.places q) refl ∙ sym (ap (λ b. more b (done_at old q)) other)
+      ])
+    where
+      elsewhere : same_path q p ≡ false → (o : Option ℕ) → number_by_path old.places q ≡ o → option_map_or (listed new) o [] ≡ option_map_or (listed old) o []
+      elsewhere other None is = refl
+      elsewhere other (Some k) is = others k (λ e. true≢false (sym (same_path_from q p (sym (alone q (is ∙ ap (λ i. Some i) e)))) ∙ other))
+
+module _ (old : DoneTable) (table : IsDoneTable old) (list : Vec Done Global) (p : Path) (n : ℕ) (d : Done) where
+  -- in a list that there is
+  pub one-more : number_by_path old.places p ≡ Some n → list.items ≡ listed old n ++ d ∷ [] → HasOneMore old (record { places = old.places; lists = with_item old.lists n list }) p d
+  one-more at is =
+      let had : listed old n ≡ done_at old p = ap (λ o. option_map_or (listed old) o []) (sym at) in
+      let put : IsPut old.places old.places p n = λ q. elim (cases_Bool (same_path q p)) [
+        | inl same ↦ ap (number_by_path old.places) (same_path-true q p same) ∙ at ∙ sym (ap (λ b. cond b (Some n) (number_by_path old.places q)) same)
+        | inr other ↦ sym (ap (λ b. cond b (Some n) (number_by_path old.places q)) other)
+      ] in
+      more-done old (record { places = old.places; lists = with_item old.lists n list }) p n d put (λ q there. table.apart p q n at there) (set-here old.lists.items n list (table.within p n at) ∙ is ∙ ap (λ ds. ds ++ d ∷ []) had) (λ k other. set-other old.lists.items n k list other)
+
+  -- in a new list
+  pub first-one : (new : DoneTable) → number_by_path old.places p ≡ None → n ≡ length old.lists.items → IsPut old.places new.places p n → new.lists.items ≡ old.lists.items ++ list ∷ [] → list.items ≡ d ∷ [] → HasOneMore old new p d
+  first-one new none last put all is =
+      let had : [] ≡ done_at old p = ap (λ o. option_map_or (listed old) o []) (sym none) in
+      let alone : (q : Path) → number_by_path old.places q ≡ Some n → p ≡ q = λ q there. absurd (omega (arith, last, table.within q n there)) in
+      let here : listed new n ≡ done_at old p ++ d ∷ [] = ap (list_in new.lists.items) last ∙ ap (λ vs. list_in vs (length old.lists.items)) all ∙ pushed-here old.lists.items list ∙ is ∙ ap (λ ds. ds ++ d ∷ []) had in
+      more-done old new p n d put alone here (λ k other. ap (λ vs. list_in vs k) all ∙ pushed-other old.lists.items k list (λ e. other (e ∙ sym last)))
 
 -- ---- the last slot of a path
 front-is : (p : Path) → 1 ≤ length p → take (length p - 1) p ≡ parent_path p

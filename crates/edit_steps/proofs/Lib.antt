@@ -24,6 +24,7 @@ mod NextAims
 pub mod Ordered
 mod Orders
 mod PathOrder
+mod PayloadSteps
 mod Putting
 mod Readiness
 mod RootSteps
@@ -41,3 +42,4 @@ mod Turns
 mod TurnsSorted
 pub mod Undropped
 mod WaitCounts
+mod Ways

@@ -45,6 +45,7 @@ module _ (a : Aimed) (top : replaces [] (numbered a).1 ≡ true) where
       record {
         tree = stage.tree ∙ dead-tree (old_tree s) given xs (numbered a) ys (done_at s.done) dead.0 dead.1;
         counted = dead-counted (old_tree s) given xs (numbered a) ys (done_at s.done) dead.0 dead.1 stage.counted;
+        table = stage.table;
       }
 
   pub still-counts : (s : Stage) (builds : ℕ) → builds < 2 ^ 64 → StageCountsStep s (numbered a) builds builds

@@ -81,7 +81,7 @@ impl Stage {
             done: &self.done,
             target: &target,
         };
-        let new = put(&splice, given, &self.current, 0, &mut count)?;
+        let new = put(&splice, given, &self.current, &mut count)?;
         self.done.add(alloc, target.parent, done)?;
         self.current = new;
         *builds = count;

@@ -1,17 +1,19 @@
 -- The last element whose text contains a range, by the child that it is in.
-use Rattle.std.proofs.Common.{◌≡◌, ℕ, ◌+◌, ◌-◌, ◌<◌, ◌≤◌, zero, suc, Bool, true, false, List, [], ◌∷◌, ◌++◌, map, length, get_or, take, drop, Option, Some, None, refl, ap, sym, ◌∙◌, arith, append_assoc}
-use Rattle.std.specs.Prelude.{◌&&◌, nat_le, filter, option_map, slice_get, Result, Ok, Err, OnOk}
+use Rattle.std.proofs.Common.{◌≡◌, ℕ, ◌+◌, ◌-◌, ◌<◌, ◌≤◌, zero, suc, Bool, true, false, List, [], ◌∷◌, ◌++◌, map, length, get_or, take, drop, Some, None, refl, ap, sym, ◌∙◌, arith, append_assoc}
+use Rattle.std.specs.Prelude.{◌&&◌, nat_le, filter, option_map, slice_get}
 use Rattle.std.proofs.lemmas.List.{append-nil, length-map}
 use Rattle.std.proofs.lemmas.List.Elements.{filter-append}
 use Rattle.std.proofs.lemmas.Bool.Decides.{nat_tests}
 use Rattle.std.proofs.Math.ListN.{drop_of_length-le}
 use Rattle.std.proofs.Math.Seq.{take-length}
 use Rattle.green_tree.specs.Path.{Path, last_item}
-use Rattle.green_tree.specs.Tree.{Tree, SyntaxTree, at, paths, paths_from, forest, text_length}
+use Rattle.green_tree.specs.Tree.{Tree, SyntaxTree, Token, Node, at, paths, paths_from, forest, text_length}
 use Rattle.green_tree.specs.Order.{start}
 use Rattle.green_tree.specs.Offsets.{length_at, covers}
 use Rattle.green_tree.specs.inner.TokensByOffset.{covering}
-use Rattle.green_tree.specs.Green.{Leaf, leaf_tree, Branch, branch_tree, texts, length_limit, capped_length}
+use Rattle.green_tree.specs.inner.CoveredChild.{IsCoveredIn}
+use Rattle.green_tree.specs.declared.offsets.Child.{Child}
+use Rattle.green_tree.specs.Green.{Branch, branch_tree, texts, length_limit, capped_length}
 use Rattle.green_tree.specs.GreenElement.{element_trees, element_tree}
 use Rattle.green_tree.specs.declared.green.GreenElement.{GreenElement}
 use Rattle.green_tree.proofs.Lookup.{trees-forest, at-append}
@@ -20,7 +22,7 @@ use Rattle.green_tree.proofs.Parts.{filter-map}
 use Rattle.green_tree.proofs.Slots.{slice_get-child}
 use Rattle.green_tree.proofs.Starts.{start-top, start-slot}
 use Rattle.green_tree.proofs.TokenPaths.{filter-none}
-use Rattle.green_tree.proofs.FoundTokens.{last_item-append, last_item-map, last_of, last_of-is, some_is_not_none}
+use Rattle.green_tree.proofs.FoundTokens.{IsChildAt, last_item-append, last_item-map, last_of, last_of-is, some_is_not_none}
 use Rattle.green_tree.proofs.Touching.{end-le, IsSpanAt}
 
 -- ---- the paths of a node's elements, slot by slot
@@ -36,7 +38,7 @@ paths-split i zero j ts h =
 paths-split i (suc k) j [] h = refl
 paths-split i (suc k) j (t ∷ ts) h = rw (paths-split (suc i) k j ts (omega arith)) (sym (append_assoc (map (λ p. i ∷ p) (paths t)) (paths_before (suc i) ts k) (paths_from j (forest (drop k ts)))))
 
-drop_at : {X : Type 0} (xs : List X) (i : ℕ) (x : X) → slice_get xs i ≡ Some x → drop i xs ≡ x ∷ drop (suc i) xs
+pub drop_at : {X : Type 0} (xs : List X) (i : ℕ) (x : X) → slice_get xs i ≡ Some x → drop i xs ≡ x ∷ drop (suc i) xs
 drop_at [] i x h = absurd (cc)
 drop_at (y ∷ xs) zero x h = cc
 drop_at (y ∷ xs) (suc i) x h = drop_at xs i x h
@@ -112,29 +114,44 @@ cover_in b i c from to rest r span h k on later found =
     ∙ ap last_item (filter-append test front (map (λ p. i ∷ p) (paths c) ++ rest) ∙ ap (λ ps. filter test front ++ ps) tail)
     ∙ last_item-append (filter test front) (map (λ p. i ∷ p) below) (i ∷ r) (last_item-map (λ p. i ∷ p) below r found)
 
-way_on : (b : Branch) (i : ℕ) (c : SyntaxTree) (from to : ℕ) (rest : List Path) (old pushed new : Path) (o : Option Path) → IsSpanAt b i c → start (branch_tree b) (i ∷ []) ≤ from → from ≤ to → paths_from i (forest (drop i b.children)) ≡ map (λ p. i ∷ p) (paths c) ++ rest → filter (covers (branch_tree b) from to) rest ≡ [] →
-    pushed ≡ old ++ i ∷ [] → covering c (from - start (branch_tree b) (i ∷ [])) (to - start (branch_tree b) (i ∷ [])) ≡ o → Some new ≡ option_map (λ p. pushed ++ p) o → Some new ≡ option_map (λ p. old ++ p) (covering (branch_tree b) from to)
-way_on b i c from to rest old pushed new None span h k on later push found way = absurd (cc (way))
-way_on b i c from to rest old pushed new (Some r) span h k on later push found way = way ∙ ap (λ p. Some (p ++ r)) push ∙ ap Some (append_assoc old (i ∷ []) r) ∙ ap (option_map (λ p. old ++ p)) (sym (cover_in b i c from to rest r span h k on later found))
+-- what is within a text has an element whose text covers it: the top does
+covering_some : (t : SyntaxTree) (from to : ℕ) → from ≤ to → to ≤ text_length t → (r : Path) × (covering t from to ≡ Some r)
+covering_some (Token l s) from to h k = ([], rw (covers-top (Token l s) from to h k) refl)
+covering_some (Node l f) from to h k =
+    let below = filter (covers (Node l f) from to) (paths_from 0 f) in
+    (last_of [] below, rw (covers-top (Node l f) from to h k) (last_of-is [] below))
 
-pub way_in_child : (b : Branch) (i : ℕ) (c : SyntaxTree) (from to : ℕ) (rest : List Path) (old pushed new : Path) → IsSpanAt b i c → start (branch_tree b) (i ∷ []) ≤ from → from ≤ to → paths_from i (forest (drop i b.children)) ≡ map (λ p. i ∷ p) (paths c) ++ rest → filter (covers (branch_tree b) from to) rest ≡ [] →
-    pushed ≡ old ++ i ∷ [] → Some new ≡ option_map (λ p. pushed ++ p) (covering c (from - start (branch_tree b) (i ∷ [])) (to - start (branch_tree b) (i ∷ []))) → Some new ≡ option_map (λ p. old ++ p) (covering (branch_tree b) from to)
-way_in_child b i c from to rest old pushed new span h k on later push way = way_on b i c from to rest old pushed new (covering c (from - start (branch_tree b) (i ∷ [])) (to - start (branch_tree b) (i ∷ []))) span h k on later push refl way
+pub covered_child : (b : Branch) (from to : ℕ) (rest : List Path) (child : Child) → IsChildAt b child.slot (element_tree child.element.now) → IsSpanAt b child.slot (element_tree child.element.now) → child.begin ≡ start (branch_tree b) (child.slot ∷ []) → from ≤ to → child.begin ≤ from → to ≤ child.begin + text_length (element_tree child.element.now)
+    → paths_from child.slot (forest (drop child.slot b.children)) ≡ map (λ p. child.slot ∷ p) (paths (element_tree child.element.now)) ++ rest → filter (covers (branch_tree b) from to) rest ≡ [] → IsCoveredIn (branch_tree b) from to child
+covered_child b from to rest child there span begin ordered begins ends on later =
+    let c = element_tree child.element.now in
+    let a = start (branch_tree b) (child.slot ∷ []) in
+    let low : a ≤ from = rw begin at begins in
+    let r = covering_some c (from - a) (to - a) (omega arith) (omega (arith, begin)) in
+    record {
+      there = there.there;
+      begins = begins;
+      ends = ends;
+      within = omega (arith, begin, span.within);
+      way =
+          cover_in b child.slot c from to rest r.0 span low ordered on later r.1
+          ∙ ap (option_map (λ p. child.slot ∷ p)) (sym r.1)
+          ∙ ap (λ n. option_map (λ p. child.slot ∷ p) (covering c (from - n) (to - n))) (sym begin);
+    }
 
--- what follows from a call that succeeds
-pub on_ok : {T E : Type 0} (r : Result T E) {A B : Type 0} → (A → B) → OnOk r A → OnOk r B
-on_ok (Ok v) follows h = follows h
-on_ok (Err e) follows h = tt
-
--- a token itself
-pub way_at_token : (l : Leaf) (pushed : Path) (from to : ℕ) → from ≤ to → to ≤ length l.text → Some pushed ≡ option_map (λ p. pushed ++ p) (covering (leaf_tree l) from to)
-way_at_token l pushed from to h k = rw (covers-top (leaf_tree l) from to h k, append-nil pushed) refl
+-- ---- a walk down to that element
+-- so many slots lead from a tree to the one where the walk stands, whose text contains the range
+pub record IsNarrowed (t : SyntaxTree) (from to : ℕ) (old new : Path) (now : SyntaxTree) (low high : ℕ) : Type 0 where
+  pub pushed : Path
+  pub slots : new ≡ old ++ pushed
+  pub way : covering t from to ≡ option_map (λ p. pushed ++ p) (covering now low high)
+  pub fits : text_length now < length_limit
+  pub ordered : low ≤ high
+  pub within : high ≤ text_length now
 
 -- ---- no child contains it
-pub way_ends : (b : Branch) (from to : ℕ) (old now : Path) → from ≤ to → to ≤ text_length (branch_tree b) → now ≡ old → filter (covers (branch_tree b) from to) (paths_from 0 (forest b.children)) ≡ [] → Some now ≡ option_map (λ p. old ++ p) (covering (branch_tree b) from to)
-way_ends b from to old now h k same none =
-    let only : covering (branch_tree b) from to ≡ Some [] = rw (covers-top (branch_tree b) from to h k, none) refl in
-    ap Some (same ∙ sym (append-nil old)) ∙ ap (option_map (λ p. old ++ p)) (sym only)
+pub covering_top : (b : Branch) (from to : ℕ) → from ≤ to → to ≤ text_length (branch_tree b) → filter (covers (branch_tree b) from to) (paths_from 0 (forest b.children)) ≡ [] → covering (branch_tree b) from to ≡ Some []
+covering_top b from to h k none = rw (covers-top (branch_tree b) from to h k, none) refl
 
 -- and after the last child there is none
 pub none_after : (b : Branch) (es : List GreenElement) (n : ℕ) (from to : ℕ) → element_trees es ≡ b.children → length es ≤ n → filter (covers (branch_tree b) from to) (paths_from n (forest (drop n b.children))) ≡ []
@@ -149,12 +166,8 @@ start_after b es n m same h fits is =
     let all : start (branch_tree b) (n ∷ []) ≡ length (texts b.children) = start-slot b es n same ∙ ap (λ xs. length (texts (element_trees xs))) whole ∙ ap (λ ts. length (texts ts)) same in
     omega (arith, is, all, fits)
 
--- what is within the text has an element whose text covers it: the top does
 pub covering_there : (b : Branch) (from to : ℕ) → from ≤ to → to ≤ text_length (branch_tree b) → covering (branch_tree b) from to ≡ None → ⊥
-covering_there b from to h k none =
-    let below = filter (covers (branch_tree b) from to) (paths_from 0 (forest b.children)) in
-    let some : covering (branch_tree b) from to ≡ Some (last_of [] below) = rw (covers-top (branch_tree b) from to h k) (last_of-is [] below) in
-    some_is_not_none (sym some ∙ none)
+covering_there b from to h k none = some_is_not_none (sym (covering_some (branch_tree b) from to h k).1 ∙ none)
 
 -- ---- outside of the tree's text
 pub covering_none-back : (t : SyntaxTree) (from to : ℕ) → to < from → covering t from to ≡ None

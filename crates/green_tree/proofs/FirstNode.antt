@@ -2,13 +2,12 @@
 --     rest                          the paths of the nodes in the children from a slot on
 --     none-after, none-past        none is in a tree that begins after the offset, or ends before it
 --     first-here, first-below       the top is the first one; else it is the first one in the children
---     first-in, first-after        it is in the child in a slot; else it is after that
+--     find-rest                     it is in the child in a slot, or else after that
 --     first-nowhere                 none is after the last child
 --     start-next                    where the child in the next slot starts
-use Rattle.std.specs.Prelude.{◌≡◌, ◌≢◌, ℕ, zero, suc, ◌+◌, ◌<◌, ◌≤◌, Bool, true, false, not, cond, nat_eq, ◌&&◌, List, [], ◌∷◌, ◌++◌, map, find, take, drop, length, get_or, reverse, slice_get, Option, Some, None, option_map, refl}
+use Rattle.std.specs.Prelude.{◌≡◌, ◌≢◌, ℕ, zero, suc, ◌+◌, ◌<◌, ◌≤◌, Bool, true, false, not, cond, nat_eq, ◌&&◌, List, [], ◌∷◌, ◌++◌, map, find, take, drop, length, slice_get, Some, None, option_map, refl}
 use Rattle.std.specs.Option.{option_map_or, option_or}
 use Rattle.std.proofs.Common.{ap, sym, arith, ◌∙◌, length-append}
-use Rattle.std.proofs.lemmas.List.{length-map, reverse-append}
 use Rattle.std.proofs.lemmas.Bool.{ne_eqb}
 use Rattle.std.proofs.lemmas.List.Folds.{find-append}
 use Rattle.std.proofs.Math.ListN.{drop_of_length-le}
@@ -16,12 +15,8 @@ use Rattle.green_tree.specs.Path.{Path}
 use Rattle.green_tree.specs.Tree.{SyntaxTree, Forest, Node, end, more, at, label, is_token, children, trees, forest, text, forest_text, text_length}
 use Rattle.green_tree.specs.Order.{node_paths, start}
 use Rattle.green_tree.proofs.Parts.{parts_from, parts-node}
-use Rattle.green_tree.proofs.Starts.{start-top, start-node, start-below, start-le, start_room}
-use Rattle.green_tree.specs.Green.{Branch, branch_tree, length_limit, capped_length}
-use Rattle.green_tree.specs.GreenElement.{element_tree, element_trees}
-use Rattle.green_tree.specs.declared.green.GreenElement.{GreenElement}
-use Rattle.green_tree.proofs.Slots.{slice_get-child}
-use Rattle.green_tree.proofs.Lookup.{forest-trees, trees-forest}
+use Rattle.green_tree.proofs.Starts.{start-top, start-node, start-below, start-le}
+use Rattle.green_tree.proofs.Lookup.{forest-trees}
 use Rattle.green_tree.specs.inner.FirstNode.{starts_as, first_from}
 
 abbrev is_node_tree : SyntaxTree → Bool
@@ -46,9 +41,6 @@ drop-there (y ∷ xs) zero x there =
     let same : y ≡ x = cc in
     ap (λ z. z ∷ xs) same
 drop-there (y ∷ xs) (suc i) x there = drop-there xs i x there
-
-pub reverse-last : {X : Type 0} (xs : List X) (x : X) → reverse (xs ++ x ∷ []) ≡ x ∷ reverse xs
-reverse-last xs x = reverse-append xs (x ∷ [])
 
 -- ---- none
 and-false : (a b : Bool) → b ≡ false → (a && b) ≡ false
@@ -93,17 +85,11 @@ module _ (kind b o l : ℕ) (f : Forest ℕ) (i : ℕ) (c : SyntaxTree) (there :
       at-there : (p : Path) → at (Node l f) (i ∷ p) ≡ at c p
       at-there p = rw there refl
 
-  find-rest : find (starts_as kind b o (Node l f)) (rest (Node l f) i) ≡ option_or (option_map (λ p. i ∷ p) (first_from kind (b + start (Node l f) (i ∷ [])) o c)) (find (starts_as kind b o (Node l f)) (rest (Node l f) (suc i)))
+  pub find-rest : find (starts_as kind b o (Node l f)) (rest (Node l f) i) ≡ option_or (option_map (λ p. i ∷ p) (first_from kind (b + start (Node l f) (i ∷ [])) o c)) (find (starts_as kind b o (Node l f)) (rest (Node l f) (suc i)))
   find-rest =
       ap (find (starts_as kind b o (Node l f))) rest-cons
       ∙ find-append (starts_as kind b o (Node l f)) (map (λ p. i ∷ p) (node_paths c)) (rest (Node l f) (suc i))
       ∙ ap (λ r. option_or r (find (starts_as kind b o (Node l f)) (rest (Node l f) (suc i)))) (find-map (starts_as kind b o (Node l f)) (starts_as kind (b + start (Node l f) (i ∷ [])) o c) (λ p. i ∷ p) (node_paths c) seen-below)
-
-  pub first-in : (p : Path) → first_from kind (b + start (Node l f) (i ∷ [])) o c ≡ Some p → find (starts_as kind b o (Node l f)) (rest (Node l f) i) ≡ Some (i ∷ p)
-  first-in p h = find-rest ∙ ap (λ r. option_or (option_map (λ q. i ∷ q) r) (find (starts_as kind b o (Node l f)) (rest (Node l f) (suc i)))) h
-
-  pub first-after : first_from kind (b + start (Node l f) (i ∷ [])) o c ≡ None → find (starts_as kind b o (Node l f)) (rest (Node l f) i) ≡ find (starts_as kind b o (Node l f)) (rest (Node l f) (suc i))
-  first-after h = find-rest ∙ ap (λ r. option_or (option_map (λ q. i ∷ q) r) (find (starts_as kind b o (Node l f)) (rest (Node l f) (suc i)))) h
 
 pub first-nowhere : (kind b o l : ℕ) (f : Forest ℕ) (i : ℕ) → length (trees f) ≤ i → find (starts_as kind b o (Node l f)) (rest (Node l f) i) ≡ None
 first-nowhere kind b o l f i h = ap (λ ts. find (starts_as kind b o (Node l f)) (parts_from is_node_tree i (forest ts))) (drop_of_length-le (trees f) h)
@@ -127,32 +113,3 @@ start-next l f j c there = start-slot l f (suc j) ∙ before-next f j c there �
 
 pub start-first : (l : ℕ) (f : Forest ℕ) → start (Node l f) (0 ∷ []) ≡ 0
 start-first l f = start-slot l f 0
-
--- ---- as code has it
-module _ (kind b o : ℕ) (n : Branch) (es : List GreenElement) (i : ℕ) (e : GreenElement) (same : element_trees es ≡ n.children) (within : i < length es) (is : e ≡ get_or es i e) where
-  there : slice_get (trees (forest n.children)) i ≡ Some (element_tree e)
-  there = slice_get-child n es i e same within is
-
-  pub found-in : (next : ℕ) (r : Option Path) (p : Path) → next ≡ b + start (branch_tree n) (i ∷ []) → find (starts_as kind b o (branch_tree n)) (rest (branch_tree n) i) ≡ r → first_from kind next o (element_tree e) ≡ Some p → Some (i ∷ p) ≡ r
-  found-in next r p at left h = sym (first-in kind b o n.kind (forest n.children) i (element_tree e) there p (ap (λ k. first_from kind k o (element_tree e)) (sym at) ∙ h)) ∙ left
-
-  pub found-after : (next : ℕ) (r : Option Path) → next ≡ b + start (branch_tree n) (i ∷ []) → find (starts_as kind b o (branch_tree n)) (rest (branch_tree n) i) ≡ r → first_from kind next o (element_tree e) ≡ None → find (starts_as kind b o (branch_tree n)) (rest (branch_tree n) (i + 1)) ≡ r
-  found-after next r at left h =
-      let s : i + 1 ≡ suc i = omega arith in
-      ap (λ k. find (starts_as kind b o (branch_tree n)) (rest (branch_tree n) k)) s ∙ sym (first-after kind b o n.kind (forest n.children) i (element_tree e) there (ap (λ k. first_from kind k o (element_tree e)) (sym at) ∙ h)) ∙ left
-
-  pub room : (next : ℕ) → next ≡ b + start (branch_tree n) (i ∷ []) → b + text_length (branch_tree n) < length_limit → next + text_length (element_tree e) < length_limit
-  room next at fits = omega (arith, at, fits, start_room n es i e same within is)
-
-  pub next-begins : (next long : ℕ) → next ≡ b + start (branch_tree n) (i ∷ []) → b + text_length (branch_tree n) < length_limit → long ≡ capped_length (text (element_tree e)) → next + long ≡ b + start (branch_tree n) ((i + 1) ∷ [])
-  next-begins next long at fits is_long =
-      let s : i + 1 ≡ suc i = omega arith in
-      let fits_next = room next at fits in
-      let after : start (branch_tree n) (suc i ∷ []) ≡ start (branch_tree n) (i ∷ []) + text_length (element_tree e) = start-next n.kind (forest n.children) i (element_tree e) there in
-      let sum : next + long ≡ b + start (branch_tree n) (suc i ∷ []) = omega (arith, at, fits_next, is_long, after) in
-      sum ∙ ap (λ k. b + start (branch_tree n) (k ∷ [])) (sym s)
-
-pub found-nowhere : (kind b o : ℕ) (n : Branch) (es : List GreenElement) (i : ℕ) (r : Option Path) → element_trees es ≡ n.children → length es ≤ i → find (starts_as kind b o (branch_tree n)) (rest (branch_tree n) i) ≡ r → None ≡ r
-found-nowhere kind b o n es i r same past left =
-    let long : length (trees (forest n.children)) ≤ i = rw (trees-forest, ← same, length-map) past in
-    sym (first-nowhere kind b o n.kind (forest n.children) i long) ∙ left

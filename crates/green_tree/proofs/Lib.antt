@@ -1,3 +1,4 @@
+pub mod Sizes
 pub mod Splices
 pub mod Lookup
 pub mod Slots
@@ -7,8 +8,14 @@ pub mod Starts
 pub mod Shapes
 pub mod Parts
 pub mod FoundTokens
+pub mod Options
+pub mod Turns
 pub mod TextLengths
 pub mod Written
+pub mod OpenNodes
 pub mod Touching
+pub mod Stacks
+pub mod TouchedChildren
 pub mod Covering
 pub mod FirstNode
+pub mod WaitingNodes

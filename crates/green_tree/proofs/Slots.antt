@@ -1,10 +1,9 @@
 -- The child in a slot, and the way down along a path.
-use Rattle.std.proofs.Common.{◌≡◌, ℕ, ◌+◌, ◌-◌, ◌<◌, ◌≤◌, zero, suc, List, [], ◌∷◌, length, get_or, take, drop, Option, Some, None, refl, subst, ◌∙◌, arith, add-one, drop-cons}
+use Rattle.std.proofs.Common.{◌≡◌, ℕ, ◌+◌, ◌<◌, ◌≤◌, zero, suc, List, [], ◌∷◌, length, get_or, drop, Option, Some, None, refl, subst, ◌∙◌, arith, add-one, drop-cons}
 use Rattle.std.specs.Prelude.{IsSome, slice_get, option_and_then, option_map}
-use Rattle.std.proofs.lemmas.Grind.{common_steps}
 use Rattle.std.proofs.lemmas.Option.{slice_get-map, slice_get_read, slice_get_within, get_or_from_slice_get}
 use Rattle.green_tree.specs.Path.{Path}
-use Rattle.green_tree.specs.Tree.{at, trees, forest}
+use Rattle.green_tree.specs.Tree.{Forest, SyntaxTree, end, more, at, trees, forest}
 use Rattle.green_tree.specs.Green.{Branch, branch_tree}
 use Rattle.green_tree.specs.inner.TreeSize.{size, forest_size}
 use Rattle.green_tree.specs.GreenElement.{element_trees, element_tree}
@@ -16,6 +15,13 @@ pub size_at : (es : List GreenElement) (i : ℕ) (e : GreenElement) → i < leng
 size_at [] i e h is = absurd (omega arith)
 size_at (x ∷ es) zero e h is = rw is (omega arith)
 size_at (x ∷ es) (suc i) e h is = omega (arith, size_at es i e (omega arith) is)
+
+pub size_in : (f : Forest ℕ) (i : ℕ) (c : SyntaxTree) → slice_get (trees f) i ≡ Some c → size c ≤ forest_size f
+size_in end i c there = absurd (cc)
+size_in (more t f) zero c there =
+    let same : t ≡ c = cc in
+    rw same (omega arith)
+size_in (more t f) (suc i) c there = omega (arith, size_in f i c there)
 
 -- what is known of the child in the first slot of a path that leads to an element
 pub record IsOnTheWay (es : List GreenElement) (i : ℕ) (p : Path) : Type 0 where
@@ -40,14 +46,7 @@ step_down b es path n same h there = rw add-one (way_down b es (get_or path n 0)
 pub slice_get-child : (b : Branch) (es : List GreenElement) (i : ℕ) (e : GreenElement) → element_trees es ≡ b.children → i < length es → e ≡ get_or es i e → slice_get (trees (forest b.children)) i ≡ Some (element_tree e)
 slice_get-child b es i e same h is = rw (trees-forest, ← same, slice_get-map, slice_get_read es (length es) i e refl h is)
 
--- a path with a slot, as a slice pattern splits it
-pub path_splits : (p : Path) → 1 ≤ length p → p ≡ get_or p 0 0 ∷ take (length p - 1) (drop 1 p)
-path_splits [] h = absurd (omega arith)
-path_splits (i ∷ p) h = grind (arith, common_steps)
-
+-- a path with no slot
 pub path_ends : (p : Path) → length p < 1 → p ≡ []
 path_ends [] h = refl
 path_ends (i ∷ p) h = absurd (omega arith)
-
-pub way_in : (b : Branch) (es : List GreenElement) (p : Path) → element_trees es ≡ b.children → 1 ≤ length p → IsSome (at (branch_tree b) p) → IsOnTheWay es (get_or p 0 0) (take (length p - 1) (drop 1 p))
-way_in b es p same long there = way_down b es (get_or p 0 0) (take (length p - 1) (drop 1 p)) same (subst (λ q. IsSome (at (branch_tree b) q)) (path_splits p long) there)

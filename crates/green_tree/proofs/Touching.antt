@@ -1,8 +1,8 @@
 -- Where the texts of elements begin and end, child by child, and the tokens that touch an offset.
-use Rattle.std.proofs.Common.{◌≡◌, ℕ, ◌+◌, ◌-◌, ◌<◌, ◌≤◌, Bool, true, false, List, [], ◌∷◌, ◌++◌, map, length, get_or, Option, Some, None, refl, ap, sym, ◌∙◌, arith, add-one, append_assoc, length-append, suc, drop}
+use Rattle.std.proofs.Common.{◌≡◌, ℕ, ◌+◌, ◌-◌, ◌<◌, ◌≤◌, Bool, true, false, List, [], ◌∷◌, ◌++◌, map, length, get_or, Some, None, refl, ap, sym, ◌∙◌, arith, add-one, append_assoc, length-append, suc, drop}
 use Rattle.std.specs.Prelude.{◌&&◌, nat_lt, nat_le, filter, sum_by, slice_get}
 use Rattle.std.specs.Option.{option_map_or}
-use Rattle.std.proofs.lemmas.List.{append-nil, map-append}
+use Rattle.std.proofs.lemmas.List.{append-nil}
 use Rattle.std.proofs.lemmas.List.Elements.{filter-append}
 use mathlib.Core.Logic.{inl, inr}
 use Rattle.std.proofs.lemmas.Bool.{cases_lt}
@@ -22,7 +22,7 @@ use Rattle.green_tree.proofs.Starts.{start-top, start-le, start-below, start-nex
 use Rattle.green_tree.proofs.TextLengths.{start-text_length-le, start-append}
 use Rattle.green_tree.proofs.Lookup.{at-append}
 use Rattle.green_tree.proofs.TokenPaths.{filter-none, token_paths_from, token_paths-node, tokens_before-first}
-use Rattle.green_tree.proofs.FoundTokens.{IsChildAt, tokens_before-none, tokens_before-all}
+use Rattle.green_tree.proofs.FoundTokens.{IsChildAt}
 
 -- no element ends past the end of the text
 pub end-le : {L : Type 0} (t : Tree L) (p : Path) → start t p + length_at t p ≤ text_length t
@@ -162,40 +162,6 @@ mutual
 pub reached-child : (b : Branch) (i : ℕ) (c : SyntaxTree) (top : Path) (ps : List Path) → IsChildAt b i c → reached_below top (branch_tree b) (map (λ p. i ∷ p) ps) ≡ reached_below (top ++ i ∷ []) c ps
 reached-child b i c top [] child = refl
 reached-child b i c top (p ∷ ps) child = rw (child.below p, append_assoc top (i ∷ []) p, reached-child b i c top ps child)
-
--- ---- the turns of the walk over a node's children
--- what the walk found so far is the tokens of the children in the slots before this one
-abbrev pub FoundUpTo : Branch → ℕ → Path → ℕ → List (Path × Option SyntaxTree) → List (Path × Option SyntaxTree) → Type 0
-FoundUpTo b offset top i old now = now ≡ old ++ reached_below top (branch_tree b) (filter (touches (branch_tree b) offset) (tokens_before (branch_tree b) (i ∷ [])))
-
-pub found_none : (b : Branch) (offset : ℕ) (top : Path) (old : List (Path × Option SyntaxTree)) → FoundUpTo b offset top 0 old old
-found_none b offset top old = rw (tokens_before-none b) (sym (append-nil old))
-
-pub found_past : (b : Branch) (offset : ℕ) (top : Path) (i : ℕ) (old : List (Path × Option SyntaxTree)) {now : List (Path × Option SyntaxTree)} →
-    filter (touches (branch_tree b) offset) (tokens_before (branch_tree b) ((i + 1) ∷ [])) ≡ filter (touches (branch_tree b) offset) (tokens_before (branch_tree b) (i ∷ [])) → FoundUpTo b offset top i old now → FoundUpTo b offset top (i + 1) old now
-found_past b offset top i old none found = found ∙ ap (λ ps. old ++ reached_below top (branch_tree b) ps) (sym none)
-
-pub found_in : (b : Branch) (offset : ℕ) (top : Path) (i : ℕ) (c : SyntaxTree) (old now new : List (Path × Option SyntaxTree)) → IsChildAt b i c → IsSpanAt b i c → start (branch_tree b) (i ∷ []) ≤ offset → FoundUpTo b offset top i old now →
-    new ≡ now ++ reached_below (top ++ i ∷ []) c (tokens_touching c (offset - start (branch_tree b) (i ∷ []))) → FoundUpTo b offset top (i + 1) old new
-found_in b offset top i c old now new child span h found brought =
-    let before = filter (touches (branch_tree b) offset) (tokens_before (branch_tree b) (i ∷ [])) in
-    let own = tokens_touching c (offset - start (branch_tree b) (i ∷ [])) in
-    brought
-    ∙ ap (λ ps. ps ++ reached_below (top ++ i ∷ []) c own) found
-    ∙ append_assoc old (reached_below top (branch_tree b) before) (reached_below (top ++ i ∷ []) c own)
-    ∙ ap (λ ps. old ++ (reached_below top (branch_tree b) before ++ ps)) (sym (reached-child b i c top own child))
-    ∙ ap (λ ps. old ++ ps) (sym (map-append (λ p. (top ++ p, at (branch_tree b) p)) before (map (λ p. i ∷ p) own)))
-    ∙ ap (λ ps. old ++ reached_below top (branch_tree b) ps) (sym (touching_in b i c offset child span h))
-
-pub found_token_in : (b : Branch) (offset : ℕ) (top : Path) (i : ℕ) (l : Leaf) (old now new : List (Path × Option SyntaxTree)) → IsChildAt b i (leaf_tree l) → IsSpanAt b i (leaf_tree l) → start (branch_tree b) (i ∷ []) ≤ offset → 0 < length l.text → offset ≤ start (branch_tree b) (i ∷ []) + length l.text →
-    FoundUpTo b offset top i old now → new ≡ now ++ (top ++ i ∷ [], Some (leaf_tree l)) ∷ [] → FoundUpTo b offset top (i + 1) old new
-found_token_in b offset top i l old now new child span h long within found brought =
-    let own = touching_token l (offset - start (branch_tree b) (i ∷ [])) long (omega arith) in
-    let reach : reached_below (top ++ i ∷ []) (leaf_tree l) ([] ∷ []) ≡ (top ++ i ∷ [], Some (leaf_tree l)) ∷ [] = ap (λ p. (p, Some (leaf_tree l)) ∷ []) (append-nil (top ++ i ∷ [])) in
-    found_in b offset top i (leaf_tree l) old now new child span h found (brought ∙ ap (λ ps. now ++ ps) (sym reach) ∙ ap (λ ps. now ++ reached_below (top ++ i ∷ []) (leaf_tree l) ps) (sym own))
-
-pub found_all : (b : Branch) (es : List GreenElement) (offset : ℕ) (top : Path) (i : ℕ) (old : List (Path × Option SyntaxTree)) {now : List (Path × Option SyntaxTree)} → element_trees es ≡ b.children → length es ≤ i → FoundUpTo b offset top i old now → now ≡ old ++ reached_below top (branch_tree b) (tokens_touching (branch_tree b) offset)
-found_all b es offset top i old same h found = found ∙ ap (λ ps. old ++ reached_below top (branch_tree b) (filter (touches (branch_tree b) offset) ps)) (tokens_before-all b es i same h)
 
 -- ---- below an element of a larger tree
 pub touches-below : (t : SyntaxTree) (p : Path) (c : SyntaxTree) (offset : ℕ) (q : Path) → at t p ≡ Some c → start t p ≤ offset → touches t offset (p ++ q) ≡ touches c (offset - start t p) q

@@ -6,7 +6,7 @@
 --     length_limit                the least length in bytes that no tree of an element value has
 --     IsTooLong                   a text has that length or a greater one
 --     capped_length               how many bytes a text has, as far as the limit
-use Rattle.std.specs.Prelude.{ℕ, ◌+◌, ◌++◌, ◌≤◌, min, take, drop, List, length}
+use Rattle.std.specs.Prelude.{ℕ, ◌++◌, ◌≤◌, min, take, drop, List, length}
 use Rattle.green_tree.specs.Tree.{SyntaxTree, Token, node, forest, forest_text}
 
 pub record Leaf : Type 0 where

@@ -3,7 +3,14 @@ pub mod GreenSize
 pub mod FoundToken
 pub mod TreeCode
 pub mod TokensByOffset
+pub mod CoveredChild
+pub mod Stacked
+pub mod Touched
 pub mod Neighbors
+pub mod Turn
 pub mod CappedLength
+pub mod HasToken
 pub mod TreeSize
 pub mod FirstNode
+pub mod SameShapes
+pub mod Waiting

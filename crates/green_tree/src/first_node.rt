@@ -1,10 +1,11 @@
 //! The first node of a kind that starts somewhere.
 
-ghost use Rattle.std.specs.Prelude.{ℕ, ◌≡◌, ◌+◌, ◌<◌, [], None, option_map, IfOk, IfSome, IfNone};
+ghost use Rattle.std.specs.Prelude.{ℕ, ◌≡◌, ◌+◌, ◌<◌, [], None, option_map, IfOk, IfSome, IfNone, OnOk};
 ghost use Rattle.green_tree.specs.Tree.{text_length};
 ghost use Rattle.green_tree.specs.Green.{branch_tree, length_limit};
 ghost use Rattle.green_tree.specs.GreenElement.{element_tree};
-ghost use Rattle.green_tree.specs.inner.FirstNode.{starts_as, first_from, path_back};
+ghost use Rattle.green_tree.specs.inner.FirstNode.{starts_as, first_from};
+ghost use Rattle.green_tree.specs.inner.Waiting.{LeavesWaiting};
 
 use crate::green::{GreenElement, GreenNode};
 use crate::kind::SyntaxKind;
@@ -35,32 +36,45 @@ fn starts_as(node: &GreenNode, begin: u64, kind: SyntaxKind, offset: u64) -> boo
     node.kind() == kind && begin == offset
 }
 
-// The slots on the way to the first node of this kind, at or below this one, that starts at `offset`, from the last slot to the
-// first. The node begins at `begin`.
-fn way_back(
-    alloc: Global,
-    node: &GreenNode,
+// A node that has an offset in it or at one of its ends: so many slots lead to its parent, it is in this slot of it, and
+// it begins at `begin`.
+#[derive(Clone, Copy)]
+struct Waiting<'a> {
+    depth: usize,
+    slot: usize,
     begin: u64,
-    kind: SyntaxKind,
+    node: &'a GreenNode,
+}
+
+// The child nodes that have the offset in them or at one of their ends go to the end of `waiting`, the first child last. The
+// node begins at `begin`, and so many slots lead to it.
+fn push_waiting<'a>(
+    node: &'a GreenNode,
+    begin: u64,
     offset: u64,
-) -> Result<Option<Vec<usize>>, AllocError>
+    depth: usize,
+    waiting: &mut Vec<Waiting<'a>>,
+) -> Result<(), AllocError>
     requires fits { begin + text_length (branch_tree node.now) < length_limit }
-    ensures { IfOk result (λ r. path_back r ≡ first_from kind.0 begin offset (branch_tree node.now)) }
+    ensures { let leaves = LeavesWaiting (branch_tree node.now) begin offset depth in
+        OnOk result (leaves waiting.old.items waiting.new.items) }
 {
-    if starts_as(node, begin, kind, offset) {
-        return Ok(Some(Vec::new(alloc)));
+    let children = node.children();
+    let mut next = begin + node.length();
+    for slot in (0..children.len()).rev() {
+        let child = &children[slot];
+        next -= child.length();
+        let Some(node) = node_at_offset(child, next, offset) else {
+            continue;
+        };
+        waiting.push(Waiting {
+            depth,
+            slot,
+            begin: next,
+            node,
+        })?;
     }
-    let mut next = begin;
-    for (slot, child) in node.children().iter().enumerate() {
-        if let Some(below) = node_at_offset(child, next, offset) {
-            if let Some(mut way) = way_back(alloc, below, next, kind, offset)? {
-                way.push(slot)?;
-                return Ok(Some(way));
-            }
-        }
-        next += child.length();
-    }
-    Ok(None)
+    Ok(())
 }
 
 /// The path of the first node of this kind, in document order, that starts at this offset in bytes.
@@ -75,9 +89,19 @@ pub fn first_node_of_kind(
     requires fits { text_length (branch_tree root.now) < length_limit }
     ensures { IfOk result (λ r. option_map (λ v. v.items) r ≡ first_from kind.0 0 offset (branch_tree root.now)) }
 {
-    let Some(mut way) = way_back(alloc, root, 0, kind, offset)? else {
-        return Ok(None);
-    };
-    way.reverse();
-    Ok(Some(way))
+    let mut path = Vec::new(alloc);
+    if starts_as(root, 0, kind, offset) {
+        return Ok(Some(path));
+    }
+    let mut waiting = Vec::new(alloc);
+    push_waiting(root, 0, offset, 0, &mut waiting)?;
+    while let Some(first) = waiting.pop() {
+        path.truncate(first.depth);
+        path.push(first.slot)?;
+        if starts_as(first.node, first.begin, kind, offset) {
+            return Ok(Some(path));
+        }
+        push_waiting(first.node, first.begin, offset, path.len(), &mut waiting)?;
+    }
+    Ok(None)
 }

@@ -1,8 +1,9 @@
-ghost use Rattle.std.specs.Prelude.{◌≡◌, ◌↔◌, ◌+◌, ◌<◌, ◌≤◌, ◌++◌, min, map, length, IfOk, OnOk, string_bytes, option_map};
+ghost use Rattle.std.specs.Prelude.{◌≡◌, ◌↔◌, ◌+◌, ◌<◌, ◌≤◌, ◌++◌, min, map, length, IfOk, IfSome, OnOk, string_bytes, option_map};
 ghost use Rattle.green_tree.specs.Tree.{label, text, at};
 ghost use Rattle.green_tree.specs.GreenElementRef.{ref_tree};
 ghost use Rattle.green_tree.specs.Green.{texts, IsTooLong, capped_length, branch_tree, spliced};
 ghost use Rattle.green_tree.specs.GreenElement.{element_trees, element_tree};
+ghost use Rattle.green_tree.specs.inner.HasToken.{has_token, have_token};
 
 use crate::error::TreeError;
 use crate::kind::SyntaxKind;
@@ -38,6 +39,10 @@ impl Model for GreenToken {
 #[derive(Drop)]
 struct NodeData {
     kind: SyntaxKind,
+    // How deep calls nest in a walk that goes on in the child of the greatest rank by a loop.
+    rank: u8,
+    // Whether a token is below it.
+    has_token: bool,
     length: u64,
     children: Vec<GreenElement>,
 }
@@ -52,9 +57,29 @@ pub enum GreenElement {
 
 /// A node: a kind and a list of nodes and tokens, shared. It knows neither its parent nor where it stands.
 #[cycle(green)]
-#[derive(Drop)]
 pub struct GreenNode {
     data: Rc<NodeData>,
+}
+
+impl Drop for GreenNode {
+    // A node that nobody else holds is taken apart. Its children go by calls that nest, but for the one of the greatest rank, which
+    // goes by the loop.
+    #[cycle(drop)]
+    fn drop(mut self) {
+        loop {
+            let GreenNode { data } = self;
+            let Some(NodeData { mut children, .. }) = Rc::into_inner(data) else {
+                return;
+            };
+            let Some(slot) = heaviest(&children) else {
+                return;
+            };
+            let GreenElement::Node(next) = children.swap_remove(slot) else {
+                return;
+            };
+            self = next;
+        }
+    }
 }
 
 impl Model for GreenNode {
@@ -69,10 +94,13 @@ impl Model for GreenNode {
 
     ghost use Rattle.green_tree.specs.GreenElement.{element_trees};
     ghost use Rattle.green_tree.specs.inner.CappedLength.{IsCappedLength};
+    ghost use Rattle.green_tree.specs.inner.HasToken.{TellsToken};
 
     ghost view = { λ a. record { kind = a.data.value.kind.0; children = element_trees a.data.value.children.items } };
 
-    ghost invariant = { λ a. IsCappedLength a.data.value.children.items a.data.value.length };
+    ghost invariant = { λ a.
+        let es = a.data.value.children.items in
+        IsCappedLength es a.data.value.length × TellsToken es a.data.value.has_token };
 
     ghost size = { branch_size };
 
@@ -202,6 +230,16 @@ impl GreenElement {
         }
     }
 
+    // Whether the element is a token or has one below it. Takes constant time.
+    pub(crate) fn has_token(&self) -> bool
+        ensures { result ≡ has_token (element_tree self.now) }
+    {
+        match self {
+            GreenElement::Node(node) => node.has_token(),
+            GreenElement::Token(_) => true,
+        }
+    }
+
     /// The same element again. Takes constant time, and copies nothing.
     pub fn share(&self, alloc: Global) -> Result<GreenElement, AllocError>
         ensures { IfOk result (λ e. e ≡ self.now) }
@@ -213,6 +251,52 @@ impl GreenElement {
     }
 }
 
+// The rank of a node over these children: 1 where none is a node, else the greatest of theirs, and one more where two have it. So no rank
+// is greater than the logarithm of how many nodes there are, and one.
+fn rank_above(children: &[GreenElement]) -> u8 {
+    let mut greatest = 0;
+    let mut rank = 1;
+    for child in children {
+        if let GreenElement::Node(node) = child {
+            let below = node.data.rank;
+            if below > greatest {
+                rank = below;
+            } else if below == greatest {
+                rank = below.saturating_add(1);
+            }
+            greatest = greatest.max(below);
+        }
+    }
+    rank
+}
+
+// The slot of the first child node of the greatest rank.
+fn heaviest(children: &[GreenElement]) -> Option<usize>
+    ensures { IfSome result (λ slot. slot < length children.now) }
+{
+    let mut found = None;
+    let mut greatest = 0;
+    for slot in 0..children.len() {
+        if let GreenElement::Node(node) = &children[slot] {
+            if found.is_none() || greatest < node.data.rank {
+                found = Some(slot);
+                greatest = node.data.rank;
+            }
+        }
+    }
+    found
+}
+
+/// The slot of the child node in which a walk over the whole node goes on by a loop, while it nests a call for each other child. Such calls
+/// nest no deeper than the logarithm of how many nodes there are. `None` where no child is a node.
+///
+/// It is the first child of the greatest rank, by the numbers of Horton and Strahler. Takes time linear in the children.
+pub fn heaviest_child(node: &GreenNode) -> Option<usize>
+    ensures { IfSome result (λ slot. slot < length node.now.children) }
+{
+    heaviest(&node.data.children)
+}
+
 fn total_length(children: &[GreenElement]) -> u64
     ensures { result ≡ capped_length (texts (element_trees children.now)) }
 {
@@ -221,6 +305,12 @@ fn total_length(children: &[GreenElement]) -> u64
         total = (total + child.length()).min(LENGTH_LIMIT);
     }
     total
+}
+
+fn any_token(children: &[GreenElement]) -> bool
+    ensures { result ≡ have_token (element_trees children.now) }
+{
+    children.iter().any(|child| child.has_token())
 }
 
 /// Shares elements at the end of a list. After a refusal some of them may be there.
@@ -264,10 +354,14 @@ impl GreenNode {
         ensures { IfOk result (λ n. n ≡ record { kind = kind.0; children = element_trees children.items }) }
     {
         let length = total_length(&children);
+        let rank = rank_above(&children);
+        let has_token = any_token(&children);
         let data = Rc::new(
             alloc,
             NodeData {
                 kind,
+                rank,
+                has_token,
                 length,
                 children,
             },
@@ -306,11 +400,23 @@ impl GreenNode {
         self.data.length
     }
 
+    // Whether there is a token below the node. Takes constant time.
+    pub(crate) fn has_token(&self) -> bool
+        ensures { result ≡ have_token self.now.children }
+    {
+        self.data.has_token
+    }
+
     /// The nodes and tokens below the node, in order.
     pub fn children(&self) -> &[GreenElement]
         ensures { element_trees result.now ≡ self.now.children }
     {
         self.data.children.as_slice()
+    }
+
+    // What the node's memory comes from.
+    pub(crate) fn allocator(&self) -> Global {
+        *self.data.children.allocator()
     }
 
     /// The same node again. Takes constant time, and copies nothing.

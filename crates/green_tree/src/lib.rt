@@ -14,7 +14,9 @@ mod tokens;
 
 pub use error::TreeError;
 pub use first_node::first_node_of_kind;
-pub use green::{GreenElement, GreenElementRef, GreenNode, GreenToken, LENGTH_LIMIT, share_all};
+pub use green::{
+    GreenElement, GreenElementRef, GreenNode, GreenToken, LENGTH_LIMIT, heaviest_child, share_all,
+};
 pub use kind::{KIND_NAMES, SyntaxKind};
 pub use offsets::{covering_path, tokens_at};
 pub use shape::have_same_shape;

@@ -1,45 +1,51 @@
-ghost use Rattle.std.specs.Prelude.{◌≡◌, ◌<◌, ◌≤◌, ◌++◌, [], IfOk, IsOk, OnOk, Ok, Some, None, option_map};
+ghost use Rattle.std.specs.Prelude.{◌≡◌, ◌<◌, ◌≤◌, ◌++◌, [], IfNone, IfOk, IfSome, IsOk, OnOk, Ok, Some, None, option_map};
 ghost use Rattle.green_tree.specs.Tree.{text_length};
 ghost use Rattle.green_tree.specs.inner.TokensByOffset.{covering, tokens_touching};
 ghost use Rattle.green_tree.specs.Green.{branch_tree, length_limit};
 ghost use Rattle.green_tree.specs.inner.FoundToken.{FindsTouching};
+ghost use Rattle.green_tree.specs.inner.CoveredChild.{IsCoveredIn};
+ghost use Rattle.green_tree.specs.inner.Touched.{PushesTouched};
 
 use crate::green::{GreenElement, GreenNode};
 use crate::tokens::FoundToken;
 use std::alloc::{AllocError, Global};
 
-// The tokens below the node that touch the offset, counted from the node's start, go to the end of `found`. `path` leads to
-// the node. It goes on into the children that touch the offset alone: at most two, since the others have no text or stand
-// apart from it.
-fn push_tokens_at(
-    alloc: Global,
-    node: &GreenNode,
+// A child whose text touches an offset, which is counted from the child's start: so many slots lead to its node, and it is
+// in this slot of it.
+#[derive(Clone, Copy)]
+struct Touched<'a> {
+    depth: usize,
+    slot: usize,
     offset: u64,
-    path: &mut Vec<usize>,
-    found: &mut Vec<FoundToken>,
+    element: &'a GreenElement,
+}
+
+// The children of the node that touch the offset, counted from the node's start, go to the end of `touched`: at most two,
+// since the others have no text or stand apart from it.
+fn push_touched<'a>(
+    node: &'a GreenNode,
+    offset: u64,
+    depth: usize,
+    touched: &mut Vec<Touched<'a>>,
 ) -> Result<(), AllocError>
     requires fits { text_length (branch_tree node.now) < length_limit }
-    ensures path { OnOk result (path.new.items ≡ path.old.items) }
-    ensures found { let finds = FindsTouching (branch_tree node.now) offset path.old.items in
-        OnOk result (finds found.old.items found.new.items) }
+    ensures touched { let pushes = PushesTouched (branch_tree node.now) offset depth in
+        OnOk result (pushes touched.old.items touched.new.items) }
     ensures none { tokens_touching (branch_tree node.now) offset ≡ [] → IsOk result }
 {
     let mut end = 0;
-    for (slot, child) in node.children().iter().enumerate() {
+    for (slot, element) in node.children().iter().enumerate() {
         let start = end;
-        end += child.length();
+        end += element.length();
         if start == end || offset < start || end < offset {
             continue;
         }
-        path.push(slot)?;
-        match child {
-            GreenElement::Node(below) => push_tokens_at(alloc, below, offset - start, path, found)?,
-            GreenElement::Token(token) => found.push(FoundToken {
-                path: Vec::from_slice(alloc, path)?,
-                green: token.share(alloc)?,
-            })?,
-        }
-        path.pop();
+        touched.push(Touched {
+            depth,
+            slot,
+            offset: offset - start,
+            element,
+        })?;
     }
     Ok(())
 }
@@ -56,15 +62,64 @@ pub fn tokens_at(
     ensures found { IfOk result (λ found. FindsTouching (branch_tree node.now) offset [] [] found.items) }
     ensures none { tokens_touching (branch_tree node.now) offset ≡ [] → IsOk result }
 {
-    let mut path = Vec::new(alloc);
     let mut found = Vec::new(alloc);
-    push_tokens_at(alloc, node, offset, &mut path, &mut found)?;
+    let mut path = Vec::new(alloc);
+    let mut touched = Vec::new(alloc);
+    push_touched(node, offset, 0, &mut touched)?;
+    while let Some(last) = touched.pop() {
+        path.truncate(last.depth);
+        path.push(last.slot)?;
+        match last.element {
+            GreenElement::Node(below) => {
+                push_touched(below, last.offset, path.len(), &mut touched)?;
+            }
+            GreenElement::Token(token) => found.push(FoundToken {
+                path: Vec::from_slice(alloc, &path)?,
+                green: token.share(alloc)?,
+            })?,
+        }
+    }
+    // The last child was visited first.
+    found.reverse();
     Ok(found)
 }
 
+// A child of a node, the slot that it is in, and where its text begins in the node's.
+#[derive(Clone, Copy)]
+struct Child<'a> {
+    slot: usize,
+    begin: u64,
+    element: &'a GreenElement,
+}
+
+// The last child whose text contains the range; the node's own text contains it. An element that stands before a child
+// contains no range that the child contains, but for an empty one at its end.
+fn last_covering(node: &GreenNode, start: u64, end: u64) -> Option<Child<'_>>
+    requires fits { text_length (branch_tree node.now) < length_limit }
+    requires ordered { start ≤ end }
+    requires within { end ≤ text_length (branch_tree node.now) }
+    ensures none { IfNone result (covering (branch_tree node.now) start end ≡ Some []) }
+    ensures some { IfSome result (IsCoveredIn (branch_tree node.now) start end) }
+{
+    let children = node.children();
+    let mut begin = node.length();
+    for slot in (0..children.len()).rev() {
+        let to = begin;
+        let element = &children[slot];
+        begin -= element.length();
+        if begin <= start && end <= to {
+            return Some(Child {
+                slot,
+                begin,
+                element,
+            });
+        }
+    }
+    None
+}
+
 // The slots on the way to the last element at or below the node whose text contains the range go to the end of `path`; the
-// node's own text contains it. An element that stands before a child contains no range that the child contains, but for an
-// empty one at its end, so the last child that contains the range is on the way.
+// node's own text contains it.
 fn push_covering(
     node: &GreenNode,
     start: u64,
@@ -77,20 +132,16 @@ fn push_covering(
     ensures { let way = option_map (λ p. path.old.items ++ p) (covering (branch_tree node.now) start end) in
         OnOk result (Some path.new.items ≡ way) }
 {
-    let children = node.children();
-    let mut from = node.length();
-    for slot in (0..children.len()).rev() {
-        let to = from;
-        let child = &children[slot];
-        from -= child.length();
-        if start < from || to < end {
-            continue;
-        }
-        path.push(slot)?;
-        return match child {
-            GreenElement::Node(below) => push_covering(below, start - from, end - from, path),
-            GreenElement::Token(_) => Ok(()),
+    let mut current = node;
+    let (mut from, mut to) = (start, end);
+    while let Some(child) = last_covering(current, from, to) {
+        path.push(child.slot)?;
+        let GreenElement::Node(below) = child.element else {
+            return Ok(());
         };
+        current = below;
+        from -= child.begin;
+        to -= child.begin;
     }
     Ok(())
 }

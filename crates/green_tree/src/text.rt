@@ -1,4 +1,4 @@
-ghost use Rattle.std.specs.Prelude.{◌≡◌, IfOk, string_bytes};
+ghost use Rattle.std.specs.Prelude.{◌≡◌, [], ◌∷◌, ◌++◌, IfOk, OnOk, string_bytes};
 ghost use Rattle.std.specs.Fmt.{WritesOnOk};
 ghost use Rattle.green_tree.specs.Tree.{text};
 ghost use Rattle.green_tree.specs.Green.{branch_tree};
@@ -7,14 +7,48 @@ use crate::green::{GreenElement, GreenElementRef, GreenNode, GreenToken};
 use std::alloc::{AllocError, Global};
 use std::fmt::{self, Display};
 
-// The texts of the node's tokens, one after another. It takes no memory.
+// A node whose text is being written, and the slot of its child that comes next.
+#[derive(Clone, Copy)]
+struct OpenNode<'a> {
+    node: &'a GreenNode,
+    next: usize,
+}
+
+// A refused growth is an error of the formatter.
+fn push_open<'a>(above: &mut Vec<OpenNode<'a>>, parent: OpenNode<'a>) -> fmt::Result
+    ensures { OnOk result (above.new.items ≡ above.old.items ++ parent.entry ∷ []) }
+{
+    above.push(parent).map_err(|_| fmt::Error)
+}
+
+// The texts of the node's tokens, one after another. It takes memory for the nodes above the one that is being written, so
+// none where no child is a node.
 fn write_text<W: fmt::Write>(node: &GreenNode, f: &mut fmt::Formatter<W>) -> fmt::Result
     ensures { WritesOnOk W.write_str_gives f.old result (text (branch_tree node.now)) f.new }
 {
-    for child in node.children() {
+    let mut above = Vec::new(node.allocator());
+    let mut current = Some(OpenNode { node, next: 0 });
+    while let Some(OpenNode { node, next }) = current {
+        let Some(child) = node.children().get(next) else {
+            current = above.pop();
+            continue;
+        };
+        let rest = OpenNode {
+            node,
+            next: next + 1,
+        };
         match child {
-            GreenElement::Node(below) => write_text(below, f)?,
-            GreenElement::Token(token) => f.write_str(token.text())?,
+            GreenElement::Node(below) => {
+                push_open(&mut above, rest)?;
+                current = Some(OpenNode {
+                    node: below,
+                    next: 0,
+                });
+            }
+            GreenElement::Token(token) => {
+                f.write_str(token.text())?;
+                current = Some(rest);
+            }
         }
     }
     Ok(())

@@ -1,10 +1,12 @@
-ghost use Rattle.std.specs.Prelude.{◌≡◌, ◌≤◌, [], ◌∷◌, length, reverse, IfOk, IfSome, IsSome, Ok, None};
+ghost use Rattle.std.specs.Prelude.{◌≡◌, ◌≤◌, [], ◌∷◌, ◌++◌, length, take, option_and_then, IfOk, IfNone, IfSome, IsSome, Ok, None};
 ghost use Rattle.green_tree.specs.Tree.{at};
 ghost use Rattle.green_tree.specs.inner.Neighbors.{first_token, last_token, last_token_before, first_token_after};
 ghost use Rattle.green_tree.specs.Green.{branch_tree};
-ghost use Rattle.green_tree.specs.inner.FoundToken.{FindsFirstFrom, FindsFirstAfter, FindsLastBefore, IsTokenOf, first_from, path_found};
+ghost use Rattle.green_tree.specs.GreenElementRef.{ref_tree};
+ghost use Rattle.green_tree.specs.inner.FoundToken.{FindsToken, IsTokenOf, first_from, path_found};
+ghost use Rattle.green_tree.specs.inner.Turn.{LeadsInto, IsTurn, way_through};
 
-use crate::green::{GreenElement, GreenNode, GreenToken};
+use crate::green::{GreenElement, GreenElementRef, GreenNode, GreenToken};
 use std::alloc::{AllocError, Global};
 
 /// A token, and the path that leads to it.
@@ -14,44 +16,79 @@ pub struct FoundToken {
     pub green: GreenToken,
 }
 
-impl FoundToken {
-    // The token, with the path to it: a way of slots, the last of them first.
-    fn of_way(way: Vec<usize>, green: GreenToken) -> FoundToken
-        ensures path { result.path.items ≡ reverse way.items }
-        ensures token { result.green ≡ green }
+// Where the way to a token leaves a path: after so many slots of the path it goes on in this slot, into this child.
+#[derive(Clone, Copy)]
+struct Turn<'a> {
+    depth: usize,
+    slot: usize,
+    child: GreenElementRef<'a>,
+}
+
+impl<'a> Turn<'a> {
+    // The path to the child, off this path.
+    fn path(&self, alloc: Global, path: &[usize]) -> Result<Vec<usize>, AllocError>
+        requires { self.now.depth ≤ length path.now }
+        ensures { IfOk result (λ v. v.items ≡ take self.now.depth path.now ++ self.now.slot ∷ []) }
     {
-        let mut path = way;
-        path.reverse();
-        FoundToken { path, green }
+        let mut off = Vec::from_slice(alloc, &path[..self.depth])?;
+        off.push(self.slot)?;
+        Ok(off)
     }
 }
 
-// The first token at or below the children in the slots from `start` on. If there is one, the slots on the way from the node
-// to it go to the end of `way`, the last of them first; else no memory is taken. An `Err` may leave other slots there.
-fn push_first_token(
-    alloc: Global,
-    node: &GreenNode,
-    start: usize,
-    way: &mut Vec<usize>,
-) -> Result<Option<GreenToken>, AllocError>
-    ensures ok { IfOk result (FindsFirstFrom (branch_tree node.now) (start ∷ []) way.old.items way.new.items) }
-    ensures none { first_from (branch_tree node.now) (start ∷ []) ≡ None → result ≡ Ok None }
+// The slot of the first child, from slot `start` on, that is a token or has one below it.
+fn first_slot(node: &GreenNode, start: usize) -> Option<usize>
+    ensures none { IfNone result (first_from (branch_tree node.now) (start ∷ []) ≡ None) }
+    ensures some { let way = first_from (branch_tree node.now) (start ∷ []) in
+        IfSome result (LeadsInto first_token (branch_tree node.now) way) }
 {
     let children = node.children();
     for slot in start..children.len() {
-        let below = match &children[slot] {
-            GreenElement::Token(token) => {
-                way.push(slot)?;
-                return Ok(Some(token.share(alloc)?));
-            }
-            GreenElement::Node(below) => below,
-        };
-        if let Some(token) = push_first_token(alloc, below, 0, way)? {
-            way.push(slot)?;
-            return Ok(Some(token));
+        if children[slot].has_token() {
+            return Some(slot);
         }
     }
-    Ok(None)
+    None
+}
+
+// The slot of the last child, before slot `end`, that is a token or has one below it.
+fn last_slot(node: &GreenNode, end: usize) -> Option<usize>
+    requires { end ≤ length node.now.children }
+    ensures none { IfNone result (last_token_before (branch_tree node.now) (end ∷ []) ≡ None) }
+    ensures some { let way = last_token_before (branch_tree node.now) (end ∷ []) in
+        IfSome result (LeadsInto last_token (branch_tree node.now) way) }
+{
+    let children = node.children();
+    for slot in (0..end).rev() {
+        if children[slot].has_token() {
+            return Some(slot);
+        }
+    }
+    None
+}
+
+// The first token at or below the element. If there is one, the slots on the way to it go to the end of `path`; else no
+// memory is taken. An `Err` may leave other slots there.
+fn push_first_token(
+    alloc: Global,
+    from: GreenElementRef<'_>,
+    path: &mut Vec<usize>,
+) -> Result<Option<GreenToken>, AllocError>
+    ensures ok { IfOk result (FindsToken (ref_tree from.entry) (first_token (ref_tree from.entry)) path.old.items path.new.items) }
+    ensures none { first_token (ref_tree from.entry) ≡ None → result ≡ Ok None }
+{
+    let mut current = from;
+    loop {
+        let node = match current {
+            GreenElementRef::Node(node) => node,
+            GreenElementRef::Token(token) => return Ok(Some(token.share(alloc)?)),
+        };
+        let Some(slot) = first_slot(node, 0) else {
+            return Ok(None);
+        };
+        path.push(slot)?;
+        current = node.children()[slot].as_ref();
+    }
 }
 
 /// The first token below a node. The path is counted from the node. `None` takes no memory.
@@ -60,39 +97,34 @@ pub fn first_token(alloc: Global, node: &GreenNode) -> Result<Option<FoundToken>
     ensures token { IfOk result (λ found. IfSome found (IsTokenOf (branch_tree node.now))) }
     ensures none { first_token (branch_tree node.now) ≡ None → result ≡ Ok None }
 {
-    let mut way = Vec::new(alloc);
-    let Some(green) = push_first_token(alloc, node, 0, &mut way)? else {
+    let mut path = Vec::new(alloc);
+    let Some(green) = push_first_token(alloc, GreenElementRef::Node(node), &mut path)? else {
         return Ok(None);
     };
-    Ok(Some(FoundToken::of_way(way, green)))
+    Ok(Some(FoundToken { path, green }))
 }
 
-// The same for the last token at or below the children in the slots before `end`.
+// The same for the last token at or below the element.
 fn push_last_token(
     alloc: Global,
-    node: &GreenNode,
-    end: usize,
-    way: &mut Vec<usize>,
+    from: GreenElementRef<'_>,
+    path: &mut Vec<usize>,
 ) -> Result<Option<GreenToken>, AllocError>
-    requires { end ≤ length node.now.children }
-    ensures ok { IfOk result (FindsLastBefore (branch_tree node.now) (end ∷ []) way.old.items way.new.items) }
-    ensures none { last_token_before (branch_tree node.now) (end ∷ []) ≡ None → result ≡ Ok None }
+    ensures ok { IfOk result (FindsToken (ref_tree from.entry) (last_token (ref_tree from.entry)) path.old.items path.new.items) }
+    ensures none { last_token (ref_tree from.entry) ≡ None → result ≡ Ok None }
 {
-    let children = node.children();
-    for slot in (0..end).rev() {
-        let below = match &children[slot] {
-            GreenElement::Token(token) => {
-                way.push(slot)?;
-                return Ok(Some(token.share(alloc)?));
-            }
-            GreenElement::Node(below) => below,
+    let mut current = from;
+    loop {
+        let node = match current {
+            GreenElementRef::Node(node) => node,
+            GreenElementRef::Token(token) => return Ok(Some(token.share(alloc)?)),
         };
-        if let Some(token) = push_last_token(alloc, below, below.children().len(), way)? {
-            way.push(slot)?;
-            return Ok(Some(token));
-        }
+        let Some(slot) = last_slot(node, node.children().len()) else {
+            return Ok(None);
+        };
+        path.push(slot)?;
+        current = node.children()[slot].as_ref();
     }
-    Ok(None)
 }
 
 /// The last token below a node. The path is counted from the node. `None` takes no memory.
@@ -101,40 +133,38 @@ pub fn last_token(alloc: Global, node: &GreenNode) -> Result<Option<FoundToken>,
     ensures token { IfOk result (λ found. IfSome found (IsTokenOf (branch_tree node.now))) }
     ensures none { last_token (branch_tree node.now) ≡ None → result ≡ Ok None }
 {
-    let mut way = Vec::new(alloc);
-    let Some(green) = push_last_token(alloc, node, node.children().len(), &mut way)? else {
+    let mut path = Vec::new(alloc);
+    let Some(green) = push_last_token(alloc, GreenElementRef::Node(node), &mut path)? else {
         return Ok(None);
     };
-    Ok(Some(FoundToken::of_way(way, green)))
+    Ok(Some(FoundToken { path, green }))
 }
 
-// The same for the last token before the element at `path`, counted from the node: below the child that the path goes
-// through first, and then in the slots before it. The slots go to the end of `way`.
-fn push_token_before(
-    alloc: Global,
-    node: &GreenNode,
-    path: &[usize],
-    way: &mut Vec<usize>,
-) -> Result<Option<GreenToken>, AllocError>
-    requires { IsSome (at (branch_tree node.now) path.now) }
-    ensures ok { IfOk result (FindsLastBefore (branch_tree node.now) path.now way.old.items way.new.items) }
-    ensures none { last_token_before (branch_tree node.now) path.now ≡ None → result ≡ Ok None }
+// The deepest turn off the path into an earlier child that is a token or has one below it.
+fn turn_before<'a>(root: &'a GreenNode, path: &[usize]) -> Option<Turn<'a>>
+    requires { IsSome (at (branch_tree root.now) path.now) }
+    ensures way { let way = option_and_then (way_through last_token path.now) result in
+        last_token_before (branch_tree root.now) path.now ≡ way }
+    ensures turn { IfSome result (IsTurn last_token (branch_tree root.now) path.now) }
 {
-    let [slot, rest @ ..] = path else {
-        return Ok(None);
-    };
-    let children = node.children();
-    if let GreenElement::Node(below) = &children[*slot] {
-        if let Some(token) = push_token_before(alloc, below, rest, way)? {
-            way.push(*slot)?;
-            return Ok(Some(token));
+    let mut turn = None;
+    let mut node = root;
+    for (depth, at) in path.iter().enumerate() {
+        let children = node.children();
+        if let Some(slot) = last_slot(node, *at) {
+            let child = children[slot].as_ref();
+            turn = Some(Turn { depth, slot, child });
+        }
+        match &children[*at] {
+            GreenElement::Node(below) => node = below,
+            GreenElement::Token(_) => return turn,
         }
     }
-    push_last_token(alloc, node, *slot, way)
+    turn
 }
 
-/// The last token that stands before the element at `path`. It visits the way and what is between, not the tree. `None` takes no
-/// memory.
+/// The last token that stands before the element at `path`. It visits the way to the element, the children before it on
+/// each level up to one that has a token, and the way to that token. `None` takes no memory.
 pub fn token_before(
     alloc: Global,
     root: &GreenNode,
@@ -145,40 +175,50 @@ pub fn token_before(
     ensures token { IfOk result (λ found. IfSome found (IsTokenOf (branch_tree root.now))) }
     ensures none { last_token_before (branch_tree root.now) path.now ≡ None → result ≡ Ok None }
 {
-    let mut way = Vec::new(alloc);
-    let Some(green) = push_token_before(alloc, root, path, &mut way)? else {
+    let Some(turn) = turn_before(root, path) else {
         return Ok(None);
     };
-    Ok(Some(FoundToken::of_way(way, green)))
+    let mut path = turn.path(alloc, path)?;
+    let Some(green) = push_last_token(alloc, turn.child, &mut path)? else {
+        return Ok(None);
+    };
+    Ok(Some(FoundToken { path, green }))
 }
 
-// The same for the first token after the element at `path`: below the child that the path goes through first, and then
-// in the slots after it. What is below the element is after it.
-fn push_token_after(
-    alloc: Global,
-    node: &GreenNode,
-    path: &[usize],
-    way: &mut Vec<usize>,
-) -> Result<Option<GreenToken>, AllocError>
-    requires { IsSome (at (branch_tree node.now) path.now) }
-    ensures ok { IfOk result (FindsFirstAfter (branch_tree node.now) path.now way.old.items way.new.items) }
-    ensures none { first_token_after (branch_tree node.now) path.now ≡ None → result ≡ Ok None }
+// The deepest turn off the path into a later child that is a token or has one below it. What is below the element is
+// after it, so a child of the element is such a child too.
+fn turn_after<'a>(root: &'a GreenNode, path: &[usize]) -> Option<Turn<'a>>
+    requires { IsSome (at (branch_tree root.now) path.now) }
+    ensures way { let way = option_and_then (way_through first_token path.now) result in
+        first_token_after (branch_tree root.now) path.now ≡ way }
+    ensures turn { IfSome result (IsTurn first_token (branch_tree root.now) path.now) }
 {
-    let [slot, rest @ ..] = path else {
-        return push_first_token(alloc, node, 0, way);
-    };
-    let children = node.children();
-    if let GreenElement::Node(below) = &children[*slot] {
-        if let Some(token) = push_token_after(alloc, below, rest, way)? {
-            way.push(*slot)?;
-            return Ok(Some(token));
+    let mut turn = None;
+    let mut node = root;
+    for (depth, at) in path.iter().enumerate() {
+        let children = node.children();
+        if let Some(slot) = first_slot(node, *at + 1) {
+            let child = children[slot].as_ref();
+            turn = Some(Turn { depth, slot, child });
+        }
+        match &children[*at] {
+            GreenElement::Node(below) => node = below,
+            GreenElement::Token(_) => return turn,
         }
     }
-    push_first_token(alloc, node, *slot + 1, way)
+    let Some(slot) = first_slot(node, 0) else {
+        return turn;
+    };
+    Some(Turn {
+        depth: path.len(),
+        slot,
+        child: node.children()[slot].as_ref(),
+    })
 }
 
 /// The first token that stands after the element at `path` in document order, so the first one below it where that is a
-/// node with tokens. It visits the way and what is between, not the tree. `None` takes no memory.
+/// node with tokens. It visits the way to the element, the children after it on each level up to one that has a token,
+/// and the way to that token. `None` takes no memory.
 pub fn token_after(
     alloc: Global,
     root: &GreenNode,
@@ -189,9 +229,12 @@ pub fn token_after(
     ensures token { IfOk result (λ found. IfSome found (IsTokenOf (branch_tree root.now))) }
     ensures none { first_token_after (branch_tree root.now) path.now ≡ None → result ≡ Ok None }
 {
-    let mut way = Vec::new(alloc);
-    let Some(green) = push_token_after(alloc, root, path, &mut way)? else {
+    let Some(turn) = turn_after(root, path) else {
         return Ok(None);
     };
-    Ok(Some(FoundToken::of_way(way, green)))
+    let mut path = turn.path(alloc, path)?;
+    let Some(green) = push_first_token(alloc, turn.child, &mut path)? else {
+        return Ok(None);
+    };
+    Ok(Some(FoundToken { path, green }))
 }

@@ -1,10 +1,9 @@
--- The children of a rewritten node, pushed one after another: gap 0, and then each slot with the gap after it.
-use Rattle.std.specs.Prelude.{◌≡◌, ℕ, zero, suc, ◌+◌, ◌<◌, ◌≤◌, true, false, cond, List, [], ◌∷◌, ◌++◌, length, drop, flat_map, refl}
+-- The children of a rewritten node, one after another: gap 0, and then each slot with the gap after it.
+use Rattle.std.specs.Prelude.{◌≡◌, ℕ, zero, suc, ◌+◌, ◌<◌, true, false, cond, List, [], ◌∷◌, ◌++◌, length, drop, flat_map, refl}
 use Rattle.std.proofs.Common.{ap, sym, ◌∙◌, get_or, arith}
-use Rattle.std.proofs.lemmas.List.{append_assoc, append-nil, at_drop_more, at_drop_all}
+use Rattle.std.proofs.lemmas.List.{append_assoc, append-nil, at_drop_more}
 use Rattle.green_tree.specs.Path.{Path}
 use Rattle.green_tree.specs.Tree.{Tree, Forest, end, more, SyntaxTree, trees, forest}
-use Rattle.green_tree.specs.inner.TreeSize.{size, forest_size}
 use Rattle.green_tree.specs.GreenElement.{element_tree, element_trees}
 use Rattle.green_tree.specs.declared.green.GreenElement.{GreenElement}
 use Rattle.edit_change.specs.Rewriting.{NumberedAim, replacements_at, is_replaced, gap, slot, rewritten, rewritten_from}
@@ -17,12 +16,6 @@ pub tree_at : (es : List GreenElement) (i : ℕ) (e : GreenElement) (d : SyntaxT
 tree_at [] i e d h is = absurd (omega arith)
 tree_at (x ∷ es) zero e d h is = ap element_tree is
 tree_at (x ∷ es) (suc i) e d h is = tree_at es i e d (omega arith) is
-
--- an element is smaller than its list
-pub size_at : (es : List GreenElement) (i : ℕ) (e : GreenElement) → i < length es → e ≡ get_or es i e → size (element_tree e) ≤ forest_size (forest (element_trees es))
-size_at [] i e h is = absurd (omega arith)
-size_at (x ∷ es) zero e h is = rw is (omega arith)
-size_at (x ∷ es) (suc i) e h is = omega (arith, size_at es i e (omega arith) is)
 
 module _ {L : Type 0} (label_at : Path → ℕ → L) (given : ℕ → List (Tree L)) (cs : List NumberedAim) where
   -- slot i, the gap after it, and so on to the last gap
@@ -49,20 +42,8 @@ module _ {L : Type 0} (label_at : Path → ℕ → L) (given : ℕ → List (Tre
       let s = slot label_at given cs (i ∷ []) (rewritten label_at given cs (i ∷ []) (get_or ts i d)) in
       at_drop_more (λ us. slots_from i (forest us)) ts i d l ∙ ap (λ j. s ++ gap label_at given cs [] j ++ slots_from j (forest (drop (i + 1) ts))) next
 
-  pub step : (before middle after all : List (Tree L)) (i : ℕ) (ts : List SyntaxTree) (d : SyntaxTree) → i < length ts → middle ≡ before ++ slot label_at given cs (i ∷ []) (rewritten label_at given cs (i ∷ []) (get_or ts i d)) → after ≡ middle ++ gap label_at given cs [] (i + 1) → before ++ left i ts ≡ all → after ++ left (i + 1) ts ≡ all
-  step before middle after all i ts d l m a h =
-      let s = slot label_at given cs (i ∷ []) (rewritten label_at given cs (i ∷ []) (get_or ts i d)) in
-      let g = gap label_at given cs [] (i + 1) in
-      let grouped : before ++ s ++ g ++ left (i + 1) ts ≡ before ++ (s ++ g ++ left (i + 1) ts) = simp append_assoc in
-      ap (λ xs. xs ++ left (i + 1) ts) (a ∙ ap (λ xs. xs ++ g) m) ∙ grouped ∙ ap (λ xs. before ++ xs) (sym (split i ts d l)) ∙ h
-
   pub slot-replaced : (p : Path) (t : Tree L) → is_replaced cs p ≡ true → flat_map given (replacements_at cs p) ≡ slot label_at given cs p t
   slot-replaced p t h = ap (λ b. cond b (flat_map given (replacements_at cs p)) (t ∷ [])) (sym h)
 
   pub slot-kept : (p : Path) (t : Tree L) → is_replaced cs p ≡ false → t ∷ [] ≡ slot label_at given cs p t
   slot-kept p t h = ap (λ b. cond b (flat_map given (replacements_at cs p)) (t ∷ [])) (sym h)
-
-  -- nothing is left after the last gap
-  pub all_made : (done all : List (Tree L)) (i : ℕ) (ts : List SyntaxTree) → length ts ≤ i → done ++ left i ts ≡ all → done ≡ all
-  all_made done all i ts l h =
-      sym (append-nil done) ∙ ap (λ xs. done ++ xs) (sym (at_drop_all (λ us. slots_from i (forest us)) ts i l)) ∙ h

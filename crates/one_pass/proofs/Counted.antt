@@ -1,11 +1,12 @@
 -- The exact count of the nodes that are built.
 --     built-inside                  for a child, as it is seen from the node above
 --     counts-at_most                no more nodes are built than are touched
---     still, in_slot                how many are still to come from a slot on; for one slot
-use Rattle.std.specs.Prelude.{◌≡◌, ℕ, suc, ◌+◌, ◌<◌, ◌≤◌, true, false, cond, List, [], ◌∷◌, ◌++◌, map, length, drop, refl}
+--     in_slot                       how many for one slot
+--     counted-own, counted-none     the node itself, where some child list is altered; where none is, nothing is built
+--     count-on                      what was counted as a whole, whatever is counted after
+use Rattle.std.specs.Prelude.{◌≡◌, ℕ, suc, ◌+◌, ◌≤◌, true, false, cond, List, [], ◌∷◌, ◌++◌, map, refl}
 use Rattle.std.specs.List.{list_any}
-use Rattle.std.proofs.Common.{ap, ap₂, sym, ◌∙◌, get_or, arith}
-use Rattle.std.proofs.lemmas.List.{at_drop_more, at_drop_all}
+use Rattle.std.proofs.Common.{ap, ap₂, sym, ◌∙◌, arith}
 use Rattle.green_tree.specs.Path.{Path}
 use Rattle.green_tree.specs.Tree.{SyntaxTree, Forest, Token, Node, end, more, forest, node}
 use Rattle.edit_change.specs.Rewriting.{NumberedAim, is_replaced}
@@ -62,29 +63,18 @@ counts-at_most aims e before after h =
     let ps = parents_of (aims_of aims) in
     at_most before (built (aims_of aims) [] (element_tree e) ps) (touched (element_tree e) ps) after (built-touched (aims_of aims) [] (element_tree e) ps) h
 
--- ---- what is still to come from slot i on
+-- ---- a node, and its children
 module _ (cs : List NumberedAim) where
-  abbrev pub still : ℕ → List SyntaxTree → ℕ
-  still i ts = built_from cs [] i (forest (drop i ts)) (parents_of cs)
-
   -- what a slot adds
   abbrev pub in_slot : ℕ → SyntaxTree → ℕ
   in_slot i t = cond (is_replaced cs (i ∷ [])) 0 (built cs (i ∷ []) t (inside i (parents_of cs)))
-
-  pub still-step : (i : ℕ) (ts : List SyntaxTree) (d t : SyntaxTree) → i < length ts → t ≡ get_or ts i d → still i ts ≡ in_slot i t + still (i + 1) ts
-  still-step i ts d t l is =
-      let next : suc i ≡ i + 1 = omega arith in
-      at_drop_more (λ us. built_from cs [] i (forest us) (parents_of cs)) ts i d l ∙ ap₂ (λ j u. in_slot i u + built_from cs [] j (forest (drop (i + 1) ts)) (parents_of cs)) next (sym is)
-
-  pub still-none : (i : ℕ) (ts : List SyntaxTree) → length ts ≤ i → still i ts ≡ 0
-  still-none i ts l = at_drop_all (λ us. built_from cs [] i (forest us) (parents_of cs)) ts i l
 
   own_paths : (ps : List Path) (k : ℕ) (ts : List SyntaxTree) → some_path ps ≡ true → built cs [] (node k ts) ps ≡ 1 + built_from cs [] 0 (forest ts) ps
   own_paths [] k ts h = absurd (cc)
   own_paths (p ∷ ps) k ts h = refl
 
   -- the node itself, where some child list is altered
-  pub counted-own : (k : ℕ) (ts : List SyntaxTree) → list_any has_parent cs ≡ true → nodes_built cs (node k ts) ≡ 1 + still 0 ts
+  pub counted-own : (k : ℕ) (ts : List SyntaxTree) → list_any has_parent cs ≡ true → nodes_built cs (node k ts) ≡ 1 + built_from cs [] 0 (forest ts) (parents_of cs)
   counted-own k ts h = own_paths (parents_of cs) k ts (some-parents cs ∙ h)
 
   no_paths : (ps : List Path) (t : SyntaxTree) → some_path ps ≡ false → built cs [] t ps ≡ 0
@@ -97,28 +87,6 @@ module _ (cs : List NumberedAim) where
   counted-none t h = no_paths (parents_of cs) t (some-parents cs ∙ h)
 
 -- ---- a count that stays at the greatest number
--- a slot, and then what is still to come
-pub count-step : (now next own rest left : ℕ) → ((further : ℕ) → counted next further ≡ counted now (own + further)) → left ≡ own + rest → (further : ℕ) → counted next (rest + further) ≡ counted now (left + further)
-count-step now next own rest left h is further =
-    let whole : own + (rest + further) ≡ left + further = omega (arith, is) in
-    h (rest + further) ∙ ap (counted now) whole
-
--- where nothing was counted
-pub count-nothing : (now next own : ℕ) → next ≡ now → own ≡ 0 → (further : ℕ) → counted next further ≡ counted now (own + further)
-count-nothing now next own stays none further =
-    let same : further ≡ own + further = omega (arith, none) in
-    ap₂ counted stays same
-
--- nothing more is to come
-pub count-all : (start now own left : ℕ) → left ≡ 0 → ((further : ℕ) → counted now (left + further) ≡ counted start (own + further)) → (further : ℕ) → counted now further ≡ counted start (own + further)
-count-all start now own left none h further = count-nothing now now left refl none further ∙ h further
-
 -- what was counted as a whole
 pub count-on : (now next own : ℕ) → next ≡ counted now own → (further : ℕ) → counted next further ≡ counted now (own + further)
 count-on now next own h further = omega (arith, h)
-
--- the node itself, after its children
-pub count-one : (start now own all next : ℕ) → next ≡ counted now 1 → ((further : ℕ) → counted now further ≡ counted start (own + further)) → all ≡ 1 + own → next ≡ counted start all
-count-one start now own all next n h is =
-    let whole : own + 1 ≡ all = omega (arith, is) in
-    n ∙ h 1 ∙ ap (counted start) whole

@@ -1,7 +1,7 @@
 -- The aims that matter for a child and for the gap after it say the same of them as all the aims.
 use Rattle.std.specs.Prelude.{◌≡◌, ℕ, zero, suc, ◌+◌, ◌<◌, ◌≤◌, Bool, true, false, cond, ◌&&◌, ◌||◌, nat_eq, List, [], ◌∷◌, ◌++◌, map, filter, refl, Some, None}
 use Rattle.std.specs.List.{list_any}
-use Rattle.std.proofs.Common.{ap, sym, ◌∙◌, arith, get_or}
+use Rattle.std.proofs.Common.{ap, sym, ◌∙◌, arith}
 use mathlib.Core.Logic.{inl, inr}
 use Rattle.std.proofs.lemmas.List.{append-nil}
 use Rattle.std.proofs.lemmas.List.Elements.{filter-append}
@@ -117,9 +117,6 @@ grow k old new xs ys a f n e o inside before after on under past_it =
     ]
 
 -- ---- a group by its index
-pub group_is : (groups : List (List Aimed)) (aims : List Aimed) (n i : ℕ) (group : List Aimed) → ((k : ℕ) (d : List Aimed) → k < n → get_or groups k d ≡ filter (concerns k) aims) → i < n → group ≡ get_or groups i group → group ≡ filter (concerns i) aims
-group_is groups aims n i group all l is = is ∙ all i group l
-
 pub group-inserted : (i : ℕ) (xs group : List Aimed) → group ≡ filter (concerns i) xs → inserts_at (aims_of group) [] (i + 1) ≡ inserts_at (aims_of xs) [] (i + 1)
 group-inserted i xs group e =
     let next : i + 1 ≡ suc i = omega arith in

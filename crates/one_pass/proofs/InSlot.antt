@@ -5,12 +5,16 @@
 --     empty-stays, empty-quiet, empty-gap      where no aim concerns the child, it is not replaced, nothing is altered below it, and nothing comes after it
 --     built-replaced, built-altered     how many nodes are built for a child that is replaced; that stays
 --     slot-unaltered, marks-unaltered, built-unaltered    such a child is kept as it is, with its marks, and nothing is built
-use Rattle.std.specs.Prelude.{◌≡◌, ℕ, true, false, cond, List, [], ◌∷◌, map, filter, flat_map, length, refl}
+--     slot-passed, marks-passed, built-passed    the same of one that is not opened
+--     turn-empty, marks-empty       where no aim concerns it, nothing else is put at its turn
+use Rattle.std.specs.Prelude.{◌≡◌, ℕ, Bool, true, false, not, cond, ◌&&◌, ◌+◌, List, [], ◌∷◌, ◌++◌, map, filter, flat_map, length, refl}
 use Rattle.std.proofs.Common.{ap, ap₂, sym, ◌∙◌, arith}
+use Rattle.std.proofs.lemmas.List.{append-nil}
 use Rattle.green_tree.specs.Path.{Path}
 use Rattle.green_tree.specs.Tree.{Tree, SyntaxTree}
 use Rattle.green_tree.specs.GreenElement.{element_tree}
 use Rattle.green_tree.specs.declared.green.GreenElement.{GreenElement}
+use Rattle.green_tree.specs.declared.green.GreenElement.TheVariants.{Node, Token}
 use Rattle.edit_change.specs.Rewriting.{is_replaced, slot, rewritten}
 use Rattle.one_pass.specs.inner.Built.{nodes_built}
 use Rattle.edit_change.specs.declared.aimed.Aimed.{Aimed}
@@ -20,6 +24,7 @@ use Rattle.edit_change.specs.inner.Aimed.{aims_of, of_formed, formed, formed_bel
 use Rattle.one_pass.specs.inner.Marked.{MarkTree, sought_in, wanted}
 use Rattle.edit_change.specs.inner.KindOnly.{kind_only}
 use Rattle.one_pass.specs.inner.Pass.{changes_at, aims_inside, child_rewritten, slot_rewritten, child_built, slot_built, kept_marks}
+use Rattle.one_pass.specs.inner.OpenNodes.{opens, turn}
 use Rattle.one_pass.proofs.BelowSlot.{alters_nothing, kept-below}
 use Rattle.one_pass.proofs.Children.{slot-kept}
 use Rattle.one_pass.proofs.Counted.{in_slot, built-inside, counted-none}
@@ -84,3 +89,40 @@ module _ (xs : List Aimed) (i : ℕ) (stays : is_replaced (aims_of xs) (i ∷ []
 
   pub built-unaltered : slot_built xs i e ≡ 0
   built-unaltered = sym (built-altered xs i e stays) ∙ counted-none (aims_inside xs i) (element_tree e) none
+
+-- ---- a child that is not opened
+alters-not : (b d : Bool) → (not b && d) ≡ false → b ≡ false → d ≡ false
+alters-not true d h s = absurd (cc)
+alters-not false d h s = h
+
+pub slot-passed : (xs : List Aimed) (i : ℕ) (e : GreenElement) → opens xs i e ≡ false → is_replaced (aims_of xs) (i ∷ []) ≡ false → (given : ℕ → List SyntaxTree) → element_tree e ∷ [] ≡ slot_rewritten kind_only given xs i e
+slot-passed xs i (Node b) h stays given =
+    slot-unaltered xs i stays (alters-not (is_replaced (aims_of xs) (i ∷ [])) (alter_below i (map formed xs)) h stays) (Node b) given
+slot-passed xs i (Token l) h stays given =
+    slot-kept kind_only given (aims_of xs) (i ∷ []) (element_tree (Token l)) stays
+
+pub marks-passed : (xs : List Aimed) (i : ℕ) (e : GreenElement) → opens xs i e ≡ false → is_replaced (aims_of xs) (i ∷ []) ≡ false → (sought : List Sought) (trees : ℕ → List MarkTree) → kept_marks sought e ∷ [] ≡ slot_rewritten (wanted (sought_in sought)) trees xs i e
+marks-passed xs i (Node b) h stays sought trees =
+    marks-unaltered xs i stays (alters-not (is_replaced (aims_of xs) (i ∷ [])) (alter_below i (map formed xs)) h stays) (Node b) sought trees
+marks-passed xs i (Token l) h stays sought trees =
+    slot-kept (wanted (sought_in sought)) trees (aims_of xs) (i ∷ []) (kept_marks sought (Token l)) stays
+
+pub built-passed : (xs : List Aimed) (i : ℕ) (e : GreenElement) → opens xs i e ≡ false → slot_built xs i e ≡ 0
+built-passed xs i (Node b) h = go (is_replaced (aims_of xs) (i ∷ [])) refl
+  where
+    go : (r : Bool) → is_replaced (aims_of xs) (i ∷ []) ≡ r → slot_built xs i (Node b) ≡ 0
+    go true goes = built-replaced xs i (Node b) goes
+    go false stays = built-unaltered xs i stays (alters-not (is_replaced (aims_of xs) (i ∷ [])) (alter_below i (map formed xs)) h stays) (Node b)
+built-passed xs i (Token l) h =
+    elim (is_replaced (aims_of xs) (i ∷ [])) as (λ r. ◌≡◌ {A = ℕ} (cond r 0 0) 0) [ true ↦ refl | false ↦ refl ]
+
+-- and where no aim concerns it
+pub turn-empty : (xs : List Aimed) (i : ℕ) (e : GreenElement) → opens xs i e ≡ false → length xs ≡ 0 → (given : ℕ → List SyntaxTree) → element_tree e ∷ [] ≡ turn kind_only given xs i e
+turn-empty xs i e h none given =
+    let made = slot_rewritten kind_only given xs i e in
+    slot-passed xs i e h (empty-stays xs i none) given ∙ sym (append-nil made) ∙ ap (λ ns. made ++ flat_map given ns) (sym (empty-gap xs (i + 1) none))
+
+pub marks-empty : (xs : List Aimed) (i : ℕ) (e : GreenElement) → opens xs i e ≡ false → length xs ≡ 0 → (sought : List Sought) (trees : ℕ → List MarkTree) → kept_marks sought e ∷ [] ≡ turn (wanted (sought_in sought)) trees xs i e
+marks-empty xs i e h none sought trees =
+    let made = slot_rewritten (wanted (sought_in sought)) trees xs i e in
+    marks-passed xs i e h (empty-stays xs i none) sought trees ∙ sym (append-nil made) ∙ ap (λ ns. made ++ flat_map trees ns) (sym (empty-gap xs (i + 1) none))

@@ -2,8 +2,8 @@ mod Alike
 mod AllCounted
 mod BelowSlot
 mod EnteredByLevel
+mod FoundLater
 mod ByNumber
-mod ChildByChild
 mod Children
 mod CopiesFound
 mod Counted
@@ -26,4 +26,6 @@ mod Rows
 pub mod TextOrders
 pub mod Tops
 mod TouchedNodes
+mod Turns
+mod OpenPath
 pub mod WholeTree

@@ -7,7 +7,6 @@ use Rattle.green_tree.specs.Path.{Path}
 use Rattle.green_tree.specs.Tree.{Forest, Token, Node, end, more, Tree, trees, forest, node, paths, paths_from, relabelled, forest_relabelled}
 use Rattle.green_tree.proofs.Parts.{slice_get-drop, drop-rest}
 use Rattle.one_pass.proofs.Children.{trees-forest}
-use Rattle.one_pass.proofs.ChildByChild.{IsShown}
 use Rattle.one_pass.specs.inner.Marked.{MarkTree, Marking, marks_on, marked, marked_from, mark_below}
 
 -- ---- one child
@@ -80,6 +79,3 @@ module _ (path : Path) where
 
   pub shown-one : (i : ℕ) (t : MarkTree) → shown i (t ∷ []) ≡ map (mark_below (path ++ i ∷ [])) (marked t)
   shown-one i t = ap (map (mark_below path)) (append-nil (map (mark_below (i ∷ [])) (marked t))) ∙ sym (deeper i (marked t))
-
-pub are_shown : (path : Path) → IsShown (shown path)
-are_shown path = record { none = λ i. refl; append = shown-append path }

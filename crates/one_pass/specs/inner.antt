@@ -3,6 +3,8 @@ pub mod OneMore
 pub mod Groups
 pub mod Few
 pub mod Pass
+pub mod OpenNodes
+pub mod Waiting
 pub mod Marked
 pub mod Built
 pub mod Lists

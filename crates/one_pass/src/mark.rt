@@ -82,7 +82,8 @@ pub fn marks_by_child<'a>(
     sought: &[Sought<'a>],
     count: usize,
 ) -> Result<Vec<Vec<Sought<'a>>>, AllocError>
-    ensures { IfOk result (λ v. AreDealt (sought_in sought.now) count v.items) }
+    ensures lists { IfOk result (λ v. AreDealt (sought_in sought.now) count v.items) }
+    ensures size { IfOk result (λ v. 0 < length sought.now → length v.items ≡ count) }
 {
     if sought.is_empty() {
         return Ok(Vec::new(alloc));

@@ -13,4 +13,5 @@ abbrev pub PutsSome : ℕ → List ℕ → List ℕ → Type 0
 PutsSome n before after = (bytes : List ℕ) × (length bytes ≡ n) × PutsInto bytes before after
 
 abbrev pub AnswersInto : List ℕ → ℕ → ℕ → List ℕ → List ℕ → Type 0
-AnswersInto script status n before after = (bytes : List ℕ) × IsAnswer script status bytes × (length bytes ≡ n) × PutsInto bytes before after
+AnswersInto script status n before after =
+    (bytes : List ℕ) × IsAnswer script status bytes × (length bytes ≡ n) × PutsInto bytes before after

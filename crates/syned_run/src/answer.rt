@@ -1,6 +1,9 @@
 //! What a run prints, and its exit status.
-ghost use Rattle.std.specs.Prelude.{◌≡◌, ◌≤◌, length, IfOk, IfSome, IsUtf8, string_bytes};
-ghost use Rattle.syned_run.specs.Answer.{IsAnswer, IsEditText, IsRefusalText, bad_text};
+ghost use Rattle.std.specs.Prelude.{◌≡◌, IfOk, string_bytes};
+ghost use Rattle.std.specs.Option.{MatchOption};
+ghost use Rattle.syned_script.specs.Script.{Edited};
+ghost use Rattle.syned_script.specs.RefusalText.{refusal_text};
+ghost use Rattle.syned_run.specs.Answer.{IsAnswer, IsNoScript, IsOutcome, printed, refused_text, bad_text};
 ghost use Rattle.syned_run.specs.inner.ExitCode.{exit_code};
 
 use crate::ends::SCRIPT_LIMIT;
@@ -20,9 +23,25 @@ pub(crate) struct Answer {
 pub(crate) fn answer_to(alloc: Global, script: &[u8]) -> Result<Answer, AllocError>
     ensures { IfOk result (λ a. IsAnswer script.now (exit_code a.status) (string_bytes a.text)) }
 {
-    let Some(script) = script_text(script) else {
-        return bad_script(alloc, 0);
-    };
+    match script_text(script) {
+        Some(text) => answer_to_text(alloc, text),
+        None => bad_script(alloc, 0),
+    }
+}
+
+fn script_text(script: &[u8]) -> Option<&str>
+    ensures { MatchOption result (IsNoScript script.now)
+        (λ text. (text.now ≡ script.now) × (IsNoScript script.now → ⊥)) }
+{
+    if script.len() > SCRIPT_LIMIT {
+        return None;
+    }
+    str::from_utf8(script).ok()
+}
+
+fn answer_to_text(alloc: Global, script: &str) -> Result<Answer, AllocError>
+    ensures { IfOk result (λ a. IsOutcome script.now (exit_code a.status) (string_bytes a.text)) }
+{
     match carry_out(alloc, script) {
         Ok(done) => edit_answer(alloc, &done),
         Err(Stopped { line, stop }) => match stop {
@@ -33,17 +52,9 @@ pub(crate) fn answer_to(alloc: Global, script: &[u8]) -> Result<Answer, AllocErr
     }
 }
 
-fn script_text(script: &[u8]) -> Option<&str>
-    ensures { IfSome result (λ _. (length script.now ≤ SCRIPT_LIMIT) × IsUtf8 script.now) }
-{
-    if script.len() > SCRIPT_LIMIT {
-        return None;
-    }
-    str::from_utf8(script).ok()
-}
-
 fn edit_answer(alloc: Global, done: &CarriedOut) -> Result<Answer, AllocError>
-    ensures { IfOk result (λ a. (exit_code a.status ≡ 0) × IsEditText (string_bytes a.text)) }
+    ensures status { IfOk result (λ a. exit_code a.status ≡ 0) }
+    ensures text { IfOk result (λ a. string_bytes a.text ≡ printed (Edited done.now.edit done.now.words)) }
 {
     let text = print_edit(alloc, &done.edit, done.words.in_order())?;
     Ok(Answer {
@@ -63,7 +74,8 @@ fn bad_script(alloc: Global, line: usize) -> Result<Answer, AllocError>
 }
 
 fn refusal_answer(alloc: Global, refusal: Refusal) -> Result<Answer, AllocError>
-    ensures { IfOk result (λ a. (exit_code a.status ≡ 1) × IsRefusalText (string_bytes a.text)) }
+    ensures { IfOk result (λ a. (exit_code a.status ≡ 1)
+        × (string_bytes a.text ≡ refused_text (refusal_text refusal))) }
 {
     let text = format!(in alloc; "refused {refusal}\n")?;
     Ok(Answer {

@@ -1,8 +1,10 @@
 //! What is printed of an edit that was made.
-ghost use Rattle.std.specs.Prelude.{◌≡◌, ◌++◌, IfOk, OnOk, string_bytes};
+ghost use Rattle.std.specs.Prelude.{◌≡◌, ◌++◌, [], map, flat_map, IfOk, OnOk, string_bytes};
+ghost use Rattle.cst_core.specs.Tree.{text};
+ghost use Rattle.cst_core.specs.Element.{subtree};
 ghost use Rattle.syntax_editor.specs.PlanText.{path_text};
-ghost use Rattle.syned_run.specs.Answer.{Note, note_text, paths_text};
-ghost use Rattle.syned_run.specs.inner.Printing.{PrintsEdit, paths_of};
+ghost use Rattle.syned_run.specs.Answer.{edit_text, note_text, paths_of, paths_text};
+ghost use Rattle.syned_run.specs.inner.Printing.{note_shown};
 
 use cst_core::SyntaxElement;
 use std::alloc::{AllocError, Global};
@@ -16,7 +18,18 @@ pub(crate) fn print_edit(
     edit: &SyntaxEdit,
     words: &[Word],
 ) -> Result<String, AllocError>
-    ensures { IfOk result (λ s. PrintsEdit edit.now.new_root edit.now.changed (string_bytes s)) }
+    ensures { let new = text (subtree edit.now.new_root) in let notes = map (note_shown edit.now) words.now in
+        IfOk result (λ s. string_bytes s ≡ edit_text new (paths_of edit.now.changed) notes) }
+{
+    let mut out = print_changed(alloc, edit)?;
+    push_notes(&mut out, edit, words)?;
+    Ok(out)
+}
+
+// The lines before those of the notes.
+fn print_changed(alloc: Global, edit: &SyntaxEdit) -> Result<String, AllocError>
+    ensures { let new = text (subtree edit.now.new_root) in
+        IfOk result (λ s. string_bytes s ≡ edit_text new (paths_of edit.now.changed) []) }
 {
     let text = edit.new_root().text(alloc)?;
     let mut out = String::from_str(alloc, "text \"")?;
@@ -24,14 +37,21 @@ pub(crate) fn print_edit(
     out.push_str("\"\nchanged")?;
     push_paths(&mut out, edit.changed_elements())?;
     out.push('\n')?;
-    for word in words {
-        push_note(&mut out, edit, word)?;
-    }
     Ok(out)
 }
 
+fn push_notes(out: &mut String, edit: &SyntaxEdit, words: &[Word]) -> Result<(), AllocError>
+    ensures { let notes = map (note_shown edit.now) words.now in
+        OnOk result (string_bytes out.new ≡ string_bytes out.old ++ flat_map note_text notes) }
+{
+    for word in words {
+        push_note(out, edit, word)?;
+    }
+    Ok(())
+}
+
 fn push_note(out: &mut String, edit: &SyntaxEdit, word: &Word) -> Result<(), AllocError>
-    ensures { OnOk result ((note : Note) × (string_bytes out.new ≡ string_bytes out.old ++ note_text note)) }
+    ensures { OnOk result (string_bytes out.new ≡ string_bytes out.old ++ note_text (note_shown edit.now word.now)) }
 {
     out.push_str("note ")?;
     out.push_str(&word.text)?;

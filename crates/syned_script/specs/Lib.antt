@@ -1,2 +1,6 @@
 pub mod RefusalText
+pub mod Script
+pub mod State
+pub mod StopOfError
+pub mod WordValue
 pub mod inner

@@ -1,2 +1,5 @@
--- What private calls cite, and the crates above for theirs: no contract that a user calls by names any of it.
-pub mod Name
+pub mod Numbered
+pub mod Stops
+pub mod Mapped
+pub mod SessionState
+pub mod Run

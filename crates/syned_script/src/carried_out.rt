@@ -1,13 +1,24 @@
 //! A script's lines in order: what they record, and the edit that is made of it.
-ghost use Rattle.std.specs.Prelude.{◌<◌, ◌^◌, IfOk};
+ghost use Rattle.std.specs.Prelude.{◌≡◌, ◌<◌, ◌≤◌, true, false, not, drop, length, IfOk, IfErr, OnOk, IfSome, IfNone};
+ghost use Rattle.std.specs.List.{list_all, position_or_len};
+ghost use Rattle.script_lines.specs.Line.{is_blank};
+ghost use Rattle.syned_script.specs.State as state;
+ghost use Rattle.syned_script.specs.State.{new_state};
+ghost use Rattle.syned_script.specs.Script.{lines_in, Edited, FinishGives, CarriesOut, EndRefuses};
+ghost use Rattle.syned_script.specs.Script.{Means, StopsSo, StopsAt};
+ghost use Rattle.syned_script.specs.inner.Stops.{StopsFor};
+ghost use Rattle.syned_script.specs.inner.SessionState.{editing_of, state_of};
+ghost use Rattle.syned_script.specs.inner.Run.{texts_in, TextGives, Reached, EndIsGood, EndStops, FinishStops};
+ghost use Rattle.syned_script.specs.declared.stop.Stop.TheVariants.{Memory};
 
 use crate::fault::Reason;
-use crate::line::{Line, is_blank, read_line};
+use crate::lines::lines_in;
 use crate::session::{Editing, Session};
 use crate::stop::{Stop, Stopped};
 use crate::told::Told;
 use crate::words::Words;
 use cst_core::{SyntaxNode, TreeIds};
+use script_lines::{Line, is_blank, read_line};
 use std::alloc::Global;
 use syntax_editor::{SyntaxEdit, SyntaxEditor};
 
@@ -36,10 +47,16 @@ pub struct Recorded {
 }
 
 /// Carries a script out to its end, or says at which line it ends, and why.
-pub fn carry_out(alloc: Global, script: &str) -> Result<CarriedOut, Stopped> {
+pub fn carry_out(alloc: Global, script: &str) -> Result<CarriedOut, Stopped>
+    ensures ok { IfOk result (λ done. Means script.now (Edited done.edit done.words)) }
+    ensures err { IfErr result (λ stopped. StopsAt script.now stopped.line stopped.stop) }
+{
     let mut session = Session::new(alloc);
     let number = go_through(alloc, &mut session, script)?;
-    finish(alloc, session).map_err(|stop| stop.at(number))
+    match finish(alloc, session) {
+        Ok(done) => Ok(done),
+        Err(stop) => Err(stop.at(number)),
+    }
 }
 
 /// What a script records, for another engine that is to carry it out; `None` where a line up to `finish` is bad, or its call
@@ -69,13 +86,23 @@ fn what_is_recorded(session: Session, told: Told) -> Option<Recorded> {
     })
 }
 
-fn lines<'a>(alloc: Global, script: &'a str) -> Result<Vec<&'a str>, Stopped> {
-    let lines = script.split_terminator('\n').collect(alloc);
-    lines.map_err(|_| Stop::Memory.at(0))
+fn lines<'a>(alloc: Global, script: &'a str) -> Result<Vec<&'a str>, Stopped>
+    ensures lines { IfOk result (λ lines. texts_in lines.items ≡ lines_in script.now) }
+    ensures memory { IfErr result (λ stopped. stopped.stop ≡ Memory) }
+{
+    match lines_in(alloc, script) {
+        Ok(lines) => Ok(lines),
+        Err(_) => Err(Stop::Memory.at(0)),
+    }
 }
 
 // Carries out the lines before `finish`, tells the number of that one, and tests what follows.
-fn go_through(alloc: Global, session: &mut Session, script: &str) -> Result<usize, Stopped> {
+fn go_through(alloc: Global, session: &mut Session, script: &str) -> Result<usize, Stopped>
+    requires { state_of session.old ≡ new_state }
+    ensures reached { IfOk result (λ n. Reached (lines_in script.now) n (state_of session.new)) }
+    ensures good { IfOk result (λ n. EndIsGood (state_of session.new) (drop n (lines_in script.now))) }
+    ensures err { IfErr result (λ stopped. StopsAt script.now stopped.line stopped.stop) }
+{
     let lines = lines(alloc, script)?;
     let number = record(alloc, session, &lines)?;
     test_end(session, &lines, number)?;
@@ -83,7 +110,9 @@ fn go_through(alloc: Global, session: &mut Session, script: &str) -> Result<usiz
 }
 
 // The same, whatever follows. It gives what the lines before `finish` tell.
-fn go_to_finish(alloc: Global, session: &mut Session, script: &str) -> Result<Told, Stopped> {
+fn go_to_finish(alloc: Global, session: &mut Session, script: &str) -> Result<Told, Stopped>
+    requires { state_of session.old ≡ new_state }
+{
     let lines = lines(alloc, script)?;
     let number = record(alloc, session, &lines)?;
     session
@@ -93,19 +122,25 @@ fn go_to_finish(alloc: Global, session: &mut Session, script: &str) -> Result<To
 
 // Carries out the lines before `finish`, and tells the number of that one.
 fn record(alloc: Global, session: &mut Session, lines: &[&str]) -> Result<usize, Stopped>
-    ensures { IfOk result (λ n. n < 2 ^ 63) }
+    requires { state_of session.old ≡ new_state }
+    ensures reached { IfOk result (λ n. Reached (texts_in lines.now) n (state_of session.new)) }
+    ensures within { IfOk result (λ n. n ≤ length lines.now) }
+    ensures err { IfErr result (λ stopped. StopsSo (texts_in lines.now) stopped.line stopped.stop) }
 {
     for (index, text) in lines.iter().enumerate() {
-        let number = index + 1;
-        if carry_out_line(alloc, session, text).map_err(|stop| stop.at(number))? {
-            return Ok(number);
+        match carry_out_line(alloc, session, text) {
+            Ok(true) => return Ok(index + 1),
+            Ok(false) => {}
+            Err(stop) => return Err(stop.at(index + 1)),
         }
     }
     Err(Stop::bad(0, Reason::NoFinish).at(lines.len() + 1))
 }
 
 // Carries the line out. Answers whether it was `finish`.
-fn carry_out_line(alloc: Global, session: &mut Session, text: &str) -> Result<bool, Stop> {
+fn carry_out_line(alloc: Global, session: &mut Session, text: &str) -> Result<bool, Stop>
+    ensures { TextGives (state_of session.old) text.now result (state_of session.new) }
+{
     match read_line(alloc, text)? {
         Line::Finish => Ok(true),
         line => {
@@ -117,21 +152,75 @@ fn carry_out_line(alloc: Global, session: &mut Session, text: &str) -> Result<bo
 
 // `finish`, which is the line of this number, wants an editor. Only blank lines may follow.
 fn test_end(session: &Session, lines: &[&str], number: usize) -> Result<(), Stopped>
-    requires { number < 2 ^ 63 }
+    requires { number ≤ length lines.now }
+    ensures good { OnOk result (EndIsGood (state_of session.now) (drop number (texts_in lines.now))) }
+    ensures err { IfErr result (EndStops (state_of session.now) (drop number (texts_in lines.now)) number) }
 {
     if !session.is_editing() {
         return Err(Stop::bad(0, Reason::NoEdit).at(number));
     }
-    for (index, text) in lines.iter().enumerate().skip(number) {
-        if !is_blank(text) {
-            return Err(Stop::bad(0, Reason::AfterFinish).at(index + 1));
-        }
+    match first_not_blank(&lines[number..]) {
+        None => Ok(()),
+        Some(index) => Err(Stop::bad(0, Reason::AfterFinish).at(number + index + 1)),
     }
-    Ok(())
 }
 
-fn finish(alloc: Global, session: Session) -> Result<CarriedOut, Stop> {
+fn first_not_blank(lines: &[&str]) -> Option<usize>
+    ensures none { IfNone result (list_all is_blank (texts_in lines.now) ≡ true) }
+    ensures some { IfSome result (λ i. list_all is_blank (texts_in lines.now) ≡ false) }
+    ensures first { IfSome result (λ i. i ≡ position_or_len (λ line. not (is_blank line)) (texts_in lines.now)) }
+    ensures within { IfSome result (λ i. i < length lines.now) }
+{
+    for (index, line) in lines.iter().enumerate() {
+        if !is_blank(line) {
+            return Some(index);
+        }
+    }
+    None
+}
+
+fn finish(alloc: Global, session: Session) -> Result<CarriedOut, Stop>
+    ensures done { IfOk result (λ done. (e : state.Editing) × ((state_of session).editing ≡ Some e)
+        × FinishGives (state_of session) e (Edited done.edit done.words)) }
+    ensures stops { IfErr result (FinishStops (state_of session)) }
+{
     let (editing, mut ids, words) = session.into_editing()?;
-    let edit = editing.finish(alloc, &mut ids)?;
+    let edit = carry_changes_out(alloc, editing, &mut ids)?;
     Ok(CarriedOut { edit, words })
+}
+
+// Carries the changes out, in the order of the script if there is one.
+fn carry_changes_out(alloc: Global, editing: Editing, ids: &mut TreeIds) -> Result<SyntaxEdit, Stop>
+    ensures done { IfOk result (CarriesOut (editing_of editing) ids.old) }
+    ensures stops { IfErr result (StopsFor ⊥ (EndRefuses editing.editor (editing_of editing).order ids.old)) }
+{
+    let Editing { editor, order, .. } = editing;
+    match order {
+        None => finish_at_once(alloc, editor, ids),
+        Some(order) => execute(alloc, editor, ids, &order),
+    }
+}
+
+fn finish_at_once(
+    alloc: Global,
+    editor: SyntaxEditor,
+    ids: &mut TreeIds,
+) -> Result<SyntaxEdit, Stop>
+    ensures done { IfOk result (CarriesOut (record { editor = editor; order = None }) ids.old) }
+    ensures stops { IfErr result (StopsFor ⊥ (EndRefuses editor None ids.old)) }
+{
+    Ok(editor.finish(alloc, ids)?)
+}
+
+fn execute(
+    alloc: Global,
+    editor: SyntaxEditor,
+    ids: &mut TreeIds,
+    order: &[usize],
+) -> Result<SyntaxEdit, Stop>
+    ensures done { IfOk result (CarriesOut (record { editor = editor; order = Some order.now }) ids.old) }
+    ensures stops { IfErr result (StopsFor ⊥ (EndRefuses editor (Some order.now) ids.old)) }
+{
+    let plan = editor.plan(alloc)?;
+    Ok(plan.execute(alloc, ids, order)?)
 }

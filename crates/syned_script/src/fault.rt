@@ -1,54 +1,15 @@
-//! What is wrong with a line of a script.
+//! Why a line of a script is bad.
 
+ghost use Rattle.std.specs.Prelude.{◌≡◌};
+
+use script_lines::Flaw;
 use std::fmt;
-use tree_text::{DEPTH_LIMIT, Expected};
-
-/// What should stand in a field of a line.
-#[derive(Clone, Copy, Debug, PartialEq, Eq)]
-pub enum Wanted {
-    /// The word that a line begins with.
-    Word,
-    /// The name of a tree, or the word of a note.
-    Name,
-    /// The way to an element.
-    Reference,
-    /// The name of a kind.
-    Kind,
-    /// The number of a change.
-    Number,
-    /// The word before the element that a position is beside.
-    Place,
-    /// The end of the line.
-    End,
-}
-
-impl Wanted {
-    fn as_str(self) -> &'static str {
-        match self {
-            Wanted::Word => {
-                "a line begins with tree, edit, map, insert, delete, replace, range, note, remove, order, finish or #"
-            }
-            Wanted::Name =>
-                "a name is expected: at most 32 letters, digits and underscores, a letter first",
-            Wanted::Reference =>
-                "an element is expected: the name of its tree, and each slot on the way after a /",
-            Wanted::Kind => "the name of a kind is expected",
-            Wanted::Number => "the number of a change is expected",
-            Wanted::Place => "first, last, before or after is expected",
-            Wanted::End => "the line has to end",
-        }
-    }
-}
 
 /// Why a line is bad.
 #[derive(Clone, Copy, Debug, PartialEq, Eq)]
 pub enum Reason {
-    /// Something else is wanted there.
-    Wanted(Wanted),
-    /// Something else is expected there in a tree expression.
-    Expected(Expected),
-    /// More than `DEPTH_LIMIT` parentheses of a tree expression are open there.
-    TooDeep,
+    /// The line is not well formed.
+    Flaw(Flaw),
     /// Another tree has the name.
     NameTaken,
     /// No tree has the name.
@@ -74,9 +35,7 @@ pub enum Reason {
 impl fmt::Display for Reason {
     fn fmt<W: fmt::Write>(&self, f: &mut fmt::Formatter<W>) -> fmt::Result {
         match self {
-            Reason::Wanted(wanted) => f.write_str(wanted.as_str()),
-            Reason::Expected(expected) => write!(f, "{expected} is expected"),
-            Reason::TooDeep => write!(f, "more than {DEPTH_LIMIT} parentheses are open at once"),
+            Reason::Flaw(flaw) => write!(f, "{flaw}"),
             Reason::NameTaken => f.write_str("another tree has this name"),
             Reason::NoTree => f.write_str("no tree before this line has this name"),
             Reason::NoElement => f.write_str("the tree has no element there"),
@@ -101,12 +60,9 @@ pub struct Fault {
 }
 
 impl Fault {
-    pub(crate) fn new(at: usize, reason: Reason) -> Fault {
+    pub(crate) fn new(at: usize, reason: Reason) -> Fault
+        ensures { result ≡ record { at = at; reason = reason } }
+    {
         Fault { at, reason }
-    }
-
-    /// Something else is wanted there.
-    pub(crate) fn wanted(at: usize, wanted: Wanted) -> Fault {
-        Fault::new(at, Reason::Wanted(wanted))
     }
 }

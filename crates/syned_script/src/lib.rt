@@ -1,13 +1,12 @@
-//! Scripts of edits: their lines are read, and carried out one after the other.
+//! Scripts of edits, carried out line by line.
 #![tactic(auto)]
 
+mod calls;
 mod carried_out;
 mod explained;
 mod fault;
-mod field;
-mod line;
-mod name;
-mod reference;
+mod lines;
+mod mapped;
 mod refusal;
 mod roots;
 mod session;
@@ -16,7 +15,7 @@ mod told;
 mod words;
 
 pub use carried_out::{CarriedOut, Recorded, carry_out, record_script};
-pub use fault::{Fault, Reason, Wanted};
+pub use fault::{Fault, Reason};
 pub use refusal::Refusal;
 pub use stop::{Stop, Stopped};
 pub use told::Told;

@@ -1,11 +1,16 @@
 //! The trees of a script by name.
+ghost use Rattle.std.specs.Prelude.{◌≡◌, ℕ, List, map, option_map, is_some, IfOk, IfErr, OnOk};
+ghost use Rattle.syned_script.specs.State.{with_root, element_in, elements_in, node_in, position_in};
+ghost use Rattle.script_lines.specs.LineValue.{ref_of, gap_of};
+ghost use Rattle.script_lines.specs.ScriptLine.{First, Last, Before, After};
+ghost use Rattle.syned_script.specs.inner.Stops.{NotThere};
+ghost use Rattle.syned_script.specs.inner.SessionState.{roots_of};
+ghost use Rattle.syned_script.specs.declared.stop.Stop.TheVariants.{Memory};
 
 use crate::fault::Reason;
-use crate::line::WrittenPosition;
-use crate::name::Name;
-use crate::reference::Reference;
 use crate::stop::Stop;
 use cst_core::{SyntaxElement, SyntaxNode};
+use script_lines::{Name, Reference, WrittenPosition};
 use std::alloc::Global;
 use std::collections::BTreeMap;
 use syntax_editor::Position;
@@ -16,17 +21,23 @@ pub(crate) struct Roots {
 }
 
 impl Roots {
-    pub(crate) fn new(alloc: Global) -> Roots {
+    pub(crate) fn new(alloc: Global) -> Roots
+        ensures { (name : List ℕ) → roots_of result name ≡ None }
+    {
         Roots {
             roots: BTreeMap::new(alloc),
         }
     }
 
-    pub(crate) fn is_taken(&self, name: Name<'_>) -> bool {
+    pub(crate) fn is_taken(&self, name: Name<'_>) -> bool
+        ensures { result ≡ is_some (roots_of self.now name.entry.text.now) }
+    {
         self.roots.contains_key(name.as_str())
     }
 
-    pub(crate) fn get(&self, name: Name<'_>) -> Option<&SyntaxNode> {
+    pub(crate) fn get(&self, name: Name<'_>) -> Option<&SyntaxNode>
+        ensures { option_map (λ root. root.now) result ≡ roots_of self.now name.entry.text.now }
+    {
         self.roots.get(name.as_str())
     }
 
@@ -36,7 +47,10 @@ impl Roots {
         alloc: Global,
         name: Name<'_>,
         root: SyntaxNode,
-    ) -> Result<(), Stop> {
+    ) -> Result<(), Stop>
+        ensures added { OnOk result (roots_of self.new ≡ with_root name.entry.text.now root (roots_of self.old)) }
+        ensures memory { IfErr result (λ stop. stop ≡ Memory) }
+    {
         let name = String::from_str(alloc, name.as_str())?;
         self.roots.insert(name, root)?;
         Ok(())
@@ -47,11 +61,14 @@ impl Roots {
         &self,
         alloc: Global,
         reference: &Reference<'_>,
-    ) -> Result<SyntaxElement, Stop> {
-        let at = reference.name.at;
-        let root = self
-            .get(reference.name)
-            .ok_or(Stop::bad(at, Reason::NoTree))?;
+    ) -> Result<SyntaxElement, Stop>
+        ensures found { IfOk result (λ e. element_in (roots_of self.now) (ref_of reference.now) ≡ Some e) }
+        ensures not_there { IfErr result (NotThere (element_in (roots_of self.now) (ref_of reference.now))) }
+    {
+        let at = reference.name.at();
+        let Some(root) = self.get(reference.name) else {
+            return Err(Stop::bad(at, Reason::NoTree));
+        };
         let element = root.element_at(alloc, &reference.slots)?;
         element.ok_or(Stop::bad(at, Reason::NoElement))
     }
@@ -61,7 +78,11 @@ impl Roots {
         &self,
         alloc: Global,
         references: &[Reference<'_>],
-    ) -> Result<Vec<SyntaxElement>, Stop> {
+    ) -> Result<Vec<SyntaxElement>, Stop>
+        ensures found { IfOk result
+            (λ es. elements_in (roots_of self.now) (map ref_of references.now) ≡ Some es.items) }
+        ensures not_there { IfErr result (NotThere (elements_in (roots_of self.now) (map ref_of references.now))) }
+    {
         let mut elements = Vec::new(alloc);
         for reference in references {
             elements.push(self.element(alloc, reference)?)?;
@@ -70,51 +91,66 @@ impl Roots {
     }
 
     /// The node that a reference names; `Bad` where there is none.
-    pub(crate) fn node(
-        &self,
-        alloc: Global,
-        reference: &Reference<'_>,
-    ) -> Result<SyntaxNode, Stop> {
+    pub(crate) fn node(&self, alloc: Global, reference: &Reference<'_>) -> Result<SyntaxNode, Stop>
+        ensures found { IfOk result (λ n. node_in (roots_of self.now) (ref_of reference.now) ≡ Some n) }
+        ensures not_there { IfErr result (NotThere (node_in (roots_of self.now) (ref_of reference.now))) }
+    {
         let node = self.element(alloc, reference)?.into_node();
-        node.ok_or(Stop::bad(reference.name.at, Reason::NotANode))
+        node.ok_or(Stop::bad(reference.name.at(), Reason::NotANode))
     }
 
     /// The position that is written so; `Bad` where there is none.
-    pub(crate) fn position(
-        &self,
-        alloc: Global,
-        at: &WrittenPosition<'_>,
-    ) -> Result<Position, Stop> {
+    pub(crate) fn position(&self, alloc: Global, at: &WrittenPosition<'_>) -> Result<Position, Stop>
+        ensures found { IfOk result (λ p. position_in (roots_of self.now) (gap_of at.now) ≡ Some p) }
+        ensures not_there { IfErr result (NotThere (position_in (roots_of self.now) (gap_of at.now))) }
+    {
         match at {
             WrittenPosition::First(node) => self.first_in(alloc, node),
             WrittenPosition::Last(node) => self.last_in(alloc, node),
-            WrittenPosition::Before(element) => gap(element, self.before(alloc, element)?),
-            WrittenPosition::After(element) => gap(element, self.after(alloc, element)?),
+            WrittenPosition::Before(element) => self.before(alloc, element),
+            WrittenPosition::After(element) => self.after(alloc, element),
         }
     }
 
-    fn first_in(&self, alloc: Global, node: &Reference<'_>) -> Result<Position, Stop> {
+    fn first_in(&self, alloc: Global, node: &Reference<'_>) -> Result<Position, Stop>
+        ensures found { IfOk result (λ p. position_in (roots_of self.now) (First (ref_of node.now)) ≡ Some p) }
+        ensures not_there { IfErr result (NotThere (position_in (roots_of self.now) (First (ref_of node.now)))) }
+    {
         let node = self.node(alloc, node)?;
         Ok(Position::first_child_of(alloc, &node)?)
     }
 
-    fn last_in(&self, alloc: Global, node: &Reference<'_>) -> Result<Position, Stop> {
+    fn last_in(&self, alloc: Global, node: &Reference<'_>) -> Result<Position, Stop>
+        ensures found { IfOk result (λ p. position_in (roots_of self.now) (Last (ref_of node.now)) ≡ Some p) }
+        ensures not_there { IfErr result (NotThere (position_in (roots_of self.now) (Last (ref_of node.now)))) }
+    {
         let node = self.node(alloc, node)?;
         Ok(Position::last_child_of(alloc, &node)?)
     }
 
-    fn before(&self, alloc: Global, element: &Reference<'_>) -> Result<Option<Position>, Stop> {
+    fn before(&self, alloc: Global, element: &Reference<'_>) -> Result<Position, Stop>
+        ensures found { IfOk result (λ p. position_in (roots_of self.now) (Before (ref_of element.now)) ≡ Some p) }
+        ensures not_there { IfErr result (NotThere (position_in (roots_of self.now) (Before (ref_of element.now)))) }
+    {
+        let at = element.name.at();
         let element = self.element(alloc, element)?;
-        Ok(Position::before(alloc, element)?)
+        gap(at, Position::before(alloc, element)?)
     }
 
-    fn after(&self, alloc: Global, element: &Reference<'_>) -> Result<Option<Position>, Stop> {
+    fn after(&self, alloc: Global, element: &Reference<'_>) -> Result<Position, Stop>
+        ensures found { IfOk result (λ p. position_in (roots_of self.now) (After (ref_of element.now)) ≡ Some p) }
+        ensures not_there { IfErr result (NotThere (position_in (roots_of self.now) (After (ref_of element.now)))) }
+    {
+        let at = element.name.at();
         let element = self.element(alloc, element)?;
-        Ok(Position::after(alloc, element)?)
+        gap(at, Position::after(alloc, element)?)
     }
 }
 
-// A root has no gap beside it.
-fn gap(beside: &Reference<'_>, position: Option<Position>) -> Result<Position, Stop> {
-    position.ok_or(Stop::bad(beside.name.at, Reason::BesideRoot))
+// A root has no gap beside it; the reference to it begins at this byte of the line.
+fn gap(at: usize, position: Option<Position>) -> Result<Position, Stop>
+    ensures found { IfOk result (λ p. position ≡ Some p) }
+    ensures not_there { IfErr result (NotThere position) }
+{
+    position.ok_or(Stop::bad(at, Reason::BesideRoot))
 }

@@ -1,17 +1,25 @@
 //! The state of a script that is carried out line by line.
+ghost use Rattle.std.specs.Prelude.{◌≡◌, ◌≢◌, true, is_some, map, IfOk, IfErr, OnOk};
+ghost use Rattle.script_lines.specs.LineValue.{ref_of, refs_of, gap_of, line_of};
+ghost use Rattle.script_lines.specs.ScriptLine as says;
+ghost use Rattle.cst_core.specs.Green.{branch_tree};
+ghost use Rattle.syned_script.specs.State.{new_state};
+ghost use Rattle.syned_script.specs.inner.Stops.{LineGives, StopsFor};
+ghost use Rattle.syned_script.specs.inner.SessionState.{editing_of, state_of};
+ghost use Rattle.syned_script.specs.declared.fault.Reason.TheVariants.{NoEdit};
+ghost use Rattle.syned_script.specs.declared.stop.Stop.TheVariants.{Bad, Memory};
 
+use crate::calls;
 use crate::fault::Reason;
-use crate::line::{Line, WrittenPosition};
-use crate::name::Name;
-use crate::reference::Reference;
+use crate::mapped::map_pair;
 use crate::roots::Roots;
 use crate::stop::Stop;
 use crate::told::Told;
 use crate::words::Words;
 use cst_core::{GreenNode, SyntaxKind, SyntaxNode, TreeIds};
-use list_removal::remove_separated;
+use script_lines::{Line, Name, Reference, WrittenPosition};
 use std::alloc::Global;
-use syntax_editor::{SyntaxEdit, SyntaxEditor, SyntaxMappingBuilder};
+use syntax_editor::SyntaxEditor;
 
 /// The trees of a script, its source of tree numbers, and what it edits once there is something.
 #[derive(Drop)]
@@ -31,29 +39,10 @@ pub(crate) struct Editing {
     pub(crate) order: Option<Vec<usize>>,
 }
 
-impl Editing {
-    /// Carries the changes out, in the order of the script if there is one.
-    pub(crate) fn finish(self, alloc: Global, ids: &mut TreeIds) -> Result<SyntaxEdit, Stop> {
-        let Editing { editor, order, .. } = self;
-        match order {
-            None => Ok(editor.finish(alloc, ids)?),
-            Some(order) => execute(alloc, ids, editor, &order),
-        }
-    }
-}
-
-fn execute(
-    alloc: Global,
-    ids: &mut TreeIds,
-    editor: SyntaxEditor,
-    order: &[usize],
-) -> Result<SyntaxEdit, Stop> {
-    let plan = editor.plan(alloc)?;
-    Ok(plan.execute(alloc, ids, order)?)
-}
-
 impl Session {
-    pub(crate) fn new(alloc: Global) -> Session {
+    pub(crate) fn new(alloc: Global) -> Session
+        ensures { state_of result ≡ new_state }
+    {
         Session {
             alloc,
             ids: TreeIds::new(1),
@@ -64,7 +53,10 @@ impl Session {
     }
 
     /// Carries out a line that does not end the script.
-    pub(crate) fn carry_out(&mut self, line: Line<'_>) -> Result<(), Stop> {
+    pub(crate) fn carry_out(&mut self, line: Line<'_>) -> Result<(), Stop>
+        requires { line_of line ≢ says.Finish }
+        ensures { LineGives (state_of self.old) (line_of line.entry) result (state_of self.new) }
+    {
         match line {
             Line::Blank => Ok(()),
             Line::Tree { name, root } => self.add_tree(name, root),
@@ -90,12 +82,18 @@ impl Session {
     }
 
     /// Whether there is an editor.
-    pub(crate) fn is_editing(&self) -> bool {
+    pub(crate) fn is_editing(&self) -> bool
+        ensures { result ≡ is_some (state_of self.now).editing }
+    {
         self.editing.is_some()
     }
 
     /// What is edited, with the source of tree numbers and the annotation words; `Bad` where there is nothing.
-    pub(crate) fn into_editing(self) -> Result<(Editing, TreeIds, Words), Stop> {
+    pub(crate) fn into_editing(self) -> Result<(Editing, TreeIds, Words), Stop>
+        ensures editing { IfOk result (λ r. (state_of self).editing ≡ Some (editing_of r.0)) }
+        ensures others { IfOk result (λ r. (r.1 ≡ self.ids) × (r.2 ≡ self.words)) }
+        ensures nothing { IfErr result (StopsFor ((state_of self).editing ≡ None) (λ r. ⊥)) }
+    {
         let Session {
             ids,
             words,
@@ -115,20 +113,26 @@ impl Session {
         Ok(told)
     }
 
-    fn add_tree(&mut self, name: Name<'_>, root: GreenNode) -> Result<(), Stop> {
+    fn add_tree(&mut self, name: Name<'_>, root: GreenNode) -> Result<(), Stop>
+        ensures { LineGives (state_of self.old) (says.Tree name.entry.text.now (branch_tree root))
+            result (state_of self.new) }
+    {
         if self.roots.is_taken(name) {
-            return Err(Stop::bad(name.at, Reason::NameTaken));
+            return Err(Stop::bad(name.at(), Reason::NameTaken));
         }
         let root = SyntaxNode::new_root(self.alloc, &mut self.ids, root)?;
         self.roots.add(self.alloc, name, root)
     }
 
-    fn edit(&mut self, name: Name<'_>, node: &Reference<'_>) -> Result<(), Stop> {
+    fn edit(&mut self, name: Name<'_>, node: &Reference<'_>) -> Result<(), Stop>
+        ensures { LineGives (state_of self.old) (says.Edit name.entry.text.now (ref_of node.now))
+            result (state_of self.new) }
+    {
         if self.is_editing() {
             return Err(Stop::bad(0, Reason::SecondEdit));
         }
         if self.roots.is_taken(name) {
-            return Err(Stop::bad(name.at, Reason::NameTaken));
+            return Err(Stop::bad(name.at(), Reason::NameTaken));
         }
         let node = self.roots.node(self.alloc, node)?;
         let (editor, root) = SyntaxEditor::new(self.alloc, &mut self.ids, node)?;
@@ -137,7 +141,12 @@ impl Session {
     }
 
     // Edits from now on, and gives the root.
-    fn begin(&mut self, editor: SyntaxEditor, root: SyntaxNode) -> Result<SyntaxNode, Stop> {
+    fn begin(&mut self, editor: SyntaxEditor, root: SyntaxNode) -> Result<SyntaxNode, Stop>
+        ensures begun { OnOk result (self.new ≡ record self.old
+            { editing = Some (record { editor = editor; root = root; order = None }) }) }
+        ensures named { IfOk result (λ named. named ≡ root) }
+        ensures memory { IfErr result (λ stop. stop ≡ Memory) }
+    {
         let named = root.try_clone(self.alloc)?;
         self.editing = Some(Editing {
             editor,
@@ -152,77 +161,62 @@ impl Session {
         parent: &Reference<'_>,
         input: &Reference<'_>,
         output: &Reference<'_>,
-    ) -> Result<(), Stop> {
-        let editor = editor_of(&mut self.editing)?;
-        let pair = pair_of(self.alloc, &self.roots, parent, input, output)?;
-        match editor.make_mut().mappings() {
-            Some(mapping) => Ok(pair.finish(self.alloc, mapping)?),
-            None => Ok(()),
+    ) -> Result<(), Stop>
+        ensures { LineGives (state_of self.old) (says.Map (ref_of parent.now) (ref_of input.now) (ref_of output.now))
+            result (state_of self.new) }
+    {
+        match &mut self.editing {
+            Some(editing) => map_pair(
+                self.alloc,
+                &self.roots,
+                &mut editing.editor,
+                parent,
+                input,
+                output,
+            ),
+            None => Err(no_edit()),
         }
     }
 
-    fn insert(&mut self, at: &WrittenPosition<'_>, payload: &[Reference<'_>]) -> Result<(), Stop> {
-        match payload {
-            [one] => self.insert_one(at, one),
-            _ => self.insert_all(at, payload),
+    fn insert(&mut self, at: &WrittenPosition<'_>, payload: &[Reference<'_>]) -> Result<(), Stop>
+        ensures { LineGives (state_of self.old) (says.Insert (gap_of at.now) (map ref_of payload.now))
+            result (state_of self.new) }
+    {
+        match &mut self.editing {
+            Some(editing) => calls::insert(
+                self.alloc,
+                &self.roots,
+                &mut editing.editor,
+                at,
+                payload,
+            ),
+            None => Err(no_edit()),
         }
     }
 
-    fn insert_one(
-        &mut self,
-        at: &WrittenPosition<'_>,
-        payload: &Reference<'_>,
-    ) -> Result<(), Stop> {
-        let editor = editor_of(&mut self.editing)?;
-        let at = self.roots.position(self.alloc, at)?;
-        let element = self.roots.element(self.alloc, payload)?;
-        Ok(editor.insert(self.alloc, at, element)?)
-    }
-
-    fn insert_all(
-        &mut self,
-        at: &WrittenPosition<'_>,
-        payload: &[Reference<'_>],
-    ) -> Result<(), Stop> {
-        let editor = editor_of(&mut self.editing)?;
-        let at = self.roots.position(self.alloc, at)?;
-        let elements = self.roots.elements(self.alloc, payload)?;
-        Ok(editor.insert_all(self.alloc, at, elements)?)
-    }
-
-    fn delete(&mut self, target: &Reference<'_>) -> Result<(), Stop> {
-        let editor = editor_of(&mut self.editing)?;
-        let target = self.roots.element(self.alloc, target)?;
-        Ok(editor.delete(self.alloc, target)?)
-    }
-
-    fn replace(&mut self, target: &Reference<'_>, payload: &[Reference<'_>]) -> Result<(), Stop> {
-        match payload {
-            [one] => self.replace_by_one(target, one),
-            _ => self.replace_with_many(target, payload),
+    fn delete(&mut self, target: &Reference<'_>) -> Result<(), Stop>
+        ensures { LineGives (state_of self.old) (says.Delete (ref_of target.now)) result (state_of self.new) }
+    {
+        match &mut self.editing {
+            Some(editing) => calls::delete(self.alloc, &self.roots, &mut editing.editor, target),
+            None => Err(no_edit()),
         }
     }
 
-    fn replace_by_one(
-        &mut self,
-        target: &Reference<'_>,
-        payload: &Reference<'_>,
-    ) -> Result<(), Stop> {
-        let editor = editor_of(&mut self.editing)?;
-        let target = self.roots.element(self.alloc, target)?;
-        let element = self.roots.element(self.alloc, payload)?;
-        Ok(editor.replace(self.alloc, target, element)?)
-    }
-
-    fn replace_with_many(
-        &mut self,
-        target: &Reference<'_>,
-        payload: &[Reference<'_>],
-    ) -> Result<(), Stop> {
-        let editor = editor_of(&mut self.editing)?;
-        let elements = self.roots.elements(self.alloc, payload)?;
-        let target = self.roots.element(self.alloc, target)?;
-        Ok(editor.replace_with_many(self.alloc, target, elements)?)
+    fn replace(&mut self, target: &Reference<'_>, payload: &[Reference<'_>]) -> Result<(), Stop>
+        ensures { LineGives (state_of self.old) (says.Replace (ref_of target.now) (map ref_of payload.now))
+            result (state_of self.new) }
+    {
+        match &mut self.editing {
+            Some(editing) => calls::replace(
+                self.alloc,
+                &self.roots,
+                &mut editing.editor,
+                target,
+                payload,
+            ),
+            None => Err(no_edit()),
+        }
     }
 
     fn range(
@@ -230,87 +224,83 @@ impl Session {
         first: &Reference<'_>,
         last: &Reference<'_>,
         payload: &[Reference<'_>],
-    ) -> Result<(), Stop> {
-        if payload.is_empty() {
-            self.delete_all(first, last)
-        } else {
-            self.replace_all(first, last, payload)
+    ) -> Result<(), Stop>
+        ensures { LineGives (state_of self.old)
+            (says.Range (ref_of first.now) (ref_of last.now) (map ref_of payload.now)) result (state_of self.new) }
+    {
+        match &mut self.editing {
+            Some(editing) => calls::range(
+                self.alloc,
+                &self.roots,
+                &mut editing.editor,
+                first,
+                last,
+                payload,
+            ),
+            None => Err(no_edit()),
         }
     }
 
-    fn delete_all(&mut self, first: &Reference<'_>, last: &Reference<'_>) -> Result<(), Stop> {
-        let editor = editor_of(&mut self.editing)?;
-        let first = self.roots.element(self.alloc, first)?;
-        let last = self.roots.element(self.alloc, last)?;
-        Ok(editor.delete_all(self.alloc, first, last)?)
+    fn remove(&mut self, element: &Reference<'_>, separator: SyntaxKind) -> Result<(), Stop>
+        ensures { LineGives (state_of self.old) (says.Remove (ref_of element.now) separator)
+            result (state_of self.new) }
+    {
+        match &mut self.editing {
+            Some(editing) => calls::remove(
+                self.alloc,
+                &self.roots,
+                &mut editing.editor,
+                element,
+                separator,
+            ),
+            None => Err(no_edit()),
+        }
     }
 
-    fn replace_all(
-        &mut self,
-        first: &Reference<'_>,
-        last: &Reference<'_>,
-        payload: &[Reference<'_>],
-    ) -> Result<(), Stop> {
-        let editor = editor_of(&mut self.editing)?;
-        let elements = self.roots.elements(self.alloc, payload)?;
-        let first = self.roots.element(self.alloc, first)?;
-        let last = self.roots.element(self.alloc, last)?;
-        Ok(editor.replace_all(self.alloc, first, last, elements)?)
+    fn note(&mut self, word: Name<'_>, element: &Reference<'_>) -> Result<(), Stop>
+        ensures { LineGives (state_of self.old) (says.Note word.entry.text.now (ref_of element.now))
+            result (state_of self.new) }
+    {
+        match &mut self.editing {
+            Some(editing) => {
+                let element = self.roots.element(self.alloc, element)?;
+                let annotation = self.words.annotation(self.alloc, word)?;
+                Ok(
+                    editing
+                        .editor
+                        .add_annotation(self.alloc, element, annotation)?,
+                )
+            }
+            None => Err(no_edit()),
+        }
     }
 
-    fn note(&mut self, word: Name<'_>, element: &Reference<'_>) -> Result<(), Stop> {
-        let editor = editor_of(&mut self.editing)?;
-        let element = self.roots.element(self.alloc, element)?;
-        let annotation = self.words.annotation(self.alloc, word)?;
-        Ok(editor.add_annotation(self.alloc, element, annotation)?)
+    fn order(&mut self, order: Vec<usize>) -> Result<(), Stop>
+        ensures { LineGives (state_of self.old) (says.Order order.items) result (state_of self.new) }
+    {
+        match &mut self.editing {
+            Some(editing) => editing.set_order(order),
+            None => Err(no_edit()),
+        }
     }
+}
 
-    fn remove(&mut self, element: &Reference<'_>, separator: SyntaxKind) -> Result<(), Stop> {
-        let editor = editor_of(&mut self.editing)?;
-        let element = self.roots.element(self.alloc, element)?;
-        Ok(remove_separated(self.alloc, editor, &element, separator)?)
-    }
-
-    fn order(&mut self, order: Vec<usize>) -> Result<(), Stop> {
-        let no_edit = Stop::bad(0, Reason::NoEdit);
-        let editing = self.editing.as_mut().ok_or(no_edit)?;
-        if editing.order.is_some() {
+impl Editing {
+    fn set_order(&mut self, order: Vec<usize>) -> Result<(), Stop>
+        ensures set { OnOk result (self.new ≡ record self.old { order = Some order }) }
+        ensures first { OnOk result (self.old.order ≡ None) }
+        ensures second { IfErr result (StopsFor (is_some self.old.order ≡ true) (λ r. ⊥)) }
+    {
+        if self.order.is_some() {
             return Err(Stop::bad(0, Reason::SecondOrder));
         }
-        editing.order = Some(order);
+        self.order = Some(order);
         Ok(())
     }
 }
 
-// The editor, if there is one.
-fn editor_of(editing: &mut Option<Editing>) -> Result<&mut SyntaxEditor, Stop> {
-    match editing {
-        Some(editing) => Ok(&mut editing.editor),
-        None => Err(Stop::bad(0, Reason::NoEdit)),
-    }
-}
-
-// The pair of a node and its copy below a parent.
-fn pair_of(
-    alloc: Global,
-    roots: &Roots,
-    parent: &Reference<'_>,
-    input: &Reference<'_>,
-    output: &Reference<'_>,
-) -> Result<SyntaxMappingBuilder, Stop> {
-    let mut builder = SyntaxMappingBuilder::new(alloc, roots.node(alloc, parent)?);
-    map_node(alloc, roots, &mut builder, input, output)?;
-    Ok(builder)
-}
-
-fn map_node(
-    alloc: Global,
-    roots: &Roots,
-    builder: &mut SyntaxMappingBuilder,
-    input: &Reference<'_>,
-    output: &Reference<'_>,
-) -> Result<(), Stop> {
-    let input = roots.node(alloc, input)?;
-    let output = roots.node(alloc, output)?;
-    Ok(builder.map_node(alloc, input, output)?)
+fn no_edit() -> Stop
+    ensures { result ≡ Bad (record { at = 0; reason = NoEdit }) }
+{
+    Stop::bad(0, Reason::NoEdit)
 }

@@ -1,9 +1,12 @@
-use crate::fault::{Fault, Reason, Wanted};
+ghost use Rattle.std.specs.Prelude.{◌≡◌};
+ghost use Rattle.syned_script.specs.declared.stop.Stop.TheVariants.{Bad};
+
+use crate::fault::{Fault, Reason};
 use crate::refusal::Refusal;
 use cst_core::TreeError;
+use script_lines::LineError;
 use std::alloc::{AllocError, AllocFailed};
 use syntax_editor::{EditError, ExecuteError, MapError, RecordError};
-use tree_text::ExpressionError;
 
 /// Why a script ends at a line.
 #[derive(Debug, Drop)]
@@ -25,51 +28,61 @@ pub struct Stopped {
 
 impl Stop {
     /// The line is bad for this reason, which shows at a byte of it.
-    pub(crate) fn bad(at: usize, reason: Reason) -> Stop {
+    pub(crate) fn bad(at: usize, reason: Reason) -> Stop
+        ensures { result ≡ Bad (record { at = at; reason = reason }) }
+    {
         Stop::Bad(Fault::new(at, reason))
     }
 
-    /// The same of a tree expression that begins at a byte of the line, unless memory ran out or the tree was refused.
-    pub(crate) fn of_expression(start: usize, error: ExpressionError) -> Stop {
-        match error {
-            ExpressionError::Malformed { at, expected } => {
-                Stop::bad(start.saturating_add(at), Reason::Expected(expected))
-            }
-            ExpressionError::UnknownKind { at } => {
-                Stop::bad(start.saturating_add(at), Reason::Wanted(Wanted::Kind))
-            }
-            ExpressionError::TooDeep { at } => {
-                Stop::bad(start.saturating_add(at), Reason::TooDeep)
-            }
-            ExpressionError::Tree(error) => Stop::from(error),
-            ExpressionError::Memory => Stop::Memory,
-        }
-    }
-
-    pub(crate) fn at(self, line: usize) -> Stopped {
+    pub(crate) fn at(self, line: usize) -> Stopped
+        ensures { result ≡ record { line = line; stop = self } }
+    {
         Stopped { line, stop: self }
     }
 }
 
-impl From<Fault> for Stop {
-    fn from(fault: Fault) -> Stop {
-        Stop::Bad(fault)
+impl From<LineError> for Stop {
+    ghost use Rattle.std.specs.Prelude.{◌≡◌};
+    ghost use Rattle.syned_script.specs.StopOfError.{stop_of_line};
+
+    ghost from_gives = { λ error stop. stop ≡ stop_of_line error };
+
+    fn from(error: LineError) -> Stop {
+        match error {
+            LineError::Bad(fault) => Stop::bad(fault.at, Reason::Flaw(fault.flaw)),
+            LineError::Memory => Stop::Memory,
+        }
     }
 }
 
 impl From<AllocError> for Stop {
+    ghost use Rattle.std.specs.Prelude.{◌≡◌};
+    ghost use Rattle.syned_script.specs.declared.stop.Stop.{Stop};
+
+    ghost from_gives = { λ _ stop. stop ≡ Stop.Memory };
+
     fn from(_: AllocError) -> Stop {
         Stop::Memory
     }
 }
 
 impl<T: Drop> From<AllocFailed<T>> for Stop {
+    ghost use Rattle.std.specs.Prelude.{◌≡◌};
+    ghost use Rattle.syned_script.specs.declared.stop.Stop.{Stop};
+
+    ghost from_gives = { λ _ stop. stop ≡ Stop.Memory };
+
     fn from(_: AllocFailed<T>) -> Stop {
         Stop::Memory
     }
 }
 
 impl From<TreeError> for Stop {
+    ghost use Rattle.std.specs.Prelude.{◌≡◌};
+    ghost use Rattle.syned_script.specs.StopOfError.{stop_of_tree};
+
+    ghost from_gives = { λ error stop. stop ≡ stop_of_tree error };
+
     fn from(error: TreeError) -> Stop {
         match error {
             TreeError::Memory => Stop::Memory,
@@ -79,6 +92,11 @@ impl From<TreeError> for Stop {
 }
 
 impl From<MapError> for Stop {
+    ghost use Rattle.std.specs.Prelude.{◌≡◌};
+    ghost use Rattle.syned_script.specs.StopOfError.{stop_of_map};
+
+    ghost from_gives = { λ error stop. stop ≡ stop_of_map error };
+
     fn from(error: MapError) -> Stop {
         match error {
             MapError::Memory => Stop::Memory,
@@ -88,6 +106,11 @@ impl From<MapError> for Stop {
 }
 
 impl From<RecordError> for Stop {
+    ghost use Rattle.std.specs.Prelude.{◌≡◌};
+    ghost use Rattle.syned_script.specs.StopOfError.{stop_of_record};
+
+    ghost from_gives = { λ error stop. stop ≡ stop_of_record error };
+
     fn from(error: RecordError) -> Stop {
         match error {
             RecordError::Memory => Stop::Memory,
@@ -97,6 +120,11 @@ impl From<RecordError> for Stop {
 }
 
 impl From<EditError> for Stop {
+    ghost use Rattle.std.specs.Prelude.{◌≡◌};
+    ghost use Rattle.syned_script.specs.StopOfError.{stop_of_edit};
+
+    ghost from_gives = { λ error stop. stop ≡ stop_of_edit error };
+
     fn from(error: EditError) -> Stop {
         match error {
             EditError::Memory => Stop::Memory,
@@ -106,6 +134,11 @@ impl From<EditError> for Stop {
 }
 
 impl From<ExecuteError> for Stop {
+    ghost use Rattle.std.specs.Prelude.{◌≡◌};
+    ghost use Rattle.syned_script.specs.StopOfError.{stop_of_execute};
+
+    ghost from_gives = { λ error stop. stop ≡ stop_of_execute error };
+
     fn from(error: ExecuteError) -> Stop {
         match error {
             ExecuteError::Edit(error) => Stop::from(error),

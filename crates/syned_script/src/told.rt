@@ -1,13 +1,11 @@
 //! What a script tells its editor beside its changes.
 
 use crate::fault::Reason;
-use crate::line::{Line, read_line};
-use crate::name::Name;
-use crate::reference::Reference;
 use crate::roots::Roots;
 use crate::stop::Stop;
 use crate::words::Words;
 use cst_core::{SyntaxElement, SyntaxNode};
+use script_lines::{Line, Name, Reference, read_line};
 use std::alloc::Global;
 use syntax_editor::SyntaxAnnotation;
 
@@ -83,5 +81,5 @@ impl Told {
 
 // The annotation of a word that was used.
 fn annotation_of(words: &Words, word: Name<'_>) -> Result<SyntaxAnnotation, Stop> {
-    words.get(word).ok_or(Stop::bad(word.at, Reason::NoTree))
+    words.get(word).ok_or(Stop::bad(word.at(), Reason::NoTree))
 }

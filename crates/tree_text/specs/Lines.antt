@@ -1,19 +1,27 @@
 -- A tree as lines, one for each node and token.
 --     line                   how an element's line begins: its indentation, its kind, where its text starts and ends
 --     lines, forest_lines    those of a tree whose text starts at a byte; those of trees side by side
+--     lines_in               the lines of a tree where kinds are given names
 use Rattle.std.specs.Prelude.{ℕ, ◌+◌, List, [], ◌++◌, length, codes, decimal}
 use Rattle.cst_core.specs.Tree.{SyntaxTree, Token, Node, Forest, end, more, text_length, forest_text}
 use Rattle.tree_text.specs.Escape.{escaped}
+use Rattle.tree_text.specs.KindNames.{KindName, text_in}
 
 abbrev pub line : List ℕ → List ℕ → ℕ → ℕ → List ℕ
 line indent kind start length = indent ++ kind ++ codes "@" ++ decimal start ++ codes ".." ++ decimal (start + length)
 
 abbrev mutual
   pub lines : (ℕ → List ℕ) → List ℕ → ℕ → SyntaxTree → List ℕ
-  lines name indent start (Token k s) = line indent (name k) start (length s) ++ codes " \"" ++ escaped s ++ codes "\"\n"
+  lines name indent start (Token k s) =
+      line indent (name k) start (length s) ++ codes " \"" ++ escaped s ++ codes "\"\n"
   lines name indent start (Node k f) =
-      line indent (name k) start (length (forest_text f)) ++ codes "\n" ++ forest_lines name (indent ++ codes "  ") start f
+      line indent (name k) start (length (forest_text f)) ++ codes "\n"
+      ++ forest_lines name (indent ++ codes "  ") start f
 
   pub forest_lines : (ℕ → List ℕ) → List ℕ → ℕ → Forest ℕ → List ℕ
   forest_lines name indent start end = []
-  forest_lines name indent start (more t f) = lines name indent start t ++ forest_lines name indent (start + text_length t) f
+  forest_lines name indent start (more t f) =
+      lines name indent start t ++ forest_lines name indent (start + text_length t) f
+
+abbrev pub lines_in : List KindName → List ℕ → ℕ → SyntaxTree → List ℕ
+lines_in given = lines (text_in given)

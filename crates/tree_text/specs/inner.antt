@@ -1,3 +1,10 @@
 -- What private calls cite.
-pub mod OpenDepth
+pub mod Completing
+pub mod Gap
+pub mod Indents
+pub mod Meant
 pub mod NamedKinds
+pub mod OpenDepth
+pub mod OpenTrees
+pub mod Reading
+pub mod UnnamedKinds

@@ -1,5 +1,6 @@
 ghost use Rattle.std.specs.Prelude.{◌≡◌, ◌++◌, OnOk, string_bytes};
 ghost use Rattle.tree_text.specs.Escape.{escaped};
+ghost use Rattle.tree_text.specs.inner.Meant.{meant};
 
 use std::alloc::AllocError;
 
@@ -22,7 +23,9 @@ pub fn push_escaped(out: &mut String, text: &str) -> Result<(), AllocError>
 }
 
 /// The character that a backslash and this one stand for.
-pub(crate) fn meant_by(letter: char) -> Option<char> {
+pub(crate) fn meant_by(letter: char) -> Option<char>
+    ensures { result ≡ meant letter }
+{
     match letter {
         'n' => Some('\n'),
         'r' => Some('\r'),

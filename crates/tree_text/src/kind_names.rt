@@ -1,5 +1,6 @@
 ghost use Rattle.std.specs.Prelude.{ℕ, ◌≡◌, ◌≢◌, ◌↔◌, ◌++◌, [], ◌∷◌, false, Some, None, Err, IsSome, IfSome, IsNone, OnOk, OnErr, option_map};
 ghost use Rattle.tree_text.specs.KindNames.{name_in, is_name, is_name_byte};
+ghost use Rattle.tree_text.specs.inner.NamedKinds.{AreNames};
 
 use crate::name_error::NameError;
 use cst_core::SyntaxKind;
@@ -39,6 +40,14 @@ impl KindNames {
         KindNames {
             given: Vec::new(alloc),
         }
+    }
+
+    /// Says what holds of all names, to those who call it.
+    pub(crate) fn are_names(&self)
+        ensures { AreNames (name_in self.now) }
+    {
+        // For the proof: a read makes the names' invariant known.
+        let _given = &self.given;
     }
 
     /// Gives a name to a kind, which may have any number that has none.

@@ -1,8 +1,10 @@
-ghost use Rattle.std.specs.Prelude.{◌≡◌, ◌+◌, ◌-◌, ◌≤◌, IfOk, IsTrue, ◌↔◌, length, []};
+ghost use Rattle.std.specs.Prelude.{◌≡◌, ◌+◌, ◌-◌, ◌≤◌, IfOk, IfErr, OnOk, IsTrue, ◌↔◌, length, [], ◌∷◌};
 ghost use Rattle.cst_core.specs.Green.{branch_tree};
 ghost use Rattle.cst_core.specs.GreenElement.{element_tree};
 ghost use Rattle.tree_text.specs.Depth.{depth};
+ghost use Rattle.tree_text.specs.Refusals.{IsRefused};
 ghost use Rattle.tree_text.specs.inner.OpenDepth.{open_depth};
+ghost use Rattle.tree_text.specs.inner.OpenTrees.{open_trees, HasPut, IsInnermostLong};
 ghost use Rattle.tree_text.specs.declared.open_nodes.TheConstants.{DEPTH_LIMIT};
 
 use crate::error::ExpressionError;
@@ -22,7 +24,9 @@ pub(crate) struct OpenNodes {
 }
 
 impl OpenNodes {
-    pub(crate) fn new(alloc: Global) -> OpenNodes {
+    pub(crate) fn new(alloc: Global) -> OpenNodes
+        ensures { result.nodes.items ≡ [] }
+    {
         OpenNodes {
             nodes: Vec::new(alloc),
         }
@@ -40,7 +44,10 @@ impl OpenNodes {
         alloc: Global,
         kind: SyntaxKind,
         at: usize,
-    ) -> Result<(), ExpressionError> {
+    ) -> Result<(), ExpressionError>
+        ensures ok { OnOk result (open_trees self.new.nodes.items ≡ (kind.0, []) ∷ open_trees self.old.nodes.items) }
+        ensures err { IfErr result (IsRefused ⊥ (DEPTH_LIMIT ≤ length (open_trees self.old.nodes.items)) ⊥) }
+    {
         if self.nodes.len() >= DEPTH_LIMIT {
             return Err(ExpressionError::TooDeep { at });
         }
@@ -52,6 +59,9 @@ impl OpenNodes {
     /// Puts an element that ends at this byte at the end of the innermost node.
     pub(crate) fn put(&mut self, element: GreenElement, at: usize) -> Result<(), ExpressionError>
         requires { depth (element_tree element) ≤ DEPTH_LIMIT - length self.old.nodes.items }
+        ensures ok { OnOk result
+            (HasPut (element_tree element) (open_trees self.old.nodes.items) (open_trees self.new.nodes.items)) }
+        ensures err { IfErr result (IsRefused (open_trees self.old.nodes.items ≡ []) ⊥ ⊥) }
     {
         let Some(mut node) = self.nodes.pop() else {
             return Err(ExpressionError::Malformed {
@@ -66,7 +76,11 @@ impl OpenNodes {
 
     /// Closes the innermost node at this byte.
     pub(crate) fn end(&mut self, alloc: Global, at: usize) -> Result<GreenNode, ExpressionError>
-        ensures { IfOk result (λ n. depth (branch_tree n) + length self.new.nodes.items ≤ DEPTH_LIMIT) }
+        ensures limited { IfOk result (λ n. depth (branch_tree n) + length self.new.nodes.items ≤ DEPTH_LIMIT) }
+        ensures ok { IfOk result
+            (λ n. open_trees self.old.nodes.items ≡ (n.kind, n.children) ∷ open_trees self.new.nodes.items) }
+        ensures err { IfErr result
+            (IsRefused (open_trees self.old.nodes.items ≡ []) ⊥ (IsInnermostLong (open_trees self.old.nodes.items))) }
     {
         let Some(OpenNode { kind, children }) = self.nodes.pop() else {
             return Err(ExpressionError::Malformed {

@@ -2,6 +2,7 @@ pub mod ChildPairs
 mod Dedented
 mod LastLines
 mod Lines
+mod OpenNodes
 mod Openings
 pub mod Restored
 mod RowsOfIndentation

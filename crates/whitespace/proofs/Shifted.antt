@@ -1,19 +1,17 @@
 -- Whitespace tokens indented and dedented.
---     Built, built_none, built_kept, built_changed, built_whole      the new children so far, from slot to slot
+--     Built, built_none, built_kept, built_changed      the new children so far, from slot to slot
 --     node_is, child_le            a node by its children; no child's text is longer
 --     refused_above                a refusal of a child is one of the node
 --     rest_of, joined              the rest of a list of shared elements; two lists of these
---     tree_at, size_at             an element of a list of shared elements
+--     tree_at                      an element of a list of shared elements
 --     token_kept, token_shifted    a token that stays, and one that changes
 use Rattle.std.specs.Prelude.{◌≡◌, ℕ, zero, suc, ◌+◌, ◌-◌, ◌≤◌, [], ◌∷◌, ◌++◌, take, drop, map, ◌==◌, ◌&&◌, ◌<◌, ◌≢◌, true, false, List, length, slice_index, cond, refl}
 use Rattle.std.proofs.Common.{ap, sym, ◌∙◌, subst, arith, get_or, append_assoc}
 use Rattle.std.proofs.lemmas.Bool.{cases_Bool, cond-true, cond-false, and_parts, eqb-true, eq-eqb}
 use Rattle.std.proofs.lemmas.List.{length-append, length-map, length-drop, length-take-le, take_all, drop-map, map-append, take_more, drop-append-le, drop_all, append-nil, get_or-map}
-use Rattle.std.proofs.Math.Seq.{take-length}
 use Rattle.std.proofs.lemmas.List.Folds.{list_any_at}
 use mathlib.Core.Logic.{inl, inr}
 use Rattle.cst_core.specs.Tree.{Token, Node, more, SyntaxTree, node, forest, text, forest_text, text_length}
-use Rattle.green_tree.specs.inner.TreeSize.{size, forest_size}
 use Rattle.cst_core.specs.Kinds.{WHITESPACE}
 use Rattle.whitespace.specs.Level.{newline, is_newline, has_newline}
 use Rattle.whitespace.specs.Indentation.{forest_with_texts}
@@ -88,9 +86,6 @@ module _ (shift : Shift) where
           made = ap (λ ts. next ++ ts) (drop_all (length next) (take (n + 1) old) (omega (arith, long, count))) ∙ append-nil next ∙ whole;
         }
 
-  pub built_whole : (old new : List SyntaxTree) → Built old new (length old) → new ++ drop (length new) old ≡ map (shifted shift) old
-  built_whole old new all = subst (λ ts. new ++ drop (length new) ts ≡ map (shifted shift) ts) (take-length old) all.made
-
   forest_is : (ts : List SyntaxTree) → forest_with_texts (λ kind s. cond (kind == WHITESPACE.0) (shifted_text shift s) s) (forest ts) ≡ forest (map (shifted shift) ts)
   forest_is [] = refl
   forest_is (t ∷ ts) = ap (more (shifted shift t)) (forest_is ts)
@@ -123,12 +118,6 @@ refused_above Memory m n le refuses = refuses
 module _ {X : Type 0} (tree_of : X → SyntaxTree) where
   pub tree_at : (es : List X) (i : ℕ) (e : X) → i < length es → e ≡ get_or es i e → tree_of e ≡ get_or (map tree_of es) i (tree_of e)
   tree_at es i e below is = ap tree_of is ∙ sym (get_or-map tree_of es i e (tree_of e) below)
-
-  -- an element is smaller than its list
-  pub size_at : (es : List X) (i : ℕ) (e : X) → i < length es → e ≡ get_or es i e → size (tree_of e) ≤ forest_size (forest (map tree_of es))
-  size_at [] i e h is = absurd (omega arith)
-  size_at (x ∷ es) zero e h is = rw is (omega arith)
-  size_at (x ∷ es) (suc i) e h is = omega (arith, size_at es i e (omega arith) is)
 
 -- the rest of a list, as a slice
 pub rest_of : {X : Type 0} (tree_of : X → SyntaxTree) (es : List X) (k n : ℕ) → k ≡ n → map tree_of (take (length es - k) (drop k es)) ≡ drop n (map tree_of es)

@@ -1,11 +1,12 @@
 //! Shared trees indented and dedented. What does not change is shared.
-ghost use Rattle.std.specs.Prelude.{◌≡◌, ◌==◌, ◌&&◌, ◌++◌, ◌∷◌, ◌≤◌, true, length, option_map, IfOk, IfErr, OnOk, string_bytes};
+ghost use Rattle.std.specs.Prelude.{◌≡◌, ◌==◌, ◌&&◌, ◌++◌, ◌∷◌, ◌≤◌, true, length, option_map, unwrap_or, IfOk, IfErr, OnOk, string_bytes};
 ghost use Rattle.cst_core.specs.Tree.{text_length};
 ghost use Rattle.cst_core.specs.GreenElement.{element_tree, element_trees};
 ghost use Rattle.cst_core.specs.Green.{branch_tree, leaf_tree};
 ghost use Rattle.cst_core.specs.Kinds.{WHITESPACE};
 ghost use Rattle.whitespace.specs.Level.{newline, has_newline};
 ghost use Rattle.whitespace.specs.Indentation.{indented_text, dedented_line, dedented_text};
+ghost use Rattle.whitespace.specs.inner.OpenNodes.{IsOpened, HasNext, IsAdvanced, IsClosed};
 ghost use Rattle.whitespace.specs.inner.Shift.{shifted_text, shifted, IsShifted, with_changed, with_rest, ShiftRefuses};
 
 use crate::indent_error::IndentError;
@@ -105,32 +106,6 @@ fn shifted_token(
     }
 }
 
-// The element with its whitespace indented or dedented; no answer where no whitespace in it holds a newline, and it stays.
-fn shifted_element(
-    alloc: Global,
-    shift: Shift,
-    element: &GreenElement,
-) -> Result<Option<GreenElement>, IndentError>
-    ensures ok { IfOk result (λ r. IsShifted shift (element_tree element.now) (option_map element_tree r)) }
-    ensures refused { IfErr result (ShiftRefuses (text_length (shifted shift (element_tree element.now)))) }
-{
-    let node = match element {
-        GreenElement::Token(token) => return shifted_token(alloc, shift, token),
-        GreenElement::Node(node) => node,
-    };
-    let children = node.children();
-    let mut built = Vec::new(alloc);
-    for slot in 0..children.len() {
-        if let Some(new) = shifted_element(alloc, shift, &children[slot])? {
-            push_changed(alloc, &mut built, &children[..slot], new)?;
-        }
-    }
-    if built.is_empty() {
-        return Ok(None);
-    }
-    Ok(Some(with_rest(alloc, node, built)?))
-}
-
 // Puts a changed child at the end of a list that begins the new children, after those before it that stay.
 fn push_changed(
     alloc: Global,
@@ -151,14 +126,72 @@ fn with_rest(
     alloc: Global,
     node: &GreenNode,
     mut built: Vec<GreenElement>,
-) -> Result<GreenElement, AllocError>
+) -> Result<GreenNode, AllocError>
     requires { length built.items ≤ length node.now.children }
-    ensures { IfOk result (λ e. element_tree e ≡ with_rest element_tree node.now built.items) }
+    ensures { IfOk result (λ n. branch_tree n ≡ with_rest element_tree node.now built.items) }
 {
     let children = node.children();
     let kept = built.len();
     share_all(alloc, &mut built, &children[kept..])?;
-    Ok(GreenElement::Node(GreenNode::capped(alloc, node.kind(), built)?))
+    GreenNode::capped(alloc, node.kind(), built)
+}
+
+/// A node of which the children before a slot are done: a list begins the new ones, and those after it stay.
+#[derive(Drop)]
+struct OpenNode<'a> {
+    node: &'a GreenNode,
+    slot: usize,
+    built: Vec<GreenElement>,
+}
+
+impl<'a> OpenNode<'a> {
+    fn new(alloc: Global, node: &'a GreenNode) -> OpenNode<'a>
+        ensures { IsOpened result node.now }
+    {
+        OpenNode {
+            node,
+            slot: 0,
+            built: Vec::new(alloc),
+        }
+    }
+
+    // One child more is done: it becomes this, or stays.
+    fn advance(&mut self, alloc: Global, new: Option<GreenElement>) -> Result<(), AllocError>
+        requires { HasNext self.old }
+        ensures { OnOk result (IsAdvanced self.old new self.new) }
+    {
+        let children = self.node.children();
+        if let Some(new) = new {
+            push_changed(alloc, &mut self.built, &children[..self.slot], new)?;
+        }
+        self.slot += 1;
+        Ok(())
+    }
+
+    // The node with its new children; no answer where all of them stay.
+    fn close(self, alloc: Global) -> Result<Option<GreenNode>, AllocError>
+        requires { length self.built.items ≤ length self.node.now.children }
+        ensures { IfOk result (λ r. IsClosed self.entry (option_map branch_tree r)) }
+    {
+        if self.built.is_empty() {
+            return Ok(None);
+        }
+        Ok(Some(with_rest(alloc, self.node, self.built)?))
+    }
+}
+
+// A changed node; where there is none, the old one.
+fn changed_or_shared(
+    alloc: Global,
+    node: &GreenNode,
+    new: Option<GreenNode>,
+) -> Result<GreenNode, AllocError>
+    ensures { IfOk result (λ n. branch_tree n ≡ unwrap_or (option_map branch_tree new) (branch_tree node.now)) }
+{
+    match new {
+        Some(new) => Ok(new),
+        None => node.share(alloc),
+    }
 }
 
 /// The node with the whitespace in it indented or dedented: the text of each whitespace token that holds a newline changes.
@@ -173,10 +206,25 @@ pub(crate) fn shifted_node(
     ensures ok { IfOk result (λ n. branch_tree n ≡ shifted shift (branch_tree node.now)) }
     ensures refused { IfErr result (ShiftRefuses (text_length (shifted shift (branch_tree node.now)))) }
 {
-    let whole = GreenElement::Node(node.share(alloc)?);
-    match shifted_element(alloc, shift, &whole)? {
-        Some(GreenElement::Node(new)) => Ok(new),
-        Some(GreenElement::Token(_)) => unreachable!(),
-        None => Ok(node.share(alloc)?),
+    let mut above: Vec<OpenNode> = Vec::new(alloc);
+    let mut open = OpenNode::new(alloc, node);
+    loop {
+        match open.node.children().get(open.slot) {
+            Some(GreenElement::Node(below)) => {
+                above.push(open)?;
+                open = OpenNode::new(alloc, below);
+            }
+            Some(GreenElement::Token(token)) => {
+                open.advance(alloc, shifted_token(alloc, shift, token)?)?;
+            }
+            None => {
+                let new = open.close(alloc)?;
+                let Some(parent) = above.pop() else {
+                    return Ok(changed_or_shared(alloc, node, new)?);
+                };
+                open = parent;
+                open.advance(alloc, new.map(GreenElement::Node))?;
+            }
+        }
     }
 }

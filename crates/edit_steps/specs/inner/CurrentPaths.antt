@@ -6,12 +6,14 @@
 --     start                          where in the new child list that begins
 --     StartFits                      no step towards it leaves the numbers of code
 --     current_path                   the path in the new element of what has a path in the old one, where nothing on the way is replaced
---     done_at, done_below            what an index has for the node at a path; at a path counted from another one
+--     listed                         what an index has in the list with this number
+--     done_in, done_at, done_below   what it has for a cell; for the node at a path; at a path counted from another one
 --     HasOneMore, SameDone           it has one more for this node; it has the same as before
-use Rattle.std.specs.Prelude.{◌≡◌, ◌≤◌, ◌<◌, ◌+◌, ◌-◌, ◌^◌, ℕ, Bool, not, cond, nat_lt, min, sum_by, List, [], ◌∷◌, ◌++◌}
-use Rattle.std.specs.HashMap.{get_by}
+--     IsDoneTable                    each number in the index is that of a list, and of one path
+use Rattle.std.specs.Prelude.{◌≡◌, ◌≤◌, ◌<◌, ◌+◌, ◌-◌, ◌^◌, ℕ, Bool, not, cond, nat_lt, min, sum_by, List, [], ◌∷◌, ◌++◌, length, slice_get, Option, Some}
 use Rattle.std.specs.Option.{option_map_or}
 use Rattle.green_tree.specs.Path.{Path, same_path}
+use Rattle.path_table.specs.inner.PathTable.{cell_at, number_in, number_by_path, IsTree}
 use Rattle.edit_steps.specs.declared.stage.done.Among.{Among}
 use Rattle.edit_steps.specs.declared.stage.done.Among.TheVariants.{Gap, Slots}
 use Rattle.edit_steps.specs.declared.stage.done.Done.{Done}
@@ -61,8 +63,14 @@ current_path done [] = []
 current_path done (i ∷ p) = start (done []) (Slots i 1) ∷ current_path (λ q. done (i ∷ q)) p
 
 -- ---- in code
+abbrev pub listed : DoneTable → ℕ → List Done
+listed index n = option_map_or (λ v. v.items) (slice_get index.lists.items n) []
+
+abbrev pub done_in : DoneTable → Option ℕ → List Done
+done_in index cell = option_map_or (listed index) (number_in index.places cell) []
+
 abbrev pub done_at : DoneTable → Path → List Done
-done_at index p = option_map_or (λ v. v.items) (get_by (λ k. same_path p k.items) index.lists) []
+done_at index p = done_in index (cell_at index.places p)
 
 abbrev pub done_below : DoneTable → Path → Path → List Done
 done_below index p q = done_at index (p ++ q)
@@ -72,3 +80,8 @@ HasOneMore before after at d = (p : Path) → done_at after p ≡ cond (same_pat
 
 abbrev pub SameDone : DoneTable → DoneTable → Type 0
 SameDone before after = (p : Path) → done_at after p ≡ done_at before p
+
+pub record IsDoneTable (index : DoneTable) : Type 0 where
+  pub tree : IsTree index.places
+  pub within : (p : Path) (n : ℕ) → number_by_path index.places p ≡ Some n → n < length index.lists.items
+  pub apart : (p q : Path) (n : ℕ) → number_by_path index.places p ≡ Some n → number_by_path index.places q ≡ Some n → p ≡ q

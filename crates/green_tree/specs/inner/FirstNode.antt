@@ -1,9 +1,7 @@
 -- The first node of a kind that starts somewhere.
 --     starts_as                     where a tree begins at an offset, what is at a path in it has a kind and starts at another offset
 --     first_from                    the path of the first such node, in document order
---     path_back                     a path that is kept from its end
-use Rattle.std.specs.Prelude.{ℕ, ◌+◌, nat_eq, ◌&&◌, Bool, false, find, reverse, Option, option_map, Vec}
-use Rattle.std.specs.Global.{Global}
+use Rattle.std.specs.Prelude.{ℕ, ◌+◌, nat_eq, ◌&&◌, Bool, false, find, Option}
 use Rattle.std.specs.Option.{option_map_or}
 use Rattle.green_tree.specs.Path.{Path}
 use Rattle.green_tree.specs.Tree.{SyntaxTree, label, at}
@@ -14,6 +12,3 @@ starts_as kind begin offset t p = option_map_or (λ e. nat_eq (label e) kind) (a
 
 abbrev pub first_from : ℕ → ℕ → ℕ → SyntaxTree → Option Path
 first_from kind begin offset t = find (starts_as kind begin offset t) (node_paths t)
-
-abbrev pub path_back : Option (Vec ℕ Global) → Option Path
-path_back way = option_map (λ v. reverse v.items) way

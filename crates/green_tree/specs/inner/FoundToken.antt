@@ -1,38 +1,26 @@
 -- Tokens that a walk finds.
---     FindsToken                    the token at this path of the tree, and the slots on the way to it added, the last of them first; or neither, where there is no such path
---     FindsLastBefore, FindsFirstAfter      that of the last token before the element at a path; of the first one after it
+--     FindsToken                    the token at this path of the tree, and the slots on the way to it added; or neither, where there is no such path
 --     tokens_from, first_from       the paths of the tokens that do not stand before the element at a path; the first of them
---     FindsFirstFrom                that of the first of them
 --     path_found, IsTokenOf         the path of a token that was found; it leads to that token in the tree
 --     reached, reached_below     the path of a token that was found, and its tree; paths in a tree that stands at a path, each with what it leads to
 --     FindsTouching                 after those that were found before, the tokens of a tree at a path that touch an offset
-use Rattle.std.specs.Prelude.{◌≡◌, ℕ, not, List, [], ◌++◌, reverse, map, filter, Option, Some, option_map, unwrap_or}
+use Rattle.std.specs.Prelude.{◌≡◌, ℕ, not, List, [], ◌++◌, map, filter, Option, Some, option_map, unwrap_or}
 use Rattle.green_tree.specs.Path.{Path, precedes, first_item}
 use Rattle.green_tree.specs.Tree.{Tree, SyntaxTree, at}
 use Rattle.green_tree.specs.Order.{token_paths}
-use Rattle.green_tree.specs.inner.Neighbors.{last_token_before, first_token_after}
 use Rattle.green_tree.specs.inner.TokensByOffset.{tokens_touching}
 use Rattle.green_tree.specs.Green.{Leaf, leaf_tree}
 use Rattle.green_tree.specs.declared.tokens.FoundToken.{FoundToken}
 
 pub record FindsToken (t : SyntaxTree) (way : Option Path) (old new : Path) (found : Option Leaf) : Type 0 where
-  pub slots : new ≡ old ++ reverse (unwrap_or way [])
+  pub slots : new ≡ old ++ unwrap_or way []
   pub token : option_map (λ l. Some (leaf_tree l)) found ≡ option_map (at t) way
-
-abbrev pub FindsLastBefore : SyntaxTree → Path → Path → Path → Option Leaf → Type 0
-FindsLastBefore t p old new = FindsToken t (last_token_before t p) old new
-
-abbrev pub FindsFirstAfter : SyntaxTree → Path → Path → Path → Option Leaf → Type 0
-FindsFirstAfter t p old new = FindsToken t (first_token_after t p) old new
 
 abbrev pub tokens_from : {L : Type 0} → Tree L → Path → List Path
 tokens_from t p = filter (λ q. not (precedes q p)) (token_paths t)
 
 abbrev pub first_from : {L : Type 0} → Tree L → Path → Option Path
 first_from t p = first_item (tokens_from t p)
-
-abbrev pub FindsFirstFrom : SyntaxTree → Path → Path → Path → Option Leaf → Type 0
-FindsFirstFrom t p old new = FindsToken t (first_from t p) old new
 
 abbrev pub path_found : Option FoundToken → Option Path
 path_found found = option_map (λ token. token.path.items) found

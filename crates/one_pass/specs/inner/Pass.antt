@@ -15,38 +15,33 @@
 --     kept_marks                    an untouched element, labelled by the marks that are sought in it
 --     aims_inside                   the aims at a child slot or below, as they are seen from the child
 --     child_rewritten, slot_rewritten         what is made of a child; what stands in its slot
---     children_rewritten, new_trees      what is made of all children; the same, labelled by kinds
---     CountsOn                      a count rose by so many nodes, whatever is counted after
 --     child_built, slot_built       how many nodes are built of a child that is kept; in a slot
---     children_built                how many are built of all children
---     altered, in_slot              a child made anew; what stands in the slot of a child
---     CountsAltered, CountsSlot     a walk counts their nodes
---     PutsAltered, PutsSlot         they are put next
---     FindsAltered, FindsSlot       a walk finds their marks
+--     in_slot                       what stands in the slot of a child
+--     PutsSlot, FindsSlot           it is put next; a walk finds its marks
 --     TouchesAtMost, CountsBuilt, CountsBuiltWhole      how a count of built nodes rises
 --     CountsTouched                 how it rises where all that is touched is built
 --     green_rewritten, green_rewritten_whole          the tree that a pass makes; what stands in the place of an element
 --     FindsHere                     a walk finds marks, whose paths are counted from its own
---     FindsKept, FindsChildren      it finds those of an untouched element; of all children of a node
+--     FindsKept                     it finds those of an untouched element
 --     FindsRewritten, FindsWhole      it finds those of a rewritten element; those of what stands in its place are found
 use Rattle.edit_change.specs.inner.KindOnly.{kind_only}
 use Rattle.std.specs.Prelude.{◌≡◌, ◌<◌, ◌≤◌, ◌+◌, ℕ, Bool, cond, List, [], ◌∷◌, ◌++◌, map, flat_map, length, get_or, slice_get, Option, Some, None, Vec}
 use Rattle.std.specs.Global.{Global}
 use Rattle.std.specs.Option.{option_map_or}
 use Rattle.green_tree.specs.Path.{Path}
-use Rattle.green_tree.specs.Tree.{Tree, Token, Node, SyntaxTree, forest}
+use Rattle.green_tree.specs.Tree.{Tree, Token, Node, SyntaxTree}
 use Rattle.edit_change.specs.inner.Given.{given_trees}
 use Rattle.green_tree.specs.GreenElement.{element_tree, element_trees}
 use Rattle.green_tree.specs.declared.green.GreenElement.{GreenElement}
 use Rattle.edit_change.specs.Effort.{touched, parents_of, counted}
-use Rattle.one_pass.specs.inner.Built.{built_from, nodes_built, nodes_built_whole, AreBuilt}
+use Rattle.one_pass.specs.inner.Built.{nodes_built, nodes_built_whole, AreBuilt}
 use Rattle.edit_change.specs.Aim.{Aim, aims_at_gap, starts_at}
-use Rattle.edit_change.specs.Rewriting.{NumberedAim, inserts_at, replacements_at, gap_order, is_replaced, slot, rewritten, rewritten_from, rewritten_whole}
+use Rattle.edit_change.specs.Rewriting.{NumberedAim, inserts_at, replacements_at, gap_order, is_replaced, slot, rewritten, rewritten_whole}
 use Rattle.edit_change.specs.inner.Aimed.{formed, of_formed, aims_of, formed_below}
 use Rattle.one_pass.specs.inner.Marked.{MarkTree, Marking, marked, marked_from, mark_below, marks_of, sought_in, wanted, Finds}
 use Rattle.edit_change.specs.declared.aimed.Aimed.{Aimed}
 use Rattle.one_pass.specs.declared.mark.Mark.{Mark}
-use Rattle.one_pass.specs.declared.pass.Child.{Child}
+use Rattle.one_pass.specs.declared.pushes.Child.{Child}
 use Rattle.one_pass.specs.declared.walk.Walk.{Walk}
 use Rattle.one_pass.specs.declared.mark.Sought.{Sought}
 use Rattle.one_pass.specs.declared.place.Place.{Place}
@@ -101,7 +96,7 @@ kept_marks sought e = rewritten (wanted (sought_in sought)) (λ c. []) [] [] (el
 
 -- below the node at the path of a walk, which has these children so far
 module _ (before : Walk) (out : Vec GreenElement Global) (after : Walk) where
-  abbrev FindsNext : List MarkTree → Type 0
+  abbrev pub FindsNext : List MarkTree → Type 0
   FindsNext ts = Finds before.found after.found (map (mark_below before.path.items) (marked_from (length out.items) ts))
 
   abbrev pub FindsGiven : Option ℕ → MarkedGiven → Type 0
@@ -127,16 +122,6 @@ module _ {L : Type 0} (label_at : Path → ℕ → L) (given : ℕ → List (Tre
   abbrev pub slot_rewritten : ℕ → GreenElement → List (Tree L)
   slot_rewritten i e = slot label_at given (aims_of aims) (i ∷ []) (child_rewritten i e)
 
-  abbrev pub children_rewritten : List GreenElement → List (Tree L)
-  children_rewritten es = rewritten_from label_at given (aims_of aims) [] 0 (forest (element_trees es))
-
-abbrev pub new_trees : GivenTable → List Aimed → List GreenElement → List SyntaxTree
-new_trees table aims es = children_rewritten kind_only (given_in table) aims es
-
--- whatever is counted after, from before it is n more
-abbrev pub CountsOn : ℕ → ℕ → ℕ → Type 0
-CountsOn before after n = (further : ℕ) → counted after further ≡ counted before (n + further)
-
 module _ (aims : List Aimed) where
   abbrev pub child_built : ℕ → GreenElement → ℕ
   child_built i e = nodes_built (aims_inside aims i) (element_tree e)
@@ -144,35 +129,14 @@ module _ (aims : List Aimed) where
   abbrev pub slot_built : ℕ → GreenElement → ℕ
   slot_built i e = cond (is_replaced (aims_of aims) (i ∷ [])) 0 (child_built i e)
 
-  abbrev pub children_built : List GreenElement → ℕ
-  children_built es = built_from (aims_of aims) [] 0 (forest (element_trees es)) (parents_of (aims_of aims))
-
 -- of one child, with the aims that concern it
 module _ (child : Child) where
-  abbrev altered : {L : Type 0} → (Path → ℕ → L) → (ℕ → List (Tree L)) → List (Tree L)
-  altered label_at given = child_rewritten label_at given child.aims.now child.slot child.element.now ∷ []
-
   abbrev in_slot : {L : Type 0} → (Path → ℕ → L) → (ℕ → List (Tree L)) → List (Tree L)
   in_slot label_at given = slot_rewritten label_at given child.aims.now child.slot child.element.now
 
-  abbrev pub CountsAltered : Walk → Walk → Type 0
-  CountsAltered before after =
-      CountsOn before.builds after.builds (child_built child.aims.now child.slot child.element.now)
-
-  abbrev pub CountsSlot : Walk → Walk → Type 0
-  CountsSlot before after = CountsOn before.builds after.builds (slot_built child.aims.now child.slot child.element.now)
-
   module _ (table : GivenTable) where
-    abbrev pub PutsAltered : Vec GreenElement Global → Vec GreenElement Global → Type 0
-    PutsAltered before after = Puts before after (altered kind_only (given_in table))
-
     abbrev pub PutsSlot : Vec GreenElement Global → Vec GreenElement Global → Type 0
     PutsSlot before after = Puts before after (in_slot kind_only (given_in table))
-
-    abbrev pub FindsAltered : Walk → Vec GreenElement Global → Walk → Type 0
-    FindsAltered before out after =
-        (trees : ℕ → List MarkTree) → AreMarkedIn table trees →
-        FindsNext before out after (altered (wanted (sought_in child.sought.now)) trees)
 
     abbrev pub FindsSlot : Walk → Vec GreenElement Global → Walk → Type 0
     FindsSlot before out after =
@@ -208,11 +172,6 @@ abbrev pub FindsKept : List Sought → GreenElement → Walk → Walk → Type 0
 FindsKept sought e before after = FindsHere before after (marked (kept_marks sought e))
 
 module _ (table : GivenTable) (aims : List Aimed) (sought : List Sought) where
-  abbrev pub FindsChildren : List GreenElement → Walk → Walk → Type 0
-  FindsChildren es before after =
-      (trees : ℕ → List MarkTree) → AreMarkedIn table trees →
-      FindsHere before after (marked_from 0 (children_rewritten (wanted (sought_in sought)) trees aims es))
-
   abbrev pub FindsRewritten : GreenElement → Walk → Walk → Type 0
   FindsRewritten e before after =
       (trees : ℕ → List MarkTree) → AreMarkedIn table trees →

@@ -1,13 +1,16 @@
-use Rattle.std.proofs.Common.{rules, ◌++◌, ◌∷◌, [], ap, ◌∙◌, string_bytes}
-use Rattle.std.proofs.lemmas.List.{flat_map_more}
-use Rattle.syned_run.specs.Answer.{note_text}
+use Rattle.std.proofs.Common.{ap, ◌∙◌, ◌++◌, map}
+use Rattle.std.specs.List.{flat_map}
+use Rattle.cst_core.specs.Tree.{text}
+use Rattle.cst_core.specs.Element.{subtree}
+use Rattle.syned_run.specs.Answer.{note_text, paths_of}
+use Rattle.syned_run.specs.inner.Printing.{note_shown}
+use Rattle.syned_run.proofs.Printed.{with_notes}
 use Rattle.syned_run.proofs.print.print_edit.Goals as goal
 
-pub loop-word-preserved : goal.loop-word-preserved
-loop-word-preserved c =
-    let (notes, so_far) = c.loop-word.invariant in
-    let (note, more) = c.in_ok-push_note.ensures in
-    (notes ++ note ∷ [], more ∙ ap (λ t. t ++ note_text note) so_far ∙ flat_map_more note_text (string_bytes c.push.new.self) notes note)
-
 pub returns : goal.returns
-returns c = search rules
+returns c =
+    let edit = c.args.edit.now in
+    let notes = map (note_shown edit) c.args.words.now in
+    c.in_ok-push_notes.ensures
+    ∙ ap (λ begun. begun ++ flat_map note_text notes) c.in_ok-out.ensures
+    ∙ with_notes (text (subtree edit.new_root)) (paths_of edit.changed) notes

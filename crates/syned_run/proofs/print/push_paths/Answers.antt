@@ -1,7 +1,6 @@
 use Rattle.std.proofs.Common.{◌++◌, arith, sym, ap, ◌∙◌, string_bytes}
 use Rattle.std.proofs.lemmas.List.Folds.{flat_map-map}
-use Rattle.syned_run.specs.Answer.{spaced}
-use Rattle.syned_run.specs.inner.Printing.{path_of}
+use Rattle.syned_run.specs.Answer.{path_of, spaced}
 use Rattle.syned_run.proofs.Printed.{all_there}
 use Rattle.syned_run.proofs.print.push_paths.Goals as goal
 

@@ -1,7 +1,6 @@
 use Rattle.std.proofs.Common.{◌≡◌, ◌++◌, take, string_bytes}
 use Rattle.std.specs.List.{flat_map}
-use Rattle.syned_run.specs.Answer.{spaced}
-use Rattle.syned_run.specs.inner.Printing.{path_of}
+use Rattle.syned_run.specs.Answer.{path_of, spaced}
 use Rattle.syned_run.proofs.print.push_paths.Given as goal
 
 abbrev pub invariant-loop-element : goal.invariant-loop-element

@@ -1,4 +1,4 @@
-use Rattle.std.proofs.Common.{rules, arith, is_ok}
+use Rattle.std.proofs.Common.{arith, is_ok}
 use Rattle.tree_text.specs.declared.open_node.OpenNode.{OpenNode}
 use Rattle.tree_text.specs.declared.open_nodes.TheConstants.{DEPTH_LIMIT}
 use Rattle.tree_text.proofs.Depths.{pushed, opened_fits}
@@ -10,9 +10,3 @@ invariant_of-self c =
     let node : OpenNode = record { kind = c.args.kind; children = c.new-children.result } in
     let room = opened_fits old node DEPTH_LIMIT c.new-children.ensures.items (omega (arith, c.len.ensures, c.if-len-ge-DEPTH_LIMIT.false)) in
     record { limited = pushed old c.push.new.self.items node (is_ok c.push.result) DEPTH_LIMIT c.push.ensures.items c.args.self.now.limited room }
-
-pub returns-then-len-ge-DEPTH_LIMIT : goal.returns-then-len-ge-DEPTH_LIMIT
-returns-then-len-ge-DEPTH_LIMIT c = search rules
-
-pub returns : goal.returns
-returns c = search rules

@@ -7,7 +7,7 @@ pub invariant_of-self : goal.invariant_of-self
 invariant_of-self c =
     record { limited = popped c.args.self.now.nodes.items c.pop.new.self.items c.pop.result DEPTH_LIMIT c.pop.ensures.items c.args.self.now.limited }
 
-pub returns : goal.returns
-returns c =
+pub returns-clause-limited : goal.returns-clause-limited
+returns-clause-limited c =
     let fits = innermost_fits c.args.self.now.nodes.items c.pop.new.self.items c.in-Some.field-0 DEPTH_LIMIT c.in-Some.ensures.items c.args.self.now.limited in
     kept_by_map_err c.new.result c.map_err.result _ _ c.map_err.ensures.cases (of_the_value c.new.result _ _ c.new.ensures.ok fits)

@@ -1,0 +1,93 @@
+use Rattle.std.proofs.Common.{◌≡◌, [], ◌++◌, map, rules, refl, arith, ap, ap₂, sym, ◌∙◌}
+use Rattle.green_tree.specs.GreenElement.{element_tree}
+use Rattle.edit_change.specs.Effort.{counted}
+use Rattle.one_pass.specs.inner.Built.{nodes_built}
+use Rattle.edit_change.specs.Rewriting.{rewritten}
+use Rattle.edit_change.specs.inner.Aimed.{aims_of}
+use Rattle.one_pass.specs.inner.Marked.{marked, mark_below, marks_of, sought_in, marks_at, wanted}
+use Rattle.one_pass.specs.inner.Pass.{given_in, green_rewritten}
+use Rattle.edit_change.proofs.AlteredNodes.{on_ok, on_ok-map, if_ok-map}
+use Rattle.one_pass.proofs.Counted.{counted-none, counts-at_most}
+use Rattle.one_pass.proofs.TouchedNodes.{on_ok-touched}
+use Rattle.edit_change.proofs.Untouched.{nothing_rewritten, unaimed}
+use Rattle.one_pass.proofs.MarksKept.{token_marks}
+use Rattle.one_pass.proofs.pass.rewrite_element.Goals as goal
+
+pub returns-then-not-alter_some-clause-path : goal.returns-then-not-alter_some-clause-path
+returns-then-not-alter_some-clause-path c = on_ok c.share.result c.in_ok-push_kept.ensures.path
+
+pub returns-in_default-clause-path : goal.returns-in_default-clause-path
+returns-in_default-clause-path c = on_ok c.share-in_default.result refl
+
+pub returns-in_default-clause-tree : goal.returns-in_default-clause-tree
+returns-in_default-clause-tree c =
+    let own = element_tree c.args.element.now in
+    let same : own ≡ green_rewritten c.args.given.now c.args.aims.now c.args.element.now = ap element_tree c.in_default.is ∙ ap (λ e. green_rewritten c.args.given.now c.args.aims.now e) (sym c.in_default.is) in
+    if_ok-map (λ e. e ≡ c.args.element.now) (λ e. element_tree e ≡ green_rewritten c.args.given.now c.args.aims.now c.args.element.now) c.share-in_default.result (λ e is. ap element_tree is ∙ same) c.share-in_default.ensures
+
+pub returns-then-not-alter_some-clause-tree : goal.returns-then-not-alter_some-clause-tree
+returns-then-not-alter_some-clause-tree c =
+    let none = sym c.alter_some.ensures ∙ c.if-not-alter_some.true in
+    rw (nothing_rewritten (given_in c.args.given.now) c.args.aims.now (element_tree c.args.element.now) none) (search rules)
+
+pub returns-then-not-alter_some-clause-count : goal.returns-then-not-alter_some-clause-count
+returns-then-not-alter_some-clause-count c =
+    let none = sym c.alter_some.ensures ∙ c.if-not-alter_some.true in
+    rw (counted-none (aims_of c.args.aims.now) (element_tree c.args.element.now) none) (on_ok c.share.result (omega (arith, c.in_ok-push_kept.ensures.count)))
+
+pub returns-then-not-alter_some-clause-builds : goal.returns-then-not-alter_some-clause-builds
+returns-then-not-alter_some-clause-builds c =
+    on_ok-map c.share.result (counts-at_most c.args.aims.now c.args.element.now c.args.walk.now.builds c.push_kept.new.walk.builds) (returns-then-not-alter_some-clause-count c)
+
+pub returns-then-not-alter_some-clause-whole : goal.returns-then-not-alter_some-clause-whole
+returns-then-not-alter_some-clause-whole c =
+    on_ok-touched c.share.result c.args.aims.now c.args.element.now c.args.walk.now.builds c.push_kept.new.walk.builds (returns-then-not-alter_some-clause-count c)
+
+pub returns-then-not-alter_some-clause-marks : goal.returns-then-not-alter_some-clause-marks
+returns-then-not-alter_some-clause-marks c =
+    let none = sym c.alter_some.ensures ∙ c.if-not-alter_some.true in
+    on_ok c.share.result (λ trees are. c.in_ok-push_kept.ensures.marks ∙ ap (λ u. marks_of c.args.walk.now.found.items ++ map (mark_below c.args.walk.now.path.items) (marked u)) (sym (unaimed (wanted (sought_in c.args.sought.now)) trees c.args.aims.now none [] (element_tree c.args.element.now))))
+
+-- a token is not built
+pub returns-in_default-clause-count : goal.returns-in_default-clause-count
+returns-in_default-clause-count c =
+    let token : nodes_built (aims_of c.args.aims.now) (element_tree c.args.element.now) ≡ 0 = ap (λ e. nodes_built (aims_of c.args.aims.now) (element_tree e)) c.in_default.is in
+    on_ok c.share-in_default.result (omega (arith, token))
+
+pub returns-in_default-clause-builds : goal.returns-in_default-clause-builds
+returns-in_default-clause-builds c =
+    on_ok-map c.share-in_default.result (counts-at_most c.args.aims.now c.args.element.now c.args.walk.now.builds c.args.walk.now.builds) (returns-in_default-clause-count c)
+
+pub returns-in_default-clause-whole : goal.returns-in_default-clause-whole
+returns-in_default-clause-whole c =
+    on_ok-touched c.share-in_default.result c.args.aims.now c.args.element.now c.args.walk.now.builds c.args.walk.now.builds (returns-in_default-clause-count c)
+
+pub returns-in_default-clause-marks : goal.returns-in_default-clause-marks
+returns-in_default-clause-marks c =
+    on_ok c.share-in_default.result (λ trees are. token_marks c.args.walk.now.path.items (sought_in c.args.sought.now) trees (aims_of c.args.aims.now) (marks_of c.args.walk.now.found.items) (marks_of c.push_here.new.found.items) (element_tree c.args.element.now) c.in_default.field-0.kind c.in_default.field-0.text (ap element_tree c.in_default.is) (c.in_ok-push_here.ensures ∙ ap (λ p. marks_of c.args.walk.now.found.items ++ map (λ n. (n, p)) (marks_at (sought_in c.args.sought.now) [])) c.deref.ensures.value))
+
+pub returns-clause-path : goal.returns-clause-path
+returns-clause-path c = on_ok-map c.rewrite_open.result (λ h. h ∙ c.in_ok-top.ensures.path) c.rewrite_open.ensures.path
+
+pub returns-clause-tree : goal.returns-clause-tree
+returns-clause-tree c =
+    let own = c.in_ok-top.ensures.tree ∙ ap (λ e. green_rewritten c.args.given.now c.args.aims.now e) (sym c.in-Node.is) in
+    if_ok-map _ (λ e. element_tree e ≡ green_rewritten c.args.given.now c.args.aims.now c.args.element.now) c.rewrite_open.result (λ e is. is ∙ own) c.rewrite_open.ensures.tree
+
+pub returns-clause-count : goal.returns-clause-count
+returns-clause-count c =
+    let cs = aims_of c.args.aims.now in
+    let own = c.in_ok-top.ensures.built ∙ ap (λ e. nodes_built cs (element_tree e)) (sym c.in-Node.is) in
+    on_ok-map c.rewrite_open.result (λ h. h ∙ ap₂ counted c.in_ok-top.ensures.count own) c.rewrite_open.ensures.count
+
+pub returns-clause-builds : goal.returns-clause-builds
+returns-clause-builds c =
+    on_ok-map c.rewrite_open.result (counts-at_most c.args.aims.now c.args.element.now c.args.walk.now.builds c.rewrite_open.new.walk.builds) (returns-clause-count c)
+
+pub returns-clause-whole : goal.returns-clause-whole
+returns-clause-whole c =
+    on_ok-touched c.rewrite_open.result c.args.aims.now c.args.element.now c.args.walk.now.builds c.rewrite_open.new.walk.builds (returns-clause-count c)
+
+pub returns-clause-marks : goal.returns-clause-marks
+returns-clause-marks c =
+    on_ok-map c.rewrite_open.result (λ h trees are. h trees are ∙ c.in_ok-top.ensures.marks trees are ∙ ap₂ (λ p e. marks_of c.args.walk.now.found.items ++ map (mark_below p) (marked (rewritten (wanted (sought_in c.args.sought.now)) trees (aims_of c.args.aims.now) [] (element_tree e)))) c.in_ok-top.ensures.path (sym c.in-Node.is)) c.rewrite_open.ensures.marks

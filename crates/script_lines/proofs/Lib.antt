@@ -1,0 +1,16 @@
+mod AroundWords
+mod WordByWord
+mod LineTexts
+mod EachOne
+mod KindsRead
+mod Refusing
+mod Slashes
+mod ReferencesRead
+mod WordOfLine
+mod OneCommand
+mod Ends
+mod FirstWords
+mod ExpressionEnds
+mod LinesOfTrees
+mod TreeCommand
+mod OtherWords

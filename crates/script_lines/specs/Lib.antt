@@ -1,0 +1,6 @@
+pub mod Name
+pub mod ScriptLine
+pub mod Line
+pub mod LineValue
+pub mod Refusals
+pub mod inner

@@ -1,0 +1,118 @@
+-- How a line of a script is written.
+--     line_text           a line without the carriage return at its end, if it has one
+--     between             what stands between the bytes of this value in a text: one part more than there are such bytes
+--     is_empty            a text has no byte
+--     words               what stands between the spaces of a text and is not empty
+--     fields              the words of a line
+--     is_comment          a field begins a comment
+--     no_command          there are no fields, or the first one begins a comment
+--     is_blank            a line is empty or a comment
+--     Each                a relation of the elements of two lists, one by one
+--     IsNumber            decimal digits of a number below 2 ^ 64
+--     IsRef               a name, and then the slots of a path, with a `/` between
+--     IsGap               two fields for a position: a word, and the element beside it
+--     IsSpaces            nothing but spaces
+--     IsLineTree          an expression of a tree, in which no more than `DEPTH_LIMIT` parentheses are open at once
+--     IsTreeLine          a line for a new tree, whose expression is the rest of the line and may have spaces
+--     IsLine              a line says this
+use Rattle.std.specs.Prelude.{◌≡◌, ◌≢◌, ℕ, ◌==◌, ◌-◌, ◌<◌, ◌≤◌, ◌^◌, Bool, true, false, not, List, [], ◌∷◌, ◌++◌, length, take, filter, nat_eq, codes, cond, Some}
+use Rattle.std.specs.List.{slice_split, ends_with, starts_with, AllByRecursion}
+use Rattle.std.specs.Str.Parse.{IsNumeral, digits_value}
+use Rattle.cst_core.specs.Tree.{SyntaxTree}
+use Rattle.cst_core.specs.Kind.{name_of}
+use Rattle.tree_text.specs.Depth.{depth}
+use Rattle.tree_text.specs.Grammar.{IsExpression, is_gap_space}
+use Rattle.tree_text.specs.KindNames.{name_in}
+use Rattle.tree_text.specs.declared.open_nodes.TheConstants.{DEPTH_LIMIT}
+use Rattle.script_lines.specs.Name.{IsName}
+use Rattle.script_lines.specs.ScriptLine.{Ref, Gap, First, Last, Before, After, ScriptLine, Blank, Tree, Edit, Map, Insert, Delete, Replace, Range, Note, Remove, Order, Finish}
+
+abbrev pub line_text : List ℕ → List ℕ
+line_text line = cond (ends_with nat_eq line (13 ∷ [])) (take (length line - 1) line) line
+
+abbrev pub is_empty : List ℕ → Bool
+is_empty [] = true
+is_empty (b ∷ bs) = false
+
+abbrev pub between : ℕ → List ℕ → List (List ℕ)
+between byte text = slice_split (λ b. b == byte) text
+
+unfoldable pub words : List ℕ → List (List ℕ)
+words text = filter (λ f. not (is_empty f)) (between 32 text)
+
+unfoldable pub fields : List ℕ → List (List ℕ)
+fields line = words (line_text line)
+
+abbrev pub is_comment : List ℕ → Bool
+is_comment field = starts_with nat_eq field (codes "#")
+
+abbrev pub no_command : List (List ℕ) → Bool
+no_command [] = true
+no_command (f ∷ fs) = is_comment f
+
+abbrev pub is_blank : List ℕ → Bool
+is_blank line = no_command (fields line)
+
+-- ---- fields
+abbrev pub Each : {A B : Type 0} → (A → B → Type 0) → List A → List B → Type 0
+Each R [] [] = Unit {0}
+Each R (x ∷ xs) (y ∷ ys) = R x y × Each R xs ys
+Each R _ _ = ⊥
+
+abbrev pub IsNumber : List ℕ → ℕ → Type 0
+IsNumber field n = IsNumeral 10 field × (digits_value 10 field ≡ n) × (n < 2 ^ 64)
+
+pub record IsRef (field : List ℕ) (r : Ref) : Type 0 where
+  pub slots : List (List ℕ)
+  pub parts : between 47 field ≡ r.name ∷ slots
+  pub named : IsName r.name
+  pub numbered : Each IsNumber slots r.path
+
+abbrev pub IsGap : List ℕ → List ℕ → Gap → Type 0
+IsGap word beside (First node) = (word ≡ codes "first") × IsRef beside node
+IsGap word beside (Last node) = (word ≡ codes "last") × IsRef beside node
+IsGap word beside (Before element) = (word ≡ codes "before") × IsRef beside element
+IsGap word beside (After element) = (word ≡ codes "after") × IsRef beside element
+
+-- ---- lines
+abbrev pub IsSpaces : List ℕ → Type 0
+IsSpaces text = AllByRecursion (λ b. b ≡ 32) text
+
+abbrev pub IsLineTree : List ℕ → SyntaxTree → Type 0
+IsLineTree text root = IsExpression (name_in []) is_gap_space root text × (depth root ≤ DEPTH_LIMIT)
+
+pub record IsTreeLine (line name : List ℕ) (root : SyntaxTree) : Type 0 where
+  pub before : List ℕ
+  pub between : List ℕ
+  pub after : List ℕ
+  pub expression : List ℕ
+  pub rest : List ℕ
+  pub is : line_text line ≡ before ++ codes "tree" ++ between ++ name ++ after ++ expression ++ rest
+  pub spaces : IsSpaces before × IsSpaces between × IsSpaces after × IsSpaces rest
+  pub apart : (between ≢ []) × (after ≢ [])
+  pub named : IsName name
+  pub drawn : IsLineTree expression root
+
+abbrev pub IsLine : List ℕ → ScriptLine → Type 0
+IsLine line Blank = is_blank line ≡ true
+IsLine line (Tree name root) = IsTreeLine line name root
+IsLine line (Edit name node) =
+    (f : List ℕ) × (fields line ≡ codes "edit" ∷ name ∷ f ∷ []) × IsName name × IsRef f node
+IsLine line (Map parent input output) =
+    (f g h : List ℕ) × (fields line ≡ codes "map" ∷ f ∷ g ∷ h ∷ []) × IsRef f parent × IsRef g input × IsRef h output
+IsLine line (Insert at payload) =
+    (w f : List ℕ) × (fs : List (List ℕ)) ×
+    (fields line ≡ codes "insert" ∷ w ∷ f ∷ fs) × IsGap w f at × Each IsRef fs payload
+IsLine line (Delete target) = (f : List ℕ) × (fields line ≡ codes "delete" ∷ f ∷ []) × IsRef f target
+IsLine line (Replace target payload) =
+    (f : List ℕ) × (fs : List (List ℕ)) ×
+    (fields line ≡ codes "replace" ∷ f ∷ fs) × IsRef f target × Each IsRef fs payload
+IsLine line (Range first last payload) =
+    (f g : List ℕ) × (fs : List (List ℕ)) ×
+    (fields line ≡ codes "range" ∷ f ∷ g ∷ fs) × IsRef f first × IsRef g last × Each IsRef fs payload
+IsLine line (Note word element) =
+    (f : List ℕ) × (fields line ≡ codes "note" ∷ word ∷ f ∷ []) × IsName word × IsRef f element
+IsLine line (Remove element separator) =
+    (f k : List ℕ) × (fields line ≡ codes "remove" ∷ f ∷ k ∷ []) × IsRef f element × (name_of separator.0 ≡ Some k)
+IsLine line (Order order) = (fs : List (List ℕ)) × (fields line ≡ codes "order" ∷ fs) × Each IsNumber fs order
+IsLine line Finish = fields line ≡ codes "finish" ∷ []

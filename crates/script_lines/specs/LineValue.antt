@@ -1,0 +1,40 @@
+-- Lines in code, as what they say.
+--     ref_of, refs_of        a reference in code; those of a vector
+--     gap_of                 a position in code
+--     line_of                a line in code
+use Rattle.std.specs.Prelude.{List, map, Vec}
+use Rattle.std.specs.Global.{Global}
+use Rattle.cst_core.specs.Green.{branch_tree}
+use Rattle.script_lines.specs.ScriptLine as line
+use Rattle.script_lines.specs.ScriptLine.{Ref, Gap, ScriptLine}
+use Rattle.script_lines.specs.declared.reference.Reference.{Reference}
+use Rattle.script_lines.specs.declared.line.WrittenPosition.{WrittenPosition}
+use Rattle.script_lines.specs.declared.line.WrittenPosition.TheVariants.{First, Last, Before, After}
+use Rattle.script_lines.specs.declared.line.Line.{Line}
+use Rattle.script_lines.specs.declared.line.Line.TheVariants.{Blank, Tree, Edit, Map, Insert, Delete, Replace, Range, Note, Remove, Order, Finish}
+
+abbrev pub ref_of : Reference → Ref
+ref_of r = record { name = r.name.text.now; path = r.slots.items }
+
+abbrev pub refs_of : Vec Reference Global → List Ref
+refs_of rs = map ref_of rs.items
+
+abbrev pub gap_of : WrittenPosition → Gap
+gap_of (First node) = line.First (ref_of node)
+gap_of (Last node) = line.Last (ref_of node)
+gap_of (Before element) = line.Before (ref_of element)
+gap_of (After element) = line.After (ref_of element)
+
+abbrev pub line_of : Line → ScriptLine
+line_of Blank = line.Blank
+line_of (Tree name root) = line.Tree name.text.now (branch_tree root)
+line_of (Edit name node) = line.Edit name.text.now (ref_of node)
+line_of (Map parent input output) = line.Map (ref_of parent) (ref_of input) (ref_of output)
+line_of (Insert at payload) = line.Insert (gap_of at) (refs_of payload)
+line_of (Delete target) = line.Delete (ref_of target)
+line_of (Replace target payload) = line.Replace (ref_of target) (refs_of payload)
+line_of (Range first last payload) = line.Range (ref_of first) (ref_of last) (refs_of payload)
+line_of (Note word element) = line.Note word.text.now (ref_of element)
+line_of (Remove element separator) = line.Remove (ref_of element) separator
+line_of (Order order) = line.Order order.items
+line_of Finish = line.Finish

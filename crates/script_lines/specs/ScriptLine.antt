@@ -1,0 +1,32 @@
+-- What a line of a script says.
+--     Ref            the way to an element: the name of a tree, and a path in it
+--     Gap            a position: the first or the last gap of a node, the gap before or after an element
+--     ScriptLine     what a line says; nothing, if it is empty or a comment
+use Rattle.std.specs.Prelude.{ℕ, List}
+use Rattle.cst_core.specs.Path.{Path}
+use Rattle.cst_core.specs.Tree.{SyntaxTree}
+use Rattle.cst_core.specs.SyntaxKind.{SyntaxKind}
+
+pub record Ref : Type 0 where
+  pub name : List ℕ
+  pub path : Path
+
+pub data Gap : Type 0 where
+  First : (node : Ref) → Gap
+  Last : (node : Ref) → Gap
+  Before : (element : Ref) → Gap
+  After : (element : Ref) → Gap
+
+pub data ScriptLine : Type 0 where
+  Blank : ScriptLine
+  Tree : (name : List ℕ) (root : SyntaxTree) → ScriptLine
+  Edit : (name : List ℕ) (node : Ref) → ScriptLine
+  Map : (parent input output : Ref) → ScriptLine
+  Insert : (at : Gap) (payload : List Ref) → ScriptLine
+  Delete : (target : Ref) → ScriptLine
+  Replace : (target : Ref) (payload : List Ref) → ScriptLine
+  Range : (first last : Ref) (payload : List Ref) → ScriptLine
+  Note : (word : List ℕ) (element : Ref) → ScriptLine
+  Remove : (element : Ref) (separator : SyntaxKind) → ScriptLine
+  Order : (order : List ℕ) → ScriptLine
+  Finish : ScriptLine

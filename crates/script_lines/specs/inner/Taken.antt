@@ -1,0 +1,27 @@
+-- What is taken from the words that are left of a line.
+--     IsNamed         a word is a name
+--     IsKindName      a word is a kind's name
+--     IsTaken         the first word says this, and these are left
+--     Begins          the first word says this, whatever is left
+--     IsLast          the one word says this
+use Rattle.std.specs.Prelude.{◌≡◌, ℕ, List, [], ◌∷◌, Some}
+use Rattle.cst_core.specs.Kind.{name_of}
+use Rattle.cst_core.specs.SyntaxKind.{SyntaxKind}
+use Rattle.script_lines.specs.Name.{IsName}
+
+abbrev pub IsNamed : List ℕ → List ℕ → Type 0
+IsNamed word name = (word ≡ name) × IsName name
+
+abbrev pub IsKindName : List ℕ → SyntaxKind → Type 0
+IsKindName word kind = name_of kind.0 ≡ Some word
+
+pub record IsTaken {A : Type 0} (Says : List ℕ → A → Type 0) (all left : List (List ℕ)) (a : A) : Type 0 where
+  pub word : List ℕ
+  pub first : all ≡ word ∷ left
+  pub says : Says word a
+
+abbrev pub Begins : {A : Type 0} → (List ℕ → A → Type 0) → List (List ℕ) → A → Type 0
+Begins Says all a = (left : List (List ℕ)) × IsTaken Says all left a
+
+abbrev pub IsLast : {A : Type 0} → (List ℕ → A → Type 0) → List (List ℕ) → A → Type 0
+IsLast Says all a = IsTaken Says all [] a

@@ -1,0 +1,241 @@
+//! The lines of a script.
+ghost use Rattle.std.specs.Prelude.{◌≡◌, IfOk, IfErr, codes};
+ghost use Rattle.cst_core.specs.Green.{branch_tree};
+ghost use Rattle.script_lines.specs.Line.{IsLine, IsLineTree, is_blank, words};
+ghost use Rattle.script_lines.specs.LineValue.{gap_of, line_of};
+ghost use Rattle.script_lines.specs.Refusals.{Refuses};
+ghost use Rattle.script_lines.specs.inner.Commands.{BeginsPlace, IsPlace, IsRead, IsTreeRead};
+
+use crate::error::LineError;
+use crate::fault::{Fault, Wanted};
+use crate::field::{Field, Fields};
+use crate::name::Name;
+use crate::reference::Reference;
+use cst_core::{GreenNode, SyntaxKind};
+use std::alloc::Global;
+use tree_text::read_line_tree;
+
+/// A line that is well formed. Whether its names stand for something is seen when it is carried out.
+#[derive(Drop)]
+pub enum Line<'a> {
+    /// An empty line or a comment.
+    Blank,
+    /// A new tree of this name.
+    Tree {
+        name: Name<'a>,
+        root: GreenNode,
+    },
+    /// An editor of this node, whose root gets this name.
+    Edit {
+        name: Name<'a>,
+        node: Reference<'a>,
+    },
+    /// The copy of a node, which is a child of the first one.
+    Map {
+        parent: Reference<'a>,
+        input: Reference<'a>,
+        output: Reference<'a>,
+    },
+    /// New elements at a position.
+    Insert {
+        at: WrittenPosition<'a>,
+        payload: Vec<Reference<'a>>,
+    },
+    /// An element is deleted.
+    Delete {
+        target: Reference<'a>,
+    },
+    /// New elements for one.
+    Replace {
+        target: Reference<'a>,
+        payload: Vec<Reference<'a>>,
+    },
+    /// New elements, or none, for siblings.
+    Range {
+        first: Reference<'a>,
+        last: Reference<'a>,
+        payload: Vec<Reference<'a>>,
+    },
+    /// An element is registered with an annotation.
+    Note {
+        word: Name<'a>,
+        element: Reference<'a>,
+    },
+    /// An element of a separated list is deleted with one separator of this kind.
+    Remove {
+        element: Reference<'a>,
+        separator: SyntaxKind,
+    },
+    /// The order in which the changes are to be carried out.
+    Order {
+        order: Vec<usize>,
+    },
+    /// The new tree is made.
+    Finish,
+}
+
+/// Where new elements are put.
+#[derive(Drop)]
+pub enum WrittenPosition<'a> {
+    /// Before the first child of a node.
+    First(Reference<'a>),
+    /// After the last child of a node.
+    Last(Reference<'a>),
+    Before(Reference<'a>),
+    After(Reference<'a>),
+}
+
+/// The line of this text, which has no newline. One carriage return at its end is dropped, then spaces at both ends.
+pub fn read_line<'a>(alloc: Global, text: &'a str) -> Result<Line<'a>, LineError>
+    ensures ok { IfOk result (λ l. IsLine text.now (line_of l)) }
+    ensures bad { IfErr result (Refuses (IsLine text.now)) }
+{
+    let mut fields = Fields::of_line(text);
+    let Some(word) = fields.word() else {
+        return Ok(Line::Blank);
+    };
+    match word.text {
+        "tree" => tree_line(alloc, &mut fields),
+        "edit" => edit_line(alloc, &mut fields),
+        "map" => map_line(alloc, &mut fields),
+        "insert" => insert_line(alloc, &mut fields),
+        "delete" => delete_line(alloc, &mut fields),
+        "replace" => replace_line(alloc, &mut fields),
+        "range" => range_line(alloc, &mut fields),
+        "note" => note_line(alloc, &mut fields),
+        "remove" => remove_line(alloc, &mut fields),
+        "order" => order_line(alloc, &mut fields),
+        "finish" => finish_line(&fields),
+        _ => Err(LineError::from(Fault::wanted(word.at, Wanted::Word))),
+    }
+}
+
+/// Whether the line does nothing.
+pub fn is_blank(text: &str) -> bool
+    ensures { result ≡ is_blank text.now }
+{
+    Fields::of_line(text).word().is_none()
+}
+
+fn tree_line<'a>(alloc: Global, fields: &mut Fields<'a>) -> Result<Line<'a>, LineError>
+    ensures { IsTreeRead fields.old.rest.now result }
+{
+    let name = fields.name()?;
+    let root = tree_of(alloc, fields.take_rest())?;
+    Ok(Line::Tree { name, root })
+}
+
+fn tree_of(alloc: Global, expression: Field<'_>) -> Result<GreenNode, LineError>
+    ensures ok { IfOk result (λ root. IsLineTree expression.entry.text.now (branch_tree root)) }
+    ensures bad { IfErr result (Refuses (IsLineTree expression.entry.text.now)) }
+{
+    read_line_tree(alloc, expression.text).map_err(|error| LineError::of_expression(
+        expression.at,
+        error,
+    ))
+}
+
+fn edit_line<'a>(alloc: Global, fields: &mut Fields<'a>) -> Result<Line<'a>, LineError>
+    ensures { IsRead (codes "edit") (words fields.old.rest.now) result }
+{
+    let name = fields.name()?;
+    let node = fields.last_reference(alloc)?;
+    Ok(Line::Edit { name, node })
+}
+
+fn map_line<'a>(alloc: Global, fields: &mut Fields<'a>) -> Result<Line<'a>, LineError>
+    ensures { IsRead (codes "map") (words fields.old.rest.now) result }
+{
+    let parent = fields.reference(alloc)?;
+    let input = fields.reference(alloc)?;
+    let output = fields.last_reference(alloc)?;
+    Ok(Line::Map {
+        parent,
+        input,
+        output,
+    })
+}
+
+fn insert_line<'a>(alloc: Global, fields: &mut Fields<'a>) -> Result<Line<'a>, LineError>
+    ensures { IsRead (codes "insert") (words fields.old.rest.now) result }
+{
+    let at = read_position(alloc, fields)?;
+    let payload = fields.references(alloc)?;
+    Ok(Line::Insert { at, payload })
+}
+
+fn read_position<'a>(
+    alloc: Global,
+    fields: &mut Fields<'a>,
+) -> Result<WrittenPosition<'a>, LineError>
+    ensures ok { IfOk result (λ p. IsPlace (words fields.old.rest.now) (words fields.new.rest.now) (gap_of p)) }
+    ensures bad { IfErr result (Refuses (BeginsPlace (words fields.old.rest.now))) }
+{
+    let word = fields.field(Wanted::Place)?;
+    let beside = fields.reference(alloc)?;
+    match word.text {
+        "first" => Ok(WrittenPosition::First(beside)),
+        "last" => Ok(WrittenPosition::Last(beside)),
+        "before" => Ok(WrittenPosition::Before(beside)),
+        "after" => Ok(WrittenPosition::After(beside)),
+        _ => Err(LineError::from(Fault::wanted(word.at, Wanted::Place))),
+    }
+}
+
+fn delete_line<'a>(alloc: Global, fields: &mut Fields<'a>) -> Result<Line<'a>, LineError>
+    ensures { IsRead (codes "delete") (words fields.old.rest.now) result }
+{
+    let target = fields.last_reference(alloc)?;
+    Ok(Line::Delete { target })
+}
+
+fn replace_line<'a>(alloc: Global, fields: &mut Fields<'a>) -> Result<Line<'a>, LineError>
+    ensures { IsRead (codes "replace") (words fields.old.rest.now) result }
+{
+    let target = fields.reference(alloc)?;
+    let payload = fields.references(alloc)?;
+    Ok(Line::Replace { target, payload })
+}
+
+fn range_line<'a>(alloc: Global, fields: &mut Fields<'a>) -> Result<Line<'a>, LineError>
+    ensures { IsRead (codes "range") (words fields.old.rest.now) result }
+{
+    let first = fields.reference(alloc)?;
+    let last = fields.reference(alloc)?;
+    let payload = fields.references(alloc)?;
+    Ok(Line::Range {
+        first,
+        last,
+        payload,
+    })
+}
+
+fn note_line<'a>(alloc: Global, fields: &mut Fields<'a>) -> Result<Line<'a>, LineError>
+    ensures { IsRead (codes "note") (words fields.old.rest.now) result }
+{
+    let word = fields.name()?;
+    let element = fields.last_reference(alloc)?;
+    Ok(Line::Note { word, element })
+}
+
+fn remove_line<'a>(alloc: Global, fields: &mut Fields<'a>) -> Result<Line<'a>, LineError>
+    ensures { IsRead (codes "remove") (words fields.old.rest.now) result }
+{
+    let element = fields.reference(alloc)?;
+    let separator = fields.last_kind()?;
+    Ok(Line::Remove { element, separator })
+}
+
+fn order_line<'a>(alloc: Global, fields: &mut Fields<'a>) -> Result<Line<'a>, LineError>
+    ensures { IsRead (codes "order") (words fields.old.rest.now) result }
+{
+    let order = fields.numbers(alloc)?;
+    Ok(Line::Order { order })
+}
+
+fn finish_line<'a>(fields: &Fields<'_>) -> Result<Line<'a>, LineError>
+    ensures { IsRead (codes "finish") (words fields.now.rest.now) result }
+{
+    fields.end()?;
+    Ok(Line::Finish)
+}

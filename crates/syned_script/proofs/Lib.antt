@@ -1,0 +1,6 @@
+pub mod Stopping
+pub mod WordNumbers
+pub mod PayloadForms
+pub mod TextLines
+pub mod LinesCarried
+pub mod Ending

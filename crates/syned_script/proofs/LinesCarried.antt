@@ -1,0 +1,160 @@
+-- Lines that were carried out, and how they end.
+use Rattle.std.proofs.Common.{◌≡◌, inl, inr, ℕ, suc, ◌+◌, ◌<◌, ◌≤◌, true, false, not, List, [], ◌∷◌, ◌++◌, length, take, drop, get_or, Option, Some, None, MatchOption, MatchBool, is_some, refl, sym, ◌∙◌, ap, subst, arith, add-one, length-take, ◌-◌}
+use Rattle.std.specs.List.{list_all, position_or_len}
+use Rattle.std.proofs.lemmas.List.{take_all, take_more, append-nil}
+use Rattle.std.proofs.lemmas.Bool.{true≢false}
+use denote.Ref.{Bor}
+use Rattle.syned_script.proofs.TextLines.{split-at, rest-texts}
+use Rattle.script_lines.specs.Line.{is_blank, IsLine}
+use Rattle.script_lines.specs.ScriptLine as line
+use Rattle.script_lines.specs.ScriptLine.{ScriptLine}
+use Rattle.syned_script.specs.State.{State, new_state, Editing, Goes, Refuses, IsBad, Steps}
+use Rattle.syned_script.specs.Script.{Outcome, Refused, BadLine, FinishGives, FinishEnds, LineEnds, Ends, Carried, EndsSo, StopsSo}
+use Rattle.syned_script.specs.inner.Run.{texts_in, IsBadText, TextStops, Reached, EndIsGood, IsBadEnd, EndStops, FinishStops}
+use Rattle.syned_script.specs.inner.Stops.{StopsFor}
+use Rattle.syned_script.specs.declared.refusal.Refusal.{Refusal}
+use Rattle.syned_script.specs.declared.fault.Fault.{Fault}
+use Rattle.syned_script.specs.declared.stop.Stop.{Stop}
+use Rattle.syned_script.specs.declared.stop.Stop.TheVariants as stop
+use Rattle.syned_script.specs.declared.stop.Stopped.{Stopped}
+
+-- ---- one more line
+pub carried-push : (texts : List (List ℕ)) (text : List ℕ) (s t u : State) (line : ScriptLine) → Carried texts s t → IsLine text line → Steps t line (Goes u) → Carried (texts ++ text ∷ []) s u
+carried-push [] text s t u line h is steps = (line, u, is, subst (λ x. Steps x line (Goes u)) h steps, refl)
+carried-push (x ∷ texts) text s t u line (first, next, first-is, first-steps, rest) is steps =
+    (first, next, first-is, first-steps, carried-push texts text next t u line rest is steps)
+
+-- ---- the line that ends it
+line-bad : (n : ℕ) (s : State) (l : ScriptLine) (after : List (List ℕ)) → Steps s l IsBad → LineEnds n s l after (BadLine n)
+line-bad n s line.Finish after h = absurd h
+line-bad n s line.Blank after h = (refl, h)
+line-bad n s (line.Tree name root) after h = (refl, h)
+line-bad n s (line.Edit name node) after h = (refl, h)
+line-bad n s (line.Map parent input output) after h = (refl, h)
+line-bad n s (line.Insert at payload) after h = (refl, h)
+line-bad n s (line.Delete target) after h = (refl, h)
+line-bad n s (line.Replace target payload) after h = (refl, h)
+line-bad n s (line.Range first last payload) after h = (refl, h)
+line-bad n s (line.Note word element) after h = (refl, h)
+line-bad n s (line.Remove element separator) after h = (refl, h)
+line-bad n s (line.Order order) after h = (refl, h)
+
+line-refused : (n : ℕ) (s : State) (l : ScriptLine) (after : List (List ℕ)) (r : Refusal) → Steps s l (Refuses r) → LineEnds n s l after (Refused r)
+line-refused n s line.Finish after r h = absurd h
+line-refused n s line.Blank after r h = h
+line-refused n s (line.Tree name root) after r h = h
+line-refused n s (line.Edit name node) after r h = h
+line-refused n s (line.Map parent input output) after r h = h
+line-refused n s (line.Insert at payload) after r h = h
+line-refused n s (line.Delete target) after r h = h
+line-refused n s (line.Replace target payload) after r h = h
+line-refused n s (line.Range first last payload) after r h = h
+line-refused n s (line.Note word element) after r h = h
+line-refused n s (line.Remove element separator) after r h = h
+line-refused n s (line.Order order) after r h = h
+
+bad-ends : (n : ℕ) (s : State) (text : List ℕ) (after : List (List ℕ)) → IsBadText s text → Ends n s (text ∷ after) (BadLine n)
+bad-ends n s text after (inl h) = inl (h, refl)
+bad-ends n s text after (inr (l, is, bad)) = inr (l, is, line-bad n s l after bad)
+
+-- ---- at a place of the lines
+counted : (texts : List (List ℕ)) (i : ℕ) → i < length texts → suc (length (take i texts)) ≡ i + 1
+counted texts i lt = let l = length-take i texts in grind arith
+
+pub ends-at : (texts : List (List ℕ)) (i : ℕ) (text : List ℕ) (t : State) (o : Outcome) → i < length texts → text ≡ get_or texts i text → Carried (take i texts) new_state t → Ends (i + 1) t (text ∷ drop (i + 1) texts) o → EndsSo texts o
+ends-at texts i text t o lt is carried ends = record {
+  before = take i texts;
+  rest = text ∷ drop (i + 1) texts;
+  state = t;
+  is = split-at texts i text lt is;
+  carried = carried;
+  ends = subst (λ n. Ends n t (text ∷ drop (i + 1) texts) o) (sym (counted texts i lt)) ends;
+}
+
+pub stops-at : (texts : List (List ℕ)) (i : ℕ) (text : List ℕ) (t : State) (s : Stop) → i < length texts → text ≡ get_or texts i text → Carried (take i texts) new_state t → TextStops t text s → StopsSo texts (i + 1) s
+stops-at texts i text t (stop.Bad f) lt is carried h = ends-at texts i text t (BadLine (i + 1)) lt is carried (bad-ends (i + 1) t text (drop (i + 1) texts) h)
+stops-at texts i text t (stop.Refused r) lt is carried (l, says, refuses) = ends-at texts i text t (Refused r) lt is carried (inr (l, says, line-refused (i + 1) t l (drop (i + 1) texts) r refuses))
+stops-at texts i text t stop.Memory lt is carried h = tt
+
+pub reached-at : (texts : List (List ℕ)) (i : ℕ) (text : List ℕ) (t u : State) → i < length texts → text ≡ get_or texts i text → Carried (take i texts) new_state t → IsLine text line.Finish → u ≡ t → Reached texts (i + 1) u
+reached-at texts i text t u lt is carried finishes same = record {
+  before = take i texts;
+  finish = text;
+  after = drop (i + 1) texts;
+  is = split-at texts i text lt is;
+  counted = sym (counted texts i lt);
+  carried = subst (λ x. Carried (take i texts) new_state x) (sym same) carried;
+  finishes = finishes;
+}
+
+pub next-carried : (texts : List (List ℕ)) (i : ℕ) (text : List ℕ) (t u : State) → i < length texts → text ≡ get_or texts i text → Carried (take i texts) new_state t → (l : ScriptLine) × IsLine text l × Steps t l (Goes u) → Carried (take (i + 1) texts) new_state u
+next-carried texts i text t u lt is carried (l, says, steps) =
+    subst (λ x. Carried x new_state u) (sym (take_more texts i text lt ∙ ap (λ x. take i texts ++ x ∷ []) (sym is))) (carried-push (take i texts) text new_state t u l carried says steps)
+
+pub no-finish : (texts : List (List ℕ)) (i : ℕ) (t : State) → length texts ≤ i → Carried (take i texts) new_state t → EndsSo texts (BadLine (length texts + 1))
+no-finish texts i t past carried = record {
+  before = texts;
+  rest = [];
+  state = t;
+  is = sym (append-nil texts);
+  carried = subst (λ x. Carried x new_state t) (take_all i texts past) carried;
+  ends = ap BadLine (add-one (length texts));
+}
+
+-- ---- at `finish`
+after-finish : (before : List (List ℕ)) (finish : List ℕ) (after : List (List ℕ)) → drop (suc (length before)) (before ++ finish ∷ after) ≡ after
+after-finish [] finish after = refl
+after-finish (x ∷ before) finish after = after-finish before finish after
+
+what-follows : (texts : List (List ℕ)) (n : ℕ) (t : State) (r : Reached texts n t) → drop n texts ≡ r.after
+what-follows texts n t r = ap (λ m. drop m texts) r.counted ∙ ap (drop (suc (length r.before))) r.is ∙ after-finish r.before r.finish r.after
+
+finish-ends : (texts : List (List ℕ)) (n : ℕ) (t : State) (r : Reached texts n t) (o : Outcome) → LineEnds n t line.Finish (drop n texts) o → EndsSo texts o
+finish-ends texts n t r o ends = record {
+  before = r.before;
+  rest = r.finish ∷ r.after;
+  state = t;
+  is = r.is;
+  carried = r.carried;
+  ends = inr (line.Finish, r.finishes, subst (λ m. LineEnds m t line.Finish r.after o) r.counted (subst (λ a. LineEnds n t line.Finish a o) (what-follows texts n t r) ends));
+}
+
+pub finished : (texts : List (List ℕ)) (n : ℕ) (t : State) (e : Editing) (o : Outcome) → Reached texts n t → EndIsGood t (drop n texts) → t.editing ≡ Some e → FinishGives t e o → EndsSo texts o
+finished texts n t e o r good editing gives =
+    let after = drop n texts in
+    let ends : FinishEnds n t e after o = subst (λ b. MatchBool b (FinishGives t e o) (o ≡ BadLine (suc n + position_or_len (λ line. not (is_blank line)) after))) (sym good.1) gives in
+    finish-ends texts n t r o (subst (λ x. MatchOption x (o ≡ BadLine n) (λ e. FinishEnds n t e after o)) (sym editing) ends)
+
+bad-end : (texts : List (List ℕ)) (n bad : ℕ) (t : State) → Reached texts n t → IsBadEnd t (drop n texts) n bad → EndsSo texts (BadLine bad)
+bad-end texts n bad t r (inl (none, at)) =
+    let after = drop n texts in
+    finish-ends texts n t r (BadLine bad) (subst (λ x. MatchOption x (BadLine bad ≡ BadLine n) (λ e. FinishEnds n t e after (BadLine bad))) (sym none) (ap BadLine at))
+bad-end texts n bad t r (inr (some, more, at)) =
+    let after = drop n texts in
+    finish-ends texts n t r (BadLine bad) (for-each t.editing some)
+  where
+    for-each : (o : Option Editing) → is_some o ≡ true → MatchOption o (BadLine bad ≡ BadLine n) (λ e. FinishEnds n t e (drop n texts) (BadLine bad))
+    for-each None h = absurd (true≢false (sym h))
+    for-each (Some e) h = subst (λ b. MatchBool b (FinishGives t e (BadLine bad)) (BadLine bad ≡ BadLine (suc n + position_or_len (λ line. not (is_blank line)) (drop n texts)))) (sym more) (ap BadLine at)
+
+pub ends-badly : (texts : List (List ℕ)) (n : ℕ) (t : State) (s : Stopped) → Reached texts n t → EndStops t (drop n texts) n s → StopsSo texts s.line s.stop
+ends-badly texts n t s r h = by-stop s.stop h
+  where
+    by-stop : (x : Stop) → EndStops t (drop n texts) n (record { line = s.line; stop = x }) → StopsSo texts s.line x
+    by-stop (stop.Bad f) h = bad-end texts n s.line t r h
+    by-stop (stop.Refused f) h = absurd h
+    by-stop stop.Memory h = tt
+
+pub finish-refused : (texts : List (List ℕ)) (n : ℕ) (t : State) (s : Stop) → Reached texts n t → EndIsGood t (drop n texts) → FinishStops t s → StopsSo texts n s
+finish-refused texts n t (stop.Bad f) r good none = absurd (true≢false (sym good.0 ∙ ap is_some none))
+finish-refused texts n t (stop.Refused reason) r good (e, editing, refuses) = finished texts n t e (Refused reason) r good editing refuses
+finish-refused texts n t stop.Memory r good h = tt
+
+-- a line that is not blank, so many after `finish`
+pub bad-after : (t : State) (lines : List (Bor (List ℕ))) (n i : ℕ) (s : Stopped) (x : Stop) (f : Fault) → s ≡ record { line = n + i + 1; stop = x } → x ≡ stop.Bad f → is_some t.editing ≡ true → list_all is_blank (texts_in (take (length lines - n) (drop n lines))) ≡ false → i ≡ position_or_len (λ line. not (is_blank line)) (texts_in (take (length lines - n) (drop n lines))) → EndStops t (drop n (texts_in lines)) n s
+bad-after t lines n i s x f is bad some more first =
+    let after = drop n (texts_in lines) in
+    let here : i ≡ position_or_len (λ line. not (is_blank line)) after = first ∙ ap (position_or_len (λ line. not (is_blank line))) (rest-texts n lines) in
+    let count : n + i + 1 ≡ suc n + position_or_len (λ line. not (is_blank line)) after = omega (arith, here) in
+    let there : IsBadEnd t after n (n + i + 1) = inr (some, sym (ap (list_all is_blank) (rest-texts n lines)) ∙ more, count) in
+    subst (EndStops t after n) (sym is) (subst (StopsFor (IsBadEnd t after n (n + i + 1)) (λ r. ⊥)) (sym bad) there)

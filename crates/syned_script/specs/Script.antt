@@ -1,0 +1,110 @@
+-- What a script means.
+--     lines_of_parts, lines_in    the lines of a text: what stands before each newline, and the rest, unless that is empty
+--     Outcome                     how a script ends: an edit, with the annotation words; a refused call; a bad line, counted from 1
+--     EndRefuses                  why the changes are not carried out
+--     CarriesOut                  the changes are carried out, in the order if there is one
+--     FinishGives                 what `finish` gives of what is edited
+--     FinishEnds                  how `finish` ends a script: only empty lines and comments may follow
+--     LineEnds                    how the line with a number ends the script, before other lines
+--     Ends                        the same of lines, the first of which has the number; without a `finish`, it is the line after them
+--     Carried                     lines were carried out, one after the other
+--     EndsSo, Means               how lines end: those before one were carried out, and that one ends them; how a script ends
+--     StopsSo, StopsAt            lines without an edit end so, unless memory ran out; so does a script
+use Rattle.std.specs.Prelude.{◌≡◌, ◌⊎◌, ℕ, suc, ◌+◌, ◌==◌, ◌<◌, not, cond, List, [], ◌∷◌, ◌++◌, length, Option, Some, None, IfSome, MatchOption, MatchBool}
+use Rattle.std.specs.List.{slice_split, list_all, position_or_len}
+use Rattle.syntax_editor.specs.Tree.{text_length}
+use Rattle.syntax_editor.specs.Green.{length_limit}
+use Rattle.syntax_editor.specs.Plan.{Edit, IsPlan, BuildRefuses, Makes}
+use Rattle.syntax_editor.specs.EditError.TheVariants as edit_error
+use Rattle.syntax_editor.specs.ExecuteError.TheVariants as execute_error
+use Rattle.syntax_editor.specs.Schedule.{IsAllowed}
+use Rattle.syntax_editor.specs.ExecuteRefusal.{ExecuteRefuses}
+use Rattle.syntax_editor.specs.Editor.{Editor, plan_of, FinishRefuses}
+use Rattle.script_lines.specs.ScriptLine as line
+use Rattle.script_lines.specs.ScriptLine.{ScriptLine}
+use Rattle.script_lines.specs.Line.{is_empty, is_blank, IsLine}
+use Rattle.syned_script.specs.declared.refusal.Refusal.{Refusal}
+use Rattle.syned_script.specs.declared.refusal.Refusal.TheVariants as refused
+use Rattle.syned_script.specs.declared.stop.Stop.{Stop}
+use Rattle.syned_script.specs.declared.stop.Stop.TheVariants as stop
+use Rattle.syned_script.specs.State.{State, new_state, Editing, Goes, Refuses, IsBad, Steps}
+
+-- ---- lines
+abbrev pub lines_of_parts : List (List ℕ) → List (List ℕ)
+lines_of_parts [] = []
+lines_of_parts (rest ∷ []) = cond (is_empty rest) [] (rest ∷ [])
+lines_of_parts (line ∷ next ∷ more) = line ∷ lines_of_parts (next ∷ more)
+
+abbrev pub lines_in : List ℕ → List (List ℕ)
+lines_in text = lines_of_parts (slice_split (λ b. b == 10) text)
+
+-- ---- the end
+pub data Outcome : Type 0 where
+  Edited : (edit : Edit) (words : List (List ℕ)) → Outcome
+  Refused : (refusal : Refusal) → Outcome
+  BadLine : (number : ℕ) → Outcome
+
+-- with an order there is a plan first, which is carried out in this order
+abbrev pub EndRefuses : Editor → Option (List ℕ) → ℕ → Refusal → Type 0
+EndRefuses e order next (refused.Edit edit_error.Memory) = ⊥
+EndRefuses e None next (refused.Edit reason) = FinishRefuses e next reason
+EndRefuses e (Some order) next (refused.Edit reason) =
+    BuildRefuses (plan_of e) reason
+    ⊎ (IsPlan (plan_of e) × ExecuteRefuses (plan_of e) order next (execute_error.Edit reason))
+EndRefuses e (Some order) next (refused.Order (execute_error.Edit reason)) = ⊥
+EndRefuses e (Some order) next (refused.Order reason) =
+    IsPlan (plan_of e) × ExecuteRefuses (plan_of e) order next reason
+EndRefuses e _ next _ = ⊥
+
+-- of an order, if there is one, it is an allowed one; a new text that is too long is refused
+abbrev pub CarriesOut : Editing → ℕ → Edit → Type 0
+CarriesOut e next edit =
+    IsPlan (plan_of e.editor) × IfSome e.order (IsAllowed e.editor.changes)
+    × Makes (plan_of e.editor) next edit × (text_length edit.new_root.root < length_limit)
+
+abbrev pub FinishGives : State → Editing → Outcome → Type 0
+FinishGives s e (Edited edit words) = CarriesOut e s.next edit × (words ≡ s.words)
+FinishGives s e (Refused reason) = EndRefuses e.editor e.order s.next reason
+FinishGives s e (BadLine number) = ⊥
+
+abbrev pub FinishEnds : ℕ → State → Editing → List (List ℕ) → Outcome → Type 0
+FinishEnds n s e after o =
+    MatchBool (list_all is_blank after) (FinishGives s e o)
+    (o ≡ BadLine (suc n + position_or_len (λ line. not (is_blank line)) after))
+
+abbrev pub LineEnds : ℕ → State → ScriptLine → List (List ℕ) → Outcome → Type 0
+LineEnds n s line.Finish after o = MatchOption s.editing (o ≡ BadLine n) (λ e. FinishEnds n s e after o)
+LineEnds n s call after (Refused reason) = Steps s call (Refuses reason)
+LineEnds n s call after (BadLine number) = (number ≡ n) × Steps s call IsBad
+LineEnds n s call after (Edited edit words) = ⊥
+
+abbrev pub Ends : ℕ → State → List (List ℕ) → Outcome → Type 0
+Ends n s [] o = o ≡ BadLine n
+Ends n s (text ∷ after) o =
+    (((line : ScriptLine) → IsLine text line → ⊥) × (o ≡ BadLine n))
+    ⊎ ((line : ScriptLine) × IsLine text line × LineEnds n s line after o)
+
+-- ---- the whole
+abbrev pub Carried : List (List ℕ) → State → State → Type 0
+Carried [] s t = t ≡ s
+Carried (text ∷ texts) s t =
+    (line : ScriptLine) × (next : State) × IsLine text line × Steps s line (Goes next) × Carried texts next t
+
+pub record EndsSo (lines : List (List ℕ)) (o : Outcome) : Type 0 where
+  pub before : List (List ℕ)
+  pub rest : List (List ℕ)
+  pub state : State
+  pub is : lines ≡ before ++ rest
+  pub carried : Carried before new_state state
+  pub ends : Ends (suc (length before)) state rest o
+
+abbrev pub Means : List ℕ → Outcome → Type 0
+Means script o = EndsSo (lines_in script) o
+
+abbrev pub StopsSo : List (List ℕ) → ℕ → Stop → Type 0
+StopsSo lines number (stop.Bad fault) = EndsSo lines (BadLine number)
+StopsSo lines number (stop.Refused reason) = EndsSo lines (Refused reason)
+StopsSo lines number stop.Memory = Unit {0}
+
+abbrev pub StopsAt : List ℕ → ℕ → Stop → Type 0
+StopsAt script number reason = StopsSo (lines_in script) number reason

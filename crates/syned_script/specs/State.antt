@@ -1,0 +1,191 @@
+-- What the lines of a script have made so far, and what one more line does.
+--     Editing                     the editor, and the order of its changes, if a line gave one
+--     Roots, with_root            the root with each name; the same with one more root
+--     State, new_state            the next tree number, the roots, the words by their first use, what is edited; before the first line
+--     element_in, node_in         the element that a reference leads to; the same of a node
+--     elements_in                 those of several references, if there is one for each
+--     position_in                 the position that a line names
+--     of_both                     what is made of two values, if there are both
+--     call_in                     the call that a line makes to record a change
+--     Step                        what a line does: the script goes on in another state, its call is refused, the line is bad
+--     with_editor                 a state with another editor
+--     root_refusal                why a tree becomes no root, if it doesn't
+--     tree_step, edit_step        what a line `tree` does, what a line `edit` does
+--     record_step, recorded_in    what a call does that records a change; the same, where there may be no such call or no editor
+--     PairRefuses                 why a pair of a node and its copy is refused below a parent
+--     PairStep, MapStep           what a pair does below a parent; what a line `map` does
+--     with_word, annotation_of    the words after one was used; the annotation of a word
+--     note_step, order_step       what a line `note` does, what a line `order` does
+--     Steps                       what a line does that does not end the script
+use Rattle.std.specs.Prelude.{◌≡◌, ℕ, suc, ◌==◌, ◌&&◌, ◌||◌, cond, List, [], ◌∷◌, ◌++◌, Option, Some, None, option_map, option_and_then, is_some, nat_le, MatchOption}
+use Rattle.std.specs.Option.{option_map_or}
+use Rattle.std.specs.List.{list_any, position_or_len}
+use Rattle.std.specs.Map.{update}
+use Rattle.std.specs.Str.{bytes_eq}
+use Rattle.syntax_editor.specs.Tree.{SyntaxTree, text_length}
+use Rattle.syntax_editor.specs.Green.{length_limit}
+use Rattle.syntax_editor.specs.TreeIds.{spent}
+use Rattle.syntax_editor.specs.Element.{Element}
+use Rattle.syntax_editor.specs.SyntaxElement.{node_of, syntax_at}
+use Rattle.cst_core.specs.declared.element.SyntaxElement.{SyntaxElement}
+use Rattle.syntax_editor.specs.TreeError.{TreeError}
+use Rattle.syntax_editor.specs.TreeError.TheVariants.{TooLong, NoTreeNumber}
+use Rattle.syntax_editor.specs.MapError.TheVariants as map_error
+use Rattle.syntax_editor.specs.Builder.{IsPairUnder, RefusesPair}
+use Rattle.syntax_editor.specs.PositionForm.{PositionForm, FirstChild}
+use Rattle.syntax_editor.specs.Position.{before, after, last_child_of}
+use Rattle.syntax_editor.specs.RecordCall.{RecordCall, Inserting, InsertingAll, Deleting, Replacing, ReplacingWithMany, DeletingAll, ReplacingAll, refusal}
+use Rattle.syntax_editor.specs.Editor.{Editor, has_parent, edited_root, new_editor, after_call, Maps, registered_with}
+use Rattle.list_removal.specs.Removal.{removal}
+use Rattle.script_lines.specs.ScriptLine as line
+use Rattle.script_lines.specs.ScriptLine.{Ref, Gap, ScriptLine, First, Last, Before, After}
+use Rattle.syned_script.specs.declared.refusal.Refusal.{Refusal}
+use Rattle.syned_script.specs.declared.refusal.Refusal.TheVariants as refused
+
+pub record Editing : Type 0 where
+  pub editor : Editor
+  pub order : Option (List ℕ)
+
+abbrev pub Roots : Type 0
+Roots = List ℕ → Option Element
+
+abbrev pub with_root : List ℕ → Element → Roots → Roots
+with_root name root roots = update bytes_eq roots name (Some root)
+
+pub record State : Type 0 where
+  pub next : ℕ
+  pub roots : Roots
+  pub words : List (List ℕ)
+  pub editing : Option Editing
+
+abbrev pub new_state : State
+new_state = record { next = 1; roots = λ name. None; words = []; editing = None }
+
+-- ---- what a line names
+abbrev pub element_in : Roots → Ref → Option SyntaxElement
+element_in roots r = option_and_then (λ root. syntax_at root (root.path ++ r.path)) (roots r.name)
+
+abbrev pub node_in : Roots → Ref → Option Element
+node_in roots r = option_and_then node_of (element_in roots r)
+
+abbrev pub of_both : {A B C : Type 0} → (A → B → C) → Option A → Option B → Option C
+of_both f (Some x) (Some y) = Some (f x y)
+of_both f (Some x) None = None
+of_both f None y = None
+
+abbrev pub elements_in : Roots → List Ref → Option (List SyntaxElement)
+elements_in roots [] = Some []
+elements_in roots (r ∷ rs) = of_both (λ e es. e ∷ es) (element_in roots r) (elements_in roots rs)
+
+abbrev pub position_in : Roots → Gap → Option PositionForm
+position_in roots (First node) = option_map FirstChild (node_in roots node)
+position_in roots (Last node) = option_map last_child_of (node_in roots node)
+position_in roots (Before element) = option_and_then before (element_in roots element)
+position_in roots (After element) = option_and_then after (element_in roots element)
+
+-- ---- the call of a line
+-- one new element has a call of its own, and so has a range without any
+abbrev pub call_in : Roots → ScriptLine → Option RecordCall
+call_in roots (line.Insert at (one ∷ [])) = of_both Inserting (position_in roots at) (element_in roots one)
+call_in roots (line.Insert at payload) = of_both InsertingAll (position_in roots at) (elements_in roots payload)
+call_in roots (line.Delete target) = option_map Deleting (element_in roots target)
+call_in roots (line.Replace target (one ∷ [])) = of_both Replacing (element_in roots target) (element_in roots one)
+call_in roots (line.Replace target payload) =
+    of_both ReplacingWithMany (element_in roots target) (elements_in roots payload)
+call_in roots (line.Range first last []) = of_both DeletingAll (element_in roots first) (element_in roots last)
+call_in roots (line.Range first last (one ∷ more)) =
+    option_and_then (λ e. of_both (ReplacingAll e) (element_in roots last) (elements_in roots (one ∷ more)))
+    (element_in roots first)
+call_in roots (line.Remove element separator) = option_map (removal separator) (element_in roots element)
+call_in roots _ = None
+
+-- ---- what a line does
+pub data Step : Type 0 where
+  Goes : (to : State) → Step
+  Refuses : (refusal : Refusal) → Step
+  IsBad : Step
+
+abbrev pub with_editor : Editor → Editing → State → State
+with_editor editor e s = record s { editing = Some (record e { editor = editor }) }
+
+abbrev pub root_refusal : ℕ → SyntaxTree → Option TreeError
+root_refusal next t =
+    cond (nat_le length_limit (text_length t)) (Some TooLong) (cond (next == spent) (Some NoTreeNumber) None)
+
+abbrev pub tree_step : State → List ℕ → SyntaxTree → Step
+tree_step s name t =
+    let root : Element = record { number = s.next; root = t; path = [] } in
+    cond (is_some (s.roots name)) IsBad (option_map_or (λ e. Refuses (refused.Tree e)) (root_refusal s.next t)
+    (Goes (record s { next = suc s.next; roots = with_root name root s.roots })))
+
+-- the root is one of a new tree where the node has a parent
+abbrev begun : State → List ℕ → Element → State
+begun s name node = record {
+  next = cond (has_parent node) (suc s.next) s.next;
+  roots = with_root name (edited_root s.next node) s.roots;
+  words = s.words;
+  editing = Some (record { editor = new_editor s.next node; order = None });
+}
+
+abbrev pub edit_step : State → List ℕ → Option Element → Step
+edit_step s name None = IsBad
+edit_step s name (Some node) = cond (is_some s.editing || is_some (s.roots name)) IsBad
+    (cond (has_parent node && s.next == spent) (Refuses (refused.Tree NoTreeNumber)) (Goes (begun s name node)))
+
+abbrev pub record_step : State → RecordCall → Editing → Step
+record_step s call e =
+    option_map_or (λ r. Refuses (refused.Record r)) (refusal e.editor.root call)
+    (Goes (with_editor (after_call call e.editor) e s))
+
+abbrev pub recorded_in : State → Option RecordCall → Step
+recorded_in s None = IsBad
+recorded_in s (Some call) = option_map_or (record_step s call) s.editing IsBad
+
+abbrev pub PairRefuses : Element → Element × Element → Refusal → Type 0
+PairRefuses parent pair (refused.Map map_error.Memory) = ⊥
+PairRefuses parent pair (refused.Map reason) = RefusesPair parent pair reason
+PairRefuses parent pair _ = ⊥
+
+abbrev pub PairStep : State → Element → Element × Element → Editing → Step → Type 0
+PairStep s parent pair e (Goes t) =
+    IsPairUnder parent pair × ((editor : Editor) × Maps (pair ∷ []) e.editor editor × (t ≡ with_editor editor e s))
+PairStep s parent pair e (Refuses reason) = PairRefuses parent pair reason
+PairStep s parent pair e IsBad = ⊥
+
+abbrev pub MapStep : State → Option Element → Option Element → Option Element → Step → Type 0
+MapStep s (Some parent) (Some input) (Some output) step =
+    MatchOption s.editing (step ≡ IsBad) (λ e. PairStep s parent (input, output) e step)
+MapStep s _ _ _ step = step ≡ IsBad
+
+-- a word that was not used before comes last
+abbrev pub with_word : List ℕ → List (List ℕ) → List (List ℕ)
+with_word word words = cond (list_any (bytes_eq word) words) words (words ++ word ∷ [])
+
+-- annotations count from 1
+abbrev pub annotation_of : List (List ℕ) → List ℕ → ℕ
+annotation_of words word = suc (position_or_len (bytes_eq word) words)
+
+abbrev noted : State → List ℕ → SyntaxElement → Editing → State
+noted s word e editing =
+    let words = with_word word s.words in
+    let editor = registered_with (annotation_of words word) (e ∷ []) editing.editor in
+    record (with_editor editor editing s) { words = words }
+
+abbrev pub note_step : State → List ℕ → Option SyntaxElement → Step
+note_step s word None = IsBad
+note_step s word (Some e) = option_map_or (λ editing. Goes (noted s word e editing)) s.editing IsBad
+
+abbrev pub order_step : State → List ℕ → Step
+order_step s order = option_map_or (λ e. cond (is_some e.order) IsBad
+    (Goes (record s { editing = Some (record e { order = Some order }) }))) s.editing IsBad
+
+abbrev pub Steps : State → ScriptLine → Step → Type 0
+Steps s line.Blank step = step ≡ Goes s
+Steps s (line.Tree name root) step = step ≡ tree_step s name root
+Steps s (line.Edit name node) step = step ≡ edit_step s name (node_in s.roots node)
+Steps s (line.Map parent input output) step =
+    MapStep s (node_in s.roots parent) (node_in s.roots input) (node_in s.roots output) step
+Steps s (line.Note word element) step = step ≡ note_step s word (element_in s.roots element)
+Steps s (line.Order order) step = step ≡ order_step s order
+Steps s line.Finish step = ⊥
+Steps s call step = step ≡ recorded_in s (call_in s.roots call)

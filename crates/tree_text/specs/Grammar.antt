@@ -1,0 +1,74 @@
+-- Tree expressions: which texts are written for a tree, whoever reads or writes them. Texts are bytes.
+-- A function `names` says what each kind is called, and a test `gaps` which bytes may stand between elements.
+--     ◌⨾◌, Joined             a text that falls into two, one of each description
+--     IsExactly               a text and no other
+--     is_gap_space            a byte that may stand between the elements of an expression within a line: a space
+--     is_gap_blank            one that may between those of any other: a space, a tab, a newline or a carriage return
+--     IsGap                   a text of such bytes alone, or of none
+--     IsWritten               what is written between quotes for a byte: its escape, or itself if it is no quote and no backslash
+--     IsQuoted                what is written between quotes for a text: that of each of its bytes, in order
+--     IsName                  the name of a kind
+--     begins_with_name_byte   a text begins with a byte that names may have, so that it would go on with a name before it
+--     IsApart                 a text that doesn't
+--     IsTreeText              what is written for a tree: of a token its kind's name and its quoted text; of a node, in
+--                             parentheses, its kind's name and its elements, which don't go on with that name
+--     AreElements             what is written for elements: each with a gap before it, and a gap after the last
+--     IsExpression            an expression of a tree: it is a node, and this is written for it. Nothing stands before or after
+use Rattle.std.specs.Prelude.{◌≡◌, ◌⊎◌, ℕ, Bool, true, false, ◌||◌, ◌==◌, List, [], ◌∷◌, ◌++◌, Option, Some, codes}
+use Rattle.std.specs.List.{list_all}
+use Rattle.cst_core.specs.Tree.{SyntaxTree, Token, Node, Forest, end, more, is_token}
+use Rattle.tree_text.specs.Escape.{escape}
+use Rattle.tree_text.specs.KindNames.{is_name_byte}
+
+pub record Joined (P Q : List ℕ → Type 0) (w : List ℕ) : Type 0 where
+  pub first : List ℕ
+  pub second : List ℕ
+  pub joined : w ≡ first ++ second
+  pub is_first : P first
+  pub is_second : Q second
+
+infixr 10 ◌⨾◌
+abbrev pub ◌⨾◌ : (List ℕ → Type 0) → (List ℕ → Type 0) → List ℕ → Type 0
+P ⨾ Q = λ w. Joined P Q w
+
+abbrev pub IsExactly : List ℕ → List ℕ → Type 0
+IsExactly s w = w ≡ s
+
+abbrev pub is_gap_space : ℕ → Bool
+is_gap_space b = b == 32
+
+abbrev pub is_gap_blank : ℕ → Bool
+is_gap_blank b = b == 32 || b == 9 || b == 10 || b == 13
+
+abbrev pub IsGap : (ℕ → Bool) → List ℕ → Type 0
+IsGap gaps w = list_all gaps w ≡ true
+
+abbrev pub IsWritten : ℕ → List ℕ → Type 0
+IsWritten b w = (w ≡ escape b) ⊎ ((w ≡ b ∷ []) × ((b == 34 || b == 92) ≡ false))
+
+abbrev pub IsQuoted : List ℕ → List ℕ → Type 0
+IsQuoted [] = IsExactly []
+IsQuoted (b ∷ s) = IsWritten b ⨾ IsQuoted s
+
+abbrev pub IsName : (ℕ → Option (List ℕ)) → ℕ → List ℕ → Type 0
+IsName names k w = names k ≡ Some w
+
+abbrev pub begins_with_name_byte : List ℕ → Bool
+begins_with_name_byte [] = false
+begins_with_name_byte (b ∷ w) = is_name_byte b
+
+abbrev pub IsApart : (List ℕ → Type 0) → List ℕ → Type 0
+IsApart P w = (begins_with_name_byte w ≡ false) × P w
+
+abbrev mutual
+  pub IsTreeText : (ℕ → Option (List ℕ)) → (ℕ → Bool) → SyntaxTree → List ℕ → Type 0
+  IsTreeText names gaps (Token k s) = IsName names k ⨾ IsExactly (codes "\"") ⨾ IsQuoted s ⨾ IsExactly (codes "\"")
+  IsTreeText names gaps (Node k f) =
+      IsExactly (codes "(") ⨾ IsName names k ⨾ IsApart (AreElements names gaps f) ⨾ IsExactly (codes ")")
+
+  pub AreElements : (ℕ → Option (List ℕ)) → (ℕ → Bool) → Forest ℕ → List ℕ → Type 0
+  AreElements names gaps end = IsGap gaps
+  AreElements names gaps (more t f) = IsGap gaps ⨾ IsTreeText names gaps t ⨾ AreElements names gaps f
+
+abbrev pub IsExpression : (ℕ → Option (List ℕ)) → (ℕ → Bool) → SyntaxTree → List ℕ → Type 0
+IsExpression names gaps t w = (is_token t ≡ false) × IsTreeText names gaps t w

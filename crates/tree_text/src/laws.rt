@@ -1,0 +1,15 @@
+ghost use Rattle.std.specs.Prelude.{◌≡◌, ℕ, List};
+ghost use Rattle.cst_core.specs.Tree.{SyntaxTree};
+ghost use Rattle.tree_text.specs.Grammar.{IsExpression, is_gap_blank};
+ghost use Rattle.tree_text.specs.KindNames.{name_in};
+
+use crate::kind_names::KindNames;
+
+/// A text is an expression of one tree at most, with whatever names.
+pub fn expression_is_of_one_tree(names: &KindNames)
+    ensures { (t u : SyntaxTree) (w : List ℕ) → IsExpression (name_in names.now) is_gap_blank t w
+        → IsExpression (name_in names.now) is_gap_blank u w → t ≡ u }
+{
+    // For the proof: the names are names, and no two kinds have the same.
+    names.are_names();
+}

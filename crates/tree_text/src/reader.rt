@@ -1,0 +1,284 @@
+ghost use Rattle.std.specs.Prelude.{ℕ, ◌≡◌, ◌≢◌, ◌≤◌, ◌++◌, ◌||◌, ◌==◌, [], false, true, IfOk, IfErr, OnOk, Some, string_bytes, encode_utf8};
+ghost use Rattle.cst_core.specs.Green.{branch_tree, IsTooLong};
+ghost use Rattle.cst_core.specs.Tree.{SyntaxTree};
+ghost use Rattle.tree_text.specs.Depth.{depth};
+ghost use Rattle.tree_text.specs.KindNames.{name_in, is_name_byte};
+ghost use Rattle.tree_text.specs.Refusals.{IsRefused};
+ghost use Rattle.tree_text.specs.inner.Reading.{IsLeft, IsReading, IsStuck, Reads, first_reading, is_outside, reading};
+ghost use Rattle.tree_text.specs.declared.open_nodes.TheConstants.{DEPTH_LIMIT};
+
+use crate::error::ExpressionError;
+use crate::escape::meant_by;
+use crate::expected::Expected;
+use crate::gaps::Gaps;
+use crate::kind_names::KindNames;
+use crate::open_nodes::OpenNodes;
+use cst_core::{GreenElement, GreenNode, GreenToken, SyntaxKind};
+use std::alloc::Global;
+
+/// What the next character belongs to.
+#[derive(Clone, Copy)]
+pub(crate) enum State {
+    Between,
+    NodeKind,
+    TokenKind,
+    Text(SyntaxKind),
+    /// After a backslash of a text.
+    Escape(SyntaxKind),
+}
+
+/// What was read of a tree expression.
+#[derive(Drop)]
+pub(crate) struct Reader<'a> {
+    pub(crate) alloc: Global,
+    pub(crate) names: &'a KindNames,
+    pub(crate) gaps: Gaps,
+    pub(crate) open: OpenNodes,
+    pub(crate) state: State,
+    // Where the next character is.
+    pub(crate) at: usize,
+    // The name or the text that is being read, and where it begins.
+    pub(crate) word: String,
+    pub(crate) word_at: usize,
+    // The whole tree, once its last parenthesis was read.
+    pub(crate) root: Option<GreenNode>,
+}
+
+impl<'a> Reader<'a> {
+    pub(crate) fn new(alloc: Global, names: &'a KindNames, gaps: Gaps) -> Reader<'a>
+        ensures first { reading result ≡ first_reading names.now gaps }
+        ensures reading { IsReading (reading result) }
+    {
+        // For the proof: the names are names, and no two kinds have the same.
+        names.are_names();
+        Reader {
+            alloc,
+            names,
+            gaps,
+            open: OpenNodes::new(alloc),
+            state: State::Between,
+            at: 0,
+            word: String::new(alloc),
+            word_at: 0,
+            root: None,
+        }
+    }
+
+    /// Reads the next character. After an error the reader is of no more use.
+    pub(crate) fn step(&mut self, c: char) -> Result<(), ExpressionError>
+        requires { IsReading (reading self.old) }
+        ensures ok { OnOk result (Reads (reading self.old) (encode_utf8 c) (reading self.new)) }
+        ensures err { IfErr result (IsStuck (reading self.old) (encode_utf8 c)) }
+    {
+        match self.state {
+            State::Between => self.between(c),
+            State::NodeKind => self.in_node_kind(c),
+            State::TokenKind => self.in_token_kind(c),
+            State::Text(kind) => self.in_text(kind, c),
+            State::Escape(kind) => self.in_escape(kind, c),
+        }
+    }
+
+    fn between(&mut self, c: char) -> Result<(), ExpressionError>
+        requires reading { IsReading (reading self.old) }
+        requires state { self.old.state ≡ State.Between }
+        ensures ok { OnOk result (Reads (reading self.old) (encode_utf8 c) (reading self.new)) }
+        ensures err { IfErr result (IsStuck (reading self.old) (encode_utf8 c)) }
+    {
+        if self.is_outside(c) {
+            return Err(self.misses(self.expected_outside()));
+        }
+        match c {
+            '(' => {
+                self.state = State::NodeKind;
+                Ok(())
+            }
+            ')' => self.close(),
+            c if self.gaps.has(c) => Ok(()),
+            c if is_name_character(c) => {
+                self.state = State::TokenKind;
+                self.push_to_name(c)
+            }
+            _ => Err(self.misses(Expected::Element)),
+        }
+    }
+
+    // Outside the outermost node only its first parenthesis may stand.
+    fn is_outside(&self, c: char) -> bool
+        ensures { result ≡ is_outside (reading self.now) c }
+    {
+        self.open.is_empty() && (c != '(' || self.root.is_some())
+    }
+
+    fn in_node_kind(&mut self, c: char) -> Result<(), ExpressionError>
+        requires reading { IsReading (reading self.old) }
+        requires state { self.old.state ≡ State.NodeKind }
+        ensures ok { OnOk result (Reads (reading self.old) (encode_utf8 c) (reading self.new)) }
+        ensures err { IfErr result (IsStuck (reading self.old) (encode_utf8 c)) }
+    {
+        if is_name_character(c) {
+            return self.push_to_name(c);
+        }
+        let kind = self.take_kind()?;
+        self.open.begin(self.alloc, kind, self.word_at)?;
+        self.state = State::Between;
+        self.between(c)
+    }
+
+    fn in_token_kind(&mut self, c: char) -> Result<(), ExpressionError>
+        requires reading { IsReading (reading self.old) }
+        requires state { self.old.state ≡ State.TokenKind }
+        ensures ok { OnOk result (Reads (reading self.old) (encode_utf8 c) (reading self.new)) }
+        ensures err { IfErr result (IsStuck (reading self.old) (encode_utf8 c)) }
+    {
+        if is_name_character(c) {
+            return self.push_to_name(c);
+        }
+        if c != '"' {
+            return Err(self.misses(Expected::Text));
+        }
+        self.state = State::Text(self.take_kind()?);
+        Ok(())
+    }
+
+    fn in_text(&mut self, kind: SyntaxKind, c: char) -> Result<(), ExpressionError>
+        requires reading { IsReading (reading self.old) }
+        requires state { self.old.state ≡ State.Text kind }
+        ensures ok { OnOk result (Reads (reading self.old) (encode_utf8 c) (reading self.new)) }
+        ensures err { IfErr result (IsStuck (reading self.old) (encode_utf8 c)) }
+    {
+        match c {
+            '"' => self.end_token(kind),
+            '\\' => {
+                self.state = State::Escape(kind);
+                Ok(())
+            }
+            c => Ok(self.word.push(c)?),
+        }
+    }
+
+    fn in_escape(&mut self, kind: SyntaxKind, c: char) -> Result<(), ExpressionError>
+        requires reading { IsReading (reading self.old) }
+        requires state { self.old.state ≡ State.Escape kind }
+        ensures ok { OnOk result (Reads (reading self.old) (encode_utf8 c) (reading self.new)) }
+        ensures err { IfErr result (IsStuck (reading self.old) (encode_utf8 c)) }
+    {
+        let Some(meant) = meant_by(c) else {
+            return Err(self.misses(Expected::Escape));
+        };
+        self.word.push(meant)?;
+        self.state = State::Text(kind);
+        Ok(())
+    }
+
+    fn push_to_name(&mut self, c: char) -> Result<(), ExpressionError>
+        ensures ok { OnOk result
+            (reading self.new ≡ record (reading self.old) { word = string_bytes self.old.word ++ encode_utf8 c }) }
+        ensures err { IfErr result (IsRefused ⊥ ⊥ ⊥) }
+    {
+        if self.word.is_empty() {
+            self.word_at = self.at;
+        }
+        self.word.push(c)?;
+        Ok(())
+    }
+
+    // The kind of the name that was read.
+    fn take_kind(&mut self) -> Result<SyntaxKind, ExpressionError>
+        ensures named { IfOk result (λ k. name_in self.old.names.now k.0 ≡ Some (string_bytes self.old.word)) }
+        ensures taken { OnOk result (reading self.new ≡ record (reading self.old) { word = [] }) }
+        ensures unknown { IfErr result
+            (IsRefused ((k : ℕ) → name_in self.old.names.now k ≢ Some (string_bytes self.old.word)) ⊥ ⊥) }
+    {
+        if self.word.is_empty() {
+            self.word_at = self.at;
+        }
+        let at = self.word_at;
+        let kind = self
+            .names
+            .kind(&self.word)
+            .ok_or(ExpressionError::UnknownKind { at })?;
+        self.word.clear();
+        Ok(kind)
+    }
+
+    fn end_token(&mut self, kind: SyntaxKind) -> Result<(), ExpressionError>
+        requires reading { IsReading (reading self.old) }
+        requires state { self.old.state ≡ State.Text kind }
+        ensures ok { OnOk result (Reads (reading self.old) (encode_utf8 34) (reading self.new)) }
+        ensures err { IfErr result (IsStuck (reading self.old) (encode_utf8 34)) }
+    {
+        let token = new_token(self.alloc, kind, &self.word)?;
+        self.word.clear();
+        self.state = State::Between;
+        self.open.put(GreenElement::Token(token), self.at)
+    }
+
+    fn close(&mut self) -> Result<(), ExpressionError>
+        requires reading { IsReading (reading self.old) }
+        requires state { self.old.state ≡ State.Between }
+        requires inside { is_outside (reading self.old) 41 ≡ false }
+        ensures ok { OnOk result (Reads (reading self.old) (encode_utf8 41) (reading self.new)) }
+        ensures err { IfErr result (IsStuck (reading self.old) (encode_utf8 41)) }
+    {
+        let node = self.open.end(self.alloc, self.at)?;
+        if self.open.is_empty() {
+            self.root = Some(node);
+            return Ok(());
+        }
+        self.open.put(GreenElement::Node(node), self.at)
+    }
+
+    /// The tree, at the end of the text.
+    pub(crate) fn finish(self) -> Result<GreenNode, ExpressionError>
+        requires { IsReading (reading self) }
+        ensures limited { IfOk result (λ n. depth (branch_tree n) ≤ DEPTH_LIMIT) }
+        ensures only { (t : SyntaxTree) → IsLeft (reading self.entry) t [] → IfOk result (λ n. branch_tree n ≡ t) }
+        ensures found { IfOk result (λ n. IsLeft (reading self.entry) (branch_tree n) []) }
+        ensures err { IfErr result (IsRefused ((t : SyntaxTree) → IsLeft (reading self.entry) t [] → ⊥) ⊥ ⊥) }
+    {
+        let missing = self.misses(self.expected_at_end());
+        self.root.ok_or(missing)
+    }
+
+    // What is expected where no node is open.
+    fn expected_outside(&self) -> Expected {
+        if self.root.is_some() {
+            Expected::End
+        } else {
+            Expected::Node
+        }
+    }
+
+    fn expected_at_end(&self) -> Expected {
+        match self.state {
+            State::Between if self.open.is_empty() => self.expected_outside(),
+            State::NodeKind if self.word.is_empty() => Expected::KindName,
+            State::Between | State::NodeKind => Expected::Element,
+            State::TokenKind => Expected::Text,
+            State::Text(_) => Expected::Quote,
+            State::Escape(_) => Expected::Escape,
+        }
+    }
+
+    // The error of a text that has something else here.
+    fn misses(&self, expected: Expected) -> ExpressionError
+        ensures { result ≡ ExpressionError.Malformed self.now.at expected }
+    {
+        let at = self.at;
+        ExpressionError::Malformed { at, expected }
+    }
+}
+
+fn new_token(alloc: Global, kind: SyntaxKind, text: &str) -> Result<GreenToken, ExpressionError>
+    ensures ok { IfOk result (λ t. t ≡ record { kind = kind.0; text = text.now }) }
+    ensures err { IfErr result (IsRefused ⊥ ⊥ (IsTooLong text.now)) }
+{
+    GreenToken::new(alloc, kind, text).map_err(ExpressionError::of_tree)
+}
+
+fn is_name_character(c: char) -> bool
+    ensures { result ≡ is_name_byte c }
+{
+    c.is_ascii_alphanumeric() || c == '_'
+}
