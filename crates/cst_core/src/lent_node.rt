@@ -5,8 +5,9 @@ ghost use Rattle.cst_core.specs.Element.{subtree};
 ghost use Rattle.cst_core.specs.inner.ChildSlots.{child_in, node_in, nodes_from_slot, nodes_up_to};
 
 use crate::element::SyntaxElement;
-use crate::location::{Location, child_path};
+use crate::location::Location;
 use crate::node::SyntaxNode;
+use crate::slot_path::SlotPath;
 use green_tree::{GreenElement, GreenNode};
 use std::alloc::{AllocError, Global};
 use std::marker::Model;
@@ -42,7 +43,7 @@ impl<'a> LentNode<'a> {
     {
         // For the proof: a node stands at the path.
         let _ = &self.green;
-        let path = Vec::from_slice(alloc, self.path)?;
+        let path = SlotPath::copied(alloc, self.path)?;
         Ok(SyntaxNode {
             location: self.location.with_path(alloc, path)?,
             green: self.green.share(alloc)?,
@@ -68,7 +69,7 @@ impl<'a> LentNode<'a> {
         let Some(child) = self.green.children().get(slot) else {
             return Ok(None);
         };
-        let path = child_path(alloc, self.path, slot)?;
+        let path = SlotPath::child(alloc, self.path, slot)?;
         Ok(Some(self.location.moved_to(alloc, path, child.as_ref())?))
     }
 
@@ -79,7 +80,7 @@ impl<'a> LentNode<'a> {
     {
         match self.green.children().get(slot) {
             Some(GreenElement::Node(child)) => {
-                let path = child_path(alloc, self.path, slot)?;
+                let path = SlotPath::child(alloc, self.path, slot)?;
                 Ok(Some(SyntaxNode {
                     location: self.location.with_path(alloc, path)?,
                     green: child.share(alloc)?,

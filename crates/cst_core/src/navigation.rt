@@ -10,6 +10,7 @@ use crate::direction::Direction;
 use crate::element::SyntaxElement;
 use crate::lent_node::LentNode;
 use crate::node::SyntaxNode;
+use crate::slot_path::SlotPath;
 use crate::token::SyntaxToken;
 use green_tree::{FoundToken, SyntaxKind, first_token, last_token};
 use std::alloc::{AllocError, Global};
@@ -28,8 +29,7 @@ impl SyntaxNode {
         let Some(green) = self.green.get(path) else {
             return Ok(None);
         };
-        let mut slots = Vec::from_slice(alloc, self.slots())?;
-        slots.extend_from_slice(path)?;
+        let slots = SlotPath::joined(alloc, self.slots(), path)?;
         Ok(Some(self.location.moved_to(alloc, slots, green)?))
     }
 
@@ -152,8 +152,7 @@ impl SyntaxNode {
     {
         // For the proof: a node stands at the path of `self`.
         let _ = &self.green;
-        let mut path = Vec::from_slice(alloc, self.slots())?;
-        path.extend_from_slice(&found.path)?;
+        let path = SlotPath::joined(alloc, self.slots(), &found.path)?;
         Ok(SyntaxToken {
             location: self.location.with_path(alloc, path)?,
             green: found.green.share(alloc)?,
