@@ -50,9 +50,12 @@ impl SyntaxNode {
     pub fn children_with_tokens(&self, alloc: Global) -> Result<Vec<SyntaxElement>, AllocError>
         ensures { IfOk result (λ all. all.items ≡ child_elements self.now) }
     {
-        let mut all = Vec::new(alloc);
-        for slot in 0..self.green.children().len() {
-            if let Some(child) = self.element_at(alloc, &[slot])? {
+        // For the proof: a node stands at the path of `self`.
+        let _ = &self.green;
+        let node = self.lent();
+        let mut all = Vec::with_capacity(alloc, node.len())?;
+        for slot in 0..node.len() {
+            if let Some(child) = node.child(alloc, slot)? {
                 all.push(child)?;
             }
         }
@@ -63,10 +66,16 @@ impl SyntaxNode {
     pub fn children(&self, alloc: Global) -> Result<Vec<SyntaxNode>, AllocError>
         ensures { IfOk result (λ all. all.items ≡ child_nodes self.now) }
     {
-        self.children_with_tokens(alloc)?
-            .into_iter()
-            .filter_map(|child| child.into_node())
-            .collect(alloc)
+        // For the proof: a node stands at the path of `self`.
+        let _ = &self.green;
+        let node = self.lent();
+        let mut all = Vec::new(alloc);
+        for slot in 0..node.len() {
+            if let Some(child) = node.node_in(alloc, slot)? {
+                all.push(child)?;
+            }
+        }
+        Ok(all)
     }
 
     /// The first child; `None` for a node without children.
@@ -170,9 +179,7 @@ impl SyntaxNode {
         'walk: while let Some(node) = waiting.pop() {
             // For the proof: a node stands at the path of `node`.
             let _ = &node.green;
-            let mut children = node.children(alloc)?;
-            children.reverse();
-            waiting.append(&mut children)?;
+            node.lent().push_nodes(alloc, &mut waiting)?;
             all.push(node)?;
         }
         Ok(all)
@@ -203,9 +210,7 @@ impl SyntaxNode {
             if let SyntaxElement::Node(node) = &element {
                 // For the proof: a node stands at the path of `node`.
                 let _ = &node.green;
-                let mut children = node.children_with_tokens(alloc)?;
-                children.reverse();
-                waiting.append(&mut children)?;
+                node.lent().push_children(alloc, &mut waiting)?;
             }
             all.push(element)?;
         }
