@@ -3,8 +3,8 @@ ghost use Rattle.std.specs.Cmp.Rules.{comparing, hashing};
 ghost use Rattle.std.specs.Cmp.Lexicographic.{pointwise};
 ghost use Rattle.std.specs.Ordering.{on, eq_of_both};
 ghost use Rattle.std.specs.Hash as fed;
-ghost use Rattle.std.specs.Prelude.{◌≡◌, ◌↔◌, ◌==◌, ◌++◌, [], ◌∷◌, IfOk, Ok, Some, None, option_map};
-ghost use Rattle.green_tree.specs.Path.{Path, last_slot};
+ghost use Rattle.std.specs.Prelude.{◌≡◌, ◌↔◌, ◌==◌, ◌++◌, [], map, IfOk, Ok, Some, None, option_map};
+ghost use Rattle.green_tree.specs.Path.{Path, last_slot, above};
 ghost use Rattle.green_tree.specs.Tree.{at};
 ghost use Rattle.green_tree.specs.Order.{start};
 ghost use Rattle.green_tree.specs.GreenElementRef.{ref_tree};
@@ -19,7 +19,7 @@ use crate::lent_node::LentNode;
 use crate::node::SyntaxNode;
 use crate::slot_path::SlotPath;
 use crate::token::SyntaxToken;
-use green_tree::{GreenElementRef, GreenNode, start_of};
+use green_tree::{GreenElement, GreenElementRef, GreenNode, start_of};
 use std::alloc::{AllocError, Global};
 use std::hash::{Hash, Hasher};
 use std::marker::Model;
@@ -277,16 +277,35 @@ impl Location {
         }
     }
 
+    // The nodes above, from the root down.
+    fn nodes_from_root(&self, alloc: Global) -> Result<Vec<SyntaxNode>, AllocError>
+        ensures { IfOk result (λ all. all.items ≡ map (element_at self.now) (above self.now.path)) }
+    {
+        let path = self.path.as_slice();
+        let mut all = Vec::with_capacity(alloc, path.len())?;
+        let mut green = &self.root;
+        for depth in 0..path.len() {
+            let node = LentNode {
+                location: self,
+                path: &path[..depth],
+                green,
+            };
+            all.push(node.to_node(alloc)?)?;
+            match green.children().get(path[depth]) {
+                Some(GreenElement::Node(below)) => green = below,
+                Some(GreenElement::Token(_)) => return Ok(all),
+                None => unreachable!(),
+            }
+        }
+        Ok(all)
+    }
+
     // The nodes above, the nearest first.
     pub(crate) fn nodes_above(&self, alloc: Global) -> Result<Vec<SyntaxNode>, AllocError>
         ensures { IfOk result (λ all. all.items ≡ nodes_above self.now) }
     {
-        let mut all = Vec::new(alloc);
-        let mut above = self.parent(alloc)?;
-        'up: while let Some(node) = above {
-            above = node.parent(alloc)?;
-            all.push(node)?;
-        }
+        let mut all = self.nodes_from_root(alloc)?;
+        all.reverse();
         Ok(all)
     }
 }

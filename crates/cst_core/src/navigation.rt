@@ -33,8 +33,8 @@ impl SyntaxNode {
         Ok(Some(self.location.moved_to(alloc, slots, green)?))
     }
 
-    /// The element of the whole tree that a path of child slots leads to, counted from the tree's root; the path is taken
-    /// over, not copied. `None` where it leads nowhere.
+    /// The element of the whole tree that a path of child slots leads to, counted from the tree's root; the vector is
+    /// taken over, and no more than three slots are copied. `None` where it leads nowhere.
     pub fn element_of_tree(
         &self,
         alloc: Global,
