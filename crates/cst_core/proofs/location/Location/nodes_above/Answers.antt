@@ -1,5 +1,3 @@
-use Rattle.std.proofs.Common.{ap, ◌∙◌}
-use Rattle.std.specs.Prelude.{reverse}
 use Rattle.green_tree.specs.Path.{above}
 use Rattle.cst_core.specs.Element.{element_at}
 use Rattle.cst_core.proofs.Ancestors.{map-reverse}

@@ -1,9 +1,9 @@
-use Rattle.std.proofs.Common.{◌≡◌, ◌+◌, ◌≤◌, length, map, take, Some, refl, ap, ◌∙◌}
+use Rattle.std.proofs.Common.{◌≡◌, ◌+◌, map, take, Some, refl, ap, ◌∙◌}
 use Rattle.std.specs.Prelude.{IsSome}
 use Rattle.green_tree.specs.Path.{above}
 use Rattle.green_tree.specs.Tree.{at}
-use Rattle.green_tree.specs.Green.{branch_tree, leaf_tree}
-use Rattle.cst_core.specs.Element.{IsNode, root_of, element_at}
+use Rattle.green_tree.specs.Green.{leaf_tree}
+use Rattle.cst_core.specs.Element.{element_at}
 use Rattle.cst_core.proofs.Ancestors.{listed_more, listed_all, child_on_way, token_ends_way, way_goes_on}
 use Rattle.cst_core.proofs.location.Location.nodes_from_root.Goals as goal
 
