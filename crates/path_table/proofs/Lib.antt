@@ -1,1 +1,2 @@
 pub mod PathTables
+pub mod EnteredSteps

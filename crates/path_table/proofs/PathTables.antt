@@ -7,18 +7,18 @@
 --     is-older                      a cell that was there is led to as before
 --     grown-on                      more cells, and more again
 --     grown-same                    the same steps and numbers
---     same-steps                    steps of the same entries
---     step-entered, grown-as        a step that was there, or is there now; with another name for the table
+--     step-entered                  a step that was there, or is there now
+--     entered-grown, entered-leads, entered-made, refused-same      what entering a cell says of the table
 --     tree-same                     the same cells, with other numbers
 --     within-at, path-is            a path leads to a cell that there is, which has this path
 --     number-read, number-set, put-number      a list of numbers, at a cell; a table's, after one was put there
 --     put-tree, entered             a number put at a cell; at the cell of a path
-use Rattle.std.specs.Prelude.{◌≡◌, ◌≢◌, ℕ, zero, suc, ◌+◌, ◌<◌, ◌≤◌, true, false, ◌&&◌, cond, nat_eq, [], ◌∷◌, ◌++◌, length, List, slice_get, slice_set, option_and_then, unwrap_or, is_some, if◌then◌else◌, Option, Some, None, IfSome, refl}
+use Rattle.std.specs.Prelude.{◌≡◌, ◌≢◌, ℕ, zero, suc, ◌+◌, ◌<◌, ◌≤◌, true, false, ◌&&◌, cond, nat_eq, [], ◌∷◌, ◌++◌, length, List, slice_get, slice_set, option_and_then, unwrap_or, is_some, if◌then◌else◌, Option, Some, None, IfSome, Result, Ok, Err, IfOk, OnErr, refl}
 use Rattle.std.specs.List.{fold}
 use Rattle.std.specs.Map.{lookup}
 use Rattle.std.specs.Option.{option_flatten}
 use Rattle.std.specs.Vec.{with_item}
-use Rattle.std.proofs.Common.{ap, sym, subst, ◌∙◌, arith, take, get_or, append_assoc, append-nil}
+use Rattle.std.proofs.Common.{ap, ap₂, sym, ◌∙◌, arith, take, get_or, append_assoc, append-nil}
 use Rattle.std.proofs.lemmas.Bool.{cases_Bool, and_parts, and_left, eqb-true, eq-eqb, ne_eqb, true≢false}
 use Rattle.std.proofs.lemmas.List.{take_more}
 use Rattle.std.proofs.lemmas.List.Sums.{fold-append}
@@ -26,7 +26,8 @@ use Rattle.std.proofs.lemmas.Option.{none-some, same_Some, slice_get-get_or}
 use mathlib.Core.Logic.{inl, inr}
 use lib.Pointwise.{pointwise_decides}
 use Rattle.green_tree.specs.Path.{Path, same_path}
-use Rattle.path_table.specs.inner.PathTable.{cell_below, next_cell, cell_further, cell_at, number_in, number_by_path, size, SameSteps, IsTree, IsGrown}
+use Rattle.path_table.specs.inner.Steps.{Steps, step, IsEntered}
+use Rattle.path_table.specs.inner.PathTable.{cell_below, next_cell, cell_further, cell_at, number_in, number_by_path, size, IsTree, IsGrown}
 use Rattle.path_table.specs.declared.table.PathTable.{PathTable}
 
 pub cell-push : (t : PathTable) (o : Option ℕ) (p : Path) (i : ℕ) → cell_further t o (p ++ i ∷ []) ≡ next_cell t (cell_further t o p) i
@@ -41,7 +42,7 @@ cell-more t from p k o l is =
     ap (λ cell. next_cell t cell (get_or p k 0)) is ∙ sym (ap (cell_further t from) (take_more p k 0 l) ∙ cell-push t from (take k p) (get_or p k 0))
 
 -- ---- a table of nothing
-pub empty-tree : (t : PathTable) → t.steps.entries ≡ [] → t.numbers.items ≡ [] → IsTree t
+pub empty-tree : (t : PathTable) → t.steps ≡ [] → t.numbers.items ≡ [] → IsTree t
 empty-tree t no_steps no_numbers =
     let nothing : (n i m : ℕ) → cell_below t n i ≡ Some m → ⊥ = λ n i m h. none-some m (sym (ap (lookup (λ k. nat_eq n k.0 && nat_eq i k.1)) no_steps) ∙ h) in
     record {
@@ -49,9 +50,6 @@ empty-tree t no_steps no_numbers =
       numbers = λ n x h. absurd (none-some x (sym (ap (λ xs. option_flatten (slice_get xs n)) no_numbers) ∙ h));
       paths = (λ k. [], refl, λ n i m h. absurd (nothing n i m h));
     }
-
-pub same-steps : (t u : PathTable) → u.steps.entries ≡ t.steps.entries → SameSteps t u
-same-steps t u same n i = ap (lookup (λ k. nat_eq n k.0 && nat_eq i k.1)) same
 
 -- ---- steps that are added
 module _ (t u : PathTable) (steps : (n i m : ℕ) → cell_below t n i ≡ Some m → cell_below u n i ≡ Some m) where
@@ -234,11 +232,31 @@ step-entered t u n s (Some m) tree here is long same put = grown-same t u tree k
           | inr other ↦ put a i ∙ ap (λ b. cond b (Some m) (cell_below t a i)) other
         ]
 
-pub grown-as : {t u v : PathTable} → v ≡ u → IsGrown t u → IsGrown t v
-grown-as {t} is grown = subst (IsGrown t) (sym is) grown
+-- ---- what entering a cell says of the table
+here-itself : (n s : ℕ) → (nat_eq n n && nat_eq s s) ≡ true
+here-itself n s = ap₂ (λ a b. a && b) (eq-eqb n n refl) (eq-eqb s s refl)
+
+module _ {E : Type 0} (t : PathTable) (after : Steps) (n s : ℕ) where
+  pub entered-grown : (r : Result ℕ E) → IsTree t → n ≤ size t → IfOk r (IsEntered t.steps after n s) → OnErr r (after ≡ t.steps) → IsGrown t (record { steps = after; numbers = t.numbers })
+  entered-grown (Ok m) tree here made same =
+      step-entered t (record { steps = after; numbers = t.numbers }) n s (cell_below t n s) tree here refl made.long refl (λ a i. made.steps a i ∙ ap (λ k. cond (nat_eq n a && nat_eq s i) (Some k) (cell_below t a i)) made.made)
+  entered-grown (Err e) tree here made same =
+      grown-same t (record { steps = after; numbers = t.numbers }) tree (λ a i. ap (λ es. step es a i) same) (ap length same) refl
+
+  pub entered-leads : (r : Result ℕ E) → IfOk r (IsEntered t.steps after n s) → IfOk r (λ m. step after n s ≡ Some m)
+  entered-leads (Ok m) made = made.steps n s ∙ ap (λ b. cond b (Some m) (cell_below t n s)) (here-itself n s)
+  entered-leads (Err e) made = tt
+
+  pub entered-made : (r : Result ℕ E) → IfOk r (IsEntered t.steps after n s) → IfOk r (λ m. m ≡ unwrap_or (cell_below t n s) (size t + 1))
+  entered-made (Ok m) made = made.made
+  entered-made (Err e) made = tt
+
+  pub refused-same : (r : Result ℕ E) → OnErr r (after ≡ t.steps) → OnErr r ((a i : ℕ) → step after a i ≡ cell_below t a i)
+  refused-same (Ok m) same = tt
+  refused-same (Err e) same = λ a i. ap (λ es. step es a i) same
 
 -- ---- no cell more
-module _ (t u : PathTable) (tree : IsTree t) (steps : u.steps.entries ≡ t.steps.entries) where
+module _ (t u : PathTable) (tree : IsTree t) (steps : u.steps ≡ t.steps) where
   cells-same : (q : Path) → cell_at u q ≡ cell_at t q
   cells-same q = ap (λ es. fold (λ o i. option_and_then (λ n. lookup (λ k. nat_eq n k.0 && nat_eq i k.1) es) o) (Some 0) q) steps
 
@@ -259,19 +277,19 @@ module _ (t u : PathTable) (tree : IsTree t) (steps : u.steps.entries ≡ t.step
 pub number-read : (xs : List (Option ℕ)) (n : ℕ) (x : Option ℕ) → n < length xs → x ≡ get_or xs n x → x ≡ option_flatten (slice_get xs n)
 number-read xs n x l is = sym (ap option_flatten (slice_get-get_or xs n x l ∙ ap (λ o. Some o) (sym is)))
 
-pub number-set : (xs : List (Option ℕ)) (n k x : ℕ) → n < length xs → option_flatten (slice_get (slice_set xs n (Some x)) k) ≡ cond (nat_eq n k) (Some x) (option_flatten (slice_get xs k))
-number-set xs n k x l =
+pub number-set : {X : Type 0} (xs : List (Option X)) (n k : ℕ) (x : X) → n < length xs → option_flatten (slice_get (slice_set xs n (Some x)) k) ≡ cond (nat_eq n k) (Some x) (option_flatten (slice_get xs k))
+number-set {X} xs n k x l =
     elim (cases_Bool (nat_eq n k)) [
       | inl here ↦ ap (λ i. option_flatten (slice_get (slice_set xs n (Some x)) i)) (sym (eqb-true n k here)) ∙ ap option_flatten (set-same xs n l) ∙ sym (ap (λ b. cond b (Some x) (option_flatten (slice_get xs k))) here)
       | inr other ↦ ap option_flatten (set-other xs n k (λ e. true≢false (sym (eq-eqb n k (sym e)) ∙ other))) ∙ sym (ap (λ b. cond b (Some x) (option_flatten (slice_get xs k))) other)
     ]
   where
-    set-same : (ys : List (Option ℕ)) (i : ℕ) → i < length ys → slice_get (slice_set ys i (Some x)) i ≡ Some (Some x)
+    set-same : (ys : List (Option X)) (i : ℕ) → i < length ys → slice_get (slice_set ys i (Some x)) i ≡ Some (Some x)
     set-same [] i l = absurd (omega (arith, l))
     set-same (y ∷ ys) zero l = refl
     set-same (y ∷ ys) (suc i) l = set-same ys i (omega (arith, l))
 
-    set-other : (ys : List (Option ℕ)) (i j : ℕ) → j ≢ i → slice_get (slice_set ys i (Some x)) j ≡ slice_get ys j
+    set-other : (ys : List (Option X)) (i j : ℕ) → j ≢ i → slice_get (slice_set ys i (Some x)) j ≡ slice_get ys j
     set-other [] i j d = refl
     set-other (y ∷ ys) zero zero d = absurd (d refl)
     set-other (y ∷ ys) zero (suc j) d = refl
@@ -312,7 +330,7 @@ module _ (t : PathTable) (tree : IsTree t) where
   path-is p m h = path-told 0 p m h ∙ ap (λ q. q ++ p) tree.paths.1
 
   -- ---- a number put at a cell
-  pub put-tree : (u : PathTable) (m x : ℕ) → m ≤ size t → u.steps.entries ≡ t.steps.entries → ((n : ℕ) → number_in u (Some n) ≡ cond (nat_eq m n) (Some x) (number_in t (Some n))) → IsTree u
+  pub put-tree : (u : PathTable) (m x : ℕ) → m ≤ size t → u.steps ≡ t.steps → ((n : ℕ) → number_in u (Some n) ≡ cond (nat_eq m n) (Some x) (number_in t (Some n))) → IsTree u
   put-tree u m x here steps put = tree-same t u tree steps numbered
     where
       numbered : (n y : ℕ) → number_in u (Some n) ≡ Some y → n ≤ size t
@@ -323,7 +341,7 @@ module _ (t : PathTable) (tree : IsTree t) where
           ]
 
   -- ---- at the cell of a path
-  module _ (u : PathTable) (p : Path) (m x : ℕ) (leads : cell_at t p ≡ Some m) (steps : u.steps.entries ≡ t.steps.entries) (put : (n : ℕ) → number_in u (Some n) ≡ cond (nat_eq m n) (Some x) (number_in t (Some n))) where
+  module _ (u : PathTable) (p : Path) (m x : ℕ) (leads : cell_at t p ≡ Some m) (steps : u.steps ≡ t.steps) (put : (n : ℕ) → number_in u (Some n) ≡ cond (nat_eq m n) (Some x) (number_in t (Some n))) where
     at-other : (q : Path) → same_path q p ≡ false → number_in u (cell_at t q) ≡ number_in t (cell_at t q)
     at-other q other = go (cell_at t q) refl
       where

@@ -2,15 +2,14 @@ ghost use Rattle.std.specs.Prelude.{◌≡◌, ◌≤◌, ◌<◌, ◌+◌, ℕ,
 ghost use Rattle.green_tree.specs.Path.{Path};
 ghost use Rattle.path_table.specs.inner.PathTable.{cell_below, next_cell, cell_further, cell_at, number_in, number_by_path, SameSteps, SameCells, SameNumbers, IsPut, size, IsTree, IsGrown};
 
+use crate::steps::Steps;
 use std::alloc::{AllocError, Global};
-use std::collections::HashMap;
 
 /// Numbers by path. From the top each path leads, by one step a slot, to a cell of its own; so a way down costs its length, and
 /// finds the numbers of all elements on it.
 #[derive(Drop)]
 pub struct PathTable {
-    // The cell below a cell, at a slot. The top is 0, and the others are counted in the order in which they were made.
-    steps: HashMap<(usize, usize), usize>,
+    steps: Steps,
     // By cell; the last cells may be missing, and have none.
     numbers: Vec<Option<usize>>,
 }
@@ -22,7 +21,7 @@ impl PathTable {
         ensures tree { IsTree result }
     {
         PathTable {
-            steps: HashMap::new(alloc),
+            steps: Steps::new(alloc),
             numbers: Vec::new(alloc),
         }
     }
@@ -50,7 +49,7 @@ impl PathTable {
     pub fn below(&self, cell: Option<usize>, slot: usize) -> Option<usize>
         ensures { result ≡ next_cell self.now cell slot }
     {
-        self.steps.get(&(cell?, slot)).copied()
+        self.steps.below(cell?, slot)
     }
 
     /// The number of a cell, if it has one.
@@ -89,8 +88,7 @@ impl PathTable {
         ensures grown { IsGrown self.old self.new }
         ensures unchanged { OnErr result (SameSteps self.old self.new) }
     {
-        let next = self.steps.len() + 1;
-        Ok(*self.steps.entry((cell, slot))?.or_insert(next))
+        self.steps.enter(cell, slot)
     }
 
     /// The cell of a path. Where there is none it is made, and the cells on the way to it that are missing.
