@@ -1,6 +1,7 @@
-ghost use Rattle.std.specs.Prelude.{◌≡◌, ◌≤◌, ◌<◌, ◌+◌, ℕ, Option, None, Some, OnOk, OnErr, IfOk, length, unwrap_or};
+ghost use Rattle.std.specs.Prelude.{◌≡◌, ◌≤◌, ◌<◌, ◌+◌, ℕ, Option, None, Some, OnOk, OnErr, IfOk, length, take, unwrap_or};
 ghost use Rattle.green_tree.specs.Path.{Path};
 ghost use Rattle.path_table.specs.inner.PathTable.{cell_below, next_cell, cell_further, cell_at, number_in, number_by_path, SameSteps, SameCells, SameNumbers, IsPut, size, IsTree, IsGrown};
+ghost use Rattle.path_table.specs.inner.Steps.{slots_of, way_end};
 
 use crate::steps::Steps;
 use std::alloc::{AllocError, Global};
@@ -12,6 +13,27 @@ pub struct PathTable {
     steps: Steps,
     // By cell; the last cells may be missing, and have none.
     numbers: Vec<Option<usize>>,
+    // The slots of the path that was entered last, each with the cell that it leads to. The next path goes on where the two part, so
+    // paths near to each other are entered together.
+    way: Vec<(usize, usize)>,
+}
+
+// How many slots a way and a path have in common, and the cell that these lead to.
+fn shared(way: &[(usize, usize)], path: &[usize]) -> (usize, usize)
+    ensures within { result.0 ≤ length path.now }
+    ensures slots { slots_of (take result.0 way.now) ≡ take result.0 path.now }
+    ensures end { result.1 ≡ way_end 0 (take result.0 way.now) }
+{
+    let most = way.len().min(path.len());
+    let mut cell = 0;
+    for count in 0..most {
+        let (slot, below) = way[count];
+        if slot != path[count] {
+            return (count, cell);
+        }
+        cell = below;
+    }
+    (most, cell)
 }
 
 impl PathTable {
@@ -23,6 +45,7 @@ impl PathTable {
         PathTable {
             steps: Steps::new(alloc),
             numbers: Vec::new(alloc),
+            way: Vec::new(alloc),
         }
     }
 
@@ -91,6 +114,19 @@ impl PathTable {
         self.steps.enter(cell, slot)
     }
 
+    // The way goes on from its end to the cell at a slot.
+    fn go_on(&mut self, end: usize, slot: usize) -> Result<usize, AllocError>
+        requires tree { IsTree self.old }
+        requires end { end ≡ way_end 0 self.old.way.items }
+        ensures leads { IfOk result (λ m. cell_below self.new end slot ≡ Some m) }
+        ensures end { IfOk result (λ m. m ≡ way_end 0 self.new.way.items) }
+        ensures grown { IsGrown self.old self.new }
+    {
+        let below = self.steps.enter(end, slot)?;
+        self.way.push((slot, below))?;
+        Ok(below)
+    }
+
     /// The cell of a path. Where there is none it is made, and the cells on the way to it that are missing.
     ///
     /// Refused for memory alone. The cells are then as they were, or some of those on the way were made.
@@ -99,9 +135,11 @@ impl PathTable {
         ensures leads { IfOk result (λ m. cell_at self.new path.now ≡ Some m) }
         ensures grown { IsGrown self.old self.new }
     {
-        let mut cell = 0;
-        for slot in path {
-            cell = self.enter(cell, *slot)?;
+        let (shared, end) = shared(&self.way, path);
+        self.way.truncate(shared);
+        let mut cell = end;
+        for depth in shared..path.len() {
+            cell = self.go_on(cell, path[depth])?;
         }
         Ok(cell)
     }
@@ -109,6 +147,7 @@ impl PathTable {
     // A number or none for each cell.
     fn make_room(&mut self) -> Result<(), AllocError>
         ensures steps { self.new.steps ≡ self.old.steps }
+        ensures way { self.new.way ≡ self.old.way }
         ensures numbers { (cell : Option ℕ) → number_in self.new cell ≡ number_in self.old cell }
         ensures room { OnOk result (size self.new < length self.new.numbers.items) }
     {

@@ -7,13 +7,13 @@
 --     IsPut                         one path has this number now, and the others what they had
 --     size                          how many cells there are below the top
 --     HasPaths                      each cell can be told its path, which is that of the cell above it with one slot more
---     IsTree                        such a table, in which no other cells are named than there are
+--     IsTree                        such a table, in which no other cells are named than there are, and the way leads through its cells
 --     IsGrown                       with more cells, which have no number, and are counted after the older ones
 use Rattle.std.specs.Prelude.{◌≡◌, ℕ, ◌≤◌, cond, [], ◌∷◌, ◌++◌, length, slice_get, option_and_then, Option, Some}
 use Rattle.std.specs.List.{fold}
 use Rattle.std.specs.Option.{option_flatten}
 use Rattle.green_tree.specs.Path.{Path, same_path}
-use Rattle.path_table.specs.inner.Steps.{step}
+use Rattle.path_table.specs.inner.Steps.{step, IsWay}
 use Rattle.path_table.specs.declared.table.PathTable.{PathTable}
 
 abbrev pub cell_below : PathTable → ℕ → ℕ → Option ℕ
@@ -56,6 +56,7 @@ pub record IsTree (t : PathTable) : Type 0 where
   pub steps : (n i m : ℕ) → cell_below t n i ≡ Some m → (n ≤ size t) × (m ≤ size t)
   pub numbers : (n x : ℕ) → number_in t (Some n) ≡ Some x → n ≤ size t
   pub paths : HasPaths t
+  pub way : IsWay t.steps 0 t.way.items
 
 pub record IsGrown (before after : PathTable) : Type 0 where
   pub steps : (n i m : ℕ) → cell_below before n i ≡ Some m → cell_below after n i ≡ Some m

@@ -5,7 +5,10 @@
 --     AreSame                       the same steps, maybe in another order
 --     latest_from                   one step from a cell, with its slot, of a list that has some by cell
 --     AreAmong                      these are some of the steps
-use Rattle.std.specs.Prelude.{◌≡◌, ℕ, ◌+◌, ◌&&◌, cond, nat_eq, List, length, slice_get, Option, Some, unwrap_or, is_some, if◌then◌else◌}
+--     Way                           the slots of a path, each with a cell
+--     slots_of, way_end             its slots; the cell at its end, from a cell on
+--     IsWay                         each cell of a way is that to which the slots up to it lead, from a cell on
+use Rattle.std.specs.Prelude.{◌≡◌, ℕ, ⊤, ◌+◌, ◌&&◌, cond, nat_eq, List, [], ◌∷◌, map, length, slice_get, Option, Some, unwrap_or, is_some, if◌then◌else◌}
 use Rattle.std.specs.Map.{lookup}
 use Rattle.std.specs.Option.{option_flatten}
 
@@ -28,3 +31,18 @@ latest_from latest n = option_flatten (slice_get latest n)
 
 abbrev pub AreAmong : Steps → List (Option (ℕ × ℕ)) → Type 0
 AreAmong s latest = (n i m : ℕ) → latest_from latest n ≡ Some (i, m) → step s n i ≡ Some m
+
+-- ---- a way
+abbrev pub Way : Type 0
+Way = List (ℕ × ℕ)
+
+abbrev pub slots_of : Way → List ℕ
+slots_of way = map (λ x. x.0) way
+
+abbrev pub way_end : ℕ → Way → ℕ
+way_end n [] = n
+way_end n (x ∷ way) = way_end x.1 way
+
+abbrev pub IsWay : Steps → ℕ → Way → Type 0
+IsWay s n [] = ⊤
+IsWay s n (x ∷ way) = (step s n x.0 ≡ Some x.1) × IsWay s x.1 way

@@ -1,5 +1,4 @@
-use Rattle.std.proofs.Common.{◌≡◌, ◌<◌, length, ap, arith}
-use Rattle.std.specs.Vec.{vec_len}
+use Rattle.std.proofs.Common.{◌<◌, length, ap, arith}
 use Rattle.path_table.specs.inner.Steps.{AreAmong}
 use Rattle.path_table.proofs.EnteredSteps.{entered-latest, same-among}
 use Rattle.path_table.proofs.steps.Steps.enter.Goals as goal
