@@ -156,7 +156,9 @@ def steps(nesting, depth):
         f"{tree} ; indent R 1": f"{same} of 2",
         f"{tree} ; dedent R 1": f"{same} of 2",
         f"{tree} ; reset_indent R": f"{same} of 2",
-        f"{tree} ; ? from_node R/{leaf} ; from_token R/{token}": "ok 0 ; ok 0",
+        # A level is read back to the nearest newline, one token after another, and each is found from the root.
+        f'tree R nested {nesting} {depth} (LITERAL WHITESPACE"\\n        " INT_NUMBER"3") ; ? from_node R/{leaf} ; from_token R/{path((before, depth), (1, 1))}':
+            "ok 2 ; ok 2",
         f"{tree} ; new R ; ? wrap R/{leaf} BLOCK_EXPR round ; finish": f'ok "3" of 2 at 0 ; {same} of 3',
         f"{tree} ; new R ; remove_separated R/{leaf} COMMA ; finish": f"{shorter} of 2",
         f"{tree} ; new R ; delete R/{leaf} ; new R ; ? clashes_with ; ? merge ; finish": f"none ; ok ; {shorter} of 2",
