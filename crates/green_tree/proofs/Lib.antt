@@ -1,5 +1,6 @@
 pub mod Sizes
 pub mod Splices
+pub mod Summaries
 pub mod Lookup
 pub mod Slots
 pub mod KindNames

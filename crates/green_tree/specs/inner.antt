@@ -14,3 +14,5 @@ pub mod TreeSize
 pub mod FirstNode
 pub mod SameShapes
 pub mod Waiting
+pub mod Splices
+pub mod Summaries

@@ -23,7 +23,7 @@ use Rattle.edit_steps.specs.declared.stage.done.Done.{Done}
 use Rattle.edit_steps.specs.declared.stage.put.Splice.{Splice}
 use Rattle.edit_steps.specs.declared.stage.put.WayNode.{WayNode}
 use Rattle.edit_steps.specs.inner.CurrentPaths.{index_of, count_of, removed, start, current_path, done_at, done_below}
-use Rattle.edit_steps.specs.inner.Splices.{spliced, updated_at, CanSplice}
+use Rattle.green_tree.specs.inner.Splices.{spliced, updated_at, CanSplice}
 
 -- below the node at a path of the old tree, among its children
 module _ (t : SyntaxTree) (done : Path → List Done) (p : Path) (at : Among) where
