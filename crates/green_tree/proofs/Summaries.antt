@@ -2,9 +2,11 @@
 --     texts-append, have_token-append   the texts of two lists; one of them has a token
 --     sum-le                            a part is no longer than all
 --     exchanged-knows                   what is known once some elements stand where others stood
-use Rattle.std.proofs.Common.{◌≡◌, ℕ, ◌≤◌, ◌<◌, ◌+◌, ◌-◌, Bool, List, [], ◌∷◌, ◌++◌, length, min, nat_lt, refl, ap, ap₂, sym, ◌∙◌, arith}
+--     exchanged-child                   one child for another one
+use Rattle.std.proofs.Common.{◌≡◌, ℕ, ◌≤◌, ◌<◌, ◌+◌, ◌-◌, Bool, List, [], ◌∷◌, ◌++◌, length, take, drop, get_or, set, suc, min, nat_lt, refl, ap, sym, subst, ◌∙◌, arith, add-one}
 use Rattle.std.specs.Prelude.{◌||◌, true, false}
-use Rattle.std.proofs.lemmas.List.{append_assoc, length-append}
+use Rattle.std.proofs.lemmas.List.{append_assoc, length-append, set_split}
+use Rattle.std.proofs.Math.Seq.{split_at}
 use Rattle.std.proofs.lemmas.Bool.Decides.{nat_tests}
 use Rattle.green_tree.specs.Tree.{text, tokens, forest, forest_tokens}
 use Rattle.green_tree.specs.Green.{texts, length_limit}
@@ -78,3 +80,16 @@ module _ (es : List GreenElement) (all removed added : Summary) (e : IsExchanged
         length = omega (arith, length, fits, now, whole, e.knew.length, e.knew_gone.length, e.knew_come.length);
         token = token ∙ ap (λ b. b || added.has_token) had ∙ or-exchanged x z removed.has_token added.has_token kept ∙ sym has;
       }
+
+-- one child for another one
+pub exchanged-child : (es : List GreenElement) (i : ℕ) → i < length es → (e : GreenElement) → e ≡ get_or es i e → (made : GreenElement) (all removed added : Summary) (now : List GreenElement) → now ≡ set es i made → Summarizes es all → Summarizes (e ∷ []) removed → Summarizes (made ∷ []) added → IsExchanged now all removed added
+exchanged-child es i inside e here made all removed added now is knew gone come = record {
+  left = take i es;
+  gone = e ∷ [];
+  come = made ∷ [];
+  right = drop (i + 1) es;
+  now = is ∙ set_split es i made inside ∙ ap (λ n. take i es ++ made ∷ drop n es) (sym (add-one i)) ∙ sym (append_assoc (take i es) (made ∷ []) (drop (i + 1) es));
+  knew = subst (λ xs. Summarizes xs all) (sym (append_assoc (take i es) (e ∷ []) (drop (i + 1) es) ∙ ap (λ n. take i es ++ e ∷ drop n es) (add-one i) ∙ ap (λ x. take i es ++ x ∷ drop (suc i) es) here ∙ sym (split_at es i e inside))) knew;
+  knew_gone = gone;
+  knew_come = come;
+}
