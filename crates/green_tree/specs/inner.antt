@@ -16,3 +16,4 @@ pub mod SameShapes
 pub mod Waiting
 pub mod Splices
 pub mod Summaries
+pub mod Ways

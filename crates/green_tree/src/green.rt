@@ -6,7 +6,7 @@ ghost use Rattle.green_tree.specs.GreenElement.{element_trees, element_tree};
 ghost use Rattle.green_tree.specs.inner.HasToken.{has_token, have_token, TellsToken};
 ghost use Rattle.green_tree.specs.inner.CappedLength.{IsCappedLength};
 
-mod in_place;
+mod splices;
 mod summary;
 
 use crate::error::TreeError;
