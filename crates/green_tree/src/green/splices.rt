@@ -46,9 +46,7 @@ impl NodeData {
         let removed = Summary::of(&self.children[first..end]);
         let added = Summary::of(&new);
         self.children.splice(first..end, new)?;
-        self.summary = self
-            .summary
-            .after_exchange(removed, added, &self.children);
+        self.summary = self.summary.after_exchange(removed, added, &self.children);
         Ok(())
     }
 }
@@ -152,9 +150,7 @@ impl GreenNode {
         };
         child.splice_nested(rest, first, count, new)?;
         let added = Summary::of_child(&data.children[*slot]);
-        data.summary = data
-            .summary
-            .after_exchange(removed, added, &data.children);
+        data.summary = data.summary.after_exchange(removed, added, &data.children);
         Ok(())
     }
 

@@ -46,10 +46,10 @@ returns-in_default-clause-ok t c =
     let h = held c.self.inside.data.value d c.args.self.now c.in_ok-data.ensures.value c.self.view_is in
     let left : (c.make_mut.follows.lender c.splice.new.self).value ≡ c.splice.new.self = c.make_mut.follows.holds c.splice.new.self (search rules) in
     on_ok c.splice.result (λ made.
-        made-here c.args.self.now d.children.items h.trees c.args.first c.args.count c.args.path.now (path_ends c.args.path.now c.in_default.len_below) c.args.new.items
-        (viewed (c.make_mut.follows.lender c.splice.new.self).value)
-        (ap (λ e. e.kind.0) left ∙ ap (λ k. k.0) made.0 ∙ h.kind)
-        (ap (λ e. element_trees e.children.items) left ∙ ap element_trees made.1))
+    made-here c.args.self.now d.children.items h.trees c.args.first c.args.count c.args.path.now (path_ends c.args.path.now c.in_default.len_below) c.args.new.items
+    (viewed (c.make_mut.follows.lender c.splice.new.self).value)
+    (ap (λ e. e.kind.0) left ∙ ap (λ k. k.0) made.0 ∙ h.kind)
+    (ap (λ e. element_trees e.children.items) left ∙ ap element_trees made.1))
     c.splice.ensures.ok
 
 pub index-requires : goal.index-requires
