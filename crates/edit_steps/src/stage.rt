@@ -14,7 +14,7 @@ use crate::stage::done::Done;
 use crate::stage::done_table::DoneTable;
 use crate::stage::place::{Splice, place_of};
 use edit_change::Aimed;
-use green_tree::GreenElement;
+use green_tree::{GreenElement, splice_at};
 use std::alloc::{AllocError, Global};
 
 /// An element with some changes carried out, one at a time.
@@ -86,7 +86,7 @@ impl Stage {
         let GreenElement::Node(top) = &mut self.current else {
             unreachable!()
         };
-        top.splice_at(alloc, &place.path, place.first, place.count, given)?;
+        splice_at(alloc, top, &place.path, place.first, place.count, given)?;
         self.done.add_reserved(list, done);
         *builds = count
             .saturating_add(target.parent.len() as u64)

@@ -10,6 +10,7 @@ mod splices;
 mod summary;
 
 use crate::error::TreeError;
+pub use crate::green::splices::splice_at;
 use crate::green::summary::Summary;
 use crate::kind::SyntaxKind;
 use std::alloc::{AllocError, Global};

@@ -153,27 +153,27 @@ impl GreenNode {
         data.summary = data.summary.after_exchange(removed, added, &data.children);
         Ok(())
     }
+}
 
-    /// Puts elements in the place of so many children of the node at this path, from a slot on. After a refusal the node is as it was.
-    ///
-    /// Nodes on the way that nobody else holds are changed in place, and the others are made anew. Below a path of 64 slots all of them
-    /// are made anew, so that no calls nest with the depth of a tree.
-    pub fn splice_at(
-        &mut self,
-        alloc: Global,
-        path: &[usize],
-        first: usize,
-        count: usize,
-        new: Vec<GreenElement>,
-    ) -> Result<(), AllocError>
-        requires { CanSplice (branch_tree self.old) path.now first count }
-        ensures ok { OnOk result (IsSplicedAt self.old path.now first count new.items self.new) }
-        ensures err { OnErr result (self.new ≡ self.old) }
-    {
-        if path.len() <= NESTED_SLOTS {
-            return self.splice_nested(path, first, count, new);
-        }
-        *self = spliced_anew(alloc, self, path, first, count, new)?;
-        Ok(())
+/// Puts elements in the place of so many children of the node at this path, from a slot on. After a refusal the top is as it was.
+///
+/// Nodes on the way that nobody else holds are changed in place, and the others are made anew. Below a path of 64 slots all of them are
+/// made anew, so that no calls nest with the depth of a tree.
+pub fn splice_at(
+    alloc: Global,
+    top: &mut GreenNode,
+    path: &[usize],
+    first: usize,
+    count: usize,
+    new: Vec<GreenElement>,
+) -> Result<(), AllocError>
+    requires { CanSplice (branch_tree top.old) path.now first count }
+    ensures ok { OnOk result (IsSplicedAt top.old path.now first count new.items top.new) }
+    ensures err { OnErr result (top.new ≡ top.old) }
+{
+    if path.len() <= NESTED_SLOTS {
+        return top.splice_nested(path, first, count, new);
     }
+    *top = spliced_anew(alloc, top, path, first, count, new)?;
+    Ok(())
 }

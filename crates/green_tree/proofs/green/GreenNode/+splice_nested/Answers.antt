@@ -1,4 +1,4 @@
-use Rattle.std.proofs.Common.{◌≡◌, ◌⊎◌, inl, inr, ◌∷◌, [], ◌++◌, ◌-◌, length, take, drop, get_or, set, refl, ap, sym, subst, ◌∙◌, arith, rules}
+use Rattle.std.proofs.Common.{◌≡◌, ◌⊎◌, inl, inr, ◌-◌, length, take, drop, get_or, ap, sym, ◌∙◌, arith, rules}
 use Rattle.std.specs.Prelude.{Result, Ok, Err, OnOk}
 use Rattle.std.specs.Vec.{with_item}
 use Rattle.green_tree.specs.Green.{Branch}
@@ -7,7 +7,7 @@ use Rattle.green_tree.specs.declared.green.GreenElement.{GreenElement}
 use Rattle.green_tree.specs.declared.green.GreenElement.TheVariants.{Node}
 use Rattle.green_tree.specs.declared.green.NodeData.{NodeData}
 use Rattle.green_tree.specs.inner.Splices.{spliced, updated_at}
-use Rattle.green_tree.specs.inner.Summaries.{Summarizes, IsSameData}
+use Rattle.green_tree.specs.inner.Summaries.{IsSameData}
 use Rattle.green_tree.proofs.SpliceSteps.{path-on, path-shorter, no-token, room-here, made-here, below, made-below}
 use Rattle.green_tree.proofs.Slots.{path_ends}
 use Rattle.green_tree.proofs.Summaries.{exchanged-child}

@@ -1,9 +1,8 @@
-use Rattle.std.proofs.Common.{◌≡◌, ◌+◌, ◌∷◌, [], ◌++◌, length, take, drop, refl, arith, ap, sym, subst, ◌∙◌}
+use Rattle.std.proofs.Common.{[], length, refl, arith, ap, sym, subst, ◌∙◌}
 use Rattle.std.specs.List.{AllByRecursion}
-use Rattle.green_tree.specs.Tree.{node}
 use Rattle.green_tree.specs.Green.{branch_tree}
 use Rattle.green_tree.specs.GreenElement.{element_tree, element_trees}
-use Rattle.green_tree.specs.inner.Splices.{spliced, updated_at}
+use Rattle.green_tree.specs.inner.Splices.{spliced}
 use Rattle.green_tree.specs.inner.Ways.{rebuilt, HasSlot}
 use Rattle.green_tree.proofs.SpliceSteps.{room-here}
 use Rattle.green_tree.proofs.Ways.{rebuilt-push, all_pushed, room_at_end, way_ends, at_top}
