@@ -5,8 +5,8 @@ it is tried over. tests/planted_bugs.txt has the number of all planted bugs, tho
 
 A bug is tried over the source file that it edits, the proofs of the calls in that file with the lemmas that these cite, and over what the
 prover knows there of other files and crates: the clauses of the calls that the file names, the types that these name, and each definition
-that one of these or a proof names, directly or through others. The body of a call in another file is no part of it: a call is proved by the
-clauses of those that it makes, and the kit shows a crate those below it without code.
+that one of these or a proof names, directly or through others, in the crates whose definitions the crate can name. The body of a call in another
+file is no part of it: a call is proved by the clauses of those that it makes, and the kit shows a crate those below it without code.
 
     inner_record.py lines FOLDER CRATE..     prints the lines of these crates' bugs of a copy of the repository
     inner_record.py write                    puts such lines, from standard input, in the record
@@ -157,6 +157,9 @@ class Tried:
         self.specs = believed.Specs(root)
         below = crates_below(root, crate)
         self.below, self.sources = below, Sources(root, [crate, *below])
+        direct = {crate, *self.sources.direct}
+        # Those whose definitions its files can name: its own, those of crates that it uses, and those that such a crate hands on.
+        self.named = direct | {source for (by, _), (source, _) in self.specs.again.items() if by in direct}
         self.over = {}
 
     def seen_from(self, text):
@@ -177,7 +180,8 @@ class Tried:
             for seen, uses in self.seen_from(text):
                 texts.append(seen)
                 named += self.specs.named(seen, *uses)
-            texts += sorted(f"{it}\n" + "\n".join(it.lines) for it in believed.reached_from(self.specs, named))
+            reached = [it for it in believed.reached_from(self.specs, named) if it.crate in self.named]
+            texts += sorted(f"{it}\n" + "\n".join(it.lines) for it in reached)
             self.over[name] = hashlib.sha256("\n".join(texts).encode()).hexdigest()
         return self.over[name]
 
