@@ -5,8 +5,7 @@
 --     AtEnd, at-end                  at the end of the way, as code holds it
 --     further                        one slot further on the way
 use Rattle.std.specs.Prelude.{◌≡◌, ◌<◌, ◌≤◌, ◌+◌, ℕ, List, [], ◌∷◌, ◌++◌, take, drop, length, slice_get, Option, Some, None, option_and_then, refl}
-use Rattle.std.specs.Option.{option_map_or}
-use Rattle.std.proofs.Common.{ap, ap₂, sym, subst, ◌∙◌, arith, get_or, add-one, drop-cons}
+use Rattle.std.proofs.Common.{ap, sym, subst, ◌∙◌, arith, get_or, add-one, drop-cons}
 use Rattle.std.proofs.lemmas.List.{append-nil, append_assoc, take_more}
 use Rattle.std.proofs.lemmas.Option.{same_Some, slice_get_within}
 use mathlib.Core.Path.{fun_ext}

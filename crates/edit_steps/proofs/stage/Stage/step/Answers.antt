@@ -94,7 +94,7 @@ pub returns-in_err-splice_at-clause-refused : goal.returns-in_err-splice_at-clau
 returns-in_err-splice_at-clause-refused c =
     let s = c.args.self.now in
     let reserved = stays_reserved s c.reserve.new.self c.reserve.ensures.same c.reserve.ensures.table in
-    let same : s.current ≡ Node c.splice_at.new.self = c.in-Node.is ∙ ap Node (sym c.in_err-splice_at.ensures.err) in
+    let same : s.current ≡ Node c.splice_at.new.top = c.in-Node.is ∙ ap Node (sym c.in_err-splice_at.ensures.err) in
     let stays = subst (λ e. StageStaysAs s (record { original = s.original; current = e; done = c.reserve.new.self })) same reserved in
     search (rules, stays)
 

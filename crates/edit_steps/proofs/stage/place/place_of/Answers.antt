@@ -1,11 +1,11 @@
-use Rattle.std.proofs.Common.{◌≡◌, ◌<◌, ◌+◌, length, take, get_or, refl, arith, ap, sym, subst, ◌∙◌}
+use Rattle.std.proofs.Common.{◌≡◌, ◌<◌, length, get_or, refl, arith, ap, sym, subst, ◌∙◌}
 use Rattle.std.specs.Prelude.{slice_get, Some}
 use Rattle.std.proofs.lemmas.List.{length-map}
 use Rattle.green_tree.specs.GreenElement.{element_tree}
 use Rattle.green_tree.proofs.Lookup.{trees-forest}
 use Rattle.green_tree.proofs.Slots.{slice_get-child}
 use Rattle.path_table.proofs.PathTables.{cell-more}
-use Rattle.edit_steps.specs.inner.CurrentPaths.{done_in, done_at, start}
+use Rattle.edit_steps.specs.inner.CurrentPaths.{done_in, start}
 use Rattle.edit_steps.proofs.Ways.{IsReached, reached_none, no_token, on_way, at_target}
 use Rattle.edit_steps.proofs.stage.place.place_of.Goals as goal
 

@@ -1,4 +1,4 @@
-use Rattle.std.proofs.Common.{◌≡◌, ◌∷◌, [], ◌++◌, ap, ◌∙◌}
+use Rattle.std.proofs.Common.{◌∷◌, [], ◌++◌, ap, ◌∙◌}
 use Rattle.edit_steps.proofs.DoneByPath.{one-more, list-is}
 use Rattle.edit_steps.proofs.stage.done_table.DoneTable.add_reserved.Goals as goal
 

@@ -1,5 +1,5 @@
-use Rattle.std.proofs.Common.{◌≡◌, ◌+◌, ◌≤◌, length, ap, sym, ◌∙◌, arith, rules}
-use Rattle.edit_steps.proofs.DoneByPath.{list-is, same-list, got-set}
+use Rattle.std.proofs.Common.{◌∙◌}
+use Rattle.edit_steps.proofs.DoneByPath.{list-is, same-list}
 use Rattle.edit_steps.proofs.stage.done_table.DoneTable.reserve.Goals as goal
 
 pub returns-clause-same : goal.returns-clause-same
