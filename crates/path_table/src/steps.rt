@@ -31,7 +31,7 @@ fn latest_from(latest: &[Option<(usize, usize)>], cell: usize) -> Option<(usize,
     latest.get(cell).copied().flatten()
 }
 
-// A latest step or none for each of so many cells.
+// A latest step or none for each of so many cells. Where many are below one, they need none.
 fn make_room(latest: &mut Vec<Option<(usize, usize)>>, count: usize) -> Result<(), AllocError>
     ensures same { (n : ℕ) → latest_from latest.new.items n ≡ latest_from latest.old.items n }
     ensures room { OnOk result (count ≤ length latest.new.items) }
@@ -79,7 +79,6 @@ impl Steps {
     pub(crate) fn reserve(&mut self, more: usize) -> Result<(), AllocError>
         ensures { AreSame self.old self.new }
     {
-        self.latest.reserve(more)?;
         self.by_slot.reserve(more)
     }
 
@@ -112,8 +111,9 @@ impl Steps {
         if let Some(below) = self.latest_below(cell, slot) {
             return Ok(below);
         }
-        let count = self.by_slot.len() + 1;
-        make_room(&mut self.latest, count)?;
+        // For the proof: cells are counted far below the greatest number.
+        let _ = self.by_slot.len();
+        make_room(&mut self.latest, cell + 1)?;
         let below = enter_in(&mut self.by_slot, cell, slot)?;
         self.latest[cell] = Some((slot, below));
         Ok(below)
