@@ -4,16 +4,17 @@
 --     empty-table                    an index of nothing
 --     more-done                      one change more at the path that has this number now
 --     one-more                       in a list that there is
---     numbered, new-list             a new list at a path with none: its number; it has nothing
+--     numbered, new-list, new-table  a new list at a path with none: its number; it has nothing; the index with it
 --     same-list, got-set             a list that was exchanged for one with the same items; that list
 --     child-by-last                  a child by its path without the last slot, as code takes it apart
 --     count-token                    below a token there is no node
-use Rattle.std.specs.Prelude.{◌≡◌, ◌≢◌, ℕ, zero, suc, ◌-◌, ◌≤◌, ◌<◌, Bool, false, cond, List, [], ◌∷◌, ◌++◌, take, length, slice_get, slice_set, Option, Some, None, option_and_then, Vec, refl}
+use Rattle.std.specs.Prelude.{◌≡◌, ◌≢◌, ℕ, zero, suc, ◌+◌, ◌-◌, ◌≤◌, ◌<◌, Bool, true, false, cond, List, [], ◌∷◌, ◌++◌, take, length, slice_get, slice_set, Option, Some, None, option_and_then, Vec, refl}
 use Rattle.std.specs.Global.{Global}
 use Rattle.std.specs.Option.{option_map_or}
 use Rattle.std.specs.Vec.{with_item}
 use Rattle.std.proofs.Common.{ap, ap₂, sym, ◌∙◌, arith, get_or}
 use Rattle.std.proofs.lemmas.Bool.{cases_Bool, true≢false}
+use Rattle.std.proofs.lemmas.List.{length-append}
 use Rattle.std.proofs.lemmas.Option.{none-some, slice_get-get_or}
 use mathlib.Core.Logic.{inl, inr}
 use Rattle.green_tree.specs.Path.{Path, same_path, parent_path, last_slot}
@@ -110,6 +111,38 @@ module _ (old : DoneTable) (table : IsDoneTable old) (list : Vec Done Global) (p
       elsewhere : (o : Option ℕ) → number_by_path old.places q ≡ o → option_map_or (listed new) o [] ≡ option_map_or (listed old) o []
       elsewhere None is = refl
       elsewhere (Some k) is = let within = table.within q k is in ap (λ vs. list_in vs k) all ∙ pushed-other old.lists.items k list (λ e. absurd (omega (arith, within, e)))
+
+  at_path : (q : Path) (k : ℕ) → same_path q p ≡ true → number_by_path new.places q ≡ Some k → n ≡ k
+  at_path q k same h = numbers (sym (put q ∙ ap (λ b. cond b (Some n) (number_by_path old.places q)) same) ∙ h)
+    where
+      numbers : Some n ≡ Some k → n ≡ k
+      numbers e = cc
+
+  at_other : (q : Path) (k : ℕ) → same_path q p ≡ false → number_by_path new.places q ≡ Some k → number_by_path old.places q ≡ Some k
+  at_other q k other h = sym (put q ∙ ap (λ b. cond b (Some n) (number_by_path old.places q)) other) ∙ h
+
+  -- the index with this list is one, too
+  pub new-table : IsTree new.places → IsDoneTable new
+  new-table tree = record {
+    tree = tree;
+    within = λ q k h. elim (cases_Bool (same_path q p)) [
+      | inl same ↦ let is = at_path q k same h in omega (arith, longer, last, is)
+      | inr other ↦ let there = table.within q k (at_other q k other h) in omega (arith, longer, there)
+    ];
+    apart = λ q r k h i. elim (cases_Bool (same_path q p)) [
+      | inl same ↦ elim (cases_Bool (same_path r p)) [
+        | inl too ↦ same_path-true q p same ∙ sym (same_path-true r p too)
+        | inr other ↦ absurd (let is = at_path q k same h in let there = table.within r k (at_other r k other i) in omega (arith, last, is, there))
+      ]
+      | inr other ↦ elim (cases_Bool (same_path r p)) [
+        | inl same ↦ absurd (let is = at_path r k same i in let there = table.within q k (at_other q k other h) in omega (arith, last, is, there))
+        | inr too ↦ table.apart q r k (at_other q k other h) (at_other r k too i)
+      ]
+    ];
+  }
+    where
+      longer : length new.lists.items ≡ length old.lists.items + 1
+      longer = ap length all ∙ length-append old.lists.items (list ∷ [])
 
 -- ---- a list with more room
 set-same : (vs : List (Vec Done Global)) (n k : ℕ) (v : Vec Done Global) → n < length vs → v.items ≡ list_in vs n → list_in (slice_set vs n v) k ≡ list_in vs k
