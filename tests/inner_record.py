@@ -28,6 +28,8 @@ ROOT = Path(__file__).resolve().parent.parent
 RECORD = ROOT / "tests/inner_bugs.txt"
 COUNT = ROOT / "tests/planted_bugs.txt"
 SAMPLE = 16
+# So many bugs that the record lacks are left to the gate, which tries them.
+FEW = 40
 
 
 def crates_with_bugs(root):
@@ -216,9 +218,9 @@ def recorded():
 
 
 def wrong_lines(root):
-    """What the record doesn't say of the files that are there, or says of others."""
-    of_crates = {}
-    for name in stale(root):
+    """What the record doesn't say of the files that are there, or says of others, if it is more than the gate tries."""
+    of_crates, names = {}, stale(root)
+    for name in names if len(names) > FEW else []:
         of_crates.setdefault(name.split("/")[0], []).append(name)
     wrong = [
         f"{crate}: {len(names)} inner planted bugs, {names[0]} among them, were not refused over what is there: bash tests/inner_bugs.sh {crate}"
