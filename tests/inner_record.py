@@ -68,13 +68,15 @@ GHOST = re.compile(r"^    ghost (?!use |laws|respects_eq)([^;]*);", re.M)
 HIDDEN = re.compile(r"\s+(?!pub )\w+:|ghost (?:invariant|coded|size)")
 
 
-def is_called(text, call, names):
-    """Whether names that are in use allow for this call: one that takes no `self` is called by its type's name."""
-    takes_self = re.match(r"[^(]*\(\s*(?:&(?:'\w+ )?(?:mut )?|mut )?self\b", text[call.end():])
-    if takes_self or not call[0].startswith(" "):
-        return True
+def owners_of(text, call):
+    """The names of which one has to be known for this call: those of the type or the trait that it is of; of a free function none."""
     heads = re.findall(r"^(?:impl|pub trait|trait)([^{]*)", text[:call.start()], re.M)
-    return not heads or bool(names & set(WORD.findall(heads[-1])))
+    return set(re.findall(r"\b[A-Z]\w+", heads[-1])) if heads and call[0].startswith(" ") else set()
+
+
+def is_imported(text, name):
+    """Whether a source imports a free function, or calls it by the path of its module."""
+    return any(name in WORD.findall(statement) for statement in USE.findall(text)) or f"::{name}" in text
 
 
 class Sources:
@@ -95,16 +97,18 @@ class Sources:
         return crate == own or (crate in self.direct and name in self.given[crate]) or name in self.handed_on
 
     def clauses(self, names, own):
-        """The calls with one of these names: each with its clauses and the imports of its file. Those of other crates are public."""
+        """The calls with one of these names: each with its clauses, the imports of its file, the names of its owner, and its own. Those of other
+        crates are public."""
         for crate, file, text in self.files:
             uses = believed.ghost_uses(text)
             if crate == own:
-                calls = [(it[1], it[0].strip() + public_calls.contract_after(text[it.end():])) for it in CALL.finditer(text) if is_called(text, it, names)]
+                calls = [(it[1], it[0].strip() + public_calls.contract_after(text[it.end():]), owners_of(text, it)) for it in CALL.finditer(text)]
             else:
                 public = public_calls.calls_in(crate, file.split("/")[-1], text)
                 shown = [it for it in public if crate in self.direct or it.owner in self.handed_on]
-                calls = [(it.name.split("::")[-1], f"{it.owner} {it.name}({it.parameters}) {it.contract}") for it in shown]
-            yield from ((f"{crate} {file}: {said}", uses) for name, said in calls if name in names)
+                calls = [(it.name.split("::")[-1], f"{it.owner} {it.name}({it.parameters}) {it.contract}", set(it.name.split("::")[:-1])) for it in shown]
+            where = f"{crate} {file}" if crate == own else crate
+            yield from ((f"{where}: {said}", uses, owners, name) for name, said, owners in calls if name in names)
 
     def types(self, names, own):
         """The types with one of these names, and what is said of them and of traits. Those of other crates have no private fields."""
@@ -166,10 +170,20 @@ class Tried:
 
     def seen_from(self, text):
         """What a source sees of others: texts, each with the imports of its file."""
-        called = list(self.sources.clauses(set(WORD.findall(text)), self.crate))
+        named = set(WORD.findall(text))
         imports = [statement for statement in USE.findall(text) if WORD.match(statement)[0] in ("crate", *self.below)]
-        names = {word for seen in imports + [seen for seen, _ in called] for word in WORD.findall(seen)}
-        return called + list(self.sources.types(names, self.crate))
+        waiting = [it for it in self.sources.clauses(named, self.crate) if it[2] or is_imported(text, it[3])]
+        called, types = [], []
+        while True:
+            # A value's type is named in the file, or where the file's calls and types are told.
+            known = named.union(*(WORD.findall(seen) for seen, _ in called + types))
+            new = [it for it in waiting if not it[2] or it[2] & known]
+            if not new:
+                return called + types
+            waiting = [it for it in waiting if it not in new]
+            called += [(seen, uses) for seen, uses, _, _ in new]
+            names = {word for seen in imports + [seen for seen, _ in called] for word in WORD.findall(seen)}
+            types = list(self.sources.types(names, self.crate))
 
     def file(self, name):
         """A checksum of all that the bugs in this source are tried over."""
