@@ -4,13 +4,25 @@ ghost use Rattle.cst_core.specs.inner.SlotPath.{slots_of};
 use std::alloc::{AllocError, Global};
 
 // The child slots on the way to an element. Up to three take no memory of their own: they fit where the other variant has its vector.
-#[derive(Drop)]
 pub(crate) enum SlotPath {
     Empty,
     One([usize; 1]),
     Two([usize; 2]),
     Three([usize; 3]),
     Long(Vec<usize>),
+}
+
+// A drop of its own, so that who drops an element makes one call, whatever the variant.
+impl Drop for SlotPath {
+    fn drop(self) {
+        match self {
+            SlotPath::Empty => (),
+            SlotPath::One(_) => (),
+            SlotPath::Two(_) => (),
+            SlotPath::Three(_) => (),
+            SlotPath::Long(slots) => drop(slots),
+        }
+    }
 }
 
 // The path of these slots, if they take no memory of their own.

@@ -1,7 +1,7 @@
 -- What is known of elements side by side, and of some that were exchanged.
 --     texts-append, have_token-append   the texts of two lists; one of them has a token
 --     sum-le                            a part is no longer than all
---     exchanged-knows                   what is known once some elements stand where others stood
+--     exchanged-length, exchanged-token  how long the texts are once some elements stand where others stood; whether there is a token
 --     exchanged-child                   one child for another one
 use Rattle.std.proofs.Common.{◌≡◌, ℕ, ◌≤◌, ◌<◌, ◌+◌, ◌-◌, Bool, List, [], ◌∷◌, ◌++◌, length, take, drop, get_or, set, suc, min, nat_lt, refl, ap, sym, subst, ◌∙◌, arith, add-one}
 use Rattle.std.specs.Prelude.{◌||◌, true, false}
@@ -69,17 +69,18 @@ module _ (es : List GreenElement) (all removed added : Summary) (e : IsExchanged
   pub added-le : added.length ≤ length_limit
   added-le = omega (arith, e.knew_come.length)
 
-  pub exchanged-knows : (s : Summary) → all.length < length_limit → s.length ≡ min (all.length - removed.length + added.length) length_limit → s.has_token ≡ (all.has_token || added.has_token) → (removed.has_token || added.has_token) ≡ added.has_token → Summarizes es s
-  exchanged-knows s fits length token kept =
+  pub exchanged-length : (n : ℕ) → all.length < length_limit → n ≡ min (all.length - removed.length + added.length) length_limit → n ≡ min (long es) length_limit
+  exchanged-length n fits length =
       let now : long es ≡ long e.left + long e.come + long e.right = ap long e.now ∙ long-three e.left e.come e.right in
+      omega (arith, length, fits, now, whole, e.knew.length, e.knew_gone.length, e.knew_come.length)
+
+  pub exchanged-token : (removed.has_token || added.has_token) ≡ added.has_token → (all.has_token || added.has_token) ≡ have_token (element_trees es)
+  exchanged-token kept =
       let x : Bool = have_token (element_trees e.left) in
       let z : Bool = have_token (element_trees e.right) in
       let had : all.has_token ≡ ((x || removed.has_token) || z) = e.knew.token ∙ have-three e.left e.gone e.right ∙ ap (λ b. (x || b) || z) (sym e.knew_gone.token) in
       let has : have_token (element_trees es) ≡ ((x || added.has_token) || z) = ap (λ us. have_token (element_trees us)) e.now ∙ have-three e.left e.come e.right ∙ ap (λ b. (x || b) || z) (sym e.knew_come.token) in
-      record {
-        length = omega (arith, length, fits, now, whole, e.knew.length, e.knew_gone.length, e.knew_come.length);
-        token = token ∙ ap (λ b. b || added.has_token) had ∙ or-exchanged x z removed.has_token added.has_token kept ∙ sym has;
-      }
+      ap (λ b. b || added.has_token) had ∙ or-exchanged x z removed.has_token added.has_token kept ∙ sym has
 
 -- one child for another one
 pub exchanged-child : (es : List GreenElement) (i : ℕ) → i < length es → (e : GreenElement) → e ≡ get_or es i e → (made : GreenElement) (all removed added : Summary) (now : List GreenElement) → now ≡ set es i made → Summarizes es all → Summarizes (e ∷ []) removed → Summarizes (made ∷ []) added → IsExchanged now all removed added

@@ -1,8 +1,8 @@
-ghost use Rattle.std.specs.Prelude.{◌≡◌, ◌<◌, ◌≤◌, ◌+◌, ◌-◌, ◌||◌, ◌∷◌, [], min, false, IfSome};
+ghost use Rattle.std.specs.Prelude.{◌≡◌, ◌≤◌, ◌+◌, ◌||◌, ◌∷◌, [], min, false, IfSome};
 ghost use Rattle.green_tree.specs.Tree.{text};
 ghost use Rattle.green_tree.specs.Green.{capped_length, length_limit};
 ghost use Rattle.green_tree.specs.GreenElement.{element_tree};
-ghost use Rattle.green_tree.specs.inner.HasToken.{has_token};
+ghost use Rattle.green_tree.specs.inner.HasToken.{has_token, TellsToken};
 ghost use Rattle.green_tree.specs.inner.Summaries.{Summarizes, IsExchanged};
 
 use crate::green::{GreenElement, LENGTH_LIMIT};
@@ -74,29 +74,30 @@ impl Summary {
         Summary::empty().with_child(child)
     }
 
-    // What is known once some children are exchanged for others. `None` where only a look at all of them tells: the text is longer than
-    // is counted, the last token may be gone, or the rank may rise. It sinks never, so it stays a bound of how deep calls nest.
-    fn exchanged(self, removed: Summary, added: Summary) -> Option<Summary>
-        requires within { removed.length ≤ self.length }
-        requires fits { added.length ≤ length_limit }
-        ensures whole { IfSome result (λ s. self.length < length_limit) }
-        ensures length { IfSome result (λ s. s.length ≡ min (self.length - removed.length + added.length) length_limit) }
-        ensures token { IfSome result (λ s. s.has_token ≡ (self.has_token || added.has_token)) }
-        ensures kept { IfSome result (λ s. (removed.has_token || added.has_token) ≡ added.has_token) }
+    // Whether there is a token once some children are exchanged for others. `None` where the last one may be gone.
+    fn token_left(self, removed: Summary, added: Summary) -> Option<bool>
+        ensures token { IfSome result (λ b. b ≡ (self.has_token || added.has_token)) }
+        ensures kept { IfSome result (λ b. (removed.has_token || added.has_token) ≡ added.has_token) }
     {
-        let may_rise = added.greatest >= self.rank && added.rank > removed.greatest;
-        if self.length >= LENGTH_LIMIT || removed.has_token && !added.has_token || may_rise {
+        if removed.has_token && !added.has_token {
             return None;
         }
-        Some(Summary {
-            length: (self.length - removed.length + added.length).min(LENGTH_LIMIT),
-            has_token: self.has_token || added.has_token,
-            greatest: self.greatest.max(added.greatest),
-            rank: self.rank,
-        })
+        Some(self.has_token || added.has_token)
     }
 
-    // What is known of all children, some of which were just exchanged for others.
+    // The same, by a look at all children where that tells nothing else. It ends at the first token.
+    fn token_after(self, removed: Summary, added: Summary, children: &[GreenElement]) -> bool
+        requires { IsExchanged children.now self removed added }
+        ensures { TellsToken children.now result }
+    {
+        match self.token_left(removed, added) {
+            Some(has_token) => has_token,
+            None => any_token(children),
+        }
+    }
+
+    // What is known of all children, some of which were just exchanged for others. Only a look at all of them tells where the text is
+    // longer than is counted, or the rank may rise. The rank never sinks, so it stays a bound of how deep calls nest.
     pub(super) fn after_exchange(
         self,
         removed: Summary,
@@ -106,9 +107,22 @@ impl Summary {
         requires { IsExchanged children.now self removed added }
         ensures { Summarizes children.now result }
     {
-        match self.exchanged(removed, added) {
-            Some(summary) => summary,
-            None => Summary::of(children),
+        let may_rise = added.greatest >= self.rank && added.rank > removed.greatest;
+        if self.length >= LENGTH_LIMIT || may_rise {
+            return Summary::of(children);
+        }
+        let rest = self.length - removed.length;
+        Summary {
+            length: (rest + added.length).min(LENGTH_LIMIT),
+            has_token: self.token_after(removed, added, children),
+            greatest: self.greatest.max(added.greatest),
+            rank: self.rank,
         }
     }
+}
+
+fn any_token(children: &[GreenElement]) -> bool
+    ensures { TellsToken children.now result }
+{
+    children.iter().any(|child| child.has_token())
 }

@@ -1,12 +1,12 @@
-use Rattle.green_tree.proofs.Summaries.{part-le, added-le, exchanged-knows}
+use Rattle.std.proofs.Common.{arith}
+use Rattle.green_tree.proofs.Summaries.{part-le, exchanged-length}
 use Rattle.green_tree.proofs.green.summary.Summary.after_exchange.Goals as goal
 
-pub exchanged-requires : goal.exchanged-requires
-exchanged-requires c = record {
-  within = part-le c.args.children.now c.args.self c.args.removed c.args.added c.requires;
-  fits = added-le c.args.children.now c.args.self c.args.removed c.args.added c.requires;
-}
+pub overflow_sub-rest : goal.overflow_sub-rest
+overflow_sub-rest c = part-le c.args.children.now c.args.self c.args.removed c.args.added c.requires
 
-pub returns-in-Some : goal.returns-in-Some
-returns-in-Some c =
-    exchanged-knows c.args.children.now c.args.self c.args.removed c.args.added c.requires c.in-Some.summary c.in-Some.ensures.whole c.in-Some.ensures.length c.in-Some.ensures.token c.in-Some.ensures.kept
+pub returns : goal.returns
+returns c = record {
+  length = exchanged-length c.args.children.now c.args.self c.args.removed c.args.added c.requires c.min.result c.if-self-ge-LENGTH_LIMIT.false (omega (arith, c.min.ensures));
+  token = c.token_after.ensures;
+}
