@@ -17,6 +17,7 @@ step python3 tests/docs.py
 step python3 tests/without_proofs.py caller
 step env RT_JOBS="${RT_JOBS:-$(lanes)}" rt ci
 step python3 tests/without_proofs.py rows
+step tests/inner_bugs.sh --changed
 step tests/inner_bugs.sh --sample
 step tests/scripts.sh
 step tests/models.sh

@@ -15,7 +15,7 @@ chmod +x "$room/unread"
 for program in true false cat "$room/unread"; do
     while IFS= read -r test; do
         status=0
-        INSTEAD=$(command -v "$program") timeout 120 $test </dev/null >"$room/out" 2>&1 || status=$?
+        INSTEAD=$(type -P "$program") timeout 120 $test </dev/null >"$room/out" 2>&1 || status=$?
         tried=$((tried + 1))
         if [ "$status" -ne 1 ]; then
             wrong=$((wrong + 1))
@@ -27,6 +27,7 @@ tests/scripts.sh
 tests/models.sh
 python3 tests/hostile.py
 python3 tests/hostile.py damage 100
+python3 tests/depth.py 1000 8192
 tests/refuse_growths.sh
 tests/growths.sh
 python3 tests/without_proofs.py rows

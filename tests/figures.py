@@ -66,11 +66,12 @@ BY_LEVELS = [
 ]
 
 TIMES = r"recorded (\d+) ns, planned (\d+) ns, run (\d+) ns"
-EDIT = re.compile(rf"(.*): (\d+) changes, (\d+) nodes built, (\d+) in the tree, {TIMES}, the least (\d+) ns")
+EDIT = re.compile(rf"(.*): (\d+) changes, (\d+) nodes built, (\d+) in the tree, {TIMES}, the least (\d+) ns, with its answer (\d+) ns")
 GROWS = re.compile(r"what grows: .*")
 NOTES = re.compile(rf"notes on (\d+) statements: {TIMES}; without notes {TIMES}")
 PAYLOAD = re.compile(r"(a payload of .*): finished (\d+) ns, (\d+) paths copied (\d+) ns")
 ORDER = re.compile(r"(.*): (\d+) changes, finished (\d+) ns, by the default order (\d+) ns")
+WALK = re.compile(r"(.*) of (\d+): (\d+) elements (\d+) ns, their paths (\d+) ns")
 TREE = re.compile(r"(.*): (\d+) elements, (\d+) ns")
 
 
@@ -86,16 +87,17 @@ class Figures:
 
     def __init__(self):
         self.edits, self.powers, self.notes, self.payloads = {}, {}, {}, {}
-        self.levels, self.orders, self.trees = {}, {}, {}
+        self.levels, self.orders, self.trees, self.walks = {}, {}, {}, {}
 
     def read(self, lines):
         """Takes in what one run printed. Of what is printed twice in a run the first counts."""
-        new, grown = Figures(), []
+        new, grown, walks = Figures(), [], {}
         for line in lines:
             if found := EDIT.fullmatch(line):
-                recorded, planned, run, least = (int(it) / 1e6 for it in found.groups()[4:])
-                ratios = [planned / least, run / least, recorded / planned]
-                new.edits.setdefault((found[1], int(found[2])), [int(found[3]), int(found[4]), recorded, planned, run, least, *ratios])
+                recorded, planned, run, least, answer = (int(it) / 1e6 for it in found.groups()[4:])
+                ratios = [planned / answer, run / answer, recorded / planned]
+                times = [recorded, planned, run, least, answer]
+                new.edits.setdefault((found[1], int(found[2])), [int(found[3]), int(found[4]), *times, *ratios])
                 grown[-1].append((recorded, planned + run))
             elif GROWS.fullmatch(line):
                 grown.append([])
@@ -108,8 +110,13 @@ class Figures:
                 new.payloads[found[1]] = [finished, copied, finished / copied]
             elif found := ORDER.fullmatch(line):
                 new.orders[found[1]] = [int(found[2]), int(found[3]) / 1e6, int(found[4]) / 1e6]
+            elif found := WALK.fullmatch(line):
+                walks.setdefault(found[1], []).append((int(found[2]), int(found[3]), int(found[4]) / 1e6, int(found[5]) / 1e6))
             elif found := TREE.fullmatch(line):
                 new.trees[found[1]] = [int(found[2]), int(found[3]) / 1e6]
+        for name, sizes in walks.items():
+            size, count, walk, paths = sizes[-1]
+            new.walks[f"{name} of {size}"] = [count, walk, paths, power([it[2] for it in sizes]), power([it[3] for it in sizes])]
         for growth, times in zip(GROWTHS, grown):
             new.powers[growth] = [power(it) for it in zip(*times)]
             for at, time in enumerate(times if growth in BY_LEVELS else []):
@@ -142,16 +149,13 @@ def milliseconds(number):
 def edit_row(key, runs):
     nodes_built, nodes = runs[0][:2]
     columns = list(zip(*runs))
-    times = [milliseconds(min(it)) for it in columns[2:5]]
-    least, *ratios = [milliseconds(min(columns[5])), *map(spread, columns[6:9])]
-    if key[0].startswith(("notes", "payload")):
-        # What is looked for is no part of the least, so a multiple of that says nothing.
-        ratios[:2] = ["", ""]
-    return [key[0], f"{key[1]:,}", *times, least, *ratios, f"{nodes_built:,} of {nodes:,}"]
+    times = [milliseconds(min(it)) for it in columns[2:7]]
+    return [key[0], f"{key[1]:,}", *times, *map(spread, columns[7:10]), f"{nodes_built:,} of {nodes:,}"]
 
 
 def show(figures):
-    heads = ["edit", "changes", "recorded", "planned", "carried out", "the least", "planned, times that", "carried out, times that"]
+    heads = ["edit", "changes", "recorded", "planned", "carried out", "the least", "the least with its answer"]
+    heads += ["planned, times that", "carried out, times that"]
     shown = [key for key in SHOWN if key in figures.edits]
     table([*heads, "recorded, times planned", "nodes built"], [edit_row(key, figures.edits[key]) for key in shown])
     powers = [[name, spread([it[1] for it in runs], 2), spread([it[0] for it in runs], 2)] for name, runs in figures.powers.items()]
@@ -175,6 +179,11 @@ def show(figures):
         [label, f"{runs[0][0]:,}", *(milliseconds(min(it[at] for it in runs)) for at in (1, 2))] for label, runs in figures.orders.items()
     ]
     table(["edit", "changes", "finished", "by the default order"], orders)
+    walks = [
+        [label, f"{runs[0][0]:,}", *(milliseconds(min(it[at] for it in runs)) for at in (1, 2)), *(spread([it[at] for it in runs], 2) for at in (3, 4))]
+        for label, runs in figures.walks.items()
+    ]
+    table(["walk", "elements", "milliseconds", "their paths copied", "power", "power of these copies"], walks)
     table(["what", "elements", "milliseconds"], [[label, f"{runs[0][0]:,}", f"{min(it[1] for it in runs):.2f}"] for label, runs in figures.trees.items()])
 
 

@@ -6,7 +6,7 @@
 
 Each run has a second of processor time, and a stack of 256 KiB beyond what a script with nodes nested 200 deep needs, which is found out
 first. There are three parts: rows with their answers; every beginning of three scripts; and good scripts that were damaged, by a fixed seed,
-so each time the same ones. In a third of these bytes were changed, cut, doubled or exchanged. In the others slots, trees, words and kinds
+so each time the same ones. Rows about deep trees, which scripts can't have, come between (tests/depth.py). In a third of these bytes were changed, cut, doubled or exchanged. In the others slots, trees, words and kinds
 were exchanged for others of the script, and lines moved, so that about half of all come to an end or a refusal. Of a damaged script no answer
 is known. The program must end with a status that goes with what it prints, and where it comes to an end or a refusal, the plain model (the
 program `test_plain_model`) must answer the same."""
@@ -19,6 +19,7 @@ import resource
 import subprocess
 import sys
 
+import depth
 from tables import table_rows
 
 SCRIPT_LIMIT = 1_048_576
@@ -561,7 +562,7 @@ def main():
         if sys.argv[1:2] == ["damage"]:
             wrong = damage(pool, int(sys.argv[2]))
         else:
-            wrong = rows(pool) or damage(pool, DAMAGED)
+            wrong = rows(pool) or depth.all_wrong() or damage(pool, DAMAGED)
     sys.exit(bool(wrong))
 
 

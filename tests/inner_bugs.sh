@@ -6,6 +6,9 @@
 #
 # inner_bugs.sh --all [CRATE..]: tries all of theirs again.
 #
+# inner_bugs.sh --changed: tries those for which something changed, and writes nothing. tests/all.sh calls it; tests/docs.py fails if they are
+# too many for that.
+#
 # inner_bugs.sh --sample: tries 16 of them, of as few crates, chosen by the hash of the commit, and writes nothing. tests/all.sh calls it, so
 # that a record which was written by hand is found out.
 set -euo pipefail
@@ -14,7 +17,7 @@ source tests/lanes.sh
 record=yes
 which=${1:-}
 case $which in
---all | --sample) shift ;;
+--all | --sample | --changed) shift ;;
 esac
 [ $# -gt 0 ] || set -- $(cd crates && dirname */must-fail-inner)
 case $which in
@@ -26,6 +29,7 @@ case $which in
     ;;
 *) chosen=$(python3 tests/inner_record.py stale "$@") ;;
 esac
+[ "$which" != --changed ] || record=no
 set -- $(for crate; do grep -q "^$crate/" <<<"$chosen" && echo "$crate"; done)
 if [ $# -eq 0 ]; then
     echo "all these inner planted bugs were refused over what is there"

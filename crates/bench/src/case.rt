@@ -82,6 +82,15 @@ impl Case {
         }
     }
 
+    /// How many annotations its registrations have, from the first one on.
+    pub(crate) fn annotations(self) -> usize {
+        match self {
+            Case::Noted(Noted::List(size)) => size,
+            Case::Noted(Noted::Payload { notes, .. }) => notes,
+            Case::Spread { .. } | Case::Nested(_) => 0,
+        }
+    }
+
     /// How it is printed.
     pub(crate) fn label(self, alloc: Global) -> Result<String> {
         match self {

@@ -1,7 +1,7 @@
 //! How long an edit took.
 
 /// How many changes were recorded, how many bytes the new text has, and how many nanoseconds it took to record the changes, to
-/// plan the edit and to carry it out, and the least that carrying it out can take.
+/// plan the edit and to carry it out, and the least that carrying it out can take, without what else is handed back and with it.
 #[derive(Clone, Copy)]
 pub(crate) struct Figures {
     pub(crate) changes: usize,
@@ -10,6 +10,7 @@ pub(crate) struct Figures {
     pub(crate) planned: u128,
     pub(crate) run: u128,
     pub(crate) floor: u128,
+    pub(crate) answer: u128,
 }
 
 impl Figures {
@@ -22,6 +23,7 @@ impl Figures {
             planned: 0,
             run: 0,
             floor: 0,
+            answer: 0,
         }
     }
 
@@ -32,6 +34,7 @@ impl Figures {
             planned: self.planned.min(other.planned),
             run: self.run.min(other.run),
             floor: self.floor.min(other.floor),
+            answer: self.answer.min(other.answer),
             ..self
         }
     }

@@ -202,11 +202,12 @@ fn show_case<R: Print>(rt: &R, alloc: Global, case: Case, figures: Figures) -> R
         planned,
         run,
         floor,
+        answer,
         ..
     } = figures;
     let label = case.label(alloc)?;
     println!(rt;
-        "{label}: {changes} changes, {builds} nodes built, {nodes} in the tree, recorded {recorded} ns, planned {planned} ns, run {run} ns, the least {floor} ns"
+        "{label}: {changes} changes, {builds} nodes built, {nodes} in the tree, recorded {recorded} ns, planned {planned} ns, run {run} ns, the least {floor} ns, with its answer {answer} ns"
     )?;
     Ok(())
 }

@@ -2,6 +2,7 @@
 //! grow. With the argument `memory` it makes edits with marks round their calls, for a library that counts what they hold.
 #![tactic(auto)]
 
+mod answer;
 mod built;
 mod case;
 mod edits;
@@ -15,11 +16,13 @@ mod notes;
 mod orders;
 mod prepared;
 mod ratios;
+mod walks;
 
 use crate::growth::{report_edits, report_growth};
 use crate::memory::report_memory;
 use crate::orders::{report_order_times, report_orders};
 use crate::ratios::report_ratios;
+use crate::walks::report_walks;
 use anyhow::Result;
 use cst_core::{GreenElement, GreenNode, GreenToken, SyntaxKind, SyntaxNode, TreeIds};
 use std::alloc::Global;
@@ -198,6 +201,7 @@ fn report_all<R: Print + Clock>(rt: &R, alloc: Global) -> Result<()> {
 
 fn report_times<R: Print + Clock>(rt: &R, alloc: Global) -> Result<()> {
     report_trees(rt, alloc, true)?;
+    report_walks(rt, alloc)?;
     report_growth(rt, alloc)?;
     report_ratios(rt, alloc)?;
     report_order_times(rt, alloc)

@@ -1,4 +1,5 @@
 //! The time that an edit takes, measured.
+use crate::answer::Answer;
 use crate::case::Case;
 use crate::figures::Figures;
 use crate::floor::Floor;
@@ -89,9 +90,20 @@ impl<R: Clock> Try<'_, R> {
         Ok(())
     }
 
+    // Makes the same, and copies what else the edit hands back.
+    fn make_answer(&mut self, edit: &SyntaxEdit) -> Result<()> {
+        let floor = Floor::of(self.alloc, edit, self.case.touches())?;
+        let start = Instant::now(self.rt)?;
+        let _tree = floor.make(self.alloc)?;
+        let _answer = Answer::of(self.alloc, edit, self.case.annotations())?;
+        self.figures.answer = nanoseconds_since(self.rt, start)?;
+        Ok(())
+    }
+
     fn measure_plan(&mut self, plan: &EditPlan) -> Result<()> {
         let edit = self.run(plan)?;
-        self.make_floor(&edit)
+        self.make_floor(&edit)?;
+        self.make_answer(&edit)
     }
 
     fn measure(&mut self) -> Result<()> {

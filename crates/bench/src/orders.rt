@@ -10,7 +10,7 @@ use syntax_editor::{SyntaxEdit, SyntaxEditor};
 
 const TRIES: usize = 3;
 
-/// Parts of the trees, each with a change. Each step copies the list of children that it alters, so sizes are small.
+/// Parts of the trees, each with a change. Each step goes through what was done at the nodes on its way, so sizes are small.
 const SIZES: [usize; 5] = [LEAST, 512, 1024, 2048, 4096];
 
 const LEAST: usize = 256;

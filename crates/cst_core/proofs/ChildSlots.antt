@@ -1,17 +1,19 @@
 -- The children of an element, one slot at a time: from a slot on, and up to a slot.
-use Rattle.std.proofs.Common.{◌≡◌, ℕ, zero, suc, ◌+◌, ◌<◌, ◌≤◌, List, [], ◌∷◌, ◌++◌, length, map, take, drop, Option, Some, None, refl, ap, sym, ◌∙◌, subst, arith}
-use Rattle.std.specs.Prelude.{filter_map, option_map, option_and_then, slice_get, unwrap_or, IsSome}
+use Rattle.std.proofs.Common.{◌≡◌, ℕ, zero, suc, ◌+◌, ◌<◌, ◌≤◌, List, [], ◌∷◌, ◌++◌, length, map, take, drop, Option, Some, None, refl, ap, sym, ◌∙◌, subst, arith, append_assoc}
+use Rattle.std.specs.Prelude.{filter_map, reverse, option_map, option_and_then, slice_get, unwrap_or, IsSome}
 use Rattle.std.specs.List.{cons_option}
 use Rattle.std.proofs.Math.ListN.{drop_of_length-le}
 use Rattle.std.proofs.Math.Seq.{take-length}
-use Rattle.std.proofs.lemmas.List.{length-map, append-nil}
+use Rattle.std.proofs.lemmas.List.{length-map, append-nil, reverse-append}
 use Rattle.std.proofs.lemmas.List.Elements.{filter_map-append}
 use Rattle.green_tree.specs.Path.{Path, counted_from, first_item, last_item, parent_path, last_slot}
 use Rattle.green_tree.specs.Tree.{SyntaxTree, Token, at, children}
 use Rattle.cst_core.specs.Element.{Element, IsElement, subtree, below, element_at, parent_of}
 use Rattle.cst_core.specs.SyntaxElement.{syntax_as, syntax_of, node_of, child_elements, child_nodes}
-use Rattle.cst_core.specs.inner.ChildSlots.{node_in, nodes_from_slot, nodes_up_to}
+use Rattle.cst_core.specs.inner.ChildSlots.{child_in, node_in, nodes_from_slot, nodes_up_to}
+use Rattle.cst_core.specs.declared.element.SyntaxElement.{SyntaxElement}
 use Rattle.green_tree.proofs.Lookup.{at-append}
+use Rattle.green_tree.proofs.FoundTokens.{some_is_not_none}
 use Rattle.cst_core.proofs.LastSlot.{parent-and-slot}
 use Rattle.green_tree.specs.Green.{Branch, Leaf, branch_tree, leaf_tree}
 use Rattle.cst_core.proofs.Children.{at_below, child_there, child_past, last_item-push}
@@ -85,9 +87,32 @@ pub last_node_passed : (e : Element) (t : SyntaxTree) (i j : ℕ) → at e.root 
 last_node_passed e t i j h inside next is =
     ap (nodes_up_to e) next ∙ nodes_up_to-next e t i h inside ∙ ap (λ o. nodes_up_to e i ++ cons_option o []) is ∙ append-nil (nodes_up_to e i)
 
+pub nodes_up_to-more : (e : Element) (t : SyntaxTree) (i j : ℕ) (x : Element) → at e.root e.path ≡ Some t → i < length (children (subtree e)) → j ≡ suc i → node_in e i ≡ Some x → nodes_up_to e j ≡ nodes_up_to e i ++ x ∷ []
+nodes_up_to-more e t i j x h inside next is =
+    ap (nodes_up_to e) next ∙ nodes_up_to-next e t i h inside ∙ ap (λ o. nodes_up_to e i ++ cons_option o []) is
+
 pub nodes_up_to-all : (e : Element) (n : ℕ) → n ≡ length (children (subtree e)) → nodes_up_to e n ≡ child_nodes e
 nodes_up_to-all e n is =
     ap (nodes_up_to e) (is ∙ sym (length_child_elements e)) ∙ ap (filter_map node_of) (take-length (child_elements e))
+
+-- ---- what a walk from the end lists, the last one first
+pub nodes_pushed : (e : Element) (t : SyntaxTree) (i j : ℕ) (x : Element) (xs : List Element) → at e.root e.path ≡ Some t → i < length (children (subtree e)) → j ≡ suc i → node_in e i ≡ Some x → (xs ++ x ∷ []) ++ reverse (nodes_up_to e i) ≡ xs ++ reverse (nodes_up_to e j)
+nodes_pushed e t i j x xs h inside next is =
+    append_assoc xs (x ∷ []) (reverse (nodes_up_to e i))
+    ∙ ap (λ ys. xs ++ ys) (sym (ap reverse (nodes_up_to-more e t i j x h inside next is) ∙ reverse-append (nodes_up_to e i) (x ∷ [])))
+
+pub children_pushed : (e : Element) (t : SyntaxTree) (i j : ℕ) (x : SyntaxElement) (xs : List SyntaxElement) → at e.root e.path ≡ Some t → i < length (children (subtree e)) → j ≡ suc i → child_in e i ≡ Some x → (xs ++ x ∷ []) ++ reverse (take i (child_elements e)) ≡ xs ++ reverse (take j (child_elements e))
+children_pushed e t i j x xs h inside next is =
+    let same : syntax_of (below e (i ∷ [])) ≡ x = ap (λ o. unwrap_or o x) (sym (child_there e t i h inside) ∙ is) in
+    let more : take j (child_elements e) ≡ take i (child_elements e) ++ x ∷ [] = ap (λ k. take k (child_elements e)) next ∙ take_child e i inside ∙ ap (λ y. take i (child_elements e) ++ y ∷ []) same in
+    append_assoc xs (x ∷ []) (reverse (take i (child_elements e)))
+    ∙ ap (λ ys. xs ++ ys) (sym (ap reverse more ∙ reverse-append (take i (child_elements e)) (x ∷ [])))
+
+pub child_not_none : (e : Element) (t : SyntaxTree) (i : ℕ) → at e.root e.path ≡ Some t → i < length (children (subtree e)) → child_in e i ≡ None → ⊥
+child_not_none e t i h inside none = some_is_not_none (sym (child_there e t i h inside) ∙ none)
+
+pub take_all_children : (e : Element) (n : ℕ) → n ≡ length (children (subtree e)) → take n (child_elements e) ≡ child_elements e
+take_all_children e n is = ap (λ k. take k (child_elements e)) (is ∙ sym (length_child_elements e)) ∙ take-length (child_elements e)
 
 -- ---- the slot of an element that has a parent
 within : {X : Type 0} (xs : List X) (i : ℕ) → IsSome (slice_get xs i) → i < length xs

@@ -88,7 +88,7 @@ fn write_node<W: fmt::Write>(node: &SyntaxNode, f: &mut fmt::Formatter<W>) -> fm
 fn write_lines<W: fmt::Write>(node: &SyntaxNode, f: &mut fmt::Formatter<W>) -> fmt::Result {
     write_node(node, f)?;
     f.write_str("\n")?;
-    let alloc = *node.location.path.allocator();
+    let alloc = node.location.alloc;
     write_below(alloc, &node.green, node.location.text_start(), f)
 }
 

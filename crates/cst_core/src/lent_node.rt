@@ -1,12 +1,14 @@
-ghost use Rattle.std.specs.Prelude.{◌≡◌, ◌≤◌, length, IfOk, Ok, None};
+ghost use Rattle.std.specs.Prelude.{◌≡◌, ◌≤◌, ◌++◌, length, reverse, IfOk, OnOk, Ok, None};
 ghost use Rattle.green_tree.specs.Path.{first_item, last_item};
 ghost use Rattle.green_tree.specs.Tree.{children};
 ghost use Rattle.cst_core.specs.Element.{subtree};
+ghost use Rattle.cst_core.specs.SyntaxElement.{child_elements, child_nodes};
 ghost use Rattle.cst_core.specs.inner.ChildSlots.{child_in, node_in, nodes_from_slot, nodes_up_to};
 
 use crate::element::SyntaxElement;
-use crate::location::{Location, child_path};
+use crate::location::Location;
 use crate::node::SyntaxNode;
+use crate::slot_path::SlotPath;
 use green_tree::{GreenElement, GreenNode};
 use std::alloc::{AllocError, Global};
 use std::marker::Model;
@@ -42,7 +44,7 @@ impl<'a> LentNode<'a> {
     {
         // For the proof: a node stands at the path.
         let _ = &self.green;
-        let path = Vec::from_slice(alloc, self.path)?;
+        let path = SlotPath::copied(alloc, self.path)?;
         Ok(SyntaxNode {
             location: self.location.with_path(alloc, path)?,
             green: self.green.share(alloc)?,
@@ -68,18 +70,22 @@ impl<'a> LentNode<'a> {
         let Some(child) = self.green.children().get(slot) else {
             return Ok(None);
         };
-        let path = child_path(alloc, self.path, slot)?;
+        let path = SlotPath::child(alloc, self.path, slot)?;
         Ok(Some(self.location.moved_to(alloc, path, child.as_ref())?))
     }
 
     // The child in this slot, if it is a node.
-    fn node_in(&self, alloc: Global, slot: usize) -> Result<Option<SyntaxNode>, AllocError>
+    pub(crate) fn node_in(
+        &self,
+        alloc: Global,
+        slot: usize,
+    ) -> Result<Option<SyntaxNode>, AllocError>
         ensures ok { IfOk result (λ r. r ≡ node_in self.now slot) }
         ensures none { node_in self.now slot ≡ None → result ≡ Ok None }
     {
         match self.green.children().get(slot) {
             Some(GreenElement::Node(child)) => {
-                let path = child_path(alloc, self.path, slot)?;
+                let path = SlotPath::child(alloc, self.path, slot)?;
                 Ok(Some(SyntaxNode {
                     location: self.location.with_path(alloc, path)?,
                     green: child.share(alloc)?,
@@ -88,6 +94,42 @@ impl<'a> LentNode<'a> {
             Some(GreenElement::Token(_)) => Ok(None),
             None => Ok(None),
         }
+    }
+
+    // Adds the children to a list, the last one first.
+    pub(crate) fn push_children(
+        &self,
+        alloc: Global,
+        list: &mut Vec<SyntaxElement>,
+    ) -> Result<(), AllocError>
+        ensures { OnOk result (list.new.items ≡ list.old.items ++ reverse (child_elements self.now)) }
+    {
+        // For the proof: a node stands at the path.
+        let _ = &self.green;
+        for slot in (0..self.len()).rev() {
+            if let Some(child) = self.child(alloc, slot)? {
+                list.push(child)?;
+            }
+        }
+        Ok(())
+    }
+
+    // Adds the children that are nodes to a list, the last one first.
+    pub(crate) fn push_nodes(
+        &self,
+        alloc: Global,
+        list: &mut Vec<SyntaxNode>,
+    ) -> Result<(), AllocError>
+        ensures { OnOk result (list.new.items ≡ list.old.items ++ reverse (child_nodes self.now)) }
+    {
+        // For the proof: a node stands at the path.
+        let _ = &self.green;
+        for slot in (0..self.len()).rev() {
+            if let Some(node) = self.node_in(alloc, slot)? {
+                list.push(node)?;
+            }
+        }
+        Ok(())
     }
 
     // The first child in this slot or after it that is a node.

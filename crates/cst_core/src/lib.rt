@@ -16,6 +16,7 @@ mod navigation;
 mod node;
 mod offsets;
 mod shape;
+mod slot_path;
 mod token;
 mod tree_ids;
 

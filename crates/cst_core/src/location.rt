@@ -3,31 +3,35 @@ ghost use Rattle.std.specs.Cmp.Rules.{comparing, hashing};
 ghost use Rattle.std.specs.Cmp.Lexicographic.{pointwise};
 ghost use Rattle.std.specs.Ordering.{on, eq_of_both};
 ghost use Rattle.std.specs.Hash as fed;
-ghost use Rattle.std.specs.Prelude.{◌≡◌, ◌↔◌, ◌==◌, ◌++◌, [], ◌∷◌, IfOk, Ok, Some, None, option_map};
-ghost use Rattle.green_tree.specs.Path.{Path, last_slot};
+ghost use Rattle.std.specs.Prelude.{◌≡◌, ◌↔◌, ◌==◌, ◌++◌, [], map, IfOk, Ok, Some, None, option_map};
+ghost use Rattle.green_tree.specs.Path.{Path, last_slot, above};
 ghost use Rattle.green_tree.specs.Tree.{at};
 ghost use Rattle.green_tree.specs.Order.{start};
 ghost use Rattle.green_tree.specs.GreenElementRef.{ref_tree};
 ghost use Rattle.cst_core.specs.Element.{IsElement, element_at, parent_of};
 ghost use Rattle.cst_core.specs.SyntaxElement.{syntax_as, syntax_at, next_sibling, previous_sibling};
 ghost use Rattle.cst_core.specs.Navigation.{family_of, siblings_on, next_node, previous_node, nodes_above};
+ghost use Rattle.cst_core.specs.inner.SlotPath.{slots_of};
 
 use crate::direction::Direction;
 use crate::element::SyntaxElement;
 use crate::lent_node::LentNode;
 use crate::node::SyntaxNode;
+use crate::slot_path::SlotPath;
 use crate::token::SyntaxToken;
-use green_tree::{GreenElementRef, GreenNode, start_of};
+use green_tree::{GreenElement, GreenElementRef, GreenNode, start_of};
 use std::alloc::{AllocError, Global};
 use std::hash::{Hash, Hasher};
 use std::marker::Model;
 
-// Where an element stands: the number of its tree, the tree, and the child slots on the way from the root.
+// Where an element stands: the number of its tree, the tree, and the child slots on the way from the root. The allocator is for texts that
+// are printed, where no caller hands one in.
 #[derive(Drop)]
 pub(crate) struct Location {
+    pub(crate) alloc: Global,
     pub(crate) tree: u64,
     pub(crate) root: GreenNode,
-    pub(crate) path: Vec<usize>,
+    pub(crate) path: SlotPath,
 }
 
 impl Model for Location {
@@ -35,27 +39,15 @@ impl Model for Location {
     ghost use Rattle.cst_core.specs.Element.{Element};
     ghost use Rattle.cst_core.specs.inner.ElementCode.{element_code};
     ghost use Rattle.cst_core.specs.inner.InTree.{IsInTree};
+    ghost use Rattle.cst_core.specs.inner.SlotPath.{slots_of};
 
     ghost Value = { Element };
 
     ghost coded = { element_code };
 
-    ghost view = { λ a. record { number = a.tree; root = branch_tree a.root; path = a.path.items } };
+    ghost view = { λ a. record { number = a.tree; root = branch_tree a.root; path = slots_of a.path } };
 
-    ghost invariant = { λ a. IsInTree (record { number = a.tree; root = branch_tree a.root; path = a.path.items }) };
-}
-
-// A path with one more slot.
-pub(crate) fn child_path(
-    alloc: Global,
-    path: &[usize],
-    slot: usize,
-) -> Result<Vec<usize>, AllocError>
-    ensures { IfOk result (λ p. p.items ≡ path.now ++ slot ∷ []) }
-{
-    let mut all = Vec::from_slice(alloc, path)?;
-    all.push(slot)?;
-    Ok(all)
+    ghost invariant = { λ a. IsInTree (record { number = a.tree; root = branch_tree a.root; path = slots_of a.path }) };
 }
 
 impl Location {
@@ -63,9 +55,10 @@ impl Location {
         ensures { IfOk result (λ l. l ≡ self.now) }
     {
         Ok(Location {
+            alloc,
             tree: self.tree,
             root: self.root.share(alloc)?,
-            path: Vec::from_slice(alloc, &self.path)?,
+            path: SlotPath::copied(alloc, self.path.as_slice())?,
         })
     }
 
@@ -84,7 +77,7 @@ impl Location {
     pub(crate) fn index(&self) -> usize
         ensures { result ≡ last_slot self.now.path }
     {
-        match self.path.split_last() {
+        match self.path.as_slice().split_last() {
             Some((slot, _)) => *slot,
             None => 0,
         }
@@ -93,15 +86,16 @@ impl Location {
     pub(crate) fn text_start(&self) -> u64
         ensures { result ≡ start self.now.root self.now.path }
     {
-        start_of(&self.root, &self.path)
+        start_of(&self.root, self.path.as_slice())
     }
 
     // The same tree at another path that leads to an element.
-    pub(crate) fn with_path(&self, alloc: Global, path: Vec<usize>) -> Result<Location, AllocError>
-        requires { IsElement (element_at self.now path.items) }
-        ensures { IfOk result (λ l. l ≡ element_at self.now path.items) }
+    pub(crate) fn with_path(&self, alloc: Global, path: SlotPath) -> Result<Location, AllocError>
+        requires { IsElement (element_at self.now (slots_of path)) }
+        ensures { IfOk result (λ l. l ≡ element_at self.now (slots_of path)) }
     {
         Ok(Location {
+            alloc,
             tree: self.tree,
             root: self.root.share(alloc)?,
             path,
@@ -112,11 +106,11 @@ impl Location {
     pub(crate) fn moved_to(
         &self,
         alloc: Global,
-        path: Vec<usize>,
+        path: SlotPath,
         green: GreenElementRef<'_>,
     ) -> Result<SyntaxElement, AllocError>
-        requires { at self.now.root path.items ≡ Some (ref_tree green) }
-        ensures { IfOk result (λ e. e ≡ syntax_as (ref_tree green.entry) (element_at self.now path.items)) }
+        requires { at self.now.root (slots_of path) ≡ Some (ref_tree green) }
+        ensures { IfOk result (λ e. e ≡ syntax_as (ref_tree green.entry) (element_at self.now (slots_of path))) }
     {
         let location = self.with_path(alloc, path)?;
         match green {
@@ -141,7 +135,7 @@ impl Location {
         ensures none { syntax_at self.now path.items ≡ None → result ≡ Ok None }
     {
         match self.root.get(&path) {
-            Some(green) => Ok(Some(self.moved_to(alloc, path, green)?)),
+            Some(green) => Ok(Some(self.moved_to(alloc, SlotPath::of(path), green)?)),
             None => Ok(None),
         }
     }
@@ -151,9 +145,10 @@ impl Location {
     {
         Ok(SyntaxNode {
             location: Location {
+                alloc,
                 tree: self.tree,
                 root: self.root.share(alloc)?,
-                path: Vec::new(alloc),
+                path: SlotPath::Empty,
             },
             green: self.root.share(alloc)?,
         })
@@ -163,7 +158,7 @@ impl Location {
     pub(crate) fn lent_parent(&self) -> Option<LentNode<'_>>
         ensures { result ≡ parent_of self.now }
     {
-        let Some((_, path)) = self.path.split_last() else {
+        let Some((_, path)) = self.path.as_slice().split_last() else {
             return None;
         };
         match self.root.get(path) {
@@ -282,16 +277,35 @@ impl Location {
         }
     }
 
+    // The nodes above, from the root down.
+    fn nodes_from_root(&self, alloc: Global) -> Result<Vec<SyntaxNode>, AllocError>
+        ensures { IfOk result (λ all. all.items ≡ map (element_at self.now) (above self.now.path)) }
+    {
+        let path = self.path.as_slice();
+        let mut all = Vec::with_capacity(alloc, path.len())?;
+        let mut green = &self.root;
+        for depth in 0..path.len() {
+            let node = LentNode {
+                location: self,
+                path: &path[..depth],
+                green,
+            };
+            all.push(node.to_node(alloc)?)?;
+            match green.children().get(path[depth]) {
+                Some(GreenElement::Node(below)) => green = below,
+                Some(GreenElement::Token(_)) => return Ok(all),
+                None => unreachable!(),
+            }
+        }
+        Ok(all)
+    }
+
     // The nodes above, the nearest first.
     pub(crate) fn nodes_above(&self, alloc: Global) -> Result<Vec<SyntaxNode>, AllocError>
         ensures { IfOk result (λ all. all.items ≡ nodes_above self.now) }
     {
-        let mut all = Vec::new(alloc);
-        let mut above = self.parent(alloc)?;
-        'up: while let Some(node) = above {
-            above = node.parent(alloc)?;
-            all.push(node)?;
-        }
+        let mut all = self.nodes_from_root(alloc)?;
+        all.reverse();
         Ok(all)
     }
 }
@@ -302,7 +316,7 @@ impl PartialEq for Location {
     ghost laws = { Prim.search (comparing, rules) };
 
     fn eq(&self, other: &Location) -> bool {
-        self.tree == other.tree && self.path == other.path
+        self.tree == other.tree && self.path.as_slice() == other.path.as_slice()
     }
 }
 
@@ -313,7 +327,7 @@ impl Hash for Location {
 
     fn hash<H: Hasher>(&self, state: &mut H) {
         self.tree.hash(state);
-        self.path.hash(state);
+        self.path.as_slice().hash(state);
     }
 }
 

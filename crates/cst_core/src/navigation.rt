@@ -10,6 +10,7 @@ use crate::direction::Direction;
 use crate::element::SyntaxElement;
 use crate::lent_node::LentNode;
 use crate::node::SyntaxNode;
+use crate::slot_path::SlotPath;
 use crate::token::SyntaxToken;
 use green_tree::{FoundToken, SyntaxKind, first_token, last_token};
 use std::alloc::{AllocError, Global};
@@ -28,13 +29,12 @@ impl SyntaxNode {
         let Some(green) = self.green.get(path) else {
             return Ok(None);
         };
-        let mut slots = Vec::from_slice(alloc, self.slots())?;
-        slots.extend_from_slice(path)?;
+        let slots = SlotPath::joined(alloc, self.slots(), path)?;
         Ok(Some(self.location.moved_to(alloc, slots, green)?))
     }
 
-    /// The element of the whole tree that a path of child slots leads to, counted from the tree's root; the path is taken
-    /// over, not copied. `None` where it leads nowhere.
+    /// The element of the whole tree that a path of child slots leads to, counted from the tree's root; the vector is
+    /// taken over, and no more than three slots are copied. `None` where it leads nowhere.
     pub fn element_of_tree(
         &self,
         alloc: Global,
@@ -50,9 +50,12 @@ impl SyntaxNode {
     pub fn children_with_tokens(&self, alloc: Global) -> Result<Vec<SyntaxElement>, AllocError>
         ensures { IfOk result (λ all. all.items ≡ child_elements self.now) }
     {
-        let mut all = Vec::new(alloc);
-        for slot in 0..self.green.children().len() {
-            if let Some(child) = self.element_at(alloc, &[slot])? {
+        // For the proof: a node stands at the path of `self`.
+        let _ = &self.green;
+        let node = self.lent();
+        let mut all = Vec::with_capacity(alloc, node.len())?;
+        for slot in 0..node.len() {
+            if let Some(child) = node.child(alloc, slot)? {
                 all.push(child)?;
             }
         }
@@ -63,10 +66,16 @@ impl SyntaxNode {
     pub fn children(&self, alloc: Global) -> Result<Vec<SyntaxNode>, AllocError>
         ensures { IfOk result (λ all. all.items ≡ child_nodes self.now) }
     {
-        self.children_with_tokens(alloc)?
-            .into_iter()
-            .filter_map(|child| child.into_node())
-            .collect(alloc)
+        // For the proof: a node stands at the path of `self`.
+        let _ = &self.green;
+        let node = self.lent();
+        let mut all = Vec::new(alloc);
+        for slot in 0..node.len() {
+            if let Some(child) = node.node_in(alloc, slot)? {
+                all.push(child)?;
+            }
+        }
+        Ok(all)
     }
 
     /// The first child; `None` for a node without children.
@@ -152,8 +161,7 @@ impl SyntaxNode {
     {
         // For the proof: a node stands at the path of `self`.
         let _ = &self.green;
-        let mut path = Vec::from_slice(alloc, self.slots())?;
-        path.extend_from_slice(&found.path)?;
+        let path = SlotPath::joined(alloc, self.slots(), &found.path)?;
         Ok(SyntaxToken {
             location: self.location.with_path(alloc, path)?,
             green: found.green.share(alloc)?,
@@ -171,9 +179,7 @@ impl SyntaxNode {
         'walk: while let Some(node) = waiting.pop() {
             // For the proof: a node stands at the path of `node`.
             let _ = &node.green;
-            let mut children = node.children(alloc)?;
-            children.reverse();
-            waiting.append(&mut children)?;
+            node.lent().push_nodes(alloc, &mut waiting)?;
             all.push(node)?;
         }
         Ok(all)
@@ -204,9 +210,7 @@ impl SyntaxNode {
             if let SyntaxElement::Node(node) = &element {
                 // For the proof: a node stands at the path of `node`.
                 let _ = &node.green;
-                let mut children = node.children_with_tokens(alloc)?;
-                children.reverse();
-                waiting.append(&mut children)?;
+                node.lent().push_children(alloc, &mut waiting)?;
             }
             all.push(element)?;
         }

@@ -13,6 +13,7 @@ ghost use Rattle.cst_core.specs.Element.{subtree, IsNode};
 ghost use Rattle.cst_core.specs.AtOffset.{end_of};
 
 use crate::location::Location;
+use crate::slot_path::SlotPath;
 use crate::tree_ids::TreeIds;
 use green_tree::{GreenNode, LENGTH_LIMIT, SyntaxKind, TreeError, text_of};
 use std::alloc::{AllocError, Global};
@@ -67,9 +68,13 @@ impl SyntaxNode {
         let Some(tree) = ids.next() else {
             return Err(TreeError::NoTreeNumber);
         };
-        let path = Vec::new(alloc);
         Ok(SyntaxNode {
-            location: Location { tree, root, path },
+            location: Location {
+                alloc,
+                tree,
+                root,
+                path: SlotPath::Empty,
+            },
             green,
         })
     }

@@ -17,6 +17,7 @@ use crate::direction::Direction;
 use crate::element::SyntaxElement;
 use crate::location::Location;
 use crate::node::SyntaxNode;
+use crate::slot_path::SlotPath;
 use green_tree::{GreenNode, GreenToken, SyntaxKind, token_after, token_before};
 use std::alloc::{AllocError, Global};
 use std::hash::{Hash, Hasher};
@@ -204,7 +205,7 @@ impl SyntaxToken {
             return Ok(None);
         };
         Ok(Some(SyntaxToken {
-            location: self.location.with_path(alloc, found.path)?,
+            location: self.location.with_path(alloc, SlotPath::of(found.path))?,
             green: found.green,
         }))
     }
@@ -219,7 +220,7 @@ impl SyntaxToken {
             return Ok(None);
         };
         Ok(Some(SyntaxToken {
-            location: self.location.with_path(alloc, found.path)?,
+            location: self.location.with_path(alloc, SlotPath::of(found.path))?,
             green: found.green,
         }))
     }

@@ -7,6 +7,7 @@ pub mod Clashes
 mod SlotsOfParents
 pub mod Edits
 mod Entering
+mod FateWays
 pub mod GapRule
 pub mod AimsHere
 pub mod Independents

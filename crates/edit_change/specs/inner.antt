@@ -4,6 +4,7 @@ pub mod AimFrom
 pub mod Targets
 pub mod TargetTable
 pub mod Fate
+pub mod FateWay
 pub mod Clash
 pub mod ClashErrorName
 pub mod OwnerPlaces

@@ -1,12 +1,10 @@
-ghost use Rattle.std.specs.Prelude.{◌≡◌, List, [], ◌∷◌, ◌++◌, cond, map, IfOk};
-ghost use Rattle.cst_core.specs.Path.{Path, up_to};
-ghost use Rattle.edit_change.specs.inner.TargetTable.{target_at, IsApart, IsTargetTable};
+ghost use Rattle.std.specs.Prelude.{◌≡◌, List, [], ◌∷◌, ◌++◌, cond};
+ghost use Rattle.cst_core.specs.Path.{Path};
+ghost use Rattle.edit_change.specs.inner.TargetTable.{target_at, IsApart};
 ghost use Rattle.edit_change.specs.declared.fate.Fate.TheVariants.{Dropped, Owned};
-ghost use Rattle.edit_change.specs.inner.Fate.{fate, owner_in, is_dropped_in, is_independent_in, fate_within};
+ghost use Rattle.edit_change.specs.inner.Fate.{owner_in, is_dropped_in, is_independent_in, fate_within};
 
 use crate::change::Change;
-use crate::target_table::TargetTable;
-use std::alloc::{AllocError, Global};
 
 /// What becomes of a change in a plan.
 #[derive(Clone, Copy)]
@@ -66,7 +64,7 @@ impl Fate {
 
 // The fate of what lies in an element, where what lies in the one above it has this fate. The element is replaced by the change
 // with this number, if by any.
-fn fate_below(changes: &[Change], fate: Fate, replaced_by: Option<usize>) -> Fate
+pub(crate) fn fate_below(changes: &[Change], fate: Fate, replaced_by: Option<usize>) -> Fate
     requires apart { IsApart changes.now }
     requires there { (p : Path) × (replaced_by ≡ target_at changes.now p) }
     ensures { (ps : List Path) (p : Path) → replaced_by ≡ target_at changes.now p
@@ -83,47 +81,4 @@ fn fate_below(changes: &[Change], fate: Fate, replaced_by: Option<usize>) -> Fat
         return Fate::Dropped;
     }
     fate.kept_by(number)
-}
-
-// The fate of a change that lies in the element at a path and in no deeper one.
-fn fate_within(index: &TargetTable, changes: &[Change], innermost: &[usize]) -> Fate
-    requires { IsTargetTable changes.now index.now }
-    ensures { result ≡ fate_within changes.now (up_to innermost.now) }
-{
-    let table = &index.numbers;
-    let mut cell = table.top();
-    let mut fate = fate_below(changes, Fate::Independent, table.number(cell));
-    for slot in innermost {
-        cell = table.below(cell, *slot);
-        fate = fate_below(changes, fate, table.number(cell));
-    }
-    fate
-}
-
-fn fate_of(index: &TargetTable, changes: &[Change], change: &Change) -> Fate
-    requires { IsTargetTable changes.now index.now }
-    ensures { result ≡ fate changes.now change.now }
-{
-    match change.innermost() {
-        Some(innermost) => fate_within(index, changes, innermost),
-        None => Fate::Independent,
-    }
-}
-
-/// What becomes of each change, by its number; `index` is that of these changes.
-///
-/// Takes time near linear in the changes and the lengths of their paths: each slot on the way to a change is looked at once.
-pub fn fates(
-    alloc: Global,
-    index: &TargetTable,
-    changes: &[Change],
-) -> Result<Vec<Fate>, AllocError>
-    requires { IsTargetTable changes.now index.now }
-    ensures { IfOk result (λ v. v.items ≡ map (fate changes.now) changes.now) }
-{
-    let mut fates = Vec::with_capacity(alloc, changes.len())?;
-    for change in changes {
-        fates.push(fate_of(index, changes, change))?;
-    }
-    Ok(fates)
 }

@@ -4,17 +4,24 @@
 --     nearest-here, nearest-above    where the lowest of these paths has a copy; where it has none
 --     nearest-found, nearest-passed  the same of a look-up
 --     parent-shorter                 a parent is of the same tree, and less deep
-use Rattle.std.specs.Prelude.{◌≡◌, ℕ, ◌+◌, ◌<◌, ◌≤◌, List, [], ◌∷◌, ◌++◌, map, filter_map, length, Option, Some, None, option_map, Result, Ok, Err, IfOk, IfSome, refl}
+--     none-mapped                    in an empty mapping nothing has a copy
+--     passed-to, passed-all          stops that are free have no copy: on the way to one, and where there is none
+--     passed-itself                  a node itself
+--     passed-on                      past the parent of a stop that has no copy
+use Rattle.std.specs.Prelude.{◌≡◌, ℕ, zero, suc, ◌+◌, ◌-◌, ◌<◌, ◌≤◌, take, List, [], ◌∷◌, ◌++◌, map, filter_map, length, Option, Some, None, option_map, Result, Ok, Err, IfOk, IfSome, refl}
 use Rattle.std.specs.List.{cons_option}
 use Rattle.std.proofs.Common.{ap, sym, ◌∙◌, append-nil, arith}
 use Rattle.std.specs.Map.{lookup}
-use Rattle.std.proofs.lemmas.List.{map-append, length_push}
+use Rattle.std.proofs.lemmas.List.{map-append, length_push, take_all, length-take-le}
 use Rattle.std.proofs.lemmas.List.Elements.{filter_map-append}
 use Rattle.std.proofs.lemmas.Option.{none-some, same_Some}
 use Rattle.cst_core.specs.Path.{Path, parent_path, last_slot, above, up_to, last_item}
-use Rattle.cst_core.specs.Element.{Address, Element, element_at, parent_of}
+use Rattle.cst_core.specs.Element.{Address, Element, address, element_at, parent_of}
 use Rattle.edit_map.specs.Mapping.{Mapping, copy, below_copy}
 use Rattle.edit_map.specs.Following.{step_among}
+use Rattle.edit_map.specs.declared.stops.Stops.{Stops}
+use Rattle.edit_map.specs.inner.Climbing.{in_tree, at_depth, IsFree, HasNoCopy}
+use Rattle.edit_map.specs.inner.Nearest.{PassesTo, PassesAll}
 use Rattle.edit_map.proofs.Climbs.{child-of-parent}
 use Rattle.edit_map.proofs.Tables.{alike, lookup-copy}
 
@@ -90,3 +97,60 @@ pub shorter-parent : {E : Type 0} (e : Element) (r : Result (Option Element) E) 
 shorter-parent e (Err f) is = tt
 shorter-parent e (Ok None) is = tt
 shorter-parent e (Ok (Some n)) is = omega (arith, (parent-shorter e n is).1)
+
+-- ---- several at once
+above-take : (p : Path) (k : ℕ) → k < length p → above (take (suc k) p) ≡ up_to (take k p)
+above-take [] k l = absurd (omega (arith, l))
+above-take (i ∷ p) zero l = refl
+above-take (i ∷ p) (suc k) l = ap (λ ps. [] ∷ map (λ q. i ∷ q) ps) (above-take p k (omega (arith, l))) ∙ sym (up_to-cons i (take k p))
+
+pub none-mapped : (m : Mapping) (e : Element) (ps : List Path) → m ≡ [] → step_among m e ps ≡ None
+none-mapped m e ps none = ap (λ m. step_among m e ps) none ∙ ap last_item (nothing ps)
+  where
+    nothing : (qs : List Path) → filter_map (λ p. option_map (below_copy e p) (copy [] (record { number = e.number; path = p }))) qs ≡ []
+    nothing [] = refl
+    nothing (q ∷ qs) = nothing qs
+
+module _ (m : Mapping) (e : Element) (p : Path) where
+  abbrev passes : ℕ → Type 0
+  passes k = HasNoCopy m (in_tree e.number (take k p))
+
+  skipped : (d n k : ℕ) → k ≡ d + n → k ≤ length p → ((i : ℕ) → d < i → i < k + 1 → passes i) → step_among m e (up_to (take k p)) ≡ step_among m e (up_to (take d p))
+  skipped d zero k is l free = let same : k ≡ d = omega (arith, is) in ap (λ i. step_among m e (up_to (take i p))) same
+  skipped d (suc n) k is l free =
+      let next : k ≡ suc (d + n) = omega (arith, is) in
+      nearest-above m e (take k p) (free k (omega (arith, is)) (omega arith)) ∙ ap (λ i. step_among m e (above (take i p))) next ∙ ap (step_among m e) (above-take p (d + n) (omega (arith, l, next))) ∙ skipped d n (d + n) refl (omega (arith, l, next)) (λ i more less. free i more (omega (arith, less, next)))
+
+  skipped-to : (d : ℕ) → d ≤ length p → ((k : ℕ) → d < k → k < length p + 1 → passes k) → step_among m e (up_to p) ≡ step_among m e (up_to (take d p))
+  skipped-to d l free =
+      let all : take (length p) p ≡ p = take_all (length p) p (omega arith) in
+      ap (λ q. step_among m e (up_to q)) (sym all) ∙ skipped d (length p - d) (length p) (omega (arith, l)) (omega arith) free
+
+  skipped-all : ((k : ℕ) → k < length p + 1 → passes k) → step_among m e (up_to p) ≡ None
+  skipped-all free = skipped-to 0 (omega arith) (λ k more less. free k less) ∙ nearest-above m e [] (free 0 (omega arith))
+
+module _ (m : Mapping) (stops : Stops) (node : Element) (free : (x : Address) → IsFree stops x → HasNoCopy m x) where
+  no-copy : (e : Element) → e.number ≡ node.number → (k : ℕ) → IsFree stops (at_depth (address node) k) → HasNoCopy m (in_tree e.number (take k node.path))
+  no-copy e number k is = rw number (free (at_depth (address node) k) is)
+
+  pub passed-all : ((k : ℕ) → k < length node.path + 1 → IsFree stops (at_depth (address node) k)) → PassesAll m node
+  passed-all none = λ e number. skipped-all m e node.path (λ k less. no-copy e number k (none k less))
+
+  pub passed-to : (d : ℕ) → d < length node.path + 1 → ((k : ℕ) → d < k → k < length node.path + 1 → IsFree stops (at_depth (address node) k)) → PassesTo m node (element_at node (take d node.path))
+  passed-to d within rest = record {
+    number = refl;
+    short = rw (length-take-le d node.path (omega (arith, within))) (omega (arith, within));
+    same = λ e number. skipped-to m e node.path d (omega (arith, within)) (λ k more less. no-copy e number k (rest k more less));
+  }
+
+pub passed-itself : (m : Mapping) (node : Element) → PassesTo m node node
+passed-itself m node = record { number = refl; short = omega arith; same = λ e number. refl }
+
+pub passed-on : (m : Mapping) (node here stop parent : Element) → PassesTo m node here → PassesTo m here stop → None ≡ lookup (alike stop) m → Some parent ≡ parent_of stop → PassesTo m node parent
+passed-on m node here stop parent passed further none is =
+    let shorter = parent-shorter stop parent is in
+    record {
+      number = shorter.0 ∙ further.number ∙ passed.number;
+      short = omega (arith, shorter.1, further.short, passed.short);
+      same = λ e number. passed.same e number ∙ further.same e (number ∙ sym passed.number) ∙ nearest-passed m stop e (number ∙ sym (further.number ∙ passed.number)) none ∙ ap (step_among m e) (above-parent stop parent is);
+    }

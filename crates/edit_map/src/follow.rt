@@ -5,9 +5,10 @@ ghost use Rattle.cst_core.specs.Path.{up_to};
 ghost use Rattle.cst_core.specs.SyntaxElement.{element_of};
 ghost use Rattle.edit_map.specs.Builder.{IsMapping};
 ghost use Rattle.edit_map.specs.Following.{asked_paths, syntax_step, IsReached, LeadsTo};
-ghost use Rattle.edit_map.specs.inner.Nearest.{IsNearest};
+ghost use Rattle.edit_map.specs.inner.Nearest.{IsNearest, IsPassedTo};
 
 use crate::mapping::SyntaxMapping;
+use crate::stops::node_above;
 use cst_core::{SyntaxElement, SyntaxNode};
 use std::alloc::{AllocError, Global};
 
@@ -57,6 +58,9 @@ impl SyntaxMapping {
     ) -> Result<Option<SyntaxElement>, AllocError>
         ensures { IfOk result (λ r. r ≡ syntax_step self.now element.now) }
     {
+        if self.copies.is_empty() {
+            return Ok(None);
+        }
         let Some(node) = lowest_node(alloc, element)? else {
             return Ok(None);
         };
@@ -66,7 +70,25 @@ impl SyntaxMapping {
         copy.element_at(alloc, &element.slots()[depth..])
     }
 
-    // The copy of the nearest mapped one of a node and those above it, and how many slots lead to that one.
+    // The next stop on the way up from a node: itself, or one above it. What is before it has no copy.
+    fn nearest_stop(
+        &self,
+        alloc: Global,
+        node: SyntaxNode,
+    ) -> Result<Option<SyntaxNode>, AllocError>
+        ensures { IfOk result (IsPassedTo self.now node) }
+    {
+        let Some(depth) = self.stops.nearest(&node) else {
+            return Ok(None);
+        };
+        if depth == node.slots().len() {
+            return Ok(Some(node));
+        }
+        Ok(Some(node_above(alloc, &node, depth)?))
+    }
+
+    // The copy of the nearest mapped one of a node and those above it, and how many slots lead to that one. A stop has a copy, but
+    // for some after a refused call; so mostly one node is looked up.
     fn nearest_copy(
         &self,
         alloc: Global,
@@ -77,10 +99,13 @@ impl SyntaxMapping {
     {
         let mut here = node;
         'up: loop {
-            if let Some(copy) = self.copies.get(&here) {
-                return Ok(Some((copy, here.slots().len())));
+            let Some(stop) = self.nearest_stop(alloc, here)? else {
+                return Ok(None);
+            };
+            if let Some(copy) = self.copies.get(&stop) {
+                return Ok(Some((copy, stop.slots().len())));
             }
-            let Some(parent) = here.parent(alloc)? else {
+            let Some(parent) = stop.parent(alloc)? else {
                 return Ok(None);
             };
             here = parent;

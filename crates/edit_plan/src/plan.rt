@@ -90,9 +90,11 @@ impl EditPlan {
     ) -> Result<(), EditError>
         requires is_root { root.now.path ≡ [] }
         requires fit { All (Fits root.now) changes.now }
-        ensures planned { let plan : Plan = record { root = root.now; changes = changes.now; registrations = []; mapping = mapping.now } in
+        ensures planned { let plan : Plan =
+            record { root = root.now; changes = changes.now; registrations = []; mapping = mapping.now } in
             OnOk result (IsPlan plan) }
-        ensures refused { let plan : Plan = record { root = root.now; changes = changes.now; registrations = []; mapping = mapping.now } in
+        ensures refused { let plan : Plan =
+            record { root = root.now; changes = changes.now; registrations = []; mapping = mapping.now } in
             IfErr result (BuildRefuses plan) }
     {
         prepare(alloc, root, changes, mapping)?;

@@ -23,7 +23,7 @@ use Rattle.green_tree.specs.Tree.{Forest, Node, SyntaxTree, trees, at}
 use Rattle.edit_change.specs.Aim.{Aim, FirstIn, AfterElement, Over, Gap, gap_of, aims_at_gap, starts_at, replaces}
 use Rattle.edit_change.specs.inner.KindOnly.{kind_only}
 use Rattle.edit_change.specs.Rewriting.{NumberedAim, numbers, inserts_at, replacements_at, is_replaced, gap_order, rewritten}
-use Rattle.edit_steps.specs.inner.Splices.{spliced, updated_at}
+use Rattle.green_tree.specs.inner.Splices.{spliced, updated_at}
 use Rattle.edit_change.proofs.Edits.{Edits, below, below_path, taken, edits_of, rewritten_is}
 use Rattle.edit_steps.proofs.CurrentPaths.{to_gap, to_slot, new_path, Keeps, keeps_from, Elsewhere}
 use Rattle.edit_steps.proofs.Steps.{Inserted, Replaced, step-inserted, step-replaced}

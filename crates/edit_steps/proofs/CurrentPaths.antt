@@ -15,7 +15,7 @@ use Rattle.std.proofs.lemmas.Option.{same_Some, slice_get_within}
 use Rattle.green_tree.specs.Path.{Path}
 use Rattle.green_tree.specs.Tree.{Tree, Forest, Token, Node, end, more, SyntaxTree, forest, trees, children, at}
 use Rattle.green_tree.proofs.Lookup.{trees-forest}
-use Rattle.edit_steps.specs.inner.Splices.{spliced_list, spliced, updated_at}
+use Rattle.green_tree.specs.inner.Splices.{spliced_list, spliced, updated_at}
 use Rattle.edit_change.proofs.Edits.{Edits, below, below_path, filled, rewritten_by, rewritten_by_from}
 
 pub slice_get_at : {X : Type 0} (xs : List X) (y : X) (ys : List X) (n : ℕ) → length xs ≡ n → slice_get (xs ++ y ∷ ys) n ≡ Some y

@@ -1,12 +1,11 @@
 -- Elements put into a node, or into a child of it.
---     room_here, put-here            into the node itself: what they replace is there; the node is spliced
---     WayOn, way_on, put-on          into a child: it is there, and they can be put into it; the child is exchanged
+--     room_here                      into the node itself: what they replace is there
+--     WayOn, way_on                  into a child: it is there, and they can be put into it
 --     no-token                       a token has no children to put them among
---     AtEnd, at-end, put-end         at the end of the way, as code holds it
---     further, put-further           one slot further on the way
+--     AtEnd, at-end                  at the end of the way, as code holds it
+--     further                        one slot further on the way
 use Rattle.std.specs.Prelude.{◌≡◌, ◌<◌, ◌≤◌, ◌+◌, ℕ, List, [], ◌∷◌, ◌++◌, take, drop, length, slice_get, Option, Some, None, option_and_then, refl}
-use Rattle.std.specs.Option.{option_map_or}
-use Rattle.std.proofs.Common.{ap, ap₂, sym, subst, ◌∙◌, arith, get_or, add-one, drop-cons}
+use Rattle.std.proofs.Common.{ap, sym, subst, ◌∙◌, arith, get_or, add-one, drop-cons}
 use Rattle.std.proofs.lemmas.List.{append-nil, append_assoc, take_more}
 use Rattle.std.proofs.lemmas.Option.{same_Some, slice_get_within}
 use mathlib.Core.Path.{fun_ext}
@@ -18,8 +17,7 @@ use Rattle.edit_steps.specs.declared.stage.done.Among.TheVariants.{Slots}
 use Rattle.edit_steps.specs.declared.stage.done.Done.{Done}
 use Rattle.edit_steps.specs.declared.stage.done_table.DoneTable.{DoneTable}
 use Rattle.edit_steps.specs.inner.CurrentPaths.{index_of, count_of, removed, start, current_path, done_at, done_below}
-use Rattle.edit_steps.specs.inner.Splices.{spliced, updated_at}
-use Rattle.edit_steps.specs.inner.Putting.{CanPut, put}
+use Rattle.edit_steps.specs.inner.Putting.{CanPut}
 
 module _ (k : ℕ) (ts : List SyntaxTree) (done : Path → List Done) (a : Among) where
   -- ---- into the node itself
@@ -29,10 +27,6 @@ module _ (k : ℕ) (ts : List SyntaxTree) (done : Path → List Done) (a : Among
       let children : forest ts ≡ h.there.below = cc in
       let long : length (trees h.there.below) ≡ length ts = ap (λ f. length (trees f)) (sym children) ∙ ap length (trees-forest ts) in
       omega (arith, h.there.within)
-
-  pub put-here : (new : List SyntaxTree) → put (node k ts) done [] a new ≡ node k (take (start (done []) a) ts ++ new ++ drop (start (done []) a + count_of a) ts)
-  put-here new =
-      ap (λ us. Node k (forest (take (start (done []) a) us ++ new ++ drop (start (done []) a + count_of a) us))) (trees-forest ts)
 
   -- ---- into a child
   module _ (i : ℕ) (r : Path) where
@@ -67,12 +61,6 @@ module _ (k : ℕ) (ts : List SyntaxTree) (done : Path → List Done) (a : Among
           };
         }
 
-    pub put-on : (new : List SyntaxTree) (c : SyntaxTree) → slice_get ts slot ≡ Some c → put (node k ts) done (i ∷ r) a new ≡ node k (take slot ts ++ (put c inner r a new ∷ []) ++ drop (slot + 1) ts)
-    put-on new c is =
-        let h : SyntaxTree → SyntaxTree = spliced (start (done (i ∷ r)) a) (count_of a) new in
-        let all : trees (forest ts) ≡ ts = trees-forest ts in
-        ap (λ us. option_map_or (λ d. Node k (forest (take slot us ++ (updated_at d (current_path inner r) h ∷ []) ++ drop (slot + 1) us))) (slice_get us slot) (node k ts)) all ∙ ap (λ o. option_map_or (λ d. Node k (forest (take slot ts ++ (updated_at d (current_path inner r) h ∷ []) ++ drop (slot + 1) ts))) o (node k ts)) is
-
 pub no-token : (k : ℕ) (s : List ℕ) (p : Path) (l : ℕ) (f : Forest ℕ) → at (Token k s) p ≡ Some (Node l f) → ⊥
 no-token k s [] l f h = cc
 no-token k s (i ∷ p) l f h = cc
@@ -91,10 +79,6 @@ module _ (t : SyntaxTree) (k : ℕ) (ts : List SyntaxTree) (is : t ≡ node k ts
         room = subst (λ xs. start xs a + count_of a ≤ length ts) (sym these) (room_here k ts done a can);
       }
 
-  pub put-end : q ≡ [] → (new : List SyntaxTree) → put t done q a new ≡ node k (take (start ds a) ts ++ new ++ drop (start ds a + count_of a) ts)
-  put-end none new =
-      ap₂ (λ u p. put u done p a new) is none ∙ put-here k ts done a new ∙ ap (λ xs. node k (take (start xs a) ts ++ new ++ drop (start xs a + count_of a) ts)) (sym these)
-
   module _ (i : ℕ) (r : Path) (on : q ≡ i ∷ r) (next : Path → List Done) (goes : (λ p. done (i ∷ p)) ≡ next) where
     pub record Further : Type 0 where
       pub lessens : removed ds i ≤ i
@@ -110,10 +94,6 @@ module _ (t : SyntaxTree) (k : ℕ) (ts : List SyntaxTree) (is : t ≡ node k ts
           inside = subst (λ xs. start xs (Slots i 1) < length ts) (sym these) way.inside;
           can = λ c found. subst (λ f. CanPut c f r a) goes (way.further c (ap (λ xs. slice_get ts (start xs (Slots i 1))) (sym these) ∙ found));
         }
-
-    pub put-further : (new : List SyntaxTree) (c : SyntaxTree) → slice_get ts (start ds (Slots i 1)) ≡ Some c → put t done q a new ≡ node k (take (start ds (Slots i 1)) ts ++ (put c next r a new ∷ []) ++ drop (start ds (Slots i 1) + 1) ts)
-    put-further new c found =
-        ap₂ (λ u p. put u done p a new) is on ∙ put-on k ts done a i r new c (ap (λ xs. slice_get ts (start xs (Slots i 1))) (sym these) ∙ found) ∙ ap₂ (λ xs f. node k (take (start xs (Slots i 1)) ts ++ (put c f r a new ∷ []) ++ drop (start xs (Slots i 1) + 1) ts)) (sym these) goes
 
 -- ---- the way, as an index has it
 module _ (index : DoneTable) (path : Path) (n : ℕ) where

@@ -23,7 +23,7 @@ use Rattle.edit_steps.specs.declared.stage.done.Done.{Done}
 use Rattle.edit_steps.specs.inner.Counts.{IsCounted}
 use Rattle.edit_steps.specs.inner.CurrentPaths.{index_of, count_of, removed, start, current_path}
 use Rattle.edit_steps.specs.inner.Putting.{CanPut, put}
-use Rattle.edit_steps.specs.inner.Splices.{spliced, updated_at}
+use Rattle.green_tree.specs.inner.Splices.{spliced, updated_at}
 use Rattle.edit_change.proofs.Edits.{Edits, below, below_path, edits_of, rewritten_by, rewritten_by_from, rewritten_is}
 use Rattle.edit_steps.proofs.CurrentPaths.{to_slot, new_path, at-new_path, Elsewhere}
 use Rattle.edit_steps.proofs.Steps.{room-inserted, room-replaced}

@@ -10,7 +10,7 @@ use Rattle.std.proofs.lemmas.Option.{slice_get-get_or}
 use Rattle.green_tree.specs.Path.{Path}
 use Rattle.green_tree.specs.Tree.{Forest, Token, Node, end, more, SyntaxTree, forest, trees, at}
 use Rattle.green_tree.proofs.Lookup.{trees-forest}
-use Rattle.edit_steps.specs.inner.Splices.{spliced_list, spliced, updated_at}
+use Rattle.green_tree.specs.inner.Splices.{spliced_list, spliced, updated_at}
 use Rattle.edit_change.proofs.Edits.{Edits, below, below_path, filled, rewritten_by, rewritten_by_from}
 use Rattle.edit_steps.proofs.CurrentPaths.{splice_at, to_gap, to_slot, new_path, Keeps, before, after, after-more, length-after, cut, length-before, SameItem, same_item, before-same, from-same, Elsewhere, rewritten_by-update}
 

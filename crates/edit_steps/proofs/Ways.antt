@@ -1,18 +1,16 @@
--- The way to a target's node, and back.
---     way_none                       nothing is above the element itself
---     OnWay, on_way                  where the path goes on, the next child is there, and no step towards it leaves the numbers of code
---     way_on                         one node more is above the next child
+-- The way to a target's node.
+--     IsReached                      so much of the way is gone, to this tree: what is left of it leads on to the target
+--     reached_none                   nothing of it is gone at the top
+--     IsOnWay, on_way                where the path goes on, the next child is there, and no step towards it leaves the numbers of code
 --     no_token                       where the path goes on, or the target is, there is a node
---     way_ends                       at the end of the path, the target's node
---     all_pushed                     each of these nodes has its slot, and the last one
---     rebuilt-push                   the last of the nodes on the way is the first that is built anew
+--     IsAtTarget, at_target          at the end of the path is the target's node, and the place is found
+--     can_splice_place, put_at_place  a splice at the place puts elements where the target is
 use Rattle.std.specs.Prelude.{◌≡◌, ◌<◌, ◌≤◌, ◌+◌, ℕ, List, [], ◌∷◌, ◌++◌, take, drop, length, slice_get, Some, refl}
-use Rattle.std.specs.List.{AllByRecursion}
-use Rattle.std.proofs.Common.{ap, sym, subst, ◌∙◌, arith, get_or}
-use Rattle.std.proofs.lemmas.List.{length-append, drop_all, take_all}
-use Rattle.edit_change.proofs.Lists.{all-append}
+use Rattle.std.proofs.Common.{ap, ap₂, sym, subst, ◌∙◌, arith, get_or}
+use Rattle.std.proofs.lemmas.List.{drop_all, take_all, append_assoc, append-nil}
 use Rattle.green_tree.specs.Path.{Path}
 use Rattle.green_tree.specs.Tree.{Token, SyntaxTree}
+use Rattle.green_tree.specs.Tree.{at as tree_at}
 use Rattle.green_tree.specs.Green.{Branch, branch_tree}
 use Rattle.green_tree.specs.GreenElement.{element_tree}
 use Rattle.green_tree.specs.declared.green.GreenElement.{GreenElement}
@@ -20,21 +18,14 @@ use Rattle.edit_steps.specs.declared.stage.done.Among.{Among}
 use Rattle.edit_steps.specs.declared.stage.done.Among.TheVariants.{Slots}
 use Rattle.edit_steps.specs.declared.stage.done.Done.{Done}
 use Rattle.edit_steps.specs.declared.stage.done_table.DoneTable.{DoneTable}
-use Rattle.edit_steps.specs.declared.stage.put.Splice.{Splice}
-use Rattle.edit_steps.specs.declared.stage.put.WayNode.{WayNode}
-use Rattle.edit_steps.specs.inner.CurrentPaths.{removed, start, done_at, done_below}
-use Rattle.edit_steps.specs.inner.Putting.{CanPut, put, CanPutIn, CanPutHere, HasSlot, IsWay, exchanged, rebuilt}
-use Rattle.edit_steps.proofs.Putting.{no-token, further, put-further, done_here, way_here, done_next}
+use Rattle.green_tree.specs.inner.Splices.{spliced, updated_at, CanSplice}
+use Rattle.edit_steps.specs.declared.stage.place.Splice.{Splice}
+use Rattle.edit_steps.specs.declared.stage.place.Place.{Place}
+use Rattle.edit_steps.specs.inner.CurrentPaths.{index_of, count_of, removed, start, current_path, done_at, done_below}
+use Rattle.edit_steps.specs.inner.Putting.{CanPut, put, CanPutIn, IsPlaceOf}
+use Rattle.edit_steps.proofs.Putting.{no-token, further, at-end, done_here, way_here, done_next}
 
-pub rebuilt-push : (ns : List WayNode) (n : WayNode) (t : SyntaxTree) → rebuilt (ns ++ n ∷ []) t ≡ rebuilt ns (exchanged n.node.now n.slot t)
-rebuilt-push [] n t = refl
-rebuilt-push (m ∷ ns) n t = ap (exchanged m.node.now m.slot) (rebuilt-push ns n t)
-
-pub all_pushed : (ns : List WayNode) (n : WayNode) → AllByRecursion HasSlot (ns ++ n ∷ []) → AllByRecursion HasSlot ns × HasSlot n
-all_pushed [] n all = (tt, all.0)
-all_pushed (m ∷ ns) n all = let rest = all_pushed ns n all.1 in ((all.0, rest.0), rest.1)
-
-module _ (e : GreenElement) (s : Splice) where
+module _ (s : Splice) where
   abbrev index : DoneTable
   index = s.done.now
 
@@ -44,16 +35,17 @@ module _ (e : GreenElement) (s : Splice) where
   abbrev at : Among
   at = s.target.now.at
 
-  pub way_none : CanPutIn e s → IsWay e s [] (element_tree e)
-  way_none can = record { can = can; up = λ ts. refl; inside = tt }
+  pub record IsReached (d : ℕ) (gone : Path) (t : SyntaxTree) : Type 0 where
+    pub can : CanPut t (done_below index (take d path)) (drop d path) at
+    pub whole : gone ++ current_path (done_below index (take d path)) (drop d path) ≡ current_path (done_at index) path
 
-  pub no_token : (above : List WayNode) (k : ℕ) (text : List ℕ) → IsWay e s above (Token k text) → ⊥
-  no_token above k text way = no-token k text _ way.can.there.kind way.can.there.below way.can.there.there
+  pub reached_none : (e : GreenElement) → CanPutIn e s → IsReached 0 [] (element_tree e)
+  reached_none e can = record { can = can; whole = refl }
 
-  module _ (above : List WayNode) (t : SyntaxTree) (way : IsWay e s above t) (b : Branch) (is : t ≡ branch_tree b) where
-    abbrev d : ℕ
-    d = length above
+  pub no_token : (d : ℕ) (gone : Path) (k : ℕ) (text : List ℕ) → IsReached d gone (Token k text) → ⊥
+  no_token d gone k text way = no-token k text _ way.can.there.kind way.can.there.below way.can.there.there
 
+  module _ (d : ℕ) (gone : Path) (b : Branch) (way : IsReached d gone (branch_tree b)) where
     module _ (long : d < length path) (ds : List Done) (these : ds ≡ done_at index (take d path)) (i : ℕ) (here : i ≡ get_or path d 0) where
       on : drop d path ≡ i ∷ drop (d + 1) path
       on = way_here index path d long ∙ ap (λ j. j ∷ drop (d + 1) path) (sym here)
@@ -61,48 +53,58 @@ module _ (e : GreenElement) (s : Splice) where
       goes : (λ p. done_below index (take d path) (i ∷ p)) ≡ done_below index (take (d + 1) path)
       goes = subst (λ j. (λ p. done_below index (take d path) (j ∷ p)) ≡ done_below index (take (d + 1) path)) (sym here) (done_next index path d long)
 
-      pub record OnWay : Type 0 where
+      pub record IsOnWay : Type 0 where
         pub lessens : removed ds i ≤ i
         pub inside : start ds (Slots i 1) < length b.children
+        pub next : (slot : ℕ) (more : Path) (c : SyntaxTree) → slot ≡ start ds (Slots i 1) → more ≡ gone ++ slot ∷ [] → slice_get b.children slot ≡ Some c → IsReached (d + 1) more c
 
-      pub on_way : OnWay
+      pub on_way : IsOnWay
       on_way =
-          let f = further t b.kind b.children is (done_below index (take d path)) ds (these ∙ done_here index path d) (drop d path) at i (drop (d + 1) path) on (done_below index (take (d + 1) path)) goes way.can in
-          record { lessens = f.lessens; inside = f.inside }
-
-      pub way_on : (n : WayNode) (c : SyntaxTree) → n.node.now ≡ b → n.slot ≡ start ds (Slots i 1) → slice_get b.children n.slot ≡ Some c → IsWay e s (above ++ n ∷ []) c
-      way_on n c same slot found =
-          let f = further t b.kind b.children is (done_below index (take d path)) ds (these ∙ done_here index path d) (drop d path) at i (drop (d + 1) path) on (done_below index (take (d + 1) path)) goes way.can in
-          let there : slice_get b.children (start ds (Slots i 1)) ≡ Some c = ap (slice_get b.children) (sym slot) ∙ found in
-          let more : length (above ++ n ∷ []) ≡ d + 1 = length-append above (n ∷ []) in
-          let built : (ts : List SyntaxTree) → put t (done_below index (take d path)) (drop d path) at ts ≡ exchanged n.node.now n.slot (put c (done_below index (take (d + 1) path)) (drop (d + 1) path) at ts) =
-          λ ts. put-further t b.kind b.children is (done_below index (take d path)) ds (these ∙ done_here index path d) (drop d path) at i (drop (d + 1) path) on (done_below index (take (d + 1) path)) goes ts c there
-          ∙ ap (λ j. exchanged b j (put c (done_below index (take (d + 1) path)) (drop (d + 1) path) at ts)) (sym slot)
-          ∙ ap (λ a. exchanged a n.slot (put c (done_below index (take (d + 1) path)) (drop (d + 1) path) at ts)) (sym same) in
-          let has : HasSlot n = subst (λ a. n.slot < length a.children) (sym same) (subst (λ j. j < length b.children) (sym slot) f.inside) in
+          let f = further (branch_tree b) b.kind b.children refl (done_below index (take d path)) ds (these ∙ done_here index path d) (drop d path) at i (drop (d + 1) path) on (done_below index (take (d + 1) path)) goes way.can in
+          let rest : Path = current_path (done_below index (take (d + 1) path)) (drop (d + 1) path) in
           record {
-            can = subst (λ m. CanPut c (done_below index (take m path)) (drop m path) at) (sym more) (f.can c there);
-            up = λ ts.
-                way.up ts
-                ∙ ap (rebuilt above) (built ts)
-                ∙ sym (rebuilt-push above n (put c (done_below index (take (d + 1) path)) (drop (d + 1) path) at ts))
-                ∙ ap (λ m. rebuilt (above ++ n ∷ []) (put c (done_below index (take m path)) (drop m path) at ts)) (sym more);
-            inside = all-append HasSlot above (n ∷ []) way.inside (has, tt);
+            lessens = f.lessens;
+            inside = f.inside;
+            next = λ slot more c is longer found. record {
+              can = f.can c (ap (slice_get b.children) (sym is) ∙ found);
+              whole =
+                  ap (λ p. p ++ rest) longer
+                  ∙ append_assoc gone (slot ∷ []) rest
+                  ∙ ap (λ j. gone ++ j ∷ rest) (is ∙ ap (λ xs. start xs (Slots i 1)) (these ∙ done_here index path d))
+                  ∙ ap (λ g. gone ++ start (done_below index (take d path) []) (Slots i 1) ∷ current_path g (drop (d + 1) path)) (sym goes)
+                  ∙ ap (λ p. gone ++ current_path (done_below index (take d path)) p) (sym on)
+                  ∙ way.whole;
+            };
           }
 
-    pub way_ends : length above ≡ length path → CanPutHere b s
-    way_ends all =
-        let whole : take d path ≡ path = take_all d path (omega arith) in
-        let none : drop d path ≡ [] = drop_all d path (omega arith) in
-        subst (λ u. CanPut u (done_below index path) [] at) is
-        (subst (λ p. CanPut t (done_below index p) [] at) whole (subst (λ p. CanPut t (done_below index (take d path)) p at) none way.can))
+    module _ (all : d ≡ length path) (ds : List Done) (these : ds ≡ done_at index (take d path)) where
+      none : drop d path ≡ []
+      none = drop_all d path (omega (arith, all))
 
-    pub put_ends : length above ≡ length path → (ts : List SyntaxTree) → put (element_tree e) (done_at index) path at ts ≡ rebuilt above (put (branch_tree b) (done_below index path) [] at ts)
-    put_ends all ts =
-        let whole : take d path ≡ path = take_all d path (omega arith) in
-        let none : drop d path ≡ [] = drop_all d path (omega arith) in
-        way.up ts
-        ∙ ap (rebuilt above)
-        (ap (λ u. put u (done_below index (take d path)) (drop d path) at ts) is
-        ∙ ap (λ p. put (branch_tree b) (done_below index p) (drop d path) at ts) whole
-        ∙ ap (λ p. put (branch_tree b) (done_below index path) p at ts) none)
+      pub record IsAtTarget : Type 0 where
+        pub lessens : removed ds (index_of at) ≤ index_of at
+        pub room : start ds at + count_of at ≤ length b.children
+        pub path_is : gone ≡ current_path (done_at index) path
+        pub done_is : ds ≡ done_at index path
+
+      pub at_target : IsAtTarget
+      at_target =
+          let e = at-end (branch_tree b) b.kind b.children refl (done_below index (take d path)) ds (these ∙ done_here index path d) (drop d path) at none way.can in
+          record {
+            lessens = e.lessens;
+            room = e.room;
+            path_is = sym (append-nil gone) ∙ ap (λ p. gone ++ current_path (done_below index (take d path)) p) (sym none) ∙ way.whole;
+            done_is = these ∙ ap (done_at index) (take_all d path (omega (arith, all)));
+          }
+
+module _ (t : SyntaxTree) (s : Splice) (place : Place) (is : IsPlaceOf s place) where
+  pub can_splice_place : CanPut t (done_at s.done.now) s.target.now.parent.now s.target.now.at → CanSplice t place.path.items place.first place.count
+  can_splice_place can = record {
+    kind = can.there.kind;
+    below = can.there.below;
+    there = ap (tree_at t) is.path ∙ can.there.there;
+    within = let within = can.there.within in omega (arith, within, is.first, is.count);
+  }
+
+  pub put_at_place : (ts : List SyntaxTree) → updated_at t place.path.items (spliced place.first place.count ts) ≡ put t (done_at s.done.now) s.target.now.parent.now s.target.now.at ts
+  put_at_place ts = ap₂ (λ p h. updated_at t p h) is.path (ap₂ (λ f n. spliced f n ts) is.first is.count)

@@ -6,7 +6,6 @@ pub mod Turns
 pub mod Waits
 pub mod Waiting
 pub mod CurrentPaths
-pub mod Splices
 pub mod AimTargets
 pub mod Counts
 pub mod Putting

@@ -7,14 +7,14 @@ ghost use Rattle.edit_steps.specs.inner.Stage.{old_tree, present_tree, IsStage, 
 mod aim_target;
 mod done;
 mod done_table;
-mod put;
+mod place;
 
 use crate::stage::aim_target::AimTarget;
 use crate::stage::done::Done;
 use crate::stage::done_table::DoneTable;
-use crate::stage::put::{Splice, put};
+use crate::stage::place::{Splice, place_of};
 use edit_change::Aimed;
-use green_tree::GreenElement;
+use green_tree::{GreenElement, splice_at};
 use std::alloc::{AllocError, Global};
 
 /// An element with some changes carried out, one at a time.
@@ -51,9 +51,9 @@ impl Stage {
     /// Carries out one change more: what it gives goes first into its gap, or stands for what it replaces.
     ///
     /// The aim is one in the old element, and has a number of its own. Where its node, its gap or its first slot is not there, nothing
-    /// changes, and of a range only what is there is replaced. `builds` rises by the nodes that are built, up to its greatest number: the
-    /// node whose children change, and those above it. Each is made by one function, which counts it. After a refusal the stage and the
-    /// count are as they were.
+    /// changes, and of a range only what is there is replaced. `builds` rises by the nodes that change, up to its greatest number: the
+    /// node whose children change, and those above it. Of these, the ones that nobody else holds are changed in place. After a refusal the
+    /// stage and the count are as they were.
     pub fn step(
         &mut self,
         alloc: Global,
@@ -68,7 +68,7 @@ impl Stage {
         ensures refused { OnErr result (StageStaysAs self.old self.new) }
         ensures refused_count { OnErr result (builds.new ≡ builds.old) }
     {
-        let mut count = *builds;
+        let count = *builds;
         let Some(target) = AimTarget::of(&self.original, aim) else {
             return Ok(());
         };
@@ -81,10 +81,16 @@ impl Stage {
             done: &self.done,
             target: &target,
         };
-        let new = put(&splice, given, &self.current, &mut count)?;
-        self.done.add(alloc, target.parent, done)?;
-        self.current = new;
-        *builds = count;
+        let place = place_of(&splice, &self.current)?;
+        let list = self.done.reserve(alloc, target.parent)?;
+        let GreenElement::Node(top) = &mut self.current else {
+            unreachable!()
+        };
+        splice_at(alloc, top, &place.path, place.first, place.count, given)?;
+        self.done.add_reserved(list, done);
+        *builds = count
+            .saturating_add(target.parent.len() as u64)
+            .saturating_add(1);
         Ok(())
     }
 }

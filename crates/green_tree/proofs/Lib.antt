@@ -1,5 +1,8 @@
 pub mod Sizes
 pub mod Splices
+pub mod Summaries
+pub mod SpliceSteps
+pub mod Ways
 pub mod Lookup
 pub mod Slots
 pub mod KindNames

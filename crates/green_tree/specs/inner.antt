@@ -14,3 +14,6 @@ pub mod TreeSize
 pub mod FirstNode
 pub mod SameShapes
 pub mod Waiting
+pub mod Splices
+pub mod Summaries
+pub mod Ways

@@ -3,9 +3,15 @@ ghost use Rattle.green_tree.specs.Tree.{label, text, at};
 ghost use Rattle.green_tree.specs.GreenElementRef.{ref_tree};
 ghost use Rattle.green_tree.specs.Green.{texts, IsTooLong, capped_length, branch_tree, spliced};
 ghost use Rattle.green_tree.specs.GreenElement.{element_trees, element_tree};
-ghost use Rattle.green_tree.specs.inner.HasToken.{has_token, have_token};
+ghost use Rattle.green_tree.specs.inner.HasToken.{has_token, have_token, TellsToken};
+ghost use Rattle.green_tree.specs.inner.CappedLength.{IsCappedLength};
+
+mod splices;
+mod summary;
 
 use crate::error::TreeError;
+pub use crate::green::splices::splice_at;
+use crate::green::summary::Summary;
 use crate::kind::SyntaxKind;
 use std::alloc::{AllocError, Global};
 use std::marker::Model;
@@ -39,11 +45,7 @@ impl Model for GreenToken {
 #[derive(Drop)]
 struct NodeData {
     kind: SyntaxKind,
-    // How deep calls nest in a walk that goes on in the child of the greatest rank by a loop.
-    rank: u8,
-    // Whether a token is below it.
-    has_token: bool,
-    length: u64,
+    summary: Summary,
     children: Vec<GreenElement>,
 }
 
@@ -100,7 +102,7 @@ impl Model for GreenNode {
 
     ghost invariant = { λ a.
         let es = a.data.value.children.items in
-        IsCappedLength es a.data.value.length × TellsToken es a.data.value.has_token };
+        IsCappedLength es a.data.value.summary.length × TellsToken es a.data.value.summary.has_token };
 
     ghost size = { branch_size };
 
@@ -240,6 +242,14 @@ impl GreenElement {
         }
     }
 
+    // The rank of a node, from 1 on; 0 for a token.
+    fn rank(&self) -> u8 {
+        match self {
+            GreenElement::Node(node) => node.data.summary.rank,
+            GreenElement::Token(_) => 0,
+        }
+    }
+
     /// The same element again. Takes constant time, and copies nothing.
     pub fn share(&self, alloc: Global) -> Result<GreenElement, AllocError>
         ensures { IfOk result (λ e. e ≡ self.now) }
@@ -251,25 +261,6 @@ impl GreenElement {
     }
 }
 
-// The rank of a node over these children: 1 where none is a node, else the greatest of theirs, and one more where two have it. So no rank
-// is greater than the logarithm of how many nodes there are, and one.
-fn rank_above(children: &[GreenElement]) -> u8 {
-    let mut greatest = 0;
-    let mut rank = 1;
-    for child in children {
-        if let GreenElement::Node(node) = child {
-            let below = node.data.rank;
-            if below > greatest {
-                rank = below;
-            } else if below == greatest {
-                rank = below.saturating_add(1);
-            }
-            greatest = greatest.max(below);
-        }
-    }
-    rank
-}
-
 // The slot of the first child node of the greatest rank.
 fn heaviest(children: &[GreenElement]) -> Option<usize>
     ensures { IfSome result (λ slot. slot < length children.now) }
@@ -277,11 +268,10 @@ fn heaviest(children: &[GreenElement]) -> Option<usize>
     let mut found = None;
     let mut greatest = 0;
     for slot in 0..children.len() {
-        if let GreenElement::Node(node) = &children[slot] {
-            if found.is_none() || greatest < node.data.rank {
-                found = Some(slot);
-                greatest = node.data.rank;
-            }
+        let rank = children[slot].rank();
+        if greatest < rank {
+            found = Some(slot);
+            greatest = rank;
         }
     }
     found
@@ -295,22 +285,6 @@ pub fn heaviest_child(node: &GreenNode) -> Option<usize>
     ensures { IfSome result (λ slot. slot < length node.now.children) }
 {
     heaviest(&node.data.children)
-}
-
-fn total_length(children: &[GreenElement]) -> u64
-    ensures { result ≡ capped_length (texts (element_trees children.now)) }
-{
-    let mut total = 0;
-    for child in children {
-        total = (total + child.length()).min(LENGTH_LIMIT);
-    }
-    total
-}
-
-fn any_token(children: &[GreenElement]) -> bool
-    ensures { result ≡ have_token (element_trees children.now) }
-{
-    children.iter().any(|child| child.has_token())
 }
 
 /// Shares elements at the end of a list. After a refusal some of them may be there.
@@ -353,16 +327,26 @@ impl GreenNode {
     ) -> Result<GreenNode, AllocError>
         ensures { IfOk result (λ n. n ≡ record { kind = kind.0; children = element_trees children.items }) }
     {
-        let length = total_length(&children);
-        let rank = rank_above(&children);
-        let has_token = any_token(&children);
+        let summary = Summary::of(&children);
+        GreenNode::summarized(alloc, kind, summary, children)
+    }
+
+    // A node of this kind and these children, whose summary is known.
+    fn summarized(
+        alloc: Global,
+        kind: SyntaxKind,
+        summary: Summary,
+        children: Vec<GreenElement>,
+    ) -> Result<GreenNode, AllocError>
+        requires length { IsCappedLength children.items summary.length }
+        requires token { TellsToken children.items summary.has_token }
+        ensures { IfOk result (λ n. n ≡ record { kind = kind.0; children = element_trees children.items }) }
+    {
         let data = Rc::new(
             alloc,
             NodeData {
                 kind,
-                rank,
-                has_token,
-                length,
+                summary,
                 children,
             },
         )?;
@@ -380,10 +364,11 @@ impl GreenNode {
         ensures too_long { (result ≡ Err TreeError.TooLong) ↔ IsTooLong (texts (element_trees children.items)) }
         ensures no_number { ¬ (result ≡ Err TreeError.NoTreeNumber) }
     {
-        if total_length(&children) >= LENGTH_LIMIT {
+        let summary = Summary::of(&children);
+        if summary.length >= LENGTH_LIMIT {
             return Err(TreeError::TooLong);
         }
-        Ok(GreenNode::capped(alloc, kind, children)?)
+        Ok(GreenNode::summarized(alloc, kind, summary, children)?)
     }
 
     /// The kind of the node.
@@ -397,14 +382,14 @@ impl GreenNode {
     pub fn length(&self) -> u64
         ensures { result ≡ capped_length (texts self.now.children) }
     {
-        self.data.length
+        self.data.summary.length
     }
 
     // Whether there is a token below the node. Takes constant time.
     pub(crate) fn has_token(&self) -> bool
         ensures { result ≡ have_token self.now.children }
     {
-        self.data.has_token
+        self.data.summary.has_token
     }
 
     /// The nodes and tokens below the node, in order.

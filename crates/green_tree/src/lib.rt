@@ -16,6 +16,7 @@ pub use error::TreeError;
 pub use first_node::first_node_of_kind;
 pub use green::{
     GreenElement, GreenElementRef, GreenNode, GreenToken, LENGTH_LIMIT, heaviest_child, share_all,
+    splice_at,
 };
 pub use kind::{KIND_NAMES, SyntaxKind};
 pub use offsets::{covering_path, tokens_at};

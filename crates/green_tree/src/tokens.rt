@@ -3,7 +3,7 @@ ghost use Rattle.green_tree.specs.Tree.{at};
 ghost use Rattle.green_tree.specs.inner.Neighbors.{first_token, last_token, last_token_before, first_token_after};
 ghost use Rattle.green_tree.specs.Green.{branch_tree};
 ghost use Rattle.green_tree.specs.GreenElementRef.{ref_tree};
-ghost use Rattle.green_tree.specs.inner.FoundToken.{FindsToken, IsTokenOf, first_from, path_found};
+ghost use Rattle.green_tree.specs.inner.FoundToken.{FindsFirst, FindsLast, IsTokenOf, first_from, path_found};
 ghost use Rattle.green_tree.specs.inner.Turn.{LeadsInto, IsTurn, way_through};
 
 use crate::green::{GreenElement, GreenElementRef, GreenNode, GreenToken};
@@ -74,7 +74,7 @@ fn push_first_token(
     from: GreenElementRef<'_>,
     path: &mut Vec<usize>,
 ) -> Result<Option<GreenToken>, AllocError>
-    ensures ok { IfOk result (FindsToken (ref_tree from.entry) (first_token (ref_tree from.entry)) path.old.items path.new.items) }
+    ensures ok { IfOk result (FindsFirst (ref_tree from.entry) path.old.items path.new.items) }
     ensures none { first_token (ref_tree from.entry) ≡ None → result ≡ Ok None }
 {
     let mut current = from;
@@ -110,7 +110,7 @@ fn push_last_token(
     from: GreenElementRef<'_>,
     path: &mut Vec<usize>,
 ) -> Result<Option<GreenToken>, AllocError>
-    ensures ok { IfOk result (FindsToken (ref_tree from.entry) (last_token (ref_tree from.entry)) path.old.items path.new.items) }
+    ensures ok { IfOk result (FindsLast (ref_tree from.entry) path.old.items path.new.items) }
     ensures none { last_token (ref_tree from.entry) ≡ None → result ≡ Ok None }
 {
     let mut current = from;

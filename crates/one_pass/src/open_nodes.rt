@@ -1,6 +1,6 @@
 //! Nodes that are made anew, each inside the one before it.
 
-ghost use Rattle.std.specs.Prelude.{◌≡◌, ◌≤◌, ◌<◌, ◌+◌, ◌∷◌, [], ◌++◌, ℕ, suc, true, false, length, get_or, IfOk, OnOk, MatchOption};
+ghost use Rattle.std.specs.Prelude.{◌≡◌, ◌≤◌, ◌<◌, ◌+◌, ◌∷◌, [], ◌++◌, ℕ, suc, true, false, length, IfOk, OnOk, MatchOption};
 ghost use Rattle.std.specs.List.{list_any};
 ghost use Rattle.green_tree.specs.Path.{Path};
 ghost use Rattle.green_tree.specs.Tree.{node};
@@ -14,9 +14,9 @@ ghost use Rattle.edit_change.specs.inner.Aimed.{aims_of, has_parent, formed, alt
 ghost use Rattle.edit_change.specs.inner.KindOnly.{kind_only};
 ghost use Rattle.one_pass.specs.inner.Built.{nodes_built};
 ghost use Rattle.one_pass.specs.inner.Groups.{AreGrouped};
-ghost use Rattle.one_pass.specs.inner.Marked.{sought_in, sought_for, AreDealt};
-ghost use Rattle.one_pass.specs.inner.Pass.{given_in, aims_inside};
-ghost use Rattle.one_pass.specs.inner.OpenNodes.{opens, IsOpened, PutsOn, PutsMade, FindsOn, FindsMade, FindsOpened};
+ghost use Rattle.one_pass.specs.inner.Marked.{sought_in, AreDealt};
+ghost use Rattle.one_pass.specs.inner.Pass.{given_in};
+ghost use Rattle.one_pass.specs.inner.OpenNodes.{opens, next_aims, next_sought, IsOpened, PutsOn, PutsMade, FindsOn, FindsMade, FindsOpened};
 ghost use Rattle.one_pass.specs.inner.OpenNodes.{FindsWholeNode, to_build, to_do, whole};
 
 use crate::aim_list::{aims_below, aims_by_child, alter_below, is_replaced};
@@ -78,8 +78,8 @@ pub fn open_node<'e, 'a, 's>(
     requires { list_any has_parent (aims_of aims.now) ≡ true }
     ensures path { OnOk result (walk.new.path.items ≡ walk.old.path.items) }
     ensures count { OnOk result (walk.new.builds ≡ walk.old.builds) }
-    ensures tree { IfOk result
-        (λ f. whole given.now f ≡ rewritten kind_only (given_in given.now) (aims_of aims.now) [] (branch_tree node.now)) }
+    ensures tree { IfOk result (λ f. whole given.now f
+        ≡ rewritten kind_only (given_in given.now) (aims_of aims.now) [] (branch_tree node.now)) }
     ensures marks { IfOk result
         (λ f. FindsOpened given.now walk.old walk.new f (aims_of aims.now) (sought_in sought.now) node.now) }
     ensures built { IfOk result
@@ -109,16 +109,12 @@ fn open_child<'e, 'a, 's>(
     requires { IsOpened above.now.children above.now.slot node.now }
     ensures path { OnOk result (walk.new.path.items ≡ walk.old.path.items ++ length above.now.out.items ∷ []) }
     ensures count { OnOk result (walk.new.builds ≡ walk.old.builds) }
-    ensures tree { IfOk result
-        (λ f. whole given.now f ≡ rewritten kind_only (given_in given.now)
-        (aims_inside (get_or above.now.children.groups above.now.slot []) above.now.slot) [] (branch_tree node.now)) }
-    ensures marks { IfOk result
-        (λ f. FindsOpened given.now walk.old walk.new f
-        (aims_inside (get_or above.now.children.groups above.now.slot []) above.now.slot)
-        (sought_for above.now.children.lists.items above.now.slot) node.now) }
+    ensures tree { IfOk result (λ f. whole given.now f
+        ≡ rewritten kind_only (given_in given.now) (next_aims above.now) [] (branch_tree node.now)) }
+    ensures marks { IfOk result (λ f. FindsOpened given.now walk.old walk.new f (next_aims above.now)
+        (next_sought above.now) node.now) }
     ensures built { IfOk result
-        (λ f. suc (to_build f.children f.slot) ≡
-        nodes_built (aims_inside (get_or above.now.children.groups above.now.slot []) above.now.slot) (branch_tree node.now)) }
+        (λ f. suc (to_build f.children f.slot) ≡ nodes_built (next_aims above.now) (branch_tree node.now)) }
     ensures size { IfOk result (λ f. to_do f.children f.slot + 1 ≡ branch_size node.now) }
 {
     let slot = above.slot;

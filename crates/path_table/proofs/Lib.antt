@@ -1,1 +1,3 @@
 pub mod PathTables
+pub mod EnteredSteps
+pub mod Ways

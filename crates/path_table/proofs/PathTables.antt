@@ -7,18 +7,20 @@
 --     is-older                      a cell that was there is led to as before
 --     grown-on                      more cells, and more again
 --     grown-same                    the same steps and numbers
---     same-steps                    steps of the same entries
---     step-entered, grown-as        a step that was there, or is there now; with another name for the table
+--     grown-way, grown-cut          with another way, or part of it
+--     step-entered                  a step that was there, or is there now
+--     entered-step, entered-grown, entered-leads, entered-made, refused-same      what entering a cell says of the table
 --     tree-same                     the same cells, with other numbers
 --     within-at, path-is            a path leads to a cell that there is, which has this path
 --     number-read, number-set, put-number      a list of numbers, at a cell; a table's, after one was put there
 --     put-tree, entered             a number put at a cell; at the cell of a path
-use Rattle.std.specs.Prelude.{◌≡◌, ◌≢◌, ℕ, zero, suc, ◌+◌, ◌<◌, ◌≤◌, true, false, ◌&&◌, cond, nat_eq, [], ◌∷◌, ◌++◌, length, List, slice_get, slice_set, option_and_then, unwrap_or, is_some, if◌then◌else◌, Option, Some, None, IfSome, refl}
+use Rattle.std.specs.Prelude.{◌≡◌, ◌≢◌, ℕ, zero, suc, ◌+◌, ◌<◌, ◌≤◌, true, false, ◌&&◌, cond, nat_eq, [], ◌∷◌, ◌++◌, length, List, slice_get, slice_set, option_and_then, unwrap_or, is_some, if◌then◌else◌, Option, Some, None, IfSome, Result, Ok, Err, IfOk, OnErr, Vec, refl}
+use Rattle.std.specs.Global.{Global}
 use Rattle.std.specs.List.{fold}
 use Rattle.std.specs.Map.{lookup}
 use Rattle.std.specs.Option.{option_flatten}
 use Rattle.std.specs.Vec.{with_item}
-use Rattle.std.proofs.Common.{ap, sym, subst, ◌∙◌, arith, take, get_or, append_assoc, append-nil}
+use Rattle.std.proofs.Common.{ap, ap₂, sym, subst, ◌∙◌, arith, take, get_or, append_assoc, append-nil}
 use Rattle.std.proofs.lemmas.Bool.{cases_Bool, and_parts, and_left, eqb-true, eq-eqb, ne_eqb, true≢false}
 use Rattle.std.proofs.lemmas.List.{take_more}
 use Rattle.std.proofs.lemmas.List.Sums.{fold-append}
@@ -26,8 +28,10 @@ use Rattle.std.proofs.lemmas.Option.{none-some, same_Some, slice_get-get_or}
 use mathlib.Core.Logic.{inl, inr}
 use lib.Pointwise.{pointwise_decides}
 use Rattle.green_tree.specs.Path.{Path, same_path}
-use Rattle.path_table.specs.inner.PathTable.{cell_below, next_cell, cell_further, cell_at, number_in, number_by_path, size, SameSteps, IsTree, IsGrown}
+use Rattle.path_table.specs.inner.Steps.{Steps, step, IsEntered, IsWay}
+use Rattle.path_table.specs.inner.PathTable.{cell_below, next_cell, cell_further, cell_at, number_in, number_by_path, size, IsTree, IsGrown}
 use Rattle.path_table.specs.declared.table.PathTable.{PathTable}
+use Rattle.path_table.proofs.Ways.{way-more, way-cut}
 
 pub cell-push : (t : PathTable) (o : Option ℕ) (p : Path) (i : ℕ) → cell_further t o (p ++ i ∷ []) ≡ next_cell t (cell_further t o p) i
 cell-push t o p i = fold-append (next_cell t) o p (i ∷ [])
@@ -41,17 +45,15 @@ cell-more t from p k o l is =
     ap (λ cell. next_cell t cell (get_or p k 0)) is ∙ sym (ap (cell_further t from) (take_more p k 0 l) ∙ cell-push t from (take k p) (get_or p k 0))
 
 -- ---- a table of nothing
-pub empty-tree : (t : PathTable) → t.steps.entries ≡ [] → t.numbers.items ≡ [] → IsTree t
-empty-tree t no_steps no_numbers =
+pub empty-tree : (t : PathTable) → t.steps ≡ [] → t.numbers.items ≡ [] → t.way.items ≡ [] → IsTree t
+empty-tree t no_steps no_numbers no_way =
     let nothing : (n i m : ℕ) → cell_below t n i ≡ Some m → ⊥ = λ n i m h. none-some m (sym (ap (lookup (λ k. nat_eq n k.0 && nat_eq i k.1)) no_steps) ∙ h) in
     record {
       steps = λ n i m h. absurd (nothing n i m h);
       numbers = λ n x h. absurd (none-some x (sym (ap (λ xs. option_flatten (slice_get xs n)) no_numbers) ∙ h));
       paths = (λ k. [], refl, λ n i m h. absurd (nothing n i m h));
+      way = subst (IsWay t.steps 0) (sym no_way) tt;
     }
-
-pub same-steps : (t u : PathTable) → u.steps.entries ≡ t.steps.entries → SameSteps t u
-same-steps t u same n i = ap (lookup (λ k. nat_eq n k.0 && nat_eq i k.1)) same
 
 -- ---- steps that are added
 module _ (t u : PathTable) (steps : (n i m : ℕ) → cell_below t n i ≡ Some m → cell_below u n i ≡ Some m) where
@@ -69,7 +71,7 @@ enter-more t u p k n m l leads grown below =
     sym (cell-more u (Some 0) p k (Some n) l (sym (leads-on t u grown.steps (Some 0) (take k p) n leads))) ∙ below
 
 -- ---- one cell more
-module _ (t u : PathTable) (n s : ℕ) (tree : IsTree t) (here : n ≤ size t) (free : cell_below t n s ≡ None) (more : size u ≡ size t + 1) (same : u.numbers.items ≡ t.numbers.items) (put : (a i : ℕ) → cell_below u a i ≡ cond (nat_eq n a && nat_eq s i) (Some (size t + 1)) (cell_below t a i)) where
+module _ (t u : PathTable) (n s : ℕ) (tree : IsTree t) (here : n ≤ size t) (free : cell_below t n s ≡ None) (more : size u ≡ size t + 1) (same : u.numbers.items ≡ t.numbers.items) (ways : u.way.items ≡ t.way.items) (put : (a i : ℕ) → cell_below u a i ≡ cond (nat_eq n a && nat_eq s i) (Some (size t + 1)) (cell_below t a i)) where
   at-new : (a i : ℕ) → (nat_eq n a && nat_eq s i) ≡ true → cell_below u a i ≡ Some (size t + 1)
   at-new a i new = put a i ∙ ap (λ b. cond b (Some (size t + 1)) (cell_below t a i)) new
 
@@ -183,6 +185,7 @@ module _ (t u : PathTable) (n s : ℕ) (tree : IsTree t) (here : n ≤ size t) (
       steps = steps-more;
       numbers = λ a x h. let before : a ≤ size t = tree.numbers a x (sym (number-same (Some a)) ∙ h) in omega (arith, before, more);
       paths = (path-of, path-before 0 (omega arith) ∙ tree.paths.1, path-below);
+      way = subst (IsWay u.steps 0) (sym ways) (way-more t.steps u.steps steps-stay 0 t.way.items tree.way);
     };
   }
 
@@ -198,7 +201,7 @@ grown-on t u v first second = record {
 }
 
 -- ---- the same cells and numbers
-module _ (t u : PathTable) (tree : IsTree t) (below : (n i : ℕ) → cell_below u n i ≡ cell_below t n i) (long : size u ≡ size t) (same : u.numbers.items ≡ t.numbers.items) where
+module _ (t u : PathTable) (tree : IsTree t) (below : (n i : ℕ) → cell_below u n i ≡ cell_below t n i) (long : size u ≡ size t) (same : u.numbers.items ≡ t.numbers.items) (ways : u.way.items ≡ t.way.items) where
   number-kept : (o : Option ℕ) → number_in u o ≡ number_in t o
   number-kept None = refl
   number-kept (Some a) = ap (λ xs. option_flatten (slice_get xs a)) same
@@ -219,13 +222,14 @@ module _ (t u : PathTable) (tree : IsTree t) (below : (n i : ℕ) → cell_below
       steps = λ n i m h. let before = tree.steps n i m (sym (below n i) ∙ h) in (omega (arith, before.0, long), omega (arith, before.1, long));
       numbers = λ n x h. let before : n ≤ size t = tree.numbers n x (sym (number-kept (Some n)) ∙ h) in omega (arith, before, long);
       paths = (tree.paths.0, tree.paths.1, λ n i m h. tree.paths.2 n i m (sym (below n i) ∙ h));
+      way = subst (IsWay u.steps 0) (sym ways) (way-more t.steps u.steps (λ n i m h. below n i ∙ h) 0 t.way.items tree.way);
     };
   }
 
 -- ---- a step that was there, or is there now
-pub step-entered : (t u : PathTable) (n s : ℕ) (o : Option ℕ) → IsTree t → n ≤ size t → o ≡ cell_below t n s → size u ≡ size t + (if is_some o then 0 else 1) → u.numbers.items ≡ t.numbers.items → ((a i : ℕ) → cell_below u a i ≡ cond (nat_eq n a && nat_eq s i) (Some (unwrap_or o (size t + 1))) (cell_below t a i)) → IsGrown t u
-step-entered t u n s None tree here is long same put = grown t u n s tree here (sym is) long same put
-step-entered t u n s (Some m) tree here is long same put = grown-same t u tree kept (omega (arith, long)) same
+pub step-entered : (t u : PathTable) (n s : ℕ) (o : Option ℕ) → IsTree t → n ≤ size t → o ≡ cell_below t n s → size u ≡ size t + (if is_some o then 0 else 1) → u.numbers.items ≡ t.numbers.items → u.way.items ≡ t.way.items → ((a i : ℕ) → cell_below u a i ≡ cond (nat_eq n a && nat_eq s i) (Some (unwrap_or o (size t + 1))) (cell_below t a i)) → IsGrown t u
+step-entered t u n s None tree here is long same ways put = grown t u n s tree here (sym is) long same ways put
+step-entered t u n s (Some m) tree here is long same ways put = grown-same t u tree kept (omega (arith, long)) same ways
   where
     kept : (a i : ℕ) → cell_below u a i ≡ cell_below t a i
     kept a i =
@@ -234,11 +238,54 @@ step-entered t u n s (Some m) tree here is long same put = grown-same t u tree k
           | inr other ↦ put a i ∙ ap (λ b. cond b (Some m) (cell_below t a i)) other
         ]
 
-pub grown-as : {t u v : PathTable} → v ≡ u → IsGrown t u → IsGrown t v
-grown-as {t} is grown = subst (IsGrown t) (sym is) grown
+-- ---- what entering a cell says of the table
+here-itself : (n s : ℕ) → (nat_eq n n && nat_eq s s) ≡ true
+here-itself n s = ap₂ (λ a b. a && b) (eq-eqb n n refl) (eq-eqb s s refl)
+
+pub entered-step : (before after : Steps) (n s m : ℕ) → IsEntered before after n s m → step after n s ≡ Some m
+entered-step before after n s m made = made.steps n s ∙ ap (λ b. cond b (Some m) (step before n s)) (here-itself n s)
+
+module _ {E : Type 0} (t : PathTable) (after : Steps) (n s : ℕ) where
+  pub entered-grown : (r : Result ℕ E) → IsTree t → n ≤ size t → IfOk r (IsEntered t.steps after n s) → OnErr r (after ≡ t.steps) → IsGrown t (record t { steps = after })
+  entered-grown (Ok m) tree here made same =
+      step-entered t (record t { steps = after }) n s (cell_below t n s) tree here refl made.long refl refl (λ a i. made.steps a i ∙ ap (λ k. cond (nat_eq n a && nat_eq s i) (Some k) (cell_below t a i)) made.made)
+  entered-grown (Err e) tree here made same =
+      grown-same t (record t { steps = after }) tree (λ a i. ap (λ es. step es a i) same) (ap length same) refl refl
+
+  pub entered-leads : (r : Result ℕ E) → IfOk r (IsEntered t.steps after n s) → IfOk r (λ m. step after n s ≡ Some m)
+  entered-leads (Ok m) made = entered-step t.steps after n s m made
+  entered-leads (Err e) made = tt
+
+  pub entered-made : (r : Result ℕ E) → IfOk r (IsEntered t.steps after n s) → IfOk r (λ m. m ≡ unwrap_or (cell_below t n s) (size t + 1))
+  entered-made (Ok m) made = made.made
+  entered-made (Err e) made = tt
+
+  pub refused-same : (r : Result ℕ E) → OnErr r (after ≡ t.steps) → OnErr r ((a i : ℕ) → step after a i ≡ cell_below t a i)
+  refused-same (Ok m) same = tt
+  refused-same (Err e) same = λ a i. ap (λ es. step es a i) same
+
+-- ---- the way to what was entered last
+pub grown-way : (t u : PathTable) (way : Vec (ℕ × ℕ) Global) → IsGrown t u → IsWay u.steps 0 way.items → IsGrown t (record u { way = way })
+grown-way t u way grown is = record {
+  steps = grown.steps;
+  longer = grown.longer;
+  stay = grown.stay;
+  older = grown.older;
+  numbers = grown.numbers;
+  tree = record {
+    steps = grown.tree.steps;
+    numbers = grown.tree.numbers;
+    paths = grown.tree.paths;
+    way = is;
+  };
+}
+
+pub grown-cut : (t : PathTable) (k : ℕ) (way : Vec (ℕ × ℕ) Global) → IsTree t → way.items ≡ take k t.way.items → IsGrown t (record t { way = way })
+grown-cut t k way tree is =
+    grown-way t t way (grown-same t t tree (λ n i. refl) refl refl refl) (subst (IsWay t.steps 0) (sym is) (way-cut t.steps k 0 t.way.items tree.way))
 
 -- ---- no cell more
-module _ (t u : PathTable) (tree : IsTree t) (steps : u.steps.entries ≡ t.steps.entries) where
+module _ (t u : PathTable) (tree : IsTree t) (steps : u.steps ≡ t.steps) where
   cells-same : (q : Path) → cell_at u q ≡ cell_at t q
   cells-same q = ap (λ es. fold (λ o i. option_and_then (λ n. lookup (λ k. nat_eq n k.0 && nat_eq i k.1) es) o) (Some 0) q) steps
 
@@ -246,39 +293,40 @@ module _ (t u : PathTable) (tree : IsTree t) (steps : u.steps.entries ≡ t.step
   below-same n i = ap (lookup (λ k. nat_eq n k.0 && nat_eq i k.1)) steps
 
   -- whatever numbers there are, at cells that there are
-  pub tree-same : ((n x : ℕ) → number_in u (Some n) ≡ Some x → n ≤ size t) → IsTree u
-  tree-same numbers =
+  pub tree-same : u.way.items ≡ t.way.items → ((n x : ℕ) → number_in u (Some n) ≡ Some x → n ≤ size t) → IsTree u
+  tree-same ways numbers =
       let long : size u ≡ size t = ap length steps in
       record {
         steps = λ n i m h. let before = tree.steps n i m (sym (below-same n i) ∙ h) in (omega (arith, before.0, long), omega (arith, before.1, long));
         numbers = λ n x h. let before = numbers n x h in omega (arith, before, long);
         paths = (tree.paths.0, tree.paths.1, λ n i m h. tree.paths.2 n i m (sym (below-same n i) ∙ h));
+        way = subst (IsWay u.steps 0) (sym ways) (way-more t.steps u.steps (λ n i m h. below-same n i ∙ h) 0 t.way.items tree.way);
       }
 
 -- ---- a number put in a list of numbers
 pub number-read : (xs : List (Option ℕ)) (n : ℕ) (x : Option ℕ) → n < length xs → x ≡ get_or xs n x → x ≡ option_flatten (slice_get xs n)
 number-read xs n x l is = sym (ap option_flatten (slice_get-get_or xs n x l ∙ ap (λ o. Some o) (sym is)))
 
-pub number-set : (xs : List (Option ℕ)) (n k x : ℕ) → n < length xs → option_flatten (slice_get (slice_set xs n (Some x)) k) ≡ cond (nat_eq n k) (Some x) (option_flatten (slice_get xs k))
-number-set xs n k x l =
+pub number-set : {X : Type 0} (xs : List (Option X)) (n k : ℕ) (x : X) → n < length xs → option_flatten (slice_get (slice_set xs n (Some x)) k) ≡ cond (nat_eq n k) (Some x) (option_flatten (slice_get xs k))
+number-set {X} xs n k x l =
     elim (cases_Bool (nat_eq n k)) [
       | inl here ↦ ap (λ i. option_flatten (slice_get (slice_set xs n (Some x)) i)) (sym (eqb-true n k here)) ∙ ap option_flatten (set-same xs n l) ∙ sym (ap (λ b. cond b (Some x) (option_flatten (slice_get xs k))) here)
       | inr other ↦ ap option_flatten (set-other xs n k (λ e. true≢false (sym (eq-eqb n k (sym e)) ∙ other))) ∙ sym (ap (λ b. cond b (Some x) (option_flatten (slice_get xs k))) other)
     ]
   where
-    set-same : (ys : List (Option ℕ)) (i : ℕ) → i < length ys → slice_get (slice_set ys i (Some x)) i ≡ Some (Some x)
+    set-same : (ys : List (Option X)) (i : ℕ) → i < length ys → slice_get (slice_set ys i (Some x)) i ≡ Some (Some x)
     set-same [] i l = absurd (omega (arith, l))
     set-same (y ∷ ys) zero l = refl
     set-same (y ∷ ys) (suc i) l = set-same ys i (omega (arith, l))
 
-    set-other : (ys : List (Option ℕ)) (i j : ℕ) → j ≢ i → slice_get (slice_set ys i (Some x)) j ≡ slice_get ys j
+    set-other : (ys : List (Option X)) (i j : ℕ) → j ≢ i → slice_get (slice_set ys i (Some x)) j ≡ slice_get ys j
     set-other [] i j d = refl
     set-other (y ∷ ys) zero zero d = absurd (d refl)
     set-other (y ∷ ys) zero (suc j) d = refl
     set-other (y ∷ ys) (suc i) zero d = refl
     set-other (y ∷ ys) (suc i) (suc j) d = set-other ys i j (λ e. d (ap suc e))
 
-pub put-number : (t r : PathTable) (n x : ℕ) (o : Option ℕ) → n < length r.numbers.items → ((cell : Option ℕ) → number_in r cell ≡ number_in t cell) → o ≡ Some x → (k : ℕ) → number_in (record { steps = r.steps; numbers = with_item r.numbers n o }) (Some k) ≡ cond (nat_eq n k) (Some x) (number_in t (Some k))
+pub put-number : (t r : PathTable) (n x : ℕ) (o : Option ℕ) → n < length r.numbers.items → ((cell : Option ℕ) → number_in r cell ≡ number_in t cell) → o ≡ Some x → (k : ℕ) → number_in (record r { numbers = with_item r.numbers n o }) (Some k) ≡ cond (nat_eq n k) (Some x) (number_in t (Some k))
 put-number t r n x o within same is k =
     ap (λ o. option_flatten (slice_get (slice_set r.numbers.items n o) k)) is ∙ number-set r.numbers.items n k x within ∙ ap (cond (nat_eq n k) (Some x)) (same (Some k))
 
@@ -312,8 +360,8 @@ module _ (t : PathTable) (tree : IsTree t) where
   path-is p m h = path-told 0 p m h ∙ ap (λ q. q ++ p) tree.paths.1
 
   -- ---- a number put at a cell
-  pub put-tree : (u : PathTable) (m x : ℕ) → m ≤ size t → u.steps.entries ≡ t.steps.entries → ((n : ℕ) → number_in u (Some n) ≡ cond (nat_eq m n) (Some x) (number_in t (Some n))) → IsTree u
-  put-tree u m x here steps put = tree-same t u tree steps numbered
+  pub put-tree : (u : PathTable) (m x : ℕ) → m ≤ size t → u.steps ≡ t.steps → u.way.items ≡ t.way.items → ((n : ℕ) → number_in u (Some n) ≡ cond (nat_eq m n) (Some x) (number_in t (Some n))) → IsTree u
+  put-tree u m x here steps ways put = tree-same t u tree steps ways numbered
     where
       numbered : (n y : ℕ) → number_in u (Some n) ≡ Some y → n ≤ size t
       numbered n y h =
@@ -323,7 +371,7 @@ module _ (t : PathTable) (tree : IsTree t) where
           ]
 
   -- ---- at the cell of a path
-  module _ (u : PathTable) (p : Path) (m x : ℕ) (leads : cell_at t p ≡ Some m) (steps : u.steps.entries ≡ t.steps.entries) (put : (n : ℕ) → number_in u (Some n) ≡ cond (nat_eq m n) (Some x) (number_in t (Some n))) where
+  module _ (u : PathTable) (p : Path) (m x : ℕ) (leads : cell_at t p ≡ Some m) (steps : u.steps ≡ t.steps) (put : (n : ℕ) → number_in u (Some n) ≡ cond (nat_eq m n) (Some x) (number_in t (Some n))) where
     at-other : (q : Path) → same_path q p ≡ false → number_in u (cell_at t q) ≡ number_in t (cell_at t q)
     at-other q other = go (cell_at t q) refl
       where

@@ -1,18 +1,39 @@
-ghost use Rattle.std.specs.Prelude.{◌≡◌, ◌≤◌, ◌<◌, ◌+◌, ℕ, Option, None, Some, OnOk, OnErr, IfOk, length, unwrap_or};
+ghost use Rattle.std.specs.Prelude.{◌≡◌, ◌≤◌, ◌<◌, ◌+◌, ℕ, Option, None, Some, OnOk, OnErr, IfOk, length, take, unwrap_or};
 ghost use Rattle.green_tree.specs.Path.{Path};
 ghost use Rattle.path_table.specs.inner.PathTable.{cell_below, next_cell, cell_further, cell_at, number_in, number_by_path, SameSteps, SameCells, SameNumbers, IsPut, size, IsTree, IsGrown};
+ghost use Rattle.path_table.specs.inner.Steps.{slots_of, way_end};
 
+use crate::steps::Steps;
 use std::alloc::{AllocError, Global};
-use std::collections::HashMap;
 
 /// Numbers by path. From the top each path leads, by one step a slot, to a cell of its own; so a way down costs its length, and
 /// finds the numbers of all elements on it.
 #[derive(Drop)]
 pub struct PathTable {
-    // The cell below a cell, at a slot. The top is 0, and the others are counted in the order in which they were made.
-    steps: HashMap<(usize, usize), usize>,
+    steps: Steps,
     // By cell; the last cells may be missing, and have none.
     numbers: Vec<Option<usize>>,
+    // The slots of the path that was entered last, each with the cell that it leads to. The next path goes on where the two part, so
+    // paths near to each other are entered together.
+    way: Vec<(usize, usize)>,
+}
+
+// How many slots a way and a path have in common, and the cell that these lead to.
+fn shared(way: &[(usize, usize)], path: &[usize]) -> (usize, usize)
+    ensures within { result.0 ≤ length path.now }
+    ensures slots { slots_of (take result.0 way.now) ≡ take result.0 path.now }
+    ensures end { result.1 ≡ way_end 0 (take result.0 way.now) }
+{
+    let most = way.len().min(path.len());
+    let mut cell = 0;
+    for count in 0..most {
+        let (slot, below) = way[count];
+        if slot != path[count] {
+            return (count, cell);
+        }
+        cell = below;
+    }
+    (most, cell)
 }
 
 impl PathTable {
@@ -22,8 +43,9 @@ impl PathTable {
         ensures tree { IsTree result }
     {
         PathTable {
-            steps: HashMap::new(alloc),
+            steps: Steps::new(alloc),
             numbers: Vec::new(alloc),
+            way: Vec::new(alloc),
         }
     }
 
@@ -50,7 +72,7 @@ impl PathTable {
     pub fn below(&self, cell: Option<usize>, slot: usize) -> Option<usize>
         ensures { result ≡ next_cell self.now cell slot }
     {
-        self.steps.get(&(cell?, slot)).copied()
+        self.steps.below(cell?, slot)
     }
 
     /// The number of a cell, if it has one.
@@ -89,8 +111,20 @@ impl PathTable {
         ensures grown { IsGrown self.old self.new }
         ensures unchanged { OnErr result (SameSteps self.old self.new) }
     {
-        let next = self.steps.len() + 1;
-        Ok(*self.steps.entry((cell, slot))?.or_insert(next))
+        self.steps.enter(cell, slot)
+    }
+
+    // The way goes on from its end to the cell at a slot.
+    fn go_on(&mut self, end: usize, slot: usize) -> Result<usize, AllocError>
+        requires tree { IsTree self.old }
+        requires end { end ≡ way_end 0 self.old.way.items }
+        ensures leads { IfOk result (λ m. cell_below self.new end slot ≡ Some m) }
+        ensures end { IfOk result (λ m. m ≡ way_end 0 self.new.way.items) }
+        ensures grown { IsGrown self.old self.new }
+    {
+        let below = self.steps.enter(end, slot)?;
+        self.way.push((slot, below))?;
+        Ok(below)
     }
 
     /// The cell of a path. Where there is none it is made, and the cells on the way to it that are missing.
@@ -101,9 +135,11 @@ impl PathTable {
         ensures leads { IfOk result (λ m. cell_at self.new path.now ≡ Some m) }
         ensures grown { IsGrown self.old self.new }
     {
-        let mut cell = 0;
-        for slot in path {
-            cell = self.enter(cell, *slot)?;
+        let (shared, end) = shared(&self.way, path);
+        self.way.truncate(shared);
+        let mut cell = end;
+        for depth in shared..path.len() {
+            cell = self.go_on(cell, path[depth])?;
         }
         Ok(cell)
     }
@@ -111,6 +147,7 @@ impl PathTable {
     // A number or none for each cell.
     fn make_room(&mut self) -> Result<(), AllocError>
         ensures steps { self.new.steps ≡ self.old.steps }
+        ensures way { self.new.way ≡ self.old.way }
         ensures numbers { (cell : Option ℕ) → number_in self.new cell ≡ number_in self.old cell }
         ensures room { OnOk result (size self.new < length self.new.numbers.items) }
     {

@@ -7,6 +7,7 @@ mod children;
 mod doubling;
 mod expression;
 mod long;
+mod nested;
 mod no_answer;
 mod row_error;
 mod rows;

@@ -2,14 +2,15 @@
 
 use crate::doubling::{capped_halves, p_file};
 use crate::long::{at_level, blank, fill, many};
+use crate::nested::{Nesting, nested};
 use crate::no_answer::NoAnswer;
 use crate::rows::{green, row};
 use crate::words::{Words, name_and_path, number_of, slots_of};
 use cst_core::{GreenNode, SyntaxElement, SyntaxNode, SyntaxToken, TreeIds};
 use std::alloc::Global;
 
-/// The tree that a text says: a name or an expression, `long BYTES TREE`, `deep LEVEL TREE`, `wide COUNT TREE` or
-/// `blank SPACES`.
+/// The tree that a text says: a name or an expression, `long BYTES TREE`, `deep LEVEL TREE`, `wide COUNT TREE`,
+/// `nested NESTING DEPTH TREE` or `blank SPACES`.
 pub fn read_tree(alloc: Global, text: &str) -> Result<GreenNode, NoAnswer> {
     let mut words = Words::of(text);
     match words.word()? {
@@ -24,6 +25,11 @@ pub fn read_tree(alloc: Global, text: &str) -> Result<GreenNode, NoAnswer> {
         "wide" => {
             let count = words.number()?;
             many(alloc, &short_tree(alloc, words.take_rest())?, count)
+        }
+        "nested" => {
+            let nesting = Nesting::from_name(words.word()?)?;
+            let depth = words.number()?;
+            nested(alloc, short_tree(alloc, words.take_rest())?, nesting, depth)
         }
         "blank" => blank(alloc, words.number()?),
         _ => short_tree(alloc, text),

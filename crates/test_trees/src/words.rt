@@ -1,7 +1,7 @@
 //! The words that rows of tests are written in.
 
 use crate::no_answer::NoAnswer;
-use std::alloc::Global;
+use std::alloc::{AllocError, Global};
 
 /// What is left of a text. Any number of spaces may stand between its words.
 #[derive(Drop)]
@@ -86,16 +86,24 @@ fn count_of(digits: &str) -> Result<usize, NoAnswer> {
     digits.parse::<usize>().ok().ok_or(NoAnswer::Arguments)
 }
 
-/// The slots of a path, as `1/0`; those of a root are `.`.
+/// The slots of a path, as `1/0`; those of a root are `.`, and `1x5000` is slot 1 so many times.
 pub fn slots_of(alloc: Global, path: &str) -> Result<Vec<usize>, NoAnswer> {
     let mut slots = Vec::new(alloc);
     if path == "." {
         return Ok(slots);
     }
-    for digits in path.split('/') {
-        slots.push(count_of(digits)?)?;
+    for part in path.split('/') {
+        let (digits, times) = part.split_once('x').unwrap_or((part, "1"));
+        push_times(&mut slots, count_of(digits)?, count_of(times)?)?;
     }
     Ok(slots)
+}
+
+fn push_times(slots: &mut Vec<usize>, slot: usize, times: usize) -> Result<(), AllocError> {
+    for _ in 0..times {
+        slots.push(slot)?;
+    }
+    Ok(())
 }
 
 /// The name of a tree and the path in it, as of `L/1/0`; that of `L` is `.`.

@@ -12,6 +12,7 @@ use crate::escape::meant_by;
 use crate::expected::Expected;
 use crate::gaps::Gaps;
 use crate::kind_names::KindNames;
+use crate::last_tokens::LastTokens;
 use crate::open_nodes::OpenNodes;
 use cst_core::{GreenElement, GreenNode, GreenToken, SyntaxKind};
 use std::alloc::Global;
@@ -34,6 +35,7 @@ pub(crate) struct Reader<'a> {
     pub(crate) names: &'a KindNames,
     pub(crate) gaps: Gaps,
     pub(crate) open: OpenNodes,
+    pub(crate) last_tokens: LastTokens,
     pub(crate) state: State,
     // Where the next character is.
     pub(crate) at: usize,
@@ -56,6 +58,7 @@ impl<'a> Reader<'a> {
             names,
             gaps,
             open: OpenNodes::new(alloc),
+            last_tokens: LastTokens::new(alloc),
             state: State::Between,
             at: 0,
             word: String::new(alloc),
@@ -208,7 +211,7 @@ impl<'a> Reader<'a> {
         ensures ok { OnOk result (Reads (reading self.old) (encode_utf8 34) (reading self.new)) }
         ensures err { IfErr result (IsStuck (reading self.old) (encode_utf8 34)) }
     {
-        let token = new_token(self.alloc, kind, &self.word)?;
+        let token = self.last_tokens.token(self.alloc, kind, &self.word)?;
         self.word.clear();
         self.state = State::Between;
         self.open.put(GreenElement::Token(token), self.at)
@@ -268,13 +271,6 @@ impl<'a> Reader<'a> {
         let at = self.at;
         ExpressionError::Malformed { at, expected }
     }
-}
-
-fn new_token(alloc: Global, kind: SyntaxKind, text: &str) -> Result<GreenToken, ExpressionError>
-    ensures ok { IfOk result (λ t. t ≡ record { kind = kind.0; text = text.now }) }
-    ensures err { IfErr result (IsRefused ⊥ ⊥ (IsTooLong text.now)) }
-{
-    GreenToken::new(alloc, kind, text).map_err(ExpressionError::of_tree)
 }
 
 fn is_name_character(c: char) -> bool

@@ -8,9 +8,12 @@
 --     current_path                   the path in the new element of what has a path in the old one, where nothing on the way is replaced
 --     listed                         what an index has in the list with this number
 --     done_in, done_at, done_below   what it has for a cell; for the node at a path; at a path counted from another one
+--     HasRoom                        the list with this number has room for one more
 --     HasOneMore, SameDone           it has one more for this node; it has the same as before
 --     IsDoneTable                    each number in the index is that of a list, and of one path
-use Rattle.std.specs.Prelude.{◌≡◌, ◌≤◌, ◌<◌, ◌+◌, ◌-◌, ◌^◌, ℕ, Bool, not, cond, nat_lt, min, sum_by, List, [], ◌∷◌, ◌++◌, length, slice_get, Option, Some}
+use Rattle.std.specs.Prelude.{◌≡◌, ◌≤◌, ◌<◌, ◌+◌, ◌-◌, ◌^◌, ℕ, Bool, not, cond, nat_lt, min, sum_by, List, [], ◌∷◌, ◌++◌, length, slice_get, slice_index_or, Option, Some, Vec, vec_len}
+use Rattle.std.specs.Global.{Global}
+use Rattle.std.specs.Vec.{vec_capacity}
 use Rattle.std.specs.Option.{option_map_or}
 use Rattle.green_tree.specs.Path.{Path, same_path}
 use Rattle.path_table.specs.inner.PathTable.{cell_at, number_in, number_by_path, IsTree}
@@ -74,6 +77,10 @@ done_at index p = done_in index (cell_at index.places p)
 
 abbrev pub done_below : DoneTable → Path → Path → List Done
 done_below index p q = done_at index (p ++ q)
+
+pub record HasRoom (index : DoneTable) (n : ℕ) : Type 0 where
+  pub within : n < length index.lists.items
+  pub room : (v : Vec Done Global) → v ≡ slice_index_or index.lists.items n v → vec_len v < vec_capacity v
 
 abbrev pub HasOneMore : DoneTable → DoneTable → Path → Done → Type 0
 HasOneMore before after at d = (p : Path) → done_at after p ≡ cond (same_path p at) (done_at before at ++ d ∷ []) (done_at before p)

@@ -1,7 +1,7 @@
-ghost use Rattle.std.specs.Prelude.{◌≡◌, ◌<◌, [], length, Option, None, Some, OnOk, OnErr};
+ghost use Rattle.std.specs.Prelude.{◌≡◌, [], None, Some, IfOk};
 ghost use Rattle.green_tree.specs.Path.{Path};
 ghost use Rattle.path_table.specs.inner.PathTable.{next_cell, cell_at, number_by_path};
-ghost use Rattle.edit_steps.specs.inner.CurrentPaths.{done_in, done_at, HasOneMore, SameDone, IsDoneTable};
+ghost use Rattle.edit_steps.specs.inner.CurrentPaths.{done_in, done_at, HasRoom, HasOneMore, SameDone, IsDoneTable};
 
 use crate::stage::done::Done;
 use path_table::PathTable;
@@ -55,56 +55,54 @@ impl DoneTable {
         }
     }
 
-    // Those at the node with this path.
-    pub(crate) fn at(&self, path: &[usize]) -> &[Done]
-        ensures { result.now ≡ done_at self.now path.now }
-    {
-        self.at_cell(self.places.descend(self.top(), path))
-    }
-
-    // One more in the list with this number.
-    fn add_in(&mut self, number: usize, done: Done) -> Result<(), AllocError>
-        requires table { IsDoneTable self.old }
-        requires within { number < length self.old.lists.items }
-        ensures ok { OnOk result
-            ((p : Path) → number_by_path self.old.places p ≡ Some number → HasOneMore self.old self.new p done) }
-        ensures err { OnErr result (SameDone self.old self.new) }
-        ensures table { IsDoneTable self.new }
-    {
-        self.lists[number].push(done)?;
-        Ok(())
-    }
-
-    // The first one at the node with this path. What can be refused comes before the table changes.
-    fn add_first(&mut self, alloc: Global, path: &[usize], done: Done) -> Result<(), AllocError>
+    // The number of a new list for the node with this path. What can be refused comes before the lists change.
+    fn add_list(&mut self, alloc: Global, path: &[usize]) -> Result<usize, AllocError>
         requires table { IsDoneTable self.old }
         requires none { number_by_path self.old.places path.now ≡ None }
-        ensures ok { OnOk result (HasOneMore self.old self.new path.now done) }
-        ensures err { OnErr result (SameDone self.old self.new) }
+        ensures number { IfOk result (λ n. number_by_path self.new.places path.now ≡ Some n) }
+        ensures same { SameDone self.old self.new }
         ensures table { IsDoneTable self.new }
     {
-        let list = vec![in alloc; done]?;
+        let number = self.lists.len();
         self.lists.reserve(1)?;
-        self.places.insert(path, self.lists.len())?;
-        self.lists.push_reserved(list);
-        Ok(())
+        self.places.insert(path, number)?;
+        self.lists.push_reserved(Vec::new(alloc));
+        Ok(number)
     }
 
-    // One more at the node with this path.
-    pub(crate) fn add(
-        &mut self,
-        alloc: Global,
-        path: &[usize],
-        done: Done,
-    ) -> Result<(), AllocError>
+    // The number of the list for the node with this path, which is made if there is none.
+    fn list_at(&mut self, alloc: Global, path: &[usize]) -> Result<usize, AllocError>
         requires { IsDoneTable self.old }
-        ensures ok { OnOk result (HasOneMore self.old self.new path.now done) }
-        ensures err { OnErr result (SameDone self.old self.new) }
+        ensures number { IfOk result (λ n. number_by_path self.new.places path.now ≡ Some n) }
+        ensures same { SameDone self.old self.new }
         ensures table { IsDoneTable self.new }
     {
         match self.places.get(path) {
-            Some(number) => self.add_in(number, done),
-            None => self.add_first(alloc, path, done),
+            Some(number) => Ok(number),
+            None => self.add_list(alloc, path),
         }
+    }
+
+    // Makes room for one more at the node with this path. The number of its list.
+    pub(crate) fn reserve(&mut self, alloc: Global, path: &[usize]) -> Result<usize, AllocError>
+        requires { IsDoneTable self.old }
+        ensures number { IfOk result (λ n. number_by_path self.new.places path.now ≡ Some n) }
+        ensures room { IfOk result (HasRoom self.new) }
+        ensures same { SameDone self.old self.new }
+        ensures table { IsDoneTable self.new }
+    {
+        let number = self.list_at(alloc, path)?;
+        self.lists[number].reserve(1)?;
+        Ok(number)
+    }
+
+    // One more in the list with this number, which has room.
+    pub(crate) fn add_reserved(&mut self, number: usize, done: Done)
+        requires table { IsDoneTable self.old }
+        requires room { HasRoom self.old number }
+        ensures more { (p : Path) → number_by_path self.old.places p ≡ Some number → HasOneMore self.old self.new p done }
+        ensures table { IsDoneTable self.new }
+    {
+        self.lists[number].push_reserved(done);
     }
 }

@@ -4,6 +4,7 @@
 --     rest, rest_built              what stands from a slot on, by what concerns each child; how many nodes are built for it
 --     PutsTurn, FindsTurn           what is due at a child is put; a walk finds its marks
 --     to_come, to_build, to_do      of an open node: what is still to be put; how many nodes are built for it; how many elements are left
+--     next_aims, next_sought        the aims that a child sees to which it has come, and what is sought there
 --     whole                         what it becomes
 --     past                          what comes after the child that is being made
 --     kinds_to_come, kinds_past     what is still to be put, and what comes after that child, as trees of kinds alone
@@ -33,7 +34,7 @@ use Rattle.one_pass.specs.declared.place.Place.TheVariants.{Gap}
 use Rattle.one_pass.specs.declared.pushes.Child.{Child}
 use Rattle.one_pass.specs.declared.walk.Walk.{Walk}
 use Rattle.one_pass.specs.inner.Marked.{MarkTree, Marking, marked, marked_from, mark_below, marks_of, sought_in, sought_for, wanted}
-use Rattle.one_pass.specs.inner.Pass.{AreMarkedIn, given_in, changes_at, slot_rewritten, slot_built, Puts, FindsNext}
+use Rattle.one_pass.specs.inner.Pass.{AreMarkedIn, given_in, aims_inside, changes_at, slot_rewritten, slot_built, Puts, FindsNext}
 
 abbrev pub opens : List Aimed → ℕ → GreenElement → Bool
 opens aims i (Node b) = not (is_replaced (aims_of aims) (i ∷ [])) && alter_below i (map formed aims)
@@ -87,6 +88,12 @@ module _ (c : NodeChildren) where
   kinds_past table i = past (λ ms. kind_only) (given_in table) i
 
 -- ---- open nodes
+abbrev pub next_aims : OpenNode → List NumberedAim
+next_aims f = aims_inside (get_or f.children.groups f.slot []) f.slot
+
+abbrev pub next_sought : OpenNode → List Marking
+next_sought f = sought_for f.children.lists.items f.slot
+
 abbrev pub whole : GivenTable → OpenNode → SyntaxTree
 whole table f = node f.kind.0 (element_trees f.out.items ++ kinds_to_come f.children table f.slot)
 

@@ -7,17 +7,17 @@
 --     IsPut                         one path has this number now, and the others what they had
 --     size                          how many cells there are below the top
 --     HasPaths                      each cell can be told its path, which is that of the cell above it with one slot more
---     IsTree                        such a table, in which no other cells are named than there are
+--     IsTree                        such a table, in which no other cells are named than there are, and the way leads through its cells
 --     IsGrown                       with more cells, which have no number, and are counted after the older ones
-use Rattle.std.specs.Prelude.{◌≡◌, ℕ, ◌≤◌, ◌&&◌, cond, nat_eq, [], ◌∷◌, ◌++◌, slice_get, option_and_then, Option, Some}
+use Rattle.std.specs.Prelude.{◌≡◌, ℕ, ◌≤◌, cond, [], ◌∷◌, ◌++◌, length, slice_get, option_and_then, Option, Some}
 use Rattle.std.specs.List.{fold}
 use Rattle.std.specs.Option.{option_flatten}
-use Rattle.std.specs.HashMap.{get_by, hash_map_len}
 use Rattle.green_tree.specs.Path.{Path, same_path}
+use Rattle.path_table.specs.inner.Steps.{step, IsWay}
 use Rattle.path_table.specs.declared.table.PathTable.{PathTable}
 
 abbrev pub cell_below : PathTable → ℕ → ℕ → Option ℕ
-cell_below t n i = get_by (λ k. nat_eq n k.0 && nat_eq i k.1) t.steps
+cell_below t n i = step t.steps n i
 
 abbrev pub next_cell : PathTable → Option ℕ → ℕ → Option ℕ
 next_cell t cell i = option_and_then (λ n. cell_below t n i) cell
@@ -47,7 +47,7 @@ abbrev pub IsPut : PathTable → PathTable → Path → ℕ → Type 0
 IsPut before after p n = (q : Path) → number_by_path after q ≡ cond (same_path q p) (Some n) (number_by_path before q)
 
 abbrev pub size : PathTable → ℕ
-size t = hash_map_len t.steps
+size t = length t.steps
 
 abbrev pub HasPaths : PathTable → Type 0
 HasPaths t = (path_of : ℕ → Path) × (path_of 0 ≡ []) × ((n i m : ℕ) → cell_below t n i ≡ Some m → path_of m ≡ path_of n ++ i ∷ [])
@@ -56,6 +56,7 @@ pub record IsTree (t : PathTable) : Type 0 where
   pub steps : (n i m : ℕ) → cell_below t n i ≡ Some m → (n ≤ size t) × (m ≤ size t)
   pub numbers : (n x : ℕ) → number_in t (Some n) ≡ Some x → n ≤ size t
   pub paths : HasPaths t
+  pub way : IsWay t.steps 0 t.way.items
 
 pub record IsGrown (before after : PathTable) : Type 0 where
   pub steps : (n i m : ℕ) → cell_below before n i ≡ Some m → cell_below after n i ≡ Some m

@@ -5,4 +5,4 @@ use Rattle.cst_core.proofs.location.Location.index.Goals as goal
 
 pub returns-in-Some : goal.returns-in-Some
 returns-in-Some c =
-    rw (← c.self.view_is, ← c.deref.ensures.value) (sym (ap last_slot c.in-Some.ensures.cases.0 ∙ last_slot-push c.in-Some.field-0-1.now c.in-Some.slot.now))
+    rw (← c.self.view_is, ← c.as_slice.ensures) (sym (ap last_slot c.in-Some.ensures.cases.0 ∙ last_slot-push c.in-Some.field-0-1.now c.in-Some.slot.now))

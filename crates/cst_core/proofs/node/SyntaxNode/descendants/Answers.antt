@@ -11,14 +11,14 @@ pub walk-preserved : goal.walk-preserved
 walk-preserved c =
     let there : at c.in-Some.node.root c.in-Some.node.path ≡ Some (branch_tree c.node.inside.green) = rw (← c.node.view_is) c.node.invariant.there in
     let parts = descendants-child_nodes c.in-Some.node c.node.inside.green.kind (forest c.node.inside.green.children) there in
-    let next : flat_map descendants_of (reverse c.walk.waiting.items) ≡ c.in-Some.node ∷ flat_map descendants_of (reverse c.append.new.self.items) =
-    rw (c.in-Some.ensures.items, c.in_ok-append.ensures.items, c.reverse.ensures.items, c.in_ok-children.ensures) (next_listed descendants_of c.in-Some.node (child_nodes c.in-Some.node) c.in-Some.node c.pop.new.self.items parts) in
+    let next : flat_map descendants_of (reverse c.walk.waiting.items) ≡ c.in-Some.node ∷ flat_map descendants_of (reverse c.push_nodes.new.list.items) =
+    rw (c.in-Some.ensures.items, c.in_ok-push_nodes.ensures, c.lent.ensures) (next_listed descendants_of c.in-Some.node (child_nodes c.in-Some.node) c.in-Some.node c.pop.new.self.items parts) in
     rw (c.in_ok-push-2.ensures.items, append_assoc, ← next) c.walk.invariant
 
 pub walk-smaller : goal.walk-smaller
 walk-smaller c =
     let there : at c.in-Some.node.root c.in-Some.node.path ≡ Some (branch_tree c.node.inside.green) = rw (← c.node.view_is) c.node.invariant.there in
     let parts = descendants-child_nodes c.in-Some.node c.node.inside.green.kind (forest c.node.inside.green.children) there in
-    let next : flat_map descendants_of (reverse c.walk.waiting.items) ≡ c.in-Some.node ∷ flat_map descendants_of (reverse c.append.new.self.items) =
-    rw (c.in-Some.ensures.items, c.in_ok-append.ensures.items, c.reverse.ensures.items, c.in_ok-children.ensures) (next_listed descendants_of c.in-Some.node (child_nodes c.in-Some.node) c.in-Some.node c.pop.new.self.items parts) in
+    let next : flat_map descendants_of (reverse c.walk.waiting.items) ≡ c.in-Some.node ∷ flat_map descendants_of (reverse c.push_nodes.new.list.items) =
+    rw (c.in-Some.ensures.items, c.in_ok-push_nodes.ensures, c.lent.ensures) (next_listed descendants_of c.in-Some.node (child_nodes c.in-Some.node) c.in-Some.node c.pop.new.self.items parts) in
     omega (arith, ap length next)

@@ -8,14 +8,14 @@ use Rattle.cst_core.specs.declared.element.SyntaxElement.TheVariants.{Node, Toke
 use Rattle.cst_core.proofs.Elements.{listed, elements-children}
 use Rattle.cst_core.proofs.Walks.{next_listed}
 use Rattle.cst_core.proofs.node.SyntaxNode.descendants_with_tokens.Goals as goal
-use Rattle.cst_core.proofs.node.SyntaxNode.descendants_with_tokens.Goals.{in-Node+in_ok-children+in_ok-append, in_default-element}
+use Rattle.cst_core.proofs.node.SyntaxNode.descendants_with_tokens.Goals.{in-Node+in_ok-push_children, in_default-element}
 
 next : (c : goal.In_ok-push-2) → flat_map listed (reverse c.walk.waiting.items) ≡ c.in-Some.element ∷ flat_map listed (reverse c.match-element.waiting.items)
 next c = elim c.match-element.branch [
-  | in-Node+in_ok-children+in_ok-append w ↦
+  | in-Node+in_ok-push_children w ↦
       let there : at w.in-Node.node.root w.in-Node.node.path ≡ Some (branch_tree w.node.inside.green) = rw (← w.node.view_is) w.node.invariant.there in
       let parts = elements-children w.in-Node.node w.node.inside.green.kind (forest w.node.inside.green.children) there in
-      rw (c.in-Some.ensures.items, w.waiting-is, w.in_ok-append.ensures.items, w.reverse.ensures.items, w.in_ok-children.ensures, w.in-Node.is) (next_listed listed (Node w.in-Node.node) (child_elements w.in-Node.node) (Node w.in-Node.node) c.pop.new.self.items parts)
+      rw (c.in-Some.ensures.items, w.waiting-is, w.in_ok-push_children.ensures, w.lent.ensures, w.in-Node.is) (next_listed listed (Node w.in-Node.node) (child_elements w.in-Node.node) (Node w.in-Node.node) c.pop.new.self.items parts)
   | in_default-element w ↦
       rw (c.in-Some.ensures.items, w.waiting-is, w.in_default-element.is) (rw (append-nil c.pop.new.self.items) at (next_listed listed (Token w.in_default-element.field-0) [] (Token w.in_default-element.field-0) c.pop.new.self.items refl))
 ]

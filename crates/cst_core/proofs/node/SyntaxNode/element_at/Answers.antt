@@ -10,15 +10,11 @@ returns-in_default-clause-ok c =
 
 pub moved_to-requires : goal.moved_to-requires
 moved_to-requires c =
-    rw (c.in_ok-extend_from_slice.ensures.items, c.in_ok-slots.ensures.items, c.slots.ensures, ← c.self.view_is)
+    rw (c.in_ok-slots.ensures, c.slots.ensures, ← c.self.view_is)
     (at_below c.self.inside.location (branch_tree c.self.inside.green) c.args.path.now c.self.invariant.there ∙ sym c.in-Some.ensures)
 
 pub returns-in_err-slots-clause-none : goal.returns-in_err-slots-clause-none
 returns-in_err-slots-clause-none c nothing =
-    absurd (below_some c.args.self.now (branch_tree c.self.inside.green) (ref_tree c.in-Some.green) c.args.path.now (rw (← c.self.view_is) c.self.invariant.there) (sym c.in-Some.ensures) nothing)
-
-pub returns-in_err-extend_from_slice-clause-none : goal.returns-in_err-extend_from_slice-clause-none
-returns-in_err-extend_from_slice-clause-none c nothing =
     absurd (below_some c.args.self.now (branch_tree c.self.inside.green) (ref_tree c.in-Some.green) c.args.path.now (rw (← c.self.view_is) c.self.invariant.there) (sym c.in-Some.ensures) nothing)
 
 pub returns-in_err-moved_to-clause-none : goal.returns-in_err-moved_to-clause-none

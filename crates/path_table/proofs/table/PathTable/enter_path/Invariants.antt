@@ -1,10 +1,12 @@
 use Rattle.std.proofs.Common.{◌≡◌, take}
 use Rattle.std.specs.Prelude.{Some}
+use Rattle.path_table.specs.inner.Steps.{way_end}
 use Rattle.path_table.specs.inner.PathTable.{cell_at, IsGrown}
 use Rattle.path_table.proofs.table.PathTable.enter_path.Given as goal
 
-abbrev pub invariant-loop-slot : goal.invariant-loop-slot
-invariant-loop-slot l = record {
-  leads : cell_at l.self (take l.slot-index l.path) ≡ Some l.cell;
-  grown : IsGrown l.initial.self l.self;
+abbrev pub invariant-loop-depth : goal.invariant-loop-depth
+invariant-loop-depth l = record {
+  leads : cell_at l.self (take l.depth l.path) ≡ Some l.cell;
+  end : l.cell ≡ way_end 0 l.self.way.items;
+  grown : IsGrown l.fn.self l.self;
 }

@@ -1,6 +1,0 @@
-use Rattle.std.proofs.Common.{◌≡◌, map, take}
-use Rattle.edit_change.specs.inner.Fate.{fate}
-use Rattle.edit_change.proofs.fate.fates.Given as goal
-
-abbrev pub invariant-loop-change : goal.invariant-loop-change
-invariant-loop-change l = l.fates.items ≡ map (fate l.changes) (take l.change-index l.changes)
