@@ -92,6 +92,11 @@ module _ (root : Element) where
       let meets = three_lines (not (is_native root first) || not (is_native root last)) (not (is_range first last)) (is_root first) Foreign BadRange DeletesRoot taken in
       (both_native first last meets.0).0
 
+  pub deleted_range : (first last : SyntaxElement) → refusal root (DeletingAll first last) ≡ None → same_element (element_of first) (element_of last) ≡ false → Fits root (ReplaceAll first last [])
+  deleted_range first last taken two =
+      let meets = three_lines (not (is_native root first) || not (is_native root last)) (not (is_range first last)) (is_root first) Foreign BadRange DeletesRoot taken in
+      range_fits first last [] (both_native first last meets.0) (not-false _ meets.1) two
+
   pub recorded_fits : (call : RecordCall) (cs : List Change) → refusal root call ≡ None → All (Fits root) cs → All (Fits root) (recorded call cs)
   recorded_fits (Inserting at e) cs accepted all =
       All-push (Fits root) cs (Insert at e) all (not-false (is_native_position root at) (one_line (not (is_native_position root at)) Foreign accepted))

@@ -13,7 +13,7 @@ use test_trees::{NoAnswer, Words, number_of, push_children, word};
 const COMPARED: u64 = 100_000;
 
 // More elements than a tree of that length has in any row.
-const ELEMENTS: u32 = 1_000_000;
+const ELEMENTS: u32 = 10_000_000;
 
 /// What the step of this name answers, if it is one of these.
 pub fn answer(
