@@ -97,6 +97,16 @@ module _ (root : Element) where
       let meets = three_lines (not (is_native root first) || not (is_native root last)) (not (is_range first last)) (is_root first) Foreign BadRange DeletesRoot taken in
       range_fits first last [] (both_native first last meets.0) (not-false _ meets.1) two
 
+  pub replaced_element : (first last : SyntaxElement) (es : List SyntaxElement) → refusal root (ReplacingAll first last es) ≡ None → Fits root (ReplaceWithMany first es)
+  replaced_element first last es taken =
+      let meets = three_lines (not (is_native root first) || not (is_native root last)) (not (is_range first last)) (is_root first && not (is_one_node es)) Foreign BadRange RootReplacement taken in
+      and_from _ _ (both_native first last meets.0).0 (root_by_node (is_root first) (is_one_node es) meets.2)
+
+  pub replaced_range : (first last : SyntaxElement) (es : List SyntaxElement) → refusal root (ReplacingAll first last es) ≡ None → same_element (element_of first) (element_of last) ≡ false → Fits root (ReplaceAll first last es)
+  replaced_range first last es taken two =
+      let meets = three_lines (not (is_native root first) || not (is_native root last)) (not (is_range first last)) (is_root first && not (is_one_node es)) Foreign BadRange RootReplacement taken in
+      range_fits first last es (both_native first last meets.0) (not-false _ meets.1) two
+
   pub recorded_fits : (call : RecordCall) (cs : List Change) → refusal root call ≡ None → All (Fits root) cs → All (Fits root) (recorded call cs)
   recorded_fits (Inserting at e) cs accepted all =
       All-push (Fits root) cs (Insert at e) all (not-false (is_native_position root at) (one_line (not (is_native_position root at)) Foreign accepted))
