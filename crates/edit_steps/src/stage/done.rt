@@ -1,5 +1,5 @@
-ghost use Rattle.std.specs.Prelude.{◌≡◌};
-ghost use Rattle.edit_steps.specs.inner.CurrentPaths.{index_of, count_of, is_before, removed_before, added_before};
+ghost use Rattle.std.specs.Prelude.{◌≡◌, IfSome};
+ghost use Rattle.edit_steps.specs.inner.Starts.{index_of, count_of, last_index, is_before, removed_before, added_before};
 
 /// Where a change alters the children of a node.
 #[derive(Clone, Copy)]
@@ -28,6 +28,16 @@ impl Among {
         match self {
             Among::Gap(_) => 0,
             Among::Slots { count, .. } => count,
+        }
+    }
+
+    // The greatest slot that it reaches, or the number of its gap. `None` where that passes the greatest number.
+    pub(crate) fn last(self) -> Option<usize>
+        ensures { IfSome result (λ last. last ≡ last_index self) }
+    {
+        match self {
+            Among::Gap(index) => Some(index),
+            Among::Slots { first, count } => first.checked_add(count.saturating_sub(1)),
         }
     }
 
