@@ -1,13 +1,13 @@
 -- Where what stands among the old children of a node stands among the new ones, by the changes that are done there.
 --     index_of, count_of             the slot before which a change begins, among the children of a node; how many of them it replaces
---     last_index                     the greatest slot that it reaches, or the number of its gap
---     is_before                      a change begins before another one
+--     last_of                        the last slot that it reaches, or its gap
+--     is_before, earlier, later      a change begins before another one; the one of two that begins first; the other one
 --     removed_before, removed        how many old children before a slot a change replaced; how many these changes did
 --     added_before, added            how many elements that a change gave stand before what aims there; how many that these gave
 --     start                          where in the new child list that begins
 --     StartFits                      no step towards it leaves the numbers of code
---     AreTotals                      how far these changes reach at most, and how many children they replaced and gave in all
-use Rattle.std.specs.Prelude.{◌≡◌, ◌≤◌, ◌<◌, ◌+◌, ◌-◌, ◌^◌, ℕ, Bool, not, cond, nat_lt, min, sum_by, List, All}
+--     AreTotals                      where the first of these begins at least, and how far they reach at most; how many children they replaced; how many they gave
+use Rattle.std.specs.Prelude.{◌≡◌, ◌≤◌, ◌<◌, ◌+◌, ◌-◌, ◌^◌, ℕ, Bool, false, not, cond, nat_lt, min, sum_by, List, All}
 use Rattle.edit_steps.specs.declared.stage.done.Among.{Among}
 use Rattle.edit_steps.specs.declared.stage.done.Among.TheVariants.{Gap, Slots}
 use Rattle.edit_steps.specs.declared.stage.done.Done.{Done}
@@ -22,15 +22,21 @@ abbrev pub count_of : Among → ℕ
 count_of (Gap i) = 0
 count_of (Slots i n) = n
 
-abbrev pub last_index : Among → ℕ
-last_index (Gap i) = i
-last_index (Slots i n) = i + (n - 1)
+abbrev pub last_of : Among → Among
+last_of (Gap i) = Gap i
+last_of (Slots i n) = Slots (i + (n - 1)) 1
 
 -- a gap is before the slot of its number, and after the slots of lesser ones
 abbrev pub is_before : Among → Among → Bool
 is_before (Gap i) (Gap j) = nat_lt i j
 is_before (Gap i) (Slots j n) = not (nat_lt j i)
 is_before (Slots i m) at = nat_lt i (index_of at)
+
+abbrev pub earlier : Among → Among → Among
+earlier a b = cond (is_before b a) b a
+
+abbrev pub later : Among → Among → Among
+later a b = cond (is_before a b) b a
 
 abbrev removed_by : ℕ → Among → ℕ
 removed_by i (Gap j) = 0
@@ -57,6 +63,7 @@ pub record StartFits (ds : List Done) (at : Among) : Type 0 where
   pub fits : start ds at < 2 ^ 64
 
 pub record AreTotals (t : Totals) (ds : List Done) : Type 0 where
-  pub last : All (λ d. last_index d.at ≤ t.last) ds
+  pub first : All (λ d. is_before d.at t.first ≡ false) ds
+  pub last : All (λ d. is_before t.last (last_of d.at) ≡ false) ds
   pub removed : t.removed ≡ sum_by (λ d. count_of d.at) ds
   pub added : t.added ≡ sum_by (λ d. d.width) ds

@@ -10,8 +10,9 @@ use std::marker::Model;
 // What is known of some changes as a whole.
 #[derive(Clone, Copy)]
 pub(crate) struct Totals {
-    // The greatest slot or gap that any of them reaches.
-    last: usize,
+    // None of them begins before this one, and none reaches past that one.
+    first: Among,
+    last: Among,
     // How many old children they replaced.
     removed: usize,
     // How many elements they gave.
@@ -19,6 +20,21 @@ pub(crate) struct Totals {
 }
 
 impl Totals {
+    // Those of no changes: whatever begins first or reaches furthest takes the place of these two.
+    fn none() -> Totals
+        ensures { AreTotals result [] }
+    {
+        Totals {
+            first: Among::Slots {
+                first: usize::MAX,
+                count: 1,
+            },
+            last: Among::Gap(0),
+            removed: 0,
+            added: 0,
+        }
+    }
+
     // With one change more. `None` where a number would pass the greatest one.
     fn with(self, done: Done) -> Option<Totals>
         ensures { IfSome result (λ t. (ds : List Done) → AreTotals self ds → AreTotals t (ds ++ done ∷ [])) }
@@ -27,18 +43,20 @@ impl Totals {
         let removed = self.removed.checked_add(done.at.count())?;
         let added = self.added.checked_add(done.width)?;
         Some(Totals {
-            last: self.last.max(last),
+            first: self.first.earlier(done.at),
+            last: self.last.later(last),
             removed,
             added,
         })
     }
 }
 
-/// The changes that are carried out at one node, and their totals, so that what is behind all of them is found without a look at each.
+/// The changes that are carried out at one node, and their totals. So where steps go from the first child to the last, or back, each finds
+/// its place without a look at all that are done.
 #[derive(Drop)]
 pub(crate) struct DoneList {
     changes: Vec<Done>,
-    // `None` where one of them would pass the greatest number. Then each change is looked at.
+    // `None` where a number in them would pass the greatest one.
     totals: Option<Totals>,
 }
 
@@ -70,14 +88,9 @@ impl DoneList {
     pub(crate) fn new(alloc: Global) -> DoneList
         ensures { result.items ≡ [] }
     {
-        let none = Totals {
-            last: 0,
-            removed: 0,
-            added: 0,
-        };
         DoneList {
             changes: Vec::new(alloc),
-            totals: Some(none),
+            totals: Some(Totals::none()),
         }
     }
 
@@ -98,13 +111,15 @@ impl DoneList {
         self.changes.push_reserved(done);
     }
 
-    // Where in the new child list of the node a gap or slots of the old one begin, after these changes.
+    // Where in the new child list of the node a gap or slots of the old one begin. Only among these changes, or without totals, is each
+    // looked at.
     pub(crate) fn start(&self, at: Among) -> usize
         requires { StartFits self.now.items at }
         ensures { result ≡ start self.now.items at }
     {
         match self.totals {
-            Some(totals) if totals.last < at.index() => at.index() - totals.removed + totals.added,
+            Some(totals) if !totals.first.is_before(at) => at.index(),
+            Some(totals) if totals.last.is_before(at) => at.index() - totals.removed + totals.added,
             _ => start_by_each(&self.changes, at),
         }
     }
