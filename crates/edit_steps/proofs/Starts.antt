@@ -1,7 +1,9 @@
 -- The totals of the changes done at a node, and where what is before or behind all of these begins.
---     rank, less-rank, same-rank     where a change begins among the gaps and slots, which says whether one is before another
---     none-done                      the totals of no changes
---     one-more                       of one change more
+--     rank                           a number for each gap and slot, in document order
+--     before, not_before             one change is before another exactly if its rank is less
+--     less, not_less                 and the other way round
+--     earlier_le, le_later           the first and the last of two by rank
+--     none-done, one-more            the totals of no changes; of one change more
 --     start_ahead                    nothing done is before what begins before all of these
 --     removed_behind, start_behind   each counts in full where all are before
 use Rattle.std.specs.Prelude.{◌≡◌, ◌<◌, ◌≤◌, ◌+◌, ◌-◌, ℕ, suc, true, false, not, cond, min, sum_by, List, [], ◌∷◌, ◌++◌, slice_index_or, All, refl}
