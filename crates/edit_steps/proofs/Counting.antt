@@ -18,7 +18,7 @@ use Rattle.edit_change.specs.Rewriting.{NumberedAim, replacements_at, is_replace
 use Rattle.edit_change.specs.inner.KindOnly.{kind_only}
 use Rattle.edit_steps.specs.declared.stage.done.Among.TheVariants.{Gap, Slots}
 use Rattle.edit_steps.specs.declared.stage.done.Done.{Done}
-use Rattle.edit_steps.specs.inner.CurrentPaths.{removed, added, removed_before, added_before, start}
+use Rattle.edit_steps.specs.inner.Starts.{removed, added, removed_before, added_before, start}
 use Rattle.edit_steps.specs.inner.Counts.{kept_slots, put_before, Counts, in_slot, IsCounted}
 use Rattle.edit_change.proofs.Edits.{Edits, below_path, taken, edits_of}
 use Rattle.edit_steps.proofs.CurrentPaths.{width, widths, to_gap, to_slot}

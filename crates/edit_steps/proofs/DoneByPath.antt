@@ -6,6 +6,7 @@
 --     one-more                       in a list that there is
 --     numbered, new-list, new-table  a new list at a path with none: its number; it has nothing; the index with it
 --     same-list, got-set             a list that was exchanged for one with the same items; that list
+--     found-list                     the list for a cell
 --     child-by-last                  a child by its path without the last slot, as code takes it apart
 --     count-token                    below a token there is no node
 use Rattle.std.specs.Prelude.{◌≡◌, ◌≢◌, ℕ, zero, suc, ◌+◌, ◌-◌, ◌≤◌, ◌<◌, Bool, true, false, cond, List, [], ◌∷◌, ◌++◌, take, length, slice_get, slice_set, Option, Some, None, option_and_then, Vec, refl}
@@ -20,11 +21,11 @@ use mathlib.Core.Logic.{inl, inr}
 use Rattle.green_tree.specs.Path.{Path, same_path, parent_path, last_slot}
 use Rattle.green_tree.specs.Tree.{Token, SyntaxTree}
 use Rattle.path_table.specs.declared.table.PathTable.{PathTable}
-use Rattle.path_table.specs.inner.PathTable.{number_by_path, IsPut, IsTree}
+use Rattle.path_table.specs.inner.PathTable.{number_in, number_by_path, IsPut, IsTree}
 use Rattle.edit_steps.specs.declared.stage.done.Done.{Done}
 use Rattle.edit_steps.specs.declared.stage.done_table.DoneTable.{DoneTable}
 use Rattle.edit_steps.specs.inner.AimTargets.{child_count, child_in, child_at}
-use Rattle.edit_steps.specs.inner.CurrentPaths.{listed, done_at, HasOneMore, SameDone, IsDoneTable}
+use Rattle.edit_steps.specs.inner.CurrentPaths.{listed, done_in, done_at, HasOneMore, SameDone, IsDoneTable}
 use Rattle.edit_steps.proofs.AimSteps.{same_path-true, same_path_from}
 
 -- ---- the index
@@ -154,6 +155,10 @@ set-same (u ∷ vs) (suc n) (suc k) v l same = set-same vs n k v (omega (arith, 
 
 pub list-is : (vs : List (Vec Done Global)) (n : ℕ) (v : Vec Done Global) → n < length vs → v ≡ get_or vs n v → v.items ≡ list_in vs n
 list-is vs n v l is = sym (ap (λ o. option_map_or (λ u. u.items) o []) (slice_get-get_or vs n v l ∙ ap (λ u. Some u) (sym is)))
+
+pub found-list : (index : DoneTable) (cell : Option ℕ) (vs : List (Vec Done Global)) (n : ℕ) (v : Vec Done Global) → number_in index.places cell ≡ Some n → vs ≡ index.lists.items → n < length vs → v ≡ get_or vs n v → done_in index cell ≡ v.items
+found-list index cell vs n v number lists l is =
+    ap (λ o. option_map_or (listed index) o []) number ∙ ap (λ us. list_in us n) (sym lists) ∙ sym (list-is vs n v l is)
 
 pub same-list : (old : DoneTable) (n : ℕ) (v : Vec Done Global) → n < length old.lists.items → v.items ≡ listed old n → SameDone old (record { places = old.places; lists = with_item old.lists n v })
 same-list old n v l same q = go (number_by_path old.places q)

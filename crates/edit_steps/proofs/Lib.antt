@@ -32,6 +32,7 @@ pub mod SomeReady
 mod ReplacedRoot
 mod Rows
 pub mod Splits
+mod Starts
 mod Stepping
 mod Steps
 mod Tables

@@ -16,7 +16,8 @@ use Rattle.edit_steps.specs.declared.stage.done.Among.{Among}
 use Rattle.edit_steps.specs.declared.stage.done.Among.TheVariants.{Slots}
 use Rattle.edit_steps.specs.declared.stage.done.Done.{Done}
 use Rattle.edit_steps.specs.declared.stage.done_table.DoneTable.{DoneTable}
-use Rattle.edit_steps.specs.inner.CurrentPaths.{index_of, count_of, removed, start, current_path, done_at, done_below}
+use Rattle.edit_steps.specs.inner.Starts.{index_of, count_of, removed, start}
+use Rattle.edit_steps.specs.inner.CurrentPaths.{current_path, done_at, done_below}
 use Rattle.edit_steps.specs.inner.Putting.{CanPut}
 
 module _ (k : ℕ) (ts : List SyntaxTree) (done : Path → List Done) (a : Among) where

@@ -7,7 +7,8 @@ use Rattle.edit_change.specs.declared.aimed.AimForm.TheVariants as form
 use Rattle.edit_steps.specs.StepCount.{step_builds}
 use Rattle.edit_steps.specs.declared.stage.done.Among.TheVariants.{Gap, Slots}
 use Rattle.edit_steps.specs.declared.stage.done.Done.{Done}
-use Rattle.edit_steps.specs.inner.CurrentPaths.{start, current_path}
+use Rattle.edit_steps.specs.inner.Starts.{start}
+use Rattle.edit_steps.specs.inner.CurrentPaths.{current_path}
 use Rattle.edit_steps.specs.inner.AimTargets.{live_target}
 
 -- the tree `L`, its kinds numbered in the order in which they come

@@ -21,7 +21,8 @@ use Rattle.edit_steps.specs.declared.stage.done.Among.{Among}
 use Rattle.edit_steps.specs.declared.stage.done.Among.TheVariants.{Gap, Slots}
 use Rattle.edit_steps.specs.declared.stage.done.Done.{Done}
 use Rattle.edit_steps.specs.inner.Counts.{IsCounted}
-use Rattle.edit_steps.specs.inner.CurrentPaths.{index_of, count_of, removed, start, current_path}
+use Rattle.edit_steps.specs.inner.Starts.{index_of, count_of, removed, start}
+use Rattle.edit_steps.specs.inner.CurrentPaths.{current_path}
 use Rattle.edit_steps.specs.inner.Putting.{CanPut, put}
 use Rattle.green_tree.specs.inner.Splices.{spliced, updated_at}
 use Rattle.edit_change.proofs.Edits.{Edits, below, below_path, edits_of, rewritten_by, rewritten_by_from, rewritten_is}

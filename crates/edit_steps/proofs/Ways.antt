@@ -21,7 +21,8 @@ use Rattle.edit_steps.specs.declared.stage.done_table.DoneTable.{DoneTable}
 use Rattle.green_tree.specs.inner.Splices.{spliced, updated_at, CanSplice}
 use Rattle.edit_steps.specs.declared.stage.place.Splice.{Splice}
 use Rattle.edit_steps.specs.declared.stage.place.Place.{Place}
-use Rattle.edit_steps.specs.inner.CurrentPaths.{index_of, count_of, removed, start, current_path, done_at, done_below}
+use Rattle.edit_steps.specs.inner.Starts.{index_of, count_of, removed, start}
+use Rattle.edit_steps.specs.inner.CurrentPaths.{current_path, done_at, done_below}
 use Rattle.edit_steps.specs.inner.Putting.{CanPut, put, CanPutIn, IsPlaceOf}
 use Rattle.edit_steps.proofs.Putting.{no-token, further, at-end, done_here, way_here, done_next}
 

@@ -5,6 +5,7 @@ pub mod GapTable
 pub mod Turns
 pub mod Waits
 pub mod Waiting
+pub mod Starts
 pub mod CurrentPaths
 pub mod AimTargets
 pub mod Counts

@@ -6,6 +6,7 @@ ghost use Rattle.edit_steps.specs.inner.Stage.{old_tree, present_tree, IsStage, 
 
 mod aim_target;
 mod done;
+mod done_list;
 mod done_table;
 mod place;
 

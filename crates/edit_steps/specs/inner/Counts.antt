@@ -11,7 +11,7 @@ use Rattle.edit_change.specs.Rewriting.{NumberedAim, replacements_at, is_replace
 use Rattle.edit_change.specs.inner.KindOnly.{kind_only}
 use Rattle.edit_steps.specs.declared.stage.done.Among.TheVariants.{Gap, Slots}
 use Rattle.edit_steps.specs.declared.stage.done.Done.{Done}
-use Rattle.edit_steps.specs.inner.CurrentPaths.{removed, added}
+use Rattle.edit_steps.specs.inner.Starts.{removed, added}
 
 -- of a node's slots it is told whether they are replaced, and of its gaps and slots how much they hold
 abbrev pub kept_slots : (ℕ → Bool) → ℕ → ℕ

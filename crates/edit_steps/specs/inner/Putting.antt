@@ -12,7 +12,8 @@ use Rattle.edit_steps.specs.declared.stage.done.Among.{Among}
 use Rattle.edit_steps.specs.declared.stage.done.Done.{Done}
 use Rattle.edit_steps.specs.declared.stage.place.Splice.{Splice}
 use Rattle.edit_steps.specs.declared.stage.place.Place.{Place}
-use Rattle.edit_steps.specs.inner.CurrentPaths.{index_of, count_of, removed, start, current_path, done_at}
+use Rattle.edit_steps.specs.inner.Starts.{index_of, count_of, removed, start}
+use Rattle.edit_steps.specs.inner.CurrentPaths.{current_path, done_at}
 use Rattle.green_tree.specs.inner.Splices.{spliced, updated_at, CanSplice}
 
 -- below the node at a path of the old tree, among its children

@@ -1,5 +1,5 @@
-ghost use Rattle.std.specs.Prelude.{◌≡◌};
-ghost use Rattle.edit_steps.specs.inner.CurrentPaths.{index_of, count_of, is_before, removed_before, added_before};
+ghost use Rattle.std.specs.Prelude.{◌≡◌, IfSome};
+ghost use Rattle.edit_steps.specs.inner.Starts.{index_of, count_of, last_of, is_before, earlier, later, removed_before, added_before};
 
 /// Where a change alters the children of a node.
 #[derive(Clone, Copy)]
@@ -31,8 +31,24 @@ impl Among {
         }
     }
 
+    // The last slot that it reaches, or its gap. `None` where that passes the greatest number.
+    pub(crate) fn last(self) -> Option<Among>
+        ensures { IfSome result (λ last. last ≡ last_of self) }
+    {
+        match self {
+            Among::Gap(index) => Some(Among::Gap(index)),
+            Among::Slots { first, count } => {
+                let last = first.checked_add(count.saturating_sub(1))?;
+                Some(Among::Slots {
+                    first: last,
+                    count: 1,
+                })
+            }
+        }
+    }
+
     // Whether it begins before the other. A gap is before the slot of its number, and after the slots of lesser ones.
-    fn is_before(self, other: Among) -> bool
+    pub(crate) fn is_before(self, other: Among) -> bool
         ensures { result ≡ is_before self other }
     {
         match (self, other) {
@@ -40,6 +56,20 @@ impl Among {
             (Among::Gap(gap), Among::Gap(other)) => gap < other,
             (Among::Slots { first, .. }, _) => first < other.index(),
         }
+    }
+
+    // The one of both that begins first.
+    pub(crate) fn earlier(self, other: Among) -> Among
+        ensures { result ≡ earlier self other }
+    {
+        if other.is_before(self) { other } else { self }
+    }
+
+    // The one of both that begins last.
+    pub(crate) fn later(self, other: Among) -> Among
+        ensures { result ≡ later self other }
+    {
+        if self.is_before(other) { other } else { self }
     }
 }
 

@@ -1,9 +1,11 @@
 ghost use Rattle.std.specs.Prelude.{◌≡◌, [], None, Some, IfOk};
 ghost use Rattle.green_tree.specs.Path.{Path};
 ghost use Rattle.path_table.specs.inner.PathTable.{next_cell, cell_at, number_by_path};
+ghost use Rattle.edit_steps.specs.inner.Starts.{start, StartFits};
 ghost use Rattle.edit_steps.specs.inner.CurrentPaths.{done_in, done_at, HasRoom, HasOneMore, SameDone, IsDoneTable};
 
-use crate::stage::done::Done;
+use crate::stage::done::{Among, Done};
+use crate::stage::done_list::DoneList;
 use path_table::PathTable;
 use std::alloc::{AllocError, Global};
 
@@ -14,7 +16,7 @@ use std::alloc::{AllocError, Global};
 pub(crate) struct DoneTable {
     // A path's number is the index of its list.
     places: PathTable,
-    lists: Vec<Vec<Done>>,
+    lists: Vec<DoneList>,
 }
 
 impl DoneTable {
@@ -42,16 +44,17 @@ impl DoneTable {
         self.places.below(cell, slot)
     }
 
-    // Those at the node with this cell.
-    pub(crate) fn at_cell(&self, cell: Option<usize>) -> &[Done]
-        ensures { result.now ≡ done_in self.now cell }
+    // Where in the new child list of the node with this cell a gap or slots of the old one begin.
+    pub(crate) fn start(&self, cell: Option<usize>, at: Among) -> usize
+        requires { StartFits (done_in self.now cell) at }
+        ensures { result ≡ start (done_in self.now cell) at }
     {
         let Some(number) = self.places.number(cell) else {
-            return &[];
+            return at.index();
         };
         match self.lists.get(number) {
-            Some(list) => list.as_slice(),
-            None => &[],
+            Some(list) => list.start(at),
+            None => at.index(),
         }
     }
 
@@ -66,7 +69,7 @@ impl DoneTable {
         let number = self.lists.len();
         self.lists.reserve(1)?;
         self.places.insert(path, number)?;
-        self.lists.push_reserved(Vec::new(alloc));
+        self.lists.push_reserved(DoneList::new(alloc));
         Ok(number)
     }
 
@@ -92,7 +95,7 @@ impl DoneTable {
         ensures table { IsDoneTable self.new }
     {
         let number = self.list_at(alloc, path)?;
-        self.lists[number].reserve(1)?;
+        self.lists[number].reserve()?;
         Ok(number)
     }
 

@@ -1,23 +1,11 @@
-ghost use Rattle.std.specs.Prelude.{◌≡◌, IfOk};
-ghost use Rattle.edit_steps.specs.inner.CurrentPaths.{start, StartFits};
+ghost use Rattle.std.specs.Prelude.{IfOk};
 ghost use Rattle.edit_steps.specs.inner.Putting.{CanPutIn, IsPlaceOf};
 
 use crate::stage::aim_target::AimTarget;
-use crate::stage::done::{Among, Done};
+use crate::stage::done::Among;
 use crate::stage::done_table::DoneTable;
 use green_tree::GreenElement;
 use std::alloc::{AllocError, Global};
-
-// Where in the new child list of a node a gap or slots of the old one begin, after these changes.
-fn start(done: &[Done], at: Among) -> usize
-    requires { StartFits done.now at }
-    ensures { result ≡ start done.now at }
-{
-    let slot = at.index();
-    let removed: usize = done.iter().map(|d| d.removed_before(slot)).sum();
-    let added: usize = done.iter().map(|d| d.added_before(at)).sum();
-    slot - removed + added
-}
 
 /// What one step aims at, and the changes that are done.
 #[derive(Clone, Copy)]
@@ -49,22 +37,21 @@ pub(crate) fn place_of(splice: &Splice, element: &GreenElement) -> Result<Place,
             unreachable!()
         };
         let children = node.children();
-        let done_here = splice.done.at_cell(cell);
-        cell = splice.done.below(cell, *slot);
         let here = Among::Slots {
             first: *slot,
             count: 1,
         };
-        let slot = start(done_here, here);
-        path.push(slot)?;
-        current = &children[slot];
+        let new_slot = splice.done.start(cell, here);
+        cell = splice.done.below(cell, *slot);
+        path.push(new_slot)?;
+        current = &children[new_slot];
     }
     let GreenElement::Node(end) = current else {
         unreachable!()
     };
     // For the proof: no slot of the node passes the numbers of code.
     let _children = end.children();
-    let first = start(splice.done.at_cell(cell), splice.target.at);
+    let first = splice.done.start(cell, splice.target.at);
     Ok(Place {
         path,
         first,

@@ -12,7 +12,7 @@ returns-clause-same c =
     let kept : c.reserve.new.self.items ≡ old.lists.items = c.in_ok-reserve.ensures.items in
     let all : c.push_reserved.new.self.items ≡ old.lists.items ++ list ∷ [] = c.push_reserved.ensures.items ∙ ap (λ vs. vs ++ list ∷ []) kept in
     let last : c.len-number.result ≡ length old.lists.items = omega (arith, c.len-number.ensures, old.lists.ok.0) in
-    new-list old c.requires.table list c.args.path.now c.len-number.result (record { places = c.insert.new.self; lists = c.push_reserved.new.self }) c.requires.none last c.in_ok-insert.ensures.ok all c.new.ensures.items
+    new-list old c.requires.table list c.args.path.now c.len-number.result (record { places = c.insert.new.self; lists = c.push_reserved.new.self }) c.requires.none last c.in_ok-insert.ensures.ok all c.new.ensures
 
 pub returns-clause-table : goal.returns-clause-table
 returns-clause-table c =

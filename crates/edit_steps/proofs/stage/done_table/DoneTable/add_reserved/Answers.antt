@@ -11,4 +11,4 @@ returns-clause-more c = λ p at.
     let n = c.args.number in
     let d = c.args.done in
     let was = list-is old.lists.items n c.index_mut.result.now c.requires.room.within c.index_mut.ensures.value in
-    one-more old c.requires.table c.push_reserved.new.self p n d at (c.push_reserved.ensures.items ∙ ap (λ ds. ds ++ d ∷ []) was)
+    one-more old c.requires.table c.push_reserved.new.self p n d at (c.push_reserved.ensures ∙ ap (λ ds. ds ++ d ∷ []) was)
