@@ -3,13 +3,13 @@
 --     before, not_before             one change is before another exactly if its rank is less
 --     less, not_less                 and the other way round
 --     earlier_le, le_later           the first and the last of two by rank
---     none-done, one-more            the totals of no changes; of one change more
+--     one-more                       the totals of one change more
 --     start_ahead                    nothing done is before what begins before all of these
 --     removed_behind, start_behind   each counts in full where all are before
 use Rattle.std.specs.Prelude.{◌≡◌, ◌<◌, ◌≤◌, ◌+◌, ◌-◌, ℕ, suc, true, false, not, cond, min, sum_by, List, [], ◌∷◌, ◌++◌, slice_index_or, All, refl}
-use Rattle.std.proofs.Common.{ap, ap₂, sym, subst, ◌∙◌, arith}
+use Rattle.std.proofs.Common.{ap, ap₂, sym, ◌∙◌, arith}
 use Rattle.std.proofs.lemmas.Bool.{cases_Bool, cases_lt, lt-ltb, le-ltb, true≢false}
-use Rattle.std.proofs.lemmas.List.Elements.{All-nil, All-push}
+use Rattle.std.proofs.lemmas.List.Elements.{All-push}
 use Rattle.std.proofs.lemmas.List.Sums.{sum_by-cons, sum_by_push}
 use mathlib.Core.Logic.{inl, inr}
 use Rattle.edit_steps.specs.declared.stage.done.Among.{Among}
@@ -60,10 +60,6 @@ le_later a b = elim (cases_Bool (is_before a b)) [
 ]
 
 -- ---- how totals are kept
-pub none-done : (t : Totals) (ds : List Done) → t.removed ≡ 0 → t.added ≡ 0 → ds ≡ [] → AreTotals t ds
-none-done t ds no_removed no_added none =
-    subst (AreTotals t) (sym none) (record { first = All-nil (λ d. is_before d.at t.first ≡ false); last = All-nil (λ d. is_before t.last (last_of d.at) ≡ false); removed = no_removed; added = no_added })
-
 module _ (old new : Totals) (ds : List Done) (d : Done) where
   pub one-more : new.first ≡ earlier old.first d.at → new.last ≡ later old.last (last_of d.at) → new.removed ≡ old.removed + count_of d.at → new.added ≡ old.added + d.width → AreTotals old ds → AreTotals new (ds ++ d ∷ [])
   one-more first last removed added are =
