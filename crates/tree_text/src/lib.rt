@@ -7,6 +7,7 @@ mod expected;
 mod expression;
 mod gaps;
 mod kind_names;
+mod last_kinds;
 mod last_tokens;
 pub mod laws;
 mod lines;

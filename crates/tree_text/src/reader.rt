@@ -12,6 +12,7 @@ use crate::escape::meant_by;
 use crate::expected::Expected;
 use crate::gaps::Gaps;
 use crate::kind_names::KindNames;
+use crate::last_kinds::LastKinds;
 use crate::last_tokens::LastTokens;
 use crate::open_nodes::OpenNodes;
 use cst_core::{GreenElement, GreenNode, GreenToken, SyntaxKind};
@@ -35,6 +36,7 @@ pub(crate) struct Reader<'a> {
     pub(crate) names: &'a KindNames,
     pub(crate) gaps: Gaps,
     pub(crate) open: OpenNodes,
+    pub(crate) last_kinds: LastKinds,
     pub(crate) last_tokens: LastTokens,
     pub(crate) state: State,
     // Where the next character is.
@@ -58,6 +60,7 @@ impl<'a> Reader<'a> {
             names,
             gaps,
             open: OpenNodes::new(alloc),
+            last_kinds: LastKinds::new(),
             last_tokens: LastTokens::new(alloc),
             state: State::Between,
             at: 0,
@@ -198,8 +201,8 @@ impl<'a> Reader<'a> {
         }
         let at = self.word_at;
         let kind = self
-            .names
-            .kind(&self.word)
+            .last_kinds
+            .kind(self.names, &self.word)
             .ok_or(ExpressionError::UnknownKind { at })?;
         self.word.clear();
         Ok(kind)
