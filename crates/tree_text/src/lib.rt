@@ -16,6 +16,7 @@ mod open_node;
 mod open_nodes;
 mod reader;
 mod root;
+mod runs;
 mod write;
 mod write_error;
 
