@@ -15,7 +15,7 @@ use Rattle.cst_core.specs.Tree.{SyntaxTree, node}
 use Rattle.green_tree.specs.declared.kind.SyntaxKind.{SyntaxKind}
 use Rattle.tree_text.specs.Depth.{depth}
 use Rattle.tree_text.specs.Grammar.{◌⨾◌, IsExactly, begins_with_name_byte}
-use Rattle.tree_text.specs.KindNames.{name_in, is_name_byte, is_name}
+use Rattle.tree_text.specs.KindNames.{name_in, is_name_byte}
 use Rattle.tree_text.specs.inner.Completing.{IsFrom, IsAfter, IsRestOfToken, OpenTree}
 use Rattle.tree_text.specs.inner.Gap.{is_gap}
 use Rattle.tree_text.specs.inner.Reading.{Reading, IsReading, IsLeft, IsPartOfName, Reads, IsStuck}
