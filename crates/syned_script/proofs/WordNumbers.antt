@@ -10,7 +10,7 @@ use Rattle.std.proofs.lemmas.Slice.Eq.{bytes_eq-Decides}
 use Rattle.std.proofs.lemmas.Bool.{cases_Bool, ne_eqb}
 use Rattle.syned_script.specs.State.{annotation_of, with_word}
 use Rattle.syned_script.specs.WordValue.{texts_of, word_of, with_number}
-use Rattle.std.specs.BTreeMap.{BTreeMap, get_by_text}
+use Rattle.std.specs.HashMap.{HashMap, get_by_text}
 use Rattle.std.specs.Global.{Global}
 use Rattle.std.proofs.lemmas.List.{map-append}
 use Rattle.syned_script.specs.inner.Numbered.{number_from, IsNumbered, AreNumbered}
@@ -98,7 +98,7 @@ length-texts : (ws : List Word) → length (texts_of ws) ≡ length ws
 length-texts [] = refl
 length-texts (w ∷ ws) = ap suc (length-texts ws)
 
-pub more-numbered : (old new : BTreeMap (String Global) ℕ) (ws ws' : List Word) (w : Word) (word : List ℕ) → AreNumbered old ws → number_from 1 (texts_of ws) word ≡ None → string_bytes w.text ≡ word → w.annotation ≡ suc (length ws) → ws' ≡ ws ++ w ∷ [] → ((q : List ℕ) → get_by_text new q ≡ update bytes_eq (get_by_text old) word (Some w.annotation) q) → AreNumbered new ws' × (texts_of ws' ≡ texts_of ws ++ word ∷ []) × (w.annotation ≡ annotation_of (texts_of ws') word)
+pub more-numbered : {S : Type 0} (old new : HashMap (String Global) ℕ S) (ws ws' : List Word) (w : Word) (word : List ℕ) → AreNumbered old ws → number_from 1 (texts_of ws) word ≡ None → string_bytes w.text ≡ word → w.annotation ≡ suc (length ws) → ws' ≡ ws ++ w ∷ [] → ((q : List ℕ) → get_by_text new q ≡ update bytes_eq (get_by_text old) word (Some w.annotation) q) → AreNumbered new ws' × (texts_of ws' ≡ texts_of ws ++ word ∷ []) × (w.annotation ≡ annotation_of (texts_of ws') word)
 more-numbered old new ws ws' w word are none text number pushed put =
     let ts = texts_of ws in
     let count : length ts ≡ length ws = length-texts ws in

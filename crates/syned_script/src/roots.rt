@@ -12,12 +12,12 @@ use crate::stop::Stop;
 use cst_core::{SyntaxElement, SyntaxNode};
 use script_lines::{Name, Reference, WrittenPosition};
 use std::alloc::Global;
-use std::collections::BTreeMap;
+use std::collections::HashMap;
 use syntax_editor::Position;
 
 #[derive(Drop)]
 pub(crate) struct Roots {
-    roots: BTreeMap<String, SyntaxNode>,
+    roots: HashMap<String, SyntaxNode>,
 }
 
 impl Roots {
@@ -25,7 +25,7 @@ impl Roots {
         ensures { (name : List ℕ) → roots_of result name ≡ None }
     {
         Roots {
-            roots: BTreeMap::new(alloc),
+            roots: HashMap::new(alloc),
         }
     }
 

@@ -8,7 +8,7 @@ ghost use Rattle.syned_script.specs.declared.stop.Stop.TheVariants.{Memory};
 use crate::stop::Stop;
 use script_lines::Name;
 use std::alloc::Global;
-use std::collections::BTreeMap;
+use std::collections::HashMap;
 use std::marker::Model;
 use syntax_editor::{Annotations, SyntaxAnnotation};
 
@@ -22,7 +22,7 @@ pub struct Word {
 /// The words that were used, each with an annotation of its own.
 #[derive(Drop)]
 pub struct Words {
-    annotations: BTreeMap<String, SyntaxAnnotation>,
+    annotations: HashMap<String, SyntaxAnnotation>,
     in_order: Vec<Word>,
 }
 
@@ -43,7 +43,7 @@ impl Words {
         ensures { result ≡ [] }
     {
         Words {
-            annotations: BTreeMap::new(alloc),
+            annotations: HashMap::new(alloc),
             in_order: Vec::new(alloc),
         }
     }

@@ -21,3 +21,5 @@ pub mod Unnamed
 pub mod WholeTexts
 pub mod WholeTrees
 pub mod WrittenTrees
+pub mod RunLengths
+pub mod RunSteps

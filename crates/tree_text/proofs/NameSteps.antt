@@ -1,5 +1,6 @@
 -- What a character does within or behind the name of a kind.
---     node-more, token-more             one more character of the name
+--     node-run, token-run               more bytes of the name
+--     node-more, token-more             one more character of it
 --     node-named, token-named           the name ends, and a kind has it
 --     node-unknown, token-unknown       no kind has it
 --     with_node, begun, node-stuck      the node that the name opens, and an error behind it
@@ -14,7 +15,7 @@ use Rattle.cst_core.specs.Tree.{SyntaxTree, node}
 use Rattle.green_tree.specs.declared.kind.SyntaxKind.{SyntaxKind}
 use Rattle.tree_text.specs.Depth.{depth}
 use Rattle.tree_text.specs.Grammar.{◌⨾◌, IsExactly, begins_with_name_byte}
-use Rattle.tree_text.specs.KindNames.{name_in, is_name_byte, is_name}
+use Rattle.tree_text.specs.KindNames.{name_in, is_name_byte}
 use Rattle.tree_text.specs.inner.Completing.{IsFrom, IsAfter, IsRestOfToken, OpenTree}
 use Rattle.tree_text.specs.inner.Gap.{is_gap}
 use Rattle.tree_text.specs.inner.Reading.{Reading, IsReading, IsLeft, IsPartOfName, Reads, IsStuck}
@@ -51,33 +52,40 @@ module _ (r : Reading) (h : IsReading r) where
   abbrev From : List OpenTree → SyntaxTree → List ℕ → Type 0
   From = IsFrom (name_in r.given) (is_gap r.gaps)
 
-  all-named : (n : List ℕ) (c : ℕ) → list_all is_name_byte n ≡ true → is_name_byte c ≡ true → list_all is_name_byte (n ++ c ∷ []) ≡ true
-  all-named n c all name = list_all-append is_name_byte n (c ∷ []) ∙ both (list_all is_name_byte n) _ all (both (is_name_byte c) true name refl)
+  name-bytes : (c : ℕ) → is_name_byte c ≡ true → list_all is_name_byte (encode_utf8 c) ≡ true
+  name-bytes c name =
+      let bytes : encode_utf8 c ≡ c ∷ [] = encode-ascii c (small-where is_name_byte large-names c name) in
+      subst (λ b. list_all is_name_byte b ≡ true) (sym bytes) (both (is_name_byte c) true name refl)
 
-  not-empty : (n : List ℕ) (c : ℕ) → not (length (n ++ c ∷ []) == 0) ≡ true
-  not-empty [] c = refl
-  not-empty (b ∷ n) c = ap not (other (suc (length (n ++ c ∷ []))) 0 (λ is. absurd (omega arith)))
+  all-named : (n bs : List ℕ) → list_all is_name_byte n ≡ true → list_all is_name_byte bs ≡ true → list_all is_name_byte (n ++ bs) ≡ true
+  all-named n bs all names = list_all-append is_name_byte n bs ∙ both (list_all is_name_byte n) _ all names
 
-  grouped : (c : ℕ) (w : List ℕ) → (r.word ++ encode_utf8 c) ++ w ≡ r.word ++ (encode_utf8 c ++ w)
-  grouped c w = append_assoc r.word (encode_utf8 c) w
+  not-empty : (n bs : List ℕ) → not (length n == 0) ≡ true → not (length (n ++ bs) == 0) ≡ true
+  not-empty [] bs some = absurd (false≢true some)
+  not-empty (b ∷ n) bs some = ap not (other (suc (length (n ++ bs))) 0 (λ is. absurd (omega arith)))
+
+  grouped : (bs w : List ℕ) → (r.word ++ bs) ++ w ≡ r.word ++ (bs ++ w)
+  grouped bs w = append_assoc r.word bs w
 
   module _ (kind : r.state ≡ NodeKind) where
     root-none : r.root ≡ None
     root-none = no-root r h (λ is. apart-node (sym kind ∙ is))
 
-    pub node-more : (c : ℕ) → is_name_byte c ≡ true → Reads r (encode_utf8 c) (record r { word = r.word ++ encode_utf8 c })
-    node-more c name =
-        let bytes : encode_utf8 c ≡ c ∷ [] = encode-ascii c (small-where is_name_byte large-names c name) in
-        let new : Reading = record r { word = r.word ++ encode_utf8 c } in
+    pub node-run : (bs : List ℕ) → list_all is_name_byte bs ≡ true → Reads r bs (record r { word = r.word ++ bs })
+    node-run bs names =
+        let new : Reading = record r { word = r.word ++ bs } in
         record {
           sound = record {
             names = h.names;
-            word = subst (λ s. IsPartOfName s (r.word ++ encode_utf8 c)) (sym kind) (subst (λ b. list_all is_name_byte (r.word ++ b) ≡ true) (sym bytes) (all-named r.word c (word-in r NodeKind h kind) name));
+            word = subst (λ s. IsPartOfName s (r.word ++ bs)) (sym kind) (all-named r.word bs (word-in r NodeKind h kind) names);
             whole = none-whole new root-none;
           };
-          on = λ t w left. back-in-state new NodeKind t w kind (subst (λ x. From r.nodes t (40 ∷ x)) (sym (grouped c w)) (in-state r NodeKind t (encode_utf8 c ++ w) kind left));
-          back = λ t w left. back-in-state r NodeKind t (encode_utf8 c ++ w) kind (subst (λ x. From r.nodes t (40 ∷ x)) (grouped c w) (in-state new NodeKind t w kind left));
+          on = λ t w left. back-in-state new NodeKind t w kind (subst (λ x. From r.nodes t (40 ∷ x)) (sym (grouped bs w)) (in-state r NodeKind t (bs ++ w) kind left));
+          back = λ t w left. back-in-state r NodeKind t (bs ++ w) kind (subst (λ x. From r.nodes t (40 ∷ x)) (grouped bs w) (in-state new NodeKind t w kind left));
         }
+
+    pub node-more : (c : ℕ) → is_name_byte c ≡ true → Reads r (encode_utf8 c) (record r { word = r.word ++ encode_utf8 c })
+    node-more c name = node-run (encode_utf8 c) (name-bytes c name)
 
     pub node-known : (c : ℕ) → is_name_byte c ≡ false → (t : SyntaxTree) (w : List ℕ) → IsLeft r t (encode_utf8 c ++ w) → (k : ℕ) × (name_in r.given k ≡ Some r.word) × From ((k, []) ∷ r.nodes) t (encode_utf8 c ++ w)
     node-known c no_name t w left = opened (name_in r.given) (is_gap r.gaps) h.names (are-gaps r.gaps) r.nodes t r.word (encode_utf8 c ++ w) (word-in r NodeKind h kind) (ends-there c w no_name) (in-state r NodeKind t (encode_utf8 c ++ w) kind left)
@@ -121,20 +129,22 @@ module _ (r : Reading) (h : IsReading r) where
     root-none' : r.root ≡ None
     root-none' = no-root r h (λ is. apart-token (sym kind ∙ is))
 
-    pub token-more : (c : ℕ) → is_name_byte c ≡ true → Reads r (encode_utf8 c) (record r { word = r.word ++ encode_utf8 c })
-    token-more c name =
-        let bytes : encode_utf8 c ≡ c ∷ [] = encode-ascii c (small-where is_name_byte large-names c name) in
-        let new : Reading = record r { word = r.word ++ encode_utf8 c } in
-        let all = all-named r.word c (and_parts _ _ (word-in r TokenKind h kind)).1 name in
+    pub token-run : (bs : List ℕ) → list_all is_name_byte bs ≡ true → Reads r bs (record r { word = r.word ++ bs })
+    token-run bs names =
+        let new : Reading = record r { word = r.word ++ bs } in
+        let word = and_parts _ _ (word-in r TokenKind h kind) in
         record {
           sound = record {
             names = h.names;
-            word = subst (λ s. IsPartOfName s (r.word ++ encode_utf8 c)) (sym kind) (subst (λ b. is_name (r.word ++ b) ≡ true) (sym bytes) (both (not (length (r.word ++ c ∷ []) == 0)) _ (not-empty r.word c) all));
+            word = subst (λ s. IsPartOfName s (r.word ++ bs)) (sym kind) (both (not (length (r.word ++ bs) == 0)) _ (not-empty r.word bs word.0) (all-named r.word bs word.1 names));
             whole = none-whole new root-none';
           };
-          on = λ t w left. back-in-state new TokenKind t w kind (subst (From r.nodes t) (sym (grouped c w)) (in-state r TokenKind t (encode_utf8 c ++ w) kind left));
-          back = λ t w left. back-in-state r TokenKind t (encode_utf8 c ++ w) kind (subst (From r.nodes t) (grouped c w) (in-state new TokenKind t w kind left));
+          on = λ t w left. back-in-state new TokenKind t w kind (subst (From r.nodes t) (sym (grouped bs w)) (in-state r TokenKind t (bs ++ w) kind left));
+          back = λ t w left. back-in-state r TokenKind t (bs ++ w) kind (subst (From r.nodes t) (grouped bs w) (in-state new TokenKind t w kind left));
         }
+
+    pub token-more : (c : ℕ) → is_name_byte c ≡ true → Reads r (encode_utf8 c) (record r { word = r.word ++ encode_utf8 c })
+    token-more c name = token-run (encode_utf8 c) (name-bytes c name)
 
     token-known : (c : ℕ) → is_name_byte c ≡ false → (t : SyntaxTree) (w : List ℕ) → IsLeft r t (encode_utf8 c ++ w) → (k : ℕ) × (name_in r.given k ≡ Some r.word) × (IsExactly (codes "\"") ⨾ IsRestOfToken (IsAfter (name_in r.given) (is_gap r.gaps) r.nodes t) k []) (encode_utf8 c ++ w)
     token-known c no_name t w left = named (name_in r.given) (is_gap r.gaps) h.names (are-gaps r.gaps) r.nodes t r.word (encode_utf8 c ++ w) (word-in r TokenKind h kind) (ends-there c w no_name) (in-state r TokenKind t (encode_utf8 c ++ w) kind left)

@@ -1,10 +1,12 @@
 -- What a character does within a quoted text, and where a token or a node ends.
+--     text-run                                  bytes that stand for themselves
 --     text-more, begins-escape, ends-escape     a character that stands for itself, a backslash, and what follows it
 --     no-escape                                 what may not follow it
 --     ends-token, ends-node, ends-tree          the quote that ends a token; the parenthesis that closes a node, and the outermost one
 --     token-long, token-nowhere, node-long      where that is refused
 use Rattle.std.proofs.Common.{◌≡◌, ◌≢◌, ℕ, ◌≤◌, ◌<◌, Bool, true, false, not, ◌&&◌, ◌||◌, cond, List, [], ◌∷◌, ◌++◌, Option, Some, None, is_some, refl, sym, ap, ◌∙◌, subst, arith}
 use Rattle.std.specs.Prelude.{encode_utf8, ◌==◌}
+use Rattle.std.specs.List.{list_all}
 use Rattle.std.proofs.lemmas.Bool.{false≢true}
 use Rattle.cst_core.specs.Green.{Branch, branch_tree, IsTooLong}
 use Rattle.cst_core.specs.Tree.{SyntaxTree, Token, node, text}
@@ -77,15 +79,18 @@ module _ (r : Reading) (h : IsReading r) where
     root-none : r.root ≡ None
     root-none = no-root r h (λ is. apart-text k (sym state ∙ is))
 
+    pub text-run : (bs : List ℕ) → list_all (λ b. not (b == 34 || b == 92)) bs ≡ true → Reads r bs (record r { word = r.word ++ bs })
+    text-run bs plain =
+        let new : Reading = record r { word = r.word ++ bs } in
+        record {
+          sound = record { names = h.names; word = subst (λ s. IsPartOfName s (r.word ++ bs)) (sym state) tt; whole = none-whole new root-none };
+          on = λ t w left. back-in-state new (Text k) t w state (past-plain (After r.nodes t) k.0 r.word bs w plain (in-state r (Text k) t (bs ++ w) state left));
+          back = λ t w left. back-in-state r (Text k) t (bs ++ w) state (before-plain (After r.nodes t) k.0 r.word bs w plain (in-state new (Text k) t w state left));
+        }
+
     pub text-more : (c : ℕ) → c ≢ 34 → c ≢ 92 → Reads r (encode_utf8 c) (record r { word = r.word ++ encode_utf8 c })
     text-more c no_quote no_escape =
-        let plain = plain-bytes c (neither (c == 34) (c == 92) (other c 34 no_quote) (other c 92 no_escape)) in
-        let new : Reading = record r { word = r.word ++ encode_utf8 c } in
-        record {
-          sound = record { names = h.names; word = subst (λ s. IsPartOfName s (r.word ++ encode_utf8 c)) (sym state) tt; whole = none-whole new root-none };
-          on = λ t w left. back-in-state new (Text k) t w state (past-plain (After r.nodes t) k.0 r.word (encode_utf8 c) w plain (in-state r (Text k) t (encode_utf8 c ++ w) state left));
-          back = λ t w left. back-in-state r (Text k) t (encode_utf8 c ++ w) state (before-plain (After r.nodes t) k.0 r.word (encode_utf8 c) w plain (in-state new (Text k) t w state left));
-        }
+        text-run (encode_utf8 c) (plain-bytes c (neither (c == 34) (c == 92) (other c 34 no_quote) (other c 92 no_escape)))
 
     pub begins-escape : (c : ℕ) → c ≡ 92 → Reads r (encode_utf8 c) (record r { state = Escape k })
     begins-escape c is =

@@ -1,18 +1,19 @@
 -- A text that is read from its start.
 --     HasRead               what was read, and what is left of the text: the same trees are left as the text is an expression of
 --     nothing-read          nothing is
---     one-more-read         one more character is
+--     one-more-read         some more bytes are
+--     more-read             some are, up to what is left
 --     stuck-there           where a character can't be read
+--     refused-run           where memory is refused
 --     read-end              the text is at its end
-use Rattle.std.proofs.Common.{◌≡◌, ℕ, List, [], ◌++◌, length, sym, subst}
+use Rattle.std.proofs.Common.{◌≡◌, ℕ, List, [], ◌++◌, sym, subst}
 use Rattle.std.specs.Prelude.{encode_utf8}
-use Rattle.std.proofs.lemmas.List.{nil_from_length}
 use Rattle.cst_core.specs.Tree.{SyntaxTree}
 use Rattle.tree_text.specs.Grammar.{IsExpression}
 use Rattle.tree_text.specs.KindNames.{KindName, name_in}
 use Rattle.tree_text.specs.Refusals.{IsRefused, ReadRefuses}
 use Rattle.tree_text.specs.inner.Gap.{is_gap}
-use Rattle.tree_text.specs.inner.Reading.{Reading, IsReading, IsLeft, IsStuck, Reads, first_reading}
+use Rattle.tree_text.specs.inner.Reading.{Reading, IsReading, IsLeft, IsStuck, Reads, ReadsUpTo, first_reading}
 use Rattle.tree_text.specs.declared.error.ExpressionError.{ExpressionError}
 use Rattle.tree_text.specs.declared.gaps.Gaps.{Gaps}
 use Rattle.tree_text.proofs.Refusing.{refused-weaker}
@@ -37,8 +38,8 @@ module _ (given : List KindName) (gaps : Gaps) (whole : List ℕ) where
         back = λ t h. as-expression (name_in given) (is_gap gaps) t whole (from t h);
       }
 
-  pub one-more-read : (c : ℕ) (rest after : List ℕ) (old new : Reading) → rest ≡ encode_utf8 c ++ after → HasRead rest old → Reads old (encode_utf8 c) new → HasRead after new
-  one-more-read c rest after old new is so_far reads = record {
+  pub one-more-read : (bytes rest after : List ℕ) (old new : Reading) → rest ≡ bytes ++ after → HasRead rest old → Reads old bytes new → HasRead after new
+  one-more-read bytes rest after old new is so_far reads = record {
     sound = reads.sound;
     on = λ t expression. reads.on t after (subst (IsLeft old t) is (so_far.on t expression));
     back = λ t left. so_far.back t (subst (IsLeft old t) (sym is) (reads.back t after left));
@@ -49,8 +50,14 @@ module _ (given : List KindName) (gaps : Gaps) (whole : List ℕ) where
       let on : (t : SyntaxTree) → Is t → IsLeft r t (encode_utf8 c ++ after) = λ t expression. subst (IsLeft r t) is (so_far.on t expression) in
       refused-weaker e _ _ _ _ _ _ (λ none t x. none t after (on t x)) (λ deep t x. deep t after (on t x)) (λ long t x. long t after (on t x)) stuck
 
-  pub at-end : (rest : List ℕ) (r : Reading) → length rest ≡ 0 → HasRead rest r → HasRead [] r
-  at-end rest r none so_far = subst (λ l. HasRead l r) (nil_from_length rest none) so_far
+  pub more-read : (rest left : List ℕ) (old new : Reading) → HasRead rest old → ReadsUpTo old rest left new → HasRead left new
+  more-read rest left old new so_far reads = one-more-read reads.0 rest left old new reads.1 so_far reads.2
+
+  pub at-end : (rest : List ℕ) (r : Reading) → rest ≡ [] → HasRead rest r → HasRead [] r
+  at-end rest r none so_far = subst (λ l. HasRead l r) none so_far
+
+  pub refused-run : (e : ExpressionError) → IsRefused ⊥ ⊥ ⊥ e → ReadRefuses (name_in given) (is_gap gaps) whole e
+  refused-run e h = refused-weaker e _ _ _ _ _ _ (λ none. absurd none) (λ deep. absurd deep) (λ long. absurd long) h
 
   pub refused-end : (e : ExpressionError) (r : Reading) → HasRead [] r → IsRefused ((t : SyntaxTree) → IsLeft r t [] → ⊥) ⊥ ⊥ e → ReadRefuses (name_in given) (is_gap gaps) whole e
   refused-end e r so_far h = refused-weaker e _ _ _ _ _ _ (λ none t x. none t (so_far.on t x)) (λ deep. absurd deep) (λ long. absurd long) h

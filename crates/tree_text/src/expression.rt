@@ -14,6 +14,7 @@ use crate::gaps::Gaps;
 use crate::kind_names::KindNames;
 use crate::open_nodes::DEPTH_LIMIT;
 use crate::reader::Reader;
+use crate::runs::first_of;
 use cst_core::GreenNode;
 use std::alloc::Global;
 
@@ -79,9 +80,12 @@ fn read(
     ensures refused { IfErr result (ReadRefuses (name_in names.now) (is_gap gaps) expression.now) }
 {
     let mut reader = Reader::new(alloc, names, gaps);
-    for (at, c) in expression.char_indices() {
-        reader.at = at;
+    let mut rest = expression;
+    while let Some((c, behind)) = first_of(rest) {
+        reader.at = expression.len().saturating_sub(rest.len());
         reader.step(c)?;
+        reader.at = expression.len().saturating_sub(behind.len());
+        rest = reader.run(behind)?;
     }
     reader.at = expression.len();
     reader.finish()

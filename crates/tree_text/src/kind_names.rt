@@ -119,7 +119,7 @@ fn is_spelled(name: &str) -> bool
     !name.is_empty()
 }
 
-fn is_part_of_name(byte: u8) -> bool
+pub(crate) fn is_part_of_name(byte: u8) -> bool
     ensures { result ≡ is_name_byte byte }
 {
     byte.is_ascii_alphanumeric() || byte == b'_'

@@ -7,6 +7,7 @@ mod expected;
 mod expression;
 mod gaps;
 mod kind_names;
+mod last_kinds;
 mod last_tokens;
 pub mod laws;
 mod lines;
@@ -15,6 +16,7 @@ mod open_node;
 mod open_nodes;
 mod reader;
 mod root;
+mod runs;
 mod write;
 mod write_error;
 

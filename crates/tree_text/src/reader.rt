@@ -1,10 +1,11 @@
-ghost use Rattle.std.specs.Prelude.{ℕ, ◌≡◌, ◌≢◌, ◌≤◌, ◌++◌, ◌||◌, ◌==◌, [], false, true, IfOk, IfErr, OnOk, Some, string_bytes, encode_utf8};
+ghost use Rattle.std.specs.Prelude.{ℕ, ◌≡◌, ◌≢◌, ◌≤◌, ◌++◌, ◌||◌, ◌==◌, [], take, length, false, true, IfOk, IfErr, OnOk, Some, string_bytes, encode_utf8};
 ghost use Rattle.cst_core.specs.Green.{branch_tree, IsTooLong};
 ghost use Rattle.cst_core.specs.Tree.{SyntaxTree};
 ghost use Rattle.tree_text.specs.Depth.{depth};
 ghost use Rattle.tree_text.specs.KindNames.{name_in, is_name_byte};
 ghost use Rattle.tree_text.specs.Refusals.{IsRefused};
-ghost use Rattle.tree_text.specs.inner.Reading.{IsLeft, IsReading, IsStuck, Reads, first_reading, is_outside, reading};
+ghost use Rattle.tree_text.specs.inner.Reading.{IsLeft, IsReading, IsStuck, Reads, ReadsUpTo, GoesOn};
+ghost use Rattle.tree_text.specs.inner.Reading.{first_reading, is_outside, reading};
 ghost use Rattle.tree_text.specs.declared.open_nodes.TheConstants.{DEPTH_LIMIT};
 
 use crate::error::ExpressionError;
@@ -12,8 +13,10 @@ use crate::escape::meant_by;
 use crate::expected::Expected;
 use crate::gaps::Gaps;
 use crate::kind_names::KindNames;
+use crate::last_kinds::LastKinds;
 use crate::last_tokens::LastTokens;
 use crate::open_nodes::OpenNodes;
+use crate::runs::{name_length, plain_length};
 use cst_core::{GreenElement, GreenNode, GreenToken, SyntaxKind};
 use std::alloc::Global;
 
@@ -35,6 +38,7 @@ pub(crate) struct Reader<'a> {
     pub(crate) names: &'a KindNames,
     pub(crate) gaps: Gaps,
     pub(crate) open: OpenNodes,
+    pub(crate) last_kinds: LastKinds,
     pub(crate) last_tokens: LastTokens,
     pub(crate) state: State,
     // Where the next character is.
@@ -58,6 +62,7 @@ impl<'a> Reader<'a> {
             names,
             gaps,
             open: OpenNodes::new(alloc),
+            last_kinds: LastKinds::new(),
             last_tokens: LastTokens::new(alloc),
             state: State::Between,
             at: 0,
@@ -79,6 +84,47 @@ impl<'a> Reader<'a> {
             State::TokenKind => self.in_token_kind(c),
             State::Text(kind) => self.in_text(kind, c),
             State::Escape(kind) => self.in_escape(kind, c),
+        }
+    }
+
+    /// Reads at once what the text begins with of the name or the quoted text that is being read. Gives what is left.
+    pub(crate) fn run<'b>(&mut self, text: &'b str) -> Result<&'b str, ExpressionError>
+        requires { IsReading (reading self.old) }
+        ensures ok { IfOk result (λ left. ReadsUpTo (reading self.old) text.now left.now (reading self.new)) }
+        ensures shorter { IfOk result (λ left. length left.now ≤ length text.now) }
+        ensures err { IfErr result (IsRefused ⊥ ⊥ ⊥) }
+    {
+        let count = self.run_length(text);
+        if count == 0 {
+            return Ok(text);
+        }
+        let Some((taken, left)) = text.split_at_checked(count) else {
+            return Ok(text);
+        };
+        self.push_to_word(taken)?;
+        Ok(left)
+    }
+
+    fn push_to_word(&mut self, taken: &str) -> Result<(), ExpressionError>
+        ensures ok { OnOk result
+            (reading self.new ≡ record (reading self.old) { word = string_bytes self.old.word ++ taken.now }) }
+        ensures err { IfErr result (IsRefused ⊥ ⊥ ⊥) }
+    {
+        if self.word.is_empty() {
+            self.word_at = self.at;
+        }
+        self.word.push_str(taken)?;
+        Ok(())
+    }
+
+    // How many bytes at the start of the text only make the word longer.
+    fn run_length(&self, text: &str) -> usize
+        ensures { GoesOn self.now.state (take result text.now) }
+    {
+        match self.state {
+            State::NodeKind | State::TokenKind => name_length(text),
+            State::Text(_) => plain_length(text),
+            State::Between | State::Escape(_) => 0,
         }
     }
 
@@ -198,8 +244,8 @@ impl<'a> Reader<'a> {
         }
         let at = self.word_at;
         let kind = self
-            .names
-            .kind(&self.word)
+            .last_kinds
+            .kind(self.names, &self.word)
             .ok_or(ExpressionError::UnknownKind { at })?;
         self.word.clear();
         Ok(kind)

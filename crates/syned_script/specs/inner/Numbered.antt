@@ -6,7 +6,7 @@ use Rattle.std.specs.Prelude.{◌≡◌, ℕ, suc, ◌≤◌, cond, String, List
 use Rattle.std.specs.List.{AllByRecursion}
 use Rattle.std.specs.Str.{bytes_eq}
 use Rattle.std.specs.String.{string_bytes}
-use Rattle.std.specs.BTreeMap.{BTreeMap, get_by_text}
+use Rattle.std.specs.HashMap.{HashMap, get_by_text}
 use Rattle.std.specs.Global.{Global}
 use Rattle.syned_script.specs.State.{annotation_of}
 use Rattle.syned_script.specs.WordValue.{texts_of}
@@ -19,6 +19,6 @@ number_from n (w ∷ ws) word = cond (bytes_eq word w) (Some n) (number_from (su
 abbrev pub IsNumbered : List (List ℕ) → Word → Type 0
 IsNumbered words w = (w.annotation ≡ annotation_of words (string_bytes w.text)) × (w.annotation ≤ length words)
 
-pub record AreNumbered (table : BTreeMap (String Global) ℕ) (words : List Word) : Type 0 where
+pub record AreNumbered {S : Type 0} (table : HashMap (String Global) ℕ S) (words : List Word) : Type 0 where
   pub numbers : AllByRecursion (IsNumbered (texts_of words)) words
   pub kept : (word : List ℕ) → get_by_text table word ≡ number_from 1 (texts_of words) word

@@ -3,7 +3,7 @@
 --     editing_of          what is edited
 --     state_of            the whole state
 use Rattle.std.specs.Prelude.{option_map}
-use Rattle.std.specs.BTreeMap.{get_by_text}
+use Rattle.std.specs.HashMap.{get_by_text}
 use Rattle.syned_script.specs.State.{State, Editing, Roots}
 use Rattle.syned_script.specs.declared.roots.Roots as code
 use Rattle.syned_script.specs.declared.session.Editing as code_editing

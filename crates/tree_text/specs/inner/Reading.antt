@@ -8,6 +8,8 @@
 --     IsLeft, IsLeftIn, IsLeftOutside      what may be left where the expression is that of a given tree: in any state, in
 --                            this one, and between elements
 --     Reads                  after these bytes a reader has read this: what may be left is the same, without them
+--     ReadsUpTo              it has read this text up to what is left of it
+--     GoesOn                 bytes that only make the word longer, by what the first of them belongs to
 --     IsStuck                an error where these bytes come: what it says of all that may be left
 use Rattle.std.specs.Prelude.{◌≡◌, ℕ, ◌≤◌, ◌<◌, Bool, true, false, not, ◌&&◌, ◌||◌, ◌==◌, List, [], ◌∷◌, ◌++◌, Option, Some, None, is_some, codes, string_bytes}
 use Rattle.std.specs.List.{list_all}
@@ -91,6 +93,16 @@ pub record Reads (old : Reading) (bytes : List ℕ) (new : Reading) : Type 0 whe
   pub sound : IsReading new
   pub on : (t : SyntaxTree) (w : List ℕ) → IsLeft old t (bytes ++ w) → IsLeft new t w
   pub back : (t : SyntaxTree) (w : List ℕ) → IsLeft new t w → IsLeft old t (bytes ++ w)
+
+abbrev pub ReadsUpTo : Reading → List ℕ → List ℕ → Reading → Type 0
+ReadsUpTo old text left new = (taken : List ℕ) × (text ≡ taken ++ left) × Reads old taken new
+
+abbrev pub GoesOn : State → List ℕ → Type 0
+GoesOn Between bytes = bytes ≡ []
+GoesOn NodeKind bytes = list_all is_name_byte bytes ≡ true
+GoesOn TokenKind bytes = list_all is_name_byte bytes ≡ true
+GoesOn (Text k) bytes = list_all (λ b. not (b == 34 || b == 92)) bytes ≡ true
+GoesOn (Escape k) bytes = bytes ≡ []
 
 abbrev pub IsStuck : Reading → List ℕ → ExpressionError → Type 0
 IsStuck r bytes = IsRefused

@@ -1,5 +1,5 @@
-use Rattle.std.proofs.Common.{ap, ◌∙◌}
-use Rattle.std.specs.Str.Iter.{char_indices_rest}
+use Rattle.std.proofs.Common.{refl, rules}
+use Rattle.std.specs.Prelude.{encode_utf8}
 use Rattle.std.proofs.lemmas.Result.{IfOk-weaker, IfErr-weaker}
 use Rattle.cst_core.specs.Green.{branch_tree}
 use Rattle.tree_text.specs.KindNames.{name_in}
@@ -7,38 +7,51 @@ use Rattle.tree_text.specs.Refusals.{ReadRefuses}
 use Rattle.tree_text.specs.inner.Gap.{is_gap}
 use Rattle.tree_text.specs.inner.Reading.{reading}
 use Rattle.tree_text.proofs.Refusing.{passed-on}
-use Rattle.tree_text.proofs.WholeTexts.{nothing-read, one-more-read, stuck-there, at-end, refused-end}
+use Rattle.tree_text.proofs.WholeTexts.{nothing-read, one-more-read, more-read, stuck-there, refused-run, at-end, refused-end}
 use Rattle.tree_text.proofs.expression.read.Goals as goal
 
-pub loop-at-init : goal.loop-at-init
-loop-at-init c =
-    nothing-read c.args.names.now c.args.gaps c.args.expression.now (char_indices_rest c.into_iter-at-iterator.result) (reading c.new-reader.result) (ap char_indices_rest c.into_iter-at-iterator.ensures.into_iter_gives ∙ c.char_indices-at-items.ensures.rest) c.new-reader.ensures.first c.new-reader.ensures.reading
+pub loop-c-init : goal.loop-c-init
+loop-c-init c = record {
+  is_text = search rules;
+  read = nothing-read c.args.names.now c.args.gaps c.args.expression.now c.args.expression.now (reading c.new-reader.result) refl c.new-reader.ensures.first c.new-reader.ensures.reading;
+}
 
 pub step-requires : goal.step-requires
-step-requires c = c.loop-at.invariant.sound
+step-requires c = c.loop-c.invariant.read.sound
 
-pub loop-at-preserved : goal.loop-at-preserved
-loop-at-preserved c =
-    one-more-read c.args.names.now c.args.gaps c.args.expression.now c.in-Some.c (char_indices_rest c.loop-at.at-iterator) (char_indices_rest c.next.new.self) (reading c.loop-at.reader) (reading c.step.new.self) c.in-Some.ensures.steps.1 c.loop-at.invariant c.in_ok-step.ensures.ok
+pub run-requires : goal.run-requires
+run-requires c = c.in_ok-step.ensures.ok.sound
+
+pub loop-c-preserved : goal.loop-c-preserved
+loop-c-preserved c =
+    let stepped = one-more-read c.args.names.now c.args.gaps c.args.expression.now (encode_utf8 c.in-Some.c) c.loop-c.rest.now c.in-Some.behind.now (reading c.loop-c.reader) (reading c.step.new.self) c.in-Some.ensures.some c.loop-c.invariant.read c.in_ok-step.ensures.ok in
+    record {
+      is_text = search rules;
+      read = more-read c.args.names.now c.args.gaps c.args.expression.now c.in-Some.behind.now c.in_ok-rest.rest.now (reading c.step.new.self) (reading c.run.new.self) stepped c.in_ok-rest.ensures.ok;
+    }
 
 pub returns-in_err-step-clause-refused : goal.returns-in_err-step-clause-refused
 returns-in_err-step-clause-refused c =
-    passed-on c.from_residual.result c.in_err-step.field-0.0 (ReadRefuses (name_in c.args.names.now) (is_gap c.args.gaps) c.args.expression.now) c.from_residual.ensures.1 (stuck-there c.args.names.now c.args.gaps c.args.expression.now c.in-Some.c (char_indices_rest c.loop-at.at-iterator) (char_indices_rest c.next.new.self) (reading c.loop-at.reader) c.in_err-step.field-0.0 c.in-Some.ensures.steps.1 c.loop-at.invariant c.in_err-step.ensures.err)
+    passed-on c.from_residual.result c.in_err-step.field-0.0 (ReadRefuses (name_in c.args.names.now) (is_gap c.args.gaps) c.args.expression.now) c.from_residual.ensures.1 (stuck-there c.args.names.now c.args.gaps c.args.expression.now c.in-Some.c c.loop-c.rest.now c.in-Some.behind.now (reading c.loop-c.reader) c.in_err-step.field-0.0 c.in-Some.ensures.some c.loop-c.invariant.read c.in_err-step.ensures.err)
+
+pub returns-in_err-rest-clause-refused : goal.returns-in_err-rest-clause-refused
+returns-in_err-rest-clause-refused c =
+    passed-on c.from_residual-in_err-rest.result c.in_err-rest.field-0.0 (ReadRefuses (name_in c.args.names.now) (is_gap c.args.gaps) c.args.expression.now) c.from_residual-in_err-rest.ensures.1 (refused-run c.args.names.now c.args.gaps c.args.expression.now c.in_err-rest.field-0.0 c.in_err-rest.ensures.err)
 
 pub finish-requires : goal.finish-requires
-finish-requires c = c.loop-at.invariant.sound
+finish-requires c = c.loop-c.invariant.read.sound
 
 pub returns-clause-found : goal.returns-clause-found
 returns-clause-found c =
-    let end = at-end c.args.names.now c.args.gaps c.args.expression.now (char_indices_rest c.loop-at.at-iterator) (reading c.loop-at.reader) c.in-None.ensures.steps.0 c.loop-at.invariant in
+    let end = at-end c.args.names.now c.args.gaps c.args.expression.now c.loop-c.rest.now (reading c.loop-c.reader) (c.in_default.ensures.none refl) c.loop-c.invariant.read in
     IfOk-weaker c.finish.result _ _ (λ n left. end.back (branch_tree n) left) c.finish.ensures.found
 
 pub returns-clause-only : goal.returns-clause-only
 returns-clause-only c =
-    let end = at-end c.args.names.now c.args.gaps c.args.expression.now (char_indices_rest c.loop-at.at-iterator) (reading c.loop-at.reader) c.in-None.ensures.steps.0 c.loop-at.invariant in
+    let end = at-end c.args.names.now c.args.gaps c.args.expression.now c.loop-c.rest.now (reading c.loop-c.reader) (c.in_default.ensures.none refl) c.loop-c.invariant.read in
     λ t expression. c.finish.ensures.only t (end.on t expression)
 
 pub returns-clause-refused : goal.returns-clause-refused
 returns-clause-refused c =
-    let end = at-end c.args.names.now c.args.gaps c.args.expression.now (char_indices_rest c.loop-at.at-iterator) (reading c.loop-at.reader) c.in-None.ensures.steps.0 c.loop-at.invariant in
-    IfErr-weaker c.finish.result _ _ (λ e h. refused-end c.args.names.now c.args.gaps c.args.expression.now e (reading c.loop-at.reader) end h) c.finish.ensures.err
+    let end = at-end c.args.names.now c.args.gaps c.args.expression.now c.loop-c.rest.now (reading c.loop-c.reader) (c.in_default.ensures.none refl) c.loop-c.invariant.read in
+    IfErr-weaker c.finish.result _ _ (λ e h. refused-end c.args.names.now c.args.gaps c.args.expression.now e (reading c.loop-c.reader) end h) c.finish.ensures.err

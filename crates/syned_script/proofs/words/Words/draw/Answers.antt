@@ -3,8 +3,8 @@ use Rattle.std.proofs.Common.{◌≡◌, ℕ, suc, ◌∷◌, ◌++◌, [], leng
 use Rattle.std.specs.Map.{update}
 use Rattle.std.specs.Str.{bytes_eq}
 use Rattle.std.specs.String.{string_bytes}
-use Rattle.std.specs.BTreeMap.{get_by_text}
-use Rattle.std.proofs.lemmas.Map.Text.{btree_map_updates_text}
+use Rattle.std.specs.HashMap.{get_by_text}
+use Rattle.std.proofs.lemmas.Map.Text.{hash_map_updates_text}
 use Rattle.syned_script.specs.WordValue.{texts_of}
 use Rattle.syned_script.specs.State.{annotation_of}
 use Rattle.syned_script.specs.inner.Numbered.{number_from, AreNumbered}
@@ -24,7 +24,7 @@ drawn c =
     let text : string_bytes c.in_ok-text.text ≡ word = c.in_ok-text.ensures.ok ∙ c.as_str.ensures in
     let key : string_bytes c.in_ok-key.key ≡ word = c.in_ok-key.ensures.ok ∙ c.as_str-2.ensures in
     let none : number_from 1 (texts_of ws) word ≡ None = subst (λ ts. number_from 1 ts word ≡ None) (sym c.self.view_is) c.requires in
-    let put = btree_map_updates_text (string_bytes c.in_ok-key.key) old new (Some a) c.in_ok-insert.ensures.updates in
+    let put = hash_map_updates_text (string_bytes c.in_ok-key.key) old new (Some a) c.in_ok-insert.ensures.updates in
     let pushed : c.push.new.self.items ≡ ws ++ w ∷ [] = subst (λ r. c.push.new.self.items ≡ (if is_ok r then c.reserve.new.self.items ++ w ∷ [] else c.reserve.new.self.items)) c.unwrap.ensures c.push.ensures.items ∙ ap (λ l. l ++ w ∷ []) c.reserve.ensures.items in
     more-numbered old new ws c.push.new.self.items w word c.self.invariant none text (number ∙ ap suc (ap length c.as_slice.ensures.value)) pushed
     (subst (λ b. (q : List ℕ) → get_by_text new q ≡ update bytes_eq (get_by_text old) b (Some a) q) key put)
