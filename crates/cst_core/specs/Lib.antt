@@ -15,5 +15,6 @@ pub mod Element
 pub mod SyntaxElement
 pub mod Navigation
 pub mod Debug
+pub mod PathDigest
 pub mod AtOffset
 pub mod inner

@@ -272,8 +272,9 @@ impl Hash for SyntaxElement {
     ghost use Rattle.std.specs.Cmp.Rules.{hashing};
     ghost use Rattle.std.specs.Hash as fed;
     ghost use Rattle.cst_core.specs.SyntaxElement.{element_of};
+    ghost use Rattle.cst_core.specs.PathDigest.{path_digest};
 
-    ghost hash_input = { λ x. fed.u64 (element_of x).number ++ fed.slice fed.usize (element_of x).path };
+    ghost hash_input = { λ x. fed.u64 (element_of x).number ++ fed.u64 (path_digest (element_of x).path) };
 
     ghost respects_eq = { Prim.search (hashing, rules) };
 

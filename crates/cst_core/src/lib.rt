@@ -15,6 +15,7 @@ mod location;
 mod navigation;
 mod node;
 mod offsets;
+mod path_digest;
 mod shape;
 mod slot_path;
 mod token;

@@ -12,11 +12,13 @@ ghost use Rattle.cst_core.specs.Element.{IsElement, element_at, parent_of};
 ghost use Rattle.cst_core.specs.SyntaxElement.{syntax_as, syntax_at, next_sibling, previous_sibling};
 ghost use Rattle.cst_core.specs.Navigation.{family_of, siblings_on, next_node, previous_node, nodes_above};
 ghost use Rattle.cst_core.specs.inner.SlotPath.{slots_of};
+ghost use Rattle.cst_core.specs.PathDigest.{path_digest};
 
 use crate::direction::Direction;
 use crate::element::SyntaxElement;
 use crate::lent_node::LentNode;
 use crate::node::SyntaxNode;
+use crate::path_digest::path_digest;
 use crate::slot_path::SlotPath;
 use crate::token::SyntaxToken;
 use green_tree::{GreenElement, GreenElementRef, GreenNode, start_of};
@@ -321,13 +323,13 @@ impl PartialEq for Location {
 }
 
 impl Hash for Location {
-    ghost hash_input = { λ n. fed.u64 n.number ++ fed.slice fed.usize n.path };
+    ghost hash_input = { λ n. fed.u64 n.number ++ fed.u64 (path_digest n.path) };
 
     ghost respects_eq = { Prim.search (hashing, rules) };
 
     fn hash<H: Hasher>(&self, state: &mut H) {
         self.tree.hash(state);
-        self.path.as_slice().hash(state);
+        path_digest(self.path.as_slice()).hash(state);
     }
 }
 

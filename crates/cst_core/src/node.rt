@@ -11,6 +11,7 @@ ghost use Rattle.green_tree.specs.Green.{branch_tree, length_limit, IsTooLong};
 ghost use Rattle.cst_core.specs.TreeIds.{IsSpent, LacksNumber};
 ghost use Rattle.cst_core.specs.Element.{subtree, IsNode};
 ghost use Rattle.cst_core.specs.AtOffset.{end_of};
+ghost use Rattle.cst_core.specs.PathDigest.{path_digest};
 
 use crate::location::Location;
 use crate::slot_path::SlotPath;
@@ -211,7 +212,7 @@ impl Eq for SyntaxNode {
 }
 
 impl Hash for SyntaxNode {
-    ghost hash_input = { λ n. fed.u64 n.number ++ fed.slice fed.usize n.path };
+    ghost hash_input = { λ n. fed.u64 n.number ++ fed.u64 (path_digest n.path) };
 
     ghost respects_eq = { Prim.search (hashing, rules) };
 

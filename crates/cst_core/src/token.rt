@@ -11,6 +11,7 @@ ghost use Rattle.green_tree.specs.Green.{branch_tree, leaf_tree, length_limit};
 ghost use Rattle.cst_core.specs.Element.{subtree, parent_of, root_of, IsNode, IsToken};
 ghost use Rattle.cst_core.specs.SyntaxElement.{next_sibling, previous_sibling, token_before, token_after};
 ghost use Rattle.cst_core.specs.AtOffset.{end_of};
+ghost use Rattle.cst_core.specs.PathDigest.{path_digest};
 ghost use Rattle.cst_core.specs.Navigation.{siblings_on, nodes_above};
 
 use crate::direction::Direction;
@@ -241,7 +242,7 @@ impl Eq for SyntaxToken {
 }
 
 impl Hash for SyntaxToken {
-    ghost hash_input = { λ n. fed.u64 n.number ++ fed.slice fed.usize n.path };
+    ghost hash_input = { λ n. fed.u64 n.number ++ fed.u64 (path_digest n.path) };
 
     ghost respects_eq = { Prim.search (hashing, rules) };
 
