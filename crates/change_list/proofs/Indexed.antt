@@ -1,6 +1,4 @@
 -- What an index of replacements must say after a call.
---     path-updated                                      what a map has at each path, where what it has at one of them changed
---     path-kept                                         what a map has at each path, where it has the same at each key
 --     nothing-said, nothing-deleted, something-said     what it means that something is said of a path, and that nothing is
 --     marked                                            where an element is deleted that is known
 --     said-pushed, said-added                           of a list with one more change at the end, which is no Replace; which is the first Replace of an element
@@ -9,9 +7,6 @@
 --     deleted-agrees                                    of an index that is told of the latter
 use Rattle.std.specs.Prelude.{◌≡◌, ◌⊎◌, ℕ, Bool, true, false, cond, List, [], ◌∷◌, ◌++◌, length, position, unwrap_or, Option, Some, None, option_map, is_some, is_none, refl}
 use Rattle.std.specs.List.{list_any, cons_option}
-use Rattle.std.specs.Map.{IsKeyTest, AreApart, KeepsOthers, lookup}
-use Rattle.std.specs.HashMap.{HashMap, UpdatesBy, get_by}
-use Rattle.std.specs.Cmp.Lexicographic.{nat_list_eq_equiv}
 use Rattle.std.proofs.Common.{ap, sym, subst, ◌∙◌}
 use Rattle.std.proofs.lemmas.Bool.{cases_Bool, cond-true, cond-false}
 use Rattle.std.proofs.lemmas.List.{append-nil}
@@ -29,47 +24,6 @@ use Rattle.change_list.specs.inner.Indexing.{replaced_at, as_deleted}
 use Rattle.change_list.proofs.Addresses.{same_path-true, same_path_from}
 use Rattle.change_list.proofs.TakenUp.{taken, answered, filter_map-taken, filter_map-passed, test_of}
 use Rattle.change_list.proofs.Positions.{position-pushed, position-added, none-found, position-taken, position-kept}
-
--- ---- maps by path
-apart : (p q k : Path) → same_path p q ≡ false → same_path p k ≡ true → same_path q k ≡ false
-apart p q k differ same = nat_list_eq_equiv.symm q k ∙ sym (nat_list_eq_equiv.congr p k q same) ∙ differ
-
-others-kept : {K X : Type 0} (eq : K → K → Bool) (test : K → Bool) (old new : List (K × X)) → KeepsOthers eq test old new → (other : K → Bool) → IsKeyTest eq other → AreApart test other → lookup other new ≡ lookup other old
-unfolding KeepsOthers
-others-kept eq test old new h = h
-
-pub path-updated : {K X S : Type 0} (m n : HashMap K X S) (w : Option X) (items : K → Path) (p : Path) → UpdatesBy (λ x y. same_path (items x) (items y)) (λ k. same_path p (items k)) m n w
-    → (q : Path) → get_by (λ k. same_path q (items k)) n ≡ cond (same_path p q) w (get_by (λ k. same_path q (items k)) m)
-path-updated m n w items p updates q =
-    elim (cases_Bool (same_path p q)) [
-      | inl same ↦ subst (λ r. get_by (λ k. same_path r (items k)) n ≡ w) (same_path-true p q same) updates.1 ∙ sym (cond-true (same_path p q) w _ same)
-      | inr differ ↦ others-kept _ _ _ _ updates.3 (λ k. same_path q (items k)) (λ x y. nat_list_eq_equiv.congr q (items x) (items y)) (λ k. apart p q (items k) differ) ∙ sym (cond-false (same_path p q) w _ differ)
-    ]
-
-keyed : {K X : Type 0} (items : K → Path) (p : Path) (es : List (K × X)) → (lookup (λ k. same_path p (items k)) es ≡ None) ⊎ ((k : K) × (same_path p (items k) ≡ true))
-keyed items p [] = inl refl
-keyed items p (e ∷ es) =
-    elim (cases_Bool (same_path p (items e.0))) [
-      | inl same ↦ inr (e.0, same)
-      | inr differ ↦ elim (keyed items p es) [
-        | inl none ↦ inl (cond-false (same_path p (items e.0)) _ _ differ ∙ none)
-        | inr known ↦ inr known
-      ]
-    ]
-
-pub path-kept : {K X S : Type 0} (m n : HashMap K X S) (items : K → Path) → ((q : K) → get_by (λ k. same_path (items q) (items k)) n ≡ get_by (λ k. same_path (items q) (items k)) m)
-    → (p : Path) → get_by (λ k. same_path p (items k)) n ≡ get_by (λ k. same_path p (items k)) m
-path-kept {K = K} m n items same p =
-    elim (keyed items p m.entries) [
-      | inr known ↦ at_key known
-      | inl none ↦ elim (keyed items p n.entries) [
-        | inr known ↦ at_key known
-        | inl neither ↦ neither ∙ sym none
-      ]
-    ]
-  where
-    at_key : (k : K) × (same_path p (items k) ≡ true) → get_by (λ j. same_path p (items j)) n ≡ get_by (λ j. same_path p (items j)) m
-    at_key known = subst (λ r. get_by (λ j. same_path r (items j)) n ≡ get_by (λ j. same_path r (items j)) m) (sym (same_path-true p (items known.0) known.1)) (same known.0)
 
 pub marked : (f : Path → Option Replaced) (p q : Path) (r : Replaced) → f p ≡ Some r → cond (same_path p q) (Some (record { first = r.first; is_deleted = true })) (f q) ≡ cond (same_path p q) (as_deleted (f q)) (f q)
 marked f p q r known =

@@ -2,4 +2,5 @@ pub mod Addresses
 pub mod TakenUp
 pub mod Positions
 mod Indexed
+mod Numbers
 mod Noted

@@ -1,10 +1,10 @@
 -- What an index must say of a list with one more change at its end, whatever that is.
 --     no-replace                     a change of another form is no Replace
---     said-after, said-kept         of a list with one more Replace of an element that had one: a deletion, or another one
---     noted-first, noted-after, noted-kept      of an index that is told of a first one, of a later deletion, of any other later one
+--     said-again                     of a list with one more Replace of an element that had one
+--     noted-first, noted-again       of an index that is told of a first one, and of a later one
 use Rattle.std.specs.Prelude.{◌≡◌, ℕ, suc, Bool, true, false, not, cond, ◌||◌, List, [], ◌∷◌, ◌++◌, length, position, Option, Some, None, option_map, is_some, is_none, refl}
 use Rattle.std.specs.List.{list_any, cons_option}
-use Rattle.std.proofs.Common.{ap, sym, subst, ◌∙◌}
+use Rattle.std.proofs.Common.{ap, ap₂, sym, subst, ◌∙◌}
 use Rattle.std.proofs.lemmas.Bool.{cases_Bool, cond-true, cond-false, true≢false}
 use Rattle.std.proofs.lemmas.Option.{none-some}
 use Rattle.std.proofs.lemmas.List.Folds.{list_any-append}
@@ -45,14 +45,6 @@ alone : (o : Option SyntaxElement) → list_any is_none (o ∷ []) ≡ is_none o
 alone None = refl
 alone (Some x) = refl
 
-or-true : (b : Bool) → (b || true) ≡ true
-or-true true = refl
-or-true false = refl
-
-or-false : (b : Bool) → (b || false) ≡ b
-or-false true = refl
-or-false false = refl
-
 module _ (e : SyntaxElement) (new : Option SyntaxElement) (cs : List Change) (i : ℕ) (known : position (is_replace_at (element_of e).path) cs ≡ Some i) where
   -- the first Replace of the element stays its first
   said-own : replaced_at (element_of e).path (cs ++ Replace e new ∷ []) ≡ Some (record { first = i; is_deleted = list_any is_none (replacements_at (element_of e).path cs) || is_none new })
@@ -61,49 +53,22 @@ module _ (e : SyntaxElement) (new : Option SyntaxElement) (cs : List Change) (i 
       let deleted : list_any is_none (replacements_at (element_of e).path (cs ++ Replace e new ∷ [])) ≡ (list_any is_none (replacements_at (element_of e).path cs) || is_none new) = ap (list_any is_none) all ∙ list_any-append is_none (replacements_at (element_of e).path cs) (new ∷ []) ∙ ap (λ b. list_any is_none (replacements_at (element_of e).path cs) || b) (alone new) in
       ap (λ o. stated o (replacements_at (element_of e).path (cs ++ Replace e new ∷ []))) (position-before (is_replace_at (element_of e).path) cs (Replace e new ∷ []) i known) ∙ ap (λ b. Some (record { first = i; is_deleted = b })) deleted
 
-  own-before : replaced_at (element_of e).path cs ≡ Some (record { first = i; is_deleted = list_any is_none (replacements_at (element_of e).path cs) })
-  own-before = ap (λ o. stated o (replacements_at (element_of e).path cs)) known
-
-  pub said-after : is_none new ≡ true → (q : Path) → replaced_at q (cs ++ Replace e new ∷ []) ≡ cond (same_path (element_of e).path q) (as_deleted (replaced_at q cs)) (replaced_at q cs)
-  said-after deletes q =
+  pub said-again : (q : Path) → replaced_at q (cs ++ Replace e new ∷ []) ≡ cond (same_path (element_of e).path q) (Some (record { first = i; is_deleted = list_any is_none (replacements_at (element_of e).path cs) || is_none new })) (replaced_at q cs)
+  said-again q =
       elim (cases_Bool (same_path (element_of e).path q)) [
-        | inl same ↦ subst (λ r. replaced_at r (cs ++ Replace e new ∷ []) ≡ as_deleted (replaced_at r cs)) (same_path-true (element_of e).path q same) (said-own ∙ ap (λ b. Some (record { first = i; is_deleted = list_any is_none (replacements_at (element_of e).path cs) || b })) deletes ∙ ap (λ b. Some (record { first = i; is_deleted = b })) (or-true (list_any is_none (replacements_at (element_of e).path cs))) ∙ sym (ap as_deleted own-before)) ∙ sym (cond-true (same_path (element_of e).path q) _ _ same)
+        | inl same ↦ subst (λ r. replaced_at r (cs ++ Replace e new ∷ []) ≡ Some (record { first = i; is_deleted = list_any is_none (replacements_at (element_of e).path cs) || is_none new })) (same_path-true (element_of e).path q same) said-own ∙ sym (cond-true (same_path (element_of e).path q) _ _ same)
         | inr differ ↦ unsaid q cs (Replace e new) (there e new q differ) ∙ sym (cond-false (same_path (element_of e).path q) _ _ differ)
       ]
 
-  pub said-kept : is_none new ≡ false → (q : Path) → replaced_at q (cs ++ Replace e new ∷ []) ≡ replaced_at q cs
-  said-kept keeps q =
-      elim (cases_Bool (same_path (element_of e).path q)) [
-        | inl same ↦ subst (λ r. replaced_at r (cs ++ Replace e new ∷ []) ≡ replaced_at r cs) (same_path-true (element_of e).path q same) (said-own ∙ ap (λ b. Some (record { first = i; is_deleted = list_any is_none (replacements_at (element_of e).path cs) || b })) keeps ∙ ap (λ b. Some (record { first = i; is_deleted = b })) (or-false (list_any is_none (replacements_at (element_of e).path cs))) ∙ sym own-before)
-        | inr differ ↦ unsaid q cs (Replace e new) (there e new q differ)
-      ]
-
 -- ---- of an index
-none-of : {X : Type 0} (o : Option X) (b : Bool) → is_some o ≡ not b → b ≡ true → o ≡ None
-none-of None b h is = refl
-none-of (Some x) b h is = absurd (true≢false (h ∙ ap not is))
+module _ (e : SyntaxElement) (new : Option SyntaxElement) (cs : List Change) (old now : Path → Option Replaced) (agrees : (q : Path) → old q ≡ replaced_at q cs) (d : Bool) (deletes : is_none new ≡ d) where
+  pub noted-first : (number : ℕ) → length cs ≡ number → old (element_of e).path ≡ None → ((q : Path) → now q ≡ cond (same_path (element_of e).path q) (Some (record { first = number; is_deleted = d })) (old q)) → (q : Path) → now q ≡ replaced_at q (cs ++ Replace e new ∷ [])
+  noted-first number long none told =
+      added-agrees e new cs old now (element_of e).path number d refl (sym long) (sym deletes) (nothing-said (element_of e).path cs (sym (agrees (element_of e).path) ∙ none)) agrees told
 
-some-of : {X : Type 0} (o : Option X) (b : Bool) → is_some o ≡ not b → b ≡ false → (x : X) × (o ≡ Some x)
-some-of None b h is = absurd (true≢false (sym (h ∙ ap not is)))
-some-of (Some x) b h is = (x, refl)
-
-module _ (e : SyntaxElement) (new : Option SyntaxElement) (cs : List Change) (old : Path → Option Replaced) (path : Path) (path-is : path ≡ (element_of e).path) (agrees : (q : Path) → old q ≡ replaced_at q cs) (o : Option Replaced) (o-is : o ≡ old path) (b : Bool) (test : is_some o ≡ not b) where
-  pub noted-first : (now : Path → Option Replaced) (at : Path) (number : ℕ) (d : Bool) → at ≡ (element_of e).path → b ≡ true → length cs ≡ number → is_none new ≡ d → ((q : Path) → now q ≡ cond (same_path at q) (Some (record { first = number; is_deleted = d })) (old q)) → (q : Path) → now q ≡ replaced_at q (cs ++ Replace e new ∷ [])
-  noted-first now at number d at-is none long deletes told =
-      let unsaid : replaced_at (element_of e).path cs ≡ None = sym (agrees (element_of e).path) ∙ sym (ap old path-is) ∙ sym o-is ∙ none-of o b test none in
-      added-agrees e new cs old now at number d at-is (sym long) (sym deletes) (nothing-said (element_of e).path cs unsaid) agrees told
-
-  known-before : b ≡ false → (r : Replaced) × (position (is_replace_at (element_of e).path) cs ≡ Some r.first)
-  known-before some =
-      let r = some-of o b test some in
-      (r.0, (something-said (element_of e).path cs r.0 (sym (agrees (element_of e).path) ∙ sym (ap old path-is) ∙ sym o-is ∙ r.1)).0)
-
-  pub noted-after : (now : Path → Option Replaced) (at : Path) → at ≡ (element_of e).path → b ≡ false → is_none new ≡ true → ((q : Path) → now q ≡ cond (same_path at q) (as_deleted (old q)) (old q)) → (q : Path) → now q ≡ replaced_at q (cs ++ Replace e new ∷ [])
-  noted-after now at at-is some deletes told q =
-      let known = known-before some in
-      told q ∙ ap (λ o. cond (same_path at q) (as_deleted o) o) (agrees q) ∙ ap (λ r. cond (same_path r q) (as_deleted (replaced_at q cs)) (replaced_at q cs)) at-is ∙ sym (said-after e new cs known.0.first known.1 deletes q)
-
-  pub noted-kept : b ≡ false → is_none new ≡ false → (q : Path) → old q ≡ replaced_at q (cs ++ Replace e new ∷ [])
-  noted-kept some keeps q =
-      let known = known-before some in
-      agrees q ∙ sym (said-kept e new cs known.0.first known.1 keeps q)
+  pub noted-again : (r : Replaced) → old (element_of e).path ≡ Some r → ((q : Path) → now q ≡ cond (same_path (element_of e).path q) (Some (record { first = r.first; is_deleted = r.is_deleted || d })) (old q)) → (q : Path) → now q ≡ replaced_at q (cs ++ Replace e new ∷ [])
+  noted-again r known told q =
+      let said = something-said (element_of e).path cs r (sym (agrees (element_of e).path) ∙ known) in
+      told q ∙ ap (cond (same_path (element_of e).path q) (Some (record { first = r.first; is_deleted = r.is_deleted || d }))) (agrees q)
+      ∙ ap₂ (λ a b. cond (same_path (element_of e).path q) (Some (record { first = r.first; is_deleted = a || b })) (replaced_at q cs)) (sym said.1) (sym deletes)
+      ∙ sym (said-again e new cs r.first said.0 q)

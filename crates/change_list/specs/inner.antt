@@ -1,3 +1,4 @@
 -- What private calls cite.
 pub mod Indexing
+pub mod Numbered
 pub mod ByPath

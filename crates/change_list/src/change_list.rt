@@ -1,13 +1,14 @@
-ghost use Rattle.std.specs.Prelude.{◌≡◌, ◌<◌, ◌≤◌, ◌+◌, ◌^◌, List, Option, length, IfOk, false, [], ◌∷◌, ◌++◌, position, option_map, None, is_none, OnOk, OnErr};
+ghost use Rattle.std.specs.Prelude.{◌≡◌, ◌<◌, ◌≤◌, ◌+◌, ◌^◌, List, Option, Some, length, map, IfOk, false, [], ◌∷◌, ◌++◌, position, option_map, None, is_none, OnOk, OnErr};
 ghost use Rattle.std.specs.List.{list_any};
 ghost use Rattle.std.specs.Vec.{vec_len, vec_capacity};
+ghost use Rattle.cst_core.specs.Path.{Path};
 ghost use Rattle.cst_core.specs.SyntaxElement.{element_of};
 ghost use Rattle.cst_core.specs.declared.element.SyntaxElement.{SyntaxElement};
 ghost use Rattle.edit_change.specs.declared.change.Change.{Change};
 ghost use Rattle.edit_change.specs.declared.change.Change.TheVariants.{Replace};
 ghost use Rattle.change_list.specs.Recording.{with_replacement, merged};
 ghost use Rattle.change_list.specs.inner.ByPath.{is_replace, is_replace_at, replacements_at, replace_at, delete_at, delete_each_at};
-ghost use Rattle.change_list.specs.inner.Indexing.{room, Agrees, Notes, NotesReplace};
+ghost use Rattle.change_list.specs.inner.Indexing.{number_at, number_of, entry_at, IsNumbered, Agrees, Notes, NotesReplace};
 
 use crate::replace_table::{ReplaceTable, Replaced};
 use cst_core::SyntaxElement;
@@ -37,28 +38,6 @@ impl Model for ChangeList {
     ghost view = { λ a. a.changes.items };
 
     ghost invariant = { λ a. Agrees a.replaced a.changes.items };
-}
-
-// An element that is to be deleted, with its path, so that no memory is asked for any more.
-#[derive(Drop)]
-struct Target {
-    element: SyntaxElement,
-    path: Vec<usize>,
-}
-
-impl Model for Target {
-    ghost use Rattle.std.specs.Prelude.{◌≡◌};
-    ghost use Rattle.cst_core.specs.SyntaxElement.{element_of};
-    ghost use Rattle.cst_core.specs.declared.element.SyntaxElement.{SyntaxElement};
-    ghost use Rattle.edit_change.specs.inner.Codes.{syntax_element_code};
-
-    ghost Value = { SyntaxElement };
-
-    ghost coded = { syntax_element_code };
-
-    ghost view = { λ a. a.element };
-
-    ghost invariant = { λ a. a.path.items ≡ (element_of a.element).path };
 }
 
 impl ChangeList {
@@ -98,33 +77,25 @@ impl ChangeList {
 
     /// Records that an element is replaced: the first Replace of it takes that up, and where there is none one more is put
     /// at the end. Without memory for that the list is unchanged.
-    pub fn replace(
-        &mut self,
-        alloc: Global,
-        element: SyntaxElement,
-        new: SyntaxElement,
-    ) -> Result<(), AllocError>
+    pub fn replace(&mut self, element: SyntaxElement, new: SyntaxElement) -> Result<(), AllocError>
         ensures ok { OnOk result (self.new ≡ replace_at element new self.old) }
         ensures err { OnErr result (self.new ≡ self.old) }
     {
-        let Some(replaced) = self.replaced.get(element.slots()) else {
-            return self.add_replace(alloc, element, Some(new));
-        };
-        take_up(&mut self.changes[replaced.first], new);
+        let number = self.replaced.enter(element.slots())?;
+        self.changes.reserve(1)?;
+        replace_element(&mut self.changes, &mut self.replaced, number, element, new);
         Ok(())
     }
 
     /// Records that an element is deleted: the first Replace of it becomes a deletion, and where there is none one more is
     /// put at the end. Without memory for that the list is unchanged.
-    pub fn delete(&mut self, alloc: Global, element: SyntaxElement) -> Result<(), AllocError>
+    pub fn delete(&mut self, element: SyntaxElement) -> Result<(), AllocError>
         ensures ok { OnOk result (self.new ≡ delete_at element self.old) }
         ensures err { OnErr result (self.new ≡ self.old) }
     {
-        let Some(replaced) = self.replaced.get(element.slots()) else {
-            return self.add_replace(alloc, element, None);
-        };
-        take_away(&mut self.changes[replaced.first]);
-        self.replaced.mark_deleted(element.slots());
+        let number = self.replaced.enter(element.slots())?;
+        self.changes.reserve(1)?;
+        delete_element(&mut self.changes, &mut self.replaced, number, element);
         Ok(())
     }
 
@@ -138,10 +109,9 @@ impl ChangeList {
         ensures ok { OnOk result (self.new ≡ delete_each_at elements.items self.old) }
         ensures err { OnErr result (self.new ≡ self.old) }
     {
-        let targets = targets_of(alloc, elements)?;
-        self.changes.reserve(targets.len())?;
-        self.replaced.reserve(targets.len())?;
-        delete_targets(&mut self.changes, &mut self.replaced, targets);
+        let numbers = entered(alloc, &mut self.replaced, &elements)?;
+        self.changes.reserve(elements.len())?;
+        delete_elements(&mut self.changes, &mut self.replaced, &numbers, elements);
         Ok(())
     }
 
@@ -169,84 +139,115 @@ impl ChangeList {
             None => false,
         }
     }
-
-    // Puts the first Replace of an element at the end. All growth comes before any change.
-    fn add_replace(
-        &mut self,
-        alloc: Global,
-        element: SyntaxElement,
-        new: Option<SyntaxElement>,
-    ) -> Result<(), AllocError>
-        requires { position (is_replace_at (element_of element).path) self.old ≡ None }
-        ensures ok { OnOk result (self.new ≡ self.old ++ Replace element new ∷ []) }
-        ensures err { OnErr result (self.new ≡ self.old) }
-    {
-        let path = element.path(alloc)?;
-        self.changes.reserve(1)?;
-        let replaced = Replaced {
-            first: self.changes.len(),
-            is_deleted: new.is_none(),
-        };
-        self.replaced.insert(path, replaced)?;
-        self.changes.push_reserved(Change::Replace(element, new));
-        Ok(())
-    }
 }
 
-fn targets_of(alloc: Global, elements: Vec<SyntaxElement>) -> Result<Vec<Target>, AllocError>
-    ensures { IfOk result (λ all. all.items ≡ elements.items) }
+// The numbers of elements, by which an index knows them. What it says stays as it is.
+fn entered(
+    alloc: Global,
+    replaced: &mut ReplaceTable,
+    elements: &[SyntaxElement],
+) -> Result<Vec<usize>, AllocError>
+    requires { IsNumbered replaced.old }
+    ensures numbered { IsNumbered replaced.new }
+    ensures numbers { IfOk result (λ v. map Some v.items ≡ map (number_of replaced.new) elements.now) }
+    ensures said { (p : Path) → entry_at replaced.new p ≡ entry_at replaced.old p }
 {
-    let mut targets = Vec::with_capacity(alloc, elements.len())?;
+    let mut numbers = Vec::with_capacity(alloc, elements.len())?;
     for element in elements {
-        let path = element.path(alloc)?;
-        targets.push(Target { element, path })?;
+        numbers.push(replaced.enter(element.slots())?)?;
     }
-    Ok(targets)
+    Ok(numbers)
 }
 
-// Deletes these elements one after the other, where there is room for all of them.
-fn delete_targets(changes: &mut Vec<Change>, replaced: &mut ReplaceTable, targets: Vec<Target>)
+// Puts the first Replace of an element at the end, where there is room for it.
+fn add_replace(
+    changes: &mut Vec<Change>,
+    replaced: &mut ReplaceTable,
+    number: usize,
+    element: SyntaxElement,
+    new: Option<SyntaxElement>,
+)
+    requires first { position (is_replace_at (element_of element).path) changes.old.items ≡ None }
+    requires has_room { vec_len changes.old < vec_capacity changes.old }
+    requires number { number_of replaced.old element ≡ Some number }
     requires agrees { Agrees replaced.old changes.old.items }
-    requires has_room { vec_len changes.old + length targets.items ≤ vec_capacity changes.old }
-    requires index_room { length targets.items ≤ room replaced.old }
-    ensures list { changes.new.items ≡ delete_each_at targets.items changes.old.items }
+    ensures list { changes.new.items ≡ changes.old.items ++ Replace element new ∷ [] }
+    ensures agrees { Agrees replaced.new changes.new.items }
+    ensures numbers { (p : Path) → number_at replaced.new p ≡ number_at replaced.old p }
+    ensures len { vec_len changes.new ≡ vec_len changes.old + 1 }
+    ensures capacity { vec_capacity changes.new ≡ vec_capacity changes.old }
+{
+    let first = changes.len();
+    let is_deleted = new.is_none();
+    changes.push_reserved(Change::Replace(element, new));
+    replaced.set(number, Replaced { first, is_deleted });
+}
+
+// Replaces an element, where there is room for one more change.
+fn replace_element(
+    changes: &mut Vec<Change>,
+    replaced: &mut ReplaceTable,
+    number: usize,
+    element: SyntaxElement,
+    new: SyntaxElement,
+)
+    requires has_room { vec_len changes.old < vec_capacity changes.old }
+    requires number { number_of replaced.old element ≡ Some number }
+    requires agrees { Agrees replaced.old changes.old.items }
+    ensures list { changes.new.items ≡ replace_at element new changes.old.items }
     ensures agrees { Agrees replaced.new changes.new.items }
 {
-    for target in targets {
-        delete_target(changes, replaced, target);
+    match replaced.at(number) {
+        Some(known) => take_up(&mut changes[known.first], new),
+        None => add_replace(changes, replaced, number, element, Some(new)),
     }
 }
 
-// Deletes an element, where there is room for that.
-fn delete_target(changes: &mut Vec<Change>, replaced: &mut ReplaceTable, target: Target)
-    requires agrees { Agrees replaced.old changes.old.items }
+// Deletes an element, where there is room for one more change.
+fn delete_element(
+    changes: &mut Vec<Change>,
+    replaced: &mut ReplaceTable,
+    number: usize,
+    element: SyntaxElement,
+)
     requires has_room { vec_len changes.old < vec_capacity changes.old }
-    requires index_room { 0 < room replaced.old }
-    ensures list { changes.new.items ≡ delete_at target changes.old.items }
+    requires number { number_of replaced.old element ≡ Some number }
+    requires agrees { Agrees replaced.old changes.old.items }
+    ensures list { changes.new.items ≡ delete_at element changes.old.items }
     ensures agrees { Agrees replaced.new changes.new.items }
+    ensures numbers { (p : Path) → number_at replaced.new p ≡ number_at replaced.old p }
     ensures len { vec_len changes.new ≤ vec_len changes.old + 1 }
     ensures capacity { vec_capacity changes.new ≡ vec_capacity changes.old }
-    ensures room { room replaced.old ≤ room replaced.new + 1 }
 {
-    let Some(known) = replaced.get(target.path.as_slice()) else {
-        let first = changes.len();
-        changes.push_reserved(Change::Replace(target.element, None));
-        return replaced.insert_reserved(
-            target.path,
-            Replaced {
-                first,
-                is_deleted: true,
-            },
-        );
+    let Some(known) = replaced.at(number) else {
+        return add_replace(changes, replaced, number, element, None);
     };
     take_away(&mut changes[known.first]);
-    replaced.insert_reserved(
-        target.path,
+    replaced.set(
+        number,
         Replaced {
             first: known.first,
             is_deleted: true,
         },
     );
+}
+
+// Deletes these elements one after the other, where there is room for all of them.
+fn delete_elements(
+    changes: &mut Vec<Change>,
+    replaced: &mut ReplaceTable,
+    numbers: &[usize],
+    elements: Vec<SyntaxElement>,
+)
+    requires has_room { vec_len changes.old + length elements.items ≤ vec_capacity changes.old }
+    requires numbers { map Some numbers.now ≡ map (number_of replaced.old) elements.items }
+    requires agrees { Agrees replaced.old changes.old.items }
+    ensures list { changes.new.items ≡ delete_each_at elements.items changes.old.items }
+    ensures agrees { Agrees replaced.new changes.new.items }
+{
+    for (number, element) in numbers.iter().zip(elements) {
+        delete_element(changes, replaced, *number, element);
+    }
 }
 
 // The index of two lists, the second after the first.
@@ -255,66 +256,65 @@ fn index_of(alloc: Global, own: &[Change], other: &[Change]) -> Result<ReplaceTa
     ensures { IfOk result (λ x. Agrees x (own.now ++ other.now)) }
 {
     let mut index = ReplaceTable::new(alloc);
-    note_all(alloc, &mut index, 0, own)?;
-    note_all(alloc, &mut index, own.len(), other)?;
+    note_all(&mut index, 0, own)?;
+    note_all(&mut index, own.len(), other)?;
     Ok(index)
 }
 
 // Tells the index of a list of more changes at its end, where the list has n.
-fn note_all(
-    alloc: Global,
-    index: &mut ReplaceTable,
-    before: usize,
-    changes: &[Change],
-) -> Result<(), AllocError>
-    requires { before + length changes.now < 2 ^ 64 }
-    ensures { Notes result before changes.now index.old index.new }
+fn note_all(index: &mut ReplaceTable, before: usize, changes: &[Change]) -> Result<(), AllocError>
+    requires small { before + length changes.now < 2 ^ 64 }
+    requires numbered { IsNumbered index.old }
+    ensures numbered { IsNumbered index.new }
+    ensures noted { Notes result before changes.now index.old index.new }
 {
     let mut number = before;
     for change in changes {
-        note(alloc, index, number, change)?;
+        note(index, number, change)?;
         number += 1;
     }
     Ok(())
 }
 
 // Tells the index of a list of one more change, which stands at this number.
-fn note(
-    alloc: Global,
-    index: &mut ReplaceTable,
-    number: usize,
-    change: &Change,
-) -> Result<(), AllocError>
-    ensures { Notes result number (change.now ∷ []) index.old index.new }
+fn note(index: &mut ReplaceTable, number: usize, change: &Change) -> Result<(), AllocError>
+    requires { IsNumbered index.old }
+    ensures numbered { IsNumbered index.new }
+    ensures noted { Notes result number (change.now ∷ []) index.old index.new }
 {
     match change {
-        Change::Replace(element, new) => {
-            note_replace(alloc, index, number, element, new.is_none())
-        }
+        Change::Replace(element, new) => { note_replace(index, number, element, new.is_none()) }
         _ => Ok(()),
     }
 }
 
 // Tells it of a Replace. The first one of an element stays its first.
 fn note_replace(
-    alloc: Global,
     index: &mut ReplaceTable,
     number: usize,
     element: &SyntaxElement,
     is_deleted: bool,
 ) -> Result<(), AllocError>
-    ensures { NotesReplace result number element.now is_deleted index.old index.new }
+    requires { IsNumbered index.old }
+    ensures numbered { IsNumbered index.new }
+    ensures noted { NotesReplace result number element.now is_deleted index.old index.new }
 {
-    if index.get(element.slots()).is_none() {
-        let path = element.path(alloc)?;
-        let replaced = Replaced {
-            first: number,
-            is_deleted,
-        };
-        return index.insert(path, replaced);
-    }
-    if is_deleted {
-        index.mark_deleted(element.slots());
+    let entry = index.enter(element.slots())?;
+    match index.at(entry) {
+        None => index.set(
+            entry,
+            Replaced {
+                first: number,
+                is_deleted,
+            },
+        ),
+        Some(known) => index.set(
+            entry,
+            Replaced {
+                first: known.first,
+                is_deleted: known.is_deleted || is_deleted,
+            },
+        ),
     }
     Ok(())
 }

@@ -1,9 +1,9 @@
-ghost use Rattle.std.specs.Prelude.{◌≡◌, ◌<◌, ◌≤◌, ◌+◌, Some, None, OnOk, OnErr};
+ghost use Rattle.std.specs.Prelude.{◌≡◌, Some, None, IfOk};
 ghost use Rattle.cst_core.specs.Path.{Path};
-ghost use Rattle.change_list.specs.inner.Indexing.{entry_at, room, SaysAt, SaysDeleted};
+ghost use Rattle.change_list.specs.inner.Indexing.{number_at, entry_of, entry_at, IsNumbered, KeepsNumbers, SaysAt};
 
+use path_table::PathTable;
 use std::alloc::{AllocError, Global};
-use std::collections::HashMap;
 
 /// What a list of changes has of an element that is replaced by one or by none.
 #[derive(Clone, Copy)]
@@ -17,15 +17,20 @@ pub(crate) struct Replaced {
 /// The elements of a tree that are replaced, by path.
 #[derive(Drop)]
 pub(crate) struct ReplaceTable {
-    entries: HashMap<Vec<usize>, Replaced>,
+    // By path, the number of an entry.
+    numbers: PathTable,
+    // A path that was entered has an entry before anything is said of its element.
+    entries: Vec<Option<Replaced>>,
 }
 
 impl ReplaceTable {
     pub(crate) fn new(alloc: Global) -> ReplaceTable
-        ensures { (p : Path) → entry_at result p ≡ None }
+        ensures empty { (p : Path) → entry_at result p ≡ None }
+        ensures numbered { IsNumbered result }
     {
         ReplaceTable {
-            entries: HashMap::new(alloc),
+            numbers: PathTable::new(alloc),
+            entries: Vec::new(alloc),
         }
     }
 
@@ -33,42 +38,42 @@ impl ReplaceTable {
     pub(crate) fn get(&self, path: &[usize]) -> Option<Replaced>
         ensures { result ≡ entry_at self.now path.now }
     {
-        self.entries.get(path).copied()
+        self.at(self.numbers.get(path)?)
     }
 
-    /// Says this of the element at a path from now on. Without memory for that nothing changes.
-    pub(crate) fn insert(&mut self, path: Vec<usize>, replaced: Replaced) -> Result<(), AllocError>
-        ensures ok { OnOk result (SaysAt path.items (Some replaced) self.old self.new) }
-        ensures err { OnErr result ((p : Path) → entry_at self.new p ≡ entry_at self.old p) }
+    /// What it says at a number.
+    pub(crate) fn at(&self, number: usize) -> Option<Replaced>
+        ensures { result ≡ entry_of self.now number }
     {
-        self.entries.insert(path, replaced)?;
-        Ok(())
+        self.entries.get(number).copied().flatten()
     }
 
-    /// Makes room for n more elements. It says of each path what it said before, also without memory for them.
-    pub(crate) fn reserve(&mut self, additional: usize) -> Result<(), AllocError>
-        ensures found { (p : Path) → entry_at self.new p ≡ entry_at self.old p }
-        ensures ok { OnOk result (additional ≤ room self.new) }
+    /// The number of a path, which gets one if it has none. Nothing that is said changes, also without memory for that.
+    pub(crate) fn enter(&mut self, path: &[usize]) -> Result<usize, AllocError>
+        requires { IsNumbered self.old }
+        ensures numbered { IsNumbered self.new }
+        ensures entered { IfOk result (λ n. number_at self.new path.now ≡ Some n) }
+        ensures kept { KeepsNumbers self.old self.new }
+        ensures said { (p : Path) → entry_at self.new p ≡ entry_at self.old p }
     {
-        self.entries.reserve(additional)
-    }
-
-    /// Says this of the element at a path from now on, where there is room for it.
-    pub(crate) fn insert_reserved(&mut self, path: Vec<usize>, replaced: Replaced)
-        requires { 0 < room self.old }
-        ensures found { SaysAt path.items (Some replaced) self.old self.new }
-        ensures room { room self.old ≤ room self.new + 1 }
-    {
-        let inserted: Result<_, _> = self.entries.insert(path, replaced);
-        let _ = inserted.unwrap();
-    }
-
-    /// Says that the element at a path is deleted, if it says something of it.
-    pub(crate) fn mark_deleted(&mut self, path: &[usize])
-        ensures { SaysDeleted path.now self.old self.new }
-    {
-        if let Some(replaced) = self.entries.get_mut(path) {
-            replaced.is_deleted = true;
+        let cell = self.numbers.enter_path(path)?;
+        if let Some(number) = self.numbers.number(Some(cell)) {
+            return Ok(number);
         }
+        let number = self.entries.len();
+        self.entries.push(None)?;
+        self.numbers.put(cell, number)?;
+        Ok(number)
+    }
+
+    /// Says this from now on of the element whose path has a number.
+    pub(crate) fn set(&mut self, number: usize, replaced: Replaced)
+        requires numbered { IsNumbered self.old }
+        requires entered { (p : Path) × (number_at self.old p ≡ Some number) }
+        ensures numbered { IsNumbered self.new }
+        ensures kept { (p : Path) → number_at self.new p ≡ number_at self.old p }
+        ensures said { (p : Path) → number_at self.old p ≡ Some number → SaysAt p (Some replaced) self.old self.new }
+    {
+        self.entries[number] = Some(replaced);
     }
 }

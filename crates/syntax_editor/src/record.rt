@@ -66,7 +66,7 @@ impl SyntaxEditor {
         ensures unchanged { OnErr result (self.new ≡ self.old) }
     {
         let element = element.syntax_element(alloc)?;
-        self.delete_element(alloc, element)
+        self.delete_element(element)
     }
 
     /// Deletes the siblings from `first` to `last`. If they are one element, that one is deleted.
@@ -110,7 +110,7 @@ impl SyntaxEditor {
     {
         let element = element.syntax_element(alloc)?;
         let new = new.syntax_element(alloc)?;
-        self.replace_element(alloc, element, new)
+        self.replace_element(element, new)
     }
 
     /// Replaces an element by others, in their order. It is always a change of its own.
@@ -194,7 +194,7 @@ impl SyntaxEditor {
         Ok(self.changes.push(change)?)
     }
 
-    fn delete_element(&mut self, alloc: Global, element: SyntaxElement) -> Result<(), RecordError>
+    fn delete_element(&mut self, element: SyntaxElement) -> Result<(), RecordError>
         ensures recorded { OnOk result (Records (Deleting element) self.old self.new) }
         ensures accepted { OnOk result (Takes self.old (Deleting element)) }
         ensures refused { IfErr result (RecordRefuses (Deleting element) self.old) }
@@ -207,12 +207,11 @@ impl SyntaxEditor {
         if is_root(&element) {
             return Err(RecordError::DeletesRoot);
         }
-        Ok(self.changes.delete(alloc, element)?)
+        Ok(self.changes.delete(element)?)
     }
 
     fn replace_element(
         &mut self,
-        alloc: Global,
         element: SyntaxElement,
         new: SyntaxElement,
     ) -> Result<(), RecordError>
@@ -228,7 +227,7 @@ impl SyntaxEditor {
         if is_root(&element) && !is_node(&new) {
             return Err(RecordError::RootReplacement);
         }
-        Ok(self.changes.replace(alloc, element, new)?)
+        Ok(self.changes.replace(element, new)?)
     }
 
     fn delete_range(
@@ -245,7 +244,7 @@ impl SyntaxEditor {
     {
         self.test_deleting_all(&first, &last)?;
         if first == last {
-            return Ok(self.changes.delete(alloc, first)?);
+            return Ok(self.changes.delete(first)?);
         }
         let nothing = Vec::new(alloc);
         Ok(self.record(Change::ReplaceAll(first, last, nothing.into()))?)

@@ -2,18 +2,23 @@
 -- of one tree, so paths tell its elements apart.
 --     replaced_at                          where the first Replace of a list stands, and whether one of them is a deletion
 --     as_deleted                           the same of an element that is deleted now
---     entry_at                                what an index says of a path
---     SaysAt, SaysDeleted                  an index says this of a path now, and what it said of any other; that it is deleted, if it said something of it
---     room                                 how many more elements it takes without growing
---     Agrees                               the index says that of each path
+--     number_at, number_of                 the number of the entry that an index has for a path; for that of an element
+--     entry_of, entry_at                   what it says at a number, and of a path
+--     IsNumbered                           no two paths have the same number, and each number has an entry
+--     KeepsNumbers                         each path that had a number has it now
+--     SaysAt                               an index says this of a path now, and what it said of any other
+--     Agrees                               such an index, which says that of each path
 --     Notes, NotesReplace                  an index that agreed with a list of n changes agrees with it and these after it; where that is a Replace of an element, by nothing or not
-use Rattle.std.specs.Prelude.{◌≡◌, ℕ, Bool, true, cond, List, [], ◌∷◌, ◌++◌, length, position, Option, Some, None, option_map, is_none, Result, OnOk}
+use Rattle.std.specs.Prelude.{◌≡◌, ℕ, Bool, true, cond, List, [], ◌∷◌, ◌++◌, length, position, slice_get, option_and_then, Option, Some, None, option_map, is_none, Result, OnOk}
 use Rattle.std.specs.List.{list_any}
-use Rattle.std.specs.HashMap.{get_by, spare}
+use Rattle.std.specs.Option.{option_flatten}
 use Rattle.cst_core.specs.Path.{Path, same_path}
+use Rattle.cst_core.specs.SyntaxElement.{element_of}
 use Rattle.cst_core.specs.declared.element.SyntaxElement.{SyntaxElement}
+use Rattle.path_table.specs.inner.PathTable.{number_by_path}
 use Rattle.edit_change.specs.declared.change.Change.{Change}
 use Rattle.edit_change.specs.declared.change.Change.TheVariants.{Replace}
+use Rattle.change_list.specs.inner.Numbered.{AreNumbered}
 use Rattle.change_list.specs.inner.ByPath.{replacements_at, is_replace_at}
 use Rattle.change_list.specs.declared.replace_table.Replaced.{Replaced}
 use Rattle.change_list.specs.declared.replace_table.ReplaceTable.{ReplaceTable}
@@ -26,20 +31,30 @@ as_deleted None = None
 as_deleted (Some r) = Some (record { first = r.first; is_deleted = true })
 
 -- ---- the index
+abbrev pub number_at : ReplaceTable → Path → Option ℕ
+number_at x p = number_by_path x.numbers p
+
+abbrev pub number_of : ReplaceTable → SyntaxElement → Option ℕ
+number_of x e = number_at x (element_of e).path
+
+abbrev pub entry_of : ReplaceTable → ℕ → Option Replaced
+entry_of x n = option_flatten (slice_get x.entries.items n)
+
 abbrev pub entry_at : ReplaceTable → Path → Option Replaced
-entry_at x p = get_by (λ k. same_path p k.items) x.entries
+entry_at x p = option_and_then (entry_of x) (number_at x p)
+
+abbrev pub IsNumbered : ReplaceTable → Type 0
+IsNumbered x = AreNumbered x.numbers (length x.entries.items)
+
+abbrev pub KeepsNumbers : ReplaceTable → ReplaceTable → Type 0
+KeepsNumbers before after = (p : Path) (n : ℕ) → number_at before p ≡ Some n → number_at after p ≡ Some n
 
 abbrev pub SaysAt : Path → Option Replaced → ReplaceTable → ReplaceTable → Type 0
 SaysAt path replaced before after = (p : Path) → entry_at after p ≡ cond (same_path path p) replaced (entry_at before p)
 
-abbrev pub SaysDeleted : Path → ReplaceTable → ReplaceTable → Type 0
-SaysDeleted path before after = (p : Path) → entry_at after p ≡ cond (same_path path p) (as_deleted (entry_at before p)) (entry_at before p)
-
-abbrev pub room : ReplaceTable → ℕ
-room x = spare x.entries
-
-abbrev pub Agrees : ReplaceTable → List Change → Type 0
-Agrees x cs = (p : Path) → entry_at x p ≡ replaced_at p cs
+pub record Agrees (x : ReplaceTable) (cs : List Change) : Type 0 where
+  pub says : (p : Path) → entry_at x p ≡ replaced_at p cs
+  pub numbered : IsNumbered x
 
 -- ---- more changes at the end, which an index is told of where the call is not refused
 abbrev pub Notes : {A E : Type 0} → Result A E → ℕ → List Change → ReplaceTable → ReplaceTable → Type 0

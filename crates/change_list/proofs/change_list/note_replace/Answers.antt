@@ -1,20 +1,42 @@
-use Rattle.std.proofs.Common.{Result, Ok, Err, OnOk, ◌∙◌}
-use Rattle.change_list.specs.inner.Indexing.{entry_at}
-use Rattle.change_list.proofs.Noted.{noted-first, noted-after, noted-kept}
+use Rattle.std.proofs.Common.{◌≡◌, Some, None, cond, option_and_then, ◌||◌, ap, subst, sym, ◌∙◌}
+use Rattle.cst_core.specs.Path.{same_path}
+use Rattle.cst_core.specs.SyntaxElement.{element_of}
+use Rattle.change_list.specs.inner.Indexing.{number_at, entry_of, entry_at}
+use Rattle.change_list.proofs.Noted.{noted-first, noted-again}
 use Rattle.change_list.proofs.change_list.note_replace.Goals as goal
+use Rattle.change_list.proofs.change_list.note_replace.Goals.{then-known, else-known}
 
-on-ok : {A E P Q : Type 0} (r : Result A E) → (P → Q) → OnOk r P → OnOk r Q
-on-ok (Ok a) h p = h p
-on-ok (Err e) h p = p
+pub returns-in-None : goal.returns-in-None
+returns-in-None c =
+    let p = (element_of c.args.element.now).path in
+    let entered : number_at c.enter.new.self p ≡ Some c.in_ok-entry.entry = subst (λ q. number_at c.enter.new.self q ≡ Some c.in_ok-entry.entry) c.slots.ensures c.in_ok-entry.ensures.entered in
+    let none : entry_at c.args.index.now p ≡ None = sym (c.in_ok-entry.ensures.said p) ∙ ap (option_and_then (entry_of c.enter.new.self)) entered ∙ sym c.at.ensures ∙ c.in-None.is in
+    record {
+      numbered = c.set.ensures.numbered;
+      noted = λ cs new long deletes agrees. record {
+        says = noted-first c.args.element.now new cs (entry_at c.args.index.now) (entry_at c.set.new.self) agrees.says c.args.is_deleted deletes c.args.number long none
+            (λ q. c.set.ensures.said p entered q ∙ ap (cond (same_path p q) (Some (record { first = c.args.number; is_deleted = c.args.is_deleted }))) (c.in_ok-entry.ensures.said q));
+        numbered = c.set.ensures.numbered;
+      };
+    }
 
-pub returns-then-is_none : goal.returns-then-is_none
-returns-then-is_none c = λ cs new long deletes agrees.
-    on-ok c.insert.result (noted-first c.args.element.now new cs (entry_at c.args.index.now) c.slots.result.now c.slots.ensures agrees c.get.result c.get.ensures c.is_none.result c.is_none.ensures (entry_at c.insert.new.self) c.in_ok-path.path.items c.args.number c.args.is_deleted c.in_ok-path.ensures c.if-is_none.true long deletes) c.insert.ensures.ok
-
-pub returns-then-is_deleted : goal.returns-then-is_deleted
-returns-then-is_deleted c = λ cs new long deletes agrees.
-    noted-after c.args.element.now new cs (entry_at c.args.index.now) c.slots.result.now c.slots.ensures agrees c.get.result c.get.ensures c.is_none.result c.is_none.ensures (entry_at c.mark_deleted.new.self) c.slots-then-is_deleted.result.now c.slots-then-is_deleted.ensures c.if-is_none.false (deletes ∙ c.if-is_deleted.true) c.mark_deleted.ensures
-
-pub returns-else-is_deleted : goal.returns-else-is_deleted
-returns-else-is_deleted c = λ cs new long deletes agrees.
-    noted-kept c.args.element.now new cs (entry_at c.args.index.now) c.slots.result.now c.slots.ensures agrees c.get.result c.get.ensures c.is_none.result c.is_none.ensures c.if-is_none.false (deletes ∙ c.if-is_deleted.false)
+pub returns-after-known : goal.returns-after-known
+returns-after-known c =
+    let p = (element_of c.args.element.now).path in
+    let r = c.in-Some.known in
+    let entered : number_at c.enter.new.self p ≡ Some c.in_ok-entry.entry = subst (λ q. number_at c.enter.new.self q ≡ Some c.in_ok-entry.entry) c.slots.ensures c.in_ok-entry.ensures.entered in
+    let known : entry_at c.args.index.now p ≡ Some r = sym (c.in_ok-entry.ensures.said p) ∙ ap (option_and_then (entry_of c.enter.new.self)) entered ∙ sym c.at.ensures ∙ c.in-Some.is in
+    let deleted : c.if-known.set ≡ (r.is_deleted || c.args.is_deleted) = elim c.if-known.branch [
+      | then-known w ↦ w.set-is ∙ w.if-known.true ∙ sym (ap (λ b. b || c.args.is_deleted) w.if-known.true)
+      | else-known w ↦ w.set-is ∙ sym (ap (λ b. b || c.args.is_deleted) w.if-known.false)
+    ] in
+    record {
+      numbered = c.set-in-Some.ensures.numbered;
+      noted = λ cs new long deletes agrees. record {
+        says = noted-again c.args.element.now new cs (entry_at c.args.index.now) (entry_at c.set-in-Some.new.self) agrees.says c.args.is_deleted deletes r known
+            (λ q. c.set-in-Some.ensures.said p entered q
+            ∙ ap (λ b. cond (same_path p q) (Some (record { first = r.first; is_deleted = b })) (entry_at c.enter.new.self q)) deleted
+            ∙ ap (cond (same_path p q) (Some (record { first = r.first; is_deleted = r.is_deleted || c.args.is_deleted }))) (c.in_ok-entry.ensures.said q));
+        numbered = c.set-in-Some.ensures.numbered;
+      };
+    }

@@ -9,5 +9,5 @@ pub returns-in-None : goal.returns-in-None
 returns-in-None c =
     let p = c.args.path.now in
     let cs = c.self.inside.changes.items in
-    let none : replaced_at p cs ≡ None = sym (c.self.invariant p) ∙ sym c.get.ensures ∙ c.in-None.is in
+    let none : replaced_at p cs ≡ None = sym (c.self.invariant.says p) ∙ sym c.get.ensures ∙ c.in-None.is in
     sym (nothing-deleted p cs none) ∙ ap (λ ds. list_any is_none (replacements_at p ds)) c.self.view_is

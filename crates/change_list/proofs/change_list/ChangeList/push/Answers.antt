@@ -5,7 +5,10 @@ use Rattle.change_list.proofs.change_list.ChangeList.push.Goals as goal
 
 pub invariant_of-self-2 : goal.invariant_of-self-2
 invariant_of-self-2 c =
-    λ p. c.self.invariant p ∙ sym (said-pushed c.self.inside.changes.items c.args.change c.requires p) ∙ ap (replaced_at p) (sym c.in_ok-push.ensures.items)
+    record {
+      says = λ p. c.self.invariant.says p ∙ sym (said-pushed c.self.inside.changes.items c.args.change c.requires p) ∙ ap (replaced_at p) (sym c.in_ok-push.ensures.items);
+      numbered = c.self.invariant.numbered;
+    }
 
 pub returns-clause-ok : goal.returns-clause-ok
 returns-clause-ok c = search rules
