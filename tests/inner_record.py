@@ -64,8 +64,8 @@ CALL = re.compile(r"^ *(?:pub(?:\([^)]*\))? )?fn (\w+)", re.M)
 ITEM = re.compile(r"^(?:pub(?:\([^)]*\))? )?(?:struct|enum|const) (\w+)[^{;]*(?:;|\{.*?^\})", re.M | re.S)
 USE = re.compile(r"^(?:pub )?use (\w[^;]*);", re.M)
 GHOST = re.compile(r"^    ghost (?!use |laws|respects_eq)([^;]*);", re.M)
-# What is hidden from the crates above.
-HIDDEN = re.compile(r"\s+(?!pub )\w+:|ghost (?:invariant|coded|size)")
+# What is hidden from the crates above, or can't matter there: the clauses of hash tables don't tell what their keys feed a hasher.
+HIDDEN = re.compile(r"\s+(?!pub )\w+:|ghost (?:invariant|coded|size|hash_input)")
 
 
 def owners_of(text, call):
