@@ -5,6 +5,7 @@
 --     entered, entered-unused       one mark more there; what has no cell has no list
 --     all-ancestors                 what is put in at each ancestor, all together
 --     sought-more                   one registered element more
+--     none-anywhere                 where nothing is registered, nothing is at any elements
 use Rattle.std.specs.Prelude.{◌≡◌, ◌≢◌, ℕ, zero, suc, ◌+◌, ◌<◌, ◌≤◌, Bool, true, false, ◌&&◌, cond, nat_eq, length, flat_map, List, [], ◌∷◌, ◌++◌, take, drop, get_or, option_and_then, Option, Some, None, Vec, refl}
 use Rattle.std.specs.Global.{Global}
 use Rattle.std.specs.Option.{option_map_or}
@@ -17,11 +18,12 @@ use Rattle.one_pass.specs.declared.mark.Sought.{Sought}
 use Rattle.one_pass.specs.inner.Marked.{Marking, sought_as, sought_in, sought_for}
 use Rattle.one_pass.specs.inner.OneMore.{HasOneMore, StaysElsewhere}
 use Rattle.cst_core.specs.Path.{Path, same_path, counted_from}
-use Rattle.cst_core.specs.Element.{Address, same_address}
+use Rattle.cst_core.specs.Element.{Address, Element, address, same_address}
 use Rattle.path_table.specs.inner.PathTable.{cell_below, cell_at, size, IsGrown}
+use Rattle.one_pass.specs.declared.sought.SoughtTable.{SoughtTable}
 use Rattle.path_table.specs.declared.table.PathTable.{PathTable}
 use Rattle.path_table.proofs.PathTables.{cell-push, path-is}
-use Rattle.one_pass.specs.inner.Sought.{path_below, sought_one, sought_from}
+use Rattle.one_pass.specs.inner.Sought.{path_below, sought_one, sought_from, sought_at, sought_at_all}
 use Rattle.edit_change.proofs.Paths.{same_path-true, same_path_from}
 
 -- ---- lists by cell
@@ -182,3 +184,8 @@ sought-more n [] r a =
 sought-more n (s ∷ rs) r a =
     let same : suc n + length rs ≡ n + suc (length rs) = omega arith in
     ap (λ ms. sought_one a n s ++ ms) (sought-more (suc n) rs r a) ∙ sym (append_assoc (sought_one a n s) (sought_from (suc n) rs a) (sought_one a (suc n + length rs) r)) ∙ ap (λ k. sought_one a n s ++ sought_from (suc n) rs a ++ sought_one a k r) same
+
+-- ---- nothing registered
+pub none-anywhere : (index : SoughtTable) → ((a : Address) → sought_at index a ≡ []) → (es : List Element) → sought_at_all index es ≡ []
+none-anywhere index none [] = refl
+none-anywhere index none (e ∷ es) = ap₂ (λ xs ys. xs ++ ys) (none (address e)) (none-anywhere index none es)

@@ -1,12 +1,12 @@
 //! Registered elements, looked up by what is above them.
 
-ghost use Rattle.std.specs.Prelude.{◌≡◌, ◌≤◌, ◌<◌, ℕ, true, [], length, OnOk, IfOk};
+ghost use Rattle.std.specs.Prelude.{◌≡◌, ◌≤◌, ◌<◌, ℕ, true, [], map, length, OnOk, IfOk};
 ghost use Rattle.cst_core.specs.Element.{Address, address};
 ghost use Rattle.cst_core.specs.SyntaxElement.{element_of};
 ghost use Rattle.path_table.specs.inner.PathTable.{size};
 ghost use Rattle.one_pass.specs.inner.Marked.{sought_as, sought_in};
 ghost use Rattle.one_pass.specs.inner.OneMore.{HasOneMore, StaysElsewhere};
-ghost use Rattle.one_pass.specs.inner.Sought.{addresses, sought_from, sought_at, IsSoughtTable};
+ghost use Rattle.one_pass.specs.inner.Sought.{addresses, sought_from, sought_at, sought_at_all, IsSoughtTable};
 ghost use Rattle.one_pass.specs.inner.Sought.{HasSameLists, HasListedMore, IsMarkEntered, HasRegisteredMore};
 
 use crate::mark::Sought;
@@ -53,6 +53,21 @@ impl<'a> SoughtTable<'a> {
             return &[];
         }
         self.lists[cell].as_slice()
+    }
+
+    /// Whether nothing is registered at these elements or below them.
+    pub(crate) fn has_none(&self, elements: &[SyntaxElement]) -> bool
+        ensures { result ≡ true → sought_at_all self.now (map element_of elements.now) ≡ [] }
+    {
+        if self.is_empty() {
+            return true;
+        }
+        for element in elements {
+            if !self.at(element).is_empty() {
+                return false;
+            }
+        }
+        true
     }
 
     // Lists for the cells before this one.
