@@ -1,6 +1,6 @@
 -- Elements by annotation, and where registered elements are followed to.
 --     items_of                      the items of a vector that may be there
---     added                         a table with one element more for an annotation
+--     added                         a table with more elements for an annotation
 --     one-less                      a table with one more element has it for its annotation, and one path is left less
 --     Tells, leads_to               numbers tell trees, as far as a registered element and the mapping go; where that element is followed to
 --     followed-more                 one more registered element is followed
@@ -41,18 +41,18 @@ use Rattle.edit_change.specs.Results.{is_brought, copies_of}
 use Rattle.edit_change.proofs.Lists.{all_filter, all_weaker}
 use Rattle.edit_change.proofs.Relabelled.{at-relabelled}
 
--- ---- a table with one element more
+-- ---- a table with more elements
 module _ {X : Type 0} where
   abbrev pub items_of : Option (Vec X Global) → List X
   items_of o = option_map_or (λ v. v.items) o []
 
-  -- where the key k gets w, which has one more than the key had
-  pub added : {S : Type 0} (m n : HashMap ℕ (Vec X Global) S) (k : ℕ) (x : X) (w : Vec X Global) → Updates nat_eq m n k (Some w) → w.items ≡ items_of (get nat_eq m k) ++ x ∷ [] → (a : ℕ) → items_of (get_by (nat_eq a) n) ≡ items_of (get_by (nat_eq a) m) ++ cond (nat_eq k a) (x ∷ []) []
-  added m n k x w put more a =
+  -- where the key k gets w, which has these more than the key had
+  pub added : {S : Type 0} (m n : HashMap ℕ (Vec X Global) S) (k : ℕ) (xs : List X) (w : Vec X Global) → Updates nat_eq m n k (Some w) → w.items ≡ items_of (get nat_eq m k) ++ xs → (a : ℕ) → items_of (get_by (nat_eq a) n) ≡ items_of (get_by (nat_eq a) m) ++ cond (nat_eq k a) xs []
+  added m n k xs w put more a =
       let before = items_of (get nat_eq m a) in
       ap items_of (put.0 a) ∙ elim (cases_Bool (nat_eq k a)) [
-        | inl same ↦ ap (λ b. items_of (cond b (Some w) (get nat_eq m a))) same ∙ more ∙ ap (λ q. items_of (get nat_eq m q) ++ x ∷ []) (eqb-true k a same) ∙ ap (λ b. before ++ cond b (x ∷ []) []) (sym same)
-        | inr other ↦ ap (λ b. items_of (cond b (Some w) (get nat_eq m a))) other ∙ sym (append-nil before) ∙ ap (λ b. before ++ cond b (x ∷ []) []) (sym other)
+        | inl same ↦ ap (λ b. items_of (cond b (Some w) (get nat_eq m a))) same ∙ more ∙ ap (λ q. items_of (get nat_eq m q) ++ xs) (eqb-true k a same) ∙ ap (λ b. before ++ cond b xs []) (sym same)
+        | inr other ↦ ap (λ b. items_of (cond b (Some w) (get nat_eq m a))) other ∙ sym (append-nil before) ∙ ap (λ b. before ++ cond b xs []) (sym other)
       ]
 
 -- ---- the paths of one annotation

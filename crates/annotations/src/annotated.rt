@@ -7,6 +7,7 @@ ghost use Rattle.annotations.specs.inner.Annotating.{Annotates, AreNumbered, Lea
 ghost use Rattle.annotations.specs.inner.Annotating.{TellOf, AreFollowed};
 
 use crate::annotation::SyntaxAnnotation;
+use crate::annotation_runs::AnnotationRuns;
 use crate::annotation_table::AnnotationTable;
 use cst_core::{SyntaxElement, SyntaxNode};
 use edit_map::SyntaxMapping;
@@ -66,12 +67,15 @@ pub fn elements_by_annotation(
     requires { All (λ n. IsElement (element_at root.now n.1)) (map annotated_path annotated.items) }
     ensures { IfOk result (LeadByAnnotation root.now annotated.items) }
 {
-    let mut table = AnnotationTable::with_capacity(alloc, count.min(annotated.len()))?;
+    let Some((first, _)) = annotated.first() else {
+        return AnnotationTable::with_capacity(alloc, 0);
+    };
+    let mut runs = AnnotationRuns::begin(alloc, count.min(annotated.len()), *first)?;
     for (annotation, path) in annotated {
         match root.element_of_tree(alloc, path)? {
-            Some(element) => table.add(alloc, annotation, element)?,
+            Some(element) => runs.push(alloc, annotation, element)?,
             None => unreachable!(),
         }
     }
-    Ok(table)
+    runs.end()
 }

@@ -1,7 +1,7 @@
 //! The elements of the new tree that are found for each annotation.
 
 ghost use Rattle.std.specs.Prelude.{ℕ, ◌≡◌, [], IfOk, OnOk};
-ghost use Rattle.annotations.specs.inner.Annotating.{elements_at, HasElementMore};
+ghost use Rattle.annotations.specs.inner.Annotating.{elements_at, HasElementsMore};
 
 use crate::annotation::SyntaxAnnotation;
 use cst_core::SyntaxElement;
@@ -27,20 +27,21 @@ impl AnnotationTable {
         Ok(AnnotationTable { lists })
     }
 
-    /// One more element for an annotation, after those that it has.
-    pub fn add(
+    /// More elements for an annotation, after those that it has.
+    pub(crate) fn add_all(
         &mut self,
-        alloc: Global,
         annotation: SyntaxAnnotation,
-        element: SyntaxElement,
+        elements: Vec<SyntaxElement>,
     ) -> Result<(), AllocError>
-        ensures { OnOk result (HasElementMore self.old self.new annotation element) }
+        ensures { OnOk result (HasElementsMore self.old self.new annotation elements.items) }
     {
         match self.lists.entry(annotation)? {
-            Entry::Occupied(entry) => entry.into_mut().push(element)?,
+            Entry::Occupied(entry) => {
+                let mut elements = elements;
+                entry.into_mut().append(&mut elements)?;
+            }
             Entry::Vacant(entry) => {
-                let list = vec![in alloc; element]?;
-                entry.insert(list);
+                entry.insert(elements);
             }
         }
         Ok(())

@@ -3,6 +3,7 @@
 
 mod annotated;
 mod annotation;
+mod annotation_runs;
 mod annotation_table;
 
 pub use annotated::{annotated_paths, elements_by_annotation, registered_copies};

@@ -5,8 +5,7 @@
 --     next-list, other-lists        the last of some lists, and the lists before it
 --     waits-more, size-more         one child more: the marks of those that wait, and how many elements there are
 --     found-more, rising-one, size-one, found-less    a list with one more that waits; with one less
-use Rattle.std.specs.Prelude.{◌≡◌, ℕ, zero, suc, ◌+◌, ◌<◌, ◌≤◌, List, [], ◌∷◌, ◌++◌, map, take, drop, length, get_or, Vec, refl}
-use Rattle.std.specs.Global.{Global}
+use Rattle.std.specs.Prelude.{◌≡◌, ℕ, zero, suc, ◌+◌, ◌<◌, ◌≤◌, List, [], ◌∷◌, ◌++◌, map, take, drop, length, get_or, refl}
 use Rattle.std.proofs.Common.{ap, ap₂, sym, subst, ◌∙◌, arith}
 use Rattle.std.proofs.Math.Seq.{take-length}
 use Rattle.std.proofs.lemmas.List.{append_assoc, append-nil, at_drop_more}
@@ -65,7 +64,7 @@ found-same : (p q : Path) (low : ℕ) (ws : List Waiting) (high : ℕ) → Risin
 found-same p q low [] high h same = refl
 found-same p q low (w ∷ ws) high h same =
     let own : take w.depth p ≡ take w.depth q = take-shorter w.depth high p q (rising-low w.depth ws high h.1) same in
-    ap₂ (λ ms r. ms ++ map (mark_below (r ++ w.slot ∷ [])) (marked (kept_marks w.sought.items w.element.now))) (found-same p q w.depth ws high h.1 same) own
+    ap₂ (λ ms r. ms ++ map (mark_below (r ++ w.slot ∷ [])) (marked (kept_marks w.sought w.element.now))) (found-same p q w.depth ws high h.1 same) own
 
 pub take-front : (n : ℕ) (p q : Path) → n ≤ length p → take n (take n p ++ q) ≡ take n p
 take-front zero p q l = refl
@@ -75,10 +74,10 @@ take-front (suc n) (i ∷ p) q l = ap (λ r. i ∷ r) (take-front n p q (omega (
 pub take-within : (n m : ℕ) (p q : Path) → n ≤ m → m ≤ length p → take n (take m p ++ q) ≡ take n p
 take-within n m p q l k = take-shorter n m (take m p ++ q) p l (take-front m p q k)
 
-found-depth : (path : Path) (w : Waiting) → length path ≡ w.depth → found_in path w ≡ map (mark_below (path ++ w.slot ∷ [])) (marked (kept_marks w.sought.items w.element.now))
+found-depth : (path : Path) (w : Waiting) → length path ≡ w.depth → found_in path w ≡ map (mark_below (path ++ w.slot ∷ [])) (marked (kept_marks w.sought w.element.now))
 found-depth path w long =
     let whole : take w.depth path ≡ path = ap (λ n. take n path) (sym long) ∙ take-length path in
-    ap (λ p. map (mark_below (p ++ w.slot ∷ [])) (marked (kept_marks w.sought.items w.element.now))) whole
+    ap (λ p. map (mark_below (p ++ w.slot ∷ [])) (marked (kept_marks w.sought w.element.now))) whole
 
 -- ---- how many elements
 size-push : (ws : List Waiting) (w : Waiting) → waiting_size (ws ++ w ∷ []) ≡ waiting_size ws + size (element_tree w.element.now)
@@ -96,11 +95,11 @@ shown-split path sought i ts d l =
     ap (shown path i) (split (wanted sought) (λ c. []) [] i ts d l) ∙ shown-append path i (own ∷ []) (left (wanted sought) (λ c. []) [] (i + 1) ts)
 
 -- ---- their lists
-pub next-list : (ls : List (Vec Sought Global)) (l : Vec Sought Global) → sought_for (ls ++ l ∷ []) (length ls) ≡ sought_in l.items
+pub next-list : (ls : List (List Sought)) (l : List Sought) → sought_for (ls ++ l ∷ []) (length ls) ≡ sought_in l
 next-list [] l = refl
 next-list (x ∷ ls) l = next-list ls l
 
-pub other-lists : (ls : List (Vec Sought Global)) (l : Vec Sought Global) (k : ℕ) → k < length ls → sought_for (ls ++ l ∷ []) k ≡ sought_for ls k
+pub other-lists : (ls : List (List Sought)) (l : List Sought) (k : ℕ) → k < length ls → sought_for (ls ++ l ∷ []) k ≡ sought_for ls k
 other-lists [] l k h = absurd (omega (arith, h))
 other-lists (x ∷ ls) l zero h = refl
 other-lists (x ∷ ls) l (suc k) h = other-lists ls l k (omega (arith, h))
@@ -119,7 +118,7 @@ module _ (sought : List Marking) (i : ℕ) (ts : List SyntaxTree) (d : SyntaxTre
 
 -- ---- one more, at the end of a list
 module _ (before after : List Waiting) (w : Waiting) (more : after ≡ before ++ w ∷ []) where
-  pub found-more : (path : Path) → length path ≡ w.depth → found_later path after ≡ map (mark_below (path ++ w.slot ∷ [])) (marked (kept_marks w.sought.items w.element.now)) ++ found_later path before
+  pub found-more : (path : Path) → length path ≡ w.depth → found_later path after ≡ map (mark_below (path ++ w.slot ∷ [])) (marked (kept_marks w.sought w.element.now)) ++ found_later path before
   found-more path long =
       ap (found_later path) more ∙ found-push path before w ∙ ap (λ ms. ms ++ found_later path before) (found-depth path w long)
 
@@ -131,7 +130,7 @@ module _ (before after : List Waiting) (w : Waiting) (more : after ≡ before ++
 
 -- ---- one less
 module _ (before after : List Waiting) (w : Waiting) (less : before ≡ after ++ w ∷ []) (path : Path) where
-  pub found-less : (inner : Path) (low : ℕ) → inner ≡ take w.depth path ++ w.slot ∷ [] → Rising low after w.depth → w.depth ≤ length path → found_later path before ≡ map (mark_below inner) (marked (kept_marks w.sought.items w.element.now)) ++ found_later inner after
+  pub found-less : (inner : Path) (low : ℕ) → inner ≡ take w.depth path ++ w.slot ∷ [] → Rising low after w.depth → w.depth ≤ length path → found_later path before ≡ map (mark_below inner) (marked (kept_marks w.sought w.element.now)) ++ found_later inner after
   found-less inner low is h l =
       let same : take w.depth path ≡ take w.depth inner = sym (ap (take w.depth) is ∙ take-front w.depth path (w.slot ∷ []) l) in
-      ap (found_later path) less ∙ found-push path after w ∙ ap₂ (λ p ms. map (mark_below p) (marked (kept_marks w.sought.items w.element.now)) ++ ms) (sym is) (found-same path inner low after w.depth h same)
+      ap (found_later path) less ∙ found-push path after w ∙ ap₂ (λ p ms. map (mark_below p) (marked (kept_marks w.sought w.element.now)) ++ ms) (sym is) (found-same path inner low after w.depth h same)

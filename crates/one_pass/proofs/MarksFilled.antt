@@ -34,7 +34,7 @@ use Rattle.edit_change.specs.Nesting.{owner}
 use Rattle.edit_change.specs.inner.OwnerPlaces.{depth_of}
 use Rattle.one_pass.specs.inner.OwnerTables.{owns_at, AreDependents, AreOwners}
 use Rattle.edit_change.specs.NewTree.{origin, payload_of, dependents}
-use Rattle.one_pass.specs.inner.Sought.{path_below, sought_one, sought_from, sought_at, registered_at}
+use Rattle.one_pass.specs.inner.Sought.{path_below, sought_one, sought_from, sought_at, sought_at_all, registered_at}
 use Rattle.one_pass.specs.inner.Marks.{marks_given, IsTableOf, element_sought, payload_sought, with_answer, AreMarksFrom}
 use Rattle.edit_change.specs.declared.change.Change.{Change}
 use Rattle.one_pass.specs.declared.dependent.Dependent.{Dependent}
@@ -104,15 +104,19 @@ listed g ts l h = record {
 }
 
 -- where nothing is sought
-unsought-at : (index : SoughtTable) → ((a : Address) → sought_at index a ≡ []) → (es : List Element) (i : ℕ) (d : MarkTree) → i < length (payload_sought index (λ n. []) [] es) → marked (get_or (payload_sought index (λ n. []) [] es) i d) ≡ []
-unsought-at index none [] i d l = absurd (omega (arith, l))
-unsought-at index none (e ∷ es) zero d l = ap (λ ms. marked (rewritten (wanted ms) (λ c. []) [] [] (subtree e))) (none (address e)) ∙ ap marked (untouched (λ k. []) (λ c. []) [] refl [] (subtree e)) ∙ marks-none (subtree e)
-unsought-at index none (e ∷ es) (suc i) d l = unsought-at index none es i d (omega (arith, l))
+no-items : {A : Type 0} (xs ys : List A) → xs ++ ys ≡ [] → (xs ≡ []) × (ys ≡ [])
+no-items [] ys none = (refl, none)
+no-items (x ∷ xs) ys none = absurd (omega (arith, ap length none))
 
-pub unsought : (index : SoughtTable) → ((a : Address) → sought_at index a ≡ []) → (g : MarkedGiven) (es : List Element) → g.marks.items ≡ [] → given_trees g.elements ≡ map subtree es → IsMarked None g (payload_sought index (λ n. []) [] es)
-unsought index none g es empty are = record {
+unsought-at : (index : SoughtTable) (es : List Element) → sought_at_all index es ≡ [] → (i : ℕ) (d : MarkTree) → i < length (payload_sought index (λ n. []) [] es) → marked (get_or (payload_sought index (λ n. []) [] es) i d) ≡ []
+unsought-at index [] none i d l = absurd (omega (arith, l))
+unsought-at index (e ∷ es) none zero d l = ap (λ ms. marked (rewritten (wanted ms) (λ c. []) [] [] (subtree e))) (no-items (sought_at index (address e)) (sought_at_all index es) none).0 ∙ ap marked (untouched (λ k. []) (λ c. []) [] refl [] (subtree e)) ∙ marks-none (subtree e)
+unsought-at index (e ∷ es) none (suc i) d l = unsought-at index es (no-items (sought_at index (address e)) (sought_at_all index es) none).1 i d (omega (arith, l))
+
+pub unsought : (index : SoughtTable) (g : MarkedGiven) (es : List Element) → sought_at_all index es ≡ [] → g.marks.items ≡ [] → given_trees g.elements ≡ map subtree es → IsMarked None g (payload_sought index (λ n. []) [] es)
+unsought index g es none empty are = record {
   count = length-map es (element_sought index (λ n. []) []) ∙ sym (ap length are ∙ length-map es subtree);
-  each = λ i d l. unsought-at index none es i d l ∙ sym (ap (λ vs. option_map_or (λ v. marks_of v.items) (slice_get vs i) []) empty);
+  each = λ i d l. unsought-at index es none i d l ∙ sym (ap (λ vs. option_map_or (λ v. marks_of v.items) (slice_get vs i) []) empty);
 }
 
 pub entry : (cs : List Change) (c : ℕ) (change : Change) (index : SoughtTable) (owned : List NumberedAim) (table : GivenTable) (g : MarkedGiven) → c < length cs → c < length table.entries.items → change ≡ get_or cs c change → table.top ≡ None → (trees : ℕ → List MarkTree) → AreMarkedIn table trees → IsMarked None g (payload_sought index trees owned (payload change)) → (n : ℕ) → IsMarkedIn table.top (slice_get (set table.entries.items c g) n) (with_answer trees c (payload_sought index trees owned (payload_of cs c)) n)

@@ -1,8 +1,7 @@
 -- The marks of what is kept.
-use Rattle.std.specs.Prelude.{◌≡◌, ◌<◌, ℕ, true, false, cond, nat_eq, ◌&&◌, List, [], ◌∷◌, ◌++◌, zero, suc, Some, map, filter, length, get_or, slice_get, Vec, refl}
+use Rattle.std.specs.Prelude.{◌≡◌, ◌<◌, ℕ, true, false, cond, nat_eq, ◌&&◌, List, [], ◌∷◌, ◌++◌, zero, suc, Some, map, filter, length, get_or, slice_get, refl}
 use Rattle.std.specs.Option.{option_map_or}
 use Rattle.std.proofs.lemmas.Option.{get_or_from_slice_get}
-use Rattle.std.specs.Global.{Global}
 use Rattle.std.proofs.Common.{ap, ap₂, sym, subst, arith, ◌∙◌}
 use Rattle.std.proofs.lemmas.List.{append_assoc, append-nil, map-append}
 use Rattle.green_tree.specs.Path.{Path, same_path}
@@ -65,11 +64,11 @@ list_there [] k l = absurd (omega (arith, l))
 list_there (x ∷ xs) zero l = (x, refl)
 list_there (x ∷ xs) (suc k) l = list_there xs k (omega (arith, l))
 
-pub in_lists : (lists : List (Vec Sought Global)) (count : ℕ) (ms : List Marking) → length lists ≡ count → ((k : ℕ) (d : Vec Sought Global) → k < count → sought_in (get_or lists k d).items ≡ sought_below k ms) → AreDealt ms count lists
+pub in_lists : (lists : List (List Sought)) (count : ℕ) (ms : List Marking) → length lists ≡ count → ((k : ℕ) (d : List Sought) → k < count → sought_in (get_or lists k d) ≡ sought_below k ms) → AreDealt ms count lists
 in_lists lists count ms long all k l =
     let there = list_there lists k (subst (λ n. k < n) (sym long) l) in
-    ap (λ o. option_map_or (λ v. sought_in v.items) o []) there.1 ∙ ap (λ v. sought_in v.items) (sym (get_or_from_slice_get lists k there.0 there.0 there.1)) ∙ all k there.0 l
+    ap (λ o. option_map_or sought_in o []) there.1 ∙ ap sought_in (sym (get_or_from_slice_get lists k there.0 there.0 there.1)) ∙ all k there.0 l
 
-pub none_dealt : (xs : List Sought) (count : ℕ) (lists : List (Vec Sought Global)) → length xs ≡ 0 → lists ≡ [] → AreDealt (sought_in xs) count lists
-none_dealt [] count lists none empty k l = ap (λ vs. option_map_or (λ v. sought_in v.items) (slice_get vs k) []) empty
+pub none_dealt : (xs : List Sought) (count : ℕ) (lists : List (List Sought)) → length xs ≡ 0 → lists ≡ [] → AreDealt (sought_in xs) count lists
+none_dealt [] count lists none empty k l = ap (λ vs. option_map_or sought_in (slice_get vs k) []) empty
 none_dealt (x ∷ xs) count lists none empty k l = absurd (omega (arith, none))

@@ -5,8 +5,8 @@
 --     entered, entered-unused       one mark more there; what has no cell has no list
 --     all-ancestors                 what is put in at each ancestor, all together
 --     sought-more                   one registered element more
-use Rattle.std.specs.Prelude.{◌≡◌, ◌≢◌, ℕ, zero, suc, ◌+◌, ◌<◌, ◌≤◌, Bool, true, false, ◌&&◌, cond, nat_eq, length, flat_map, List, [], ◌∷◌, ◌++◌, take, drop, get_or, option_and_then, Option, Some, None, Vec, refl}
-use Rattle.std.specs.Global.{Global}
+--     none-anywhere                 where nothing is registered, nothing is at any elements
+use Rattle.std.specs.Prelude.{◌≡◌, ◌≢◌, ℕ, zero, suc, ◌+◌, ◌<◌, ◌≤◌, Bool, true, false, ◌&&◌, cond, nat_eq, length, flat_map, List, [], ◌∷◌, ◌++◌, take, drop, get_or, option_and_then, Option, Some, None, refl}
 use Rattle.std.specs.Option.{option_map_or}
 use Rattle.std.proofs.lemmas.List.{append-nil, append_assoc, map-append}
 use Rattle.std.proofs.lemmas.Option.{none-some, same_Some, slice_get_past, slice_get-get_or}
@@ -17,15 +17,16 @@ use Rattle.one_pass.specs.declared.mark.Sought.{Sought}
 use Rattle.one_pass.specs.inner.Marked.{Marking, sought_as, sought_in, sought_for}
 use Rattle.one_pass.specs.inner.OneMore.{HasOneMore, StaysElsewhere}
 use Rattle.cst_core.specs.Path.{Path, same_path, counted_from}
-use Rattle.cst_core.specs.Element.{Address, same_address}
+use Rattle.cst_core.specs.Element.{Address, Element, address, same_address}
 use Rattle.path_table.specs.inner.PathTable.{cell_below, cell_at, size, IsGrown}
+use Rattle.one_pass.specs.declared.sought.SoughtTable.{SoughtTable}
 use Rattle.path_table.specs.declared.table.PathTable.{PathTable}
 use Rattle.path_table.proofs.PathTables.{cell-push, path-is}
-use Rattle.one_pass.specs.inner.Sought.{path_below, sought_one, sought_from}
+use Rattle.one_pass.specs.inner.Sought.{path_below, sought_one, sought_from, sought_at, sought_at_all}
 use Rattle.edit_change.proofs.Paths.{same_path-true, same_path_from}
 
 -- ---- lists by cell
-pub pushed-nothing : (ls : List (Vec Sought Global)) (v : Vec Sought Global) → v.items ≡ [] → (k : ℕ) → sought_for (ls ++ v ∷ []) k ≡ sought_for ls k
+pub pushed-nothing : (ls : List (List Sought)) (v : List Sought) → v ≡ [] → (k : ℕ) → sought_for (ls ++ v ∷ []) k ≡ sought_for ls k
 pushed-nothing [] v empty zero = ap sought_in empty
 pushed-nothing [] v empty (suc k) = refl
 pushed-nothing (l ∷ ls) v empty zero = refl
@@ -34,10 +35,10 @@ pushed-nothing (l ∷ ls) v empty (suc k) = pushed-nothing ls v empty k
 eq_suc : (a b : ℕ) → nat_eq (suc a) (suc b) ≡ nat_eq a b
 eq_suc a b = elim (cases_eq a b) [ inl same ↦ eq-eqb (suc a) (suc b) (ap suc same) ∙ sym (eq-eqb a b same) | inr other ↦ ne_eqb (suc a) (suc b) (omega (arith, other)) ∙ sym (ne_eqb a b other) ]
 
-pub pushed-list : (ls : List (Vec Sought Global)) (v : Vec Sought Global) (s : Sought) → v.items ≡ s ∷ [] → (k : ℕ) → sought_for (ls ++ v ∷ []) k ≡ sought_for ls k ++ cond (nat_eq (length ls) k) (sought_as s ∷ []) []
+pub pushed-list : (ls : List (List Sought)) (v : List Sought) (s : Sought) → v ≡ s ∷ [] → (k : ℕ) → sought_for (ls ++ v ∷ []) k ≡ sought_for ls k ++ cond (nat_eq (length ls) k) (sought_as s ∷ []) []
 pushed-list [] v s one zero = ap sought_in one
 pushed-list [] v s one (suc k) = ap (λ b. cond b (sought_as s ∷ []) []) (sym (ne_eqb 0 (suc k) (omega arith)))
-pushed-list (l ∷ ls) v s one zero = sym (append-nil (sought_in l.items)) ∙ ap (λ b. sought_in l.items ++ cond b (sought_as s ∷ []) []) (sym (ne_eqb (suc (length ls)) 0 (omega arith)))
+pushed-list (l ∷ ls) v s one zero = sym (append-nil (sought_in l)) ∙ ap (λ b. sought_in l ++ cond b (sought_as s ∷ []) []) (sym (ne_eqb (suc (length ls)) 0 (omega arith)))
 pushed-list (l ∷ ls) v s one (suc k) = pushed-list ls v s one k ∙ ap (λ b. sought_for ls k ++ cond b (sought_as s ∷ []) []) (sym (eq_suc (length ls) k))
 
 -- one of a list that is not empty
@@ -45,15 +46,15 @@ some-of : {X : Type 0} (xs : List X) (i : ℕ) → i < length xs → X
 some-of [] i within = absurd (omega (arith, within))
 some-of (x ∷ xs) i within = x
 
-module _ (old new : List (Vec Sought Global)) (cell : ℕ) (s : Sought) (size-same : length new ≡ length old) (within : cell < length old) (here : HasOneMore (λ v. v.items) old new cell s) (elsewhere : StaysElsewhere (λ v. v.items) old new cell) where
-  abbrev d : Vec Sought Global
+module _ (old new : List (List Sought)) (cell : ℕ) (s : Sought) (size-same : length new ≡ length old) (within : cell < length old) (here : HasOneMore (λ l. l) old new cell s) (elsewhere : StaysElsewhere (λ l. l) old new cell) where
+  abbrev d : List Sought
   d = some-of old cell within
 
-  listed : (ls : List (Vec Sought Global)) (k : ℕ) → k < length ls → sought_for ls k ≡ sought_in (get_or ls k d).items
-  listed ls k l = ap (λ o. option_map_or (λ v. sought_in v.items) o []) (slice_get-get_or ls k d l)
+  listed : (ls : List (List Sought)) (k : ℕ) → k < length ls → sought_for ls k ≡ sought_in (get_or ls k d)
+  listed ls k l = ap (λ o. option_map_or sought_in o []) (slice_get-get_or ls k d l)
 
-  unlisted : (ls : List (Vec Sought Global)) (k : ℕ) → length ls ≤ k → sought_for ls k ≡ []
-  unlisted ls k l = ap (λ o. option_map_or (λ v. sought_in v.items) o []) (slice_get_past ls k l)
+  unlisted : (ls : List (List Sought)) (k : ℕ) → length ls ≤ k → sought_for ls k ≡ []
+  unlisted ls k l = ap (λ o. option_map_or sought_in o []) (slice_get_past ls k l)
 
   pub pushed-one : (k : ℕ) → sought_for new k ≡ sought_for old k ++ cond (nat_eq cell k) (sought_as s ∷ []) []
   pushed-one k =
@@ -61,7 +62,7 @@ module _ (old new : List (Vec Sought Global)) (cell : ℕ) (s : Sought) (size-sa
         | inl same ↦
             let l : k < length old = omega (arith, same, within) in
             let m : k < length new = omega (arith, l, size-same) in
-            listed new k m ∙ ap (λ i. sought_in (get_or new i d).items) same ∙ ap sought_in (here d) ∙ map-append sought_as (get_or old cell d).items (s ∷ []) ∙ ap (λ i. sought_in (get_or old i d).items ++ sought_as s ∷ []) (sym same) ∙ ap (λ ms. ms ++ sought_as s ∷ []) (sym (listed old k l)) ∙ ap (λ b. sought_for old k ++ cond b (sought_as s ∷ []) []) (sym (eq-eqb cell k (sym same)))
+            listed new k m ∙ ap (λ i. sought_in (get_or new i d)) same ∙ ap sought_in (here d) ∙ map-append sought_as (get_or old cell d) (s ∷ []) ∙ ap (λ i. sought_in (get_or old i d) ++ sought_as s ∷ []) (sym same) ∙ ap (λ ms. ms ++ sought_as s ∷ []) (sym (listed old k l)) ∙ ap (λ b. sought_for old k ++ cond b (sought_as s ∷ []) []) (sym (eq-eqb cell k (sym same)))
         | inr other ↦ unchanged other ∙ sym (append-nil (sought_for old k)) ∙ ap (λ b. sought_for old k ++ cond b (sought_as s ∷ []) []) (sym (ne_eqb cell k (λ e. other (sym e))))
       ]
     where
@@ -182,3 +183,8 @@ sought-more n [] r a =
 sought-more n (s ∷ rs) r a =
     let same : suc n + length rs ≡ n + suc (length rs) = omega arith in
     ap (λ ms. sought_one a n s ++ ms) (sought-more (suc n) rs r a) ∙ sym (append_assoc (sought_one a n s) (sought_from (suc n) rs a) (sought_one a (suc n + length rs) r)) ∙ ap (λ k. sought_one a n s ++ sought_from (suc n) rs a ++ sought_one a k r) same
+
+-- ---- nothing registered
+pub none-anywhere : (index : SoughtTable) → ((a : Address) → sought_at index a ≡ []) → (es : List Element) → sought_at_all index es ≡ []
+none-anywhere index none [] = refl
+none-anywhere index none (e ∷ es) = ap₂ (λ xs ys. xs ++ ys) (none (address e)) (none-anywhere index none es)

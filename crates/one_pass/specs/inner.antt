@@ -2,6 +2,7 @@
 pub mod OneMore
 pub mod Groups
 pub mod Few
+pub mod FewSought
 pub mod Pass
 pub mod OpenNodes
 pub mod Waiting

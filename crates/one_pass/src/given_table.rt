@@ -75,7 +75,7 @@ fn rewritten_each<'a>(
     })
 }
 
-// A change's payload, with its marks. Where nothing is registered, nothing is looked for.
+// A change's payload, with its marks. Where nothing is registered in it, nothing is looked for, and the payload is lent.
 fn marked_payload<'a>(
     alloc: Global,
     change: &'a Change,
@@ -84,7 +84,7 @@ fn marked_payload<'a>(
     ensures trees { IfOk result (λ g. given_trees g.elements ≡ map subtree (payload change.now)) }
     ensures marks { IfOk result (λ g. IsMarked None g (payload_sought index.now (λ n. []) [] (payload change.now))) }
 {
-    if index.is_empty() {
+    if index.has_none(change.payload()) {
         return Ok(MarkedGiven {
             elements: green_payload(alloc, change)?,
             marks: Vec::new(alloc),

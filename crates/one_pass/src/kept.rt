@@ -5,6 +5,7 @@ ghost use Rattle.one_pass.specs.inner.Pass.{FindsKept};
 ghost use Rattle.one_pass.specs.inner.Waiting.{WaitsFor, EntersKept, StaysRising, TakesAtMost, TakesLess};
 
 use crate::mark::{Sought, marks_by_child, push_here};
+use crate::sought_list::SoughtList;
 use crate::walk::Walk;
 use green_tree::{GreenElement, GreenNode};
 use std::alloc::{AllocError, Global};
@@ -14,7 +15,7 @@ use std::alloc::{AllocError, Global};
 pub struct Waiting<'e, 's> {
     pub element: &'e GreenElement,
     /// As they are seen from the element.
-    pub sought: Vec<Sought<'s>>,
+    pub sought: SoughtList<'s>,
     /// How many slots the path of the node above has.
     pub depth: usize,
     pub slot: usize,
@@ -37,7 +38,7 @@ fn push_waiting<'e, 's>(
     let mut lists = marks_by_child(alloc, sought, children.len())?;
     while let Some(inner) = lists.pop() {
         let slot = lists.len();
-        if !inner.is_empty() {
+        if !inner.as_slice().is_empty() {
             waiting.push(Waiting {
                 element: &children[slot],
                 sought: inner,
@@ -90,7 +91,13 @@ pub fn push_kept(
     while let Some(next) = waiting.pop() {
         walk.path.truncate(next.depth);
         walk.path.push(next.slot)?;
-        enter(alloc, walk, &mut waiting, next.element, &next.sought)?;
+        enter(
+            alloc,
+            walk,
+            &mut waiting,
+            next.element,
+            next.sought.as_slice(),
+        )?;
     }
     walk.path.truncate(depth);
     Ok(())

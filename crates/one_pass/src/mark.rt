@@ -1,9 +1,9 @@
 ghost use Rattle.std.specs.Prelude.{◌<◌, ◌≡◌, length, IfOk, OnOk};
 ghost use Rattle.one_pass.specs.inner.Marked.{sought_in, Finds, found_at, IsDealt};
 ghost use Rattle.one_pass.specs.inner.OneMore.{HasOneMore, StaysElsewhere};
-ghost use Rattle.one_pass.specs.inner.Marked.{AreDealt, sought_for};
+ghost use Rattle.one_pass.specs.inner.Marked.{AreDealt, AreNothing, sought_for};
 
-use crate::lists::empty_lists;
+use crate::sought_list::SoughtList;
 use std::alloc::{AllocError, Global};
 
 /// A mark by its number, and the path of an element that has it.
@@ -43,21 +43,26 @@ pub fn push_here(
 
 // One more at the end of a list.
 fn push_sought<'a>(
-    lists: &mut Vec<Vec<Sought<'a>>>,
+    alloc: Global,
+    lists: &mut Vec<SoughtList<'a>>,
     slot: usize,
     mark: Sought<'a>,
 ) -> Result<(), AllocError>
     requires { slot < length lists.now.items }
     ensures size { length lists.new.items ≡ length lists.old.items }
-    ensures here { OnOk result (HasOneMore (λ v. v.items) lists.old.items lists.new.items slot mark.entry) }
-    ensures elsewhere { OnOk result (StaysElsewhere (λ v. v.items) lists.old.items lists.new.items slot) }
+    ensures here { OnOk result (HasOneMore (λ l. l) lists.old.items lists.new.items slot mark.entry) }
+    ensures elsewhere { OnOk result (StaysElsewhere (λ l. l) lists.old.items lists.new.items slot) }
 {
-    lists[slot].push(mark)?;
+    lists[slot].push(alloc, mark)?;
     Ok(())
 }
 
 // One mark goes to the list of the child that its path leads to or below, if there is one.
-fn give_to_child<'a>(lists: &mut Vec<Vec<Sought<'a>>>, mark: Sought<'a>) -> Result<(), AllocError>
+fn give_to_child<'a>(
+    alloc: Global,
+    lists: &mut Vec<SoughtList<'a>>,
+    mark: Sought<'a>,
+) -> Result<(), AllocError>
     ensures size { length lists.new.items ≡ length lists.old.items }
     ensures lists { OnOk result (IsDealt lists.old.items lists.new.items mark.entry.number mark.entry.path.now) }
 {
@@ -71,8 +76,20 @@ fn give_to_child<'a>(lists: &mut Vec<Vec<Sought<'a>>>, mark: Sought<'a>) -> Resu
         number: mark.number,
         path,
     };
-    push_sought(lists, *slot, inner)?;
+    push_sought(alloc, lists, *slot, inner)?;
     Ok(())
+}
+
+// n lists of no marks.
+fn nothing_sought<'a>(alloc: Global, count: usize) -> Result<Vec<SoughtList<'a>>, AllocError>
+    ensures size { IfOk result (λ v. length v.items ≡ count) }
+    ensures empty { IfOk result (λ v. AreNothing v.items) }
+{
+    let mut lists = Vec::with_capacity(alloc, count)?;
+    for _ in 0..count {
+        lists.push(SoughtList::empty())?;
+    }
+    Ok(lists)
 }
 
 // For each child of the top, n of them, what is sought at the child or below it, as it is seen from the child. Where
@@ -81,22 +98,22 @@ pub fn marks_by_child<'a>(
     alloc: Global,
     sought: &[Sought<'a>],
     count: usize,
-) -> Result<Vec<Vec<Sought<'a>>>, AllocError>
+) -> Result<Vec<SoughtList<'a>>, AllocError>
     ensures lists { IfOk result (λ v. AreDealt (sought_in sought.now) count v.items) }
     ensures size { IfOk result (λ v. 0 < length sought.now → length v.items ≡ count) }
 {
     if sought.is_empty() {
         return Ok(Vec::new(alloc));
     }
-    let mut lists = empty_lists(alloc, count)?;
+    let mut lists = nothing_sought(alloc, count)?;
     for mark in sought {
-        give_to_child(&mut lists, *mark)?;
+        give_to_child(alloc, &mut lists, *mark)?;
     }
     Ok(lists)
 }
 
 // What is sought in a child, from its list, if there is one.
-pub fn sought_for<'a, 'b>(lists: &'b [Vec<Sought<'a>>], slot: usize) -> &'b [Sought<'a>]
+pub fn sought_for<'a, 'b>(lists: &'b [SoughtList<'a>], slot: usize) -> &'b [Sought<'a>]
     ensures { sought_in result.now ≡ sought_for lists.now slot }
 {
     if slot >= lists.len() {

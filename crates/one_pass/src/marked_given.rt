@@ -1,4 +1,4 @@
-ghost use Rattle.std.specs.Prelude.{map, OnOk};
+ghost use Rattle.std.specs.Prelude.{◌≡◌, ◌++◌, map, IfOk, OnOk};
 ghost use Rattle.one_pass.specs.inner.Marked.{mark_below, marks_of, Finds};
 ghost use Rattle.one_pass.specs.inner.Pass.{own_marks, marks_at_path};
 
@@ -42,6 +42,16 @@ fn push_top(
     Ok(())
 }
 
+// A path, and then a path from there on, in one list of their length.
+fn joined(alloc: Global, above: &[usize], below: &[usize]) -> Result<Vec<usize>, AllocError>
+    ensures { IfOk result (λ v. v.items ≡ above.now ++ below.now) }
+{
+    let mut all = Vec::with_capacity(alloc, above.len() + below.len())?;
+    all.extend_from_slice(above)?;
+    all.extend_from_slice(below)?;
+    Ok(all)
+}
+
 // These marks of an element, which stands at this path.
 fn push_below(
     alloc: Global,
@@ -52,11 +62,10 @@ fn push_below(
     ensures { OnOk result (Finds found.old found.new (map (mark_below path.now) (marks_of marks.now))) }
 {
     for mark in marks {
-        let mut longer = Vec::from_slice(alloc, path)?;
-        longer.extend_from_slice(&mark.path)?;
+        let path = joined(alloc, path, &mark.path)?;
         found.push(Mark {
             number: mark.number,
-            path: longer,
+            path,
         })?;
     }
     Ok(())

@@ -3,7 +3,7 @@
 ghost use Rattle.std.specs.Prelude.{◌≡◌, length};
 
 use crate::groups::Groups;
-use crate::mark::Sought;
+use crate::sought_list::SoughtList;
 use green_tree::GreenElement;
 
 /// The children of a node, with what concerns each of them.
@@ -12,6 +12,6 @@ pub struct NodeChildren<'e, 'a, 's> {
     pub elements: &'e [GreenElement],
     pub groups: Groups<'a>,
     /// The marks sought in each child, as they are seen from it.
-    pub lists: Vec<Vec<Sought<'s>>>,
+    pub lists: Vec<SoughtList<'s>>,
     ghost sized: { length groups ≡ length elements.now },
 }

@@ -1,15 +1,16 @@
 //! Registered elements, looked up by what is above them.
 
-ghost use Rattle.std.specs.Prelude.{◌≡◌, ◌≤◌, ◌<◌, ℕ, true, [], length, OnOk, IfOk};
+ghost use Rattle.std.specs.Prelude.{◌≡◌, ◌≤◌, ◌<◌, ℕ, true, [], map, length, OnOk, IfOk};
 ghost use Rattle.cst_core.specs.Element.{Address, address};
 ghost use Rattle.cst_core.specs.SyntaxElement.{element_of};
 ghost use Rattle.path_table.specs.inner.PathTable.{size};
 ghost use Rattle.one_pass.specs.inner.Marked.{sought_as, sought_in};
 ghost use Rattle.one_pass.specs.inner.OneMore.{HasOneMore, StaysElsewhere};
-ghost use Rattle.one_pass.specs.inner.Sought.{addresses, sought_from, sought_at, IsSoughtTable};
+ghost use Rattle.one_pass.specs.inner.Sought.{addresses, sought_from, sought_at, sought_at_all, IsSoughtTable};
 ghost use Rattle.one_pass.specs.inner.Sought.{HasSameLists, HasListedMore, IsMarkEntered, HasRegisteredMore};
 
 use crate::mark::Sought;
+use crate::sought_list::SoughtList;
 use cst_core::SyntaxElement;
 use path_table::PathTable;
 use std::alloc::{AllocError, Global};
@@ -20,7 +21,7 @@ pub(crate) struct SoughtTable<'a> {
     // The tree's number comes first on the path, and then come the slots.
     cells: PathTable,
     // By cell.
-    lists: Vec<Vec<Sought<'a>>>,
+    lists: Vec<SoughtList<'a>>,
 }
 
 impl<'a> SoughtTable<'a> {
@@ -55,29 +56,44 @@ impl<'a> SoughtTable<'a> {
         self.lists[cell].as_slice()
     }
 
+    /// Whether nothing is registered at these elements or below them.
+    pub(crate) fn has_none(&self, elements: &[SyntaxElement]) -> bool
+        ensures { result ≡ true → sought_at_all self.now (map element_of elements.now) ≡ [] }
+    {
+        if self.is_empty() {
+            return true;
+        }
+        for element in elements {
+            if !self.at(element).is_empty() {
+                return false;
+            }
+        }
+        true
+    }
+
     // Lists for the cells before this one.
-    fn make_room(&mut self, alloc: Global, cell: usize) -> Result<(), AllocError>
+    fn make_room(&mut self, cell: usize) -> Result<(), AllocError>
         ensures cells { self.new.cells ≡ self.old.cells }
         ensures lists { HasSameLists self.old self.new }
         ensures room { OnOk result (cell ≤ length self.new.lists.items) }
     {
         for _ in self.lists.len()..cell {
-            self.lists.push(Vec::new(alloc))?;
+            self.lists.push(SoughtList::empty())?;
         }
         Ok(())
     }
 
     // One more mark in the list of a cell that has one.
-    fn push_in(&mut self, cell: usize, mark: Sought<'a>) -> Result<(), AllocError>
+    fn push_in(&mut self, alloc: Global, cell: usize, mark: Sought<'a>) -> Result<(), AllocError>
         requires { cell < length self.now.lists.items }
         ensures cells { self.new.cells ≡ self.old.cells }
         ensures size { length self.new.lists.items ≡ length self.old.lists.items }
         ensures here { OnOk result
-            (HasOneMore (λ v. v.items) self.old.lists.items self.new.lists.items cell mark.entry) }
+            (HasOneMore (λ l. l) self.old.lists.items self.new.lists.items cell mark.entry) }
         ensures elsewhere { OnOk result
-            (StaysElsewhere (λ v. v.items) self.old.lists.items self.new.lists.items cell) }
+            (StaysElsewhere (λ l. l) self.old.lists.items self.new.lists.items cell) }
     {
-        self.lists[cell].push(mark)?;
+        self.lists[cell].push(alloc, mark)?;
         Ok(())
     }
 
@@ -86,13 +102,12 @@ impl<'a> SoughtTable<'a> {
         ensures cells { self.new.cells ≡ self.old.cells }
         ensures more { OnOk result (HasListedMore self.old self.new cell (sought_as mark.entry)) }
     {
-        self.make_room(alloc, cell)?;
+        self.make_room(cell)?;
         if cell < self.lists.len() {
-            self.push_in(cell, mark)?;
+            self.push_in(alloc, cell, mark)?;
             return Ok(());
         }
-        let list = vec![in alloc; mark]?;
-        self.lists.push(list)?;
+        self.lists.push(SoughtList::one(mark))?;
         Ok(())
     }
 

@@ -2,7 +2,8 @@
 --     numbered_paths                each number with each path of its list
 --     AnnotatedPaths                paths with their annotations
 --     Annotates, AreNumbered        one annotation with each of these paths goes to the end; each annotation with each path of its list
---     elements_at, HasElementMore   the elements that a table has for an annotation; an annotation has one element more
+--     elements_at, HasElementsMore  the elements that a table has for an annotation; an annotation has these elements more
+--     elements_so_far, HasRunMore   the elements that came for an annotation, in the table or last; an annotation has one element more
 --     LeadByAnnotation              elements by annotation are those that annotated paths lead to
 --     TellOf, AreFollowed           equal numbers have equal trees, as far as each registered element and the mapping go; elements are those that registered ones are followed to
 use Rattle.std.specs.Prelude.{◌≡◌, ℕ, cond, nat_eq, List, [], ◌∷◌, ◌++◌, map, All, Some, Vec}
@@ -16,6 +17,7 @@ use Rattle.cst_core.specs.declared.element.SyntaxElement.{SyntaxElement}
 use Rattle.edit_map.specs.Mapping.{Mapping, followed, mapped_elements}
 use Rattle.edit_change.specs.Results.{paths_with}
 use Rattle.annotations.specs.AnnotationTable.{annotated_path}
+use Rattle.annotations.specs.declared.annotation_runs.AnnotationRuns.{AnnotationRuns}
 use Rattle.annotations.specs.declared.annotation_table.AnnotationTable.{AnnotationTable}
 use Rattle.edit_change.specs.Topmost.{paths_of}
 use Rattle.edit_change.specs.inner.PathLists.{path_lists}
@@ -38,9 +40,16 @@ AreNumbered ns copies found = map annotated_path found.items ≡ numbered_paths 
 abbrev pub elements_at : AnnotationTable → ℕ → List SyntaxElement
 elements_at table a = option_map_or (λ v. v.items) (get_by (nat_eq a) table.lists) []
 
-abbrev pub HasElementMore : AnnotationTable → AnnotationTable → ℕ → SyntaxElement → Type 0
-HasElementMore before after annotation e =
-    (a : ℕ) → elements_at after a ≡ elements_at before a ++ cond (nat_eq annotation a) (e ∷ []) []
+abbrev pub HasElementsMore : AnnotationTable → AnnotationTable → ℕ → List SyntaxElement → Type 0
+HasElementsMore before after annotation es =
+    (a : ℕ) → elements_at after a ≡ elements_at before a ++ cond (nat_eq annotation a) es []
+
+abbrev pub elements_so_far : AnnotationRuns → ℕ → List SyntaxElement
+elements_so_far runs a = elements_at runs.table a ++ cond (nat_eq runs.annotation a) runs.last.items []
+
+abbrev pub HasRunMore : AnnotationRuns → AnnotationRuns → ℕ → SyntaxElement → Type 0
+HasRunMore before after annotation e =
+    (a : ℕ) → elements_so_far after a ≡ elements_so_far before a ++ cond (nat_eq annotation a) (e ∷ []) []
 
 abbrev pub LeadByAnnotation : Element → List (ℕ × Vec ℕ Global) → AnnotationTable → Type 0
 LeadByAnnotation root annotated t =

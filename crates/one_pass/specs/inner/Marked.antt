@@ -10,6 +10,7 @@
 --     Finds, found_at               marks that are found further; the marks sought at the top of an element, which stands at this path
 --     seen_below, sought_below      a sought mark in a child slot or below, with that slot dropped; of these marks those that there are
 --     IsDealt                       one mark went to the list of the child that it is in
+--     AreNothing                    each list has nothing
 --     sought_for, AreDealt          what is sought in a child, from its list, if there is one; lists have what is sought in each child, n of them
 use Rattle.std.specs.Prelude.{◌≡◌, ◌<◌, ℕ, suc, cond, nat_eq, List, [], ◌∷◌, ◌++◌, map, filter, flat_map, length, get_or, slice_get, Vec}
 use Rattle.std.specs.Global.{Global}
@@ -73,13 +74,16 @@ abbrev pub found_at : Path → List Marking → List Marking
 found_at path ms = map (λ n. (n, path)) (marks_at ms [])
 
 -- ---- lists of sought marks, for one child after another
-module _ (before after : List (Vec Sought Global)) where
+module _ (before after : List (List Sought)) where
   abbrev pub IsDealt : ℕ → Path → Type 0
   IsDealt n p =
-      (k : ℕ) (d : Vec Sought Global) → k < length before → sought_in (get_or after k d).items ≡ sought_in (get_or before k d).items ++ seen_below k n p
+      (k : ℕ) (d : List Sought) → k < length before → sought_in (get_or after k d) ≡ sought_in (get_or before k d) ++ seen_below k n p
 
-abbrev pub sought_for : List (Vec Sought Global) → ℕ → List Marking
-sought_for lists k = option_map_or (λ v. sought_in v.items) (slice_get lists k) []
+abbrev pub AreNothing : List (List Sought) → Type 0
+AreNothing lists = (k : ℕ) (d : List Sought) → k < length lists → get_or lists k d ≡ []
 
-abbrev pub AreDealt : List Marking → ℕ → List (Vec Sought Global) → Type 0
+abbrev pub sought_for : List (List Sought) → ℕ → List Marking
+sought_for lists k = option_map_or sought_in (slice_get lists k) []
+
+abbrev pub AreDealt : List Marking → ℕ → List (List Sought) → Type 0
 AreDealt ms count lists = (k : ℕ) → k < count → sought_for lists k ≡ sought_below k ms

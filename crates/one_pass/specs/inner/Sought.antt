@@ -3,7 +3,7 @@
 --     sought_one                    a registered element, if it is at an address or below it, with the path from there
 --     sought_from                   of these registered elements, numbered from here on, all that are
 --     addresses                     the addresses of elements in code
---     listed_at, sought_at          what a table lists for a cell; what it has at an address
+--     listed_at, sought_at, sought_at_all          what a table lists for a cell; what it has at an address; at these elements, one after another
 --     registered_at                 the numbers of the registered elements that are at an address
 --     IsSoughtTable                 such a table, which lists nothing for cells that there are not
 --     HasSameLists                  it lists the same for each cell
@@ -11,10 +11,10 @@
 --     HasMarkMore                   one mark more at the address with this path
 --     IsMarkEntered                 one mark more at the cell below another one, at a slot
 --     HasRegisteredMore             one registered element more, at itself and at all that is above it
-use Rattle.std.specs.Prelude.{◌≡◌, ◌<◌, ℕ, suc, nat_eq, cond, List, [], ◌∷◌, ◌++◌, map, Option, Some, None}
+use Rattle.std.specs.Prelude.{◌≡◌, ◌<◌, ℕ, suc, nat_eq, cond, List, [], ◌∷◌, ◌++◌, map, flat_map, Option, Some, None}
 use Rattle.std.specs.Option.{option_map_or}
 use Rattle.cst_core.specs.Path.{Path, same_path}
-use Rattle.cst_core.specs.Element.{Address, address}
+use Rattle.cst_core.specs.Element.{Address, Element, address}
 use Rattle.cst_core.specs.inner.InTree.{address_path}
 use Rattle.cst_core.specs.SyntaxElement.{element_of}
 use Rattle.cst_core.specs.declared.element.SyntaxElement.{SyntaxElement}
@@ -42,6 +42,9 @@ listed_at index cell = sought_for index.lists.items cell
 
 abbrev pub sought_at : SoughtTable → Address → List Marking
 sought_at index a = option_map_or (listed_at index) (cell_at index.cells (address_path a)) []
+
+abbrev pub sought_at_all : SoughtTable → List Element → List Marking
+sought_at_all index es = flat_map (λ e. sought_at index (address e)) es
 
 abbrev pub registered_at : List Address → Address → List ℕ
 registered_at rs a = marks_at (sought_from 0 rs a) []

@@ -21,7 +21,7 @@ use Rattle.one_pass.specs.inner.Marked.{Marking, marked, marked_from, mark_below
 use Rattle.one_pass.specs.inner.Pass.{kept_marks}
 
 abbrev pub found_in : Path → Waiting → List Marking
-found_in path w = map (mark_below (take w.depth path ++ w.slot ∷ [])) (marked (kept_marks w.sought.items w.element.now))
+found_in path w = map (mark_below (take w.depth path ++ w.slot ∷ [])) (marked (kept_marks w.sought w.element.now))
 
 abbrev pub found_later : Path → List Waiting → List Marking
 found_later path [] = []

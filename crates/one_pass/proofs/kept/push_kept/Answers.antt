@@ -29,8 +29,8 @@ loop-next-preserved c =
       count = c.in_ok-enter-2.ensures.count ∙ c.loop-next.invariant.count;
       order = subst (λ n. Rising low c.enter-in-Some.new.waiting.items n) (sym (ap length c.in_ok-enter-2.ensures.path)) (c.in_ok-enter-2.ensures.order low risen);
       marks =
-          let own = map (mark_below c.push.new.self.items) (marked (kept_marks next.sought.items next.element.now)) in
+          let own = map (mark_below c.push.new.self.items) (marked (kept_marks next.sought next.element.now)) in
           let later = found_later c.push.new.self.items ws in
           let split : found_later path c.loop-next.waiting.items ≡ own ++ later = found-less c.loop-next.waiting.items ws next popped path c.push.new.self.items low there order.0 order.1 in
-          c.in_ok-enter-2.ensures.marks ∙ ap (λ xs. found ++ map (mark_below c.push.new.self.items) (marked (kept_marks xs next.element.now)) ++ later) c.deref.ensures.value ∙ append_assoc found own later ∙ ap (λ ms. found ++ ms) (sym split) ∙ c.loop-next.invariant.marks;
+          c.in_ok-enter-2.ensures.marks ∙ ap (λ xs. found ++ map (mark_below c.push.new.self.items) (marked (kept_marks xs next.element.now)) ++ later) c.as_slice.ensures ∙ append_assoc found own later ∙ ap (λ ms. found ++ ms) (sym split) ∙ c.loop-next.invariant.marks;
     }

@@ -28,9 +28,9 @@ loop-inner-preserved-in-Continue-branch-2 c =
     let within : i < length es = omega (arith, c.loop-inner.invariant.bound, more) in
     let in_range : i < length ts = rw length-map within in
     let slot_is : c.len-slot.result ≡ i = search rules in
-    let here : sought_in inner.items ≡ sought_below i sought = sym (next-list ls inner) ∙ ap (λ xs. sought_for xs i) (sym popped) ∙ c.loop-inner.invariant.lists i (omega (arith, more)) in
+    let here : sought_in inner ≡ sought_below i sought = sym (next-list ls inner) ∙ ap (λ xs. sought_for xs i) (sym popped) ∙ c.loop-inner.invariant.lists i (omega (arith, more)) in
     let child : element_tree e ≡ get_or ts i d = tree_at es i e d within (subst (λ k. e ≡ get_or es k e) slot_is c.index-children-slot.is) in
-    let kept = kept-inside sought (sought_in inner.items) i (element_tree e) here ∙ ap (rewritten (wanted sought) (λ m. []) [] (i ∷ [])) child in
+    let kept = kept-inside sought (sought_in inner) i (element_tree e) here ∙ ap (rewritten (wanted sought) (λ m. []) [] (i ∷ [])) child in
     record {
       bound = omega (arith, within);
       lists = λ k l. sym (other-lists ls inner k l) ∙ ap (λ xs. sought_for xs k) (sym popped) ∙ c.loop-inner.invariant.lists k (omega (arith, l, more));
@@ -53,13 +53,13 @@ loop-inner-preserved c =
     let more : length c.loop-inner.lists.items ≡ i + 1 = ap length popped ∙ length-append ls (inner ∷ []) in
     let within : i < length c.children-children.result.now = omega (arith, c.loop-inner.invariant.bound, more) in
     let in_range : i < length ts = rw length-map within in
-    let here : sought_in inner.items ≡ sought_below i sought = sym (next-list ls inner) ∙ ap (λ xs. sought_for xs i) (sym popped) ∙ c.loop-inner.invariant.lists i (omega (arith, more)) in
-    let none : length inner.items ≡ 0 = search (arith, rules) in
+    let here : sought_in inner ≡ sought_below i sought = sym (next-list ls inner) ∙ ap (λ xs. sought_for xs i) (sym popped) ∙ c.loop-inner.invariant.lists i (omega (arith, more)) in
+    let none : length inner ≡ 0 = search (arith, rules) in
     record {
       bound = omega (arith, within);
       lists = λ k l. sym (other-lists ls inner k l) ∙ ap (λ xs. sought_for xs k) (sym popped) ∙ c.loop-inner.invariant.lists k (omega (arith, l, more));
       marks = λ path long.
-          let nothing = unsought (path ++ i ∷ []) [] inner.items (get_or ts i d) none ∙ ap (λ u. map (mark_below (path ++ i ∷ [])) (marked u)) (kept-inside sought (sought_in inner.items) i (get_or ts i d) here) in
+          let nothing = unsought (path ++ i ∷ []) [] inner (get_or ts i d) none ∙ ap (λ u. map (mark_below (path ++ i ∷ [])) (marked u)) (kept-inside sought (sought_in inner) i (get_or ts i d) here) in
           waits-more sought i ts d in_range path (found_later path c.loop-inner.waiting.items) (found_later path c.loop-inner.waiting.items) _ (length c.loop-inner.lists.items) more (ap (λ ms. ms ++ found_later path c.loop-inner.waiting.items) nothing) (c.loop-inner.invariant.marks path long);
       order = c.loop-inner.invariant.order;
       size = omega (arith, c.loop-inner.invariant.size, size-more sought i ts d in_range (length c.loop-inner.lists.items) more);

@@ -21,5 +21,5 @@ rest p = take_all (length p - 1) (drop 1 p) (omega (arith, length-drop 1 p))
 pub returns : goal.returns
 returns c = record {
   size = c.push_sought.ensures.size;
-  lists = λ k d l. put (λ i. (get_or c.args.lists.now.items i d).items) (λ i. (get_or c.push_sought.new.lists.items i d).items) _ k c.args.mark.number c.args.mark.path.now c.in-len1-up.len_at_least (c.in_ok-push_sought.ensures.here d) (c.in_ok-push_sought.ensures.elsewhere k d) (ap (λ q. (c.args.mark.number, q)) (rest c.args.mark.path.now));
+  lists = λ k d l. put (λ i. get_or c.args.lists.now.items i d) (λ i. get_or c.push_sought.new.lists.items i d) _ k c.args.mark.number c.args.mark.path.now c.in-len1-up.len_at_least (c.in_ok-push_sought.ensures.here d) (c.in_ok-push_sought.ensures.elsewhere k d) (ap (λ q. (c.args.mark.number, q)) (rest c.args.mark.path.now));
 }

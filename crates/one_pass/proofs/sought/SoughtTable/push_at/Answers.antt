@@ -17,4 +17,4 @@ returns-clause-more c = λ k.
     let s = c.args.mark in
     let old = c.make_room.new.self.lists.items in
     let last : length old ≡ cell = omega (arith, c.in_ok-make_room.ensures.room, c.if-cell-len.false) in
-    ap (λ ls. sought_for ls k) c.in_ok-push.ensures.items ∙ pushed-list old c.in_ok-list.list s c.in_ok-list.ensures.items k ∙ ap₂ (λ ms n. ms ++ cond (nat_eq n k) (sought_as s ∷ []) []) (c.make_room.ensures.lists k) last
+    ap (λ ls. sought_for ls k) c.in_ok-push.ensures.items ∙ pushed-list old c.one.result s c.one.ensures k ∙ ap₂ (λ ms n. ms ++ cond (nat_eq n k) (sought_as s ∷ []) []) (c.make_room.ensures.lists k) last
