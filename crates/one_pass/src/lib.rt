@@ -21,6 +21,7 @@ mod pass;
 mod place;
 mod pushes;
 mod rewriting;
+mod runs;
 mod sought;
 mod text_changes;
 mod text_edit;
