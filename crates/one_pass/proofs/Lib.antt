@@ -23,6 +23,7 @@ mod ChangesOfAims
 mod Registered
 mod Rooted
 mod Rows
+mod QuietRuns
 pub mod TextOrders
 pub mod Tops
 mod TouchedNodes

@@ -64,7 +64,8 @@ pub fn aims_below<'a>(
 ) -> Result<Vec<Aimed<'a>>, AllocError>
     ensures { IfOk result (λ v. map formed v.items ≡ formed_below slot (map formed aims.now)) }
 {
-    let mut out = Vec::new(alloc);
+    // Nearly all aims that concern a child are seen from it.
+    let mut out = Vec::with_capacity(alloc, aims.len())?;
     for aim in aims {
         if let Some(inner) = aim.seen_from(slot) {
             out.push(inner)?;

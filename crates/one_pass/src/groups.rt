@@ -1,4 +1,4 @@
-ghost use Rattle.std.specs.Prelude.{◌≡◌, ◌<◌, length, get_or, IfOk, OnOk};
+ghost use Rattle.std.specs.Prelude.{◌≡◌, ◌<◌, true, [], length, get_or, IfOk, OnOk};
 ghost use Rattle.one_pass.specs.inner.Groups.{AreEmptyGroups};
 ghost use Rattle.one_pass.specs.inner.OneMore.{HasOneMore, StaysElsewhere};
 
@@ -69,6 +69,14 @@ impl<'a> Groups<'a> {
             self.groups[number - 1].push(alloc, aim)?;
         }
         Ok(())
+    }
+
+    // Whether there is no group for a child. Where this says no, the group may still have no aims.
+    pub(crate) fn has_none(&self, slot: usize) -> bool
+        requires { slot < length self.now }
+        ensures { result ≡ true → get_or self.now slot [] ≡ [] }
+    {
+        self.numbers[slot] == 0
     }
 
     // The aims of a child.

@@ -22,6 +22,7 @@ mod pass;
 mod place;
 mod pushes;
 mod rewriting;
+mod runs;
 mod sought;
 mod sought_list;
 mod text_changes;

@@ -26,6 +26,7 @@ use crate::node_children::NodeChildren;
 use crate::open_node::OpenNode;
 use crate::place::Place;
 use crate::pushes::{Child, push_changes, push_turn};
+use crate::runs::{is_quiet, push_run};
 use crate::walk::Walk;
 use edit_change::Aimed;
 use green_tree::{GreenElement, GreenNode, SyntaxKind};
@@ -164,6 +165,10 @@ fn push_on<'e>(
         (λ r. MatchOption r (length children.now.elements.now ≤ slot.new) (λ n. IsOpened children.now slot.new n.now)) }
 {
     while *slot < children.elements.len() {
+        if is_quiet(children, *slot) {
+            push_run(alloc, children, slot, out)?;
+            continue;
+        }
         let element = &children.elements[*slot];
         let child = Child {
             element,

@@ -157,7 +157,7 @@ pub fn push_turn(
     ensures trees { OnOk result (PutsTurn child.entry given.now out.old out.new) }
     ensures marks { OnOk result (FindsTurn child.entry given.now walk.old out.old walk.new) }
 {
-    // No aim concerns most children of a wide node.
+    // No aim concerns most children that come here for their marks.
     if child.aims.is_empty() {
         return push_child(alloc, walk, out, child.element, child.sought);
     }

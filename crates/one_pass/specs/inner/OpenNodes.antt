@@ -13,8 +13,10 @@
 --     IsOpened                      the child in a slot is this node, which is made anew
 --     PutsOn, PutsMade              children are put as far as a later slot; a child that was made is put, with the gap after it
 --     FindsOn, FindsMade            a walk finds their marks
+--     IsQuiet                       neither aims nor marks concern the children from a slot up to another one
+--     SharesOn                      children are shared as far as a later slot, and none of them has marks or is built
 --     FindsOpened, FindsWholeNode   it finds those of a node but for what is to come; those that are to come
-use Rattle.std.specs.Prelude.{◌≡◌, ◌<◌, ℕ, suc, ◌+◌, Bool, true, false, not, ◌&&◌, List, [], ◌∷◌, ◌++◌, map, flat_map, drop, length, get_or, Vec}
+use Rattle.std.specs.Prelude.{◌≡◌, ◌<◌, ◌≤◌, ℕ, suc, ◌+◌, Bool, true, false, not, ◌&&◌, List, [], ◌∷◌, ◌++◌, map, flat_map, drop, length, get_or, Vec}
 use Rattle.std.specs.Global.{Global}
 use Rattle.green_tree.specs.Path.{Path}
 use Rattle.green_tree.specs.Tree.{Tree, SyntaxTree, forest, node}
@@ -143,6 +145,20 @@ module _ (c : NodeChildren) (table : GivenTable) where
         (trees : ℕ → List MarkTree) → AreMarkedIn table trees →
         marks_of after.found.items ++ map (mark_below path) (marked_from (length more.items) (to_come c wanted trees (i + 1))) ≡
         marks_of before.found.items ++ map (mark_below path) (marked_from (suc (length out.items)) (past c wanted trees i))
+
+module _ (c : NodeChildren) (i : ℕ) where
+  pub record IsQuiet (j : ℕ) : Type 0 where
+    pub order : i ≤ j
+    pub within : j ≤ length c.elements.now
+    pub aims : (k : ℕ) → i ≤ k → k < j → get_or c.groups k [] ≡ []
+    pub marks : (k : ℕ) → i ≤ k → k < j → sought_for c.lists.items k ≡ []
+
+  pub record SharesOn (before : List GreenElement) (j : ℕ) (after : List GreenElement) : Type 0 where
+    pub order : i ≤ j
+    pub trees : (given : ℕ → List SyntaxTree) → element_trees after ++ to_come c (λ ms. kind_only) given j ≡ element_trees before ++ to_come c (λ ms. kind_only) given i
+    pub marks : (given : ℕ → List MarkTree) → marked_from (length after) (to_come c wanted given j) ≡ marked_from (length before) (to_come c wanted given i)
+    pub built : to_build c j ≡ to_build c i
+    pub size : to_do c j ≤ to_do c i
 
 module _ (table : GivenTable) (before after : Walk) (f : OpenNode) where
   abbrev pub FindsOpened : List NumberedAim → List Marking → Branch → Type 0

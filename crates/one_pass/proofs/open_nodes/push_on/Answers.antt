@@ -1,10 +1,10 @@
-use Rattle.std.proofs.Common.{◌≡◌, ◌<◌, ℕ, ◌+◌, List, [], ◌++◌, false, length, get_or, arith, ap, ap₂, sym, ◌∙◌}
+use Rattle.std.proofs.Common.{◌≡◌, ◌<◌, ℕ, ◌+◌, List, [], ◌++◌, false, map, length, get_or, arith, ap, ap₂, sym, ◌∙◌}
 use Rattle.std.proofs.lemmas.List.{append_assoc}
 use Rattle.green_tree.specs.Path.{Path}
 use Rattle.green_tree.specs.Tree.{SyntaxTree}
 use Rattle.green_tree.specs.GreenElement.{element_trees}
 use Rattle.edit_change.specs.inner.KindOnly.{kind_only}
-use Rattle.one_pass.specs.inner.Marked.{MarkTree, Marking, marks_of, sought_in, sought_for, wanted}
+use Rattle.one_pass.specs.inner.Marked.{MarkTree, Marking, mark_below, marks_of, sought_in, sought_for, wanted}
 use Rattle.one_pass.specs.inner.Pass.{given_in}
 use Rattle.one_pass.specs.inner.OpenNodes.{opens, turn, to_come}
 use Rattle.one_pass.proofs.InSlot.{built-passed}
@@ -45,4 +45,17 @@ loop-slot-preserved c =
           shown-on path before (marks_of c.push_turn.new.walk.found.items) (length out) (length new) own (to_come children wanted trees (i + 1)) (to_come children wanted trees i) found wider (come-step children i e within c.index-children-slot.is wanted trees) ∙ c.loop-slot.invariant.marks trees are;
       built = omega (arith, c.loop-slot.invariant.built, built-step children i e within c.index-children-slot.is, built-passed group i e stays);
       size = omega (arith, c.loop-slot.invariant.size, do-step children i e within c.index-children-slot.is);
+    }
+
+pub loop-slot-preserved-then-is_quiet : goal.loop-slot-preserved-then-is_quiet
+loop-slot-preserved-then-is_quiet c =
+    let shares = c.in_ok-push_run.ensures.shares in
+    let found : List Marking = marks_of c.loop-slot.walk.found.items in
+    record {
+      path = c.loop-slot.invariant.path;
+      count = c.loop-slot.invariant.count;
+      trees = shares.trees (given_in c.args.given.now) ∙ c.loop-slot.invariant.trees;
+      marks = λ trees are. ap (λ ms. found ++ map (mark_below c.args.walk.now.path.items) ms) (shares.marks trees) ∙ c.loop-slot.invariant.marks trees are;
+      built = shares.built ∙ c.loop-slot.invariant.built;
+      size = omega (arith, shares.size, c.loop-slot.invariant.size);
     }
