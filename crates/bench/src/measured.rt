@@ -18,6 +18,19 @@ pub(crate) fn nanoseconds_since<R: Clock>(rt: &R, start: Instant) -> Result<u128
     Ok(start.elapsed(rt)?.as_nanos())
 }
 
+fn finish_recorded<R: Clock>(
+    rt: &R,
+    alloc: Global,
+    ids: &mut TreeIds,
+    editor: SyntaxEditor,
+    nanoseconds: &mut u128,
+) -> Result<SyntaxEdit> {
+    let start = Instant::now(rt)?;
+    let edit = editor.finish(alloc, ids)?;
+    *nanoseconds = nanoseconds_since(rt, start)?;
+    Ok(edit)
+}
+
 /// What a case makes, all at once. How many nanoseconds that took is put into the last argument.
 pub(crate) fn finish<R: Clock>(
     rt: &R,
@@ -27,10 +40,7 @@ pub(crate) fn finish<R: Clock>(
 ) -> Result<SyntaxEdit> {
     let mut ids = TreeIds::new(1);
     let editor = case.record(alloc, &mut ids)?;
-    let start = Instant::now(rt)?;
-    let edit = editor.finish(alloc, &mut ids)?;
-    *nanoseconds = nanoseconds_since(rt, start)?;
-    Ok(edit)
+    finish_recorded(rt, alloc, &mut ids, editor, nanoseconds)
 }
 
 // A try of an edit, with its figures so far.
@@ -51,21 +61,6 @@ impl<R: Clock> Try<'_, R> {
         self.figures.recorded = nanoseconds_since(self.rt, start)?;
         self.figures.changes = editor.changes().len();
         Ok(())
-    }
-
-    fn record(&mut self) -> Result<SyntaxEditor> {
-        let Prepared { mut editor, calls } = self.case.prepare(self.alloc, &mut self.ids)?;
-        self.make_calls(calls, &mut editor)?;
-        Ok(editor)
-    }
-
-    // Plans what was recorded.
-    fn plan(&mut self) -> Result<EditPlan> {
-        let editor = self.record()?;
-        let start = Instant::now(self.rt)?;
-        let plan = editor.plan(self.alloc)?;
-        self.figures.planned = nanoseconds_since(self.rt, start)?;
-        Ok(plan)
     }
 
     // Carries a plan out.
@@ -100,15 +95,34 @@ impl<R: Clock> Try<'_, R> {
         Ok(())
     }
 
-    fn measure_plan(&mut self, plan: &EditPlan) -> Result<()> {
+    fn measure_edit(&mut self, edit: &SyntaxEdit) -> Result<()> {
+        self.make_floor(edit)?;
+        self.make_answer(edit)
+    }
+
+    // Of a plan that was begun at this time.
+    fn measure_plan(&mut self, start: Instant, plan: &EditPlan) -> Result<()> {
+        self.figures.planned = nanoseconds_since(self.rt, start)?;
         let edit = self.run(plan)?;
-        self.make_floor(&edit)?;
-        self.make_answer(&edit)
+        self.measure_edit(&edit)
+    }
+
+    // Plans what was recorded, and goes on with the plan.
+    fn measure_recorded(&mut self, editor: SyntaxEditor) -> Result<()> {
+        let start = Instant::now(self.rt)?;
+        let plan = editor.plan(self.alloc)?;
+        self.measure_plan(start, &plan)
+    }
+
+    fn measure_prepared(&mut self, prepared: Prepared) -> Result<()> {
+        let Prepared { mut editor, calls } = prepared;
+        self.make_calls(calls, &mut editor)?;
+        self.measure_recorded(editor)
     }
 
     fn measure(&mut self) -> Result<()> {
-        let plan = self.plan()?;
-        self.measure_plan(&plan)
+        let prepared = self.case.prepare(self.alloc, &mut self.ids)?;
+        self.measure_prepared(prepared)
     }
 }
 
