@@ -6,7 +6,7 @@ use crate::growth::ONE_OF_EACH;
 use anyhow::Result;
 use cst_core::TreeIds;
 use std::alloc::Global;
-use syntax_editor::{EditPlan, OnePassEngine, SyntaxEdit, SyntaxEditor};
+use syntax_editor::{EditPlan, OnePassEngine, SyntaxEdit};
 
 /// Bytes of the list that is a mark. No other list is as long.
 const MARK: usize = 7_654_321;
@@ -56,16 +56,12 @@ fn mark_again(alloc: Global, edit: &SyntaxEdit) -> Result<u64> {
     Ok(edit.new_root().text_len())
 }
 
-fn finish_recorded(alloc: Global, ids: &mut TreeIds, editor: SyntaxEditor) -> Result<u64> {
-    mark(alloc)?;
-    let edit = editor.finish(alloc, ids)?;
-    mark_again(alloc, &edit)
-}
-
 fn finish(alloc: Global, case: Case) -> Result<u64> {
     let mut ids = TreeIds::new(1);
     let editor = case.record(alloc, &mut ids)?;
-    finish_recorded(alloc, &mut ids, editor)
+    mark(alloc)?;
+    let edit = editor.finish(alloc, &mut ids)?;
+    mark_again(alloc, &edit)
 }
 
 fn run_plan(alloc: Global, ids: &mut TreeIds, plan: &EditPlan) -> Result<u64> {
