@@ -18,19 +18,6 @@ pub(crate) fn nanoseconds_since<R: Clock>(rt: &R, start: Instant) -> Result<u128
     Ok(start.elapsed(rt)?.as_nanos())
 }
 
-fn finish_recorded<R: Clock>(
-    rt: &R,
-    alloc: Global,
-    ids: &mut TreeIds,
-    editor: SyntaxEditor,
-    nanoseconds: &mut u128,
-) -> Result<SyntaxEdit> {
-    let start = Instant::now(rt)?;
-    let edit = editor.finish(alloc, ids)?;
-    *nanoseconds = nanoseconds_since(rt, start)?;
-    Ok(edit)
-}
-
 /// What a case makes, all at once. How many nanoseconds that took is put into the last argument.
 pub(crate) fn finish<R: Clock>(
     rt: &R,
@@ -40,7 +27,10 @@ pub(crate) fn finish<R: Clock>(
 ) -> Result<SyntaxEdit> {
     let mut ids = TreeIds::new(1);
     let editor = case.record(alloc, &mut ids)?;
-    finish_recorded(rt, alloc, &mut ids, editor, nanoseconds)
+    let start = Instant::now(rt)?;
+    let edit = editor.finish(alloc, &mut ids)?;
+    *nanoseconds = nanoseconds_since(rt, start)?;
+    Ok(edit)
 }
 
 // A try of an edit, with its figures so far.
