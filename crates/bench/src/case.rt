@@ -43,6 +43,11 @@ impl Subject {
             Subject::Leaves => "leaves of eight a node, replaced",
         }
     }
+
+    fn label(self, alloc: Global, size: usize) -> Result<String> {
+        let name = self.name();
+        Ok(format!(in alloc; "{name}, {size} parts")?)
+    }
 }
 
 impl Case {
@@ -94,24 +99,9 @@ impl Case {
     /// How it is printed.
     pub(crate) fn label(self, alloc: Global) -> Result<String> {
         match self {
-            Case::Spread { subject, size, .. } => {
-                let name = subject.name();
-                Ok(format!(in alloc; "{name}, {size} parts")?)
-            }
-            Case::Nested(nest) => {
-                let Nest {
-                    chains,
-                    depth,
-                    wraps,
-                } = nest;
-                Ok(format!(in alloc; "blocks, wrapped {wraps} times, {chains} chains of {depth}")?)
-            }
-            Case::Noted(Noted::List(size)) => Ok(format!(in alloc;
-                "notes, inserts, {size} parts"
-            )?),
-            Case::Noted(Noted::Payload { notes, times }) => {
-                Ok(format!(in alloc; "payload of {notes} notes, brought {times} times")?)
-            }
+            Case::Spread { subject, size, .. } => subject.label(alloc, size),
+            Case::Nested(nest) => nest.label(alloc),
+            Case::Noted(noted) => noted.label(alloc),
         }
     }
 }

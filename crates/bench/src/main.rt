@@ -126,19 +126,6 @@ fn report<R: Print + Clock>(
     }
 }
 
-fn flat_root<R: Print + Clock>(
-    rt: &R,
-    alloc: Global,
-    ids: &mut TreeIds,
-    timed: bool,
-) -> Result<SyntaxNode> {
-    let start = Instant::now(rt)?;
-    let root = SyntaxNode::new_root(alloc, ids, flat(alloc)?)?;
-    let built = root.as_green().children().len();
-    report(rt, timed, start, Work::FlatBuilt, built)?;
-    Ok(root)
-}
-
 fn walk_children<R: Print + Clock>(
     rt: &R,
     alloc: Global,
@@ -150,29 +137,63 @@ fn walk_children<R: Print + Clock>(
     report(rt, timed, start, Work::FlatChildren, children.len())
 }
 
+fn walk_tokens<R: Print + Clock>(
+    rt: &R,
+    alloc: Global,
+    root: &SyntaxNode,
+    timed: bool,
+) -> Result<()> {
+    let start = Instant::now(rt)?;
+    let tokens = tokens_backwards(alloc, root)?;
+    report(rt, timed, start, Work::FlatTokens, tokens)
+}
+
+// A root that was begun at this time.
+fn measure_flat_root<R: Print + Clock>(
+    rt: &R,
+    alloc: Global,
+    start: Instant,
+    root: &SyntaxNode,
+    timed: bool,
+) -> Result<()> {
+    let built = root.as_green().children().len();
+    report(rt, timed, start, Work::FlatBuilt, built)?;
+    walk_children(rt, alloc, root, timed)?;
+    walk_tokens(rt, alloc, root, timed)
+}
+
 fn measure_flat<R: Print + Clock>(
     rt: &R,
     alloc: Global,
     ids: &mut TreeIds,
     timed: bool,
 ) -> Result<()> {
-    let root = flat_root(rt, alloc, ids, timed)?;
-    walk_children(rt, alloc, &root, timed)?;
     let start = Instant::now(rt)?;
-    let tokens = tokens_backwards(alloc, &root)?;
-    report(rt, timed, start, Work::FlatTokens, tokens)
+    let root = SyntaxNode::new_root(alloc, ids, flat(alloc)?)?;
+    measure_flat_root(rt, alloc, start, &root, timed)
 }
 
-fn chain_root<R: Print + Clock>(
+fn walk_chain<R: Print + Clock>(
     rt: &R,
     alloc: Global,
-    ids: &mut TreeIds,
+    root: &SyntaxNode,
     timed: bool,
-) -> Result<SyntaxNode> {
+) -> Result<()> {
     let start = Instant::now(rt)?;
-    let root = SyntaxNode::new_root(alloc, ids, chain(alloc)?)?;
+    let nodes = root.descendants(alloc)?;
+    report(rt, timed, start, Work::ChainDescendants, nodes.len())
+}
+
+// A root that was begun at this time.
+fn measure_chain_root<R: Print + Clock>(
+    rt: &R,
+    alloc: Global,
+    start: Instant,
+    root: &SyntaxNode,
+    timed: bool,
+) -> Result<()> {
     report(rt, timed, start, Work::ChainBuilt, CHAIN_NODES)?;
-    Ok(root)
+    walk_chain(rt, alloc, root, timed)
 }
 
 fn measure_chain<R: Print + Clock>(
@@ -181,10 +202,9 @@ fn measure_chain<R: Print + Clock>(
     ids: &mut TreeIds,
     timed: bool,
 ) -> Result<()> {
-    let root = chain_root(rt, alloc, ids, timed)?;
     let start = Instant::now(rt)?;
-    let nodes = root.descendants(alloc)?;
-    report(rt, timed, start, Work::ChainDescendants, nodes.len())
+    let root = SyntaxNode::new_root(alloc, ids, chain(alloc)?)?;
+    measure_chain_root(rt, alloc, start, &root, timed)
 }
 
 fn report_trees<R: Print + Clock>(rt: &R, alloc: Global, timed: bool) -> Result<()> {
@@ -215,13 +235,20 @@ enum Mode {
     Memory,
 }
 
+impl Mode {
+    fn from_word(word: &str) -> Option<Mode> {
+        match word {
+            "time" => Some(Mode::Times),
+            "memory" => Some(Mode::Memory),
+            _ => None,
+        }
+    }
+}
+
 fn asked_for(rt: &(impl Env + Alloc)) -> Result<Mode> {
     for argument in env::args(rt)? {
-        if argument.as_str() == "time" {
-            return Ok(Mode::Times);
-        }
-        if argument.as_str() == "memory" {
-            return Ok(Mode::Memory);
+        if let Some(mode) = Mode::from_word(argument.as_str()) {
+            return Ok(mode);
         }
     }
     Ok(Mode::Counts)

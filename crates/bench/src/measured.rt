@@ -53,21 +53,6 @@ impl<R: Clock> Try<'_, R> {
         Ok(())
     }
 
-    fn record(&mut self) -> Result<SyntaxEditor> {
-        let Prepared { mut editor, calls } = self.case.prepare(self.alloc, &mut self.ids)?;
-        self.make_calls(calls, &mut editor)?;
-        Ok(editor)
-    }
-
-    // Plans what was recorded.
-    fn plan(&mut self) -> Result<EditPlan> {
-        let editor = self.record()?;
-        let start = Instant::now(self.rt)?;
-        let plan = editor.plan(self.alloc)?;
-        self.figures.planned = nanoseconds_since(self.rt, start)?;
-        Ok(plan)
-    }
-
     // Carries a plan out.
     fn run(&mut self, plan: &EditPlan) -> Result<SyntaxEdit> {
         let start = Instant::now(self.rt)?;
@@ -100,15 +85,34 @@ impl<R: Clock> Try<'_, R> {
         Ok(())
     }
 
-    fn measure_plan(&mut self, plan: &EditPlan) -> Result<()> {
+    fn measure_edit(&mut self, edit: &SyntaxEdit) -> Result<()> {
+        self.make_floor(edit)?;
+        self.make_answer(edit)
+    }
+
+    // Of a plan that was begun at this time.
+    fn measure_plan(&mut self, start: Instant, plan: &EditPlan) -> Result<()> {
+        self.figures.planned = nanoseconds_since(self.rt, start)?;
         let edit = self.run(plan)?;
-        self.make_floor(&edit)?;
-        self.make_answer(&edit)
+        self.measure_edit(&edit)
+    }
+
+    // Plans what was recorded, and goes on with the plan.
+    fn measure_recorded(&mut self, editor: SyntaxEditor) -> Result<()> {
+        let start = Instant::now(self.rt)?;
+        let plan = editor.plan(self.alloc)?;
+        self.measure_plan(start, &plan)
+    }
+
+    fn measure_prepared(&mut self, prepared: Prepared) -> Result<()> {
+        let Prepared { mut editor, calls } = prepared;
+        self.make_calls(calls, &mut editor)?;
+        self.measure_recorded(editor)
     }
 
     fn measure(&mut self) -> Result<()> {
-        let plan = self.plan()?;
-        self.measure_plan(&plan)
+        let prepared = self.case.prepare(self.alloc, &mut self.ids)?;
+        self.measure_prepared(prepared)
     }
 }
 

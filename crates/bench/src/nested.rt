@@ -15,6 +15,18 @@ pub(crate) struct Nest {
     pub(crate) wraps: usize,
 }
 
+impl Nest {
+    /// How an edit of it is printed.
+    pub(crate) fn label(self, alloc: Global) -> Result<String> {
+        let Nest {
+            chains,
+            depth,
+            wraps,
+        } = self;
+        Ok(format!(in alloc; "blocks, wrapped {wraps} times, {chains} chains of {depth}")?)
+    }
+}
+
 // A node between braces.
 fn in_braces(alloc: Global, inner: GreenNode) -> Result<GreenNode> {
     let mut children = Vec::new(alloc);

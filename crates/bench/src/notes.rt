@@ -87,6 +87,16 @@ impl Noted {
             Noted::Payload { times, .. } => times,
         }
     }
+
+    /// How an edit of it is printed.
+    pub(crate) fn label(self, alloc: Global) -> Result<String> {
+        match self {
+            Noted::List(size) => Ok(format!(in alloc; "notes, inserts, {size} parts")?),
+            Noted::Payload { notes, times } => {
+                Ok(format!(in alloc; "payload of {notes} notes, brought {times} times")?)
+            }
+        }
+    }
 }
 
 /// The registrations, and the inserts.

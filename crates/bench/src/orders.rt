@@ -6,7 +6,7 @@ use cst_core::TreeIds;
 use std::alloc::Global;
 use std::rt::Clock;
 use std::time::Instant;
-use syntax_editor::{SyntaxEdit, SyntaxEditor};
+use syntax_editor::{EditPlan, SyntaxEdit, SyntaxEditor};
 
 const TRIES: usize = 3;
 
@@ -47,10 +47,34 @@ fn case(subject: Subject, size: usize) -> Case {
 }
 
 // An edit by the default order.
-fn execute(alloc: Global, ids: &mut TreeIds, editor: SyntaxEditor) -> Result<SyntaxEdit> {
-    let plan = editor.plan(alloc)?;
+fn execute(alloc: Global, ids: &mut TreeIds, plan: &EditPlan) -> Result<SyntaxEdit> {
     let order = plan.default_order(alloc)?;
     Ok(plan.execute(alloc, ids, &order)?)
+}
+
+fn figures_of_edit<R: Clock>(
+    rt: &R,
+    start: Instant,
+    changes: usize,
+    edit: &SyntaxEdit,
+) -> Result<Figures> {
+    Ok(Figures {
+        changes,
+        bytes: edit.new_root().text_len(),
+        finished: 0,
+        executed: nanoseconds_since(rt, start)?,
+    })
+}
+
+fn figures_of_plan<R: Clock>(
+    rt: &R,
+    alloc: Global,
+    ids: &mut TreeIds,
+    start: Instant,
+    plan: &EditPlan,
+) -> Result<Figures> {
+    let edit = execute(alloc, ids, plan)?;
+    figures_of_edit(rt, start, plan.len(), &edit)
 }
 
 // What comes of changes in the default order, without the time at once.
@@ -60,15 +84,9 @@ fn executed_by<R: Clock>(
     ids: &mut TreeIds,
     editor: SyntaxEditor,
 ) -> Result<Figures> {
-    let changes = editor.changes().len();
     let start = Instant::now(rt)?;
-    let edit = execute(alloc, ids, editor)?;
-    Ok(Figures {
-        changes,
-        bytes: edit.new_root().text_len(),
-        finished: 0,
-        executed: nanoseconds_since(rt, start)?,
-    })
+    let plan = editor.plan(alloc)?;
+    figures_of_plan(rt, alloc, ids, start, &plan)
 }
 
 fn figures_of<R: Clock>(rt: &R, alloc: Global, case: Case) -> Result<Figures> {

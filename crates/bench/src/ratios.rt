@@ -110,13 +110,18 @@ fn time_of_copies<R: Clock>(rt: &R, alloc: Global, path: &[usize], number: usize
 }
 
 impl Brought {
-    // How many paths come out of an edit, and what it takes to copy one of them as often.
-    fn of_edit<R: Clock>(rt: &R, alloc: Global, edit: &SyntaxEdit) -> Result<Brought> {
+    // How many paths come out of an edit that took so long, and what it takes to copy one of them as often.
+    fn of_edit<R: Clock>(
+        rt: &R,
+        alloc: Global,
+        edit: &SyntaxEdit,
+        finished: u128,
+    ) -> Result<Brought> {
         let paths = count_found(edit, NOTES)?;
         let path = path_of_one(alloc, edit)?;
         Ok(Brought {
             paths,
-            finished: 0,
+            finished,
             copied: time_of_copies(rt, alloc, &path, paths)?,
         })
     }
@@ -129,10 +134,7 @@ impl Brought {
         });
         let mut nanoseconds = 0;
         let edit = finish(rt, alloc, case, &mut nanoseconds)?;
-        Ok(Brought {
-            finished: nanoseconds,
-            ..Brought::of_edit(rt, alloc, &edit)?
-        })
+        Brought::of_edit(rt, alloc, &edit, nanoseconds)
     }
 
     // The shortest times of some tries.

@@ -208,26 +208,33 @@ impl Walk {
     // One walk over a tree. What it begins at is found before.
     fn go<R: Clock>(self, rt: &R, alloc: Global, root: &SyntaxNode, size: usize) -> Result<Walked> {
         match self {
-            Walk::Children => {
-                let start = Instant::now(rt)?;
-                Walked::of_nodes(rt, alloc, start, root.children(alloc)?)
-            }
-            Walk::Descendants => {
-                let start = Instant::now(rt)?;
-                Walked::of_nodes(rt, alloc, start, root.descendants(alloc)?)
-            }
-            Walk::Ancestors => {
-                let lowest = lowest(alloc, root, size)?;
-                let start = Instant::now(rt)?;
-                Walked::of_nodes(rt, alloc, start, lowest.ancestors(alloc)?)
-            }
-            Walk::NextToken => {
-                let first = root.first_token(alloc)?.context("no token")?;
-                let start = Instant::now(rt)?;
-                Walked::of_tokens(rt, alloc, start, tokens_from(alloc, first)?)
-            }
+            Walk::Children => walk_children(rt, alloc, root),
+            Walk::Descendants => walk_descendants(rt, alloc, root),
+            Walk::Ancestors => walk_ancestors(rt, alloc, &lowest(alloc, root, size)?),
+            Walk::NextToken => walk_tokens(rt, alloc, root),
         }
     }
+}
+
+fn walk_children<R: Clock>(rt: &R, alloc: Global, root: &SyntaxNode) -> Result<Walked> {
+    let start = Instant::now(rt)?;
+    Walked::of_nodes(rt, alloc, start, root.children(alloc)?)
+}
+
+fn walk_descendants<R: Clock>(rt: &R, alloc: Global, root: &SyntaxNode) -> Result<Walked> {
+    let start = Instant::now(rt)?;
+    Walked::of_nodes(rt, alloc, start, root.descendants(alloc)?)
+}
+
+fn walk_ancestors<R: Clock>(rt: &R, alloc: Global, node: &SyntaxNode) -> Result<Walked> {
+    let start = Instant::now(rt)?;
+    Walked::of_nodes(rt, alloc, start, node.ancestors(alloc)?)
+}
+
+fn walk_tokens<R: Clock>(rt: &R, alloc: Global, root: &SyntaxNode) -> Result<Walked> {
+    let first = root.first_token(alloc)?.context("no token")?;
+    let start = Instant::now(rt)?;
+    Walked::of_tokens(rt, alloc, start, tokens_from(alloc, first)?)
 }
 
 // The shortest times of some walks over one tree.
@@ -245,13 +252,33 @@ fn shortest<R: Clock>(
     Ok(best)
 }
 
-fn report_walk<R: Print + Clock>(rt: &R, alloc: Global, shape: Shape, walk: Walk) -> Result<()> {
+// The shortest times of some walks over a new tree.
+fn measure<R: Clock>(
+    rt: &R,
+    alloc: Global,
+    shape: Shape,
+    walk: Walk,
+    size: usize,
+) -> Result<Walked> {
+    let root = shape.root(alloc, size)?;
+    shortest(rt, alloc, &root, walk, size)
+}
+
+fn show<R: Print>(rt: &R, shape: Shape, walk: Walk, size: usize, walked: Walked) -> Result<()> {
     let (name, of) = (walk.name(), shape.name());
+    let Walked { count, walk, paths } = walked;
+    println!(rt; "{name} of {of} of {size}: {count} elements {walk} ns, their paths {paths} ns")?;
+    Ok(())
+}
+
+fn report_walk<R: Print + Clock>(rt: &R, alloc: Global, shape: Shape, walk: Walk) -> Result<()> {
     for size in shape.sizes() {
-        let root = shape.root(alloc, *size)?;
-        let Walked { count, walk, paths } = shortest(rt, alloc, &root, walk, *size)?;
-        println!(rt;
-            "{name} of {of} of {size}: {count} elements {walk} ns, their paths {paths} ns"
+        show(
+            rt,
+            shape,
+            walk,
+            *size,
+            measure(rt, alloc, shape, walk, *size)?,
         )?;
     }
     Ok(())

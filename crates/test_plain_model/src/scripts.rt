@@ -9,7 +9,7 @@ use cst_core::SyntaxNode;
 use plain_model::{Answers, Edited, answers_to, engine_answers, ordered_answers, stepped_answers};
 use std::alloc::Global;
 use syned_script::{Recorded, Told, record_script};
-use syntax_editor::{EditEngine, OnePassEngine, SpliceEngine};
+use syntax_editor::{EditEngine, OnePassEngine, SpliceEngine, SyntaxEditor};
 
 fn edited<'a>(root: &'a SyntaxNode, told: &'a Told) -> Edited<'a> {
     Edited {
@@ -30,8 +30,8 @@ fn at_once(alloc: Global, recorded: Recorded) -> Result<Answers> {
     answers_to(alloc, &mut ids, edited(&root, &told), editor)
 }
 
-// One change at a time; both have recorded the same.
-fn one_at_a_time(alloc: Global, recorded: Recorded, same: Recorded) -> Result<Answers> {
+// One change at a time; `same` has recorded what the editor has.
+fn one_at_a_time(alloc: Global, recorded: Recorded, same: SyntaxEditor) -> Result<Answers> {
     let Recorded {
         root,
         editor,
@@ -39,7 +39,7 @@ fn one_at_a_time(alloc: Global, recorded: Recorded, same: Recorded) -> Result<An
         told,
         ..
     } = recorded;
-    stepped_answers(alloc, &mut ids, edited(&root, &told), editor, same.editor)
+    stepped_answers(alloc, &mut ids, edited(&root, &told), editor, same)
 }
 
 fn by_engine<E: EditEngine>(alloc: Global, recorded: Recorded, engine: &mut E) -> Result<Answers> {
@@ -52,23 +52,21 @@ fn by_engine<E: EditEngine>(alloc: Global, recorded: Recorded, engine: &mut E) -
     engine_answers(alloc, edited(&root, &told), editor, engine)
 }
 
-// In the order of the script, where it says one.
-fn in_order(alloc: Global, recorded: Recorded) -> Result<Option<Answers>> {
+fn by_order(alloc: Global, recorded: Recorded, order: &[usize]) -> Result<Answers> {
     let Recorded {
         root,
         editor,
-        order,
         mut ids,
         told,
+        ..
     } = recorded;
-    match order {
-        Some(order) => Ok(Some(ordered_answers(
-            alloc,
-            &mut ids,
-            edited(&root, &told),
-            editor,
-            &order,
-        )?)),
+    ordered_answers(alloc, &mut ids, edited(&root, &told), editor, order)
+}
+
+// In the order of the script, where it says one.
+fn in_order(alloc: Global, mut recorded: Recorded) -> Result<Option<Answers>> {
+    match recorded.order.take() {
+        Some(order) => Ok(Some(by_order(alloc, recorded, &order)?)),
         None => Ok(None),
     }
 }
@@ -78,9 +76,14 @@ fn again(alloc: Global, script: &str) -> Result<Recorded> {
     record_script(alloc, script).context("nothing recorded")
 }
 
+fn editor_again(alloc: Global, script: &str) -> Result<SyntaxEditor> {
+    let Recorded { editor, .. } = again(alloc, script)?;
+    Ok(editor)
+}
+
 fn stepped_again(alloc: Global, script: &str) -> Result<Answers> {
-    let recorded = again(alloc, script)?;
-    one_at_a_time(alloc, recorded, again(alloc, script)?)
+    let same = editor_again(alloc, script)?;
+    one_at_a_time(alloc, again(alloc, script)?, same)
 }
 
 fn agree_stepped<R: Print>(

@@ -115,17 +115,29 @@ pub fn push_item(all: &mut String, item: &str) -> Result<(), AllocError> {
     all.push_str(item)
 }
 
+// The text of a token, or the children of a node, which are left then.
+fn push_next(
+    alloc: Global,
+    text: &mut String,
+    left: &mut Vec<GreenElement>,
+    next: &GreenElement,
+) -> Result<(), AllocError> {
+    match next {
+        GreenElement::Token(token) => text.push_str(token.text()),
+        GreenElement::Node(node) => push_children(alloc, left, node),
+    }
+}
+
 /// The text of a tree that has less than 1,000 elements.
 pub fn text_of(alloc: Global, tree: &GreenNode) -> Result<String, AllocError> {
     let mut text = String::new(alloc);
     let mut left = Vec::new(alloc);
     left.push(GreenElement::Node(tree.share(alloc)?))?;
     for _ in 0..1000 {
-        match left.pop() {
-            None => break,
-            Some(GreenElement::Token(token)) => text.push_str(token.text())?,
-            Some(GreenElement::Node(node)) => push_children(alloc, &mut left, &node)?,
-        }
+        let Some(next) = left.pop() else {
+            break;
+        };
+        push_next(alloc, &mut text, &mut left, &next)?;
     }
     Ok(text)
 }

@@ -4,7 +4,7 @@ use crate::part::Part;
 use std::fmt::Display;
 use std::io;
 use std::process::ExitCode;
-use test_steps::{OWED, Owed};
+use test_steps::{Owed, owed_lines};
 use test_trees::NoAnswer;
 
 /// The exit status where each row is answered as expected, but for one that ended because memory ran out.
@@ -112,7 +112,7 @@ impl Report {
 
     // Counts the pairs of a call, and prints those that have no row.
     fn note_owed<R: Print>(&mut self, rt: &R, asked: &Asked, owed: &Owed) -> io::Result<()> {
-        for answer in owed.answers {
+        for answer in owed.answers.split(' ') {
             self.owed = self.owed.saturating_add(1);
             if asked.has(owed.call, answer) {
                 self.have_row = self.have_row.saturating_add(1);
@@ -123,23 +123,36 @@ impl Report {
         Ok(())
     }
 
+    // Counts the pairs of each call.
+    fn note_all_owed<R: Print>(&mut self, rt: &R, asked: &Asked, lines: &str) -> io::Result<()> {
+        for line in lines.lines() {
+            if let Some(owed) = Owed::read(line) {
+                self.note_owed(rt, asked, &owed)?;
+            }
+        }
+        Ok(())
+    }
+
+    // Prints whether all rows answered as expected.
+    fn print_verdict<R: Print>(&self, rt: &R) -> io::Result<()> {
+        if self.wrong == 0 {
+            println!(rt; "all rows answer as expected")
+        } else {
+            println!(rt; "{} lines of the table are wrong", self.wrong)
+        }
+    }
+
     /// Prints how many of the owed pairs have a row and whether all rows answered as expected, and says whether both is so.
     pub fn close<R: Print>(&mut self, rt: &R, asked: &Asked) -> io::Result<ExitCode> {
         if self.is_partial {
             return Ok(self.status());
         }
-        for owed in OWED {
-            self.note_owed(rt, asked, owed)?;
-        }
+        self.note_all_owed(rt, asked, owed_lines())?;
         println!(rt;
             "{} of {} owed pairs of a call and its answer have a row",
             self.have_row, self.owed
         )?;
-        if self.wrong == 0 {
-            println!(rt; "all rows answer as expected")?;
-        } else {
-            println!(rt; "{} lines of the table are wrong", self.wrong)?;
-        }
+        self.print_verdict(rt)?;
         if self.have_row == self.owed {
             Ok(self.status())
         } else {

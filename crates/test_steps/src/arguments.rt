@@ -6,10 +6,13 @@ use std::alloc::{AllocError, Global};
 use syntax_editor::Position;
 use test_trees::{NoAnswer, Words};
 
-/// The position that two words say: `first NODE`, `last NODE`, `before REF` or `after REF`.
-fn position(alloc: Global, trees: &Roots, words: &mut Words) -> Result<Position, NoAnswer> {
-    let side = words.word()?;
-    let beside = words.word()?;
+// The position at one side of a node or of an element.
+fn position_at(
+    alloc: Global,
+    trees: &Roots,
+    side: &str,
+    beside: &str,
+) -> Result<Position, NoAnswer> {
     match side {
         "first" => first_in(alloc, trees, beside),
         "last" => last_in(alloc, trees, beside),
@@ -17,6 +20,13 @@ fn position(alloc: Global, trees: &Roots, words: &mut Words) -> Result<Position,
         "after" => after(alloc, trees, beside),
         _ => Err(NoAnswer::Arguments),
     }
+}
+
+/// The position that two words say: `first NODE`, `last NODE`, `before REF` or `after REF`.
+fn position(alloc: Global, trees: &Roots, words: &mut Words) -> Result<Position, NoAnswer> {
+    let side = words.word()?;
+    let beside = words.word()?;
+    position_at(alloc, trees, side, beside)
 }
 
 fn first_in(alloc: Global, trees: &Roots, node: &str) -> Result<Position, NoAnswer> {
@@ -47,9 +57,10 @@ pub fn insertion(
     trees: &Roots,
     words: &mut Words,
 ) -> Result<(Position, SyntaxElement), NoAnswer> {
-    let at = position(alloc, trees, words)?;
-    let new = words.word()?;
-    Ok((at, trees.element(alloc, new)?))
+    let side = words.word()?;
+    let beside = words.word()?;
+    let new = trees.element(alloc, words.word()?)?;
+    Ok((position_at(alloc, trees, side, beside)?, new))
 }
 
 /// A position, and the elements of all words that are left.

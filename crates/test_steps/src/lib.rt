@@ -28,7 +28,7 @@ mod stepped;
 
 use crate::answers::MEMORY;
 use crate::calls::name_of;
-pub use calls::{OWED, Owed};
+pub use calls::{Owed, owed_lines};
 pub use session::Session;
 pub use standing::Standing;
 use std::alloc::Global;
