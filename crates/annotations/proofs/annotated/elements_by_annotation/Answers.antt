@@ -36,7 +36,7 @@ returns c =
     let runs = c.loop-annotation.runs in
     let ns = c.args.annotated.items in
     if-ok-weaker (λ t. (a : ℕ) → elements_at t a ≡ elements_so_far runs a) (LeadByAnnotation root ns) (λ t h a.
-        let found = map (λ x. Some x) (elements_so_far runs a) in
-        let last = c.loop-annotation.annotation-iterator.rest in
-        let none = nil_from_length last.items (sym last.ok.0 ∙ c.in-None.ensures.steps.0) in
-        ap (map (λ x. Some x)) (h a) ∙ sym (append-nil found) ∙ ap (λ ms. found ++ map (syntax_at root) (paths_with a (map annotated_path ms))) (sym none) ∙ c.loop-annotation.invariant.found a) c.end.result c.end.ensures
+    let found = map (λ x. Some x) (elements_so_far runs a) in
+    let last = c.loop-annotation.annotation-iterator.rest in
+    let none = nil_from_length last.items (sym last.ok.0 ∙ c.in-None.ensures.steps.0) in
+    ap (map (λ x. Some x)) (h a) ∙ sym (append-nil found) ∙ ap (λ ms. found ++ map (syntax_at root) (paths_with a (map annotated_path ms))) (sym none) ∙ c.loop-annotation.invariant.found a) c.end.result c.end.ensures
