@@ -1,28 +1,28 @@
 #!/usr/bin/env bash
-# All tests: docs against files and definitions, the gate, tables of rows that are wrong, a sample of the inner planted bugs, scripts
-# through the built program and through a plain model, hostile scripts, each row of the table with each of its allocations made to fail in
-# turn, how many allocations an edit makes, and whether these tests notice a program that does nothing.
+# All tests, what fails soonest first: docs, format, rows and the first caller, without proofs; all proofs and programs, and beside them
+# planted bugs; then scripts through the built program and through a plain model, hostile scripts, each row of the table with each of its
+# allocations made to fail in turn, how many allocations an edit makes, the bindings, and whether these tests notice a program that does
+# nothing.
 set -euo pipefail
 cd "$(dirname "$0")/.."
+source tests/steps.sh
 
-# Runs a command, and says how many seconds it took, and its processor time.
-step() {
-    local TIMEFORMAT="$*: %0R seconds, processors %0U and %0S"
-    time "$@"
-}
+step quick bash tests/quick.sh docs format rows caller
+end_if_failed
 
-source tests/lanes.sh
+# A proof that no other waits beside takes several of the processors that it may use.
+processors=$(nproc)
+start planted env RT_JOBS=$(((processors + 1) / 2)) python3 tests/planted.py --gate
+step proofs taskset -c "0-$((processors > 2 ? processors - 2 : processors - 1))" rt ci
+finish
+end_if_failed
 
-step python3 tests/docs.py
-step python3 tests/without_proofs.py caller
-step env RT_JOBS="${RT_JOBS:-$(lanes)}" rt ci
-step python3 tests/without_proofs.py rows
-step tests/inner_bugs.sh --changed
-step tests/inner_bugs.sh --sample
-step tests/scripts.sh
-step tests/models.sh
-step python3 tests/hostile.py
-step tests/refuse_growths.sh
-step tests/growths.sh
-step bash bindings/test.sh
-step tests/broken_programs.sh
+start scripts tests/scripts.sh
+start models tests/models.sh
+start hostile python3 tests/hostile.py
+start growths_refused tests/refuse_growths.sh
+start growths tests/growths.sh
+start bindings bash bindings/test.sh
+finish
+step broken_programs tests/broken_programs.sh
+end

@@ -7,9 +7,8 @@
 - Each file that a page names is there. No line of a page is over 120 columns but in a table, README.md is one page, and it names the kit.
 - docs/ARCHITECTURE.md says how many crates, files and functions its walks have (tests/walk.py).
 - Each file of rows is read for one group, and is not too long (tests/rows.py).
-- Each planted bug can be made. Each public function has one (tests/public_bugs.py). There are as many as tests/planted_bugs.txt says, a
-  number that never falls. Each inner one was refused over the files that are there now, by this kit, by the record in
-  tests/inner_bugs.txt; tests/all.sh tries a sample of them.
+- Each planted bug can be made. Each public function has one, or a reason. There are as many as tests/planted.txt says, a number that
+  never falls (tests/planted.py).
 """
 
 import re
@@ -19,8 +18,7 @@ import sys
 from pathlib import Path
 
 import believed
-import inner_record
-import public_bugs
+import planted
 import public_calls
 import rows
 import signatures
@@ -303,31 +301,51 @@ def compare_believed():
     wrong.extend(f"{it}: no public clause reaches it, and it is outside inner/" for it in believed.unreached_outside(specs, from_where))
 
 
+# The crates that users of the editor name.
+EDITOR = ["cst_core", "edit_map", "edit_plan", "syntax_editor", "list_removal"]
+WITHOUT_BUG = {
+    "green_tree::GreenToken::kind": "its bug takes the whole function away and writes another one elsewhere",
+    "green_tree::GreenNode::kind": "its bug takes the whole function away and writes another one elsewhere",
+    "edit_change::Change::text": "it prints the change, and the bugs are in what prints it",
+    "edit_plan::EditRun::plan": "no other plan is at hand",
+    "edit_plan::SpliceEngine::new": "no other engine of splices is at hand",
+    "syntax_editor::SyntaxEditor::make": "no other factory is at hand",
+    "syntax_editor::SyntaxEditor::make_mut": "no other factory is at hand",
+}
+
+
 def compare_planted_bugs():
-    """Each text that a bug takes away is there once in its file, as the earlier pairs of lines left it, and another comes in its place."""
-    for file in sorted(ROOT.glob("crates/*/must-fail*/*")):
-        name, source, text, old, pairs = file.relative_to(ROOT), None, "", None, 0
-        for line in file.read_text().splitlines():
-            word, _, rest = line.partition(": ")
-            if word == "file":
-                source = file.parent.parent / rest
-                text = source.read_text() if source.is_relative_to(file.parent.parent / "src") and source.is_file() else ""
-            elif word == "old":
-                old = rest
-                if text.count(old) != 1:
-                    wrong.append(f"{name}: what it takes away is {text.count(old)} times in its file")
-            elif word in ("new", "new:") and old != rest:
-                text, pairs = text.replace(old, rest), pairs + 1
-            else:
-                wrong.append(f"{name}: a line that says nothing: {line[:60]}")
-        if file.suffix != ".edit" or not pairs:
-            wrong.append(f"{name}: is no planted bug")
+    """Each bug can be made. Each public function that users of the editor name has one, or calls a function of its crate that has one."""
+    names, missing = set().union(*(public_calls.given(crate, ROOT) for crate in EDITOR)), set()
+    for crate in public_calls.libraries(ROOT):
+        folder = ROOT / "crates" / crate
+        bugs = [planted.Bug(edit, folder) for edit in planted.bugs_of(crate)]
+        wrong.extend(f"{crate}/{bug.name}: {bug.why}" for bug in bugs if bug.why)
+        edited = {it.name for bug in bugs for it in bug.functions.values() if it}
+        whole = {f"{it.type}::{it.name}".removeprefix("::") for bug in bugs for it in bug.functions.values() if it}
+        bodies = {}
+        for file in folder.glob("src/**/*.rt"):
+            for it in planted.functions_of(str(file.relative_to(folder)), file.read_text()):
+                bodies.setdefault(f"{it.type}::{it.name}".removeprefix("::"), []).append(it.text.partition("{\n")[2])
+        for call in public_calls.calls_of(crate, ROOT):
+            calls = set(re.findall(r"\b(\w+)(?:::<[^>]*>)?\(", " ".join(bodies.get(call.name, []))))
+            has_body = any(text.strip() for text in bodies.get(call.name, []))
+            if call.owner in names and call.owner != "laws" and has_body and call.name not in whole and not calls & edited:
+                missing.add(f"{crate}::{call.name}")
+    wrong.extend(f"{name}: a public function without a planted bug" for name in sorted(missing - WITHOUT_BUG.keys()))
+    wrong.extend(f"{Path(__file__).name}: {name} has a planted bug, or is not there" for name in sorted(WITHOUT_BUG.keys() - missing))
 
 
-def compare_record():
-    wrong.extend(inner_record.wrong_lines(ROOT))
-    wrong.extend(inner_record.wrong_count(ROOT))
-    wrong.extend(public_bugs.wrong_bugs())
+def compare_count():
+    """The number of planted bugs never falls, in the whole history of the count; one that went has a line that says why."""
+    there = {f"{crate}/{bug.stem}" for crate in planted.crates_with_bugs() for bug in planted.bugs_of(crate)}
+    record = planted.RECORD.read_text()
+    gone = set(re.findall(r"^gone (\S+): \S", record, re.M))
+    history = ["git", "-C", str(ROOT), "log", "-p", "--format=", "--", "tests/planted.txt", "tests/planted_bugs.txt"]
+    past = subprocess.run(history, capture_output=True, text=True, check=False).stdout
+    most = max(map(int, re.findall(r"^\+?planted (\d+)$", f"{past}\n{record}", re.M)))
+    if len(there | gone) != most or there & gone:
+        wrong.append(f"tests/planted.txt: {len(there)} planted bugs are there and {len(gone)} are gone, of {most}")
 
 
 compare_tables()
@@ -345,7 +363,7 @@ if signatures.wrong():
     wrong.append("docs/CALLING.md: not the signatures of the sources: python3 tests/signatures.py write")
 compare_walks()
 compare_planted_bugs()
-compare_record()
+compare_count()
 wrong.extend(rows.wrong_files())
 for line in wrong:
     print("wrong:", line)

@@ -1,6 +1,10 @@
-"""The public calls of the libraries, read from their sources."""
+"""The crates and the public calls of the libraries, read from crates.txt and the sources.
+
+public_calls.py below CRATE prints a crate and all libraries of the repository below it, lowest first.
+"""
 import os
 import re
+import sys
 
 # The crates that users name. They re-export some names of others; what those have besides is below the surface.
 SURFACE = ["cst_core", "edit_map", "edit_plan", "syntax_editor", "list_removal", "tree_text", "script_lines", "syned_script", "syned_run"]
@@ -44,6 +48,22 @@ def cited_words(text):
     """The definitions of the repository's own crates that a source imports for its clauses."""
     imports = re.findall(r"ghost use Rattle\.(\w+)\.specs[\w.]*\.\{([^}]*)\}", text)
     return {word.strip() for crate, words in imports if crate != "std" for word in words.split(",")}
+
+
+def uses_of(root="."):
+    """The crates, of the repository and of the kit, that each crate of crates.txt lists."""
+    with open(f"{root}/crates.txt", encoding="utf-8") as table:
+        parts = (line.split(":") for line in table if ":" in line and not line.startswith("#"))
+        return {name.split()[0]: uses.split() for name, uses in parts}
+
+
+def below(crate, uses):
+    """The crates of the repository below a crate, each after those that it uses."""
+    found = []
+    for name in uses[crate]:
+        if name in uses:
+            found += [it for it in [*below(name, uses), name] if it not in found]
+    return found
 
 
 def libraries(root="."):
@@ -96,3 +116,9 @@ def calls_of(crate, root="."):
     """The public functions of a crate."""
     for file, text in sources(crate, root):
         yield from calls_in(crate, file, text)
+
+
+if __name__ == "__main__":
+    if len(sys.argv) != 3 or sys.argv[1] != "below":
+        sys.exit(__doc__)
+    print(*below(sys.argv[2], uses_of()), sys.argv[2])

@@ -1,10 +1,9 @@
 #!/usr/bin/env bash
-# The quick check, for while you write: format, docs, every row, scripts, the plain model, and the first caller of docs/CALLING.md, all
-# without proofs. It takes at most five minutes on four processors, and two where the gate has built the programs. tests/all.sh proves.
+# quick.sh [CHECK..]: the quick check, for while you write, or some of it: format, docs, every row, scripts, the plain model, and the first
+# caller of docs/CALLING.md, all without proofs. tests/all.sh proves.
 set -euo pipefail
 cd "$(dirname "$0")/.."
-room=$(mktemp -d)
-trap 'rm -rf "$room"' EXIT
+source tests/steps.sh
 
 # Each file of a crate as `rt fmt` lays it out.
 format() {
@@ -16,38 +15,19 @@ format() {
     for crate in "$room"/laid_out/crates/*/; do
         (cd "$crate" && rt fmt >/dev/null)
     done
-    diff -r "$room/as_is/crates" "$room/laid_out/crates"
-    echo "format: as rt fmt lays it out"
+    diff -r "$room/as_is/crates" "$room/laid_out/crates" && echo "format: as rt fmt lays it out"
 }
 
-declare -A checks
-start() {
-    local name=$1
-    shift
-    "$@" >"$room/$name" 2>&1 &
-    checks[$name]=$!
-}
-
-# One after the other, since there are four processors.
-rows_and_caller() {
-    python3 tests/without_proofs.py rows
-    python3 tests/without_proofs.py caller
-}
-
-start models python3 tests/without_proofs.py models
-start scripts python3 tests/without_proofs.py scripts 1 2
-start more_scripts python3 tests/without_proofs.py scripts 2 2
-start rows rows_and_caller
-start docs python3 tests/docs.py
-start format format
-
-failed=0
-for name in docs format rows scripts more_scripts models; do
-    wait "${checks[$name]}" || {
-        failed=$((failed + 1))
-        echo "FAILED: $name"
-    }
-    cat "$room/$name"
+[ $# -gt 0 ] || set -- docs format rows caller models scripts more_scripts
+for check; do
+    case $check in
+    docs) start docs python3 tests/docs.py ;;
+    format) start format format ;;
+    scripts) start scripts python3 tests/without_proofs.py scripts 1 2 ;;
+    more_scripts) start more_scripts python3 tests/without_proofs.py scripts 2 2 ;;
+    rows | caller | models) start "$check" python3 tests/without_proofs.py "$check" ;;
+    *) echo "quick: there is no check $check" >&2 && exit 2 ;;
+    esac
 done
-echo "quick: $((${#checks[@]} - failed)) passed, $failed failed"
-[ "$failed" -eq 0 ]
+finish
+end

@@ -1,0 +1,361 @@
+"""planted.py [CRATE..]: tries planted bugs, edits of the code that the prover has to refuse (crates/NAME/planted/BUG.edit).
+
+It tries the bugs of these crates, or of all, where a verdict could have changed, and records in tests/planted.txt the crates whose bugs were
+all refused. `--all` tries them whether anything changed or not. `--gate` tries the stale crates and one more, which the commit's hash chooses,
+and records nothing: so a record that was written by hand is found out. `--stale` prints the stale crates.
+
+A check says of each function whether it is proved, so bugs of many functions are tried in one check (`rattle check --only F ..`), over what a
+check of the unchanged crate proved. A bug is refused if a goal of the function that it edits is not proved. One whose function is only said to
+call another that is not proved waits for the next check. A bug in no function, or in several, and one that comes out proved, is tried alone, by
+a check of the whole crate. A bug that does not compile, or that the borrow checker refuses for its form, shows nothing, and fails.
+
+A crate is stale if the kit changed, its bugs, its sources or definitions, or the definitions and clauses of the crates below it.
+"""
+
+import hashlib
+import os
+import re
+import shutil
+import subprocess
+import sys
+import tempfile
+import threading
+from concurrent.futures import ThreadPoolExecutor
+from pathlib import Path
+
+from public_calls import below, uses_of
+
+ROOT = Path(__file__).resolve().parent.parent
+RECORD = ROOT / "tests/planted.txt"
+
+
+def bugs_of(crate):
+    return sorted(it for folder in ("planted", "must-fail") for it in (ROOT / "crates" / crate / folder).glob("*.edit"))
+
+
+def crates_with_bugs():
+    return [crate for crate in uses_of(ROOT) if bugs_of(crate)]
+
+
+# The record.
+
+CLAUSE = re.compile(r"^ *(?:pub )?(?:ghost|requires|ensures)\b", re.M)
+
+
+def code(file):
+    return re.sub(r"^ *//.*\n", "", file.read_text(), flags=re.M)
+
+
+def clauses(text):
+    """The contracts, invariants and models of a source, without its bodies."""
+    for clause in CLAUSE.finditer(text):
+        end = text.find("\n", clause.start())
+        while text.count("{", clause.start(), end) > text.count("}", clause.start(), end):
+            end = text.find("\n", end + 1)
+        yield text[clause.start() : end]
+
+
+def key(crate):
+    """A checksum of all that the verdicts on a crate's bugs rest on."""
+    crates, told = ROOT / "crates", [subprocess.run(["rt", "version"], capture_output=True, text=True, check=True).stdout]
+    told += [f"{bug.name}\n{bug.read_text()}" for bug in bugs_of(crate)]
+    told += [f"{file.relative_to(crates)}\n{code(file)}" for file in sorted(crates.glob(f"{crate}/src/**/*.rt"))]
+    for name in below(crate, uses_of(ROOT)):
+        told += [clause for file in sorted(crates.glob(f"{name}/src/**/*.rt")) for clause in clauses(code(file))]
+    for name in [crate, *below(crate, uses_of(ROOT))]:
+        told += [f"{file.relative_to(crates)}\n{file.read_text()}" for file in sorted(crates.glob(f"{name}/specs/**/*.antt"))]
+    return hashlib.sha256("\n".join(told).encode()).hexdigest()
+
+
+def recorded():
+    """The lines of the record: those that speak of numbers, and the key of each crate whose bugs were refused."""
+    lines = RECORD.read_text().splitlines()
+    head = [line for line in lines if line.startswith(("#", "planted ", "gone "))]
+    return head, dict(line.split() for line in lines if line not in head)
+
+
+def stale():
+    """The crates whose bugs were not refused over what is there."""
+    return [crate for crate in crates_with_bugs() if recorded()[1].get(crate) != key(crate)]
+
+
+def write(crates):
+    head, said = recorded()
+    said = {crate: line for crate, line in said.items() if bugs_of(crate)} | {crate: key(crate) for crate in crates}
+    RECORD.write_text("\n".join([*head, *(f"{crate} {line}" for crate, line in sorted(said.items()))]) + "\n")
+
+
+# Bugs, and the functions that they edit.
+
+HEAD = re.compile(r"^(?:pub )?(?:impl(?:<[^>]*>)? (?:(?P<of>[^{\n]*?) for )?|trait )&?(?:\w+::)*(?P<type>\w+)", re.M)
+FUNCTION = re.compile(r"^(?:(?P<indent> *)#\[cycle\((?P<cycle>\w+)\)\]\n)?(?P<inside> *)(?:pub(?:\([^)]*\))? )?fn (?P<name>\w+)", re.M)
+
+
+class Function:
+    """A function of a source: its text, and what the check's name for it is made of."""
+
+    def __init__(self, file, text, found):
+        head = [it for it in HEAD.finditer(text) if it.start() < found.start()][-1:] if found["inside"] else []
+        has_body = re.compile(r"\{\}?\n|;\n").search(text, found.end())[0] == "{\n"
+        end = re.compile(rf"^{found['inside']}\}}" if has_body else r";$|\{\}$", re.M).search(text, found.end())
+        self.start, self.end = found.start(), end.end()
+        self.name, self.cycle, self.text = found["name"], found["cycle"], text[self.start : self.end]
+        self.module = "::".join(part for part in file.removeprefix("src/").removesuffix(".rt").split("/") if part not in ("lib", "main"))
+        self.type = head[0]["type"] if head else ""
+        self.owner = self.type + "".join(re.findall(r"\w+", head[0]["of"] or "")) if head else ""
+
+    def proofs(self, names):
+        """The proofs of this function among those of a check: of itself and of its closures."""
+        found = {}
+        for name in names:
+            path = name.partition("::")[2]
+            inside = re.fullmatch(rf"(?:(.*?)::)?fn::(?:(.*)::)?{self.name}::.*", path)
+            owner = "::".join(filter(None, inside.groups())) if inside else path.rpartition("::")[0]
+            # A method stands with its type, wherever the impl is; what is free, in its module.
+            if (inside or path.rpartition("::")[2] == self.name) and (
+                owner.rpartition("::")[2].startswith(self.type) if self.type else owner == self.module
+            ):
+                found.setdefault(owner, set()).add(name)
+        return found[max(found, key=self.likeness)] if found else set()
+
+    def units(self):
+        """What has one proof: the function, and its cycle of calls if it is in one."""
+        return {(self.module, self.owner, self.name), self.cycle and (self.cycle,)} - {None}
+
+    def likeness(self, owner):
+        place, _, last = owner.rpartition("::")
+        return len(os.path.commonprefix([last, self.owner])), -len(last), len(os.path.commonprefix([place, self.module]))
+
+
+def functions_of(file, text):
+    return [Function(file, text, found) for found in FUNCTION.finditer(text)]
+
+
+def function_at(file, text, at):
+    """The function of a source in which a place stands, if it stands in one."""
+    begun = [it for it in functions_of(file, text) if it.start <= text.find("\n", at)]
+    return begun[-1] if begun and at <= begun[-1].end else None
+
+
+class Bug:
+    """A planted bug: the texts that it exchanges, one after the other, and the functions in which these stand; or why it can't be made."""
+
+    def __init__(self, edit, folder):
+        self.name, self.edits, self.functions, self.why = edit.stem, [], {}, "it exchanges nothing"
+        texts, file, old = {}, "", None
+        for line in edit.read_text().splitlines():
+            word, _, rest = line.partition(": ")
+            if word == "file" and rest.startswith("src/") and (folder / rest).is_file():
+                file = rest
+                texts.setdefault(file, (folder / file).read_text())
+            elif word == "old" and file:
+                old = rest
+            elif word in ("new", "new:") and old != rest and texts[file].count(old or " ") == 1:
+                function = function_at(file, texts[file], texts[file].index(old))
+                self.functions[function and (function.module, function.owner, function.name)] = function
+                texts[file] = texts[file].replace(old, rest)
+                self.edits.append((file, old, rest))
+                self.why = None
+            else:
+                self.why = f"a line that says nothing, or whose text does not stand once in its file: {line[:60]}"
+                return
+
+    def proofs(self, names):
+        """The proofs that have to fail, if the bug edits one function."""
+        functions = [*self.functions.values()]
+        return functions[0].proofs(names) if len(functions) == 1 and functions[0] else set()
+
+
+# How bugs are tried.
+
+BORROWS = "the borrow checker does not cover"
+REFUSED, LATER, PROVED, BAD = "refused", "later", "let through", "bad"
+
+
+def is_refusal(line):
+    """Whether a check's line on a function says that a goal of it is not proved."""
+    return line.startswith("not proved") or "did not prove" in line
+
+
+def first_error(said):
+    return next((line for line in said.splitlines() if "error" in line or BORROWS in line), said[-300:])[:300]
+
+
+def linked(folder, to):
+    """A copy by links: a check replaces what it kept, and writes into no such file."""
+    shutil.copytree(folder, to, copy_function=lambda one, other: os.link(one, other) if one.endswith(".oantt") else shutil.copy2(one, other))
+
+
+class Lab:
+    """A copy of some crates and of those below, with the libraries that they need proved."""
+
+    def __init__(self, crates, lanes):
+        self.uses, self.room, self.lanes = uses_of(ROOT), Path(tempfile.mkdtemp(prefix="planted-")), threading.Semaphore(lanes)
+        self.kit = Path(subprocess.run(["rt", "doc"], capture_output=True, text=True, check=True).stdout.strip()).parent
+        needed = {name for crate in crates for name in below(crate, self.uses)}
+        for crate in {*crates, *needed}:
+            for part in ("src", "specs", "proofs"):
+                if (ROOT / "crates" / crate / part).is_dir():
+                    shutil.copytree(ROOT / "crates" / crate / part, self.room / "crates" / crate / part)
+        if needed:
+            self.prove(needed, lanes)
+
+    def prove(self, needed, lanes):
+        """Has `rt ci` prove these libraries, or take them from what it kept."""
+        folder = self.room / "libraries"
+        for crate in needed:
+            shutil.copytree(self.room / "crates" / crate, folder / "crates" / crate)
+        shutil.copy(ROOT / "HANDLES", folder)
+        lines = (ROOT / "crates.txt").read_text().splitlines()
+        (folder / "crates.txt").write_text("".join(f"{line}\n" for line in lines if line.split(":")[0] in needed))
+        ran = subprocess.run(["rt", "ci"], cwd=folder, env={**os.environ, "RT_JOBS": str(lanes)}, capture_output=True, text=True, check=False)
+        if ran.returncode:
+            sys.exit(f"planted: the libraries below are not proved\n{ran.stdout[-2000:]}{ran.stderr[-500:]}")
+
+    def check(self, crate, folder, kept, only=()):
+        """The status of a check of a crate in a folder, over what an earlier one kept, and what it said."""
+        words = ["rattle", "check", "--crate-name", crate, "src/lib.rt", "--links", f"{crate}=", "--jobs", "1", "--incremental", str(kept)]
+        for name in ["std", *(it for it in self.uses[crate] if it not in self.uses)]:
+            words += ["--extern", f"{name}={self.kit}/rlibs/{name}.rlib"]
+        for name in below(crate, self.uses):
+            rlib = self.room / f"libraries/crates/{name}/out/rlib"
+            words += ["--extern", f"{name}={rlib}/{name}.rlib"] * (name in self.uses[crate]) + ["-L", f"dependency={rlib}"]
+        words += ["-L", f"dependency={self.kit}/rlibs", "--antt-project", f"{self.kit}/rattle/logic/antt-project.json"]
+        words += ["--logic-built", f"{self.kit}/logic_built", *(word for it in only for word in ("--only", it))]
+        if re.search(rf"^{crate} staticlib:", (ROOT / "crates.txt").read_text(), re.M):
+            words += ["--crate-type", "staticlib"]
+        with self.lanes:
+            ran = subprocess.run(words, cwd=folder, capture_output=True, text=True, errors="replace", check=False)
+        return ran.returncode, ran.stdout + ran.stderr
+
+
+class Trial:
+    """The bugs of one crate, tried over what a check of the unchanged crate kept."""
+
+    def __init__(self, lab, crate, pool):
+        self.lab, self.crate, self.pool, self.checks = lab, crate, pool, 0
+        self.folder, self.seed = lab.room / "crates" / crate, lab.room / "seeds" / crate
+
+    def run(self):
+        """What became of each bug, by its name: a verdict, and why."""
+        status, said = self.lab.check(self.crate, self.folder, self.seed)
+        if status:
+            sys.exit(f"planted: {self.crate} is not proved as it is\n{said[-2000:]}")
+        self.names = re.findall(r"^fn (\S+): ", said, re.M)
+        bugs = [Bug(edit, self.folder) for edit in bugs_of(self.crate)]
+        found = {bug.name: (BAD, bug.why) for bug in bugs if bug.why}
+        waiting = [bug for bug in bugs if not bug.why and bug.proofs(self.names)]
+        alone = [bug for bug in bugs if not bug.why and not bug.proofs(self.names)]
+        while waiting:
+            told = {name: it for batch in self.pool.map(self.batch, dealt(waiting)) for name, it in batch.items()}
+            found |= {name: it for name, it in told.items() if it[0] in (REFUSED, BAD)}
+            alone += [bug for bug in waiting if told[bug.name][0] == PROVED]
+            later = [bug for bug in waiting if told[bug.name][0] == LATER]
+            if len(later) == len(waiting):
+                alone, later = alone + later, []
+            waiting = later
+        return found | dict(self.pool.map(self.whole, alone))
+
+    def batch(self, bugs):
+        """What one check says of several bugs, at most one of each proof."""
+        with tempfile.TemporaryDirectory(dir=self.lab.room) as folder:
+            fit = self.plant(bugs, folder)
+            said = self.check(folder, sorted(name for bug in fit for name in bug.proofs(self.names)))[1]
+        found = {bug.name: (LATER, "it does not fit beside the others") for bug in bugs}
+        if re.search(r"^only=\d+ ", said, re.M):
+            return found | {bug.name: verdict(said, bug.proofs(self.names)) for bug in fit}
+        if len(fit) == 1:
+            return found | {fit[0].name: (BAD, first_error(said))}
+        return found | self.batch(fit[: len(fit) // 2]) | self.batch(fit[len(fit) // 2 :])
+
+    def whole(self, bug):
+        """What a check of the whole crate says of one bug: that it is refused, if a goal of any function is not proved."""
+        with tempfile.TemporaryDirectory(dir=self.lab.room) as folder:
+            self.plant([bug], folder)
+            said = self.check(folder)[1]
+        lines = re.findall(r"^fn \S+: (.*)$", said, re.M)
+        if not re.search(r"^logic=", said, re.M) or any(BORROWS in line for line in lines):
+            return bug.name, (BAD, first_error(said))
+        return bug.name, (REFUSED, "alone") if any(map(is_refusal, lines)) else (PROVED, "the crate is proved with it")
+
+    def plant(self, bugs, folder):
+        """Makes these bugs in a copy of the crate, but for those whose text another one took away or doubled; and says which it made."""
+        shutil.copytree(self.folder, f"{folder}/crate")
+        made = []
+        for bug in bugs:
+            texts = {file: Path(folder, "crate", file).read_text() for file, _, _ in bug.edits}
+            for file, old, new in bug.edits:
+                texts[file] = texts[file].replace(old, new) if texts[file].count(old) == 1 else ""
+            if all(texts.values()):
+                made.append(bug)
+                for file, text in texts.items():
+                    Path(folder, "crate", file).write_text(text)
+        return made
+
+    def check(self, folder, only=()):
+        self.checks += 1
+        linked(self.seed, f"{folder}/kept")
+        return self.lab.check(self.crate, f"{folder}/crate", f"{folder}/kept", only)
+
+
+def dealt(bugs):
+    """Batches with at most one bug of each function, and of each cycle of calls, which has one proof."""
+    batches = []
+    for bug in bugs:
+        (own,) = bug.functions.values()
+        for taken, batch in batches:
+            if not taken & own.units():
+                taken |= own.units()
+                batch.append(bug)
+                break
+        else:
+            batches.append((own.units(), [bug]))
+    return [batch for _, batch in batches]
+
+
+def verdict(said, proofs):
+    """What a check of several bugs says of the one that edits the function of these proofs."""
+    lines = [line for name in proofs for line in re.findall(rf"^fn {re.escape(name)}: (.*)$", said, re.M)]
+    if any(BORROWS in line for line in lines):
+        return BAD, next(line for line in lines if BORROWS in line)
+    if any(map(is_refusal, lines)):
+        return REFUSED, "in a batch"
+    return (PROVED, "") if lines and all(line == "proved" for line in lines) else (LATER, "; ".join(lines))
+
+
+def main(words):
+    options = {word for word in words if word.startswith("--")}
+    crates = [word for word in words if word not in options] or crates_with_bugs()
+    if "--all" not in options:
+        crates = [crate for crate in crates if crate in stale()]
+    if "--gate" in options:
+        commit = subprocess.run(["git", "rev-parse", "HEAD"], cwd=ROOT, capture_output=True, text=True, check=True).stdout
+        others = set(crates_with_bugs()) - set(crates)
+        crates += sorted(others, key=lambda it: hashlib.sha256(f"{commit} {it}".encode()).digest())[:1]
+    if "--stale" in options or not crates:
+        print(*crates or ["planted: nothing changed"], sep="\n")
+        return 0
+    lanes = int(os.environ.get("RT_JOBS") or max(1, (os.cpu_count() or 1) - 1))
+    lab = Lab(crates, lanes)
+    try:
+        with ThreadPoolExecutor(len(crates)) as each, ThreadPoolExecutor(64) as pool:
+            trials = [Trial(lab, crate, pool) for crate in crates]
+            found = [*each.map(Trial.run, trials)]
+    finally:
+        shutil.rmtree(lab.room)
+    wrong = 0
+    for trial, bugs in zip(trials, found):
+        kinds = [kind for kind, _ in bugs.values()]
+        wrong += len(kinds) - kinds.count(REFUSED)
+        print(f"planted: {trial.crate}: {kinds.count(REFUSED)} of {len(bugs)} refused, in {trial.checks} checks")
+        for name, (kind, why) in sorted(bugs.items()):
+            if kind != REFUSED:
+                print(f"planted: {trial.crate}/{name}: {kind}: {why}")
+    if "--gate" not in options:
+        write([trial.crate for trial, bugs in zip(trials, found) if all(kind == REFUSED for kind, _ in bugs.values())])
+    print(f"planted: {sum(map(len, found)) - wrong} refused, {wrong} not")
+    return bool(wrong)
+
+
+if __name__ == "__main__":
+    sys.exit(main(sys.argv[1:]))
