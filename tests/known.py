@@ -129,15 +129,18 @@ def status_of(answer):
 
 
 def examples():
-    """Scripts with lines that `model.py answer` prints of them, in this order, among others."""
+    """Scripts with lines that `model.py answer` prints of them, in this order, among others; and with lines that it doesn't print."""
     for name, script, parts in rows(read(TESTS / "model_examples.txt").decode()):
-        yield name, script.encode(), parts["answer"].rstrip("\n").split("\n")
+        yield name, script.encode(), parts["answer"].split("\n"), parts.get("not", "").split("\n")
 
 
-def missing_line(wanted, said):
-    """The first wanted line that isn't said after the wanted ones before it."""
+def example_difference(wanted, unwanted, said):
+    """How lines differ from an example: one is missing after those before it, or is there."""
     rest = iter(said)
-    return next((line for line in wanted if line not in rest), None)
+    missing = next((line for line in wanted if line and line not in rest), None)
+    if missing:
+        return "the model lacks the line %s" % missing
+    return next(("the model has the line %s" % line for line in unwanted if line and line in said), None)
 
 
 def broken_law(model, plan):
@@ -166,9 +169,8 @@ def broken_law(model, plan):
 
 def compared(model):
     """For each known answer, each plan of such a script and each worked example: its name, and how the model differs, None if it doesn't."""
-    for name, script, lines in examples():
-        missing = missing_line(lines, model_answers.answer_lines(model, name, script))
-        yield "worked examples", name, missing and "the model lacks the line %s" % missing
+    for name, script, wanted, unwanted in examples():
+        yield "worked examples", name, example_difference(wanted, unwanted, model_answers.answer_lines(model, name, script))
     for name, script, answer in answers():
         said = model.IsAnswer(script)
         right = said == (status_of(answer), answer)
