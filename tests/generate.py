@@ -109,7 +109,7 @@ class Script:
         return dict(self.trees.elements(name))[reference]
 
     def wrap(self):
-        """A node is replaced by one that has a copy of it somewhere, or a copy of a copy; the lines `map` may be missing."""
+        """A node is replaced by one that has a copy of it somewhere, or a copy of what has a copy; the lines `map` may be missing."""
         rng = self.rng
         target = self.node()
         self.replace_by_copy(target, rng.choice([1, 1, 1, 2, 3]))
@@ -132,7 +132,9 @@ class Script:
             parent = "/".join([name] + [str(slot) for slot in path[:-1]])
             if rng.random() < 0.92:
                 self.lines.append("map %s %s %s/%d" % (parent, original, parent, path[-1]))
-            original = "%s/%d" % (parent, path[-1])
+            # The next copy is of a node round this one, in which the copies add up; or of this one, which then has no place.
+            whole = "%s/%d" % (parent, path[-1])
+            original = rng.choice([name, name, parent, whole])
         self.lines.append("replace %s %s" % (target, name))
         self.wrapped.append(name)
 
