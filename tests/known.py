@@ -146,7 +146,7 @@ def example_difference(wanted, unwanted, said):
 def broken_law(model, plan):
     """A law of the definitions that a plan breaks, if it breaks one."""
     new, everything = model.new_tree(plan), model.undropped(plan)
-    pieces, default = model.text_pieces(plan), model.default_order(plan)
+    pieces, default = model.text_pieces(plan), model.IsDefaultOrder(plan)
     ends = [0] + [piece.stop for piece in pieces]
     if any(piece.first < end or piece.stop < piece.first for piece, end in zip(pieces, ends)):
         return "text edits are apart"
@@ -181,8 +181,18 @@ def compared(model):
             yield "plans by the laws of the definitions", name, law and "the law is broken that %s" % law
 
 
+def nameless(model):
+    """The functions and classes of the model that no row of docs/DEFINITIONS.md names."""
+    names = set(re.findall(r"`(\w+)`", (TESTS.parent / "docs/DEFINITIONS.md").read_text(encoding="utf-8")))
+    own = [name for name, value in vars(model).items() if getattr(value, "__module__", None) == model.__name__]
+    return [name for name in own if not name.startswith("_") and name != "main" and name not in names]
+
+
 def check(model):
     counts, wrong = {}, 0
+    for name in nameless(model):
+        wrong += 1
+        print("differs: %s is no name of docs/DEFINITIONS.md" % name)
     for kind, name, difference in compared(model):
         counts[kind] = counts.get(kind, 0) + (difference is None)
         if difference is not None:

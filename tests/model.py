@@ -7,10 +7,11 @@
     model.py batch FILE..       these scripts with the orders to try, as a driver of the product reads them
 
 How to read it. A function or class has the name of a row of docs/DEFINITIONS.md and says what that row says, in the order of that page:
-search for a name there to find its meaning, and here to find it as code. Names that begin with an underscore are the model's own. A
-definition of changes takes the plan first, and a change by its number. Nothing is found step by step: a tree, a place, a fate or an order
-is what its definition says, tried on all there is. `_kept` keeps what was once found, and `Mapping` and `_Aims` look things up in tables;
-neither changes a meaning. Paths are tuples of slots, texts are bytes, an address is a tree's number with a path.
+search for a name there to find its meaning, and here to find it as code. Names that begin with an underscore and names in capitals are
+the model's own. A definition of changes takes the plan first, and a change by its number; a fact that holds of one value alone is the
+function that returns it. Nothing is found step by step: a tree, a place, a fate or an order is what its definition says, tried on all
+there is. `_kept` keeps what was once found, and `Mapping`, `_Aims` and `_by_path` look things up in tables; neither changes a meaning.
+Paths are tuples of slots, texts are bytes, an address is a tree's number with a path.
 
 The format of `answer`, line by line. A driver prints the same for the same batch, so that `diff` is the comparison.
 
@@ -399,13 +400,14 @@ def surroundings(plan, number):
 def _with_region(plan, path):
     return _by_path(plan, "regions", region).get(path, [])
 
-def is_around(plan, outer, number):
-    return any(outer in _with_region(plan, path) for path in surroundings(plan, number))
+def is_around(plan, number):
+    """The changes whose region has one of the surroundings of this one, from the highest of these down."""
+    return [outer for path in surroundings(plan, number) for outer in _with_region(plan, path)]
 
 @_kept
 def is_dropped(plan, number):
     """Some region that is not keeping is around the change."""
-    return any(not is_keeping(plan, outer) for path in surroundings(plan, number) for outer in _with_region(plan, path))
+    return any(not is_keeping(plan, outer) for outer in is_around(plan, number))
 
 def region_at(plan, path):
     """The first change whose region has this path."""
@@ -431,14 +433,14 @@ def IsPlaceIn(plan, an_owner, path):
     return at(subtree(element), path) is not None and StandsFor(plan.mapping, address(element), path, target)
 
 @_kept
-def place_of(plan, an_owner):
-    """The place of an owner's target in its payload, if there is one."""
+def ArePlaces(plan, an_owner):
+    """For each owner: the place of its target in its payload, if there is one."""
     return next((path for path in paths(subtree(plan.changes[an_owner].payload[0])) if IsPlaceIn(plan, an_owner, path)), None)
 
 def HasPlace(plan, number):
     """There is a place from which a change finds where it moves to: not `.` for an insert after the owner's target itself."""
     an_aim, target = _aim(plan, number), aim_path(_aim(plan, owner(plan, number)))
-    place = place_of(plan, owner(plan, number))
+    place = ArePlaces(plan, owner(plan, number))
     return place is not None and not (place == () and an_aim == Aim("after", (target,)))
 
 def IsUnplaced(plan, number):
@@ -539,7 +541,7 @@ def dependents(plan, an_owner):
     """The aims of the changes that a change owns, moved into its payload."""
     owned = [number for number in _numbers(plan) if owner(plan, number) == an_owner] if has_stage(plan, an_owner) else []
     target = aim_path(_aim(plan, an_owner))
-    return _Aims((number, moved_aim(_aim(plan, number), target, place_of(plan, an_owner))) for number in owned)
+    return _Aims((number, moved_aim(_aim(plan, number), target, ArePlaces(plan, an_owner))) for number in owned)
 
 def payload_rewritten(plan, number, aims):
     """The payload as it was recorded, each element rewritten by such aims."""
@@ -797,8 +799,8 @@ def default_first(plan, first, second):
         return True
     return not stands_ahead(plan, first, second) and gap_first(plan, first, second)
 
-def default_order(plan):
-    """The order of `IsDefaultOrder`: each change after all those that `default_first` puts before it."""
+def IsDefaultOrder(plan):
+    """The default order: each undropped change after all those that `default_first` puts before it."""
     changes = undropped(plan)
     return sorted(changes, key=lambda number: sum(default_first(plan, other, number) for other in changes if other != number))
 

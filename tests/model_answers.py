@@ -20,7 +20,7 @@ def ready_order(model, plan, pick):
 def orders(model, plan, of_script):
     """The orders to try, and those of them to walk: the default one, two more and that of the script, and all orders of up to three changes.
     Tried are also some with two neighbours swapped, and some lists that lack a change or have one too many."""
-    changes, default = model.undropped(plan), model.default_order(plan)
+    changes, default = model.undropped(plan), model.IsDefaultOrder(plan)
     walked = [default, ready_order(model, plan, min), ready_order(model, plan, max)] + ([of_script] if of_script is not None else [])
     if len(changes) <= 3:
         walked += map(list, itertools.permutations(changes))
@@ -64,7 +64,7 @@ def plan_lines(model, plan, of_script):
     numbers, edit = range(len(plan.changes)), edit_lines(model, plan)
     lines = ["fate " + line for line in model.plan_text(plan)]
     lines += ["shown %d %s" % (number, quoted(model, model.change_text(plan.changes[number]))) for number in numbers]
-    places = [(number, model.place_of(plan, number)) for number in numbers if model.has_stage(plan, number)]
+    places = [(number, model.ArePlaces(plan, number)) for number in numbers if model.has_stage(plan, number)]
     lines += ["place %d %s" % (number, "none" if path is None else model.path_text(path)) for number, path in places]
     pieces = model.text_pieces(plan)
     lines += ["cut %d %d %s" % (piece.first, piece.stop, quoted(model, piece.text)) for piece in pieces]
@@ -73,7 +73,7 @@ def plan_lines(model, plan, of_script):
     lines.append("built %d" % model.touched_by(plan))
     stands = [(path, model.stand_in_path(plan, path)) for path in model.node_paths(plan.root.tree)]
     lines += ["stand" + model.paths_text(pair) for pair in stands if pair[1] is not None]
-    lines.append("default" + spaced(model.default_order(plan)))
+    lines.append("default" + spaced(model.IsDefaultOrder(plan)))
     tried, walked = orders(model, plan, of_script)
     for order in tried:
         refusal = model.OrderRefuses(plan, order)
