@@ -2,7 +2,7 @@
 """Scripts for the model and the editor to be compared on. They are printed as `model.py answer` and `model.py batch` read them.
 
     generate.py random SEED COUNT     so many random scripts, the same ones for each seed: `SEED 0`, `SEED 1`, ..
-    generate.py pairs                 every pair of some 80 single changes of one small tree
+    generate.py pairs                 every pair of 88 single changes of one small tree
     generate.py counts SEED COUNT     how many of the random scripts are accepted, refused and bad, and what becomes of their changes
 
 A random script has a small tree, most often with several nodes that are replaced by nodes with copies in them, and `map` lines that say so,
@@ -22,10 +22,10 @@ TOKENS = ['IDENT"a"', 'IDENT"b"', 'COMMA","', 'WHITESPACE" "', 'INT_NUMBER"1"', 
 
 
 class Trees:
-    """The trees of a script: a token is its expression, a node a list of its kind and its children. They are numbered as they are made."""
+    """The trees of a script: a token is its expression, a node a list of its kind and its children. """
 
     def __init__(self, rng):
-        self.rng, self.by_name, self.lines, self.number = rng, {}, [], {}
+        self.rng, self.by_name, self.lines = rng, {}, []
 
     def some(self, depth):
         """A random node."""
@@ -35,7 +35,6 @@ class Trees:
 
     def add(self, name, tree):
         self.by_name[name] = tree
-        self.number[name] = len(self.number)
         self.lines.append("tree %s %s" % (name, written(tree)))
         return name
 
@@ -67,7 +66,7 @@ class Script:
     """A random script as it is written."""
 
     def __init__(self, rng):
-        self.rng, self.trees, self.copies, self.wrapped = rng, Trees(rng), [], []
+        self.rng, self.trees = rng, Trees(rng)
         top, wanted = [], rng.choice([2, 3, 4, 4, 5, 6])
         while len(top) < 3 or sum(isinstance(tree, list) for _, tree in references("A", top)) < wanted:
             top = self.trees.some(4)
@@ -76,7 +75,6 @@ class Script:
         edited, tree = rng.choice(self.trees.nodes("A")) if rng.random() < 0.15 else ("A", top)
         self.lines.append("edit R " + edited)
         self.trees.by_name["R"] = tree
-        self.trees.number["R"] = 0 if edited == "A" else len(self.trees.number)
         self.aims = []
 
     def new_name(self):
@@ -136,7 +134,6 @@ class Script:
             whole = "%s/%d" % (parent, path[-1])
             original = rng.choice([name, name, parent, whole])
         self.lines.append("replace %s %s" % (target, name))
-        self.wrapped.append(name)
 
     def insert(self):
         rng = self.rng
@@ -260,15 +257,21 @@ def random_script(seed, number):
     rng = random.Random("%s %d" % (seed, number))
     script = Script(rng)
     change_lines(script)
-    lines = script.lines + (["finish"] if rng.random() < 0.98 else [])
+    lines = script.lines + ["finish"] * (rng.random() < 0.98)
     if rng.random() < 0.35:
-        lines.insert(rng.randint(lines.index(next(line for line in lines if line.startswith("edit"))) + 1, len(lines) - 1)
-                     if len(lines) > 3 else len(lines), order_line(rng, lines))
+        # Somewhere after the two lines that make the tree and start the edit.
+        lines.insert(rng.randint(2, len(lines) - 1), order_line(rng, lines))
     return lines
 
 
 SMALL = '(BLOCK_EXPR L_CURLY"{" (LITERAL INT_NUMBER"1") COMMA"," (TUPLE_EXPR (NAME)) R_CURLY"}")'
-WRAPPED = {"R": "WR", "R/1": "W1", "R/3": "W3", "R/3/0": "W30"}
+# What replaces a node by one with a copy of it, and the lines for that.
+WRAPPERS = {
+    "replace R WR": ['tree WR (STMT_LIST %s SEMICOLON";")' % SMALL, "map WR R WR/0"],
+    "replace R/1 W1": ['tree W1 (TUPLE_EXPR (LITERAL INT_NUMBER"1"))', "map W1 R/1 W1/0"],
+    "replace R/3 W3": ["tree W3 (NAME (TUPLE_EXPR (NAME)))", "map W3 R/3 W3/0"],
+    "replace R/3/0 W30": ['tree W30 (TUPLE_EXPR COMMA"," (NAME))', "map W30 R/3/0 W30/1"],
+}
 
 
 def single_changes():
@@ -277,21 +280,20 @@ def single_changes():
     changes = ["insert %s %s" % (gap, new) for gap in gaps for new in ("X/0", "X/0 N")]
     for element in ("R/0", "R/1", "R/1/0", "R/2", "R/3", "R/3/0", "R/4"):
         changes += ["delete " + element] + ["replace %s%s" % (element, new) for new in ("", " X/0", " N", " X/0 N")]
-    changes += ["replace %s %s" % pair for pair in WRAPPED.items()]
+    changes += list(WRAPPERS)
     changes += ["replace R N", "replace R R", "replace R/1 R/1", "replace R/3 R", "range R/3/0 R/3/0 N", "remove R/1 COMMA", "remove R/3 COMMA"]
     return changes + ["range R/%d R/%d%s" % (first, last, new) for first in range(5) for last in range(first + 1, 5) for new in ("", " X/0")]
 
 
 def pair_scripts():
-    """Every pair of single changes, each after the other, and each with itself."""
-    opening = ["tree A " + SMALL, "edit R A", 'tree X (SOURCE_FILE IDENT"x")', 'tree N (LITERAL INT_NUMBER"7" (NAME))',
-               'tree W1 (TUPLE_EXPR (LITERAL INT_NUMBER"1"))', "map W1 R/1 W1/0", 'tree W30 (TUPLE_EXPR COMMA"," (NAME))', "map W30 R/3/0 W30/1",
-               "tree W3 (NAME (TUPLE_EXPR (NAME)))", "map W3 R/3 W3/0", 'tree WR (STMT_LIST %s SEMICOLON";")' % SMALL, "map WR R WR/0"]
-    notes = ["note w R/1", "note w R/3/0", "note v R/1/0"]
+    """Every pair of single changes, each after the other, and each with itself. A copy is mapped where a change has it."""
+    opening = ["tree A " + SMALL, "edit R A", 'tree X (SOURCE_FILE IDENT"x")', 'tree N (LITERAL INT_NUMBER"7" (NAME))']
+    notes = ["note w R/1", "note w R/3/0", "note v R/1/0", "note x X/0"]
     changes = single_changes()
     for first in changes:
         for second in changes:
-            yield "pair %s, %s" % (first, second), opening + [first, second] + notes + ["finish"]
+            mapped = [line for change, lines in WRAPPERS.items() if change in (first, second) for line in lines]
+            yield "pair %s, %s" % (first, second), opening + mapped + [first, second] + notes + ["finish"]
 
 
 def counts(scripts):
