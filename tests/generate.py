@@ -21,6 +21,9 @@ TOKENS = ['IDENT"a"', 'IDENT"b"', 'COMMA","', 'WHITESPACE" "', 'INT_NUMBER"1"', 
           r'WHITESPACE"\n"', r'COMMENT"\"\\\t"']
 
 
+SPACES = [[], ['WHITESPACE" "'], ['WHITESPACE" "', r'WHITESPACE"\n"']]
+
+
 class Trees:
     """The trees of a script: a token is its expression, a node a list of its kind and its children. """
 
@@ -30,8 +33,13 @@ class Trees:
     def some(self, depth):
         """A random node."""
         rng = self.rng
-        count = rng.choice([0, 1, 2, 2, 3, 3, 4, 5])
-        return [rng.choice(NODES)] + [self.some(depth - 1) if depth > 1 and rng.random() < 0.45 else rng.choice(TOKENS) for _ in range(count)]
+        found = [self.some(depth - 1) if depth > 1 and rng.random() < 0.45 else rng.choice(TOKENS)
+                 for _ in range(rng.choice([0, 1, 2, 2, 3, 3, 4, 5]))]
+        if rng.random() < 0.2:
+            # A list: a comma between each two elements, with spaces on both sides of it, most often one after it.
+            found = [part for element in found[:3]
+                     for part in [element] + rng.choice(SPACES[:1] * 3 + SPACES) + ['COMMA","'] + rng.choice(SPACES[1:2] * 3 + SPACES)]
+        return [rng.choice(NODES)] + found
 
     def add(self, name, tree):
         self.by_name[name] = tree
@@ -76,6 +84,11 @@ class Script:
         self.lines.append("edit R " + edited)
         self.trees.by_name["R"] = tree
         self.aims = []
+        below = [slot for slot, child in enumerate(tree[1:]) if isinstance(child, list)]
+        if edited != "A" and below and rng.random() < 0.6:
+            # An element of the edited tree is a copy itself.
+            slot = rng.choice(below)
+            self.lines.append("map R %s/%d R/%d" % (edited, slot, slot))
 
     def new_name(self):
         return "T%d" % len(self.trees.by_name)
@@ -187,7 +200,11 @@ class Script:
         self.lines.append("delete " + self.element())
 
     def remove(self):
-        self.lines.append("remove %s %s" % (self.element(), self.rng.choice(["COMMA", "COMMA", "SEMICOLON", "WHITESPACE"])))
+        """An element is removed with its separator, most often one in a list."""
+        listed = [reference for reference, _ in self.trees.elements("R")
+                  if "/" in reference and 'COMMA","' in self.tree_at(reference.rpartition("/")[0])]
+        element = self.rng.choice(listed) if listed and self.rng.random() < 0.8 else self.element()
+        self.lines.append("remove %s %s" % (element, self.rng.choice(["COMMA", "COMMA", "COMMA", "SEMICOLON", "WHITESPACE"])))
 
     def span(self):
         """The siblings from one to another are replaced or deleted."""
@@ -221,7 +238,7 @@ class Script:
 
 # How often each line is written, by what a script is about: anything, changes inside what is replaced, inserts in few gaps.
 WEIGHTS = [
-    (3, {"wrap": 5, "insert": 7, "replace": 3, "delete": 2, "span": 2, "remove": 1, "note": 3, "drop": 1, "pair": 0.1, "wrong": 0.12}),
+    (3, {"wrap": 5, "insert": 7, "replace": 3, "delete": 2, "span": 2, "remove": 2, "note": 3, "drop": 1, "pair": 0.1, "wrong": 0.12}),
     (2, {"wrap": 6, "nested": 8, "insert": 5, "delete": 1, "drop": 0.5, "note": 2}),
     (1, {"insert": 4, "again": 8, "after_token": 4, "delete": 1, "wrap": 2, "note": 1}),
     (1, {"drop": 5, "delete": 1, "span": 2, "replace": 2, "insert": 4, "nested": 1, "note": 2}),
@@ -258,9 +275,11 @@ def random_script(seed, number):
     script = Script(rng)
     change_lines(script)
     lines = script.lines + ["finish"] * (rng.random() < 0.98)
+    if rng.random() < 0.03:
+        lines.append(rng.choice(["# end", "finish", "delete R/0", ""]))
     if rng.random() < 0.35:
         # Somewhere after the two lines that make the tree and start the edit.
-        lines.insert(rng.randint(2, len(lines) - 1), order_line(rng, lines))
+        lines.insert(rng.randint(2, max(2, len(lines) - 1)), order_line(rng, lines))
     return lines
 
 
