@@ -1,8 +1,9 @@
 #!/usr/bin/env python3
 """Breaks the model in many ways, each of which turns a meaning, and checks that each is noticed by what `model.py check` compares.
 
-    model_bugs.py           tries them all, and says which are not noticed
-    model_bugs.py NAME..    tries those whose names contain one of these words, and says what notices them
+    model_bugs.py                       tries them all, and says which are not noticed
+    model_bugs.py NAME..                tries those whose names contain one of these words, and says what notices them
+    model_bugs.py random SEED COUNT     which bugs so many random scripts reach: a broken model says something else of one of them
 
 A bug is a text of tests/model.py, which stands there once, and what stands in its place. A broken model has to differ from a known answer, a
 law or a worked example; one that only fails is not noticed."""
@@ -10,7 +11,10 @@ import sys
 import types
 from pathlib import Path
 
+import generate
 import known
+import model
+import model_answers
 
 MODEL = Path(__file__).resolve().parent / "model.py"
 BUGS = [
@@ -114,20 +118,40 @@ def broken_model(old, new):
     source = MODEL.read_text(encoding="utf-8")
     if source.count(old) != 1:
         raise SystemExit("model_bugs: %d times in tests/model.py: %s" % (source.count(old), old))
-    model = types.ModuleType("broken_model")
-    exec(compile(source.replace(old, new), "broken_model.py", "exec"), model.__dict__)
-    return model
+    broken = types.ModuleType("broken_model")
+    exec(compile(source.replace(old, new), "broken_model.py", "exec"), broken.__dict__)
+    return broken
 
 
-def noticed(model):
+def noticed(broken):
     """How a model differs first, None if it does not."""
-    for kind, name, difference in known.compared(model):
+    for kind, name, difference in known.compared(broken):
         if difference is not None:
             return "%s: %s: %s" % (kind, name, difference)
     return None
 
 
+def reached(seed, count):
+    """Says which bugs the random scripts of a seed reach."""
+    scripts = [generate.text_of(generate.random_script(seed, number)) for number in range(count)]
+    answers = [model_answers.answer_lines(model, "", script) for script in scripts]
+    missed = 0
+    for name, old, new in BUGS:
+        broken = broken_model(old, new)
+        try:
+            found = any(model_answers.answer_lines(broken, "", script) != answer for script, answer in zip(scripts, answers))
+        except Exception as failure:
+            found, name = False, "%s: fails by %r" % (name, failure)
+        missed += not found
+        if not found:
+            print("%s: not reached" % name)
+    print("model_bugs: %d random scripts reach %d of %d bugs" % (count, len(BUGS) - missed, len(BUGS)))
+    return 1 if missed else 0
+
+
 def main(words):
+    if words[:1] == ["random"]:
+        return reached(words[1], int(words[2]))
     bugs = [bug for bug in BUGS if not words or any(word in bug[0] for word in words)]
     count = 0
     for name, old, new in bugs:
