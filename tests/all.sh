@@ -1,13 +1,13 @@
 #!/usr/bin/env bash
-# All tests, what fails soonest first: docs, format, rows and the first caller, without proofs; all proofs and programs, and beside them
-# planted bugs; then scripts through the built program and through a plain model, hostile scripts, each row of the table with each of its
-# allocations made to fail in turn, how many allocations an edit makes, the bindings, and whether these tests notice a program that does
-# nothing.
+# All tests, what fails soonest first: docs, format, the model of scripts, rows and the first caller, without proofs; all proofs and programs,
+# and beside them planted bugs; then scripts through the built program and through a plain model, hostile scripts, each row of the table with
+# each of its allocations made to fail in turn, how many allocations an edit makes, the bindings, and whether these tests notice a program
+# that does nothing.
 set -euo pipefail
 cd "$(dirname "$0")/.."
 source tests/steps.sh
 
-step quick bash tests/quick.sh docs format rows caller
+step quick bash tests/quick.sh docs format model rows caller
 end_if_failed
 
 # A proof that no other waits beside takes several of the processors that it may use.

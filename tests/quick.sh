@@ -1,6 +1,6 @@
 #!/usr/bin/env bash
-# quick.sh [CHECK..]: the quick check, for while you write, or some of it: format, docs, every row, scripts, the plain model, and the first
-# caller of docs/CALLING.md, all without proofs. tests/all.sh proves.
+# quick.sh [CHECK..]: the quick check, for while you write, or some of it: format, docs, every row, scripts, the plain model, the model of
+# scripts against the known answers, and the first caller of docs/CALLING.md, all without proofs. tests/all.sh proves.
 set -euo pipefail
 cd "$(dirname "$0")/.."
 source tests/steps.sh
@@ -18,11 +18,12 @@ format() {
     diff -r "$room/as_is/crates" "$room/laid_out/crates" && echo "format: as rt fmt lays it out"
 }
 
-[ $# -gt 0 ] || set -- docs format rows caller models scripts more_scripts
+[ $# -gt 0 ] || set -- docs format rows caller model models scripts more_scripts
 for check; do
     case $check in
     docs) start docs python3 tests/docs.py ;;
     format) start format format ;;
+    model) start model python3 tests/model.py check ;;
     scripts) start scripts python3 tests/without_proofs.py scripts 1 2 ;;
     more_scripts) start more_scripts python3 tests/without_proofs.py scripts 2 2 ;;
     rows | caller | models) start "$check" python3 tests/without_proofs.py "$check" ;;
