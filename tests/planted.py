@@ -173,12 +173,13 @@ REFUSED, LATER, PROVED, BAD = "refused", "later", "let through", "bad"
 
 
 def is_refusal(line):
-    """Whether a check's line on a function says that a goal of it is not proved."""
-    return line.startswith("not proved") or "did not prove" in line
+    """Whether a check's line on a function says that a goal of it, or that it ends, is not proved."""
+    return line.startswith("not proved") or "did not prove" in line or "expected a measure" in line
 
 
 def first_error(said):
-    return next((line for line in said.splitlines() if "error" in line or BORROWS in line), said[-300:])[:300]
+    lines = [line for line in said.splitlines() if re.search(r": error\b", line) or BORROWS in line]
+    return (lines or [said[-300:]])[0][:300]
 
 
 def linked(folder, to):
@@ -274,9 +275,10 @@ class Trial:
             self.plant([bug], folder)
             said = self.check(folder)[1]
         lines = re.findall(r"^fn \S+: (.*)$", said, re.M)
-        if not re.search(r"^logic=", said, re.M) or any(BORROWS in line for line in lines):
-            return bug.name, (BAD, first_error(said))
-        return bug.name, (REFUSED, "alone") if any(map(is_refusal, lines)) else (PROVED, "the crate is proved with it")
+        if re.search(r"^logic=proved ", said, re.M):
+            return bug.name, (PROVED, "the crate is proved with it")
+        is_of_goal = any(map(is_refusal, lines)) and not any(BORROWS in line for line in lines)
+        return bug.name, (REFUSED, "alone") if is_of_goal else (BAD, first_error(said))
 
     def plant(self, bugs, folder):
         """Makes these bugs in a copy of the crate, but for those whose text another one took away or doubled; and says which it made."""
