@@ -6,5 +6,5 @@ pub mod Kind
 pub mod Green
 pub mod GreenElement
 pub mod GreenElementRef
-pub mod TreeErrorName
+pub mod TreeErrorText
 pub mod inner
