@@ -1,6 +1,6 @@
 //! The changes of a script that a refusal names: the lines that recorded them, and what an order has wrong.
 
-use crate::carried_out::{carry_out_line, record_script};
+use crate::carried_out::{Recorded, carry_out_line, record_script};
 use crate::lines::lines_in;
 use crate::session::Session;
 use std::alloc::{AllocError, Global};
@@ -30,19 +30,16 @@ pub(crate) fn lines_of_changes(alloc: Global, script: &str) -> Result<Vec<usize>
 
 /// The first number of a script's order that should not be there, or else the first that is missing.
 pub(crate) fn misplaced_in(alloc: Global, script: &str) -> Result<Option<Misplaced>, AllocError> {
-    let Some(recorded) = record_script(alloc, script) else {
+    let Some(Recorded { editor, order, .. }) = record_script(alloc, script) else {
         return Ok(None);
     };
-    let Some(order) = recorded.order else {
+    let (Some(order), Ok(plan)) = (order, editor.plan(alloc)) else {
         return Ok(None);
     };
-    let Ok(plan) = recorded.editor.plan(alloc) else {
-        return Ok(None);
-    };
-    misplaced(alloc, &plan, &order)
+    first_misplaced(alloc, &plan, &order)
 }
 
-fn misplaced(
+fn first_misplaced(
     alloc: Global,
     plan: &EditPlan,
     order: &[usize],
