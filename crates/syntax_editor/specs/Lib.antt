@@ -59,6 +59,7 @@ pub use Rattle.whitespace.specs.Table
 pub use Rattle.whitespace.specs.Spacing
 pub mod RecordCall
 pub mod RecordRefusal
+pub mod RecordErrorText
 pub mod AttrsAndDocs
 pub mod SpacingCalls
 pub mod Editor
