@@ -114,7 +114,8 @@ fn line_of(script: &str, number: usize) -> Option<&str> {
 
 // What a line's rest begins with, up to a space, in quotes.
 fn push_read(out: &mut String, rest: &str) -> Result<(), AllocError> {
-    if rest.trim_end().is_empty() {
+    let left = rest.strip_suffix('\r').unwrap_or(rest);
+    if left.split(' ').all(|field| field.is_empty()) {
         return out.push_str("the end of the line");
     }
     let field = rest.split(' ').next().unwrap_or("");
