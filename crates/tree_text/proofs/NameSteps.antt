@@ -13,14 +13,13 @@ use Rattle.std.proofs.lemmas.Bool.{false≢true, eq-eqb, and_parts}
 use Rattle.std.proofs.lemmas.List.Folds.{list_all-append}
 use Rattle.cst_core.specs.Tree.{SyntaxTree, node}
 use Rattle.green_tree.specs.declared.kind.SyntaxKind.{SyntaxKind}
-use Rattle.tree_text.specs.Depth.{depth}
+use Rattle.tree_text.specs.Depth.{depth, depth_limit}
 use Rattle.tree_text.specs.Grammar.{◌⨾◌, IsExactly, begins_with_name_byte}
 use Rattle.tree_text.specs.KindNames.{name_in, is_name_byte}
 use Rattle.tree_text.specs.inner.Completing.{IsFrom, IsAfter, IsRestOfToken, OpenTree}
 use Rattle.tree_text.specs.inner.Gap.{is_gap}
 use Rattle.tree_text.specs.inner.Reading.{Reading, IsReading, IsLeft, IsPartOfName, Reads, IsStuck}
 use Rattle.tree_text.specs.declared.error.ExpressionError.{ExpressionError}
-use Rattle.tree_text.specs.declared.open_nodes.TheConstants.{DEPTH_LIMIT}
 use Rattle.tree_text.specs.declared.reader.State.TheVariants.{Between, NodeKind, TokenKind, Text}
 use Rattle.tree_text.proofs.Beginnings.{both}
 use Rattle.tree_text.proofs.Joining.{drop-exactly}
@@ -93,7 +92,7 @@ module _ (r : Reading) (h : IsReading r) where
     pub node-unknown : (c : ℕ) → is_name_byte c ≡ false → ((k : ℕ) → name_in r.given k ≢ Some r.word) → (t : SyntaxTree) (w : List ℕ) → IsLeft r t (encode_utf8 c ++ w) → ⊥
     node-unknown c no_name unknown t w left = let known = node-known c no_name t w left in unknown known.0 known.1
 
-    pub node-deep : (c : ℕ) → is_name_byte c ≡ false → DEPTH_LIMIT ≤ length r.nodes → (t : SyntaxTree) (w : List ℕ) → IsLeft r t (encode_utf8 c ++ w) → DEPTH_LIMIT < depth t
+    pub node-deep : (c : ℕ) → is_name_byte c ≡ false → depth_limit ≤ length r.nodes → (t : SyntaxTree) (w : List ℕ) → IsLeft r t (encode_utf8 c ++ w) → depth_limit < depth t
     node-deep c no_name deep t w left =
         let known = node-known c no_name t w left in
         let closed = known.2.1.is_second in

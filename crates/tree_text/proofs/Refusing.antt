@@ -5,9 +5,8 @@
 use Rattle.std.proofs.Common.{◌≡◌, ℕ, ◌<◌, List, ◌++◌, Result, Ok, Err, IfErr, IsErrAnd, subst, sym}
 use Rattle.cst_core.specs.Green.{IsTooLong}
 use Rattle.cst_core.specs.Tree.{SyntaxTree, text}
-use Rattle.tree_text.specs.Depth.{depth}
+use Rattle.tree_text.specs.Depth.{depth, depth_limit}
 use Rattle.tree_text.specs.inner.Reading.{Reading, IsLeft, IsStuck}
-use Rattle.tree_text.specs.declared.open_nodes.TheConstants.{DEPTH_LIMIT}
 use Rattle.cst_core.specs.TreeError.{TreeError}
 use Rattle.cst_core.specs.TreeError.TheVariants as Trees
 use Rattle.tree_text.specs.Refusals.{IsRefused, IsTreeRefused}
@@ -33,7 +32,7 @@ passed-on (Err y) e P is h = subst P (sym is) h
 -- an error of a call, for the reader that makes it
 pub stuck-by : (r : Reading) (bytes : List ℕ) (e : ExpressionError) (A B C : Type 0) → IsRefused A B C e
     → (A → (t : SyntaxTree) (w : List ℕ) → IsLeft r t (bytes ++ w) → ⊥)
-    → (B → (t : SyntaxTree) (w : List ℕ) → IsLeft r t (bytes ++ w) → DEPTH_LIMIT < depth t)
+    → (B → (t : SyntaxTree) (w : List ℕ) → IsLeft r t (bytes ++ w) → depth_limit < depth t)
     → (C → (t : SyntaxTree) (w : List ℕ) → IsLeft r t (bytes ++ w) → IsTooLong (text t))
     → IsStuck r bytes e
 stuck-by r bytes e A B C h f g k = refused-weaker e A B C _ _ _ f g k h

@@ -11,14 +11,13 @@ use Rattle.std.proofs.lemmas.Bool.{false≢true}
 use Rattle.cst_core.specs.Green.{Branch, branch_tree, IsTooLong}
 use Rattle.cst_core.specs.Tree.{SyntaxTree, Token, node, text}
 use Rattle.green_tree.specs.declared.kind.SyntaxKind.{SyntaxKind}
-use Rattle.tree_text.specs.Depth.{depth}
+use Rattle.tree_text.specs.Depth.{depth, depth_limit}
 use Rattle.tree_text.specs.KindNames.{name_in}
 use Rattle.tree_text.specs.inner.Completing.{IsFrom, IsAfter, IsRestOfToken, OpenTree}
 use Rattle.tree_text.specs.inner.Gap.{is_gap}
 use Rattle.tree_text.specs.inner.Meant.{meant}
 use Rattle.tree_text.specs.inner.OpenTrees.{HasPut, IsInnermostLong}
 use Rattle.tree_text.specs.inner.Reading.{Reading, IsReading, IsWhole, IsLeft, IsPartOfName, Reads, is_outside, is_nil}
-use Rattle.tree_text.specs.declared.open_nodes.TheConstants.{DEPTH_LIMIT}
 use Rattle.tree_text.specs.declared.reader.State.TheVariants.{Between, Text, Escape}
 use Rattle.tree_text.proofs.OpenTrees.{before-close, past-close}
 use Rattle.tree_text.proofs.QuotedTexts.{past-quote, before-quote, past-plain, before-plain, past-escape, before-escape}
@@ -203,12 +202,12 @@ module _ (r : Reading) (h : IsReading r) where
           back = λ t w left. before-node (n.kind, n.children) outer is t w (taken-from outer new (branch_tree n) t w put (from-between after t w state none left));
         }
 
-    pub ends-tree : (n : Branch) (outer : List OpenTree) → r.nodes ≡ (n.kind, n.children) ∷ outer → outer ≡ [] → depth (branch_tree n) ≤ DEPTH_LIMIT → Reads r (encode_utf8 41) (record r { nodes = outer; root = Some n })
+    pub ends-tree : (n : Branch) (outer : List OpenTree) → r.nodes ≡ (n.kind, n.children) ∷ outer → outer ≡ [] → depth (branch_tree n) ≤ depth_limit → Reads r (encode_utf8 41) (record r { nodes = outer; root = Some n })
     ends-tree n outer is none limited =
         let after : Reading = record r { nodes = outer; root = Some n } in
         let whole : (m : Branch) → Some n ≡ Some m → IsWhole after m = λ m same.
         let it : n ≡ m = cc in
-        record { limited = subst (λ x. depth (branch_tree x) ≤ DEPTH_LIMIT) it limited; between = state; closed = none } in
+        record { limited = subst (λ x. depth (branch_tree x) ≤ depth_limit) it limited; between = state; closed = none } in
         record {
           sound = record { names = h.names; word = h.word; whole = whole };
           on = λ t w left.

@@ -8,11 +8,10 @@ use Rattle.cst_core.specs.Green.{IsTooLong}
 use Rattle.cst_core.specs.Tree.{SyntaxTree, text}
 use Rattle.cst_core.specs.TreeError.{TreeError}
 use Rattle.cst_core.specs.TreeError.TheVariants as Trees
-use Rattle.tree_text.specs.Depth.{depth}
+use Rattle.tree_text.specs.Depth.{depth, depth_limit}
 use Rattle.tree_text.specs.Grammar.{IsExpression}
 use Rattle.tree_text.specs.declared.error.ExpressionError.{ExpressionError}
 use Rattle.tree_text.specs.declared.error.ExpressionError.TheVariants.{Malformed, UnknownKind, TooDeep, Tree, Memory}
-use Rattle.tree_text.specs.declared.open_nodes.TheConstants.{DEPTH_LIMIT}
 
 abbrev pub IsTreeRefused : Type 0 → TreeError → Type 0
 IsTreeRefused long Trees.TooLong = long
@@ -29,5 +28,5 @@ IsRefused none deep long Memory = Unit {0}
 abbrev pub ReadRefuses : (ℕ → Option (List ℕ)) → (ℕ → Bool) → List ℕ → ExpressionError → Type 0
 ReadRefuses names gaps w = IsRefused
     ((t : SyntaxTree) → IsExpression names gaps t w → ⊥)
-    ((t : SyntaxTree) → IsExpression names gaps t w → DEPTH_LIMIT < depth t)
+    ((t : SyntaxTree) → IsExpression names gaps t w → depth_limit < depth t)
     ((t : SyntaxTree) → IsExpression names gaps t w → IsTooLong (text t))

@@ -1,12 +1,11 @@
 ghost use Rattle.std.specs.Prelude.{ℕ, ◌≡◌, ◌≢◌, ◌≤◌, ◌++◌, ◌||◌, ◌==◌, [], take, length, false, true, IfOk, IfErr, OnOk, Some, string_bytes, encode_utf8};
 ghost use Rattle.cst_core.specs.Green.{branch_tree, IsTooLong};
 ghost use Rattle.cst_core.specs.Tree.{SyntaxTree};
-ghost use Rattle.tree_text.specs.Depth.{depth};
+ghost use Rattle.tree_text.specs.Depth.{depth, depth_limit};
 ghost use Rattle.tree_text.specs.KindNames.{name_in, is_name_byte};
 ghost use Rattle.tree_text.specs.Refusals.{IsRefused};
 ghost use Rattle.tree_text.specs.inner.Reading.{IsLeft, IsReading, IsStuck, Reads, ReadsUpTo, GoesOn};
 ghost use Rattle.tree_text.specs.inner.Reading.{first_reading, is_outside, reading};
-ghost use Rattle.tree_text.specs.declared.open_nodes.TheConstants.{DEPTH_LIMIT};
 
 use crate::error::ExpressionError;
 use crate::escape::meant_by;
@@ -281,7 +280,7 @@ impl<'a> Reader<'a> {
     /// The tree, at the end of the text.
     pub(crate) fn finish(self) -> Result<GreenNode, ExpressionError>
         requires { IsReading (reading self) }
-        ensures limited { IfOk result (λ n. depth (branch_tree n) ≤ DEPTH_LIMIT) }
+        ensures limited { IfOk result (λ n. depth (branch_tree n) ≤ depth_limit) }
         ensures only { (t : SyntaxTree) → IsLeft (reading self.entry) t [] → IfOk result (λ n. branch_tree n ≡ t) }
         ensures found { IfOk result (λ n. IsLeft (reading self.entry) (branch_tree n) []) }
         ensures err { IfErr result (IsRefused ((t : SyntaxTree) → IsLeft (reading self.entry) t [] → ⊥) ⊥ ⊥) }

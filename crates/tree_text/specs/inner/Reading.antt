@@ -15,7 +15,7 @@ use Rattle.std.specs.Prelude.{◌≡◌, ℕ, ◌≤◌, ◌<◌, Bool, true, fa
 use Rattle.std.specs.List.{list_all}
 use Rattle.cst_core.specs.Green.{Branch, branch_tree, IsTooLong}
 use Rattle.cst_core.specs.Tree.{SyntaxTree, text}
-use Rattle.tree_text.specs.Depth.{depth}
+use Rattle.tree_text.specs.Depth.{depth, depth_limit}
 use Rattle.tree_text.specs.KindNames.{KindName, is_name, is_name_byte, name_in}
 use Rattle.tree_text.specs.Refusals.{IsRefused}
 use Rattle.tree_text.specs.inner.Completing.{OpenTree, IsAfter, IsFrom, IsRestOfToken}
@@ -24,7 +24,6 @@ use Rattle.tree_text.specs.inner.NamedKinds.{AreNames}
 use Rattle.tree_text.specs.inner.OpenTrees.{open_trees}
 use Rattle.tree_text.specs.declared.error.ExpressionError.{ExpressionError}
 use Rattle.tree_text.specs.declared.gaps.Gaps.{Gaps}
-use Rattle.tree_text.specs.declared.open_nodes.TheConstants.{DEPTH_LIMIT}
 use Rattle.tree_text.specs.declared.reader.Reader.{Reader}
 use Rattle.tree_text.specs.declared.reader.State.{State}
 use Rattle.tree_text.specs.declared.reader.State.TheVariants.{Between, NodeKind, TokenKind, Text, Escape}
@@ -65,7 +64,7 @@ IsPartOfName (Text k) w = Unit {0}
 IsPartOfName (Escape k) w = Unit {0}
 
 pub record IsWhole (r : Reading) (n : Branch) : Type 0 where
-  pub limited : depth (branch_tree n) ≤ DEPTH_LIMIT
+  pub limited : depth (branch_tree n) ≤ depth_limit
   pub between : r.state ≡ Between
   pub closed : r.nodes ≡ []
 
@@ -107,5 +106,5 @@ GoesOn (Escape k) bytes = bytes ≡ []
 abbrev pub IsStuck : Reading → List ℕ → ExpressionError → Type 0
 IsStuck r bytes = IsRefused
     ((t : SyntaxTree) (w : List ℕ) → IsLeft r t (bytes ++ w) → ⊥)
-    ((t : SyntaxTree) (w : List ℕ) → IsLeft r t (bytes ++ w) → DEPTH_LIMIT < depth t)
+    ((t : SyntaxTree) (w : List ℕ) → IsLeft r t (bytes ++ w) → depth_limit < depth t)
     ((t : SyntaxTree) (w : List ℕ) → IsLeft r t (bytes ++ w) → IsTooLong (text t))

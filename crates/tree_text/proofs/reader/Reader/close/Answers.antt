@@ -2,8 +2,7 @@ use Rattle.std.proofs.Common.{◌≡◌, ◌≤◌, [], ap, refl, arith}
 use Rattle.std.specs.Prelude.{encode_utf8}
 use Rattle.std.proofs.lemmas.Result.{on_ok_weaker}
 use Rattle.cst_core.specs.Green.{branch_tree}
-use Rattle.tree_text.specs.Depth.{depth}
-use Rattle.tree_text.specs.declared.open_nodes.TheConstants.{DEPTH_LIMIT}
+use Rattle.tree_text.specs.Depth.{depth, depth_limit}
 use Rattle.tree_text.specs.inner.OpenTrees.{open_trees, IsInnermostLong}
 use Rattle.tree_text.specs.inner.Reading.{IsStuck, reading}
 use Rattle.tree_text.proofs.Refusing.{passed-on, stuck-by}
@@ -17,7 +16,7 @@ returns-in_err-node-clause-err c =
 
 pub returns-then-is_empty-clause-ok : goal.returns-then-is_empty-clause-ok
 returns-then-is_empty-clause-ok c =
-    let limited : depth (branch_tree c.in_ok-node.node) ≤ DEPTH_LIMIT = omega (arith, c.in_ok-node.ensures.limited) in
+    let limited : depth (branch_tree c.in_ok-node.node) ≤ depth_limit = omega (arith, c.in_ok-node.ensures.limited) in
     ends-tree (reading c.args.self.now) c.requires.reading c.requires.state c.requires.inside c.in_ok-node.node (open_trees c.end.new.self.nodes.items) c.in_ok-node.ensures.ok (ap open_trees (c.if-is_empty.ensures.0 refl)) limited
 
 pub returns-clause-ok : goal.returns-clause-ok

@@ -1,10 +1,10 @@
 use Rattle.std.proofs.Common.{◌≡◌, ◌≢◌, ◌≤◌, ℕ, false, Some, length, sym, ◌∙◌, subst}
 use Rattle.std.specs.Prelude.{encode_utf8}
 use Rattle.std.proofs.lemmas.Result.{on_ok_weaker, IfErr-weaker}
+use Rattle.tree_text.specs.Depth.{depth_limit}
 use Rattle.tree_text.specs.KindNames.{name_in, is_name_byte}
 use Rattle.tree_text.specs.inner.OpenTrees.{open_trees}
 use Rattle.tree_text.specs.inner.Reading.{IsReading, IsStuck, Reads, reading}
-use Rattle.tree_text.specs.declared.open_nodes.TheConstants.{DEPTH_LIMIT}
 use Rattle.tree_text.proofs.Refusing.{passed-on, stuck-by}
 use Rattle.tree_text.proofs.NameSteps.{node-more, node-named, node-stuck, node-unknown, node-deep, node-reading, begun}
 use Rattle.tree_text.proofs.reader.Reader.in_node_kind.Goals as goal
@@ -24,8 +24,8 @@ pub returns-in_err-begin-clause-err : goal.returns-in_err-begin-clause-err
 returns-in_err-begin-clause-err c =
     let r = reading c.args.self.now in
     let no_name : is_name_byte c.args.c ≡ false = sym c.is_name_character.ensures ∙ c.if-is_name_character.false in
-    let Deep : Type 0 = DEPTH_LIMIT ≤ length (reading c.take_kind.new.self).nodes in
-    let deep = λ (deep : Deep). node-deep r c.requires.reading c.requires.state c.args.c no_name (subst (λ x. DEPTH_LIMIT ≤ length x.nodes) c.in_ok-kind.ensures.taken deep) in
+    let Deep : Type 0 = depth_limit ≤ length (reading c.take_kind.new.self).nodes in
+    let deep = λ (deep : Deep). node-deep r c.requires.reading c.requires.state c.args.c no_name (subst (λ x. depth_limit ≤ length x.nodes) c.in_ok-kind.ensures.taken deep) in
     passed-on c.from_residual-in_err-begin.result c.in_err-begin.field-0.0 (IsStuck r (encode_utf8 c.args.c)) c.from_residual-in_err-begin.ensures.1 (stuck-by r (encode_utf8 c.args.c) c.in_err-begin.field-0.0 ⊥ Deep ⊥ c.in_err-begin.ensures.err (λ none. absurd none) deep (λ long. absurd long))
 
 pub between-requires-clause-reading : goal.between-requires-clause-reading
