@@ -2,9 +2,10 @@
 --     KindName           a kind by its number, and the name that it is given
 --     name_in            the name of a kind: its own, or else the one that it is given
 --     text_in            that name, or how a kind without one is shown
+--     IsTaken            a kind has this name
 --     is_name_byte       an ASCII letter, a digit or an underscore
 --     is_name            a text is spelled as a name of a kind: of these alone, and not empty
-use Rattle.std.specs.Prelude.{ℕ, Bool, not, ◌&&◌, ◌||◌, ◌==◌, List, Option, unwrap_or, nat_eq, length}
+use Rattle.std.specs.Prelude.{◌≡◌, ℕ, Bool, not, ◌&&◌, ◌||◌, ◌==◌, List, Option, Some, unwrap_or, nat_eq, length}
 use Rattle.std.specs.List.{list_all}
 use Rattle.std.specs.Char.{is_ascii_alphanumeric}
 use Rattle.std.specs.Map.{lookup}
@@ -19,6 +20,9 @@ name_in given k = option_or (name_of k) (lookup (nat_eq k) given)
 
 abbrev pub text_in : List KindName → ℕ → List ℕ
 text_in given k = unwrap_or (name_in given k) (kind_text k)
+
+abbrev pub IsTaken : List KindName → List ℕ → Type 0
+IsTaken given name = (k : ℕ) × (name_in given k ≡ Some name)
 
 abbrev pub is_name_byte : ℕ → Bool
 is_name_byte b = is_ascii_alphanumeric b || b == 95
