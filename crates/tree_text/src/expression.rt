@@ -33,7 +33,7 @@ pub fn read_tree(alloc: Global, expression: &str) -> Result<GreenNode, Expressio
         → IfOk result (λ n. branch_tree n ≡ t) }
     ensures written { (t : SyntaxTree) → is_token t ≡ false → unnamed_in [] t ≡ None
         → expression.now ≡ expression_of [] t → IfOk result (λ n. branch_tree n ≡ t) }
-    ensures refused { IfErr result (ReadRefuses (name_in []) is_gap_blank expression.now) }
+    ensures refused { IfErr result (ReadRefuses [] is_gap_blank expression.now) }
 {
     read_tree_with(alloc, expression, &KindNames::new(alloc))
 }
@@ -50,7 +50,7 @@ pub fn read_tree_with(
         → IfOk result (λ n. branch_tree n ≡ t) }
     ensures written { (t : SyntaxTree) → is_token t ≡ false → unnamed_in names.now t ≡ None
         → expression.now ≡ expression_of names.now t → IfOk result (λ n. branch_tree n ≡ t) }
-    ensures refused { IfErr result (ReadRefuses (name_in names.now) is_gap_blank expression.now) }
+    ensures refused { IfErr result (ReadRefuses names.now is_gap_blank expression.now) }
 {
     read(alloc, expression, names, Gaps::Lines)
 }
@@ -61,7 +61,7 @@ pub fn read_line_tree(alloc: Global, expression: &str) -> Result<GreenNode, Expr
     ensures found { IfOk result (λ n. IsExpression (name_in []) is_gap_space (branch_tree n) expression.now) }
     ensures only { (t : SyntaxTree) → IsExpression (name_in []) is_gap_space t expression.now
         → IfOk result (λ n. branch_tree n ≡ t) }
-    ensures refused { IfErr result (ReadRefuses (name_in []) is_gap_space expression.now) }
+    ensures refused { IfErr result (ReadRefuses [] is_gap_space expression.now) }
 {
     read(alloc, expression, &KindNames::new(alloc), Gaps::Spaces)
 }
@@ -76,7 +76,7 @@ fn read(
     ensures found { IfOk result (λ n. IsExpression (name_in names.now) (is_gap gaps) (branch_tree n) expression.now) }
     ensures only { (t : SyntaxTree) → IsExpression (name_in names.now) (is_gap gaps) t expression.now
         → IfOk result (λ n. branch_tree n ≡ t) }
-    ensures refused { IfErr result (ReadRefuses (name_in names.now) (is_gap gaps) expression.now) }
+    ensures refused { IfErr result (ReadRefuses names.now (is_gap gaps) expression.now) }
 {
     let mut reader = Reader::new(alloc, names, gaps);
     let mut rest = expression;

@@ -45,7 +45,7 @@ impl OpenNodes {
         at: usize,
     ) -> Result<(), ExpressionError>
         ensures ok { OnOk result (open_trees self.new.nodes.items ≡ (kind.0, []) ∷ open_trees self.old.nodes.items) }
-        ensures err { IfErr result (IsRefused ⊥ (depth_limit ≤ length (open_trees self.old.nodes.items)) ⊥) }
+        ensures err { IfErr result (IsRefused ⊥ ⊥ (depth_limit ≤ length (open_trees self.old.nodes.items)) ⊥) }
     {
         if self.nodes.len() >= DEPTH_LIMIT {
             return Err(ExpressionError::TooDeep { at });
@@ -60,7 +60,7 @@ impl OpenNodes {
         requires { depth (element_tree element) ≤ depth_limit - length self.old.nodes.items }
         ensures ok { OnOk result
             (HasPut (element_tree element) (open_trees self.old.nodes.items) (open_trees self.new.nodes.items)) }
-        ensures err { IfErr result (IsRefused (open_trees self.old.nodes.items ≡ []) ⊥ ⊥) }
+        ensures err { IfErr result (IsRefused (open_trees self.old.nodes.items ≡ []) ⊥ ⊥ ⊥) }
     {
         let Some(mut node) = self.nodes.pop() else {
             return Err(ExpressionError::Malformed {
@@ -79,7 +79,7 @@ impl OpenNodes {
         ensures ok { IfOk result
             (λ n. open_trees self.old.nodes.items ≡ (n.kind, n.children) ∷ open_trees self.new.nodes.items) }
         ensures err { IfErr result
-            (IsRefused (open_trees self.old.nodes.items ≡ []) ⊥ (IsInnermostLong (open_trees self.old.nodes.items))) }
+            (IsRefused (open_trees self.old.nodes.items ≡ []) ⊥ ⊥ (IsInnermostLong (open_trees self.old.nodes.items))) }
     {
         let Some(OpenNode { kind, children }) = self.nodes.pop() else {
             return Err(ExpressionError::Malformed {

@@ -25,7 +25,7 @@ pub fn read_root(
         → IfOk result (λ n. n.root ≡ t) }
     ensures drawn { OnOk result (ids.new ≡ ids.old + 1) }
     ensures no_number { IsSpent ids.old → result ≡ Err (ExpressionError.Tree TreeError.NoTreeNumber) }
-    ensures refused { ¬ IsSpent ids.old → IfErr result (ReadRefuses (name_in []) is_gap_blank expression.now) }
+    ensures refused { ¬ IsSpent ids.old → IfErr result (ReadRefuses [] is_gap_blank expression.now) }
     ensures err { OnErr result (ids.new ≡ ids.old) }
 {
     if ids.is_spent() {
