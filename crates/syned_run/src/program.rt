@@ -1,5 +1,5 @@
 ghost use Rattle.std.specs.Prelude.{◌≡◌, ◌≤◌, ◌<◌, ◌+◌};
-ghost use Rattle.syned_run.specs.Ends.{TakesFront, TakesAtMost};
+ghost use Rattle.syned_run.specs.Ends.{TakesFront, TakesAtMost, script_limit};
 ghost use Rattle.syned_run.specs.Answer.{Answers, Fails};
 ghost use Rattle.syned_run.specs.inner.ExitCode.{exit_code};
 ghost use Rattle.syned_run.specs.inner.Responding.{Responds, WritesSome};
@@ -22,10 +22,10 @@ use std::io::{Read, Write};
 /// a write failed, what was written is a beginning of it.
 pub fn run<R: Read, W: Write>(alloc: Global, reader: &mut R, writer: &mut W) -> u8
     ensures status { result ≤ 3 }
-    ensures read { result < 3 → TakesFront (R.remaining reader.old) (R.remaining reader.new) (SCRIPT_LIMIT + 1) }
+    ensures read { result < 3 → TakesFront (R.remaining reader.old) (R.remaining reader.new) (script_limit + 1) }
     ensures answered { result < 3 → Answers R.remaining W.contents reader.old reader.new writer.old writer.new result }
     ensures failed { result ≡ 3 → Fails R.remaining W.contents reader.old reader.new writer.old writer.new }
-    ensures taken { TakesAtMost (R.remaining reader.old) (R.remaining reader.new) (SCRIPT_LIMIT + 1) }
+    ensures taken { TakesAtMost (R.remaining reader.old) (R.remaining reader.new) (script_limit + 1) }
 {
     match read_script(alloc, reader) {
         Ok(script) => respond(alloc, &script, writer).code(),
@@ -42,10 +42,10 @@ pub fn run_explained<R: Read, W: Write, E: Write>(
     errors: &mut E,
 ) -> u8
     ensures status { result ≤ 3 }
-    ensures read { result < 3 → TakesFront (R.remaining reader.old) (R.remaining reader.new) (SCRIPT_LIMIT + 1) }
+    ensures read { result < 3 → TakesFront (R.remaining reader.old) (R.remaining reader.new) (script_limit + 1) }
     ensures answered { result < 3 → Answers R.remaining W.contents reader.old reader.new writer.old writer.new result }
     ensures failed { result ≡ 3 → Fails R.remaining W.contents reader.old reader.new writer.old writer.new }
-    ensures taken { TakesAtMost (R.remaining reader.old) (R.remaining reader.new) (SCRIPT_LIMIT + 1) }
+    ensures taken { TakesAtMost (R.remaining reader.old) (R.remaining reader.new) (script_limit + 1) }
 {
     match read_script(alloc, reader) {
         Ok(script) => respond_and_explain(alloc, &script, writer, errors),
