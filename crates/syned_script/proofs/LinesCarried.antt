@@ -62,14 +62,17 @@ counted : (texts : List (List ℕ)) (i : ℕ) → i < length texts → suc (leng
 counted texts i lt = let l = length-take i texts in grind arith
 
 pub ends-at : (texts : List (List ℕ)) (i : ℕ) (text : List ℕ) (t : State) (o : Outcome) → i < length texts → text ≡ get_or texts i text → Carried (take i texts) new_state t → Ends (i + 1) t (text ∷ drop (i + 1) texts) o → EndsAt texts (i + 1) o
-ends-at texts i text t o lt is carried ends = (record {
-  before = take i texts;
-  rest = text ∷ drop (i + 1) texts;
-  state = t;
-  is = split-at texts i text lt is;
-  carried = carried;
-  ends = subst (λ n. Ends n t (text ∷ drop (i + 1) texts) o) (sym (counted texts i lt)) ends;
-}, sym (counted texts i lt))
+ends-at texts i text t o lt is carried ends = (
+  record {
+    before = take i texts;
+    rest = text ∷ drop (i + 1) texts;
+    state = t;
+    is = split-at texts i text lt is;
+    carried = carried;
+    ends = subst (λ n. Ends n t (text ∷ drop (i + 1) texts) o) (sym (counted texts i lt)) ends;
+  },
+  sym (counted texts i lt),
+)
 
 pub stops-at : (texts : List (List ℕ)) (i : ℕ) (text : List ℕ) (t : State) (s : Stop) → i < length texts → text ≡ get_or texts i text → Carried (take i texts) new_state t → TextStops t text s → StopsSo texts (i + 1) s
 stops-at texts i text t (stop.Bad f) lt is carried h = (ends-at texts i text t (BadLine (i + 1)) lt is carried (bad-ends (i + 1) t text (drop (i + 1) texts) h)).0
@@ -110,14 +113,17 @@ what-follows : (texts : List (List ℕ)) (n : ℕ) (t : State) (r : Reached text
 what-follows texts n t r = ap (λ m. drop m texts) r.counted ∙ ap (drop (suc (length r.before))) r.is ∙ after-finish r.before r.finish r.after
 
 finish-ends : (texts : List (List ℕ)) (n : ℕ) (t : State) (r : Reached texts n t) (o : Outcome) → LineEnds n t line.Finish (drop n texts) o → EndsAt texts n o
-finish-ends texts n t r o ends = (record {
-  before = r.before;
-  rest = r.finish ∷ r.after;
-  state = t;
-  is = r.is;
-  carried = r.carried;
-  ends = inr (line.Finish, r.finishes, subst (λ m. LineEnds m t line.Finish r.after o) r.counted (subst (λ a. LineEnds n t line.Finish a o) (what-follows texts n t r) ends));
-}, r.counted)
+finish-ends texts n t r o ends = (
+  record {
+    before = r.before;
+    rest = r.finish ∷ r.after;
+    state = t;
+    is = r.is;
+    carried = r.carried;
+    ends = inr (line.Finish, r.finishes, subst (λ m. LineEnds m t line.Finish r.after o) r.counted (subst (λ a. LineEnds n t line.Finish a o) (what-follows texts n t r) ends));
+  },
+  r.counted,
+)
 
 pub finished : (texts : List (List ℕ)) (n : ℕ) (t : State) (e : Editing) (o : Outcome) → Reached texts n t → EndIsGood t (drop n texts) → t.editing ≡ Some e → FinishGives t e o → EndsAt texts n o
 finished texts n t e o r good editing gives =
