@@ -14,7 +14,6 @@ use Rattle.cst_core.specs.Tree.{SyntaxTree, Token, Node}
 use Rattle.tree_text.specs.Grammar.{◌⨾◌, IsGap, IsTreeText, begins_with_name_byte}
 use Rattle.tree_text.specs.KindNames.{is_name, is_name_byte, AreNames}
 
-
 abbrev pub begins_tree : ℕ → Bool
 begins_tree b = b == 40 || is_name_byte b
 

@@ -13,13 +13,21 @@ module _ (names : ℕ → Option (List ℕ)) (gaps : ℕ → Bool) where
   Closes ns u = (t : SyntaxTree) × (w : List ℕ) × (begins_with_name_byte w ≡ false) × IsAfter names gaps ns t u w
 
   closes : (k : ℕ) (ts : List SyntaxTree) (outer : List OpenTree) → Closes outer (node k (ts ++ [])) → (t : SyntaxTree) × (w : List ℕ) × (begins_with_name_byte w ≡ false) × IsFrom names gaps ((k, ts) ∷ outer) t w
-  closes k ts outer closed = (closed.0, 41 ∷ closed.1, refl, ([], record {
-    first = [];
-    second = 41 ∷ closed.1;
-    joined = refl;
-    is_first = refl;
-    is_second = record { first = 41 ∷ []; second = closed.1; joined = refl; is_first = refl; is_second = closed.3 };
-  }))
+  closes k ts outer closed = (
+    closed.0,
+    41 ∷ closed.1,
+    refl,
+    (
+      [],
+      record {
+        first = [];
+        second = 41 ∷ closed.1;
+        joined = refl;
+        is_first = refl;
+        is_second = record { first = 41 ∷ []; second = closed.1; joined = refl; is_first = refl; is_second = closed.3 };
+      },
+    ),
+  )
 
   pub close-all : (outer : List OpenTree) (u : SyntaxTree) → is_token u ≡ false → Closes outer u
   close-all [] u is = (u, [], refl, (is, refl, refl))

@@ -80,20 +80,20 @@ module _ (given : List KindName) (gaps : Gaps) (whole : List ℕ) where
     stuck-there c after e is stuck = refused-weaker e _ _ _ _ _ _ _ _
         (λ none more m t expression. none more (subst (λ g. KeepsNames g more) (sym so_far.names) m) t after (subst (IsLeft (with_names more r) t) is (so_far.on more m t rest (subst (Is more t) so_far.is expression))))
         (λ lacks.
-            let unknown = subst (λ g. (k : ℕ) → name_in g k ≢ Some lacks.name) so_far.names lacks.unknown in
-            record {
-              front = so_far.front;
-              rest = rest;
-              is = so_far.is;
-              apart = subst (λ x. begins_with_name_byte x ≡ false) (sym is) (lacks.apart after);
-              stops = λ t x apart expression. lacks.stops t x apart (on-own t x expression);
-              kind = lacks.kind;
-              name = lacks.name;
-              nameless = subst (λ g. name_in g lacks.kind ≡ None) so_far.names lacks.nameless;
-              spelled = lacks.spelled;
-              unknown = unknown;
-              goes = (lacks.goes.0, lacks.goes.1, lacks.goes.2, so_far.back (given ++ (lacks.kind, lacks.name) ∷ []) (one-more given lacks.kind lacks.name own.names lacks.spelled unknown) lacks.goes.0 lacks.goes.1 (subst (λ g. IsLeft (with_names (g ++ (lacks.kind, lacks.name) ∷ []) r) lacks.goes.0 lacks.goes.1) so_far.names lacks.goes.3));
-            })
+        let unknown = subst (λ g. (k : ℕ) → name_in g k ≢ Some lacks.name) so_far.names lacks.unknown in
+        record {
+          front = so_far.front;
+          rest = rest;
+          is = so_far.is;
+          apart = subst (λ x. begins_with_name_byte x ≡ false) (sym is) (lacks.apart after);
+          stops = λ t x apart expression. lacks.stops t x apart (on-own t x expression);
+          kind = lacks.kind;
+          name = lacks.name;
+          nameless = subst (λ g. name_in g lacks.kind ≡ None) so_far.names lacks.nameless;
+          spelled = lacks.spelled;
+          unknown = unknown;
+          goes = (lacks.goes.0, lacks.goes.1, lacks.goes.2, so_far.back (given ++ (lacks.kind, lacks.name) ∷ []) (one-more given lacks.kind lacks.name own.names lacks.spelled unknown) lacks.goes.0 lacks.goes.1 (subst (λ g. IsLeft (with_names (g ++ (lacks.kind, lacks.name) ∷ []) r) lacks.goes.0 lacks.goes.1) so_far.names lacks.goes.3));
+        })
         (begins [] rest (λ t. depth_limit < depth t) refl)
         (begins (encode_utf8 c) after (λ t. IsTooLong (text t)) is)
         stuck

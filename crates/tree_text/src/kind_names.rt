@@ -1,7 +1,6 @@
 ghost use Rattle.std.specs.Prelude.{ℕ, ◌≡◌, ◌≢◌, ◌↔◌, ◌++◌, [], ◌∷◌, true, false, Some, None, Err, IsSome, IfSome, IsNone, OnOk, OnErr, option_map};
 ghost use Rattle.tree_text.specs.KindNames.{name_in, is_name, is_name_byte, IsTaken, AreNames};
 
-
 use crate::name_error::NameError;
 use cst_core::SyntaxKind;
 use std::alloc::Global;
