@@ -5,9 +5,10 @@ all refused. `--all` tries them whether anything changed or not. `--gate` tries 
 and records nothing: so a record that was written by hand is found out. `--stale` prints the stale crates.
 
 A check says of each function whether it is proved, so bugs of many functions are tried in one check (`rattle check --only F ..`), over what a
-check of the unchanged crate proved. A bug is refused if a goal of the function that it edits is not proved. One whose function is only said to
-call another that is not proved waits for the next check. A bug in no function, or in several, and one that comes out proved, is tried alone, by
-a check of the whole crate. A bug that does not compile, or that the borrow checker refuses for its form, shows nothing, and fails.
+check of the unchanged crate proved, which begins with what `rt check` kept. A bug is refused if a goal of the function that it edits is not
+proved. One whose function is only said to call another that is not proved waits for the next check. A bug in no function, or in several, and one
+that comes out proved, is tried alone, by a check of the whole crate. A bug that does not compile, or that the borrow checker refuses for its
+form, shows nothing, and fails.
 
 A crate is stale if the kit changed, its bugs, its sources or definitions, or the definitions and clauses of the crates below it.
 """
@@ -239,6 +240,9 @@ class Trial:
 
     def run(self):
         """What became of each bug, by its name: a verdict, and why."""
+        kept = ROOT / "crates" / self.crate / "out/incremental"
+        if kept.is_dir():
+            linked(kept, self.seed)
         status, said = self.lab.check(self.crate, self.folder, self.seed)
         if status:
             sys.exit(f"planted: {self.crate} is not proved as it is\n{said[-2000:]}")
