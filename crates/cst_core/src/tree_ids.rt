@@ -48,14 +48,6 @@ impl TreeIds {
         }
     }
 
-    /// A source of the same numbers, to draw from while something may still be refused: it is put in place of this one when
-    /// all is done, and else dropped, so that a refusal draws no number. Only one of the two may give numbers to trees that stay.
-    pub fn ahead(&self) -> TreeIds
-        ensures { result ≡ self.now }
-    {
-        TreeIds { next: self.next }
-    }
-
     /// The next number, which is then given. `None` once the source is spent, and from then on.
     pub fn next(&mut self) -> Option<u64>
         ensures spent { IsNone result ↔ IsSpent self.old }

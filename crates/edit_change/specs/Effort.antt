@@ -2,8 +2,7 @@
 --     inside                        of these paths, those that begin with a slot, without it
 --     touched, touched_from         the nodes of a tree that are above one of these paths, or at one; those of children from a slot on
 --     parents_of                    the nodes whose children are altered
---     counted                       a count after n more: at the greatest number it stays
-use Rattle.std.specs.Prelude.{ℕ, suc, ◌+◌, ◌-◌, ◌^◌, min, nat_eq, cond, List, [], ◌∷◌, flat_map}
+use Rattle.std.specs.Prelude.{ℕ, suc, ◌+◌, nat_eq, cond, List, [], ◌∷◌, flat_map}
 use Rattle.green_tree.specs.Path.{Path}
 use Rattle.green_tree.specs.Tree.{Tree, Forest, Token, Node, end, more}
 use Rattle.edit_change.specs.Aim.{parents}
@@ -26,6 +25,3 @@ abbrev mutual
 
 abbrev pub parents_of : List NumberedAim → List Path
 parents_of cs = flat_map (λ c. parents c.1) cs
-
-abbrev pub counted : ℕ → ℕ → ℕ
-counted n further = min (n + further) (2 ^ 64 - 1)

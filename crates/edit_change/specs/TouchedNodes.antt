@@ -7,7 +7,8 @@ use Rattle.std.specs.Prelude.{◌≡◌, ℕ, ◌+◌, ◌≤◌, List, sum_by}
 use Rattle.std.specs.List.{enumerate_from}
 use Rattle.cst_core.specs.Path.{Path}
 use Rattle.cst_core.specs.Element.{Element, subtree}
-use Rattle.edit_change.specs.Effort.{touched, parents_of, counted}
+use Rattle.green_tree.specs.Count.{counted}
+use Rattle.edit_change.specs.Effort.{touched, parents_of}
 use Rattle.edit_change.specs.Rewriting.{NumberedAim}
 use Rattle.edit_change.specs.NewTree.{independents, dependents, payload_of}
 use Rattle.edit_change.specs.declared.change.Change.{Change}

@@ -20,6 +20,7 @@ mod position;
 mod staged;
 mod target_table;
 mod targets;
+mod trial;
 
 pub use aimed::{AimForm, Aimed};
 pub use change::Change;
@@ -40,3 +41,4 @@ pub use planned::Planned;
 pub use position::Position;
 pub use staged::{moved_path, owner_of, place_at, staged_path};
 pub use target_table::{TargetTable, first_clash};
+pub use trial::trial_source;

@@ -1,6 +1,5 @@
 -- Text edits that are applied to a part of a text.
 --     StartsFrom                    pieces that start at an offset or after it
---     Rises, rises-apart            they are in order up to an end, and so apart
 --     skip                          what stands before all pieces stays
 --     Made                          pieces make this of a part of the text, whatever comes after it
 --     made-none, made-edit, made-seq      no piece; one; those of two parts side by side
@@ -32,22 +31,13 @@ pub starts-weaker : (m n : ℕ) → m ≤ n → (es : List TextPiece) → Starts
 starts-weaker m n l [] h = tt
 starts-weaker m n l (e ∷ es) h = (omega (arith, l, h.0), h.1, starts-weaker m n l es h.2)
 
--- the same with an end, up to which they go
-abbrev pub Rises : ℕ → List TextPiece → ℕ → Type 0
-Rises from [] to = from ≤ to
-Rises from (e ∷ es) to = (from ≤ e.first) × (e.first ≤ e.stop) × Rises e.stop es to
-
-rises-earlier : (m n to : ℕ) → m ≤ n → (es : List TextPiece) → Rises n es to → Rises m es to
+rises-earlier : (m n to : ℕ) → m ≤ n → (es : List TextPiece) → AreApart n es to → AreApart m es to
 rises-earlier m n to l [] h = omega (arith, l, h)
 rises-earlier m n to l (e ∷ es) h = (omega (arith, l, h.0), h.1, h.2)
 
-rises-append : (from mid to : ℕ) (xs ys : List TextPiece) → Rises from xs mid → Rises mid ys to → Rises from (xs ++ ys) to
+rises-append : (from mid to : ℕ) (xs ys : List TextPiece) → AreApart from xs mid → AreApart mid ys to → AreApart from (xs ++ ys) to
 rises-append from mid to [] ys h k = rises-earlier from mid to h ys k
 rises-append from mid to (x ∷ xs) ys h k = (h.0, h.1, rises-append x.stop mid to xs ys h.2 k)
-
-pub rises-apart : (from to : ℕ) (es : List TextPiece) → Rises from es to → AreApart from es
-rises-apart from to [] h = tt
-rises-apart from to (e ∷ es) h = (h.0, h.1, rises-apart e.stop to es h.2)
 
 pub starts-append : (n : ℕ) (xs ys : List TextPiece) → StartsFrom n xs → StartsFrom n ys → StartsFrom n (xs ++ ys)
 starts-append n [] ys h k = k
@@ -82,7 +72,7 @@ skip from s t (e ∷ es) h =
 
 pub record Made (from : ℕ) (old : List ℕ) (es : List TextPiece) (new : List ℕ) : Type 0 where
   pub starts : StartsFrom from es
-  pub rises : Rises from es (from + length old)
+  pub rises : AreApart from es (from + length old)
   pub law : (rest : List TextPiece) (t : List ℕ) → StartsFrom (from + length old) rest → applied_from from (es ++ rest) (old ++ t) ≡ new ++ applied_from (from + length old) rest t
 
 pub made-none : (from : ℕ) (old : List ℕ) → Made from old [] old
@@ -108,7 +98,7 @@ made-seq from a b es fs x y m n =
     let long : from + length (a ++ b) ≡ from + length a + length b = omega (arith, length-append a b) in
     record {
       starts = starts-append from es fs m.starts (starts-weaker from (from + length a) (omega arith) fs n.starts);
-      rises = subst (λ k. Rises from (es ++ fs) k) (sym long) (rises-append from (from + length a) (from + length a + length b) es fs m.rises n.rises);
+      rises = subst (λ k. AreApart from (es ++ fs) k) (sym long) (rises-append from (from + length a) (from + length a + length b) es fs m.rises n.rises);
       law = λ rest t h.
           let after : StartsFrom (from + length a + length b) rest = subst (λ k. StartsFrom k rest) long h in
           ap₂ (λ us s. applied_from from us s) (append_assoc es fs rest) (append_assoc a b t) ∙ m.law (fs ++ rest) (b ++ t) (starts-append (from + length a) fs rest n.starts (starts-weaker (from + length a) (from + length a + length b) (omega arith) rest after)) ∙ ap (λ s. x ++ s) (n.law rest t after) ∙ sym (append_assoc x y (applied_from (from + length a + length b) rest t)) ∙ ap (λ k. x ++ y ++ applied_from k rest t) (sym long);

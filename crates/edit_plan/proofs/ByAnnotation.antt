@@ -1,11 +1,12 @@
 -- Annotated paths, and the elements that they lead to, by annotation.
 --     is_rewritten                  the annotated paths of a plan, from where its registered elements lead to
+--     annotated-registered          each of these paths stands with an annotation that something is registered with
 --     found-in                      what an edit has for an annotation is what the table has
 use Rattle.std.specs.Prelude.{◌≡◌, All, ℕ, ◌+◌, ◌<◌, Bool, true, false, cond, nat_eq, List, [], ◌∷◌, ◌++◌, map, flat_map, filter, take, length, Vec, Option, Some, IsSome, get_or, refl}
 use Rattle.std.specs.Global.{Global}
 use Rattle.std.proofs.Common.{ap, ap₂, sym, subst, ◌∙◌}
 use Rattle.std.proofs.lemmas.List.{take_more, map-append, append-nil, append_assoc}
-use Rattle.std.proofs.lemmas.List.Elements.{All-get_or, All-from_recursion}
+use Rattle.std.proofs.lemmas.List.Elements.{All-get_or}
 use Rattle.cst_core.specs.Path.{Path}
 use Rattle.cst_core.specs.Tree.{SyntaxTree, at}
 use Rattle.cst_core.specs.Element.{Address, Element, NumbersTell, address}
@@ -19,7 +20,7 @@ use Rattle.std.proofs.lemmas.Bool.{cases_Bool, eqb-true, eq-eqb, or_left, or_rig
 use mathlib.Core.Logic.{inl, inr}
 use Rattle.annotations.specs.AnnotationTable.{entries_of, found_for}
 use Rattle.annotations.proofs.AnnotatedElements.{Tells, leads_to}
-use Rattle.edit_plan.specs.Plan.{Plan, registered_elements, is_registered}
+use Rattle.edit_plan.specs.Plan.{Plan, registered_elements}
 use Rattle.std.specs.List.{AllByRecursion, list_any}
 use Rattle.edit_change.proofs.Lists.{all-append}
 use Rattle.edit_change.specs.NewTree.{OriginTree}
@@ -55,15 +56,14 @@ module _ (p : Plan) (fs : List SyntaxElement) (made : OriginTree) (copies : List
       let rs = registered_elements p.registrations in
       is ∙ ap₂ (λ ms reached. numbered_paths ms (map (copies_of made) reached)) (sym (map-map (λ x. x.1) (λ x. (element_of x.0, x.1)) p.registrations)) (reached-are followed_are) ∙ ap (numbered_paths (map (λ x. x.1) rs)) (map-map (copies_of made) (λ x. address (followed p.mapping x.0)) rs) ∙ numbered-each (λ x. copies_of made (address (followed p.mapping x.0))) (λ x. x.1) rs
 
--- each number of a path is that of a registration
 abbrev stands_in : List (SyntaxElement × ℕ) → ℕ → Bool
 stands_in rs a = list_any (λ r. nat_eq r.1 a) rs
 
-numbered-registered : {P : ℕ → Type 0} (rs : List (SyntaxElement × ℕ)) → ((a : ℕ) → stands_in rs a ≡ true → P a) → (ls : List (List Path)) → AllByRecursion (λ (n : ℕ × Path). P n.0) (numbered_paths (map (λ r. r.1) rs) ls)
-numbered-registered [] holds ls = tt
-numbered-registered (r ∷ rs) holds [] = tt
-numbered-registered {P} (r ∷ rs) holds (ps ∷ ls) =
-    all-append (λ n. P n.0) (map (λ p. (r.1, p)) ps) (numbered_paths (map (λ s. s.1) rs) ls) (each ps) (numbered-registered rs (λ a h. holds a (or_right (nat_eq r.1 a) (stands_in rs a) h)) ls)
+pub annotated-registered : {P : ℕ → Type 0} (m : Mapping) (made : OriginTree) (rs : List (SyntaxElement × ℕ)) → ((a : ℕ) → stands_in rs a ≡ true → P a) → AllByRecursion (λ (n : ℕ × Path). P n.0) (annotated m (registered_elements rs) made)
+annotated-registered m made [] holds = tt
+annotated-registered {P} m made (r ∷ rs) holds =
+    let here : List Path = copies_of made (address (followed m (element_of r.0))) in
+    all-append (λ n. P n.0) (map (λ p. (r.1, p)) here) (annotated m (registered_elements rs) made) (each here) (annotated-registered m made rs (λ a h. holds a (or_right (nat_eq r.1 a) (stands_in rs a) h)))
   where
     each : (qs : List Path) → AllByRecursion (λ (n : ℕ × Path). P n.0) (map (λ p. (r.1, p)) qs)
     each [] = tt
@@ -77,7 +77,6 @@ is_rewritten p fs tree copies paths ns places are is_made followed_are is =
       would = record { places = places; are_places = are; is_new = is_made.is_new };
       tree_is = is_made.tree_is;
       changed_is = is_made.changed_is;
-      registered = subst (All (λ n. is_registered p n.0 ≡ true)) (sym numbered) (All-from_recursion (λ n. is_registered p n.0 ≡ true) (numbered_paths (map (λ r. r.1) p.registrations) (map (copies_of is_made.made) (map (λ e. address (element_of e)) fs))) (numbered-registered p.registrations (λ a h. h) (map (copies_of is_made.made) (map (λ e. address (element_of e)) fs))));
       leads = subst (All (λ n. IsSome (at tree n.1))) (sym numbered) (numbered-lead is_made.made tree (map (λ r. r.1) p.registrations) (map (λ e. address (element_of e)) fs) is_made.tree_is);
       annotated_is = λ tell. annotated-are p fs is_made.made copies ns numbered (followed_are (all-told p tell));
     }

@@ -31,8 +31,8 @@ use Rattle.edit_plan.specs.declared.engine_error.EngineError.TheVariants as engi
 use Rattle.edit_plan.specs.inner.PlanRun.{IsOfRoot}
 use Rattle.std.specs.List.{AllByRecursion}
 use Rattle.std.proofs.lemmas.Bool.{cases_Bool, eqb-true, false≢true}
-use Rattle.std.proofs.lemmas.List.Elements.{recursion_from_All}
 use mathlib.Core.Logic.{inl, inr}
+use Rattle.edit_plan.proofs.ByAnnotation.{annotated-registered}
 use Rattle.edit_plan.proofs.Filled.{text-relabelled}
 
 map-none : {X : Type 0} (xs : List X) → map (λ x. Some x) xs ≡ [] → xs ≡ []
@@ -61,8 +61,8 @@ module _ (p : Plan) (green : Branch) (paths : List Path) (annotations : List (�
     changed_are = changed_are ∙ ap (map (syntax_at e.new_root)) r.changed_is;
     annotated_paths = annotations;
     annotated_are = annotated_are;
-    unregistered = λ a none. map-none (found_for e.annotated a) (annotated_are a ∙ ap (map (syntax_at e.new_root)) (no-paths a none annotations (recursion_from_All (λ n. is_registered p n.0 ≡ true) annotations r.registered)));
     annotated_is = r.annotated_is;
+    unregistered = λ tell a none. map-none (found_for e.annotated a) (annotated_are a ∙ ap (map (syntax_at e.new_root)) (no-paths a none annotations (subst (AllByRecursion (λ n. is_registered p n.0 ≡ true)) (sym (r.annotated_is tell)) (annotated-registered {P = λ b. is_registered p b ≡ true} p.mapping r.made p.registrations (λ b h. h)))));
   }
 
   same-length : text_length r.made ≡ text_length (branch_tree green)
@@ -108,4 +108,4 @@ err-gives P (Err e) x is holds = subst P (sym is) holds
 pub with-tree : (p : Plan) (old new : Rewritten) (green shown : Branch) → HasRewritten p old → green ≡ shown → ((places : ℕ → Path) → ArePlaces p.mapping p.changes places → map plain (new_tree p.changes places p.root) ≡ branch_tree shown ∷ []) → new ≡ record { green = green; changed = old.changed; annotated = old.annotated } → HasRewritten p new
 with-tree p old new green shown r same made is =
     let one : plain r.made ≡ branch_tree green = same_Some (plain r.made) (branch_tree green) (ap first_item (ap (map plain) (sym r.would.is_new) ∙ made r.would.places r.would.are_places ∙ ap (λ b. branch_tree b ∷ []) (sym same))) in
-    subst (HasRewritten p) (sym is) (record { made = r.made; would = r.would; tree_is = sym one; changed_is = r.changed_is; registered = r.registered; leads = subst (λ t. All (λ n. IsSome (at t n.1)) (map annotated_path old.annotated.items)) (r.tree_is ∙ one) r.leads; annotated_is = r.annotated_is })
+    subst (HasRewritten p) (sym is) (record { made = r.made; would = r.would; tree_is = sym one; changed_is = r.changed_is; leads = subst (λ t. All (λ n. IsSome (at t n.1)) (map annotated_path old.annotated.items)) (r.tree_is ∙ one) r.leads; annotated_is = r.annotated_is })

@@ -17,7 +17,7 @@ use Rattle.cst_core.specs.Path.{Path}
 use Rattle.cst_core.specs.Tree.{SyntaxTree}
 use Rattle.cst_core.specs.Green.{Branch, branch_tree}
 use Rattle.cst_core.specs.Element.{subtree}
-use Rattle.edit_change.specs.Effort.{counted}
+use Rattle.green_tree.specs.Count.{counted}
 use Rattle.edit_change.specs.Rewriting.{NumberedAim, rewritten}
 use Rattle.edit_change.specs.inner.KindOnly.{kind_only}
 use Rattle.edit_steps.specs.StepCount.{step_builds}

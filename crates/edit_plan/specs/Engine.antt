@@ -16,22 +16,20 @@ use Rattle.edit_change.specs.NewTree.{OriginTree, plain, is_free}
 use Rattle.edit_change.specs.Results.{changed, annotated}
 use Rattle.edit_change.specs.Places.{ArePlaces, elements_held}
 use Rattle.edit_change.specs.TouchedNodes.{touched_by, Raises}
-use Rattle.edit_plan.specs.Plan.{Plan, WouldMake, MakesTooLong, registered_elements, is_registered}
+use Rattle.edit_plan.specs.Plan.{Plan, WouldMake, MakesTooLong, registered_elements}
 use Rattle.edit_plan.specs.declared.rewritten.Rewritten.{Rewritten}
 use Rattle.edit_plan.specs.declared.engine_error.EngineError.{EngineError}
 use Rattle.edit_plan.specs.declared.engine_error.EngineError.TheVariants.{TooLong, Memory}
 use Rattle.edit_plan.specs.declared.edit_error.EditError.{EditError}
 use Rattle.edit_plan.specs.declared.edit_error.EditError.TheVariants as edit
 
--- The annotated paths are told where equal numbers have equal trees. In any case they lead to elements of the tree, and each stands with an
--- annotation that something is registered with.
+-- The annotated paths are told where equal numbers have equal trees. In any case they lead to elements of the tree.
 pub record IsRewritten (p : Plan) (tree : SyntaxTree) (changed_paths : List Path) (annotated_paths : List (ℕ × Path)) : Type 0 where
   pub made : OriginTree
   pub would : WouldMake p made
   pub tree_is : tree ≡ plain made
   pub changed_is : changed_paths ≡ changed (is_free p.changes) made
   pub leads : All (λ n. IsSome (at tree n.1)) annotated_paths
-  pub registered : All (λ n. is_registered p n.0 ≡ true) annotated_paths
   pub annotated_is : NumbersTell (elements_held p.root p.changes (registered_elements p.registrations) p.mapping) → annotated_paths ≡ annotated p.mapping (registered_elements p.registrations) made
 
 abbrev pub HasRewritten : Plan → Rewritten → Type 0

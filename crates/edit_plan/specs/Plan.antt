@@ -85,8 +85,8 @@ pub record WouldMake (p : Plan) (made : OriginTree) : Type 0 where
 abbrev pub MakesTooLong : Plan → Type 0
 MakesTooLong p = (made : OriginTree) × WouldMake p made × TextIsTooLong made
 
--- What is said of the annotated paths rests on equal numbers having equal trees, since following goes by numbers; nothing else does. In any
--- case nothing is found for an annotation that nothing is registered with.
+-- What is said of the annotated paths rests on equal numbers having equal trees, since following goes by numbers; nothing else does. Then
+-- nothing is found for an annotation that nothing is registered with.
 pub record Makes (p : Plan) (number : ℕ) (e : Edit) : Type 0 where
   pub made : OriginTree
   pub would : WouldMake p made
@@ -97,8 +97,8 @@ pub record Makes (p : Plan) (number : ℕ) (e : Edit) : Type 0 where
   pub changed_are : map Some e.changed ≡ map (syntax_at e.new_root) (changed (is_free p.changes) made)
   pub annotated_paths : List (ℕ × Path)
   pub annotated_are : (a : ℕ) → map Some (found_for e.annotated a) ≡ map (syntax_at e.new_root) (paths_with a annotated_paths)
-  pub unregistered : (a : ℕ) → is_registered p a ≡ false → found_for e.annotated a ≡ []
   pub annotated_is : NumbersTell (elements_held p.root p.changes (registered_elements p.registrations) p.mapping) → annotated_paths ≡ annotated p.mapping (registered_elements p.registrations) made
+  pub unregistered : NumbersTell (elements_held p.root p.changes (registered_elements p.registrations) p.mapping) → (a : ℕ) → is_registered p a ≡ false → found_for e.annotated a ≡ []
 
 abbrev pub RunRefuses : Plan → ℕ → EditError → Type 0
 RunRefuses p next TooLong = MakesTooLong p

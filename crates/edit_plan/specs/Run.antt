@@ -17,7 +17,7 @@ use Rattle.cst_core.specs.Tree.{SyntaxTree}
 use Rattle.cst_core.specs.Green.{Branch, branch_tree}
 use Rattle.cst_core.specs.Element.{NumbersTell, subtree}
 use Rattle.edit_change.specs.Aim.{parents}
-use Rattle.edit_change.specs.Effort.{counted}
+use Rattle.green_tree.specs.Count.{counted}
 use Rattle.edit_steps.specs.StepCount.{step_builds}
 use Rattle.edit_steps.specs.Schedule.{comes_first, is_ready}
 use Rattle.edit_change.specs.Nesting.{is_dropped}

@@ -98,7 +98,9 @@ impl<'a> EditRun<'a> {
 
     /// Carries out a change: one splice of the tree, or of the payload of the change's owner.
     ///
-    /// Only the nodes on the way to the place of the change are built anew; `builds` counts them. After a refusal the run is as it was.
+    /// `builds` rises by one for each node on the way to the place of the change, which is changed in place or made anew, and by no more. Each
+    /// is counted by the function that ends its change; that no node is made past that function is tested, and not proved. After a refusal the
+    /// run is as it was.
     pub fn step(&mut self, alloc: Global, change: usize) -> Result<(), AllocError>
         requires { CanStep self.old change }
         ensures plan { self.new.plan ≡ self.old.plan }

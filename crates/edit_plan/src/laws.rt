@@ -102,10 +102,11 @@ pub fn edit_text_is_filled()
         → text edit.new_root.root ≡ changed_text plan.changes (subtree plan.root) }
 {}
 
-/// The text edits of a plan are in order and apart. Applied to the old text, they make the new text of each edit that the plan makes.
+/// The text edits of a plan are in order and apart, and end within the old text. Applied to it, they make the new text of each edit that the
+/// plan makes.
 pub fn text_edits_make_the_new_text()
-    ensures apart { (plan : Plan) (edits : List TextEdit)
-        → IsPlan plan → AreTextEdits plan edits → AreApart 0 (map as_piece edits) }
+    ensures apart { (plan : Plan) (edits : List TextEdit) → IsPlan plan → AreTextEdits plan edits
+        → AreApart 0 (map as_piece edits) (length (text (subtree plan.root))) }
     ensures makes { (plan : Plan) (number : ℕ) (edit : Edit) (edits : List TextEdit)
         → IsPlan plan → Makes plan number edit → AreTextEdits plan edits
         → applied (map as_piece edits) (text (subtree plan.root)) ≡ text edit.new_root.root }

@@ -21,9 +21,7 @@ mod splice_engine;
 
 pub use annotations::{Annotations, SyntaxAnnotation};
 pub use edit::SyntaxEdit;
-pub use edit_change::{
-    Change, Element, ElementList, Position, is_native, is_node, is_one_node, is_range, is_root,
-};
+pub use edit_change::{Change, Element, ElementList, Position};
 pub use edit_error::EditError;
 pub use edit_run::EditRun;
 pub use engine::EditEngine;

@@ -19,7 +19,7 @@ use crate::plan::EditPlan;
 use crate::rewritten::Rewritten;
 use annotations::{annotated_paths, elements_by_annotation, registered_copies};
 use cst_core::{LENGTH_LIMIT, SyntaxElement, SyntaxNode, TreeIds};
-use edit_change::Planned;
+use edit_change::{Planned, trial_source};
 use one_pass::{OnePass, TextEdit, rewrite, text_edits};
 use std::alloc::{AllocError, Global};
 
@@ -68,7 +68,7 @@ impl EditPlan {
             annotated,
         } = rewritten;
         // The number is drawn last, when nothing can fail any more.
-        let mut drawn = ids.ahead();
+        let mut drawn = trial_source(ids);
         let new_root = SyntaxNode::new_root(alloc, &mut drawn, green)?;
         let changed = elements_at(alloc, &new_root, changed)?;
         let count = self.registrations.len();

@@ -9,7 +9,7 @@ use Rattle.green_tree.specs.Path.{Path, has_path, parent_path, last_slot, counte
 use Rattle.green_tree.specs.Tree.{SyntaxTree}
 use Rattle.green_tree.specs.Green.{Branch}
 use Rattle.edit_change.specs.Aim.{replaces}
-use Rattle.edit_change.specs.Effort.{counted}
+use Rattle.green_tree.specs.Count.{counted}
 use Rattle.edit_change.specs.inner.Aimed.{aim_in, numbered}
 use Rattle.edit_change.specs.declared.aimed.Aimed.{Aimed}
 use Rattle.edit_change.specs.declared.aimed.AimForm.{AimForm}

@@ -20,7 +20,7 @@ use Rattle.cst_core.specs.Tree.{SyntaxTree, Node, Token, at, is_token, forest}
 use Rattle.cst_core.specs.Green.{Branch, branch_tree}
 use Rattle.cst_core.specs.Element.{Element, IsNode, subtree}
 use Rattle.edit_change.specs.Aim.{Aim, replaces}
-use Rattle.edit_change.specs.Effort.{counted}
+use Rattle.green_tree.specs.Count.{counted}
 use Rattle.edit_change.specs.Rewriting.{NumberedAim, rewritten, rewritten_from}
 use Rattle.edit_change.specs.inner.KindOnly.{kind_only}
 use Rattle.edit_change.proofs.Untouched.{nothing_rewritten}

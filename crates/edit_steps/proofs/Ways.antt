@@ -5,7 +5,8 @@
 --     no_token                       where the path goes on, or the target is, there is a node
 --     IsAtTarget, at_target          at the end of the path is the target's node, and the place is found
 --     can_splice_place, put_at_place  a splice at the place puts elements where the target is
-use Rattle.std.specs.Prelude.{◌≡◌, ◌<◌, ◌≤◌, ◌+◌, ℕ, List, [], ◌∷◌, ◌++◌, take, drop, length, slice_get, Some, refl}
+--     as_deep                        the place is as deep as the target
+use Rattle.std.specs.Prelude.{◌≡◌, ◌<◌, ◌≤◌, ◌+◌, ℕ, suc, List, [], ◌∷◌, ◌++◌, take, drop, length, slice_get, Some, refl}
 use Rattle.std.proofs.Common.{ap, ap₂, sym, subst, ◌∙◌, arith, get_or}
 use Rattle.std.proofs.lemmas.List.{drop_all, take_all, append_assoc, append-nil}
 use Rattle.green_tree.specs.Path.{Path}
@@ -109,3 +110,10 @@ module _ (t : SyntaxTree) (s : Splice) (place : Place) (is : IsPlaceOf s place) 
 
   pub put_at_place : (ts : List SyntaxTree) → updated_at t place.path.items (spliced place.first place.count ts) ≡ put t (done_at s.done.now) s.target.now.parent.now s.target.now.at ts
   put_at_place ts = ap₂ (λ p h. updated_at t p h) is.path (ap₂ (λ f n. spliced f n ts) is.first is.count)
+
+so_deep : (done : Path → List Done) (p : Path) → length (current_path done p) ≡ length p
+so_deep done [] = refl
+so_deep done (i ∷ p) = ap (λ n. suc n) (so_deep (λ q. done (i ∷ q)) p)
+
+pub as_deep : (s : Splice) (place : Place) → IsPlaceOf s place → length place.path.items ≡ length s.target.now.parent.now
+as_deep s place is = ap length is.path ∙ so_deep (done_at s.done.now) s.target.now.parent.now

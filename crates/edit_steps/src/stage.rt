@@ -53,8 +53,8 @@ impl Stage {
     ///
     /// The aim is one in the old element, and has a number of its own. Where its node, its gap or its first slot is not there, nothing
     /// changes, and of a range only what is there is replaced. `builds` rises by the nodes that change, up to its greatest number: the
-    /// node whose children change, and those above it. Of these, the ones that nobody else holds are changed in place. After a refusal the
-    /// stage and the count are as they were.
+    /// node whose children change, and those above it. `splice_at` counts each where it changes it or makes it anew; the ones that nobody
+    /// else holds are changed in place. After a refusal the stage and the count are as they were.
     pub fn step(
         &mut self,
         alloc: Global,
@@ -69,7 +69,8 @@ impl Stage {
         ensures refused { OnErr result (StageStaysAs self.old self.new) }
         ensures refused_count { OnErr result (builds.new ≡ builds.old) }
     {
-        let count = *builds;
+        // For the proof: the count is one of the numbers of code.
+        let _count = *builds;
         let Some(target) = AimTarget::of(&self.original, aim) else {
             return Ok(());
         };
@@ -87,11 +88,16 @@ impl Stage {
         let GreenElement::Node(top) = &mut self.current else {
             unreachable!()
         };
-        splice_at(alloc, top, &place.path, place.first, place.count, given)?;
+        splice_at(
+            alloc,
+            top,
+            &place.path,
+            place.first,
+            place.count,
+            given,
+            builds,
+        )?;
         self.done.add_reserved(list, done);
-        *builds = count
-            .saturating_add(target.parent.len() as u64)
-            .saturating_add(1);
         Ok(())
     }
 }

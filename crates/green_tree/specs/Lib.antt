@@ -3,6 +3,7 @@ pub mod Tree
 pub mod Order
 pub mod Offsets
 pub mod Kind
+pub mod Count
 pub mod Green
 pub mod GreenElement
 pub mod GreenElementRef

@@ -15,7 +15,8 @@ use Rattle.edit_change.specs.inner.Aimed.{formed, of_formed, aims_of, some_path,
 use Rattle.one_pass.specs.inner.Pass.{aims_inside, CountsBuilt, TouchesAtMost}
 use Rattle.green_tree.specs.GreenElement.{element_tree}
 use Rattle.green_tree.specs.declared.green.GreenElement.{GreenElement}
-use Rattle.edit_change.specs.Effort.{inside, touched, touched_from, parents_of, counted}
+use Rattle.green_tree.specs.Count.{counted}
+use Rattle.edit_change.specs.Effort.{inside, touched, touched_from, parents_of}
 use Rattle.one_pass.specs.inner.Built.{built, built_from, nodes_built}
 use Rattle.edit_change.proofs.AlteredNodes.{above-below, above-formed, some-parents}
 use Rattle.edit_change.proofs.SeenBelow.{Shifted, below_shifted, aims-formed}

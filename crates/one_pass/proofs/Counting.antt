@@ -28,7 +28,8 @@ use Rattle.green_tree.specs.Tree.{SyntaxTree, Token, Node}
 use Rattle.edit_change.specs.Change.{payload}
 use Rattle.edit_change.specs.NewTree.{payload_of}
 use Rattle.cst_core.specs.Path.{counted_from}
-use Rattle.edit_change.specs.Effort.{touched, counted}
+use Rattle.green_tree.specs.Count.{counted}
+use Rattle.edit_change.specs.Effort.{touched}
 use Rattle.edit_change.specs.declared.change.Change.{Change}
 use Rattle.edit_change.specs.TouchedNodes.{touched_each, Raises}
 use Rattle.edit_change.specs.inner.OwnerPlaces.{depth_of}

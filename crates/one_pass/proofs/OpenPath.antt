@@ -14,7 +14,7 @@ use Rattle.one_pass.specs.inner.Marked.{MarkTree, Marking, marked, mark_below, w
 use Rattle.one_pass.specs.inner.OpenNodes.{kinds_past, past, to_build, to_do, wholes, path_to, found_above, built_above}
 use Rattle.one_pass.specs.declared.marked_given.GivenTable.{GivenTable}
 use Rattle.one_pass.specs.declared.open_node.OpenNode.{OpenNode}
-use Rattle.edit_change.specs.Effort.{counted}
+use Rattle.green_tree.specs.Count.{counted}
 use Rattle.one_pass.proofs.Counted.{count-on}
 use Rattle.one_pass.proofs.Marks.{shown, shown-append, shown-one}
 

@@ -19,7 +19,8 @@ use Rattle.green_tree.proofs.Lookup.{IsNodeThere}
 use Rattle.std.specs.Option.{option_map_or}
 use Rattle.edit_change.specs.Aim.{Aim, FirstIn, AfterElement, Over, parents}
 use Rattle.edit_change.specs.Rewriting.{NumberedAim, is_replaced}
-use Rattle.edit_change.specs.Effort.{inside, touched, touched_from, parents_of, counted}
+use Rattle.green_tree.specs.Count.{counted}
+use Rattle.edit_change.specs.Effort.{inside, touched, touched_from, parents_of}
 use Rattle.one_pass.specs.inner.Built.{built, built_from, nodes_built, nodes_built_whole, IsBuilt, AreBuilt}
 use Rattle.edit_change.specs.declared.aimed.Aimed.{Aimed}
 use Rattle.edit_change.specs.inner.Aimed.{aims_of}

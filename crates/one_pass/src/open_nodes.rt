@@ -8,7 +8,7 @@ ghost use Rattle.green_tree.specs.Green.{Branch, branch_tree};
 ghost use Rattle.green_tree.specs.inner.TreeSize.{branch_size};
 ghost use Rattle.green_tree.specs.GreenElement.{element_tree, element_trees};
 ghost use Rattle.green_tree.specs.declared.green.GreenElement.TheVariants.{Node};
-ghost use Rattle.edit_change.specs.Effort.{counted};
+ghost use Rattle.green_tree.specs.Count.{counted};
 ghost use Rattle.edit_change.specs.Rewriting.{rewritten};
 ghost use Rattle.edit_change.specs.inner.Aimed.{aims_of, has_parent, formed, alter_below};
 ghost use Rattle.edit_change.specs.inner.KindOnly.{kind_only};

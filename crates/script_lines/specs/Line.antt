@@ -12,7 +12,7 @@
 --     IsRef               a name, and then the slots of a path, with a `/` between
 --     IsGap               two fields for a position: a word, and the element beside it
 --     IsSpaces            nothing but spaces
---     IsLineTree          an expression of a tree, in which no more than `DEPTH_LIMIT` parentheses are open at once
+--     IsLineTree          an expression of a tree, in which no more than 200 parentheses are open at once
 --     IsTreeLine          a line for a new tree, whose expression is the rest of the line and may have spaces
 --     IsLine              a line says this
 use Rattle.std.specs.Prelude.{◌≡◌, ◌≢◌, ℕ, ◌==◌, ◌-◌, ◌<◌, ◌≤◌, ◌^◌, Bool, true, false, not, List, [], ◌∷◌, ◌++◌, length, take, filter, nat_eq, codes, cond, Some}
@@ -20,10 +20,9 @@ use Rattle.std.specs.List.{slice_split, ends_with, starts_with, AllByRecursion}
 use Rattle.std.specs.Str.Parse.{IsNumeral, digits_value}
 use Rattle.cst_core.specs.Tree.{SyntaxTree}
 use Rattle.cst_core.specs.Kind.{name_of}
-use Rattle.tree_text.specs.Depth.{depth}
+use Rattle.tree_text.specs.Depth.{depth, depth_limit}
 use Rattle.tree_text.specs.Grammar.{IsExpression, is_gap_space}
 use Rattle.tree_text.specs.KindNames.{name_in}
-use Rattle.tree_text.specs.declared.open_nodes.TheConstants.{DEPTH_LIMIT}
 use Rattle.script_lines.specs.Name.{IsName}
 use Rattle.script_lines.specs.ScriptLine.{Ref, Gap, First, Last, Before, After, ScriptLine, Blank, Tree, Edit, Map, Insert, Delete, Replace, Range, Note, Remove, Order, Finish}
 
@@ -79,7 +78,7 @@ abbrev pub IsSpaces : List ℕ → Type 0
 IsSpaces text = AllByRecursion (λ b. b ≡ 32) text
 
 abbrev pub IsLineTree : List ℕ → SyntaxTree → Type 0
-IsLineTree text root = IsExpression (name_in []) is_gap_space root text × (depth root ≤ DEPTH_LIMIT)
+IsLineTree text root = IsExpression (name_in []) is_gap_space root text × (depth root ≤ depth_limit)
 
 pub record IsTreeLine (line name : List ℕ) (root : SyntaxTree) : Type 0 where
   pub before : List ℕ

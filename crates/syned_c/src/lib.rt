@@ -2,7 +2,7 @@
 #![tactic(auto)]
 
 ghost use Rattle.std.specs.Prelude.{◌≡◌, ◌≤◌, ◌<◌};
-ghost use Rattle.syned_run.specs.Bytes.{AnswersInto, PutsSome};
+ghost use Rattle.syned_run.specs.Bytes.{AnswersInto, ExplainsInto};
 
 use std::alloc::Global;
 use syned_run::{answer_into, explain_into};
@@ -25,13 +25,14 @@ pub extern "C" fn syned_run(alloc: Global, script: &[u8], room: &mut [u8], lengt
 }
 
 /// Puts why a script has no edit at the beginning of `room`, if it fits: the line that `syned` prints on the standard error, without its newline.
-/// What it gives is how many bytes it has, whether it fits or not: 0 if the script has an edit.
+/// What it gives is how many bytes it has, whether it fits or not, which is more than 0; it is 0 exactly if the script has an edit, unless memory
+/// runs out.
 ///
 /// In C: `size_t syned_explain(const uint8_t *script, size_t script_length, uint8_t *room, size_t room_length)`.
 /// No pointer is null, and `room` is of nobody else during the call.
 #[unsafe(no_mangle)]
 pub extern "C" fn syned_explain(alloc: Global, script: &[u8], room: &mut [u8]) -> usize
-    ensures { PutsSome result room.old room.new }
+    ensures { ExplainsInto script.now result room.old room.new }
 {
     explain_into(alloc, script, room)
 }

@@ -1,22 +1,21 @@
 -- What was written of an answer to what was read.
 use Rattle.std.proofs.Common.{◌≡◌, ◌⊎◌, ℕ, ◌+◌, List, Option, length, take, sym, subst, inl, inr}
 use Rattle.std.specs.Io.KnownBytes.{Appends, Consumes, Keeps}
-use Rattle.syned_run.specs.declared.ends.TheConstants.{SCRIPT_LIMIT}
-use Rattle.syned_run.specs.Ends.{IsFrontOf}
+use Rattle.syned_run.specs.Ends.{IsFrontOf, script_limit}
 use Rattle.syned_run.specs.Answer.{IsAnswer, IsAnswerOf}
 use Rattle.syned_run.specs.Bytes.{PutsInto, AnswersInto}
 
 -- the answer to the script as code has it
-pub is_answer_of : (left left' : Option (List ℕ)) (read seen printed : List ℕ) (status : ℕ) → Consumes left left' read → IsFrontOf left (SCRIPT_LIMIT + 1) read → seen ≡ read → IsAnswer seen status printed → IsAnswerOf left left' status printed
+pub is_answer_of : (left left' : Option (List ℕ)) (read seen printed : List ℕ) (status : ℕ) → Consumes left left' read → IsFrontOf left (script_limit + 1) read → seen ≡ read → IsAnswer seen status printed → IsAnswerOf left left' status printed
 is_answer_of left left' read seen printed status consumed front same answer = (read, consumed, front, subst (λ script. IsAnswer script status printed) same answer)
 
 -- all of it
-pub wrote_all : (left left' held held' : Option (List ℕ)) (read seen : List ℕ) (code status : ℕ) → Consumes left left' read → IsFrontOf left (SCRIPT_LIMIT + 1) read → seen ≡ read → code ≡ status → ((bytes : List ℕ) × IsAnswer seen status bytes × Appends held held' bytes) → (bytes : List ℕ) × IsAnswerOf left left' code bytes × Appends held held' bytes
+pub wrote_all : (left left' held held' : Option (List ℕ)) (read seen : List ℕ) (code status : ℕ) → Consumes left left' read → IsFrontOf left (script_limit + 1) read → seen ≡ read → code ≡ status → ((bytes : List ℕ) × IsAnswer seen status bytes × Appends held held' bytes) → (bytes : List ℕ) × IsAnswerOf left left' code bytes × Appends held held' bytes
 wrote_all left left' held held' read seen code status consumed front same is (bytes, answer, appended) =
     (bytes, subst (λ s. IsAnswerOf left left' s bytes) (sym is) (is_answer_of left left' read seen bytes status consumed front same answer), appended)
 
 -- nothing, or a beginning of it
-pub wrote_some : (left left' held held' : Option (List ℕ)) (read seen : List ℕ) → Consumes left left' read → IsFrontOf left (SCRIPT_LIMIT + 1) read → seen ≡ read → (Keeps held held' ⊎ ((status : ℕ) × (bytes : List ℕ) × IsAnswer seen status bytes × (n : ℕ) × Appends held held' (take n bytes))) → Keeps held held' ⊎ ((status : ℕ) × (bytes : List ℕ) × IsAnswerOf left left' status bytes × (n : ℕ) × Appends held held' (take n bytes))
+pub wrote_some : (left left' held held' : Option (List ℕ)) (read seen : List ℕ) → Consumes left left' read → IsFrontOf left (script_limit + 1) read → seen ≡ read → (Keeps held held' ⊎ ((status : ℕ) × (bytes : List ℕ) × IsAnswer seen status bytes × (n : ℕ) × Appends held held' (take n bytes))) → Keeps held held' ⊎ ((status : ℕ) × (bytes : List ℕ) × IsAnswerOf left left' status bytes × (n : ℕ) × Appends held held' (take n bytes))
 wrote_some left left' held held' read seen consumed front same (inl kept) = inl kept
 wrote_some left left' held held' read seen consumed front same (inr (status, bytes, answer, n, appended)) =
     inr (status, bytes, is_answer_of left left' read seen bytes status consumed front same answer, n, appended)

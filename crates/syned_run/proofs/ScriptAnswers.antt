@@ -37,7 +37,7 @@ use Rattle.script_lines.specs.Line.{is_blank}
 use Rattle.syned_script.specs.declared.refusal.Refusal.{Refusal}
 use Rattle.syned_script.specs.State.{State, new_state, Editing, Refuses, IsBad}
 use Rattle.syned_script.specs.Script.{Outcome, Edited, Refused, BadLine, Ends, LineEnds, FinishEnds, FinishGives, EndRefuses, lines_in}
-use Rattle.syned_run.specs.declared.ends.TheConstants.{SCRIPT_LIMIT}
+use Rattle.syned_run.specs.Ends.{script_limit}
 use Rattle.syned_run.specs.Answer.{IsNoScript, IsAnswer, printed, status_of}
 use Rattle.syned_run.proofs.ScriptLines.{both, reads, says}
 use Rattle.syned_run.proofs.ScriptFaults.{says_nothing, nothing-said}
@@ -46,7 +46,7 @@ use Rattle.syned_run.proofs.ScriptEdits.{the_one, is_one, edit_of, can_make, mak
 
 -- ---- scripts
 abbrev pub is_text : List ℕ → Bool
-is_text script = (list_all (λ b. nat_lt b 128) script || is_utf8 script) && nat_le (length script) SCRIPT_LIMIT
+is_text script = (list_all (λ b. nat_lt b 128) script || is_utf8 script) && nat_le (length script) script_limit
 
 ascii : (bs : List ℕ) → list_all (λ b. nat_lt b 128) bs ≡ true → IsAscii bs
 ascii [] h = IsAscii-nil
@@ -60,9 +60,9 @@ text-is script false is h = IsUtf8-from_is_utf8 script h
 
 pub script-is : (script : List ℕ) → is_text script ≡ true → IsNoScript script → ⊥
 script-is script h none =
-    let parts = both (list_all (λ b. nat_lt b 128) script || is_utf8 script) (nat_le (length script) SCRIPT_LIMIT) h in
+    let parts = both (list_all (λ b. nat_lt b 128) script || is_utf8 script) (nat_le (length script) script_limit) h in
     elim none [
-      | inl long ↦ absurd (omega (arith, long, leb-true (length script) SCRIPT_LIMIT parts.1))
+      | inl long ↦ absurd (omega (arith, long, leb-true (length script) script_limit parts.1))
       | inr other ↦ other (text-is script (list_all (λ b. nat_lt b 128) script) refl parts.0)
     ]
 

@@ -20,9 +20,8 @@ use Rattle.std.proofs.lemmas.List.Sums.{AllPass-from_list_all}
 use Rattle.std.proofs.lemmas.Slice.Eq.{bytes_eq-Decides}
 use Rattle.cst_core.specs.Tree.{SyntaxTree, Token, Node, is_token}
 use Rattle.cst_core.specs.Kind.{name_of}
-use Rattle.tree_text.specs.Depth.{depth}
+use Rattle.tree_text.specs.Depth.{depth, depth_limit}
 use Rattle.tree_text.specs.Grammar.{IsExactly}
-use Rattle.tree_text.specs.declared.open_nodes.TheConstants.{DEPTH_LIMIT}
 use Rattle.script_lines.specs.Name.{IsName, is_name_byte, starts_with_letter}
 use Rattle.script_lines.specs.ScriptLine.{Ref, Gap, First, Last, Before, After, ScriptLine, Blank, Tree, Edit, Map, Insert, Delete, Replace, Range, Note, Remove, Order, Finish}
 use Rattle.script_lines.specs.Line.{line_text, between, fields, is_blank, Each, IsNumber, IsRef, IsGap, IsTreeLine, IsLine}
@@ -174,7 +173,7 @@ more (f ∷ fs) r rs h = (f, fs, refl, h.0, h.1)
 
 -- ---- lines
 abbrev pub is_drawn : SyntaxTree → Bool
-is_drawn root = not (is_token root) && nat_le (depth root) DEPTH_LIMIT
+is_drawn root = not (is_token root) && nat_le (depth root) depth_limit
 
 -- spaces, the word, spaces, the name, spaces, the expression, spaces
 abbrev past_line : List ℕ → SyntaxTree → List ℕ → Option (List ℕ)
@@ -239,7 +238,7 @@ to-end w r p none = p.is ∙ ap (λ x. p.front ++ x) none
 
 drawn : (text name : List ℕ) (root : SyntaxTree) → past_line name root (line_text text) ≡ Some [] → IsName name → is_drawn root ≡ true → IsTreeLine text name root
 drawn text name root past spelled h =
-    let parts = both (not (is_token root)) (nat_le (depth root) DEPTH_LIMIT) h in
+    let parts = both (not (is_token root)) (nat_le (depth root) depth_limit) h in
     let w = line_text text in
     let word = both-there (past_text (codes "tree") (past_gap w)) _ [] past in
     let between = both-there (past_spaces word.value) _ [] word.then in
@@ -263,7 +262,7 @@ drawn text name root past spelled h =
       spaces = (a.says, c.says.0, e.says.0, g.says);
       apart = (c.says.1, e.says.1);
       named = spelled;
-      drawn = ((not-token root parts.0, f.says), leb-true (depth root) DEPTH_LIMIT parts.1);
+      drawn = ((not-token root parts.0, f.says), leb-true (depth root) depth_limit parts.1);
     }
 
 -- ---- removals

@@ -28,8 +28,7 @@ use Rattle.tree_text.specs.Escape.{escaped}
 use Rattle.syned_script.specs.RefusalText.{refusal_text}
 use Rattle.syned_script.specs.State.{annotation_of}
 use Rattle.syned_script.specs.Script.{Outcome, Edited, Refused, BadLine, Means}
-use Rattle.syned_run.specs.declared.ends.TheConstants.{SCRIPT_LIMIT}
-use Rattle.syned_run.specs.Ends.{IsFrontOf}
+use Rattle.syned_run.specs.Ends.{IsFrontOf, script_limit}
 
 abbrev pub spaced : Path → List ℕ
 spaced path = codes " " ++ path_text path
@@ -75,7 +74,7 @@ printed (Refused reason) = refused_text (refusal_text reason)
 printed (BadLine number) = bad_text number
 
 abbrev pub IsNoScript : List ℕ → Type 0
-IsNoScript bytes = (SCRIPT_LIMIT < length bytes) ⊎ ¬ (IsUtf8 bytes)
+IsNoScript bytes = (script_limit < length bytes) ⊎ ¬ (IsUtf8 bytes)
 
 abbrev pub IsOutcome : List ℕ → ℕ → List ℕ → Type 0
 IsOutcome script status answer = (o : Outcome) × Means script o × (status ≡ status_of o) × (answer ≡ printed o)
@@ -86,7 +85,7 @@ IsAnswer bytes status answer =
 
 abbrev pub IsAnswerOf : Option (List ℕ) → Option (List ℕ) → ℕ → List ℕ → Type 0
 IsAnswerOf left left' status bytes =
-    (script : List ℕ) × Consumes left left' script × IsFrontOf left (SCRIPT_LIMIT + 1) script
+    (script : List ℕ) × Consumes left left' script × IsFrontOf left (script_limit + 1) script
     × IsAnswer script status bytes
 
 abbrev pub Answers : {R W : Type 0} → (R → Option (List ℕ)) → (W → Option (List ℕ)) → R → R → W → W → ℕ → Type 0

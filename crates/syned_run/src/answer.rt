@@ -29,7 +29,8 @@ pub(crate) fn answer_to(alloc: Global, script: &[u8]) -> Result<Answer, AllocErr
     }
 }
 
-fn script_text(script: &[u8]) -> Option<&str>
+// The script, if it is one: text, and not too long.
+pub(crate) fn script_text(script: &[u8]) -> Option<&str>
     ensures { MatchOption result (IsNoScript script.now)
         (λ text. (text.now ≡ script.now) × (IsNoScript script.now → ⊥)) }
 {

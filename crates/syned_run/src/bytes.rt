@@ -1,6 +1,6 @@
 //! A run over bytes, for callers that have a script in memory and room for its answer.
 ghost use Rattle.std.specs.Prelude.{◌≡◌, ◌≤◌, ◌<◌, length};
-ghost use Rattle.syned_run.specs.Bytes.{AnswersInto, PutsInto, PutsSome};
+ghost use Rattle.syned_run.specs.Bytes.{AnswersInto, ExplainsInto, PutsInto};
 
 use crate::answer::answer_to;
 use crate::explained::explain;
@@ -43,9 +43,10 @@ pub fn answer_into(alloc: Global, script: &[u8], room: &mut [u8]) -> Outcome
 }
 
 /// Puts why a script of these bytes has no edit at the beginning of `room`, if it fits: the sentence of `explain`, without a newline, or `memory
-/// ran out`. The answer is how many bytes the sentence has, 0 if the script has an edit.
+/// ran out`. The answer is how many bytes the sentence has, which is more than 0; it is 0 exactly if the script has an edit, unless memory runs
+/// out.
 pub fn explain_into(alloc: Global, script: &[u8], room: &mut [u8]) -> usize
-    ensures { PutsSome result room.old room.new }
+    ensures { ExplainsInto script.now result room.old room.new }
 {
     match explain(alloc, script) {
         Ok(None) => 0,

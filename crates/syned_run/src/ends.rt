@@ -1,7 +1,7 @@
 //! The ends of a run: what is read and what is written.
 ghost use Rattle.std.specs.Prelude.{ℕ, ◌≡◌, ◌+◌, ◌<◌, IfOk, OnOk, IfSome, take};
 ghost use Rattle.std.specs.Io.KnownBytes.{Appends, Consumes};
-ghost use Rattle.syned_run.specs.Ends.{IsFrontOf, TakesAtMost};
+ghost use Rattle.syned_run.specs.Ends.{IsFrontOf, TakesAtMost, script_limit};
 ghost use Rattle.syned_run.specs.inner.ReadOn.{ReadsFrom};
 
 use std::alloc::{AllocError, Global};
@@ -38,9 +38,9 @@ impl From<AllocError> for EndFailed {
 /// All bytes up to the reader's end, or up to one byte more than a script may have; what comes after them stays in the
 /// reader. A read that is interrupted has failed.
 pub(crate) fn read_script<R: Read>(alloc: Global, reader: &mut R) -> Result<Vec<u8>, EndFailed>
-    ensures read { IfOk result (λ v. IsFrontOf (R.remaining reader.old) (SCRIPT_LIMIT + 1) v.items) }
+    ensures read { IfOk result (λ v. IsFrontOf (R.remaining reader.old) (script_limit + 1) v.items) }
     ensures left { IfOk result (λ v. Consumes (R.remaining reader.old) (R.remaining reader.new) v.items) }
-    ensures taken { TakesAtMost (R.remaining reader.old) (R.remaining reader.new) (SCRIPT_LIMIT + 1) }
+    ensures taken { TakesAtMost (R.remaining reader.old) (R.remaining reader.new) (script_limit + 1) }
 {
     let mut script = Vec::new(alloc);
     while script.len() <= SCRIPT_LIMIT {

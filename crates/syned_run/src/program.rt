@@ -1,5 +1,5 @@
 ghost use Rattle.std.specs.Prelude.{◌≡◌, ◌≤◌, ◌<◌, ◌+◌};
-ghost use Rattle.syned_run.specs.Ends.{TakesFront, TakesAtMost};
+ghost use Rattle.syned_run.specs.Ends.{TakesFront, TakesAtMost, script_limit};
 ghost use Rattle.syned_run.specs.Answer.{Answers, Fails};
 ghost use Rattle.syned_run.specs.inner.ExitCode.{exit_code};
 ghost use Rattle.syned_run.specs.inner.Responding.{Responds, WritesSome};
@@ -22,10 +22,10 @@ use std::io::{Read, Write};
 /// a write failed, what was written is a beginning of it.
 pub fn run<R: Read, W: Write>(alloc: Global, reader: &mut R, writer: &mut W) -> u8
     ensures status { result ≤ 3 }
-    ensures read { result < 3 → TakesFront (R.remaining reader.old) (R.remaining reader.new) (SCRIPT_LIMIT + 1) }
+    ensures read { result < 3 → TakesFront (R.remaining reader.old) (R.remaining reader.new) (script_limit + 1) }
     ensures answered { result < 3 → Answers R.remaining W.contents reader.old reader.new writer.old writer.new result }
     ensures failed { result ≡ 3 → Fails R.remaining W.contents reader.old reader.new writer.old writer.new }
-    ensures taken { TakesAtMost (R.remaining reader.old) (R.remaining reader.new) (SCRIPT_LIMIT + 1) }
+    ensures taken { TakesAtMost (R.remaining reader.old) (R.remaining reader.new) (script_limit + 1) }
 {
     match read_script(alloc, reader) {
         Ok(script) => respond(alloc, &script, writer).code(),
@@ -34,7 +34,7 @@ pub fn run<R: Read, W: Write>(alloc: Global, reader: &mut R, writer: &mut W) -> 
 }
 
 /// The same, and where the exit status is not 0 it also writes a sentence to `errors`: what `explain` says of the
-/// script, or what failed. Whether this one could be written makes no difference.
+/// script, or what failed. Whether this one could be written makes no difference. At 0 nothing is written to `errors`.
 pub fn run_explained<R: Read, W: Write, E: Write>(
     alloc: Global,
     reader: &mut R,
@@ -42,10 +42,11 @@ pub fn run_explained<R: Read, W: Write, E: Write>(
     errors: &mut E,
 ) -> u8
     ensures status { result ≤ 3 }
-    ensures read { result < 3 → TakesFront (R.remaining reader.old) (R.remaining reader.new) (SCRIPT_LIMIT + 1) }
+    ensures read { result < 3 → TakesFront (R.remaining reader.old) (R.remaining reader.new) (script_limit + 1) }
     ensures answered { result < 3 → Answers R.remaining W.contents reader.old reader.new writer.old writer.new result }
     ensures failed { result ≡ 3 → Fails R.remaining W.contents reader.old reader.new writer.old writer.new }
-    ensures taken { TakesAtMost (R.remaining reader.old) (R.remaining reader.new) (SCRIPT_LIMIT + 1) }
+    ensures taken { TakesAtMost (R.remaining reader.old) (R.remaining reader.new) (script_limit + 1) }
+    ensures quiet { result ≡ 0 → errors.new ≡ errors.old }
 {
     match read_script(alloc, reader) {
         Ok(script) => respond_and_explain(alloc, &script, writer, errors),
@@ -62,6 +63,7 @@ fn respond_and_explain<W: Write, E: Write>(
     ensures answered { result < 3 → Responds W.contents script.now writer.old writer.new result }
     ensures failed { result ≡ 3 → WritesSome W.contents script.now writer.old writer.new }
     ensures status { result ≤ 3 }
+    ensures quiet { result ≡ 0 → errors.new ≡ errors.old }
 {
     let status = respond(alloc, script, writer);
     write_reason(alloc, errors, script, status);

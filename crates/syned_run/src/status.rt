@@ -1,5 +1,5 @@
 //! How a run ended, and its exit status.
-ghost use Rattle.std.specs.Prelude.{◌≡◌};
+ghost use Rattle.std.specs.Prelude.{◌≡◌, codes};
 ghost use Rattle.syned_run.specs.inner.ExitCode.{exit_code};
 
 /// How a run ended.
@@ -42,7 +42,9 @@ impl Status {
 
 impl Failure {
     /// What failed, in a sentence.
-    pub(crate) fn as_str(self) -> &'static str {
+    pub(crate) fn as_str(self) -> &'static str
+        ensures { self ≡ Failure.Memory → result.now ≡ codes "memory ran out" }
+    {
         match self {
             Failure::Read => "the script could not be read",
             Failure::Write => "the answer could not be written",

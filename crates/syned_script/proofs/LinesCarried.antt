@@ -9,7 +9,7 @@ use Rattle.script_lines.specs.Line.{is_blank, IsLine}
 use Rattle.script_lines.specs.ScriptLine as line
 use Rattle.script_lines.specs.ScriptLine.{ScriptLine}
 use Rattle.syned_script.specs.State.{State, new_state, Editing, Goes, Refuses, IsBad, Steps}
-use Rattle.syned_script.specs.Script.{Outcome, Refused, BadLine, FinishGives, FinishEnds, LineEnds, Ends, Carried, EndsSo, StopsSo}
+use Rattle.syned_script.specs.Script.{Outcome, Refused, BadLine, FinishGives, FinishEnds, LineEnds, Ends, Carried, EndsSo, EndsAt, StopsSo}
 use Rattle.syned_script.specs.inner.Run.{texts_in, IsBadText, TextStops, Reached, EndIsGood, IsBadEnd, EndStops, FinishStops}
 use Rattle.syned_script.specs.inner.Stops.{StopsFor}
 use Rattle.syned_script.specs.declared.refusal.Refusal.{Refusal}
@@ -61,18 +61,21 @@ bad-ends n s text after (inr (l, is, bad)) = inr (l, is, line-bad n s l after ba
 counted : (texts : List (List ℕ)) (i : ℕ) → i < length texts → suc (length (take i texts)) ≡ i + 1
 counted texts i lt = let l = length-take i texts in grind arith
 
-pub ends-at : (texts : List (List ℕ)) (i : ℕ) (text : List ℕ) (t : State) (o : Outcome) → i < length texts → text ≡ get_or texts i text → Carried (take i texts) new_state t → Ends (i + 1) t (text ∷ drop (i + 1) texts) o → EndsSo texts o
-ends-at texts i text t o lt is carried ends = record {
-  before = take i texts;
-  rest = text ∷ drop (i + 1) texts;
-  state = t;
-  is = split-at texts i text lt is;
-  carried = carried;
-  ends = subst (λ n. Ends n t (text ∷ drop (i + 1) texts) o) (sym (counted texts i lt)) ends;
-}
+pub ends-at : (texts : List (List ℕ)) (i : ℕ) (text : List ℕ) (t : State) (o : Outcome) → i < length texts → text ≡ get_or texts i text → Carried (take i texts) new_state t → Ends (i + 1) t (text ∷ drop (i + 1) texts) o → EndsAt texts (i + 1) o
+ends-at texts i text t o lt is carried ends = (
+  record {
+    before = take i texts;
+    rest = text ∷ drop (i + 1) texts;
+    state = t;
+    is = split-at texts i text lt is;
+    carried = carried;
+    ends = subst (λ n. Ends n t (text ∷ drop (i + 1) texts) o) (sym (counted texts i lt)) ends;
+  },
+  sym (counted texts i lt),
+)
 
 pub stops-at : (texts : List (List ℕ)) (i : ℕ) (text : List ℕ) (t : State) (s : Stop) → i < length texts → text ≡ get_or texts i text → Carried (take i texts) new_state t → TextStops t text s → StopsSo texts (i + 1) s
-stops-at texts i text t (stop.Bad f) lt is carried h = ends-at texts i text t (BadLine (i + 1)) lt is carried (bad-ends (i + 1) t text (drop (i + 1) texts) h)
+stops-at texts i text t (stop.Bad f) lt is carried h = (ends-at texts i text t (BadLine (i + 1)) lt is carried (bad-ends (i + 1) t text (drop (i + 1) texts) h)).0
 stops-at texts i text t (stop.Refused r) lt is carried (l, says, refuses) = ends-at texts i text t (Refused r) lt is carried (inr (l, says, line-refused (i + 1) t l (drop (i + 1) texts) r refuses))
 stops-at texts i text t stop.Memory lt is carried h = tt
 
@@ -109,17 +112,20 @@ after-finish (x ∷ before) finish after = after-finish before finish after
 what-follows : (texts : List (List ℕ)) (n : ℕ) (t : State) (r : Reached texts n t) → drop n texts ≡ r.after
 what-follows texts n t r = ap (λ m. drop m texts) r.counted ∙ ap (drop (suc (length r.before))) r.is ∙ after-finish r.before r.finish r.after
 
-finish-ends : (texts : List (List ℕ)) (n : ℕ) (t : State) (r : Reached texts n t) (o : Outcome) → LineEnds n t line.Finish (drop n texts) o → EndsSo texts o
-finish-ends texts n t r o ends = record {
-  before = r.before;
-  rest = r.finish ∷ r.after;
-  state = t;
-  is = r.is;
-  carried = r.carried;
-  ends = inr (line.Finish, r.finishes, subst (λ m. LineEnds m t line.Finish r.after o) r.counted (subst (λ a. LineEnds n t line.Finish a o) (what-follows texts n t r) ends));
-}
+finish-ends : (texts : List (List ℕ)) (n : ℕ) (t : State) (r : Reached texts n t) (o : Outcome) → LineEnds n t line.Finish (drop n texts) o → EndsAt texts n o
+finish-ends texts n t r o ends = (
+  record {
+    before = r.before;
+    rest = r.finish ∷ r.after;
+    state = t;
+    is = r.is;
+    carried = r.carried;
+    ends = inr (line.Finish, r.finishes, subst (λ m. LineEnds m t line.Finish r.after o) r.counted (subst (λ a. LineEnds n t line.Finish a o) (what-follows texts n t r) ends));
+  },
+  r.counted,
+)
 
-pub finished : (texts : List (List ℕ)) (n : ℕ) (t : State) (e : Editing) (o : Outcome) → Reached texts n t → EndIsGood t (drop n texts) → t.editing ≡ Some e → FinishGives t e o → EndsSo texts o
+pub finished : (texts : List (List ℕ)) (n : ℕ) (t : State) (e : Editing) (o : Outcome) → Reached texts n t → EndIsGood t (drop n texts) → t.editing ≡ Some e → FinishGives t e o → EndsAt texts n o
 finished texts n t e o r good editing gives =
     let after = drop n texts in
     let ends : FinishEnds n t e after o = subst (λ b. MatchBool b (FinishGives t e o) (o ≡ BadLine (suc n + position_or_len (λ line. not (is_blank line)) after))) (sym good.1) gives in
@@ -128,10 +134,10 @@ finished texts n t e o r good editing gives =
 bad-end : (texts : List (List ℕ)) (n bad : ℕ) (t : State) → Reached texts n t → IsBadEnd t (drop n texts) n bad → EndsSo texts (BadLine bad)
 bad-end texts n bad t r (inl (none, at)) =
     let after = drop n texts in
-    finish-ends texts n t r (BadLine bad) (subst (λ x. MatchOption x (BadLine bad ≡ BadLine n) (λ e. FinishEnds n t e after (BadLine bad))) (sym none) (ap BadLine at))
+    (finish-ends texts n t r (BadLine bad) (subst (λ x. MatchOption x (BadLine bad ≡ BadLine n) (λ e. FinishEnds n t e after (BadLine bad))) (sym none) (ap BadLine at))).0
 bad-end texts n bad t r (inr (some, more, at)) =
     let after = drop n texts in
-    finish-ends texts n t r (BadLine bad) (for-each t.editing some)
+    (finish-ends texts n t r (BadLine bad) (for-each t.editing some)).0
   where
     for-each : (o : Option Editing) → is_some o ≡ true → MatchOption o (BadLine bad ≡ BadLine n) (λ e. FinishEnds n t e (drop n texts) (BadLine bad))
     for-each None h = absurd (true≢false (sym h))

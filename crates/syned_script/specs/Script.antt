@@ -9,6 +9,7 @@
 --     Ends                        the same of lines, the first of which has the number; without a `finish`, it is the line after them
 --     Carried                     lines were carried out, one after the other
 --     EndsSo, Means               how lines end: those before one were carried out, and that one ends them; how a script ends
+--     EndsAt                      the same, and the line that ends them has this number
 --     StopsSo, StopsAt            lines without an edit end so, unless memory ran out; so does a script
 use Rattle.std.specs.Prelude.{◌≡◌, ◌⊎◌, ℕ, suc, ◌+◌, ◌==◌, ◌<◌, not, cond, List, [], ◌∷◌, ◌++◌, length, Option, Some, None, IfSome, MatchOption, MatchBool}
 use Rattle.std.specs.List.{slice_split, list_all, position_or_len}
@@ -101,9 +102,12 @@ pub record EndsSo (lines : List (List ℕ)) (o : Outcome) : Type 0 where
 abbrev pub Means : List ℕ → Outcome → Type 0
 Means script o = EndsSo (lines_in script) o
 
+abbrev pub EndsAt : List (List ℕ) → ℕ → Outcome → Type 0
+EndsAt lines number o = (e : EndsSo lines o) × (number ≡ suc (length e.before))
+
 abbrev pub StopsSo : List (List ℕ) → ℕ → Stop → Type 0
 StopsSo lines number (stop.Bad fault) = EndsSo lines (BadLine number)
-StopsSo lines number (stop.Refused reason) = EndsSo lines (Refused reason)
+StopsSo lines number (stop.Refused reason) = EndsAt lines number (Refused reason)
 StopsSo lines number stop.Memory = Unit {0}
 
 abbrev pub StopsAt : List ℕ → ℕ → Stop → Type 0

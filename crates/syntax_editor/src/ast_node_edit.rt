@@ -12,6 +12,7 @@ ghost use Rattle.syntax_editor.specs.TypedIndents.{indented_root, dedented_root,
 
 use crate::factory::SyntaxFactory;
 use cst_core::{AstNode, SyntaxNode, TreeIds};
+use edit_change::trial_source;
 use std::alloc::Global;
 use whitespace::{IndentError, IndentLevel, dedent, indent};
 
@@ -125,7 +126,7 @@ fn indent_along(
     ensures unchanged { OnErr result (factory.new ≡ factory.old) }
 {
     // The number is drawn last, when memory cannot be refused any more.
-    let mut drawn = ids.ahead();
+    let mut drawn = trial_source(ids);
     let new = indent(alloc, node, &mut drawn, level)?;
     match factory.map_children(alloc, node, &new) {
         Ok(()) => {

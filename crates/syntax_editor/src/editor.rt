@@ -9,6 +9,7 @@ ghost use Rattle.syntax_editor.specs.Editor.{IsEditor, has_parent, edited_root, 
 use crate::factory::SyntaxFactory;
 use change_list::ChangeList;
 use cst_core::{SyntaxElement, SyntaxNode, TreeError, TreeIds};
+use edit_change::trial_source;
 use edit_map::{SyntaxMapping, SyntaxMappingBuilder};
 use edit_plan::{Change, EditError, EditPlan, OnePassEngine, SyntaxAnnotation, SyntaxEdit};
 use std::alloc::{AllocError, Global};
@@ -63,7 +64,7 @@ impl SyntaxEditor {
             return Ok((SyntaxEditor::of_root(alloc, own), root));
         }
         // The number is drawn last, when nothing can fail any more.
-        let mut drawn = ids.ahead();
+        let mut drawn = trial_source(ids);
         let own = root.clone_subtree(alloc, &mut drawn)?;
         let edited = own.try_clone(alloc)?;
         ids.next();

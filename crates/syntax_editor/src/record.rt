@@ -11,7 +11,8 @@ ghost use Rattle.syntax_editor.specs.Editor.{Records, Takes, RecordRefuses, Memo
 use crate::editor::SyntaxEditor;
 use crate::error::RecordError;
 use cst_core::{SyntaxElement, SyntaxNode};
-use edit_plan::{Change, Element, Position, is_native, is_node, is_one_node, is_range, is_root};
+use edit_change::{is_native, is_node, is_one_node, is_range, is_root};
+use edit_plan::{Change, Element, Position};
 use std::alloc::{AllocError, Global};
 
 impl SyntaxEditor {

@@ -7,6 +7,7 @@ ghost use Rattle.syntax_editor.specs.Editor.{Records};
 use crate::editor::SyntaxEditor;
 use crate::error::RecordError;
 use cst_core::{SyntaxElement, TreeIds};
+use edit_change::trial_source;
 use edit_plan::{Element, Position};
 use std::alloc::Global;
 use whitespace::elements_with_spaces;
@@ -35,7 +36,7 @@ impl SyntaxEditor {
     {
         self.test_position(&at)?;
         // The numbers are drawn last, when nothing can fail any more.
-        let mut drawn = ids.ahead();
+        let mut drawn = trial_source(ids);
         let all = match elements_with_spaces(alloc, &mut drawn, &at, elements) {
             Ok(all) => all,
             Err(error) => return Err(RecordError::of_space(error)),

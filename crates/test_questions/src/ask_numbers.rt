@@ -8,13 +8,11 @@ use test_trees::{NoAnswer, Trees, find_named, number_of, word};
 #[derive(Clone, Copy)]
 pub enum NumberQuestion {
     Draws,
-    Ahead,
     Roots,
 }
 
-const NAMES: [(&str, NumberQuestion); 3] = [
+const NAMES: [(&str, NumberQuestion); 2] = [
     ("draws", NumberQuestion::Draws),
-    ("ahead", NumberQuestion::Ahead),
     ("roots", NumberQuestion::Roots),
 ];
 
@@ -24,7 +22,7 @@ impl NumberQuestion {
     }
 }
 
-/// `draws FIRST`, `ahead FIRST` or `roots FIRST`
+/// `draws FIRST` or `roots FIRST`
 pub fn answer(
     alloc: Global,
     trees: &Trees,
@@ -34,7 +32,6 @@ pub fn answer(
     let mut ids = TreeIds::new(number_of(first)?);
     match question {
         NumberQuestion::Draws => draws(alloc, &mut ids),
-        NumberQuestion::Ahead => draws_ahead(alloc, &mut ids),
         NumberQuestion::Roots => roots(alloc, trees, &mut ids),
     }
 }
@@ -58,13 +55,6 @@ fn draws(alloc: Global, ids: &mut TreeIds) -> Result<String, NoAnswer> {
     let second = draw(alloc, ids)?;
     let third = draw(alloc, ids)?;
     Ok(format!(in alloc; "{first}, {second}, {third}")?)
-}
-
-// Three draws from a source ahead of this one, which still gives the first of them.
-fn draws_ahead(alloc: Global, ids: &mut TreeIds) -> Result<String, NoAnswer> {
-    let ahead = draws(alloc, &mut ids.ahead())?;
-    let first = draw(alloc, ids)?;
-    Ok(format!(in alloc; "{ahead}, then {first}")?)
 }
 
 // The number of a new root, that of a copied node, and the number that comes then.

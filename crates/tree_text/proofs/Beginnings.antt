@@ -12,8 +12,7 @@ use Rattle.std.specs.List.{list_all}
 use Rattle.std.proofs.lemmas.Bool.{and_parts, false≢true}
 use Rattle.cst_core.specs.Tree.{SyntaxTree, Token, Node}
 use Rattle.tree_text.specs.Grammar.{◌⨾◌, IsGap, IsTreeText, begins_with_name_byte}
-use Rattle.tree_text.specs.KindNames.{is_name, is_name_byte}
-use Rattle.tree_text.specs.inner.NamedKinds.{AreNames}
+use Rattle.tree_text.specs.KindNames.{is_name, is_name_byte, AreNames}
 
 abbrev pub begins_tree : ℕ → Bool
 begins_tree b = b == 40 || is_name_byte b

@@ -10,8 +10,9 @@ use Rattle.cst_core.specs.Tree.{SyntaxTree}
 use Rattle.tree_text.specs.KindNames.{name_in, is_name_byte, is_name}
 use Rattle.tree_text.specs.inner.Completing.{IsFrom, IsAfter, OpenTree}
 use Rattle.tree_text.specs.inner.Gap.{is_gap}
-use Rattle.tree_text.specs.inner.Reading.{Reading, IsReading, IsLeft, IsLeftOutside, Reads, is_outside, is_nil}
+use Rattle.tree_text.specs.inner.Reading.{Reading, IsReading, IsLeft, IsLeftOutside, Reads, CannotGoOn, is_outside, is_nil, with_names}
 use Rattle.tree_text.specs.declared.reader.State.TheVariants.{Between, NodeKind, TokenKind}
+use Rattle.tree_text.proofs.AnyNames.{PlainReads, more-reading, with-any}
 use Rattle.tree_text.proofs.Beginnings.{begins_tree, both}
 use Rattle.tree_text.proofs.OpenTrees.{before-gap, past-gap, element-begins}
 use Rattle.tree_text.proofs.WholeTrees.{from-element, outermost-begins}
@@ -40,18 +41,18 @@ module _ (r : Reading) (h : IsReading r) (c : ℕ) (between : r.state ≡ Betwee
   no-word : r.word ≡ []
   no-word = word-in r Between h between
 
-  pub opens : c ≡ 40 → is_outside r c ≡ false → Reads r (encode_utf8 c) (record r { state = NodeKind })
-  opens is inside =
+  plain-opens : c ≡ 40 → is_outside r c ≡ false → PlainReads r (encode_utf8 c) (record r { state = NodeKind })
+  plain-opens is inside =
       let none = no-whole is inside in
       let bytes : encode_utf8 c ≡ 40 ∷ [] = ap encode_utf8 is ∙ encode-ascii 40 (omega arith) in
       record {
-        sound = record { names = h.names; word = subst (λ w. list_all is_name_byte w ≡ true) (sym no-word) refl; whole = none-whole (record r { state = NodeKind }) none };
+        sound = record { names = h.names; word = subst (λ w. list_all is_name_byte w ≡ true) (sym no-word) refl; inside = tt; whole = none-whole (record r { state = NodeKind }) none };
         on = λ t w left. subst (λ x. IsFrom (name_in r.given) (is_gap r.gaps) r.nodes t (40 ∷ (x ++ w))) (sym no-word) (from-between r t (40 ∷ w) between none (subst (λ b. IsLeft r t (b ++ w)) bytes left));
         back = λ t w left. subst (λ b. IsLeft r t (b ++ w)) (sym bytes) (to-between r t (40 ∷ w) between none (subst (λ x. IsFrom (name_in r.given) (is_gap r.gaps) r.nodes t (40 ∷ (x ++ w))) no-word left));
       }
 
-  pub a-gap : is_gap r.gaps c ≡ true → is_outside r c ≡ false → Reads r (encode_utf8 c) r
-  a-gap gap inside =
+  plain-gap : is_gap r.gaps c ≡ true → is_outside r c ≡ false → PlainReads r (encode_utf8 c) r
+  plain-gap gap inside =
       let small = small-where (is_gap r.gaps) (large-gaps r.gaps) c gap in
       let no_open : c ≢ 40 = λ is. false≢true (sym ((are-gaps r.gaps).begin_no_tree c gap) ∙ ap begins_tree is) in
       let open' = some-open r.nodes c r.root inside no_open in
@@ -70,8 +71,8 @@ module _ (r : Reading) (h : IsReading r) (c : ℕ) (between : r.state ≡ Betwee
             subst (λ b. IsLeft r t (b ++ w)) (sym bytes) (to-between r t (c ∷ w) between none (subst (λ ns. IsFrom (name_in r.given) (is_gap r.gaps) ns t (c ∷ w)) (sym open'.2) before));
       }
 
-  pub begins-name : is_name_byte c ≡ true → is_outside r c ≡ false → Reads r (encode_utf8 c) (record r { state = TokenKind; word = r.word ++ encode_utf8 c })
-  begins-name name inside =
+  plain-begins : is_name_byte c ≡ true → is_outside r c ≡ false → PlainReads r (encode_utf8 c) (record r { state = TokenKind; word = r.word ++ encode_utf8 c })
+  plain-begins name inside =
       let small = small-where is_name_byte large-names c name in
       let no_open : c ≢ 40 = λ is. false≢true (ap is_name_byte (sym is) ∙ name) in
       let open' = some-open r.nodes c r.root inside no_open in
@@ -82,6 +83,7 @@ module _ (r : Reading) (h : IsReading r) (c : ℕ) (between : r.state ≡ Betwee
         sound = record {
           names = h.names;
           word = subst (λ w. is_name w ≡ true) (sym (word ∙ bytes)) (both (is_name_byte c) true name refl);
+          inside = λ none-open. let both' : [] ≡ open'.0 ∷ open'.1 = sym none-open ∙ open'.2 in absurd (cc);
           whole = none-whole (record r { state = TokenKind; word = r.word ++ encode_utf8 c }) none;
         };
         on = λ t w left. subst (λ x. IsFrom (name_in r.given) (is_gap r.gaps) r.nodes t (x ++ w)) (sym word) (from-between r t (encode_utf8 c ++ w) between none left);
@@ -101,11 +103,11 @@ module _ (r : Reading) (h : IsReading r) (c : ℕ) (between : r.state ≡ Betwee
       not-forty true is = sym is
       not-forty false is = refl
 
-  pub stuck-outside : is_outside r c ≡ true → (t : SyntaxTree) (w : List ℕ) → IsLeft r t (encode_utf8 c ++ w) → ⊥
-  stuck-outside outside t w left = outside-with r.root r.nodes t w outside (in-state r Between t (encode_utf8 c ++ w) between left)
+  plain-outside : is_outside r c ≡ true → (t : SyntaxTree) (w : List ℕ) → IsLeft r t (encode_utf8 c ++ w) → ⊥
+  plain-outside outside t w left = outside-with r.root r.nodes t w outside (in-state r Between t (encode_utf8 c ++ w) between left)
 
-  pub stuck-inside : is_outside r c ≡ false → c ≢ 40 → c ≢ 41 → is_gap r.gaps c ≡ false → is_name_byte c ≡ false → (t : SyntaxTree) (w : List ℕ) → IsLeft r t (encode_utf8 c ++ w) → ⊥
-  stuck-inside inside no_open no_close no_gap no_name t w left =
+  plain-inside : is_outside r c ≡ false → c ≢ 40 → c ≢ 41 → is_gap r.gaps c ≡ false → is_name_byte c ≡ false → (t : SyntaxTree) (w : List ℕ) → IsLeft r t (encode_utf8 c ++ w) → ⊥
+  plain-inside inside no_open no_close no_gap no_name t w left =
       let open' = some-open r.nodes c r.root inside no_open in
       let none = no-root-inside r h open'.0 open'.1 open'.2 in
       let f = first-byte c in
@@ -115,3 +117,20 @@ module _ (r : Reading) (h : IsReading r) (c : ℕ) (between : r.state ≡ Betwee
       let no_tree = f.answers begins_tree large-trees (neither (c == 40) (is_name_byte c) (other c 40 no_open) no_name) in
       let element = from-element (name_in r.given) (is_gap r.gaps) h.names (are-gaps r.gaps) r.nodes t f.first (f.rest ++ w) no_gap' (λ is. false≢true (sym no_close' ∙ eq-eqb f.first 41 is)) from in
       element-begins (name_in r.given) (is_gap r.gaps) h.names (are-gaps r.gaps) (IsAfter (name_in r.given) (is_gap r.gaps) r.nodes t) f.first (f.rest ++ w) no_tree element
+
+-- ---- whatever further names kinds have
+module _ (r : Reading) (h : IsReading r) (c : ℕ) (between : r.state ≡ Between) where
+  pub opens : c ≡ 40 → is_outside r c ≡ false → Reads r (encode_utf8 c) (record r { state = NodeKind })
+  opens is inside = with-any r (encode_utf8 c) (record r { state = NodeKind }) h refl (λ more m. plain-opens (with_names more r) (more-reading r h more m) c between is inside)
+
+  pub a-gap : is_gap r.gaps c ≡ true → is_outside r c ≡ false → Reads r (encode_utf8 c) r
+  a-gap gap inside = with-any r (encode_utf8 c) r h refl (λ more m. plain-gap (with_names more r) (more-reading r h more m) c between gap inside)
+
+  pub begins-name : is_name_byte c ≡ true → is_outside r c ≡ false → Reads r (encode_utf8 c) (record r { state = TokenKind; word = r.word ++ encode_utf8 c })
+  begins-name name inside = with-any r (encode_utf8 c) (record r { state = TokenKind; word = r.word ++ encode_utf8 c }) h refl (λ more m. plain-begins (with_names more r) (more-reading r h more m) c between name inside)
+
+  pub stuck-outside : is_outside r c ≡ true → CannotGoOn r (encode_utf8 c)
+  stuck-outside outside more m = plain-outside (with_names more r) (more-reading r h more m) c between outside
+
+  pub stuck-inside : is_outside r c ≡ false → c ≢ 40 → c ≢ 41 → is_gap r.gaps c ≡ false → is_name_byte c ≡ false → CannotGoOn r (encode_utf8 c)
+  stuck-inside inside no_open no_close no_gap no_name more m = plain-inside (with_names more r) (more-reading r h more m) c between inside no_open no_close no_gap no_name

@@ -8,7 +8,8 @@ use Rattle.cst_core.specs.Tree.{SyntaxTree}
 use Rattle.tree_text.specs.KindNames.{name_in}
 use Rattle.tree_text.specs.inner.Completing.{IsAfter}
 use Rattle.tree_text.specs.inner.Gap.{is_gap}
-use Rattle.tree_text.specs.inner.Reading.{Reading, IsReading, IsLeft, IsLeftIn, IsLeftOutside, IsPartOfName}
+use Rattle.tree_text.specs.inner.Reading.{Reading, IsReading, IsLeft, IsLeftIn, IsLeftOutside, IsPartOfName, CannotEnd, with_names}
+use Rattle.tree_text.proofs.AnyNames.{more-reading}
 use Rattle.std.specs.Option.{ok_or}
 use Rattle.std.proofs.Common.{Result, Err, IfErr}
 use Rattle.tree_text.specs.Refusals.{IsRefused}
@@ -45,10 +46,13 @@ module _ (r : Reading) (h : IsReading r) where
   none-left (Text k) t none word left = token-ends (IsAfter (name_in r.given) (is_gap r.gaps) r.nodes t) k.0 r.word left
   none-left (Escape k) t none word left = escape-ends (IsAfter (name_in r.given) (is_gap r.gaps) r.nodes t) k.0 r.word left
 
-  pub unfinished : r.root ≡ None → (t : SyntaxTree) → IsLeft r t [] → ⊥
-  unfinished none t left = none-left r.state t none h.word left
+  plain-unfinished : r.root ≡ None → (t : SyntaxTree) → IsLeft r t [] → ⊥
+  plain-unfinished none t left = none-left r.state t none h.word left
+
+pub unfinished : (r : Reading) (h : IsReading r) → r.root ≡ None → CannotEnd r
+unfinished r h none more m = plain-unfinished (with_names more r) (more-reading r h more m) none
 
 -- the error where there is no tree
-pub ended : (o : Option Branch) (e : ExpressionError) (at : ℕ) (x : Expected) (r : Result Branch ExpressionError) (A : Type 0) → r ≡ ok_or o e → e ≡ Malformed at x → (o ≡ None → A) → IfErr r (IsRefused A ⊥ ⊥)
-ended (Some n) e at x r A is misses none = subst (λ y. IfErr y (IsRefused A ⊥ ⊥)) (sym is) tt
-ended None e at x r A is misses none = subst (λ y. IfErr y (IsRefused A ⊥ ⊥)) (sym (is ∙ ap Err misses)) (none refl)
+pub ended : (o : Option Branch) (e : ExpressionError) (at : ℕ) (x : Expected) (r : Result Branch ExpressionError) (A : Type 0) → r ≡ ok_or o e → e ≡ Malformed at x → (o ≡ None → A) → IfErr r (IsRefused A ⊥ ⊥ ⊥)
+ended (Some n) e at x r A is misses none = subst (λ y. IfErr y (IsRefused A ⊥ ⊥ ⊥)) (sym is) tt
+ended None e at x r A is misses none = subst (λ y. IfErr y (IsRefused A ⊥ ⊥ ⊥)) (sym (is ∙ ap Err misses)) (none refl)

@@ -1,8 +1,11 @@
+pub mod AnyNames
 pub mod Beginnings
 pub mod BetweenSteps
+pub mod Closing
 pub mod Depths
 pub mod EncodedBytes
 pub mod Finishing
+pub mod FreshKinds
 pub mod Joining
 pub mod Leaving
 pub mod NameSteps

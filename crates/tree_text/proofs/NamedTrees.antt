@@ -9,8 +9,7 @@ use Rattle.std.proofs.lemmas.Bool.{and_parts, false≢true}
 use Rattle.green_tree.proofs.Lookup.{forest-trees}
 use Rattle.cst_core.specs.Tree.{SyntaxTree, Token, Node, Forest, node, forest, trees}
 use Rattle.tree_text.specs.Grammar.{◌⨾◌, IsExactly, IsName, IsApart, IsQuoted, IsTreeText, AreElements, begins_with_name_byte}
-use Rattle.tree_text.specs.KindNames.{is_name, is_name_byte}
-use Rattle.tree_text.specs.inner.NamedKinds.{AreNames}
+use Rattle.tree_text.specs.KindNames.{is_name, is_name_byte, AreNames}
 use Rattle.tree_text.specs.inner.Completing.{Then, IsElement, IsRestOfNode, IsRestOfToken}
 use Rattle.tree_text.proofs.Joining.{then, regroup-right, regroup-left, widen, drop-exactly}
 use Rattle.tree_text.proofs.Beginnings.{name-begins, same-name}

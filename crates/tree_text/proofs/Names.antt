@@ -5,6 +5,7 @@
 --     name_of_its_own    the name of one of the 65 is its name
 --     other_name         an entry with another name
 --     in_neither         a name that is in neither list
+--     name_more, name_new, one_more_name      names where one kind more has one: the others keep theirs, it has its own, and all are names
 --     one_more_named     one more kind with a name, that had none
 --     own_names          the names that kinds have of their own
 use Rattle.std.proofs.Common.{◌≡◌, ◌≢◌, ◌⊎◌, inl, inr, refl, not, ◌&&◌, ◌||◌, ℕ, zero, suc, ◌+◌, ◌<◌, ◌≤◌, Bool, true, false, List, [], ◌∷◌, ◌++◌, length, get_or, drop, map, cond, Option, None, Some, sym, ap, ◌∙◌, subst, add-one, drop-cons, nat_eq, string_bytes, if◌then◌else◌, arith}
@@ -21,8 +22,8 @@ use Rattle.std.specs.List.{list_all, list_any}
 use Rattle.std.proofs.lemmas.Bool.{and_parts, eqb-true}
 use Rattle.std.proofs.lemmas.Slice.Eq.{bytes_eq-Decides}
 use Rattle.cst_core.specs.Kind.{kind_names, name_of}
-use Rattle.tree_text.specs.KindNames.{KindName, is_name, name_in}
-use Rattle.tree_text.specs.inner.NamedKinds.{AreNamed, AreNames}
+use Rattle.tree_text.specs.KindNames.{KindName, is_name, name_in, AreNames}
+use Rattle.tree_text.specs.inner.NamedKinds.{AreNamed}
 use Rattle.tree_text.specs.declared.kind_names.GivenName.{GivenName}
 
 abbrev pub entry : GivenName → KindName
@@ -73,7 +74,7 @@ kept_by : (o l m : Option (List ℕ)) (n : List ℕ) → (l ≡ Some n → m ≡
 kept_by None l m n on is = on is
 kept_by (Some x) l m n on is = is
 
-name_more : (k : ℕ) (given : List KindName) (e : KindName) (n : List ℕ) → name_in given k ≡ Some n → name_in (given ++ e ∷ []) k ≡ Some n
+pub name_more : (k : ℕ) (given : List KindName) (e : KindName) (n : List ℕ) → name_in given k ≡ Some n → name_in (given ++ e ∷ []) k ≡ Some n
 name_more k given e n is = kept_by (name_of k) (lookup (nat_eq k) given) (lookup (nat_eq k) (given ++ e ∷ [])) n (lookup_more k given e n) is
 
 pub apart : true ≡ false → ⊥
@@ -90,7 +91,7 @@ fresh : (o l m : Option (List ℕ)) (n : List ℕ) → (l ≡ None → m ≡ Som
 fresh None l m n new none = new none
 fresh (Some x) l m n new none = absurd (cc)
 
-name_new : (k : ℕ) (n : List ℕ) (given : List KindName) → name_in given k ≡ None → name_in (given ++ (k, n) ∷ []) k ≡ Some n
+pub name_new : (k : ℕ) (n : List ℕ) (given : List KindName) → name_in given k ≡ None → name_in (given ++ (k, n) ∷ []) k ≡ Some n
 name_new k n given none = fresh (name_of k) (lookup (nat_eq k) given) (lookup (nat_eq k) (given ++ (k, n) ∷ [])) n (lookup_new k n given) none
 
 -- where one more kind has a name, each name is an old one or the new one
@@ -112,7 +113,7 @@ after_by (Some x) l m n P after is = inl is
 name_after : (k : ℕ) (given : List KindName) (e : KindName) (n : List ℕ) → name_in (given ++ e ∷ []) k ≡ Some n → (name_in given k ≡ Some n) ⊎ ((k ≡ e.0) × (n ≡ e.1))
 name_after k given e n is = after_by (name_of k) (lookup (nat_eq k) given) (lookup (nat_eq k) (given ++ e ∷ [])) n _ (lookup_after k given e n) is
 
-one_more_name : (given : List KindName) (e : KindName) → AreNames (name_in given) → is_name e.1 ≡ true → ((k : ℕ) → name_in given k ≢ Some e.1) → AreNames (name_in (given ++ e ∷ []))
+pub one_more_name : (given : List KindName) (e : KindName) → AreNames (name_in given) → is_name e.1 ≡ true → ((k : ℕ) → name_in given k ≢ Some e.1) → AreNames (name_in (given ++ e ∷ []))
 one_more_name given e names spelled free = record {
   spelled = λ k n is. elim (name_after k given e n is) [
     | inl old ↦ names.spelled k n old

@@ -1,7 +1,9 @@
 -- A text is an expression of one tree.
 --     past-text           behind a quoted text
 --     past-tree           behind what is written for a tree, as behind what is written for any
+--     same-tree           a tree with an expression with which another tree's begins
 --     one-tree            two trees with the same expression
+use Rattle.tree_text.specs.KindNames.{AreNames}
 use Rattle.std.proofs.Common.{◌≡◌, ℕ, Bool, true, not, List, [], ◌∷◌, ◌++◌, Option, Some, refl, sym, ap, ◌∙◌, append_assoc, append-nil, subst, inl, inr}
 use Rattle.std.specs.Prelude.{codes}
 use Rattle.std.specs.List.{list_all}
@@ -10,7 +12,6 @@ use Rattle.green_tree.proofs.Lookup.{forest-trees}
 use Rattle.cst_core.specs.Tree.{SyntaxTree, Token, Node, Forest, end, more, node, trees}
 use Rattle.tree_text.specs.Grammar.{IsGap, IsQuoted, IsTreeText, AreElements, IsExpression}
 use Rattle.tree_text.specs.inner.Completing.{Then, IsElement, IsRestOfNode, IsRestOfToken, IsAfter}
-use Rattle.tree_text.specs.inner.NamedKinds.{AreNames}
 use Rattle.tree_text.proofs.Joining.{drop-exactly}
 use Rattle.tree_text.proofs.Beginnings.{AreGaps, both, tree-begins}
 use Rattle.tree_text.proofs.OpenTrees.{past-gap, past-close, past-element}
@@ -82,6 +83,9 @@ module _ (names : ℕ → Option (List ℕ)) (gaps : ℕ → Bool) (known : AreN
         let gone = past-gaps Rest k ts elements.first (e.first ++ after) elements.is_first (subst (IsRestOfNode names gaps Rest k ts) split h) in
         let one = past-tree t (λ u. IsRestOfNode names gaps Rest k (ts ++ u ∷ [])) e.first after e.is_first (at-tree Rest k ts t e.first after e.is_first gone) in
         subst (λ l. Rest (node k l) w) (append_assoc ts (t ∷ []) (trees f)) (past-elements f Rest k (ts ++ t ∷ []) e.second w e.is_second one)
+
+  pub same-tree : (t u : SyntaxTree) (w x : List ℕ) → IsExpression names gaps t w → IsExpression names gaps u (w ++ x) → t ≡ u
+  same-tree t u w x it other = (past-tree t (IsAfter names gaps [] u) w x it.1 (from-expression names gaps u (w ++ x) other)).1
 
   pub one-tree : (t u : SyntaxTree) (w : List ℕ) → IsExpression names gaps t w → IsExpression names gaps u w → t ≡ u
   one-tree t u w it other =

@@ -4,12 +4,12 @@
 --     at-close, past-close                the parenthesis that closes a node
 --     first-element, at-element           the next element, and then the others
 --     element-begins                      what may begin there
+use Rattle.tree_text.specs.KindNames.{AreNames}
 use Rattle.std.proofs.Common.{◌≡◌, ◌≢◌, ◌⊎◌, ℕ, Bool, true, false, List, [], ◌∷◌, ◌++◌, Option, refl, sym, ap, ◌∙◌, append_assoc, append-nil, subst, inl, inr}
 use Rattle.std.specs.Prelude.{codes}
 use Rattle.std.proofs.lemmas.Bool.{false≢true}
 use Rattle.cst_core.specs.Tree.{SyntaxTree, Forest, end, more, node, forest}
 use Rattle.tree_text.specs.Grammar.{◌⨾◌, IsExactly, IsGap, IsTreeText, AreElements}
-use Rattle.tree_text.specs.inner.NamedKinds.{AreNames}
 use Rattle.tree_text.specs.inner.Completing.{Then, IsElement, IsRestOfNode}
 use Rattle.tree_text.proofs.Joining.{then, regroup-right, regroup-left, widen, drop-exactly}
 use Rattle.tree_text.proofs.Beginnings.{AreGaps, begins_tree, tree-begins, gap-or-after, gap-more, both}

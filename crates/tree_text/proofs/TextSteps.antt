@@ -11,15 +11,16 @@ use Rattle.std.proofs.lemmas.Bool.{false≢true}
 use Rattle.cst_core.specs.Green.{Branch, branch_tree, IsTooLong}
 use Rattle.cst_core.specs.Tree.{SyntaxTree, Token, node, text}
 use Rattle.green_tree.specs.declared.kind.SyntaxKind.{SyntaxKind}
-use Rattle.tree_text.specs.Depth.{depth}
+use Rattle.tree_text.specs.Depth.{depth, depth_limit}
 use Rattle.tree_text.specs.KindNames.{name_in}
 use Rattle.tree_text.specs.inner.Completing.{IsFrom, IsAfter, IsRestOfToken, OpenTree}
 use Rattle.tree_text.specs.inner.Gap.{is_gap}
 use Rattle.tree_text.specs.inner.Meant.{meant}
 use Rattle.tree_text.specs.inner.OpenTrees.{HasPut, IsInnermostLong}
-use Rattle.tree_text.specs.inner.Reading.{Reading, IsReading, IsWhole, IsLeft, IsPartOfName, Reads, is_outside, is_nil}
-use Rattle.tree_text.specs.declared.open_nodes.TheConstants.{DEPTH_LIMIT}
+use Rattle.tree_text.specs.inner.Reading.{Reading, IsReading, IsInside, IsWhole, IsLeft, IsPartOfName, Reads, CannotGoOn, GoesOnAs, is_outside, is_nil, with_names}
 use Rattle.tree_text.specs.declared.reader.State.TheVariants.{Between, Text, Escape}
+use Rattle.tree_text.proofs.AnyNames.{PlainReads, more-reading, with-any}
+use Rattle.tree_text.proofs.Closing.{close-in, close-all}
 use Rattle.tree_text.proofs.OpenTrees.{before-close, past-close}
 use Rattle.tree_text.proofs.QuotedTexts.{past-quote, before-quote, past-plain, before-plain, past-escape, before-escape}
 use Rattle.tree_text.proofs.WholeTrees.{after-length}
@@ -79,24 +80,23 @@ module _ (r : Reading) (h : IsReading r) where
     root-none : r.root ≡ None
     root-none = no-root r h (λ is. apart-text k (sym state ∙ is))
 
-    pub text-run : (bs : List ℕ) → list_all (λ b. not (b == 34 || b == 92)) bs ≡ true → Reads r bs (record r { word = r.word ++ bs })
-    text-run bs plain =
+    plain-run : (bs : List ℕ) → list_all (λ b. not (b == 34 || b == 92)) bs ≡ true → PlainReads r bs (record r { word = r.word ++ bs })
+    plain-run bs plain =
         let new : Reading = record r { word = r.word ++ bs } in
         record {
-          sound = record { names = h.names; word = subst (λ s. IsPartOfName s (r.word ++ bs)) (sym state) tt; whole = none-whole new root-none };
+          sound = record { names = h.names; word = subst (λ s. IsPartOfName s (r.word ++ bs)) (sym state) tt; inside = h.inside; whole = none-whole new root-none };
           on = λ t w left. back-in-state new (Text k) t w state (past-plain (After r.nodes t) k.0 r.word bs w plain (in-state r (Text k) t (bs ++ w) state left));
           back = λ t w left. back-in-state r (Text k) t (bs ++ w) state (before-plain (After r.nodes t) k.0 r.word bs w plain (in-state new (Text k) t w state left));
         }
 
-    pub text-more : (c : ℕ) → c ≢ 34 → c ≢ 92 → Reads r (encode_utf8 c) (record r { word = r.word ++ encode_utf8 c })
-    text-more c no_quote no_escape =
-        text-run (encode_utf8 c) (plain-bytes c (neither (c == 34) (c == 92) (other c 34 no_quote) (other c 92 no_escape)))
+    in-node : r.nodes ≢ []
+    in-node = subst (λ s. IsInside s r.nodes) state h.inside
 
-    pub begins-escape : (c : ℕ) → c ≡ 92 → Reads r (encode_utf8 c) (record r { state = Escape k })
-    begins-escape c is =
+    plain-escape : (c : ℕ) → c ≡ 92 → PlainReads r (encode_utf8 c) (record r { state = Escape k })
+    plain-escape c is =
         let bytes : encode_utf8 c ≡ 92 ∷ [] = ap encode_utf8 is ∙ encode-ascii 92 (omega arith) in
         record {
-          sound = record { names = h.names; word = tt; whole = none-whole (record r { state = Escape k }) root-none };
+          sound = record { names = h.names; word = tt; inside = in-node; whole = none-whole (record r { state = Escape k }) root-none };
           on = λ t w left. subst (λ b. Rest k r.word t (b ++ w)) bytes (in-state r (Text k) t (encode_utf8 c ++ w) state left);
           back = λ t w left. back-in-state r (Text k) t (encode_utf8 c ++ w) state (subst (λ b. Rest k r.word t (b ++ w)) (sym bytes) left);
         }
@@ -107,22 +107,22 @@ module _ (r : Reading) (h : IsReading r) where
     behind-token : (t : SyntaxTree) (w : List ℕ) → IsLeft r t (encode_utf8 34 ++ w) → After r.nodes t (Token k.0 r.word) w
     behind-token t w left = past-quote (After r.nodes t) k.0 r.word w (subst (λ b. Rest k r.word t (b ++ w)) quote-there (in-state r (Text k) t (encode_utf8 34 ++ w) state left))
 
-    pub token-long : IsTooLong r.word → (t : SyntaxTree) (w : List ℕ) → IsLeft r t (encode_utf8 34 ++ w) → IsTooLong (text t)
-    token-long long t w left =
+    plain-long : IsTooLong r.word → (t : SyntaxTree) (w : List ℕ) → IsLeft r t (encode_utf8 34 ++ w) → IsTooLong (text t)
+    plain-long long t w left =
         let shorter = after-length (name_in r.given) (is_gap r.gaps) r.nodes t (Token k.0 r.word) w (behind-token t w left) in
         omega arith
 
     nowhere : (ns : List OpenTree) (t : SyntaxTree) (w : List ℕ) → ns ≡ [] → After ns t (Token k.0 r.word) w → ⊥
     nowhere ns t w none after = false≢true (sym (subst (λ l. After l t (Token k.0 r.word) w) none after).0)
 
-    pub token-nowhere : r.nodes ≡ [] → (t : SyntaxTree) (w : List ℕ) → IsLeft r t (encode_utf8 34 ++ w) → ⊥
-    token-nowhere none t w left = nowhere r.nodes t w none (behind-token t w left)
+    plain-nowhere : r.nodes ≡ [] → (t : SyntaxTree) (w : List ℕ) → IsLeft r t (encode_utf8 34 ++ w) → ⊥
+    plain-nowhere none t w left = nowhere r.nodes t w none (behind-token t w left)
 
-    pub ends-token : (new : List OpenTree) → HasPut (Token k.0 r.word) r.nodes new → Reads r (encode_utf8 34) (record r { nodes = new; state = Between; word = [] })
-    ends-token new put =
+    plain-token : (new : List OpenTree) → HasPut (Token k.0 r.word) r.nodes new → PlainReads r (encode_utf8 34) (record r { nodes = new; state = Between; word = [] })
+    plain-token new put =
         let after : Reading = record r { nodes = new; state = Between; word = [] } in
         record {
-          sound = record { names = h.names; word = refl; whole = none-whole after root-none };
+          sound = record { names = h.names; word = refl; inside = tt; whole = none-whole after root-none };
           on = λ t w left. to-between after t w refl root-none (put-into r.nodes new (Token k.0 r.word) t w put (behind-token t w left));
           back = λ t w left.
               let token = taken-from r.nodes new (Token k.0 r.word) t w put (from-between after t w refl root-none left) in
@@ -136,13 +136,13 @@ module _ (r : Reading) (h : IsReading r) where
     escaped-there : (c : ℕ) (t : SyntaxTree) (w : List ℕ) → IsLeft r t (encode_utf8 c ++ w) → Rest k r.word t (92 ∷ (encode_utf8 c ++ w))
     escaped-there c t w left = in-state r (Escape k) t (encode_utf8 c ++ w) state left
 
-    pub ends-escape : (c m : ℕ) → meant c ≡ Some m → Reads r (encode_utf8 c) (record r { state = Text k; word = r.word ++ encode_utf8 m })
-    ends-escape c m is =
+    plain-letter : (c m : ℕ) → meant c ≡ Some m → PlainReads r (encode_utf8 c) (record r { state = Text k; word = r.word ++ encode_utf8 m })
+    plain-letter c m is =
         let bytes = encode-ascii c (letter-ascii c m is) in
         let bytes' = encode-ascii m (meant-ascii c m is) in
         let after : Reading = record r { state = Text k; word = r.word ++ encode_utf8 m } in
         record {
-          sound = record { names = h.names; word = tt; whole = none-whole after root-none'' };
+          sound = record { names = h.names; word = tt; inside = subst (λ s. IsInside s r.nodes) state h.inside; whole = none-whole after root-none'' };
           on = λ t w left.
               let past = past-escape (After r.nodes t) k.0 r.word c w (subst (λ b. Rest k r.word t (92 ∷ (b ++ w))) bytes (escaped-there c t w left)) in
               let same : past.0 ≡ m = let both' : Some past.0 ≡ Some m = sym past.1 ∙ is in cc in
@@ -153,8 +153,8 @@ module _ (r : Reading) (h : IsReading r) where
         }
 
     -- a byte that is no letter of an escape
-    pub no-escape : (c : ℕ) → meant c ≡ None → (t : SyntaxTree) (w : List ℕ) → IsLeft r t (encode_utf8 c ++ w) → ⊥
-    no-escape c none t w left =
+    plain-no-escape : (c : ℕ) → meant c ≡ None → (t : SyntaxTree) (w : List ℕ) → IsLeft r t (encode_utf8 c ++ w) → ⊥
+    plain-no-escape c none t w left =
         let f = first-byte c in
         let past = past-escape (After r.nodes t) k.0 r.word f.first (f.rest ++ w) (subst (λ b. Rest k r.word t (92 ∷ (b ++ w))) f.is (escaped-there c t w left)) in
         let nothing = f.answers (λ x. is_some (meant x)) large-meant (ap is_some none) in
@@ -183,8 +183,8 @@ module _ (r : Reading) (h : IsReading r) where
         let shorter = after-length (name_in r.given) (is_gap r.gaps) outer t (node n.0 n.1) w (behind-node n outer is t w left) in
         omega arith
 
-    pub node-long : IsInnermostLong r.nodes → (t : SyntaxTree) (w : List ℕ) → IsLeft r t (encode_utf8 41 ++ w) → IsTooLong (text t)
-    node-long long t w left = long-at r.nodes refl long t w left
+    plain-node-long : IsInnermostLong r.nodes → (t : SyntaxTree) (w : List ℕ) → IsLeft r t (encode_utf8 41 ++ w) → IsTooLong (text t)
+    plain-node-long long t w left = long-at r.nodes refl long t w left
 
     no-node : (o : Option Branch) (ns : List OpenTree) → (is_nil ns && (not (41 == 40) || is_some o)) ≡ false → ns ≢ []
     no-node o [] inside' is = absurd (false≢true (sym inside'))
@@ -193,24 +193,24 @@ module _ (r : Reading) (h : IsReading r) where
     pub node-there : r.nodes ≢ []
     node-there = no-node r.root r.nodes inside
 
-    pub ends-node : (n : Branch) (outer new : List OpenTree) → r.nodes ≡ (n.kind, n.children) ∷ outer → HasPut (branch_tree n) outer new → Reads r (encode_utf8 41) (record r { nodes = new })
-    ends-node n outer new is put =
+    plain-node : (n : Branch) (outer new : List OpenTree) → r.nodes ≡ (n.kind, n.children) ∷ outer → HasPut (branch_tree n) outer new → PlainReads r (encode_utf8 41) (record r { nodes = new })
+    plain-node n outer new is put =
         let after : Reading = record r { nodes = new } in
         let none = some-node (n.kind, n.children) outer is in
         record {
-          sound = record { names = h.names; word = h.word; whole = none-whole after none };
+          sound = record { names = h.names; word = h.word; inside = subst (λ s. IsInside s new) (sym state) tt; whole = none-whole after none };
           on = λ t w left. to-between after t w state none (put-into outer new (branch_tree n) t w put (behind-node (n.kind, n.children) outer is t w left));
           back = λ t w left. before-node (n.kind, n.children) outer is t w (taken-from outer new (branch_tree n) t w put (from-between after t w state none left));
         }
 
-    pub ends-tree : (n : Branch) (outer : List OpenTree) → r.nodes ≡ (n.kind, n.children) ∷ outer → outer ≡ [] → depth (branch_tree n) ≤ DEPTH_LIMIT → Reads r (encode_utf8 41) (record r { nodes = outer; root = Some n })
-    ends-tree n outer is none limited =
+    plain-tree : (n : Branch) (outer : List OpenTree) → r.nodes ≡ (n.kind, n.children) ∷ outer → outer ≡ [] → depth (branch_tree n) ≤ depth_limit → PlainReads r (encode_utf8 41) (record r { nodes = outer; root = Some n })
+    plain-tree n outer is none limited =
         let after : Reading = record r { nodes = outer; root = Some n } in
         let whole : (m : Branch) → Some n ≡ Some m → IsWhole after m = λ m same.
         let it : n ≡ m = cc in
-        record { limited = subst (λ x. depth (branch_tree x) ≤ DEPTH_LIMIT) it limited; between = state; closed = none } in
+        record { limited = subst (λ x. depth (branch_tree x) ≤ depth_limit) it limited; between = state; closed = none } in
         record {
-          sound = record { names = h.names; word = h.word; whole = whole };
+          sound = record { names = h.names; word = h.word; inside = subst (λ s. IsInside s outer) (sym state) tt; whole = whole };
           on = λ t w left.
               let behind = subst (λ l. After l t (branch_tree n) w) none (behind-node (n.kind, n.children) outer is t w left) in
               back-in-state after Between t w state (behind.1, behind.2);
@@ -218,3 +218,53 @@ module _ (r : Reading) (h : IsReading r) where
               let l = in-state after Between t w state left in
               before-node (n.kind, n.children) outer is t w (subst (λ ns. After ns t (branch_tree n) w) (sym none) (refl, l.0, l.1));
         }
+
+-- ---- whatever further names kinds have
+module _ (r : Reading) (h : IsReading r) where
+  module _ (k : SyntaxKind) (state : r.state ≡ Text k) where
+    pub text-run : (bs : List ℕ) → list_all (λ b. not (b == 34 || b == 92)) bs ≡ true → Reads r bs (record r { word = r.word ++ bs })
+    text-run bs plain = with-any r bs (record r { word = r.word ++ bs }) h refl (λ more m. plain-run (with_names more r) (more-reading r h more m) k state bs plain)
+
+    pub text-more : (c : ℕ) → c ≢ 34 → c ≢ 92 → Reads r (encode_utf8 c) (record r { word = r.word ++ encode_utf8 c })
+    text-more c no_quote no_escape =
+        text-run (encode_utf8 c) (plain-bytes c (neither (c == 34) (c == 92) (other c 34 no_quote) (other c 92 no_escape)))
+
+    pub begins-escape : (c : ℕ) → c ≡ 92 → Reads r (encode_utf8 c) (record r { state = Escape k })
+    begins-escape c is = with-any r (encode_utf8 c) (record r { state = Escape k }) h refl (λ more m. plain-escape (with_names more r) (more-reading r h more m) k state c is)
+
+    pub ends-token : (new : List OpenTree) → HasPut (Token k.0 r.word) r.nodes new → Reads r (encode_utf8 34) (record r { nodes = new; state = Between; word = [] })
+    ends-token new put = with-any r (encode_utf8 34) (record r { nodes = new; state = Between; word = [] }) h refl (λ more m. plain-token (with_names more r) (more-reading r h more m) k state new put)
+
+    pub token-nowhere : r.nodes ≡ [] → CannotGoOn r (encode_utf8 34)
+    token-nowhere none more m = plain-nowhere (with_names more r) (more-reading r h more m) k state none
+
+    pub token-long : IsTooLong r.word → GoesOnAs r (encode_utf8 34) (λ t. IsTooLong (text t))
+    token-long long =
+        let closed = close-in (name_in r.given) (is_gap r.gaps) r.nodes (in-node r h k state) (Token k.0 r.word) in
+        record {
+          goes = (closed.0, closed.1, back-in-state r (Text k) closed.0 (encode_utf8 34 ++ closed.1) state (subst (λ b. IsRestOfToken (IsAfter (name_in r.given) (is_gap r.gaps) r.nodes closed.0) k.0 r.word (b ++ closed.1)) (sym (quote-there r h k state)) (before-quote (IsAfter (name_in r.given) (is_gap r.gaps) r.nodes closed.0) k.0 r.word closed.1 closed.3)));
+          only = plain-long r h k state long;
+        }
+
+  module _ (k : SyntaxKind) (state : r.state ≡ Escape k) where
+    pub ends-escape : (c m : ℕ) → meant c ≡ Some m → Reads r (encode_utf8 c) (record r { state = Text k; word = r.word ++ encode_utf8 m })
+    ends-escape c x is = with-any r (encode_utf8 c) (record r { state = Text k; word = r.word ++ encode_utf8 x }) h refl (λ more m. plain-letter (with_names more r) (more-reading r h more m) k state c x is)
+
+    pub no-escape : (c : ℕ) → meant c ≡ None → CannotGoOn r (encode_utf8 c)
+    no-escape c none more m = plain-no-escape (with_names more r) (more-reading r h more m) k state c none
+
+  module _ (state : r.state ≡ Between) (inside : is_outside r 41 ≡ false) where
+    long-close : (ns : List OpenTree) → r.nodes ≡ ns → ns ≢ [] → (t : SyntaxTree) × (w : List ℕ) × IsLeft r t (encode_utf8 41 ++ w)
+    long-close [] is some = absurd (some refl)
+    long-close (n ∷ outer) is some =
+        let closed = close-all (name_in r.given) (is_gap r.gaps) outer (node n.0 n.1) refl in
+        (closed.0, closed.1, before-node r h state inside n outer is closed.0 closed.1 closed.3)
+
+    pub node-long : IsInnermostLong r.nodes → GoesOnAs r (encode_utf8 41) (λ t. IsTooLong (text t))
+    node-long long = record { goes = long-close r.nodes refl (node-there r h state inside); only = plain-node-long r h state inside long }
+
+    pub ends-node : (n : Branch) (outer new : List OpenTree) → r.nodes ≡ (n.kind, n.children) ∷ outer → HasPut (branch_tree n) outer new → Reads r (encode_utf8 41) (record r { nodes = new })
+    ends-node n outer new is put = with-any r (encode_utf8 41) (record r { nodes = new }) h refl (λ more m. plain-node (with_names more r) (more-reading r h more m) state inside n outer new is put)
+
+    pub ends-tree : (n : Branch) (outer : List OpenTree) → r.nodes ≡ (n.kind, n.children) ∷ outer → outer ≡ [] → depth (branch_tree n) ≤ depth_limit → Reads r (encode_utf8 41) (record r { nodes = outer; root = Some n })
+    ends-tree n outer is none limited = with-any r (encode_utf8 41) (record r { nodes = outer; root = Some n }) h refl (λ more m. plain-tree (with_names more r) (more-reading r h more m) state inside n outer is none limited)

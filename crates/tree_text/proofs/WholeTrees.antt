@@ -2,20 +2,20 @@
 --     after-depth, after-length        a tree in open nodes against the whole tree: how deep it is, and how long its text
 --     from-element, element-from       an element comes next
 --     opened, open-before              a node is opened, behind its kind
+--     open-depth                       how deep the whole tree is, where a node is opened
 --     named, name-before               a token's kind was read
 --     no-gap, no-close                 with what begins a tree neither a gap begins nor a node ends
 --     outermost-begins                 before the outermost node its parenthesis comes
 --     unended                          something is left
 --     as-expression, from-expression         before the outermost node
-use Rattle.std.proofs.Common.{◌≡◌, ◌≢◌, ℕ, ◌+◌, ◌≤◌, Bool, true, false, eqb, List, [], ◌∷◌, ◌++◌, Option, Some, length, length-append, refl, sym, ap, ◌∙◌, append-nil, subst, inl, inr, arith}
+use Rattle.std.proofs.Common.{◌≡◌, ◌≢◌, ℕ, suc, ◌+◌, ◌≤◌, append_assoc, Bool, true, false, eqb, List, [], ◌∷◌, ◌++◌, Option, Some, length, length-append, refl, sym, ap, ◌∙◌, append-nil, subst, inl, inr, arith}
 use Rattle.std.specs.Prelude.{codes}
 use Rattle.std.specs.List.{list_all}
 use Rattle.std.proofs.lemmas.Bool.{false≢true, cases_Bool}
 use Rattle.cst_core.specs.Tree.{SyntaxTree, Token, Node, node, forest, text, forest_text}
 use Rattle.tree_text.specs.Depth.{depth, forest_depth}
 use Rattle.tree_text.specs.Grammar.{◌⨾◌, IsExactly, IsExpression, IsTreeText, begins_with_name_byte}
-use Rattle.tree_text.specs.KindNames.{is_name, is_name_byte}
-use Rattle.tree_text.specs.inner.NamedKinds.{AreNames}
+use Rattle.tree_text.specs.KindNames.{is_name, is_name_byte, AreNames}
 use Rattle.tree_text.specs.inner.Completing.{OpenTree, Then, IsElement, IsRestOfToken, IsAfter, IsFrom}
 use Rattle.tree_text.proofs.Beginnings.{AreGaps, begins_tree, name-begins, or-right, tree-begins}
 use Rattle.tree_text.proofs.OpenTrees.{before-element, past-element}
@@ -75,6 +75,21 @@ module _ (names : ℕ → Option (List ℕ)) (gaps : ℕ → Bool) (known : AreN
 
   pub opened : (ns : List OpenTree) (t : SyntaxTree) (n w : List ℕ) → list_all is_name_byte n ≡ true → begins_with_name_byte w ≡ false → IsFrom names gaps ns t (40 ∷ (n ++ w)) → (k : ℕ) × (names k ≡ Some n) × IsFrom names gaps ((k, []) ∷ ns) t w
   opened ns t n w all ends h = past-node names gaps known (IsAfter names gaps ns t) n w all ends (from-element ns t 40 (n ++ w) (no-gap 40 refl) (no-close 40 refl) h)
+
+  opened-depth : (u : SyntaxTree) (c : ℕ) (w : List ℕ) {Q : List ℕ → Type 0} → (IsTreeText names gaps u ⨾ Q) (c ∷ w) → c ≡ 40 → 1 ≤ depth u
+  opened-depth (Node k f) c w h is = omega arith
+  opened-depth (Token k s) c w h is =
+      let b = name-begins h.is_first.first (known.spelled k h.is_first.first h.is_first.is_first) in
+      let first : c ∷ w ≡ b.0 ∷ (b.1 ++ (h.is_first.second ++ h.second)) = h.joined ∙ ap (λ x. x ++ h.second) (h.is_first.joined ∙ ap (λ x. x ++ h.is_first.second) b.2) ∙ ap (λ x. b.0 ∷ x) (append_assoc b.1 h.is_first.second h.second) in
+      let same : c ≡ b.0 = cc in
+      absurd (false≢true (ap is_name_byte (sym is ∙ same) ∙ b.3))
+
+  pub open-depth : (ns : List OpenTree) (t : SyntaxTree) (w : List ℕ) → IsFrom names gaps ns t (40 ∷ w) → suc (length ns) ≤ depth t
+  open-depth ns t w h =
+      let element = from-element ns t 40 w (no-gap 40 refl) (no-close 40 refl) h in
+      let below = opened-depth element.0 40 w element.1 refl in
+      let deep = after-depth names gaps ns t element.0 element.1.second element.1.is_second in
+      omega arith
 
   pub open-before : (ns : List OpenTree) (t : SyntaxTree) (k : ℕ) (n w : List ℕ) → names k ≡ Some n → begins_with_name_byte w ≡ false → IsFrom names gaps ((k, []) ∷ ns) t w → IsFrom names gaps ns t (40 ∷ (n ++ w))
   open-before ns t k n w is ends h = element-from ns t (40 ∷ (n ++ w)) (before-node names gaps known (IsAfter names gaps ns t) k n w is ends h)

@@ -1,5 +1,6 @@
 -- How deep trees are.
 --     depth, forest_depth    how many nodes are nested in each other at most, 0 for a token; in trees side by side
+--     depth_limit            how many may be, where a tree expression is read
 use Rattle.std.specs.Prelude.{ℕ, suc, max}
 use Rattle.cst_core.specs.Tree.{Tree, Token, Node, Forest, end, more}
 
@@ -11,3 +12,6 @@ abbrev mutual
   pub forest_depth : {L : Type 0} → Forest L → ℕ
   forest_depth end = 0
   forest_depth (more t f) = max (depth t) (forest_depth f)
+
+abbrev pub depth_limit : ℕ
+depth_limit = 200

@@ -2,9 +2,11 @@
 --     KindName           a kind by its number, and the name that it is given
 --     name_in            the name of a kind: its own, or else the one that it is given
 --     text_in            that name, or how a kind without one is shown
+--     IsTaken            a kind has this name
 --     is_name_byte       an ASCII letter, a digit or an underscore
 --     is_name            a text is spelled as a name of a kind: of these alone, and not empty
-use Rattle.std.specs.Prelude.{ℕ, Bool, not, ◌&&◌, ◌||◌, ◌==◌, List, Option, unwrap_or, nat_eq, length}
+--     AreNames           each is spelled so, and no two kinds have the same
+use Rattle.std.specs.Prelude.{◌≡◌, ℕ, Bool, true, not, ◌&&◌, ◌||◌, ◌==◌, List, Option, Some, unwrap_or, nat_eq, length}
 use Rattle.std.specs.List.{list_all}
 use Rattle.std.specs.Char.{is_ascii_alphanumeric}
 use Rattle.std.specs.Map.{lookup}
@@ -20,8 +22,15 @@ name_in given k = option_or (name_of k) (lookup (nat_eq k) given)
 abbrev pub text_in : List KindName → ℕ → List ℕ
 text_in given k = unwrap_or (name_in given k) (kind_text k)
 
+abbrev pub IsTaken : List KindName → List ℕ → Type 0
+IsTaken given name = (k : ℕ) × (name_in given k ≡ Some name)
+
 abbrev pub is_name_byte : ℕ → Bool
 is_name_byte b = is_ascii_alphanumeric b || b == 95
 
 abbrev pub is_name : List ℕ → Bool
 is_name s = not (length s == 0) && list_all is_name_byte s
+
+pub record AreNames (names : ℕ → Option (List ℕ)) : Type 0 where
+  pub spelled : (k : ℕ) (n : List ℕ) → names k ≡ Some n → is_name n ≡ true
+  pub unique : (j k : ℕ) (n : List ℕ) → names j ≡ Some n → names k ≡ Some n → j ≡ k

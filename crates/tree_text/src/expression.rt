@@ -1,13 +1,12 @@
 ghost use Rattle.std.specs.Prelude.{◌≡◌, ◌≤◌, [], false, IfErr, IfOk, None};
 ghost use Rattle.cst_core.specs.Green.{branch_tree};
 ghost use Rattle.cst_core.specs.Tree.{SyntaxTree, is_token};
-ghost use Rattle.tree_text.specs.Depth.{depth};
+ghost use Rattle.tree_text.specs.Depth.{depth, depth_limit};
 ghost use Rattle.tree_text.specs.Grammar.{IsExpression, is_gap_blank, is_gap_space};
 ghost use Rattle.tree_text.specs.KindNames.{name_in};
 ghost use Rattle.tree_text.specs.Refusals.{ReadRefuses};
 ghost use Rattle.tree_text.specs.TreeText.{expression_of, unnamed_in};
 ghost use Rattle.tree_text.specs.inner.Gap.{is_gap};
-ghost use Rattle.tree_text.specs.declared.open_nodes.TheConstants.{DEPTH_LIMIT};
 
 use crate::error::ExpressionError;
 use crate::gaps::Gaps;
@@ -28,13 +27,13 @@ use std::alloc::Global;
 ///
 /// The time is linear in the expression's length, and nested nodes take no stack.
 pub fn read_tree(alloc: Global, expression: &str) -> Result<GreenNode, ExpressionError>
-    ensures limited { IfOk result (λ n. depth (branch_tree n) ≤ DEPTH_LIMIT) }
+    ensures limited { IfOk result (λ n. depth (branch_tree n) ≤ depth_limit) }
     ensures found { IfOk result (λ n. IsExpression (name_in []) is_gap_blank (branch_tree n) expression.now) }
     ensures only { (t : SyntaxTree) → IsExpression (name_in []) is_gap_blank t expression.now
         → IfOk result (λ n. branch_tree n ≡ t) }
     ensures written { (t : SyntaxTree) → is_token t ≡ false → unnamed_in [] t ≡ None
         → expression.now ≡ expression_of [] t → IfOk result (λ n. branch_tree n ≡ t) }
-    ensures refused { IfErr result (ReadRefuses (name_in []) is_gap_blank expression.now) }
+    ensures refused { IfErr result (ReadRefuses [] is_gap_blank expression.now) }
 {
     read_tree_with(alloc, expression, &KindNames::new(alloc))
 }
@@ -45,24 +44,24 @@ pub fn read_tree_with(
     expression: &str,
     names: &KindNames,
 ) -> Result<GreenNode, ExpressionError>
-    ensures limited { IfOk result (λ n. depth (branch_tree n) ≤ DEPTH_LIMIT) }
+    ensures limited { IfOk result (λ n. depth (branch_tree n) ≤ depth_limit) }
     ensures found { IfOk result (λ n. IsExpression (name_in names.now) is_gap_blank (branch_tree n) expression.now) }
     ensures only { (t : SyntaxTree) → IsExpression (name_in names.now) is_gap_blank t expression.now
         → IfOk result (λ n. branch_tree n ≡ t) }
     ensures written { (t : SyntaxTree) → is_token t ≡ false → unnamed_in names.now t ≡ None
         → expression.now ≡ expression_of names.now t → IfOk result (λ n. branch_tree n ≡ t) }
-    ensures refused { IfErr result (ReadRefuses (name_in names.now) is_gap_blank expression.now) }
+    ensures refused { IfErr result (ReadRefuses names.now is_gap_blank expression.now) }
 {
     read(alloc, expression, names, Gaps::Lines)
 }
 
 /// The tree of an expression that is a part of a line: `read_tree`, but only spaces stand between elements.
 pub fn read_line_tree(alloc: Global, expression: &str) -> Result<GreenNode, ExpressionError>
-    ensures limited { IfOk result (λ n. depth (branch_tree n) ≤ DEPTH_LIMIT) }
+    ensures limited { IfOk result (λ n. depth (branch_tree n) ≤ depth_limit) }
     ensures found { IfOk result (λ n. IsExpression (name_in []) is_gap_space (branch_tree n) expression.now) }
     ensures only { (t : SyntaxTree) → IsExpression (name_in []) is_gap_space t expression.now
         → IfOk result (λ n. branch_tree n ≡ t) }
-    ensures refused { IfErr result (ReadRefuses (name_in []) is_gap_space expression.now) }
+    ensures refused { IfErr result (ReadRefuses [] is_gap_space expression.now) }
 {
     read(alloc, expression, &KindNames::new(alloc), Gaps::Spaces)
 }
@@ -73,11 +72,11 @@ fn read(
     names: &KindNames,
     gaps: Gaps,
 ) -> Result<GreenNode, ExpressionError>
-    ensures limited { IfOk result (λ n. depth (branch_tree n) ≤ DEPTH_LIMIT) }
+    ensures limited { IfOk result (λ n. depth (branch_tree n) ≤ depth_limit) }
     ensures found { IfOk result (λ n. IsExpression (name_in names.now) (is_gap gaps) (branch_tree n) expression.now) }
     ensures only { (t : SyntaxTree) → IsExpression (name_in names.now) (is_gap gaps) t expression.now
         → IfOk result (λ n. branch_tree n ≡ t) }
-    ensures refused { IfErr result (ReadRefuses (name_in names.now) (is_gap gaps) expression.now) }
+    ensures refused { IfErr result (ReadRefuses names.now (is_gap gaps) expression.now) }
 {
     let mut reader = Reader::new(alloc, names, gaps);
     let mut rest = expression;

@@ -1,6 +1,5 @@
-ghost use Rattle.std.specs.Prelude.{ℕ, ◌≡◌, ◌≢◌, ◌↔◌, ◌++◌, [], ◌∷◌, false, Some, None, Err, IsSome, IfSome, IsNone, OnOk, OnErr, option_map};
-ghost use Rattle.tree_text.specs.KindNames.{name_in, is_name, is_name_byte};
-ghost use Rattle.tree_text.specs.inner.NamedKinds.{AreNames};
+ghost use Rattle.std.specs.Prelude.{ℕ, ◌≡◌, ◌≢◌, ◌↔◌, ◌++◌, [], ◌∷◌, true, false, Some, None, Err, IsSome, IfSome, IsNone, OnOk, OnErr, option_map};
+ghost use Rattle.tree_text.specs.KindNames.{name_in, is_name, is_name_byte, IsTaken, AreNames};
 
 use crate::name_error::NameError;
 use cst_core::SyntaxKind;
@@ -56,11 +55,13 @@ impl KindNames {
     pub fn add(&mut self, alloc: Global, kind: SyntaxKind, name: &str) -> Result<(), NameError>
         ensures ok { OnOk result (self.new ≡ self.old ++ (kind.0, name.now) ∷ []) }
         ensures err { OnErr result (self.new ≡ self.old) }
-        ensures misspelled { (result ≡ Err NameError.Misspelled) ↔ (is_name name.now ≡ false) }
         ensures unnamed { OnOk result (name_in self.old kind.0 ≡ None) }
         ensures free { OnOk result ((k : ℕ) → name_in self.old k ≢ Some name.now) }
-        ensures named { result ≡ Err NameError.Named → IsSome (name_in self.old kind.0) }
-        ensures taken { result ≡ Err NameError.Taken → (k : ℕ) × (name_in self.old k ≡ Some name.now) }
+        ensures misspelled { (result ≡ Err NameError.Misspelled) ↔ (is_name name.now ≡ false) }
+        ensures named { (result ≡ Err NameError.Named)
+            ↔ ((is_name name.now ≡ true) × IsSome (name_in self.old kind.0)) }
+        ensures taken { (result ≡ Err NameError.Taken)
+            ↔ ((is_name name.now ≡ true) × (name_in self.old kind.0 ≡ None) × IsTaken self.old name.now) }
     {
         if !is_spelled(name) {
             return Err(NameError::Misspelled);

@@ -33,7 +33,7 @@ impl LastTokens {
         text: &str,
     ) -> Result<GreenToken, ExpressionError>
         ensures ok { IfOk result (λ t. t ≡ record { kind = kind.0; text = text.now }) }
-        ensures err { IfErr result (IsRefused ⊥ ⊥ (IsTooLong text.now)) }
+        ensures err { IfErr result (IsRefused ⊥ ⊥ ⊥ (IsTooLong text.now)) }
     {
         if let Some(last) = self.last(kind, text) {
             return Ok(last.share(alloc)?);

@@ -1,11 +1,10 @@
 ghost use Rattle.std.specs.Prelude.{◌≡◌, ◌+◌, ◌-◌, ◌≤◌, IfOk, IfErr, OnOk, IsTrue, ◌↔◌, length, [], ◌∷◌};
 ghost use Rattle.cst_core.specs.Green.{branch_tree};
 ghost use Rattle.cst_core.specs.GreenElement.{element_tree};
-ghost use Rattle.tree_text.specs.Depth.{depth};
+ghost use Rattle.tree_text.specs.Depth.{depth, depth_limit};
 ghost use Rattle.tree_text.specs.Refusals.{IsRefused};
 ghost use Rattle.tree_text.specs.inner.OpenDepth.{open_depth};
 ghost use Rattle.tree_text.specs.inner.OpenTrees.{open_trees, HasPut, IsInnermostLong};
-ghost use Rattle.tree_text.specs.declared.open_nodes.TheConstants.{DEPTH_LIMIT};
 
 use crate::error::ExpressionError;
 use crate::expected::Expected;
@@ -20,7 +19,7 @@ pub const DEPTH_LIMIT: usize = 200;
 #[derive(Drop)]
 pub(crate) struct OpenNodes {
     pub(crate) nodes: Vec<OpenNode>,
-    ghost limited: { open_depth nodes.items ≤ DEPTH_LIMIT },
+    ghost limited: { open_depth nodes.items ≤ depth_limit },
 }
 
 impl OpenNodes {
@@ -46,7 +45,7 @@ impl OpenNodes {
         at: usize,
     ) -> Result<(), ExpressionError>
         ensures ok { OnOk result (open_trees self.new.nodes.items ≡ (kind.0, []) ∷ open_trees self.old.nodes.items) }
-        ensures err { IfErr result (IsRefused ⊥ (DEPTH_LIMIT ≤ length (open_trees self.old.nodes.items)) ⊥) }
+        ensures err { IfErr result (IsRefused ⊥ ⊥ (depth_limit ≤ length (open_trees self.old.nodes.items)) ⊥) }
     {
         if self.nodes.len() >= DEPTH_LIMIT {
             return Err(ExpressionError::TooDeep { at });
@@ -58,10 +57,10 @@ impl OpenNodes {
 
     /// Puts an element that ends at this byte at the end of the innermost node.
     pub(crate) fn put(&mut self, element: GreenElement, at: usize) -> Result<(), ExpressionError>
-        requires { depth (element_tree element) ≤ DEPTH_LIMIT - length self.old.nodes.items }
+        requires { depth (element_tree element) ≤ depth_limit - length self.old.nodes.items }
         ensures ok { OnOk result
             (HasPut (element_tree element) (open_trees self.old.nodes.items) (open_trees self.new.nodes.items)) }
-        ensures err { IfErr result (IsRefused (open_trees self.old.nodes.items ≡ []) ⊥ ⊥) }
+        ensures err { IfErr result (IsRefused (open_trees self.old.nodes.items ≡ []) ⊥ ⊥ ⊥) }
     {
         let Some(mut node) = self.nodes.pop() else {
             return Err(ExpressionError::Malformed {
@@ -76,11 +75,11 @@ impl OpenNodes {
 
     /// Closes the innermost node at this byte.
     pub(crate) fn end(&mut self, alloc: Global, at: usize) -> Result<GreenNode, ExpressionError>
-        ensures limited { IfOk result (λ n. depth (branch_tree n) + length self.new.nodes.items ≤ DEPTH_LIMIT) }
+        ensures limited { IfOk result (λ n. depth (branch_tree n) + length self.new.nodes.items ≤ depth_limit) }
         ensures ok { IfOk result
             (λ n. open_trees self.old.nodes.items ≡ (n.kind, n.children) ∷ open_trees self.new.nodes.items) }
         ensures err { IfErr result
-            (IsRefused (open_trees self.old.nodes.items ≡ []) ⊥ (IsInnermostLong (open_trees self.old.nodes.items))) }
+            (IsRefused (open_trees self.old.nodes.items ≡ []) ⊥ ⊥ (IsInnermostLong (open_trees self.old.nodes.items))) }
     {
         let Some(OpenNode { kind, children }) = self.nodes.pop() else {
             return Err(ExpressionError::Malformed {

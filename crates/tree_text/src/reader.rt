@@ -1,12 +1,11 @@
 ghost use Rattle.std.specs.Prelude.{ℕ, ◌≡◌, ◌≢◌, ◌≤◌, ◌++◌, ◌||◌, ◌==◌, [], take, length, false, true, IfOk, IfErr, OnOk, Some, string_bytes, encode_utf8};
 ghost use Rattle.cst_core.specs.Green.{branch_tree, IsTooLong};
 ghost use Rattle.cst_core.specs.Tree.{SyntaxTree};
-ghost use Rattle.tree_text.specs.Depth.{depth};
+ghost use Rattle.tree_text.specs.Depth.{depth, depth_limit};
 ghost use Rattle.tree_text.specs.KindNames.{name_in, is_name_byte};
 ghost use Rattle.tree_text.specs.Refusals.{IsRefused};
-ghost use Rattle.tree_text.specs.inner.Reading.{IsLeft, IsReading, IsStuck, Reads, ReadsUpTo, GoesOn};
+ghost use Rattle.tree_text.specs.inner.Reading.{IsLeft, IsReading, IsStuck, IsMisplaced, CannotEnd, Reads, ReadsUpTo, GoesOn};
 ghost use Rattle.tree_text.specs.inner.Reading.{first_reading, is_outside, reading};
-ghost use Rattle.tree_text.specs.declared.open_nodes.TheConstants.{DEPTH_LIMIT};
 
 use crate::error::ExpressionError;
 use crate::escape::meant_by;
@@ -92,7 +91,7 @@ impl<'a> Reader<'a> {
         requires { IsReading (reading self.old) }
         ensures ok { IfOk result (λ left. ReadsUpTo (reading self.old) text.now left.now (reading self.new)) }
         ensures shorter { IfOk result (λ left. length left.now ≤ length text.now) }
-        ensures err { IfErr result (IsRefused ⊥ ⊥ ⊥) }
+        ensures err { IfErr result (IsRefused ⊥ ⊥ ⊥ ⊥) }
     {
         let count = self.run_length(text);
         if count == 0 {
@@ -108,7 +107,7 @@ impl<'a> Reader<'a> {
     fn push_to_word(&mut self, taken: &str) -> Result<(), ExpressionError>
         ensures ok { OnOk result
             (reading self.new ≡ record (reading self.old) { word = string_bytes self.old.word ++ taken.now }) }
-        ensures err { IfErr result (IsRefused ⊥ ⊥ ⊥) }
+        ensures err { IfErr result (IsRefused ⊥ ⊥ ⊥ ⊥) }
     {
         if self.word.is_empty() {
             self.word_at = self.at;
@@ -132,7 +131,7 @@ impl<'a> Reader<'a> {
         requires reading { IsReading (reading self.old) }
         requires state { self.old.state ≡ State.Between }
         ensures ok { OnOk result (Reads (reading self.old) (encode_utf8 c) (reading self.new)) }
-        ensures err { IfErr result (IsStuck (reading self.old) (encode_utf8 c)) }
+        ensures err { IfErr result (IsMisplaced (reading self.old) (encode_utf8 c)) }
     {
         if self.is_outside(c) {
             return Err(self.misses(self.expected_outside()));
@@ -168,6 +167,9 @@ impl<'a> Reader<'a> {
         if is_name_character(c) {
             return self.push_to_name(c);
         }
+        if self.word.is_empty() {
+            return Err(self.misses(Expected::KindName));
+        }
         let kind = self.take_kind()?;
         self.open.begin(self.alloc, kind, self.word_at)?;
         self.state = State::Between;
@@ -194,7 +196,7 @@ impl<'a> Reader<'a> {
         requires reading { IsReading (reading self.old) }
         requires state { self.old.state ≡ State.Text kind }
         ensures ok { OnOk result (Reads (reading self.old) (encode_utf8 c) (reading self.new)) }
-        ensures err { IfErr result (IsStuck (reading self.old) (encode_utf8 c)) }
+        ensures err { IfErr result (IsMisplaced (reading self.old) (encode_utf8 c)) }
     {
         match c {
             '"' => self.end_token(kind),
@@ -210,7 +212,7 @@ impl<'a> Reader<'a> {
         requires reading { IsReading (reading self.old) }
         requires state { self.old.state ≡ State.Escape kind }
         ensures ok { OnOk result (Reads (reading self.old) (encode_utf8 c) (reading self.new)) }
-        ensures err { IfErr result (IsStuck (reading self.old) (encode_utf8 c)) }
+        ensures err { IfErr result (IsMisplaced (reading self.old) (encode_utf8 c)) }
     {
         let Some(meant) = meant_by(c) else {
             return Err(self.misses(Expected::Escape));
@@ -223,7 +225,7 @@ impl<'a> Reader<'a> {
     fn push_to_name(&mut self, c: char) -> Result<(), ExpressionError>
         ensures ok { OnOk result
             (reading self.new ≡ record (reading self.old) { word = string_bytes self.old.word ++ encode_utf8 c }) }
-        ensures err { IfErr result (IsRefused ⊥ ⊥ ⊥) }
+        ensures err { IfErr result (IsRefused ⊥ ⊥ ⊥ ⊥) }
     {
         if self.word.is_empty() {
             self.word_at = self.at;
@@ -237,11 +239,8 @@ impl<'a> Reader<'a> {
         ensures named { IfOk result (λ k. name_in self.old.names.now k.0 ≡ Some (string_bytes self.old.word)) }
         ensures taken { OnOk result (reading self.new ≡ record (reading self.old) { word = [] }) }
         ensures unknown { IfErr result
-            (IsRefused ((k : ℕ) → name_in self.old.names.now k ≢ Some (string_bytes self.old.word)) ⊥ ⊥) }
+            (IsRefused ⊥ ((k : ℕ) → name_in self.old.names.now k ≢ Some (string_bytes self.old.word)) ⊥ ⊥) }
     {
-        if self.word.is_empty() {
-            self.word_at = self.at;
-        }
         let at = self.word_at;
         let kind = self
             .last_kinds
@@ -255,7 +254,7 @@ impl<'a> Reader<'a> {
         requires reading { IsReading (reading self.old) }
         requires state { self.old.state ≡ State.Text kind }
         ensures ok { OnOk result (Reads (reading self.old) (encode_utf8 34) (reading self.new)) }
-        ensures err { IfErr result (IsStuck (reading self.old) (encode_utf8 34)) }
+        ensures err { IfErr result (IsMisplaced (reading self.old) (encode_utf8 34)) }
     {
         let token = self.last_tokens.token(self.alloc, kind, &self.word)?;
         self.word.clear();
@@ -268,7 +267,7 @@ impl<'a> Reader<'a> {
         requires state { self.old.state ≡ State.Between }
         requires inside { is_outside (reading self.old) 41 ≡ false }
         ensures ok { OnOk result (Reads (reading self.old) (encode_utf8 41) (reading self.new)) }
-        ensures err { IfErr result (IsStuck (reading self.old) (encode_utf8 41)) }
+        ensures err { IfErr result (IsMisplaced (reading self.old) (encode_utf8 41)) }
     {
         let node = self.open.end(self.alloc, self.at)?;
         if self.open.is_empty() {
@@ -281,10 +280,10 @@ impl<'a> Reader<'a> {
     /// The tree, at the end of the text.
     pub(crate) fn finish(self) -> Result<GreenNode, ExpressionError>
         requires { IsReading (reading self) }
-        ensures limited { IfOk result (λ n. depth (branch_tree n) ≤ DEPTH_LIMIT) }
+        ensures limited { IfOk result (λ n. depth (branch_tree n) ≤ depth_limit) }
         ensures only { (t : SyntaxTree) → IsLeft (reading self.entry) t [] → IfOk result (λ n. branch_tree n ≡ t) }
         ensures found { IfOk result (λ n. IsLeft (reading self.entry) (branch_tree n) []) }
-        ensures err { IfErr result (IsRefused ((t : SyntaxTree) → IsLeft (reading self.entry) t [] → ⊥) ⊥ ⊥) }
+        ensures err { IfErr result (IsRefused (CannotEnd (reading self.entry)) ⊥ ⊥ ⊥) }
     {
         let missing = self.misses(self.expected_at_end());
         self.root.ok_or(missing)

@@ -1,6 +1,6 @@
 ghost use Rattle.std.specs.Prelude.{◌≡◌, ◌++◌, [], IfOk, OnOk, Some, None, option_map, is_none, if◌then◌else◌, string_bytes, codes};
 ghost use Rattle.cst_core.specs.Green.{branch_tree, leaf_tree};
-ghost use Rattle.tree_text.specs.Grammar.{IsExpression, is_gap_space};
+ghost use Rattle.tree_text.specs.Grammar.{IsExpression, is_gap_blank, is_gap_space};
 ghost use Rattle.tree_text.specs.KindNames.{name_in, text_in};
 ghost use Rattle.cst_core.specs.GreenElement.{element_trees};
 ghost use Rattle.tree_text.specs.inner.UnnamedKinds.{unnamed_among};
@@ -14,12 +14,15 @@ use green_tree::heaviest_child;
 use std::alloc::{AllocError, Global};
 use std::fmt::Write;
 
-/// The tree expression of a tree, which `read_tree` reads: `(LITERAL INT_NUMBER"1")`, with one space before each element.
+/// The tree expression of a tree, which `read_tree` and `read_line_tree` read: `(LITERAL INT_NUMBER"1")`, with one space before each
+/// element.
 ///
 /// `NoName` names the first kind, in document order, that has no name; it comes before `Memory`.
 pub fn write_tree(alloc: Global, tree: &GreenNode) -> Result<String, WriteError>
     ensures ok { IfOk result (λ s. string_bytes s ≡ expression_of [] (branch_tree tree.now)) }
     ensures written { IfOk result
+        (λ s. IsExpression (name_in []) is_gap_blank (branch_tree tree.now) (string_bytes s)) }
+    ensures in_line { IfOk result
         (λ s. IsExpression (name_in []) is_gap_space (branch_tree tree.now) (string_bytes s)) }
     ensures no_name { NamesUnnamed result (unnamed_in [] (branch_tree tree.now)) }
 {
@@ -34,6 +37,8 @@ pub fn write_tree_with(
 ) -> Result<String, WriteError>
     ensures ok { IfOk result (λ s. string_bytes s ≡ expression_of names.now (branch_tree tree.now)) }
     ensures written { IfOk result
+        (λ s. IsExpression (name_in names.now) is_gap_blank (branch_tree tree.now) (string_bytes s)) }
+    ensures in_line { IfOk result
         (λ s. IsExpression (name_in names.now) is_gap_space (branch_tree tree.now) (string_bytes s)) }
     ensures no_name { NamesUnnamed result (unnamed_in names.now (branch_tree tree.now)) }
 {

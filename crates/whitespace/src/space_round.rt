@@ -7,7 +7,7 @@ use crate::lone_token::whitespace;
 use crate::space::{Space, space_at_end, space_in_front};
 use crate::space_error::SpaceError;
 use cst_core::{SyntaxElement, TreeIds};
-use edit_change::Position;
+use edit_change::{Position, trial_source};
 use std::alloc::{AllocError, Global};
 
 // Whitespace as a text.
@@ -109,7 +109,7 @@ pub fn elements_with_spaces(
 {
     let (front, end) = spaces_round(alloc, at, &new)?;
     // The numbers are drawn last, when nothing can fail any more.
-    let mut drawn = ids.ahead();
+    let mut drawn = trial_source(ids);
     let all = with_spaces(alloc, &mut drawn, front, new, end)?;
     *ids = drawn;
     Ok(all)

@@ -11,7 +11,7 @@ use Rattle.green_tree.specs.Path.{Path}
 use Rattle.green_tree.specs.Tree.{Forest, Node, SyntaxTree, trees, at}
 use Rattle.green_tree.specs.GreenElement.{element_tree}
 use Rattle.edit_change.specs.Aim.{Gap, gap_of, replaces, parents}
-use Rattle.edit_change.specs.Effort.{counted}
+use Rattle.green_tree.specs.Count.{counted}
 use Rattle.edit_change.specs.Rewriting.{NumberedAim, inserts_at, is_replaced, gap_order, rewritten}
 use Rattle.edit_change.specs.inner.KindOnly.{kind_only}
 use Rattle.edit_steps.specs.StepCount.{step_builds}

@@ -28,7 +28,7 @@ use Rattle.edit_change.specs.Nesting.{first_clash}
 use Rattle.edit_change.specs.declared.change.Change.{Change}
 use Rattle.edit_steps.specs.Schedule.{is_ready, is_complete}
 use Rattle.edit_steps.specs.inner.Waiting.{IsWaiting, done_list}
-use Rattle.edit_change.specs.Effort.{counted}
+use Rattle.green_tree.specs.Count.{counted}
 use Rattle.edit_steps.specs.inner.Stage.{old_tree, IsStage}
 use Rattle.edit_steps.specs.StepCount.{step_builds}
 use Rattle.edit_steps.specs.declared.stage.Stage.{Stage}

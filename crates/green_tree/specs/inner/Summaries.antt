@@ -2,6 +2,7 @@
 --     Summarizes                     this is known of some elements
 --     Knows                          what a node holds knows its children
 --     IsSameData                     what a node holds is the same as what another one holds
+--     HasKept                        it has the same kind and the same children
 --     HasSpliced                     it holds these in the place of some children
 --     IsExchanged                    some elements stand where others stood, and what is known of both, and was of all
 use Rattle.std.specs.Prelude.{◌≡◌, ◌+◌, ℕ, List, ◌++◌, take, drop}
@@ -20,6 +21,9 @@ Knows d = Summarizes d.children.items d.summary
 
 abbrev pub IsSameData : NodeData → NodeData → Type 0
 IsSameData a b = (b.kind ≡ a.kind) × (b.summary ≡ a.summary) × (b.children.items ≡ a.children.items)
+
+abbrev pub HasKept : NodeData → NodeData → Type 0
+HasKept a b = (b.kind ≡ a.kind) × (b.children.items ≡ a.children.items)
 
 abbrev pub HasSpliced : NodeData → NodeData → ℕ → ℕ → List GreenElement → Type 0
 HasSpliced a b first count new = (b.kind ≡ a.kind) × (b.children.items ≡ take first a.children.items ++ new ++ drop (first + count) a.children.items)

@@ -1,7 +1,8 @@
-ghost use Rattle.std.specs.Prelude.{◌≡◌, ◌<◌, ◌≤◌, ◌+◌, length, IfOk, OnOk, OnErr};
+ghost use Rattle.std.specs.Prelude.{◌≡◌, ◌<◌, ◌≤◌, ◌+◌, [], length, IfOk, OnOk, OnErr};
+ghost use Rattle.green_tree.specs.Count.{counted};
 ghost use Rattle.green_tree.specs.Green.{branch_tree};
 ghost use Rattle.green_tree.specs.inner.Splices.{CanSplice, IsSplicedAt};
-ghost use Rattle.green_tree.specs.inner.Summaries.{Knows, IsSameData, HasSpliced};
+ghost use Rattle.green_tree.specs.inner.Summaries.{Knows, IsSameData, HasKept, HasSpliced, IsExchanged};
 ghost use Rattle.green_tree.specs.inner.Ways.{LeadsToNode, IsWay, exchanged};
 
 use crate::green::summary::Summary;
@@ -28,25 +29,40 @@ impl Clone for NodeData {
 }
 
 impl NodeData {
-    // Puts elements in the place of so many children, from a slot on. After a refusal it is as it was.
+    // Ends a change of the node, some of whose children were just exchanged: what it knows of them is true again. This is the one function that
+    // each node comes to that a splice makes or changes, and `builds` counts it: one more, up to its greatest number.
+    fn end_change(&mut self, removed: Summary, added: Summary, builds: &mut u64)
+        requires { IsExchanged self.old.children.items self.old.summary removed added }
+        ensures kept { HasKept self.old self.new }
+        ensures knows { Knows self.new }
+        ensures count { builds.new ≡ counted builds.old 1 }
+    {
+        self.summary = self.summary.after_exchange(removed, added, &self.children);
+        *builds = builds.saturating_add(1);
+    }
+
+    // Puts elements in the place of so many children, from a slot on. After a refusal it is as it was, and so is the count.
     fn splice(
         &mut self,
         first: usize,
         count: usize,
         new: Vec<GreenElement>,
+        builds: &mut u64,
     ) -> Result<(), AllocError>
         requires within { first + count ≤ length self.old.children.items }
         requires knows { Knows self.old }
         ensures ok { OnOk result (HasSpliced self.old self.new first count new.items) }
         ensures err { OnErr result (IsSameData self.old self.new) }
         ensures knows { Knows self.new }
+        ensures count { OnOk result (builds.new ≡ counted builds.old 1) }
+        ensures no_count { OnErr result (builds.new ≡ builds.old) }
     {
         let _children = self.children.as_slice();
         let end = first + count;
         let removed = Summary::of(&self.children[first..end]);
         let added = Summary::of(&new);
         self.children.splice(first..end, new)?;
-        self.summary = self.summary.after_exchange(removed, added, &self.children);
+        self.end_change(removed, added, builds);
         Ok(())
     }
 }
@@ -82,25 +98,43 @@ fn way_down<'a>(alloc: Global, top: &'a GreenNode, path: &[usize]) -> Result<Way
     Ok(Way { above, end: node })
 }
 
+// The node with elements in the place of so many children, from a slot on.
+fn copy_spliced(
+    alloc: Global,
+    node: &GreenNode,
+    first: usize,
+    count: usize,
+    new: Vec<GreenElement>,
+    builds: &mut u64,
+) -> Result<GreenNode, AllocError>
+    requires { CanSplice (branch_tree node.now) [] first count }
+    ensures ok { IfOk result (λ n. IsSplicedAt node.now [] first count new.items n) }
+    ensures count { OnOk result (builds.new ≡ counted builds.old 1) }
+{
+    let mut copy = node.share(alloc)?;
+    copy.splice_nested(&[], first, count, new, builds)?;
+    Ok(copy)
+}
+
 // The node with another child in this slot.
 fn exchange_child(
     alloc: Global,
     node: &GreenNode,
     slot: usize,
     child: GreenNode,
+    builds: &mut u64,
 ) -> Result<GreenNode, AllocError>
     requires { slot < length node.now.children }
-    ensures { IfOk result (λ n. branch_tree n ≡ exchanged node.now slot (branch_tree child)) }
+    ensures ok { IfOk result (λ n. branch_tree n ≡ exchanged node.now slot (branch_tree child)) }
+    ensures count { OnOk result (builds.new ≡ counted builds.old 1) }
 {
-    // For the proof: no slot of the node passes the numbers of code.
-    let _children = node.children();
     let mut only = Vec::with_capacity(alloc, 1)?;
     only.push(GreenElement::Node(child))?;
-    node.splice_children(alloc, slot, slot + 1, only)
+    copy_spliced(alloc, node, slot, 1, only, builds)
 }
 
 // The node with elements in the place of so many children of the node at this path, from a slot on. The nodes on the way are made anew,
-// and all others are shared.
+// and all others are shared. `builds` counts those that are made, also where memory is refused on the way up.
 fn spliced_anew(
     alloc: Global,
     top: &GreenNode,
@@ -108,15 +142,16 @@ fn spliced_anew(
     first: usize,
     count: usize,
     new: Vec<GreenElement>,
+    builds: &mut u64,
 ) -> Result<GreenNode, AllocError>
     requires { CanSplice (branch_tree top.now) path.now first count }
-    ensures { IfOk result (λ n. IsSplicedAt top.now path.now first count new.items n) }
+    ensures ok { IfOk result (λ n. IsSplicedAt top.now path.now first count new.items n) }
+    ensures count { OnOk result (builds.new ≡ counted builds.old (length path.now + 1)) }
 {
     let Way { mut above, end } = way_down(alloc, top, path)?;
-    let _children = end.children();
-    let mut made = end.splice_children(alloc, first, first + count, new)?;
+    let mut made = copy_spliced(alloc, end, first, count, new, builds)?;
     while let Some(WayNode { node, slot }) = above.pop() {
-        made = exchange_child(alloc, node, slot, made)?;
+        made = exchange_child(alloc, node, slot, made, builds)?;
     }
     Ok(made)
 }
@@ -126,7 +161,7 @@ const NESTED_SLOTS: usize = 64;
 
 impl GreenNode {
     // The same in place: of the nodes on the way, those that nobody else holds are changed, and the others are copied. A call nests for
-    // each slot of the path.
+    // each slot of the path. `builds` counts the nodes on the way and the one at its end.
     #[cycle(splice_nested)]
     fn splice_nested(
         &mut self,
@@ -134,31 +169,36 @@ impl GreenNode {
         first: usize,
         count: usize,
         new: Vec<GreenElement>,
+        builds: &mut u64,
     ) -> Result<(), AllocError>
         requires can { CanSplice (branch_tree self.old) path.now first count }
         requires shallow { length path.now ≤ 64 }
         ensures ok { OnOk result (IsSplicedAt self.old path.now first count new.items self.new) }
         ensures err { OnErr result (self.new ≡ self.old) }
+        ensures count { OnOk result (builds.new ≡ counted builds.old (length path.now + 1)) }
+        ensures no_count { OnErr result (builds.new ≡ builds.old) }
     {
         let data = Rc::make_mut(&mut self.data)?;
         let [slot, rest @ ..] = path else {
-            return data.splice(first, count, new);
+            return data.splice(first, count, new, builds);
         };
         let removed = Summary::of_child(&data.children[*slot]);
         let GreenElement::Node(child) = &mut data.children[*slot] else {
             unreachable!()
         };
-        child.splice_nested(rest, first, count, new)?;
+        child.splice_nested(rest, first, count, new, builds)?;
         let added = Summary::of_child(&data.children[*slot]);
-        data.summary = data.summary.after_exchange(removed, added, &data.children);
+        data.end_change(removed, added, builds);
         Ok(())
     }
 }
 
-/// Puts elements in the place of so many children of the node at this path, from a slot on. After a refusal the top is as it was.
+/// Puts elements in the place of so many children of the node at this path, from a slot on. After a refusal the top and the count are as they
+/// were.
 ///
 /// Nodes on the way that nobody else holds are changed in place, and the others are made anew. Below a path of 64 slots all of them are
-/// made anew, so that no calls nest with the depth of a tree.
+/// made anew, so that no calls nest with the depth of a tree. `builds` counts each node that is changed or made, up to its greatest number:
+/// the node at the path and those above it.
 pub fn splice_at(
     alloc: Global,
     top: &mut GreenNode,
@@ -166,14 +206,19 @@ pub fn splice_at(
     first: usize,
     count: usize,
     new: Vec<GreenElement>,
+    builds: &mut u64,
 ) -> Result<(), AllocError>
     requires { CanSplice (branch_tree top.old) path.now first count }
     ensures ok { OnOk result (IsSplicedAt top.old path.now first count new.items top.new) }
     ensures err { OnErr result (top.new ≡ top.old) }
+    ensures count { OnOk result (builds.new ≡ counted builds.old (length path.now + 1)) }
+    ensures no_count { OnErr result (builds.new ≡ builds.old) }
 {
     if path.len() <= NESTED_SLOTS {
-        return top.splice_nested(path, first, count, new);
+        return top.splice_nested(path, first, count, new, builds);
     }
-    *top = spliced_anew(alloc, top, path, first, count, new)?;
+    let mut made = *builds;
+    *top = spliced_anew(alloc, top, path, first, count, new, &mut made)?;
+    *builds = made;
     Ok(())
 }

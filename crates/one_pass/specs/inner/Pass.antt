@@ -33,7 +33,8 @@ use Rattle.green_tree.specs.Tree.{Tree, Token, Node, SyntaxTree}
 use Rattle.edit_change.specs.inner.Given.{given_trees}
 use Rattle.green_tree.specs.GreenElement.{element_tree, element_trees}
 use Rattle.green_tree.specs.declared.green.GreenElement.{GreenElement}
-use Rattle.edit_change.specs.Effort.{touched, parents_of, counted}
+use Rattle.green_tree.specs.Count.{counted}
+use Rattle.edit_change.specs.Effort.{touched, parents_of}
 use Rattle.one_pass.specs.inner.Built.{nodes_built, nodes_built_whole, AreBuilt}
 use Rattle.edit_change.specs.Aim.{Aim, aims_at_gap, starts_at}
 use Rattle.edit_change.specs.Rewriting.{NumberedAim, inserts_at, replacements_at, gap_order, is_replaced, slot, rewritten, rewritten_whole}

@@ -1,9 +1,11 @@
 -- What is written of the answer to a script.
 --     Responds            all of the answer that ends with this status
 --     WritesSome          nothing, or a beginning of an answer
-use Rattle.std.specs.Prelude.{ℕ, List, take, Option, ◌⊎◌}
+--     OutcomeIn           a script that is text and not too long ends with this status
+--     IsReasonOf          a sentence, which is not empty, about such a script that has no edit
+use Rattle.std.specs.Prelude.{ℕ, ◌<◌, List, length, take, Option, ◌⊎◌}
 use Rattle.std.specs.Io.KnownBytes.{Appends, Keeps}
-use Rattle.syned_run.specs.Answer.{IsAnswer}
+use Rattle.syned_run.specs.Answer.{IsAnswer, IsOutcome}
 
 abbrev pub Responds : {W : Type 0} → (W → Option (List ℕ)) → List ℕ → W → W → ℕ → Type 0
 Responds contents script before after status = (bytes : List ℕ) × IsAnswer script status bytes × Appends (contents before) (contents after) bytes
@@ -12,3 +14,9 @@ abbrev pub WritesSome : {W : Type 0} → (W → Option (List ℕ)) → List ℕ 
 WritesSome contents script before after =
     Keeps (contents before) (contents after)
     ⊎ ((status : ℕ) × (bytes : List ℕ) × IsAnswer script status bytes × (n : ℕ) × Appends (contents before) (contents after) (take n bytes))
+
+abbrev pub OutcomeIn : List ℕ → ℕ → Type 0
+OutcomeIn script status = (answer : List ℕ) × IsOutcome script status answer
+
+abbrev pub IsReasonOf : List ℕ → List ℕ → Type 0
+IsReasonOf script reason = (0 < length reason) × ((status : ℕ) × (0 < status) × OutcomeIn script status)

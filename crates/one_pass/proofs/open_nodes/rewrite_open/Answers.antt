@@ -4,7 +4,7 @@ use Rattle.green_tree.specs.Path.{Path}
 use Rattle.green_tree.specs.Tree.{SyntaxTree, node}
 use Rattle.green_tree.specs.Green.{Branch, branch_tree}
 use Rattle.green_tree.specs.GreenElement.{element_tree, element_trees}
-use Rattle.edit_change.specs.Effort.{counted}
+use Rattle.green_tree.specs.Count.{counted}
 use Rattle.edit_change.specs.Rewriting.{rewritten}
 use Rattle.edit_change.specs.inner.KindOnly.{kind_only}
 use Rattle.one_pass.specs.inner.Built.{nodes_built}

@@ -1,5 +1,5 @@
 use Rattle.std.proofs.Common.{◌≡◌, ℕ, ◌+◌, ◌*◌, ◌++◌, List, suc, length}
-use Rattle.edit_change.specs.Effort.{counted}
+use Rattle.green_tree.specs.Count.{counted}
 use Rattle.one_pass.specs.inner.Marked.{MarkTree, marks_of, wanted}
 use Rattle.one_pass.specs.inner.Pass.{AreMarkedIn}
 use Rattle.one_pass.specs.inner.OpenNodes.{to_come, to_build, to_do, whole, wholes, path_to, found_above, built_above}

@@ -1,6 +1,6 @@
 use Rattle.std.proofs.Common.{◌≡◌, [], ◌++◌, map, rules, refl, arith, ap, ap₂, sym, ◌∙◌}
 use Rattle.green_tree.specs.GreenElement.{element_tree}
-use Rattle.edit_change.specs.Effort.{counted}
+use Rattle.green_tree.specs.Count.{counted}
 use Rattle.one_pass.specs.inner.Built.{nodes_built}
 use Rattle.edit_change.specs.Rewriting.{rewritten}
 use Rattle.edit_change.specs.inner.Aimed.{aims_of}

@@ -9,7 +9,7 @@ returns-in-Ok-clause-ok c =
     let lines = lines_in c.args.script.now in
     let t = state_of c.go_through.new.session in
     let done = c.in-Ok.ensures.done in
-    finished lines c.in_ok-number.number t done.0 (Edited c.in-Ok.done.edit c.in-Ok.done.words) c.in_ok-number.ensures.reached c.in_ok-number.ensures.good done.1 done.2
+    (finished lines c.in_ok-number.number t done.0 (Edited c.in-Ok.done.edit c.in-Ok.done.words) c.in_ok-number.ensures.reached c.in_ok-number.ensures.good done.1 done.2).0
 
 pub returns-in-Err-clause-err : goal.returns-in-Err-clause-err
 returns-in-Err-clause-err c =

@@ -2,12 +2,11 @@ use Rattle.std.proofs.Common.{refl, rules}
 use Rattle.std.specs.Prelude.{encode_utf8}
 use Rattle.std.proofs.lemmas.Result.{IfOk-weaker, IfErr-weaker}
 use Rattle.cst_core.specs.Green.{branch_tree}
-use Rattle.tree_text.specs.KindNames.{name_in}
 use Rattle.tree_text.specs.Refusals.{ReadRefuses}
 use Rattle.tree_text.specs.inner.Gap.{is_gap}
 use Rattle.tree_text.specs.inner.Reading.{reading}
 use Rattle.tree_text.proofs.Refusing.{passed-on}
-use Rattle.tree_text.proofs.WholeTexts.{nothing-read, one-more-read, more-read, stuck-there, refused-run, at-end, refused-end}
+use Rattle.tree_text.proofs.WholeTexts.{nothing-read, one-more-read, more-read, stuck-there, refused-run, refused-end, end-on, end-back}
 use Rattle.tree_text.proofs.expression.read.Goals as goal
 
 pub loop-c-init : goal.loop-c-init
@@ -32,26 +31,26 @@ loop-c-preserved c =
 
 pub returns-in_err-step-clause-refused : goal.returns-in_err-step-clause-refused
 returns-in_err-step-clause-refused c =
-    passed-on c.from_residual.result c.in_err-step.field-0.0 (ReadRefuses (name_in c.args.names.now) (is_gap c.args.gaps) c.args.expression.now) c.from_residual.ensures.1 (stuck-there c.args.names.now c.args.gaps c.args.expression.now c.in-Some.c c.loop-c.rest.now c.in-Some.behind.now (reading c.loop-c.reader) c.in_err-step.field-0.0 c.in-Some.ensures.some c.loop-c.invariant.read c.in_err-step.ensures.err)
+    passed-on c.from_residual.result c.in_err-step.field-0.0 (ReadRefuses c.args.names.now (is_gap c.args.gaps) c.args.expression.now) c.from_residual.ensures.1 (stuck-there c.args.names.now c.args.gaps c.args.expression.now c.loop-c.rest.now (reading c.loop-c.reader) c.loop-c.invariant.read c.in-Some.c c.in-Some.behind.now c.in_err-step.field-0.0 c.in-Some.ensures.some c.in_err-step.ensures.err)
 
 pub returns-in_err-rest-clause-refused : goal.returns-in_err-rest-clause-refused
 returns-in_err-rest-clause-refused c =
-    passed-on c.from_residual-in_err-rest.result c.in_err-rest.field-0.0 (ReadRefuses (name_in c.args.names.now) (is_gap c.args.gaps) c.args.expression.now) c.from_residual-in_err-rest.ensures.1 (refused-run c.args.names.now c.args.gaps c.args.expression.now c.in_err-rest.field-0.0 c.in_err-rest.ensures.err)
+    passed-on c.from_residual-in_err-rest.result c.in_err-rest.field-0.0 (ReadRefuses c.args.names.now (is_gap c.args.gaps) c.args.expression.now) c.from_residual-in_err-rest.ensures.1 (refused-run c.args.names.now c.args.gaps c.args.expression.now c.in_err-rest.field-0.0 c.in_err-rest.ensures.err)
 
 pub finish-requires : goal.finish-requires
 finish-requires c = c.loop-c.invariant.read.sound
 
 pub returns-clause-found : goal.returns-clause-found
 returns-clause-found c =
-    let end = at-end c.args.names.now c.args.gaps c.args.expression.now c.loop-c.rest.now (reading c.loop-c.reader) (c.in_default.ensures.none refl) c.loop-c.invariant.read in
-    IfOk-weaker c.finish.result _ _ (λ n left. end.back (branch_tree n) left) c.finish.ensures.found
+    let none = c.in_default.ensures.none refl in
+    IfOk-weaker c.finish.result _ _ (λ n left. end-back c.args.names.now c.args.gaps c.args.expression.now c.loop-c.rest.now (reading c.loop-c.reader) c.loop-c.invariant.read (branch_tree n) none left) c.finish.ensures.found
 
 pub returns-clause-only : goal.returns-clause-only
 returns-clause-only c =
-    let end = at-end c.args.names.now c.args.gaps c.args.expression.now c.loop-c.rest.now (reading c.loop-c.reader) (c.in_default.ensures.none refl) c.loop-c.invariant.read in
-    λ t expression. c.finish.ensures.only t (end.on t expression)
+    let none = c.in_default.ensures.none refl in
+    λ t expression. c.finish.ensures.only t (end-on c.args.names.now c.args.gaps c.args.expression.now c.loop-c.rest.now (reading c.loop-c.reader) c.loop-c.invariant.read t none expression)
 
 pub returns-clause-refused : goal.returns-clause-refused
 returns-clause-refused c =
-    let end = at-end c.args.names.now c.args.gaps c.args.expression.now c.loop-c.rest.now (reading c.loop-c.reader) (c.in_default.ensures.none refl) c.loop-c.invariant.read in
-    IfErr-weaker c.finish.result _ _ (λ e h. refused-end c.args.names.now c.args.gaps c.args.expression.now e (reading c.loop-c.reader) end h) c.finish.ensures.err
+    let none = c.in_default.ensures.none refl in
+    IfErr-weaker c.finish.result _ _ (λ e h. refused-end c.args.names.now c.args.gaps c.args.expression.now c.loop-c.rest.now (reading c.loop-c.reader) c.loop-c.invariant.read e none h) c.finish.ensures.err

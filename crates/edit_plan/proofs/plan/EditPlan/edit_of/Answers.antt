@@ -24,7 +24,7 @@ elements_by_annotation-requires c =
 pub returns-in_err-new_root-clause-refused : goal.returns-in_err-new_root-clause-refused
 returns-in_err-new_root-clause-refused c =
     let rewritten = c.args.rewritten in
-    let own : c.ahead-drawn.result ≡ c.args.ids.now = c.ahead-drawn.ensures in
+    let own : c.trial_source-drawn.result ≡ c.args.ids.now = c.trial_source-drawn.ensures in
     let r = refuses c.args.self.now rewritten.green (paths_of rewritten.changed.items) (map annotated_path rewritten.annotated.items) c.requires.rewritten c.args.ids.now c.in_err-new_root.field-0.0 c.requires.short (λ e. c.in_err-new_root.ensures.too_long.0 (ap Err e)) (λ e. let s = c.in_err-new_root.ensures.no_number.0 (ap Err e) in (sym own ∙ s.0, s.1)) in
     err-gives (RunRefuses c.args.self.now c.args.ids.now) c.from_residual.result (of_tree c.in_err-new_root.field-0.0) c.from_residual.ensures.1 r
 
@@ -37,7 +37,7 @@ pub returns-clause-ok : goal.returns-clause-ok
 returns-clause-ok c =
     let rewritten = c.args.rewritten in
     let root = c.in_ok-new_root.new_root in
-    let own : c.ahead-drawn.result ≡ c.args.ids.now = c.ahead-drawn.ensures in
+    let own : c.trial_source-drawn.result ≡ c.args.ids.now = c.trial_source-drawn.ensures in
     makes c.args.self.now rewritten.green (paths_of rewritten.changed.items) (map annotated_path rewritten.annotated.items) c.requires.rewritten c.args.ids.now _ (c.in_ok-old_root.ensures ∙ ap (λ x. x.root) c.self.view_is) (c.in_ok-new_root.ensures.ok ∙ ap (λ n. record { number = n; root = branch_tree rewritten.green; path = [] }) own) c.in_ok-changed.ensures (λ a. ap (map (λ x. Some x)) (found-in c.in_ok-annotated.annotated.lists.entries a) ∙ c.in_ok-annotated.ensures a)
 
 pub returns-clause-short : goal.returns-clause-short

@@ -6,7 +6,7 @@ use Rattle.green_tree.specs.Green.{branch_tree}
 use Rattle.green_tree.specs.GreenElement.{element_tree, element_trees}
 use Rattle.green_tree.specs.declared.green.GreenElement.TheVariants.{Node}
 use Rattle.green_tree.specs.inner.Splices.{CanSplice, spliced, updated_at}
-use Rattle.edit_change.specs.Effort.{counted}
+use Rattle.green_tree.specs.Count.{counted}
 use Rattle.edit_change.specs.inner.Aimed.{numbered, aim_in}
 use Rattle.edit_steps.specs.inner.Stage.{old_tree, StageStaysAs}
 use Rattle.edit_steps.specs.declared.stage.Stage.{Stage}
@@ -17,7 +17,7 @@ use Rattle.edit_steps.specs.inner.Counts.{IsCounted}
 use Rattle.edit_steps.specs.inner.Putting.{CanPut, put}
 use Rattle.edit_steps.specs.inner.AimTargets.{site_of}
 use Rattle.edit_steps.proofs.Putting.{no-token}
-use Rattle.edit_steps.proofs.Ways.{can_splice_place, put_at_place}
+use Rattle.edit_steps.proofs.Ways.{as_deep, can_splice_place, put_at_place}
 use Rattle.edit_steps.proofs.Aims.{found-live, found-dead, found-none}
 use Rattle.edit_steps.proofs.Stepping.{dead-tree, dead-counted}
 use Rattle.edit_steps.proofs.StepOfStage.{made-live, builds-live, builds-dead}
@@ -134,5 +134,5 @@ returns-clause-count c =
     let aim = c.args.aim.now in
     let live = found-live (old_tree s) aim.path.now aim.form (site_of c.in-Some.target) (sym c.in-Some.ensures) in
     let many = builds-live (old_tree s) (aim_in aim.path.now aim.form) c.in-Some.target.parent.now live.live live.parent in
-    let total : c.saturating_add-2.result ≡ counted c.args.builds.now (length c.in-Some.target.parent.now + 1) = omega (arith, c.saturating_add.ensures, c.saturating_add-2.ensures) in
-    total ∙ ap (counted c.args.builds.now) (sym many)
+    let deep = ap length c.deref.ensures.value ∙ as_deep _ c.in_ok-place.place c.in_ok-place.ensures in
+    c.in_ok-splice_at.ensures.count ∙ ap (λ n. counted c.args.builds.now (n + 1)) deep ∙ ap (counted c.args.builds.now) (sym many)

@@ -1,6 +1,5 @@
-use Rattle.std.proofs.Common.{◌≡◌, ◌⊎◌, inl, inr, ◌-◌, length, take, drop, get_or, ap, sym, ◌∙◌, arith, rules}
+use Rattle.std.proofs.Common.{◌≡◌, ◌⊎◌, inl, inr, ◌-◌, length, take, drop, get_or, refl, ap, sym, ◌∙◌, arith, rules}
 use Rattle.std.specs.Prelude.{Result, Ok, Err, OnOk}
-use Rattle.std.specs.Vec.{with_item}
 use Rattle.green_tree.specs.Green.{Branch}
 use Rattle.green_tree.specs.GreenElement.{element_tree, element_trees}
 use Rattle.green_tree.specs.declared.green.GreenElement.{GreenElement}
@@ -90,15 +89,15 @@ splice_nested-requires t c =
     let shorter = path-shorter c.args.path.now c.in-len1-up.len_at_least in
     (rw (← c.decreases) shorter, (rw c.in-Node.is at can, omega (arith, shorter, c.requires.shallow)))
 
-pub after_exchange-data-requires : goal.after_exchange-data-requires
-after_exchange-data-requires t c =
+pub end_change-requires : goal.end_change-requires
+end_change-requires t c =
     let d = c.in_ok-data.data.now in
     let h = held c.self.inside.data.value d c.args.self.now c.in_ok-data.ensures.value c.self.view_is in
     let es = d.children.items in
     let i = get_or c.args.path.now 0 0 in
     let made : GreenElement = Node c.splice_nested.new.self in
     let b = below c.args.self.now es h.trees c.args.first c.args.count c.args.path.now _ _ (path-on c.args.path.now c.in-len1-up.len_at_least) c.requires.can in
-    exchanged-child es i b.inside c.index.result.now (search rules) made d.summary c.of_child-removed.result c.of_child-added.result _ c.deref.ensures.value (search rules) c.of_child-removed.ensures (search rules)
+    exchanged-child es i b.inside c.index.result.now (search rules) made d.summary c.of_child-removed.result c.of_child-added.result _ refl (search rules) c.of_child-removed.ensures (search rules)
 
 pub returns-clause-ok : goal.returns-clause-ok
 returns-clause-ok t c =
@@ -107,11 +106,12 @@ returns-clause-ok t c =
     let es = d.children.items in
     let b = below c.args.self.now es h.trees c.args.first c.args.count c.args.path.now _ _ (path-on c.args.path.now c.in-len1-up.len_at_least) c.requires.can in
     let made : GreenElement = Node c.splice_nested.new.self in
-    let now : NodeData = record { kind = d.kind; summary = c.after_exchange-data.result; children = with_item d.children (get_or c.args.path.now 0 0) made } in
+    let now : NodeData = c.end_change.new.self in
+    let kept = c.end_change.ensures.kept in
     let left : (c.make_mut.follows.lender now).value ≡ now = c.make_mut.follows.holds now (search rules) in
     made-below c.args.self.now es h.trees c.args.first c.args.count c.args.path.now _ _ (path-on c.args.path.now c.in-len1-up.len_at_least)
     (spliced c.args.first c.args.count (element_trees c.args.new.items)) b.inside c.index_mut.result.now c.index_mut.ensures.value made
     (c.in_ok-splice_nested.ensures.ok ∙ ap (λ e. updated_at (element_tree e) (take (length c.args.path.now - 1) (drop 1 c.args.path.now)) (spliced c.args.first c.args.count (element_trees c.args.new.items))) (sym c.in-Node.is))
     (viewed (c.make_mut.follows.lender now).value)
-    (ap (λ e. e.kind.0) left ∙ h.kind)
-    (ap (λ e. element_trees e.children.items) left)
+    (ap (λ e. e.kind.0) left ∙ ap (λ k. k.0) kept.0 ∙ h.kind)
+    (ap (λ e. element_trees e.children.items) left ∙ ap element_trees kept.1)

@@ -1,39 +1,26 @@
-use Rattle.std.proofs.Common.{[], length, refl, arith, ap, sym, subst, ◌∙◌}
+use Rattle.std.proofs.Common.{◌≡◌, ◌+◌, [], length, refl, arith, ap, sym, subst, ◌∙◌}
 use Rattle.std.specs.List.{AllByRecursion}
+use Rattle.std.proofs.lemmas.List.{length-append}
 use Rattle.green_tree.specs.Green.{branch_tree}
-use Rattle.green_tree.specs.GreenElement.{element_tree, element_trees}
+use Rattle.green_tree.specs.GreenElement.{element_trees}
 use Rattle.green_tree.specs.inner.Splices.{spliced}
 use Rattle.green_tree.specs.inner.Ways.{rebuilt, HasSlot}
-use Rattle.green_tree.proofs.SpliceSteps.{room-here}
-use Rattle.green_tree.proofs.Ways.{rebuilt-push, all_pushed, room_at_end, way_ends, at_top}
-use Rattle.std.proofs.lemmas.List.{length-map}
+use Rattle.green_tree.proofs.Ways.{rebuilt-push, all_pushed, room_at_end, way_ends}
 use Rattle.green_tree.proofs.green.splices.spliced_anew.Goals as goal
 
-pub overflow_add-first : goal.overflow_add-first
-overflow_add-first c =
-    let end = c.in_ok-above.field-0.end.now in
-    let can = room_at_end (branch_tree c.args.top.now) c.args.path.now c.in_ok-above.field-0.above.items end c.in_ok-above.ensures.way c.in_ok-above.ensures.whole c.args.first c.args.count c.requires in
-    let room = room-here end c.children-children.result.now c.children-children.ensures c.args.first c.args.count [] refl can in
-    omega (arith, room, c.children-children.type_inv.0)
-
-pub splice_children-requires-clause-within : goal.splice_children-requires-clause-within
-splice_children-requires-clause-within c =
-    let end = c.in_ok-above.field-0.end.now in
-    let es = c.children-children.result.now in
-    let can = room_at_end (branch_tree c.args.top.now) c.args.path.now c.in_ok-above.field-0.above.items end c.in_ok-above.ensures.way c.in_ok-above.ensures.whole c.args.first c.args.count c.requires in
-    let room = room-here end es c.children-children.ensures c.args.first c.args.count [] refl can in
-    omega (arith, room, ap length c.children-children.ensures, length-map es element_tree)
+pub copy_spliced-requires : goal.copy_spliced-requires
+copy_spliced-requires c =
+    room_at_end (branch_tree c.args.top.now) c.args.path.now c.in_ok-above.field-0.above.items c.in_ok-above.field-0.end.now c.in_ok-above.ensures.way c.in_ok-above.ensures.whole c.args.first c.args.count c.requires
 
 pub loop-node-init : goal.loop-node-init
 loop-node-init c =
     let above = c.in_ok-above.field-0.above.items in
     let end = c.in_ok-above.field-0.end.now in
-    let es = c.children-children.result.now in
-    let new = c.args.new.items in
-    let here = at_top end c.args.first c.args.count (element_trees new) in
     record {
-      up = ap (λ b. rebuilt above (branch_tree b)) c.in_ok-made.ensures ∙ ap (rebuilt above) here ∙ way_ends (branch_tree c.args.top.now) c.args.path.now above end c.in_ok-above.ensures.way c.in_ok-above.ensures.whole (spliced c.args.first c.args.count (element_trees new));
+      up = ap (rebuilt above) c.in_ok-made.ensures.ok ∙ way_ends (branch_tree c.args.top.now) c.args.path.now above end c.in_ok-above.ensures.way c.in_ok-above.ensures.whole (spliced c.args.first c.args.count (element_trees c.args.new.items));
       inside = c.in_ok-above.ensures.way.inside;
+      within = omega (arith, c.in_ok-above.ensures.whole);
+      count = omega (arith, c.in_ok-above.ensures.whole, c.in_ok-made.ensures.count);
     }
 
 pub exchange_child-requires : goal.exchange_child-requires
@@ -45,11 +32,14 @@ loop-node-preserved c =
     let above = c.pop.new.self.items in
     let n = c.in-Some.field-0 in
     let made = branch_tree c.loop-node.made in
+    let more : length c.loop-node.above.items ≡ length above + 1 = ap length c.in-Some.ensures.items ∙ length-append above _ in
     record {
       up =
-          ap (rebuilt above) c.in_ok-made-2.ensures
+          ap (rebuilt above) c.in_ok-made-2.ensures.ok
           ∙ sym (rebuilt-push above n made)
           ∙ sym (ap (λ ns. rebuilt ns made) c.in-Some.ensures.items)
           ∙ c.loop-node.invariant.up;
       inside = (all_pushed above n (subst (AllByRecursion HasSlot) c.in-Some.ensures.items c.loop-node.invariant.inside)).0;
+      within = omega (arith, more, c.loop-node.invariant.within);
+      count = omega (arith, more, c.loop-node.invariant.within, c.loop-node.invariant.count, c.in_ok-made-2.ensures.count);
     }

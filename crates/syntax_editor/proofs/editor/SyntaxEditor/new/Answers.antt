@@ -20,13 +20,13 @@ parent-by-path (i ∷ p) h = refl
 pub returns-clause-root : goal.returns-clause-root
 returns-clause-root c =
     let parent : has_parent c.args.root ≡ true = parent-by-path c.args.root.path (rw (← c.slots.ensures) (sym c.is_empty.ensures ∙ c.if-is_empty.false)) in
-    let number : c.ahead-drawn.result ≡ c.args.ids.now = c.ahead-drawn.ensures in
+    let number : c.trial_source-drawn.result ≡ c.args.ids.now = c.trial_source-drawn.ensures in
     rw (c.in_ok-edited.ensures, c.in_ok-own-2.ensures.ok, number, parent) refl
 
 pub returns-clause-drawn : goal.returns-clause-drawn
 returns-clause-drawn c =
     let parent : has_parent c.args.root ≡ true = parent-by-path c.args.root.path (rw (← c.slots.ensures) (sym c.is_empty.ensures ∙ c.if-is_empty.false)) in
-    let number : c.ahead-drawn.result ≡ c.args.ids.now = c.ahead-drawn.ensures in
+    let number : c.trial_source-drawn.result ≡ c.args.ids.now = c.trial_source-drawn.ensures in
     rw parent (number-drawn c.next.result c.args.ids.now c.next.new.self c.next.ensures.spent (λ spent. no-error _ _ (c.in_ok-own-2.ensures.no_number.1 (number ∙ spent))) c.next.ensures.given)
 
 pub returns-clause-editor : goal.returns-clause-editor

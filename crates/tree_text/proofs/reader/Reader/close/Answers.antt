@@ -2,22 +2,21 @@ use Rattle.std.proofs.Common.{◌≡◌, ◌≤◌, [], ap, refl, arith}
 use Rattle.std.specs.Prelude.{encode_utf8}
 use Rattle.std.proofs.lemmas.Result.{on_ok_weaker}
 use Rattle.cst_core.specs.Green.{branch_tree}
-use Rattle.tree_text.specs.Depth.{depth}
-use Rattle.tree_text.specs.declared.open_nodes.TheConstants.{DEPTH_LIMIT}
+use Rattle.tree_text.specs.Depth.{depth, depth_limit}
 use Rattle.tree_text.specs.inner.OpenTrees.{open_trees, IsInnermostLong}
-use Rattle.tree_text.specs.inner.Reading.{IsStuck, reading}
-use Rattle.tree_text.proofs.Refusing.{passed-on, stuck-by}
+use Rattle.tree_text.specs.inner.Reading.{IsMisplaced, reading}
+use Rattle.tree_text.proofs.Refusing.{passed-on, misplaced-by}
 use Rattle.tree_text.proofs.TextSteps.{ends-node, ends-tree, node-long, node-there}
 use Rattle.tree_text.proofs.reader.Reader.close.Goals as goal
 
 pub returns-in_err-node-clause-err : goal.returns-in_err-node-clause-err
 returns-in_err-node-clause-err c =
     let r = reading c.args.self.now in
-    passed-on c.from_residual.result c.in_err-node.field-0.0 (IsStuck r (encode_utf8 41)) c.from_residual.ensures.1 (stuck-by r (encode_utf8 41) c.in_err-node.field-0.0 (r.nodes ≡ []) ⊥ (IsInnermostLong r.nodes) c.in_err-node.ensures.err (λ none. absurd (node-there r c.requires.reading c.requires.state c.requires.inside none)) (λ deep. absurd deep) (node-long r c.requires.reading c.requires.state c.requires.inside))
+    passed-on c.from_residual.result c.in_err-node.field-0.0 (IsMisplaced r (encode_utf8 41)) c.from_residual.ensures.1 (misplaced-by r (encode_utf8 41) c.in_err-node.field-0.0 (r.nodes ≡ []) (IsInnermostLong r.nodes) c.in_err-node.ensures.err (λ none. absurd (node-there r c.requires.reading c.requires.state c.requires.inside none)) (node-long r c.requires.reading c.requires.state c.requires.inside))
 
 pub returns-then-is_empty-clause-ok : goal.returns-then-is_empty-clause-ok
 returns-then-is_empty-clause-ok c =
-    let limited : depth (branch_tree c.in_ok-node.node) ≤ DEPTH_LIMIT = omega (arith, c.in_ok-node.ensures.limited) in
+    let limited : depth (branch_tree c.in_ok-node.node) ≤ depth_limit = omega (arith, c.in_ok-node.ensures.limited) in
     ends-tree (reading c.args.self.now) c.requires.reading c.requires.state c.requires.inside c.in_ok-node.node (open_trees c.end.new.self.nodes.items) c.in_ok-node.ensures.ok (ap open_trees (c.if-is_empty.ensures.0 refl)) limited
 
 pub returns-clause-ok : goal.returns-clause-ok

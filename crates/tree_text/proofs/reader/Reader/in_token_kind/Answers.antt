@@ -23,7 +23,7 @@ pub returns-in_err-take_kind-clause-err : goal.returns-in_err-take_kind-clause-e
 returns-in_err-take_kind-clause-err c =
     let r = reading c.args.self.now in
     let no_name : is_name_byte c.args.c ≡ false = sym c.is_name_character.ensures ∙ c.if-is_name_character.false in
-    passed-on c.from_residual.result c.in_err-take_kind.field-0.0 (IsStuck r (encode_utf8 c.args.c)) c.from_residual.ensures.1 (stuck-by r (encode_utf8 c.args.c) c.in_err-take_kind.field-0.0 ((k : ℕ) → name_in r.given k ≢ Some r.word) ⊥ ⊥ c.in_err-take_kind.ensures.unknown (token-unknown r c.requires.reading c.requires.state c.args.c no_name) (λ deep. absurd deep) (λ long. absurd long))
+    passed-on c.from_residual.result c.in_err-take_kind.field-0.0 (IsStuck r (encode_utf8 c.args.c)) c.from_residual.ensures.1 (stuck-by r (encode_utf8 c.args.c) c.in_err-take_kind.field-0.0 ⊥ ((k : ℕ) → name_in r.given k ≢ Some r.word) ⊥ ⊥ c.in_err-take_kind.ensures.unknown (λ none. absurd none) (token-unknown r c.requires.reading c.requires.state c.args.c no_name) (λ deep. absurd deep) (λ long. absurd long))
 
 pub returns-clause-ok : goal.returns-clause-ok
 returns-clause-ok c =

@@ -1,0 +1,6 @@
+-- Counts of nodes that are built.
+--     counted        a count after n more: at the greatest number it stays
+use Rattle.std.specs.Prelude.{ℕ, ◌+◌, ◌-◌, ◌^◌, min}
+
+abbrev pub counted : ℕ → ℕ → ℕ
+counted n further = min (n + further) (2 ^ 64 - 1)
