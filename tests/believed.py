@@ -9,7 +9,7 @@
 A public clause is a clause of a call that a user can name, of a law, or of a trait; so are the views of public types. What is proved of a
 type needs no belief: its invariant, its size, which only has to decrease, and the code by which it is a model's value, which is proved to be
 one-to-one.
-Imports, comments, the table of the kinds' names and the rows of tables of errors' names (`Memory = codes "Memory"`) don't count."""
+Imports, comments, the table of the kinds' names and the rows of tables of what errors print (`Memory = codes "Memory"`) don't count."""
 
 import re
 import sys
@@ -21,7 +21,7 @@ ROOT = Path(__file__).resolve().parent.parent
 WORD = re.compile(r"[^\s(){}\[\],;.]+")
 START = re.compile(r"^(\s*)(?:abbrev |unfoldable )?(?:pub )?(?:(record|data) )?([^\s(){}:]+)(?: [^=]*)? :(?: |$)")
 TABLE = {"named_kinds"}
-NAME_ROW = re.compile(r'^\w+_error_name (.*) = codes "\w+"$')
+NAME_ROW = re.compile(r'^\w+_error_text (.*) = codes "\w+"$')
 # What only a user of scripts has to believe; the other libraries are the editor's.
 SCRIPTS = {"tree_text", "script_lines", "syned_script", "syned_run"}
 MOST_OF_EDITOR = 1500

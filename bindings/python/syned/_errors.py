@@ -59,7 +59,7 @@ class Refused(SynedError):
     ...     carry_out(b'tree A (ARG_LIST)\\nedit R A\\ndelete R\\nfinish\\n')
     ... except Refused as error:
     ...     print(error.refusal, error.changes, error)
-    Refusal.DELETES_ROOT () line 3: the root of the edited tree cannot be deleted
+    Refusal.DELETES_ROOT () refused DeletesRoot: the root of the edited tree cannot be deleted; ...: line 3
     """
 
     def __init__(self, refusal: Refusal, changes: Tuple[int, ...], sentence: str) -> None:

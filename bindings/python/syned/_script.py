@@ -323,7 +323,7 @@ class Script:
         >>> script.finish()
         Traceback (most recent call last):
             ...
-        syned._errors.Refused: line 3: the root of the edited tree cannot be deleted
+        syned._errors.Refused: refused DeletesRoot: the root of the edited tree cannot be deleted; ...: line 3
         """
         self._lines.append("finish")
         return carry_out(bytes(self))

@@ -262,9 +262,6 @@ fn finish_with_an_answer_much_longer_than_the_script() {
 
 // Refusals
 
-const FOREIGN: &str = "a position or a target is not of the edited tree \
-                       (take it from the root that SyntaxEditor::new returns)";
-
 #[test]
 fn foreign() {
     let (mut editing, _) = list_edit();
@@ -273,7 +270,8 @@ fn foreign() {
     assert_refused(
         editing.finish(),
         Refusal::Foreign,
-        &format!("line 4: {FOREIGN}"),
+        "refused Foreign: the position or the target is not in the edited tree; begin at the root that is edited: \
+         line 4",
     );
 }
 
@@ -284,7 +282,8 @@ fn bad_range() {
     assert_refused(
         editing.finish(),
         Refusal::BadRange,
-        "line 3: the ends of a range must be siblings, and the last must not come before the first",
+        "refused BadRange: the ends of the range are not siblings in this order; give siblings, and not the last one first: \
+         line 3",
     );
 }
 
@@ -295,7 +294,8 @@ fn deletes_root() {
     assert_refused(
         editing.finish(),
         Refusal::DeletesRoot,
-        "line 3: the root of the edited tree cannot be deleted",
+        "refused DeletesRoot: the root of the edited tree cannot be deleted; delete what is in it, or replace it by a node: \
+         line 3",
     );
 }
 
@@ -307,7 +307,8 @@ fn root_replacement() {
     assert_refused(
         editing.finish(),
         Refusal::RootReplacement,
-        "line 4: the root of the edited tree can be replaced by one node only",
+        "refused RootReplacement: the root of the edited tree can be replaced by one node only; give one node: \
+         line 4",
     );
 }
 
@@ -329,7 +330,8 @@ fn not_a_child() {
     assert_refused(
         editing.finish(),
         Refusal::NotAChild,
-        "line 4: an output is not a child of the node for which the builder was made",
+        "refused NotAChild: the copy is not a child of the given parent; give the node that the copy is a child of: \
+         line 4",
     );
 }
 
@@ -340,7 +342,8 @@ fn not_younger() {
     assert_refused(
         editing.finish(),
         Refusal::NotYounger,
-        "line 4: the tree number of an output is not greater than that of its input",
+        "refused NotYounger: the tree of the copy is not newer than that of the node; make the tree of the copy after that of the node: \
+         line 4",
     );
 }
 
@@ -351,7 +354,8 @@ fn other_shape() {
     assert_refused(
         editing.finish(),
         Refusal::OtherShape,
-        "line 4: an output differs from its input in more than the texts of its tokens",
+        "refused OtherShape: the copy differs from the node in more than the texts of its tokens; map nodes of one shape: \
+         line 4",
     );
 }
 
@@ -368,7 +372,8 @@ fn intersecting() {
             first: 0,
             second: 2,
         },
-        "line 7: changes 0 and 2 replace or delete the same element",
+        "refused Intersecting 0 2: two changes replace or delete the same element; keep one of them: \
+         changes 0 (line 4) and 2 (line 6)",
     );
 }
 
@@ -379,7 +384,12 @@ fn missing_mapping() {
     editing.replace(&root, &tree).unwrap();
     editing.insert(Position::First(&root), &seven).unwrap();
     let error = editing.finish().unwrap_err();
-    assert!(error.to_string().starts_with("line 6: "));
+    let said = error.to_string();
+    assert!(said.starts_with("refused MissingMapping 1 0: "), "{said}");
+    assert!(
+        said.ends_with(": changes 1 (line 5) and 0 (line 4)"),
+        "{said}"
+    );
     let Error::Refused { refusal, .. } = error else {
         panic!("{error}")
     };
@@ -399,7 +409,10 @@ fn assert_order_refused(editing: Editing, order: &[usize], wanted: Refusal) {
         panic!("{error}")
     };
     assert_eq!(refusal, wanted);
-    assert!(sentence.starts_with("line "), "{sentence}");
+    assert!(
+        sentence.starts_with(&format!("refused {wanted:?}: ")),
+        "{sentence}"
+    );
 }
 
 #[test]

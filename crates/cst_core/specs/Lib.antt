@@ -9,7 +9,7 @@ pub use Rattle.green_tree.specs.Kind
 pub use Rattle.green_tree.specs.Green
 pub use Rattle.green_tree.specs.GreenElement
 pub use Rattle.green_tree.specs.GreenElementRef
-pub use Rattle.green_tree.specs.TreeErrorName
+pub use Rattle.green_tree.specs.TreeErrorText
 pub mod TreeIds
 pub mod Element
 pub mod SyntaxElement

@@ -6,7 +6,6 @@ pub mod TargetTable
 pub mod Fate
 pub mod FateWay
 pub mod Clash
-pub mod ClashErrorName
 pub mod OwnerPlaces
 pub mod OneNode
 pub mod Given

@@ -1,5 +1,5 @@
 pub mod Mapping
 pub mod Builder
 pub mod Following
-pub mod MapErrorName
+pub mod MapErrorText
 pub mod inner

@@ -17,7 +17,7 @@ pub mod EditRefusal
 pub mod Plan
 pub mod PlanText
 pub mod Engine
-pub mod PlanErrorNames
+pub mod PlanErrorText
 pub mod Run
 pub mod PlanTextEdits
 pub mod ExecuteRefusal

@@ -1,5 +1,4 @@
-ghost use Rattle.std.specs.Prelude.{◌≡◌};
-ghost use Rattle.edit_plan.specs.PlanErrorNames.{engine_error_name};
+ghost use Rattle.std.specs.Prelude.{◌<◌, length};
 
 use std::alloc::{AllocError, AllocFailed};
 use thiserror::Error;
@@ -8,21 +7,23 @@ use thiserror::Error;
 #[derive(Debug, PartialEq, Eq, Drop, Error)]
 pub enum EngineError {
     /// The text of the new tree passes 4,294,967,295 bytes.
-    #[error("the text of the new tree is longer than 4,294,967,295 bytes")]
+    #[error("TooLong")]
     TooLong,
     /// Memory was refused.
-    #[error("memory ran out")]
+    #[error("Memory")]
     Memory,
 }
 
 impl EngineError {
-    /// The name of the case alone, as `TooLong`.
-    pub fn name(&self) -> &'static str
-        ensures { result.now ≡ engine_error_name self.now }
+    /// What is wrong and what to do about it, in a sentence without the numbers.
+    pub fn help(&self) -> &'static str
+        ensures { 0 < length result.now }
     {
         match self {
-            EngineError::TooLong => "TooLong",
-            EngineError::Memory => "Memory",
+            EngineError::TooLong => {
+                "the text of the new tree would have four gibibytes or more; insert less"
+            }
+            EngineError::Memory => "memory ran out; free some and try again",
         }
     }
 }

@@ -1,42 +1,62 @@
-ghost use Rattle.std.specs.Prelude.{◌≡◌};
-ghost use Rattle.edit_plan.specs.PlanErrorNames.{execute_error_name};
+ghost use Rattle.std.specs.Prelude.{◌<◌, length};
 
 use crate::edit_error::EditError;
 use edit_steps::OrderError;
 use std::alloc::{AllocError, AllocFailed};
+use std::fmt;
 use thiserror::Error;
 
 /// Why a plan is not carried out in an order. Of several reasons the first here is given.
 #[derive(Debug, PartialEq, Eq, Drop, Error)]
 pub enum ExecuteError {
     /// A change that is not dropped is missing from the order or there twice, or another number is there.
-    #[error("the order must have each change that is not dropped exactly once, and no other number")]
     NotEachOnce,
     /// A change comes after its owner.
-    #[error("a change must come before its owner, the change that replaces the node round it")]
     OwnerTooEarly,
     /// Two inserts of one gap come in the wrong order.
-    #[error("of two inserts into one gap, the one that was recorded last must come first")]
     GapOutOfOrder,
     /// A token is replaced before an insert after it.
-    #[error("an insert after a token must come before the change that replaces or deletes the token")]
     TokenTooEarly,
     /// The order is allowed, and the edit is refused: `TooLong`, `NoTreeNumber` or `Memory`.
-    #[error(transparent)]
     Edit(EditError),
 }
 
+impl fmt::Display for ExecuteError {
+    ghost use Rattle.std.specs.Prelude.{Some};
+    ghost use Rattle.edit_plan.specs.PlanErrorText.{execute_error_text};
+
+    ghost output = { λ e. Some (execute_error_text e) };
+
+    fn fmt<W: fmt::Write>(&self, f: &mut fmt::Formatter<W>) -> fmt::Result {
+        match self {
+            ExecuteError::NotEachOnce => f.write_str("NotEachOnce"),
+            ExecuteError::OwnerTooEarly => f.write_str("OwnerTooEarly"),
+            ExecuteError::GapOutOfOrder => f.write_str("GapOutOfOrder"),
+            ExecuteError::TokenTooEarly => f.write_str("TokenTooEarly"),
+            ExecuteError::Edit(inner) => write!(f, "{inner}"),
+        }
+    }
+}
+
 impl ExecuteError {
-    /// The name of the case alone, as `NotEachOnce`.
-    pub fn name(&self) -> &'static str
-        ensures { result.now ≡ execute_error_name self.now }
+    /// What is wrong and what to do about it, in a sentence without the numbers.
+    pub fn help(&self) -> &'static str
+        ensures { 0 < length result.now }
     {
         match self {
-            ExecuteError::NotEachOnce => "NotEachOnce",
-            ExecuteError::OwnerTooEarly => "OwnerTooEarly",
-            ExecuteError::GapOutOfOrder => "GapOutOfOrder",
-            ExecuteError::TokenTooEarly => "TokenTooEarly",
-            ExecuteError::Edit(inner) => inner.name(),
+            ExecuteError::NotEachOnce => {
+                "the order does not have each change that is not dropped exactly once, and nothing else; list each of them once"
+            }
+            ExecuteError::OwnerTooEarly => {
+                "a change comes after its owner, the change that replaces the node round it; put it before its owner"
+            }
+            ExecuteError::GapOutOfOrder => {
+                "two inserts into one gap come in the wrong order; put the one that was recorded last first"
+            }
+            ExecuteError::TokenTooEarly => {
+                "an insert after a token comes after the change that replaces or deletes the token; put the insert first"
+            }
+            ExecuteError::Edit(inner) => inner.help(),
         }
     }
 }

@@ -1,5 +1,4 @@
 -- What private calls cite, and the crates above for theirs: no contract that a user calls by names any of it.
-pub mod OrderErrorName
 pub mod Followers
 pub mod GapTable
 pub mod Turns

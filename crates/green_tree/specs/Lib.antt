@@ -7,5 +7,5 @@ pub mod Count
 pub mod Green
 pub mod GreenElement
 pub mod GreenElementRef
-pub mod TreeErrorName
+pub mod TreeErrorText
 pub mod inner

@@ -55,7 +55,7 @@ impl fmt::Display for Flaw {
     fn fmt<W: fmt::Write>(&self, f: &mut fmt::Formatter<W>) -> fmt::Result {
         match self {
             Flaw::Wanted(wanted) => f.write_str(wanted.as_str()),
-            Flaw::Expected(expected) => write!(f, "{expected} is expected"),
+            Flaw::Expected(expected) => f.write_str(expected.help()),
             Flaw::TooDeep => write!(f, "more than {DEPTH_LIMIT} parentheses are open at once"),
         }
     }

@@ -16,7 +16,8 @@ use syned_script::{Stop, Stopped, carry_out};
 /// Why a script of these bytes does not end in an edit, in a sentence for people, without a newline; `None` if it does. No sentence is empty.
 ///
 /// A bad line is named with its column and with what was read there. Lines and columns count from 1, columns in bytes. For a refused call it
-/// is the line and the refusal's sentence. The script is carried out for it once more.
+/// is the answer, what to do about it, and the line, or the lines of the changes that the refusal names. The script is carried out for it once
+/// more, and for those lines again.
 pub fn explain(alloc: Global, script: &[u8]) -> Result<Option<String>, AllocError>
     ensures { IfOk result
         (λ o. MatchOption o (EndsIn script.now 0) (λ reason. IsReason script.now (string_bytes reason))) }

@@ -138,7 +138,7 @@ fn record(alloc: Global, session: &mut Session, lines: &[&str]) -> Result<usize,
 }
 
 // Carries the line out. Answers whether it was `finish`.
-fn carry_out_line(alloc: Global, session: &mut Session, text: &str) -> Result<bool, Stop>
+pub(crate) fn carry_out_line(alloc: Global, session: &mut Session, text: &str) -> Result<bool, Stop>
     ensures { TextGives (state_of session.old) text.now result (state_of session.new) }
 {
     match read_line(alloc, text)? {

@@ -3,10 +3,12 @@
 
 mod calls;
 mod carried_out;
+mod changes;
 mod explained;
 mod fault;
 mod lines;
 mod mapped;
+mod nearest;
 mod refusal;
 mod roots;
 mod session;

@@ -88,6 +88,14 @@ impl Session {
         self.editing.is_some()
     }
 
+    /// How many changes there are.
+    pub(crate) fn count(&self) -> usize {
+        match &self.editing {
+            Some(editing) => editing.editor.changes().len(),
+            None => 0,
+        }
+    }
+
     /// What is edited, with the source of tree numbers and the annotation words; `Bad` where there is nothing.
     pub(crate) fn into_editing(self) -> Result<(Editing, TreeIds, Words), Stop>
         ensures editing { IfOk result (λ r. (state_of self).editing ≡ Some (editing_of r.0)) }

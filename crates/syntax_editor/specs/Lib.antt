@@ -1,7 +1,7 @@
 pub use Rattle.cst_core.specs.Kinds
 pub use Rattle.cst_core.specs.SyntaxKind
 pub use Rattle.cst_core.specs.TreeError
-pub use Rattle.cst_core.specs.TreeErrorName
+pub use Rattle.cst_core.specs.TreeErrorText
 pub use Rattle.cst_core.specs.Path
 pub use Rattle.cst_core.specs.Tree
 pub use Rattle.cst_core.specs.Order
@@ -13,7 +13,7 @@ pub use Rattle.cst_core.specs.SyntaxElement
 pub use Rattle.cst_core.specs.Navigation
 pub use Rattle.cst_core.specs.declared.element.SyntaxElement as ElementForms
 pub use Rattle.edit_map.specs.declared.map_error.MapError
-pub use Rattle.edit_map.specs.MapErrorName
+pub use Rattle.edit_map.specs.MapErrorText
 pub use Rattle.edit_map.specs.Mapping
 pub use Rattle.edit_map.specs.Builder
 pub use Rattle.edit_map.specs.Following
@@ -36,7 +36,7 @@ pub use Rattle.edit_plan.specs.EditRefusal
 pub use Rattle.edit_plan.specs.declared.edit_error.EditError
 pub use Rattle.edit_plan.specs.declared.engine_error.EngineError
 pub use Rattle.edit_plan.specs.declared.execute_error.ExecuteError
-pub use Rattle.edit_plan.specs.PlanErrorNames
+pub use Rattle.edit_plan.specs.PlanErrorText
 pub use Rattle.edit_plan.specs.PlanText
 pub use Rattle.edit_plan.specs.Plan
 pub use Rattle.edit_plan.specs.Engine
@@ -47,7 +47,6 @@ pub use Rattle.edit_change.specs.Rewriting
 pub use Rattle.edit_change.specs.RewritingLaws
 pub use Rattle.whitespace.specs.declared.level.IndentLevel
 pub use Rattle.whitespace.specs.declared.indent_error.IndentError
-pub use Rattle.whitespace.specs.IndentErrorName
 pub use Rattle.whitespace.specs.Level
 pub use Rattle.whitespace.specs.LevelCalls
 pub use Rattle.whitespace.specs.Indentation
@@ -60,6 +59,7 @@ pub use Rattle.whitespace.specs.Table
 pub use Rattle.whitespace.specs.Spacing
 pub mod RecordCall
 pub mod RecordRefusal
+pub mod RecordErrorText
 pub mod AttrsAndDocs
 pub mod SpacingCalls
 pub mod Editor
@@ -67,7 +67,6 @@ pub mod Merging
 pub mod TypedIndents
 pub mod Lending
 pub mod EditorLaws
-pub mod EditorErrorNames
 pub mod Making
 pub mod Wrapping
 pub mod inner

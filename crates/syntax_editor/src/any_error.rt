@@ -1,5 +1,4 @@
-ghost use Rattle.std.specs.Prelude.{◌≡◌};
-ghost use Rattle.syntax_editor.specs.EditorErrorNames.{error_name};
+ghost use Rattle.std.specs.Prelude.{◌<◌, length};
 
 use crate::error::{MergeError, RecordError};
 use crate::wrap_error::WrapError;
@@ -38,25 +37,25 @@ pub enum Error {
     #[error(transparent)]
     Execute(ExecuteError),
     /// Memory was refused to a call that is refused for nothing else.
-    #[error("memory ran out")]
+    #[error("Memory")]
     Memory,
 }
 
 impl Error {
-    /// The name of the case alone, as `Foreign`.
-    pub fn name(&self) -> &'static str
-        ensures { result.now ≡ error_name self.now }
+    /// What is wrong and what to do about it, in a sentence without the numbers.
+    pub fn help(&self) -> &'static str
+        ensures { 0 < length result.now }
     {
         match self {
-            Error::Tree(inner) => inner.name(),
-            Error::Map(inner) => inner.name(),
-            Error::Record(inner) => inner.name(),
-            Error::Merge(inner) => inner.name(),
-            Error::Indent(inner) => inner.name(),
-            Error::Wrap(inner) => inner.name(),
-            Error::Edit(inner) => inner.name(),
-            Error::Execute(inner) => inner.name(),
-            Error::Memory => "Memory",
+            Error::Tree(inner) => inner.help(),
+            Error::Map(inner) => inner.help(),
+            Error::Record(inner) => inner.help(),
+            Error::Merge(inner) => inner.help(),
+            Error::Indent(inner) => inner.help(),
+            Error::Wrap(inner) => inner.help(),
+            Error::Edit(inner) => inner.help(),
+            Error::Execute(inner) => inner.help(),
+            Error::Memory => "memory ran out; free some and try again",
         }
     }
 }

@@ -1,8 +1,8 @@
-ghost use Rattle.std.specs.Prelude.{◌≡◌};
-ghost use Rattle.syntax_editor.specs.EditorErrorNames.{record_error_name, merge_error_name};
+ghost use Rattle.std.specs.Prelude.{◌≡◌, ◌<◌, length};
 ghost use Rattle.syntax_editor.specs.RecordRefusal.{of_space};
 
 use std::alloc::{AllocError, AllocFailed};
+use std::fmt;
 use thiserror::Error;
 use whitespace::SpaceError;
 
@@ -10,26 +10,38 @@ use whitespace::SpaceError;
 #[derive(Debug, PartialEq, Eq, Drop, Error)]
 pub enum RecordError {
     /// A position, a target or an end is of another tree, or leads to no element of its form in the editor's.
-    #[error("a position or a target is not of the edited tree (take it from the root that SyntaxEditor::new returns)")]
     Foreign,
     /// The ends of a range are not siblings, or the last comes before the first.
-    #[error("the ends of a range must be siblings, and the last must not come before the first")]
     BadRange,
     /// The root cannot be deleted.
-    #[error("the root of the edited tree cannot be deleted")]
     DeletesRoot,
     /// The root can be replaced by one node only.
-    #[error("the root of the edited tree can be replaced by one node only")]
     RootReplacement,
     /// A level of indentation passes 255.
-    #[error("a level of indentation is greater than 255")]
     LevelTooLarge,
     /// The source of tree numbers is spent.
-    #[error("the source of tree numbers has no number left")]
     NoTreeNumber,
     /// Memory was refused.
-    #[error("memory ran out")]
     Memory,
+}
+
+impl fmt::Display for RecordError {
+    ghost use Rattle.std.specs.Prelude.{Some};
+    ghost use Rattle.syntax_editor.specs.RecordErrorText.{record_error_text};
+
+    ghost output = { λ e. Some (record_error_text e) };
+
+    fn fmt<W: fmt::Write>(&self, f: &mut fmt::Formatter<W>) -> fmt::Result {
+        match self {
+            RecordError::Foreign => f.write_str("Foreign"),
+            RecordError::BadRange => f.write_str("BadRange"),
+            RecordError::DeletesRoot => f.write_str("DeletesRoot"),
+            RecordError::RootReplacement => f.write_str("RootReplacement"),
+            RecordError::LevelTooLarge => f.write_str("LevelTooLarge"),
+            RecordError::NoTreeNumber => f.write_str("NoTreeNumber"),
+            RecordError::Memory => f.write_str("Memory"),
+        }
+    }
 }
 
 impl From<AllocError> for RecordError {
@@ -55,18 +67,30 @@ impl<T: Drop> From<AllocFailed<T>> for RecordError {
 }
 
 impl RecordError {
-    /// The name of the case alone, as `Foreign`.
-    pub fn name(&self) -> &'static str
-        ensures { result.now ≡ record_error_name self.now }
+    /// What is wrong and what to do about it, in a sentence without the numbers.
+    pub fn help(&self) -> &'static str
+        ensures { 0 < length result.now }
     {
         match self {
-            RecordError::Foreign => "Foreign",
-            RecordError::BadRange => "BadRange",
-            RecordError::DeletesRoot => "DeletesRoot",
-            RecordError::RootReplacement => "RootReplacement",
-            RecordError::LevelTooLarge => "LevelTooLarge",
-            RecordError::NoTreeNumber => "NoTreeNumber",
-            RecordError::Memory => "Memory",
+            RecordError::Foreign => {
+                "the position or the target is not in the edited tree; begin at the root that is edited"
+            }
+            RecordError::BadRange => {
+                "the ends of the range are not siblings in this order; give siblings, and not the last one first"
+            }
+            RecordError::DeletesRoot => {
+                "the root of the edited tree cannot be deleted; delete what is in it, or replace it by a node"
+            }
+            RecordError::RootReplacement => {
+                "the root of the edited tree can be replaced by one node only; give one node"
+            }
+            RecordError::LevelTooLarge => {
+                "a level of indentation is too large; take some indentation away"
+            }
+            RecordError::NoTreeNumber => {
+                "the source of tree numbers has no number left; start it at a smaller one"
+            }
+            RecordError::Memory => "memory ran out; free some and try again",
         }
     }
 
@@ -86,21 +110,23 @@ impl RecordError {
 #[derive(Debug, PartialEq, Eq, Drop, Error)]
 pub enum MergeError {
     /// The editors have different roots, or roots of one tree number in which a change of the other editor does not fit.
-    #[error("the two editors do not edit the same root")]
+    #[error("OtherRoot")]
     OtherRoot,
     /// Memory was refused.
-    #[error("memory ran out")]
+    #[error("Memory")]
     Memory,
 }
 
 impl MergeError {
-    /// The name of the case alone, as `OtherRoot`.
-    pub fn name(&self) -> &'static str
-        ensures { result.now ≡ merge_error_name self.now }
+    /// What is wrong and what to do about it, in a sentence without the numbers.
+    pub fn help(&self) -> &'static str
+        ensures { 0 < length result.now }
     {
         match self {
-            MergeError::OtherRoot => "OtherRoot",
-            MergeError::Memory => "Memory",
+            MergeError::OtherRoot => {
+                "the two editors do not edit the same root; merge editors of one root"
+            }
+            MergeError::Memory => "memory ran out; free some and try again",
         }
     }
 }

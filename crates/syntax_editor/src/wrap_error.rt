@@ -1,5 +1,4 @@
-ghost use Rattle.std.specs.Prelude.{◌≡◌};
-ghost use Rattle.syntax_editor.specs.EditorErrorNames.{wrap_error_name};
+ghost use Rattle.std.specs.Prelude.{◌<◌, length};
 
 use std::alloc::{AllocError, AllocFailed};
 use thiserror::Error;
@@ -8,33 +7,41 @@ use thiserror::Error;
 #[derive(Debug, PartialEq, Eq, Drop, Error)]
 pub enum WrapError {
     /// The text of the new node passes 4,294,967,295 bytes.
-    #[error("the text of the new node is longer than 4,294,967,295 bytes")]
+    #[error("TooLong")]
     TooLong,
     /// The source of tree numbers is spent.
-    #[error("the source of tree numbers has no number left")]
+    #[error("NoTreeNumber")]
     NoTreeNumber,
     /// The number of the new tree is not greater than that of the node's, which is to be mapped to its copy.
-    #[error("the number of the new tree must be greater than that of the edited tree")]
+    #[error("NotYounger")]
     NotYounger,
     /// The node is of another tree, or its path leads to no node in the editor's.
-    #[error("the node is not of the edited tree (take it from the root that SyntaxEditor::new returns)")]
+    #[error("Foreign")]
     Foreign,
     /// Memory was refused.
-    #[error("memory ran out")]
+    #[error("Memory")]
     Memory,
 }
 
 impl WrapError {
-    /// The name of the case alone, as `NotYounger`.
-    pub fn name(&self) -> &'static str
-        ensures { result.now ≡ wrap_error_name self.now }
+    /// What is wrong and what to do about it, in a sentence without the numbers.
+    pub fn help(&self) -> &'static str
+        ensures { 0 < length result.now }
     {
         match self {
-            WrapError::TooLong => "TooLong",
-            WrapError::NoTreeNumber => "NoTreeNumber",
-            WrapError::NotYounger => "NotYounger",
-            WrapError::Foreign => "Foreign",
-            WrapError::Memory => "Memory",
+            WrapError::TooLong => {
+                "the text of the new node would have four gibibytes or more; make it shorter"
+            }
+            WrapError::NoTreeNumber => {
+                "the source of tree numbers has no number left; start it at a smaller one"
+            }
+            WrapError::NotYounger => {
+                "the number of the new tree is not greater than that of the edited one; take the numbers of all trees from one source"
+            }
+            WrapError::Foreign => {
+                "the node is not in the edited tree; begin at the root that is edited"
+            }
+            WrapError::Memory => "memory ran out; free some and try again",
         }
     }
 }

@@ -1,4 +1,4 @@
-//! What errors print: for a user a sentence, and the name of the case.
+//! What errors print, the name of the case, and the sentence that says what to do.
 
 use cst_core::{SyntaxKind, TreeError};
 use std::alloc::{AllocError, Global};
@@ -176,8 +176,8 @@ impl ErrorQuestion {
     }
 }
 
-/// `map_error CASE`, and the same of each other type: the name of the case, and the sentence that it prints. An error that
-/// holds another one is by the name of its variant, as `execute_error Edit`. Of `row_error VARIANT` the name alone.
+/// `map_error CASE`, and the same of each other type: what the error prints, and its sentence. An error that holds another one is
+/// by the name of its variant, as `execute_error Edit`. Of `row_error VARIANT` what it prints alone.
 pub fn answer(alloc: Global, question: ErrorQuestion, case: &str) -> Result<String, NoAnswer> {
     match question {
         ErrorQuestion::TreeError => tree_error(alloc, case),
@@ -197,8 +197,8 @@ pub fn answer(alloc: Global, question: ErrorQuestion, case: &str) -> Result<Stri
     }
 }
 
-fn told<E: Display>(alloc: Global, name: &str, error: &E) -> Result<String, NoAnswer> {
-    Ok(format!(in alloc; "{name}: {error}")?)
+fn told<E: Display>(alloc: Global, error: &E, help: &str) -> Result<String, NoAnswer> {
+    Ok(format!(in alloc; "{error}: {help}")?)
 }
 
 fn tree_error(alloc: Global, case: &str) -> Result<String, NoAnswer> {
@@ -206,73 +206,73 @@ fn tree_error(alloc: Global, case: &str) -> Result<String, NoAnswer> {
         return want_of_memory(alloc);
     }
     let error = find_named(&TREE_ERRORS, case).ok_or(NoAnswer::Arguments)?;
-    told(alloc, error.name(), error)
+    told(alloc, error, error.help())
 }
 
 // The tree error that want of memory is turned into.
 fn want_of_memory(alloc: Global) -> Result<String, NoAnswer> {
     let error = TreeError::from(AllocError);
-    told(alloc, error.name(), &error)
+    told(alloc, &error, error.help())
 }
 
 fn map_error(alloc: Global, case: &str) -> Result<String, NoAnswer> {
     let error = find_named(&MAP_ERRORS, case).ok_or(NoAnswer::Arguments)?;
-    told(alloc, error.name(), error)
+    told(alloc, error, error.help())
 }
 
 fn record_error(alloc: Global, case: &str) -> Result<String, NoAnswer> {
     let error = find_named(&RECORD_ERRORS, case).ok_or(NoAnswer::Arguments)?;
-    told(alloc, error.name(), error)
+    told(alloc, error, error.help())
 }
 
 fn merge_error(alloc: Global, case: &str) -> Result<String, NoAnswer> {
     let error = find_named(&MERGE_ERRORS, case).ok_or(NoAnswer::Arguments)?;
-    told(alloc, error.name(), error)
+    told(alloc, error, error.help())
 }
 
 fn wrap_error(alloc: Global, case: &str) -> Result<String, NoAnswer> {
     let error = find_named(&WRAP_ERRORS, case).ok_or(NoAnswer::Arguments)?;
-    told(alloc, error.name(), error)
+    told(alloc, error, error.help())
 }
 
 fn indent_error(alloc: Global, case: &str) -> Result<String, NoAnswer> {
     let error = find_named(&INDENT_ERRORS, case).ok_or(NoAnswer::Arguments)?;
-    told(alloc, error.name(), error)
+    told(alloc, error, error.help())
 }
 
 fn edit_error(alloc: Global, case: &str) -> Result<String, NoAnswer> {
     let error = find_named(&EDIT_ERRORS, case).ok_or(NoAnswer::Arguments)?;
-    told(alloc, error.name(), error)
+    told(alloc, error, error.help())
 }
 
 fn engine_error(alloc: Global, case: &str) -> Result<String, NoAnswer> {
     let error = find_named(&ENGINE_ERRORS, case).ok_or(NoAnswer::Arguments)?;
-    told(alloc, error.name(), error)
+    told(alloc, error, error.help())
 }
 
 fn execute_error(alloc: Global, case: &str) -> Result<String, NoAnswer> {
     let error = find_named(&EXECUTE_ERRORS, case).ok_or(NoAnswer::Arguments)?;
-    told(alloc, error.name(), error)
+    told(alloc, error, error.help())
 }
 
 fn error(alloc: Global, case: &str) -> Result<String, NoAnswer> {
     let error = find_named(&ANY_ERRORS, case).ok_or(NoAnswer::Arguments)?;
-    told(alloc, error.name(), error)
+    told(alloc, error, error.help())
 }
 
 fn expression_error(alloc: Global, case: &str) -> Result<String, NoAnswer> {
     let error = find_named(&EXPRESSION_ERRORS, case).ok_or(NoAnswer::Arguments)?;
-    told(alloc, error.name(), error)
+    told(alloc, error, error.help())
 }
 
 fn write_error(alloc: Global, case: &str) -> Result<String, NoAnswer> {
     let error = find_named(&WRITE_ERRORS, case).ok_or(NoAnswer::Arguments)?;
-    told(alloc, error.name(), error)
+    told(alloc, error, error.help())
 }
 
 fn name_error(alloc: Global, case: &str) -> Result<String, NoAnswer> {
     let error = find_named(&NAME_ERRORS, case).ok_or(NoAnswer::Arguments)?;
-    told(alloc, error.name(), error)
+    told(alloc, error, error.help())
 }
 
 fn row_error(alloc: Global, case: &str) -> Result<String, NoAnswer> {

@@ -3,7 +3,7 @@
 use crate::memory::refusal_of;
 use crate::shown::{node_facts, unquote};
 use cst_core::{GreenNode, SyntaxNode, TreeIds};
-use std::alloc::Global;
+use std::alloc::{AllocError, Global};
 use test_trees::{NoAnswer, Words, find_named};
 use tree_text::{ExpressionError, read_line_tree, read_root, read_tree};
 
@@ -27,7 +27,7 @@ impl ExpressionQuestion {
 }
 
 /// `read_tree EXPRESSION`, `read_line_tree EXPRESSION` or `read_root NUMBER EXPRESSION`, each expression between quotes. Of an
-/// error its sentence. Of a root its number, and of any `read_root` the number that comes next.
+/// error what it prints, and its sentence. Of a root its number, and of any `read_root` the number that comes next.
 pub fn answer(
     alloc: Global,
     question: ExpressionQuestion,
@@ -54,8 +54,14 @@ fn told(
     match read {
         Ok(tree) => node_facts(alloc, &tree),
         Err(ExpressionError::Memory) => Err(NoAnswer::Refused(call)),
-        Err(error) => Ok(error.to_string(alloc)?),
+        Err(error) => Ok(refusal(alloc, &error)?),
     }
+}
+
+/// What an error prints, and its sentence.
+pub fn refusal(alloc: Global, error: &ExpressionError) -> Result<String, AllocError> {
+    let help = error.help();
+    format!(in alloc; "{error}: {help}")
 }
 
 fn root(alloc: Global, arguments: &str) -> Result<String, NoAnswer> {
@@ -67,7 +73,7 @@ fn root(alloc: Global, arguments: &str) -> Result<String, NoAnswer> {
     let answer = match read {
         Ok(node) => root_facts(alloc, &node)?,
         Err(ExpressionError::Memory) => return Err(refusal_of("read_root", is_kept)),
-        Err(error) => error.to_string(alloc)?,
+        Err(error) => refusal(alloc, &error)?,
     };
     next_after(alloc, &answer, &ids)
 }

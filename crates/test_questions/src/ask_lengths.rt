@@ -60,7 +60,7 @@ fn node_of_halves(alloc: Global, count: usize) -> Result<String, NoAnswer> {
     match GreenNode::new(alloc, SyntaxKind::LITERAL, halves(alloc, count)?) {
         Ok(node) => number(alloc, node.length()),
         Err(TreeError::Memory) => Err(NoAnswer::Refused("GreenNode::new")),
-        Err(error) => word(alloc, error.name()),
+        Err(error) => Ok(error.to_string(alloc)?),
     }
 }
 

@@ -1,5 +1,6 @@
 //! Trees as text, with names of kinds of one's own.
 
+use crate::ask_expressions::refusal;
 use crate::ask_kinds::kind_of;
 use crate::memory::value_or_refusal;
 use crate::shown::{node_facts, unquote};
@@ -122,7 +123,7 @@ fn read_named(alloc: Global, expression: &str, names: &KindNames) -> Result<Stri
             Ok(format!(in alloc; "{number} {facts}")?)
         }
         Err(ExpressionError::Memory) => Err(NoAnswer::Refused("read_tree_with")),
-        Err(error) => Ok(error.to_string(alloc)?),
+        Err(error) => Ok(refusal(alloc, &error)?),
     }
 }
 

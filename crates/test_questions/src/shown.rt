@@ -183,7 +183,7 @@ pub fn number_or_error(
     match made {
         Ok(node) => number(alloc, node.tree()),
         Err(TreeError::Memory) => Err(refusal_of(call, is_kept)),
-        Err(error) => word(alloc, error.name()),
+        Err(error) => Ok(error.to_string(alloc)?),
     }
 }
 

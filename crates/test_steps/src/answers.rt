@@ -1,8 +1,8 @@
 //! What a step answers, as a row has it: `ok` and what it gives, or the name of the refusal; or a fact.
 
-use crate::refused::{Refused, refusal_text};
 use cst_core::{SyntaxElement, SyntaxNode};
 use std::alloc::{AllocError, Global};
+use std::fmt::Display;
 use test_trees::{NoAnswer, push_path, push_quoted, word};
 
 // Texts up to this length are shown.
@@ -42,8 +42,16 @@ pub fn truth(alloc: Global, holds: bool) -> Result<String, NoAnswer> {
     word(alloc, if holds { "true" } else { "false" })
 }
 
+/// The answer of a call that is refused: what the error prints.
+pub fn refusal_text<E: Display + Drop>(alloc: Global, refusal: E) -> Result<String, NoAnswer> {
+    Ok(refusal.to_string(alloc)?)
+}
+
 /// The answer of a call that gives nothing.
-pub fn ok_or_refusal<E: Refused>(alloc: Global, called: Result<(), E>) -> Result<String, NoAnswer> {
+pub fn ok_or_refusal<E: Display + Drop>(
+    alloc: Global,
+    called: Result<(), E>,
+) -> Result<String, NoAnswer> {
     match called {
         Ok(()) => ok(alloc),
         Err(refusal) => refusal_text(alloc, refusal),
@@ -98,7 +106,7 @@ pub fn text_of(alloc: Global, node: &SyntaxNode) -> Result<String, NoAnswer> {
 }
 
 /// The answer of a call that makes a node.
-pub fn node_or_refusal<E: Refused>(
+pub fn node_or_refusal<E: Display + Drop>(
     alloc: Global,
     called: Result<SyntaxNode, E>,
 ) -> Result<String, NoAnswer> {

@@ -1,8 +1,7 @@
 //! Editors: new ones, merged ones, and one whose changes are finished.
 
-use crate::answers::{memory, node_answer, none, ok};
+use crate::answers::{memory, node_answer, none, ok, refusal_text};
 use crate::edits::keep_edit;
-use crate::refused::refusal_text;
 use crate::session::{Session, last};
 use crate::shifts::factory;
 use cst_core::ast::BlockExpr;

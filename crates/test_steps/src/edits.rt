@@ -1,11 +1,11 @@
 //! What edits give: their roots, changed and annotated elements, and nodes that are found again.
 
-use crate::answers::{memory, node_answer, none, paths_of, text_of};
+use crate::answers::{memory, node_answer, none, paths_of, refusal_text, text_of};
 use crate::making::annotation;
-use crate::refused::{Refused, refusal_text};
 use crate::session::Session;
 use cst_core::SyntaxNode;
 use std::alloc::{AllocError, Global};
+use std::fmt::Display;
 use syntax_editor::SyntaxEdit;
 use test_trees::{NoAnswer, Words, push_path};
 
@@ -35,7 +35,7 @@ fn last(session: &Session) -> Result<&SyntaxEdit, NoAnswer> {
 }
 
 /// Keeps an edit, and answers its new root.
-pub fn keep_edit<E: Refused>(
+pub fn keep_edit<E: Display + Drop>(
     alloc: Global,
     session: &mut Session,
     edit: Result<SyntaxEdit, E>,

@@ -1,8 +1,7 @@
 //! Plans that engines carry out: what each gives, how many nodes one builds, and whether both make the same.
 
-use crate::answers::number_answer;
+use crate::answers::{number_answer, refusal_text};
 use crate::edits::keep_edit;
-use crate::refused::refusal_text;
 use crate::session::Session;
 use cst_core::{GreenElement, GreenNode, SyntaxNode, TreeIds, same_shape};
 use std::alloc::{AllocError, Global};

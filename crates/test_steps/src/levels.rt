@@ -1,7 +1,6 @@
 //! Whitespace tokens and levels.
 
-use crate::answers::{none, number_answer, truth};
-use crate::refused::refusal_text;
+use crate::answers::{none, number_answer, refusal_text, truth};
 use crate::session::Session;
 use crate::shifts::{block, factory};
 use cst_core::{SyntaxNode, SyntaxToken, TreeIds};

@@ -18,7 +18,6 @@ mod pairs;
 mod plans;
 mod recorded;
 mod recording;
-mod refused;
 mod roots;
 mod runs;
 mod session;

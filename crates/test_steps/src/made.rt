@@ -1,8 +1,7 @@
 //! Elements made of parts, and nodes put between elements.
 
-use crate::answers::{node_answer, node_or_refusal};
+use crate::answers::{node_answer, node_or_refusal, refusal_text};
 use crate::levels::{text_of_tree, token_answer};
-use crate::refused::refusal_text;
 use crate::session::{Session, last};
 use cst_core::{SyntaxElement, SyntaxKind, SyntaxNode};
 use std::alloc::Global;

@@ -1,7 +1,8 @@
 //! Trees, numbers, annotations and positions.
 
-use crate::answers::{memory, node_or_refusal, number_answer, number_or_none, ok, some};
-use crate::refused::refusal_text;
+use crate::answers::{
+    memory, node_or_refusal, number_answer, number_or_none, ok, refusal_text, some,
+};
 use crate::session::Session;
 use cst_core::ast::{BlockExpr, Fn, LetStmt, StmtList};
 use cst_core::{AstNode, GreenElement, GreenNode, SyntaxElement, SyntaxKind, SyntaxNode, TreeIds};

@@ -2,12 +2,11 @@
 ghost use Rattle.std.specs.Prelude.{◌≡◌, ◌↔◌, ◌<◌, [], length, IsTrue, IfOk, All};
 ghost use Rattle.edit_plan.specs.Fits.{Fits};
 
-use crate::answers::{memory, number_answer, number_or_none, ok, truth};
+use crate::answers::{memory, number_answer, number_or_none, ok, refusal_text, truth};
 use crate::arguments::{insertion, insertions, range_replacements, replacements, two_elements};
 use crate::editors::take_last;
 use crate::making::annotation;
 use crate::recorded::deleted_paths;
-use crate::refused::refusal_text;
 use crate::roots::Roots;
 use crate::session::Session;
 use cst_core::SyntaxNode;

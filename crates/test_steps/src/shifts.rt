@@ -1,8 +1,7 @@
 //! Trees that are indented and dedented.
 
-use crate::answers::{memory, node_answer, node_or_refusal};
+use crate::answers::{memory, node_answer, node_or_refusal, refusal_text};
 use crate::mappings;
-use crate::refused::refusal_text;
 use crate::session::Session;
 use cst_core::ast::{BlockExpr, StmtList};
 use cst_core::{AstNode, SyntaxNode};

@@ -1,11 +1,8 @@
 pub mod Escape
 pub mod Depth
-pub mod ExpressionErrorName
 pub mod Grammar
 pub mod KindNames
 pub mod Lines
-pub mod NameErrorName
 pub mod Refusals
 pub mod TreeText
-pub mod WriteErrorName
 pub mod inner

@@ -1,8 +1,6 @@
-ghost use Rattle.std.specs.Prelude.{◌≡◌, ◌≢◌};
-ghost use Rattle.tree_text.specs.ExpressionErrorName.{expression_error_name};
+ghost use Rattle.std.specs.Prelude.{◌≡◌, ◌≢◌, ◌<◌, length};
 
 use crate::expected::Expected;
-use crate::open_nodes::DEPTH_LIMIT;
 use cst_core::TreeError;
 use std::alloc::{AllocError, AllocFailed};
 use thiserror::Error;
@@ -11,19 +9,19 @@ use thiserror::Error;
 #[derive(Debug, PartialEq, Eq, Drop, Error)]
 pub enum ExpressionError {
     /// What stands at this byte is not what a tree expression may have there; at the text's length, the text ends too early.
-    #[error("byte {at}: {expected} is expected")]
+    #[error("Malformed {at}")]
     Malformed { at: usize, expected: Expected },
     /// No kind has the name that begins at this byte.
-    #[error("byte {at}: no kind has this name")]
+    #[error("UnknownKind {at}")]
     UnknownKind { at: usize },
     /// More parentheses than `DEPTH_LIMIT` are open at once. The kind of the first node that is too deep begins at this byte.
-    #[error("byte {at}: more than {limit} parentheses are open at once", limit = DEPTH_LIMIT)]
+    #[error("TooDeep {at}")]
     TooDeep { at: usize },
     /// The tree cannot be made, and not because memory ran out.
     #[error(transparent)]
     Tree(TreeError),
     /// Memory was refused.
-    #[error("memory ran out")]
+    #[error("Memory")]
     Memory,
 }
 
@@ -50,16 +48,20 @@ impl<T: Drop> From<AllocFailed<T>> for ExpressionError {
 }
 
 impl ExpressionError {
-    /// The name of the case alone, as `Malformed`.
-    pub fn name(&self) -> &'static str
-        ensures { result.now ≡ expression_error_name self.now }
+    /// What is wrong and what to do about it, in a sentence without the numbers.
+    pub fn help(&self) -> &'static str
+        ensures { 0 < length result.now }
     {
         match self {
-            ExpressionError::Malformed { .. } => "Malformed",
-            ExpressionError::UnknownKind { .. } => "UnknownKind",
-            ExpressionError::TooDeep { .. } => "TooDeep",
-            ExpressionError::Tree(inner) => inner.name(),
-            ExpressionError::Memory => "Memory",
+            ExpressionError::Malformed { expected, .. } => expected.help(),
+            ExpressionError::UnknownKind { .. } => {
+                "no kind has this name; write the name of a kind"
+            }
+            ExpressionError::TooDeep { .. } => {
+                "too many parentheses are open at once; nest fewer nodes"
+            }
+            ExpressionError::Tree(inner) => inner.help(),
+            ExpressionError::Memory => "memory ran out; free some and try again",
         }
     }
 

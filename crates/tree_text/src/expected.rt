@@ -1,4 +1,4 @@
-use std::fmt;
+ghost use Rattle.std.specs.Prelude.{◌<◌, length};
 
 /// What may stand at the byte at which the reader of a tree expression stops.
 #[derive(Clone, Copy, Debug, PartialEq, Eq)]
@@ -19,16 +19,19 @@ pub enum Expected {
     End,
 }
 
-impl fmt::Display for Expected {
-    fn fmt<W: fmt::Write>(&self, f: &mut fmt::Formatter<W>) -> fmt::Result {
-        f.write_str(match self {
-            Expected::Node => "the `(` of a node",
-            Expected::KindName => "the name of a kind",
-            Expected::Element => "an element or `)`",
-            Expected::Text => "the `\"` before the text of a token",
-            Expected::Quote => "the `\"` after the text of a token",
-            Expected::Escape => "`n`, `r`, `t`, `\"` or a backslash",
-            Expected::End => "the end",
-        })
+impl Expected {
+    /// What is wrong, in a sentence.
+    pub fn help(self) -> &'static str
+        ensures { 0 < length result.now }
+    {
+        match self {
+            Expected::Node => "the `(` of a node is expected",
+            Expected::KindName => "the name of a kind is expected",
+            Expected::Element => "an element or `)` is expected",
+            Expected::Text => "the `\"` before the text of a token is expected",
+            Expected::Quote => "the `\"` after the text of a token is expected",
+            Expected::Escape => "`n`, `r`, `t`, `\"` or a backslash is expected",
+            Expected::End => "the end is expected",
+        }
     }
 }

@@ -1,5 +1,4 @@
-ghost use Rattle.std.specs.Prelude.{◌≡◌};
-ghost use Rattle.tree_text.specs.NameErrorName.{name_error_name};
+ghost use Rattle.std.specs.Prelude.{◌<◌, length};
 
 use std::alloc::{AllocError, AllocFailed};
 use thiserror::Error;
@@ -8,16 +7,16 @@ use thiserror::Error;
 #[derive(Clone, Copy, Debug, PartialEq, Eq, Error)]
 pub enum NameError {
     /// The name is empty, or has another character than ASCII letters, digits and underscores.
-    #[error("the name of a kind must have only ASCII letters, digits and underscores, and one at least")]
+    #[error("Misspelled")]
     Misspelled,
     /// The kind has a name.
-    #[error("the kind has a name")]
+    #[error("Named")]
     Named,
     /// A kind has this name.
-    #[error("a kind has this name")]
+    #[error("Taken")]
     Taken,
     /// Memory was refused.
-    #[error("memory ran out")]
+    #[error("Memory")]
     Memory,
 }
 
@@ -44,15 +43,17 @@ impl<T: Drop> From<AllocFailed<T>> for NameError {
 }
 
 impl NameError {
-    /// The name of the case alone, as `Taken`.
-    pub fn name(&self) -> &'static str
-        ensures { result.now ≡ name_error_name self.now }
+    /// What is wrong and what to do about it, in a sentence without the numbers.
+    pub fn help(&self) -> &'static str
+        ensures { 0 < length result.now }
     {
         match self {
-            NameError::Misspelled => "Misspelled",
-            NameError::Named => "Named",
-            NameError::Taken => "Taken",
-            NameError::Memory => "Memory",
+            NameError::Misspelled => {
+                "the name of a kind has ASCII letters, digits and underscores, and one at least; write it so"
+            }
+            NameError::Named => "the kind has a name; leave it as it is",
+            NameError::Taken => "another kind has this name; choose another name",
+            NameError::Memory => "memory ran out; free some and try again",
         }
     }
 }

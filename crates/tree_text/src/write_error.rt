@@ -1,5 +1,4 @@
-ghost use Rattle.std.specs.Prelude.{◌≡◌};
-ghost use Rattle.tree_text.specs.WriteErrorName.{write_error_name};
+ghost use Rattle.std.specs.Prelude.{◌<◌, length};
 
 use cst_core::SyntaxKind;
 use std::alloc::AllocError;
@@ -9,10 +8,10 @@ use thiserror::Error;
 #[derive(Clone, Copy, Debug, PartialEq, Eq, Error)]
 pub enum WriteError {
     /// This kind, which a node or a token of the tree has, has no name.
-    #[error("the kind {0:?} has no name")]
+    #[error("NoName {number}", number = .0.0)]
     NoName(SyntaxKind),
     /// Memory was refused.
-    #[error("memory ran out")]
+    #[error("Memory")]
     Memory,
 }
 
@@ -28,13 +27,13 @@ impl From<AllocError> for WriteError {
 }
 
 impl WriteError {
-    /// The name of the case alone, as `NoName`.
-    pub fn name(&self) -> &'static str
-        ensures { result.now ≡ write_error_name self.now }
+    /// What is wrong and what to do about it, in a sentence without the numbers.
+    pub fn help(&self) -> &'static str
+        ensures { 0 < length result.now }
     {
         match self {
-            WriteError::NoName(_) => "NoName",
-            WriteError::Memory => "Memory",
+            WriteError::NoName(_) => "a kind of the tree has no name; give it one",
+            WriteError::Memory => "memory ran out; free some and try again",
         }
     }
 }

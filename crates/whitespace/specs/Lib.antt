@@ -3,7 +3,6 @@ pub mod LevelCalls
 pub mod Indentation
 pub mod IndentCalls
 pub mod IndentRefusal
-pub mod IndentErrorName
 pub mod MappedAlong
 pub mod Restorable
 pub mod Table

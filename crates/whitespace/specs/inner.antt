@@ -5,5 +5,4 @@ pub mod LastLine
 pub mod AlongRefusal
 pub mod SpaceRule
 pub mod SpaceInCode
-pub mod SpaceErrorName
 pub mod SpaceRefusal

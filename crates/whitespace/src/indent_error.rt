@@ -1,5 +1,4 @@
-ghost use Rattle.std.specs.Prelude.{◌≡◌, Some, IsSome};
-ghost use Rattle.whitespace.specs.IndentErrorName.{indent_error_name};
+ghost use Rattle.std.specs.Prelude.{◌≡◌, Some, IsSome, ◌<◌, length};
 ghost use Rattle.whitespace.specs.inner.AlongRefusal.{of_pairs};
 
 use cst_core::TreeError;
@@ -11,19 +10,19 @@ use thiserror::Error;
 #[derive(Debug, PartialEq, Eq, Drop, Error)]
 pub enum IndentError {
     /// A level passes 255.
-    #[error("a level of indentation is greater than 255")]
+    #[error("LevelTooLarge")]
     LevelTooLarge,
     /// The new text passes 4,294,967,295 bytes.
-    #[error("the new text is longer than 4,294,967,295 bytes")]
+    #[error("TooLong")]
     TooLong,
     /// The source of tree numbers is spent.
-    #[error("the source of tree numbers has no number left")]
+    #[error("NoTreeNumber")]
     NoTreeNumber,
     /// The number of the new tree is not greater than that of the node's, whose children are to be mapped.
-    #[error("the number of the new tree is not greater than that of the node whose children are to be mapped")]
+    #[error("NotYounger")]
     NotYounger,
     /// Memory was refused.
-    #[error("memory ran out")]
+    #[error("Memory")]
     Memory,
 }
 
@@ -65,16 +64,24 @@ impl From<TreeError> for IndentError {
 }
 
 impl IndentError {
-    /// The name of the case alone, as `TooLong`.
-    pub fn name(&self) -> &'static str
-        ensures { result.now ≡ indent_error_name self.now }
+    /// What is wrong and what to do about it, in a sentence without the numbers.
+    pub fn help(&self) -> &'static str
+        ensures { 0 < length result.now }
     {
         match self {
-            IndentError::LevelTooLarge => "LevelTooLarge",
-            IndentError::TooLong => "TooLong",
-            IndentError::NoTreeNumber => "NoTreeNumber",
-            IndentError::NotYounger => "NotYounger",
-            IndentError::Memory => "Memory",
+            IndentError::LevelTooLarge => {
+                "a level of indentation is too large; take some indentation away"
+            }
+            IndentError::TooLong => {
+                "the new text would have four gibibytes or more; make it shorter"
+            }
+            IndentError::NoTreeNumber => {
+                "the source of tree numbers has no number left; start it at a smaller one"
+            }
+            IndentError::NotYounger => {
+                "the number of the new tree is not greater than that of the node whose children are mapped; take the numbers of all trees from one source"
+            }
+            IndentError::Memory => "memory ran out; free some and try again",
         }
     }
 

@@ -1,5 +1,4 @@
 ghost use Rattle.std.specs.Prelude.{◌≡◌, Some, IsSome};
-ghost use Rattle.whitespace.specs.inner.SpaceErrorName.{space_error_name};
 ghost use Rattle.whitespace.specs.inner.SpaceRefusal.{of_level, of_whitespace};
 
 use crate::indent_error::IndentError;
@@ -11,13 +10,13 @@ use thiserror::Error;
 #[derive(Debug, PartialEq, Eq, Drop, Error)]
 pub enum SpaceError {
     /// A new line would have a level past 255.
-    #[error("the level of a new line would be greater than 255")]
+    #[error("LevelTooLarge")]
     LevelTooLarge,
     /// The source of tree numbers is spent.
-    #[error("the source of tree numbers has no number left")]
+    #[error("NoTreeNumber")]
     NoTreeNumber,
     /// Memory was refused.
-    #[error("memory ran out")]
+    #[error("Memory")]
     Memory,
 }
 
@@ -33,17 +32,6 @@ impl From<AllocError> for SpaceError {
 }
 
 impl SpaceError {
-    /// The name of the case alone, as `LevelTooLarge`.
-    pub fn name(&self) -> &'static str
-        ensures { result.now ≡ space_error_name self.now }
-    {
-        match self {
-            SpaceError::LevelTooLarge => "LevelTooLarge",
-            SpaceError::NoTreeNumber => "NoTreeNumber",
-            SpaceError::Memory => "Memory",
-        }
-    }
-
     /// Why whitespace is not found where a level was not read.
     pub(crate) fn of_level(error: IndentError) -> SpaceError
         requires { IsSome (of_level error) }
