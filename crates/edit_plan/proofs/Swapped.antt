@@ -260,6 +260,6 @@ module _ (before : List Change) (c d : Change) (after : List Change) (gaps : sam
     changed_are = r.changed_are ∙ ap (map (syntax_at e.new_root)) (sym (changed-new r.made));
     annotated_paths = r.annotated_paths;
     annotated_are = r.annotated_are;
-    unregistered = r.unregistered;
+    unregistered = λ tell. r.unregistered (told-swapped p.root before c d after (registered_elements p.registrations) p.mapping tell);
     annotated_is = λ tell. r.annotated_is (told-swapped p.root before c d after (registered_elements p.registrations) p.mapping tell) ∙ sym (annotated-new p.mapping (registered_elements p.registrations) r.made);
   }

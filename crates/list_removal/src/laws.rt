@@ -13,7 +13,7 @@ ghost use Rattle.syntax_editor.specs.Editor.{Editor, IsEditor, Records, Takes, p
 ghost use Rattle.list_removal.specs.Removal.{removed_run, removal};
 ghost use Rattle.list_removal.specs.RemovalText.{text_without};
 
-use edit_plan::laws::edit_text_is_filled;
+use syntax_editor::laws::edit_text_is_filled;
 
 /// A removal is refused as the deletion of the element alone is, where equal numbers have equal trees: as `Foreign` exactly
 /// if the element is not of the editor's tree, and else as `DeletesRoot` exactly if it is the root.

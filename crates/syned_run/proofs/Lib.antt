@@ -2,7 +2,7 @@ pub mod Written
 pub mod Read
 pub mod Printed
 pub mod Answered
-pub mod Explained
+pub mod Reasons
 pub mod ScriptExpressions
 pub mod ScriptLines
 pub mod ScriptFaults

@@ -21,6 +21,8 @@ ghost use Rattle.syntax_editor.specs.EditorLaws.{target_depth, all_asked_for, co
 use edit_map::laws::newer_copies_stand;
 use edit_plan::laws::changes_of_one_depth_own_nothing;
 
+pub use edit_plan::laws::edit_text_is_filled;
+
 /// Before any merge a list holds one Replace of an element at most. It is a deletion where a call deleted the element, and
 /// else brings what the last call asked for.
 pub fn first_replacement_absorbs()
@@ -38,7 +40,7 @@ pub fn recorded_changes_fit()
 {}
 
 /// Calls that replace or delete elements of one depth, as the children of one node are, record a list in which no change is owned, so
-/// that `edit_plan::laws::edit_text_is_filled` says the new text.
+/// that `edit_text_is_filled` says the new text.
 pub fn calls_at_one_depth_own_nothing()
     ensures { (depth : ℕ) (calls : List RecordCall)
         → All (λ call. target_depth call ≡ Some depth) calls
