@@ -214,7 +214,8 @@ def calls_owed():
     for crate in public_calls.libraries(ROOT):
         for call in public_calls.calls_of(crate, ROOT):
             if call.owner == "laws":
-                owed[f"{crate}::{call.name}"] = call
+                # Users name `cst_core` alone, which has what `green_tree` has.
+                owed[f"{crate if crate != 'green_tree' else 'cst_core'}::{call.name}"] = call
             elif call.owner in names:
                 # A free function goes by the crate from which a user takes it.
                 takes = [it for it in public_calls.SURFACE if call.name in public_calls.given(it, ROOT)]

@@ -55,7 +55,7 @@ impl fmt::Display for SyntaxElement {
 /// Prints the node as `KIND@START..END`, in bytes of the whole tree's text.
 ///
 /// `{:#?}` prints a line for the node and for each element below it, in document order. Each level is indented by two
-/// spaces, and a token's line has its text as well. A nested node takes stack, as when its text is printed.
+/// spaces, and a token's line has its text as well.
 ///
 /// ```text
 /// ARG_LIST@0..6
