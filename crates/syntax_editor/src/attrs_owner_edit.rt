@@ -10,8 +10,7 @@ ghost use Rattle.syntax_editor.specs.AttrsAndDocs.{is_attr_or_doc, is_whitespace
 use crate::editor::SyntaxEditor;
 use crate::error::RecordError;
 use cst_core::{GreenNode, HasAttrs, SyntaxElement, SyntaxKind, SyntaxNode};
-use edit_change::is_native_node;
-use edit_plan::is_native;
+use edit_change::{is_native, is_native_node};
 use std::alloc::{AllocError, Global};
 
 /// Edits of nodes that can have attributes.
