@@ -1,62 +1,21 @@
-//! Scripts in a batch, each with the orders to try and to walk.
-
 use anyhow::{Result, bail};
-use std::alloc::Global;
+use std::alloc::{AllocError, Global};
 
-/// A line of a batch.
+/// A script of a batch, with the orders to try and to walk as they are written.
 #[derive(Drop)]
-pub enum Line<'a> {
-    Name(&'a str),
-    Text(&'a str),
-    Try(Vec<usize>),
-    Walk(Vec<usize>),
-    Ends,
-    Endless,
-    End,
-}
-
-impl<'a> Line<'a> {
-    pub fn of(alloc: Global, line: &'a str) -> Result<Line<'a>> {
-        let (word, rest) = line.split_once(' ').unwrap_or((line, ""));
-        match word {
-            "script" => Ok(Line::Name(rest)),
-            ">" => Ok(Line::Text(rest)),
-            "try" => Ok(Line::Try(numbers_in(alloc, rest)?)),
-            "walk" => Ok(Line::Walk(numbers_in(alloc, rest)?)),
-            "ends" => Ok(Line::Ends),
-            "endless" => Ok(Line::Endless),
-            "end" => Ok(Line::End),
-            _ => bail!("no line of a batch"),
-        }
-    }
-}
-
-fn numbers_in(alloc: Global, text: &str) -> Result<Vec<usize>> {
-    let mut numbers = Vec::new(alloc);
-    for digits in text.split_whitespace() {
-        match digits.parse::<usize>() {
-            Ok(number) => numbers.push(number)?,
-            Err(_) => bail!("no number"),
-        }
-    }
-    Ok(numbers)
-}
-
-/// A script of a batch.
-#[derive(Drop)]
-pub struct Case {
-    pub name: String,
+pub struct Case<'a> {
+    pub name: &'a str,
     pub script: String,
-    pub tried: Vec<Vec<usize>>,
-    pub walked: Vec<Vec<usize>>,
+    pub tried: Vec<&'a str>,
+    pub walked: Vec<&'a str>,
     pub has_ends: bool,
     pub is_endless: bool,
 }
 
-impl Case {
-    pub fn new(alloc: Global) -> Case {
+impl<'a> Case<'a> {
+    pub fn new(alloc: Global, name: &'a str) -> Case<'a> {
         Case {
-            name: String::new(alloc),
+            name,
             script: String::new(alloc),
             tried: Vec::new(alloc),
             walked: Vec::new(alloc),
@@ -65,23 +24,32 @@ impl Case {
         }
     }
 
-    /// Takes a line of the script up; its name begins a new one.
-    pub fn read(&mut self, alloc: Global, line: Line<'_>) -> Result<()> {
-        match line {
-            Line::Name(name) => {
-                *self = Case::new(alloc);
-                self.name.push_str(name)?;
-            }
-            Line::Text(text) => {
-                self.script.push_str(text)?;
-                self.script.push('\n')?;
-            }
-            Line::Try(order) => self.tried.push(order)?,
-            Line::Walk(order) => self.walked.push(order)?,
-            Line::Ends => self.has_ends = true,
-            Line::Endless => self.is_endless = true,
-            Line::End => {}
+    /// Takes a line of the batch up; the one with a name begins a new script.
+    pub fn read(&mut self, alloc: Global, line: &'a str) -> Result<()> {
+        let (word, rest) = line.split_once(' ').unwrap_or((line, ""));
+        match word {
+            "script" => *self = Case::new(alloc, rest),
+            ">" => self.push_line(rest)?,
+            "try" => self.tried.push(rest)?,
+            "walk" => self.walked.push(rest)?,
+            "ends" => self.has_ends = true,
+            "endless" => self.is_endless = true,
+            _ => bail!("no line of a batch"),
         }
         Ok(())
     }
+
+    fn push_line(&mut self, text: &str) -> Result<(), AllocError> {
+        self.script.push_str(text)?;
+        self.script.push('\n')
+    }
+}
+
+/// An order. What is no number stands for one that no change has.
+pub fn order_in(alloc: Global, text: &str) -> Result<Vec<usize>, AllocError> {
+    let mut order = Vec::new(alloc);
+    for digits in text.split_whitespace() {
+        order.push(digits.parse::<usize>().unwrap_or(usize::MAX))?;
+    }
+    Ok(order)
 }

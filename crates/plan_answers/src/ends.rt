@@ -1,7 +1,6 @@
 //! Runs of `syned` over readers and writers that fail at one place, and over a reader without end.
 
-use anyhow::Result;
-use std::alloc::Global;
+use std::alloc::{AllocError, Global};
 use std::io::{self, ErrorKind, Read, Write};
 use syned_run::run;
 
@@ -9,27 +8,19 @@ use syned_run::run;
 const SHORT: usize = 7;
 
 // What a reader or a writer does at the place where it fails.
-#[derive(Clone, Copy)]
+#[derive(Clone, Copy, Debug)]
 enum Fault {
-    Fails,
-    IsInterrupted,
-    GivesNothing,
+    Failing,
+    Interrupted,
+    Empty,
 }
 
 impl Fault {
     fn count(self) -> io::Result<usize> {
         match self {
-            Fault::Fails => Err(io::Error::from(ErrorKind::Other)),
-            Fault::IsInterrupted => Err(io::Error::from(ErrorKind::Interrupted)),
-            Fault::GivesNothing => Ok(0),
-        }
-    }
-
-    fn name(self) -> &'static str {
-        match self {
-            Fault::Fails => "failing",
-            Fault::IsInterrupted => "interrupted",
-            Fault::GivesNothing => "empty",
+            Fault::Failing => Err(io::Error::from(ErrorKind::Other)),
+            Fault::Interrupted => Err(io::Error::from(ErrorKind::Interrupted)),
+            Fault::Empty => Ok(0),
         }
     }
 }
@@ -123,12 +114,12 @@ impl Ended {
 
     /// A run without a failure. Its reader fails if more is read than up to its end.
     pub fn of_script(alloc: Global, script: &str) -> Ended {
-        let mut reader = Reader::new(script, reads_of(script), Fault::Fails);
-        Ended::of(alloc, &mut reader, usize::MAX, Fault::Fails)
+        let mut reader = Reader::new(script, reads_of(script), Fault::Failing);
+        Ended::of(alloc, &mut reader, usize::MAX, Fault::Failing)
     }
 
     /// The status, and what was written, each line after `> `.
-    pub fn push(&self, alloc: Global, out: &mut String) -> Result<()> {
+    pub fn push(&self, alloc: Global, out: &mut String) -> Result<(), AllocError> {
         writeln!(out, "status {}", self.status)?;
         for line in String::from_utf8_lossy(alloc, &self.written)?.lines() {
             writeln!(out, "> {line}")?;
@@ -148,18 +139,23 @@ fn reads_of(script: &str) -> usize {
 
 /// Lets each read and each write of a run fail in turn. Printed is how many of these runs ended as they must, with status 3 and nothing written,
 /// or the beginning that the writer took.
-pub fn push_ends(alloc: Global, out: &mut String, script: &str) -> Result<()> {
-    for fault in [Fault::Fails, Fault::IsInterrupted] {
+pub fn push_ends(alloc: Global, out: &mut String, script: &str) -> Result<(), AllocError> {
+    for fault in [Fault::Failing, Fault::Interrupted] {
         push_reads(alloc, out, script, fault)?;
     }
     let answer = Ended::of_script(alloc, script).written;
-    for fault in [Fault::Fails, Fault::IsInterrupted, Fault::GivesNothing] {
+    for fault in [Fault::Failing, Fault::Interrupted, Fault::Empty] {
         push_writes(alloc, out, script, &answer, fault)?;
     }
     Ok(())
 }
 
-fn push_reads(alloc: Global, out: &mut String, script: &str, fault: Fault) -> Result<()> {
+fn push_reads(
+    alloc: Global,
+    out: &mut String,
+    script: &str,
+    fault: Fault,
+) -> Result<(), AllocError> {
     let needed = reads_of(script);
     let mut right = 0usize;
     for reads in 0..needed {
@@ -168,7 +164,7 @@ fn push_reads(alloc: Global, out: &mut String, script: &str, fault: Fault) -> Re
             right = right.saturating_add(1);
         }
     }
-    Ok(writeln!(out, "{} reads: {right} of {needed}", fault.name())?)
+    writeln!(out, "{fault:?} reads: {right} of {needed}")
 }
 
 fn push_writes(
@@ -177,7 +173,7 @@ fn push_writes(
     script: &str,
     answer: &[u8],
     fault: Fault,
-) -> Result<()> {
+) -> Result<(), AllocError> {
     let mut right = 0usize;
     for limit in 0..answer.len() {
         let mut reader = Reader::new(script, usize::MAX, fault);
@@ -185,14 +181,14 @@ fn push_writes(
             right = right.saturating_add(1);
         }
     }
-    Ok(writeln!(out, "{} writes: {right} of {}", fault.name(), answer.len())?)
+    writeln!(out, "{fault:?} writes: {right} of {}", answer.len())
 }
 
 /// A run over the text again and again, which is no script: it is too long. One byte past the limit is taken, and no more.
-pub fn push_endless(alloc: Global, out: &mut String, text: &str) -> Result<()> {
-    let mut reader = Reader::new(text, usize::MAX, Fault::Fails);
+pub fn push_endless(alloc: Global, out: &mut String, text: &str) -> Result<(), AllocError> {
+    let mut reader = Reader::new(text, usize::MAX, Fault::Failing);
     reader.is_endless = true;
-    let ended = Ended::of(alloc, &mut reader, usize::MAX, Fault::Fails);
+    let ended = Ended::of(alloc, &mut reader, usize::MAX, Fault::Failing);
     writeln!(out, "endless: {} bytes are read", reader.given)?;
     ended.push(alloc, out)
 }

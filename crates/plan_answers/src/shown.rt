@@ -1,7 +1,9 @@
-//! Numbers and paths, as the model writes them.
+//! Numbers, paths and trees, as the model writes them.
 
-use cst_core::SyntaxElement;
+use cst_core::{GreenNode, SyntaxElement};
+use std::alloc::{AllocError, Global};
 use std::fmt::{self, Display, Formatter, Write};
+use tree_text::write_tree;
 
 /// Numbers, each after a space.
 #[derive(Drop)]
@@ -43,5 +45,13 @@ impl Display for Paths<'_> {
             write!(f, " {}", Path(element.slots()))?;
         }
         Ok(())
+    }
+}
+
+/// A tree's expression, or why there is none, and the end of its line.
+pub fn push_tree(alloc: Global, out: &mut String, tree: &GreenNode) -> Result<(), AllocError> {
+    match write_tree(alloc, tree) {
+        Ok(expression) => writeln!(out, "{expression}"),
+        Err(error) => writeln!(out, "{error}"),
     }
 }

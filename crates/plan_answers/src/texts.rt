@@ -1,9 +1,8 @@
 //! A plan as a text, and the text edits that it makes.
 
-use anyhow::Result;
 use cst_core::SyntaxNode;
 use std::alloc::{AllocError, Global};
-use syntax_editor::{EditPlan, TextEdit};
+use syntax_editor::{Change, EditPlan, TextEdit};
 use test_trees::push_quoted;
 
 /// The plan's text, each change as a plain text, and the text edits with what they make.
@@ -12,32 +11,27 @@ pub fn push_texts(
     out: &mut String,
     plan: &EditPlan,
     old: &SyntaxNode,
-) -> Result<()> {
+) -> Result<(), AllocError> {
     push_fates(alloc, out, plan)?;
-    push_changes(alloc, out, plan)?;
-    let edits = plan.text_edits(alloc)?;
-    for edit in &edits {
-        write!(out, "cut {} {} ", edit.start, edit.end)?;
-        push_line(out, &edit.text)?;
+    for (number, change) in plan.changes().iter().enumerate() {
+        write!(out, "shown {number} ")?;
+        push_change(alloc, out, change)?;
     }
-    out.push_str("makes ")?;
-    Ok(push_line(out, &made_of(alloc, &old.text(alloc)?, &edits)?)?)
+    let edits = plan.text_edits(alloc)?;
+    push_text_edits(alloc, out, &edits, old)
 }
 
 fn push_fates(alloc: Global, out: &mut String, plan: &EditPlan) -> Result<(), AllocError> {
-    let shown = plan.to_string(alloc)?;
-    for line in shown.lines() {
+    let text = plan.to_string(alloc)?;
+    for line in text.lines() {
         writeln!(out, "fate {line}")?;
     }
     Ok(())
 }
 
-fn push_changes(alloc: Global, out: &mut String, plan: &EditPlan) -> Result<()> {
-    for (number, change) in plan.changes().iter().enumerate() {
-        write!(out, "shown {number} ")?;
-        push_line(out, &change.plain_text(alloc)?)?;
-    }
-    Ok(())
+fn push_change(alloc: Global, out: &mut String, change: &Change) -> Result<(), AllocError> {
+    let text = change.plain_text(alloc)?;
+    push_line(out, &text)
 }
 
 // A text in quotes, and the end of its line.
@@ -46,7 +40,23 @@ fn push_line(out: &mut String, text: &str) -> Result<(), AllocError> {
     out.push('\n')
 }
 
-// What edits make of a text; `?` stands for what they cut where it can't be cut.
+fn push_text_edits(
+    alloc: Global,
+    out: &mut String,
+    edits: &[TextEdit],
+    old: &SyntaxNode,
+) -> Result<(), AllocError> {
+    for edit in edits {
+        write!(out, "cut {} {} ", edit.start, edit.end)?;
+        push_line(out, &edit.text)?;
+    }
+    out.push_str("makes ")?;
+    let old = old.text(alloc)?;
+    let made = made_of(alloc, &old, edits)?;
+    push_line(out, &made)
+}
+
+// What edits make of a text; `?` stands for what they leave where that is no part of it.
 fn made_of(alloc: Global, old: &str, edits: &[TextEdit]) -> Result<String, AllocError> {
     let mut made = String::new(alloc);
     let mut end = 0;

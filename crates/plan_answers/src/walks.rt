@@ -1,12 +1,10 @@
 //! A plan one change at a time: the tree and the payloads after each step.
 
 use crate::plans::Planned;
-use crate::shown::Numbers;
-use anyhow::{Result, bail};
+use crate::shown::{Numbers, push_tree};
 use cst_core::TreeIds;
-use std::alloc::Global;
+use std::alloc::{AllocError, Global};
 use syntax_editor::EditRun;
-use tree_text::write_tree;
 
 /// The states of a run in an order, and the edit that it makes.
 pub fn push_walk(
@@ -14,13 +12,11 @@ pub fn push_walk(
     out: &mut String,
     ids: &mut TreeIds,
     order: &[usize],
-) -> Result<()> {
+) -> Result<(), AllocError> {
     writeln!(out, "walk{}", Numbers(order))?;
     let mut run = EditRun::new(planned.alloc, planned.plan)?;
     push_steps(planned.alloc, out, &mut run, order)?;
-    out.push_str("finish\n")?;
-    let edit = run.finish(planned.alloc, ids)?;
-    planned.push_edit(out, &edit)
+    push_finish(planned, out, ids, run)
 }
 
 fn push_steps(
@@ -28,38 +24,63 @@ fn push_steps(
     out: &mut String,
     run: &mut EditRun<'_>,
     order: &[usize],
-) -> Result<()> {
-    let mut done = Vec::new(alloc);
-    push_state(alloc, out, run, &done)?;
-    for change in order {
+) -> Result<(), AllocError> {
+    push_state(alloc, out, run, &[])?;
+    for (index, change) in order.iter().enumerate() {
         if *change >= run.plan().len() || !run.ready(*change) {
-            bail!("a walk that is not allowed");
+            return writeln!(out, "not ready: {change}");
         }
         run.step(alloc, *change)?;
-        done.push(*change)?;
-        done.sort()?;
-        push_state(alloc, out, run, &done)?;
+        push_state(alloc, out, run, &order[..index + 1])?;
     }
+    out.push_str("finish\n")
+}
+
+fn push_finish(
+    planned: &Planned<'_>,
+    out: &mut String,
+    ids: &mut TreeIds,
+    run: EditRun<'_>,
+) -> Result<(), AllocError> {
     if !run.is_complete() {
-        bail!("a walk that ends too early");
+        return out.push_str("not complete\n");
+    }
+    match run.finish(planned.alloc, ids) {
+        Ok(edit) => planned.push_edit(out, &edit),
+        Err(error) => writeln!(out, "{error}"),
+    }
+}
+
+// What is done and what may be next, how many nodes were built, the tree, and each payload that has a stage.
+fn push_state(
+    alloc: Global,
+    out: &mut String,
+    run: &EditRun<'_>,
+    done: &[usize],
+) -> Result<(), AllocError> {
+    push_changes(out, run, done)?;
+    write!(out, "\nbuilt {}\ntree ", run.builds())?;
+    push_tree(alloc, out, run.green())?;
+    for change in 0..run.plan().len() {
+        if let Some(payload) = run.payload(change) {
+            write!(out, "payload {change} ")?;
+            push_tree(alloc, out, payload)?;
+        }
     }
     Ok(())
 }
 
-// What is done and what may be next, how many nodes were built, the tree, and each payload that has a stage.
-fn push_state(alloc: Global, out: &mut String, run: &EditRun<'_>, done: &[usize]) -> Result<()> {
-    write!(out, "at{}:", Numbers(done))?;
+fn push_changes(out: &mut String, run: &EditRun<'_>, done: &[usize]) -> Result<(), AllocError> {
+    out.push_str("at")?;
     for change in 0..run.plan().len() {
-        if run.ready(change) {
+        if done.contains(&change) {
             write!(out, " {change}")?;
         }
     }
-    let tree = write_tree(alloc, run.green())?;
-    writeln!(out, "\nbuilt {}\ntree {tree}", run.builds())?;
+    out.push(':')?;
     for change in 0..run.plan().len() {
-        if let Some(payload) = run.payload(change) {
-            let tree = write_tree(alloc, payload)?;
-            writeln!(out, "payload {change} {tree}")?;
+        if run.ready(change) {
+            write!(out, " {change}")?;
         }
     }
     Ok(())
