@@ -4,9 +4,9 @@
     models.py            all scripts of tests/scripts/*.table, tests/corpus and examples, random ones, and pairs of single changes
     models.py WORD..     those of them whose names contain one of these words
 
-The program `plan_answers` prints what the editor says: the answer, the text edits, the edit by each engine, in each order that is tried, and
-the tree after each step. tests/model.py has the format and says the same from the definitions alone, and where a payload has the place of its
-target, for which the editor has no call. It is summed how many paths of changed and of annotated elements were equal; no sum may be 0."""
+The program `plan_answers` prints what the editor says: the answer, the text edits, the edit by each engine and in each order that is tried,
+and the tree after each step. tests/model.py has the format and says the same from the definitions alone, and also where a payload has the
+place of its target, for which the editor has no call. It is counted how much was equal; no count may be 0."""
 import collections
 import itertools
 import multiprocessing
@@ -23,9 +23,8 @@ from tables import table_rows
 
 ROOT = Path(__file__).resolve().parent.parent
 SEED, RANDOM = "models", 1000
-# How many scripts a run of the program is asked about. After so many wrong answers the others are not asked for.
-AT_ONCE, MOST_WRONG = 500, 20
-NO_ANSWER = ["nothing"]
+# How many bytes a run of the program prints: no more than `rt try` takes of one. After so many wrong answers the others are not asked for.
+MOST_PRINTED, MOST_WRONG = 1_000_000, 20
 
 
 def cases():
@@ -42,36 +41,50 @@ def cases():
 
 def asked(case):
     """A script as the program reads it, and what it has to print of it."""
-    name, script = case
-    wanted = [line for line in model_answers.answer_lines(model, name, script) if not line.startswith("place ")]
-    return "".join(line + "\n" for line in model_answers.batch_lines(model, name, script)), wanted
+    batch, answer = model_answers.batch_lines(model, *case), model_answers.answer_lines(model, *case)
+    return "\n".join(batch + [""]), "\n".join([line for line in answer if not line.startswith("place ")] + [""])
 
 
-def answers_in(said):
-    """The lines that are said of each script, in order. What is cut off lacks its end."""
-    return [block.split("\n")[:-1] for block in re.split(r"^(?=script )", said, flags=re.M) if block]
+def runs(words=()):
+    """The scripts whose names contain one of the words, or all, asked and in groups, of which each is for a run of the program."""
+    group, size = [], 0
+    with multiprocessing.get_context("fork").Pool() as pool:
+        chosen = (case for case in cases() if not words or any(word in case[0] for word in words))
+        for batch, wanted in pool.imap(asked, chosen, chunksize=16):
+            if group and size + len(wanted.encode()) > MOST_PRINTED:
+                yield group
+                group, size = [], 0
+            group.append((batch, wanted))
+            size += len(wanted.encode())
+    if group:
+        yield group
 
 
-def counted(lines):
-    """What lines that are as they have to be compare."""
-    words = collections.Counter(line.split(" ", 1)[0] for line in lines)
-    counts = {"scripts": words["script"], "plans": words["default"], "orders": words["try"], "steps": words["at"] - words["walk"]}
-    counts["paths of changed elements"] = sum(line.count(" ") for line in lines if line.startswith("changed"))
-    counts["of annotated ones"] = sum(line.count(" ") - 1 for line in lines if line.startswith("found "))
-    return collections.Counter(counts)
+def batch_of(group):
+    return "".join(batch for batch, _ in group)
+
+
+def counted(answer):
+    """What an answer that is as it has to be compares."""
+    found = re.findall(r"^(script|default|try|at|changed|found)\b(.*)", answer, re.M)
+    counts = collections.Counter(word for word, _ in found)
+    return collections.Counter({
+        "scripts": counts["script"], "plans": counts["default"], "orders": counts["try"], "states of a run": counts["at"],
+        "paths of changed elements": sum(rest.count(" ") for word, rest in found if word == "changed"),
+        "paths of annotated elements": sum(rest.count(" ") - 1 for word, rest in found if word == "found")})
 
 
 def difference(wanted, said):
-    """The first line that differs, None if there is none."""
-    found = next(((want, got) for want, got in itertools.zip_longest(wanted, said) if want != got), None)
-    return found and "%s: the editor says %r, the model %r" % ((said or wanted)[0], found[1], found[0])
+    """The first line in which two answers differ, None if there is none."""
+    lines = itertools.zip_longest(wanted.split("\n"), said.split("\n"))
+    return next(("%s: the editor says %r, the model %r" % (wanted.split("\n")[0], got, want) for want, got in lines if want != got), None)
 
 
-def compare(ask, told, counts):
-    """Asks about some scripts, adds to the counts, and gives what is wrong."""
-    said = answers_in(ask("".join(batch for batch, _ in told)))
+def compare(group, said, counts):
+    """Adds to the counts what a run says as it has to, and gives what is wrong. What is said beyond that is wrong too."""
+    answers = re.split(r"^(?=script )", said, flags=re.M)[1:] if said.startswith("script ") else [said]
     wrong = []
-    for wanted, answer in itertools.zip_longest([wanted for _, wanted in told], said, fillvalue=NO_ANSWER):
+    for wanted, answer in itertools.zip_longest((wanted for _, wanted in group), answers, fillvalue=""):
         if wanted == answer:
             counts.update(counted(wanted))
         else:
@@ -79,29 +92,30 @@ def compare(ask, told, counts):
     return wrong
 
 
-def all_agree(ask, at_once=AT_ONCE, words=()):
-    """Whether the editor says of all scripts what the model says. It is asked about so many scripts at once, all of them if None."""
+def all_agree(answered):
+    """Whether the editor says what the model says, for groups of scripts with what a run of the program printed of each."""
     counts, wrong, tried = collections.Counter(), [], 0
-    chosen = [case for case in cases() if not words or any(word in case[0] for word in words)]
-    with multiprocessing.get_context("fork").Pool() as pool:
-        told = pool.imap(asked, chosen, chunksize=16)
-        while len(wrong) < MOST_WRONG and (part := list(itertools.islice(told, at_once))):
-            tried += len(part)
-            wrong += compare(ask, part, counts)
+    for group, said in answered:
+        wrong += compare(group, said, counts)
+        tried += len(group)
+        if len(wrong) >= MOST_WRONG:
+            break
     print(*wrong[:MOST_WRONG], sep="\n", end="\n" if wrong else "")
-    print("models: the editor says what the model says: " + ", ".join("%d %s" % (count, what) for what, count in counts.items()))
-    print("models: %d of %d scripts were tried; wrong: %d" % (tried, len(chosen), len(wrong)))
-    return not wrong and counts["scripts"] == len(chosen) and all(counts.values()) and bool(counts)
+    print("models: the model says the same: " + ", ".join("%d %s" % (count, what) for what, count in counts.items()))
+    print("models: %d scripts were tried; wrong: %d" % (tried, len(wrong)))
+    return not wrong and counts["scripts"] == tried and bool(counts) and all(counts.values())
+
+
+def answer_of(program, batch):
+    """What the program prints, and how it failed."""
+    done = subprocess.run([program], input=batch.encode(), capture_output=True, timeout=60, check=False)
+    return done.stdout.decode(errors="replace") + ("" if done.returncode == 0 else "status %d\n" % done.returncode)
 
 
 def main(words):
-    program = subprocess.run([ROOT / "tests/program.sh", "plan_answers"], stdout=subprocess.PIPE, text=True, check=True).stdout.strip()
-
-    def ask(batch):
-        done = subprocess.run([ROOT / program], input=batch.encode(), capture_output=True, timeout=60, check=False)
-        return done.stdout.decode(errors="replace") + ("" if done.returncode == 0 else "status %d\n" % done.returncode)
-
-    return 0 if all_agree(ask, words=words) else 1
+    said = subprocess.run(["tests/program.sh", "plan_answers"], cwd=ROOT, stdout=subprocess.PIPE, text=True, check=True).stdout
+    program = ROOT / said.strip()
+    return 0 if all_agree((group, answer_of(program, batch_of(group))) for group in runs(words)) else 1
 
 
 if __name__ == "__main__":
