@@ -10,6 +10,7 @@ use syned_script::{Recorded, Words, record_script};
 use syntax_editor::{EditPlan, OnePassEngine, SpliceEngine, SyntaxEdit};
 
 /// A plan, and the annotation words that its elements are registered with.
+#[derive(Clone, Copy)]
 pub struct Planned<'a> {
     pub alloc: Global,
     pub plan: &'a EditPlan,

@@ -132,12 +132,12 @@ impl Session {
             return Err(Stop::bad(name.at(), Reason::NameTaken));
         }
         let node = self.roots.node(self.alloc, node)?;
-        let (editor, root) = SyntaxEditor::new(self.alloc, &mut self.ids, node)?;
+        let (editor, edited) = SyntaxEditor::new(self.alloc, &mut self.ids, node)?;
         self.editing = Some(Editing {
             editor,
             order: None,
         });
-        self.roots.add(self.alloc, name, root)
+        self.roots.add(self.alloc, name, edited)
     }
 
     fn map(
