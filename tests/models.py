@@ -45,12 +45,12 @@ def asked(case):
     return "\n".join(batch + [""]), "\n".join([line for line in answer if not line.startswith("place ")] + [""])
 
 
-def runs(words=()):
-    """The scripts whose names contain one of the words, or all, asked and in groups, of which each is for a run of the program."""
+def runs(words=(), share=1):
+    """The scripts whose names contain one of the words, or one in so many of all, asked and in groups, of which each is for a run of the program."""
     group, size = [], 0
+    chosen = (case for case in cases() if not words or any(word in case[0] for word in words))
     with multiprocessing.get_context("fork").Pool() as pool:
-        chosen = (case for case in cases() if not words or any(word in case[0] for word in words))
-        for batch, wanted in pool.imap(asked, chosen, chunksize=16):
+        for batch, wanted in pool.imap(asked, itertools.islice(chosen, 0, None, share), chunksize=16):
             if group and size + len(wanted.encode()) > MOST_PRINTED:
                 yield group
                 group, size = [], 0

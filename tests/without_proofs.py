@@ -9,7 +9,7 @@
 
 A program that the gate has built is taken if no source is newer; then all scripts are run, by tests/scripts.sh and tests/models.py.
 Otherwise `rt try` compiles the program without its proofs and starts it once for each script, which takes most of a second. So then
-`syned` runs the scripts of all tables and examples, and every 24th of the corpus. `plan_answers` is asked about many scripts at once."""
+`syned` runs the scripts of all tables and examples, and every 24th of the corpus, and `plan_answers` every 24th of its scripts."""
 import glob
 import os
 import re
@@ -175,7 +175,7 @@ def scripts(part=1, parts=1):
 def models():
     if is_built("plan_answers"):
         return subprocess.run([f"{ROOT}/tests/models.py"], check=False).returncode == 0
-    groups = list(compared.runs())
+    groups = list(compared.runs(share=SHARE))
     said = try_cases("plan_answers", {f"{number:04}": (compared.batch_of(group), None) for number, group in enumerate(groups)}, False)
     ended = dict(re.findall(r"^== (.*)\n((?s:.*?))^case=\1 run=ended status=0 ", said, re.M))
     if not ended:
