@@ -108,7 +108,10 @@ def all_agree(answered):
 
 def answer_of(program, batch):
     """What the program prints, and how it failed."""
-    done = subprocess.run([program], input=batch.encode(), capture_output=True, timeout=60, check=False)
+    try:
+        done = subprocess.run([program], input=batch.encode(), capture_output=True, timeout=60, check=False)
+    except subprocess.TimeoutExpired:
+        return "no end\n"
     return done.stdout.decode(errors="replace") + ("" if done.returncode == 0 else "status %d\n" % done.returncode)
 
 
