@@ -1,7 +1,8 @@
-ghost use Rattle.std.specs.Prelude.{◌≡◌, ℕ, List};
+ghost use Rattle.std.specs.Prelude.{◌≡◌, ℕ, Bool, List};
 ghost use Rattle.cst_core.specs.Tree.{SyntaxTree};
 ghost use Rattle.tree_text.specs.Grammar.{IsExpression, is_gap_blank};
 ghost use Rattle.tree_text.specs.KindNames.{name_in};
+ghost use Rattle.tree_text.specs.Refusals.{IsMalformed, LacksName};
 
 use crate::kind_names::KindNames;
 
@@ -9,6 +10,17 @@ use crate::kind_names::KindNames;
 pub fn expression_is_of_one_tree(names: &KindNames)
     ensures { (t u : SyntaxTree) (w : List ℕ) → IsExpression (name_in names.now) is_gap_blank t w
         → IsExpression (name_in names.now) is_gap_blank u w → t ≡ u }
+{
+    // For the proof: the names are names, and no two kinds have the same.
+    names.are_names();
+}
+
+/// A text that is malformed lacks no name, and is malformed at one byte, with whatever names and whatever between elements.
+pub fn malformed_lacks_no_name(names: &KindNames)
+    ensures excludes { (gaps : ℕ → Bool) (w : List ℕ) (i j : ℕ)
+        → IsMalformed names.now gaps w i → LacksName names.now gaps w j → ⊥ }
+    ensures once { (gaps : ℕ → Bool) (w : List ℕ) (i j : ℕ)
+        → IsMalformed names.now gaps w i → IsMalformed names.now gaps w j → i ≡ j }
 {
     // For the proof: the names are names, and no two kinds have the same.
     names.are_names();
