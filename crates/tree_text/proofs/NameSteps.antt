@@ -84,7 +84,7 @@ neither-of false false c none = (refl, refl, none)
 
 follows-ascii : (gaps : Gaps) (c : ℕ) → may_follow_kind gaps c ≡ true → c < 128
 follows-ascii gaps c follows =
-    small-where (may_follow_kind gaps) (λ x large. neither (x == 40) _ (large-at 40 (omega arith) x large) (neither (x == 41) _ (large-at 41 (omega arith) x large) (large-gaps gaps x large))) c follows
+    small-where (may_follow_kind gaps) (λ x large. neither (x == 40 || x == 41) _ (neither (x == 40) _ (large-at 40 (omega arith) x large) (large-at 41 (omega arith) x large)) (large-gaps gaps x large)) c follows
 
 -- behind the kind of a node such a byte goes on
 abbrev Goes : List KindName → Gaps → List OpenTree → ℕ → Type 0

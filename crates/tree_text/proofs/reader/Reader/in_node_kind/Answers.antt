@@ -7,7 +7,7 @@ use Rattle.tree_text.specs.inner.OpenTrees.{open_trees}
 use Rattle.tree_text.specs.inner.Reading.{IsReading, IsStuck, IsMisplaced, Reads, reading}
 use Rattle.tree_text.proofs.Leaving.{unread-in}
 use Rattle.tree_text.proofs.Refusing.{passed-on, unknown-by, deep-by}
-use Rattle.tree_text.proofs.NameSteps.{empty-word, some-word, node-more, node-nameless, node-followed, node-named, node-stuck, node-unknown, node-deep, node-reading, begun}
+use Rattle.tree_text.proofs.NameSteps.{empty-word, some-word, node-more, node-nameless, node-followed, node-named, node-stuck, node-unknown, node-deep, node-reading, begun, with_node}
 use Rattle.tree_text.specs.declared.reader.State.TheVariants.{NodeKind}
 use Rattle.tree_text.proofs.reader.Reader.in_node_kind.Goals as goal
 
@@ -23,7 +23,10 @@ returns-then-is_empty-clause-err c =
     subst (IsStuck r c.args.self.now.at (encode_utf8 c.args.c)) (sym c.misses.ensures) (refl, node-nameless r c.requires.reading c.requires.state c.args.c no_name (empty-word r.word c.is_empty.result (c.is_empty.ensures ∙ ap (λ n. n == 0) c.args.self.now.word.bytes.ok.0) c.if-is_empty.true))
 
 pub returns-then-not-may_follow_kind-clause-err : goal.returns-then-not-may_follow_kind-clause-err
-returns-then-not-may_follow_kind-clause-err c = ?
+returns-then-not-may_follow_kind-clause-err c =
+    let r = reading c.args.self.now in
+    let no_name : is_name_byte c.args.c ≡ false = sym c.is_name_character.ensures ∙ c.if-is_name_character.false in
+    subst (IsStuck r c.args.self.now.at (encode_utf8 c.args.c)) (sym c.misses-then-not-may_follow_kind.ensures) (refl, node-followed r c.requires.reading c.requires.state c.args.c no_name (sym c.may_follow_kind.ensures ∙ c.if-not-may_follow_kind.true))
 
 pub returns-in_err-kind-clause-err : goal.returns-in_err-kind-clause-err
 returns-in_err-kind-clause-err c =
@@ -32,7 +35,7 @@ returns-in_err-kind-clause-err c =
     let at = c.args.self.now.at in
     let bytes = encode_utf8 c.args.c in
     let some = some-word r.word c.is_empty.result (c.is_empty.ensures ∙ ap (λ n. n == 0) c.args.self.now.word.bytes.ok.0) c.if-is_empty.false in
-    let follows = sym c.may_follow_kind.ensures ∙ ? in
+    let follows = sym c.may_follow_kind.ensures ∙ c.if-not-may_follow_kind.false in
     passed-on c.from_residual.result c.in_err-kind.field-0.0 (IsStuck r at bytes) c.from_residual.ensures.1 (unknown-by r at bytes c.in_err-kind.field-0.0 r.word (unread-in r NodeKind c.requires.state) c.in_err-kind.ensures.unknown (node-unknown r c.requires.reading c.requires.state c.args.c no_name follows some))
 
 pub returns-in_err-begin-clause-err : goal.returns-in_err-begin-clause-err
@@ -64,4 +67,4 @@ returns-clause-err c =
     let kind = c.in_ok-kind.kind.0 in
     let no_name : is_name_byte c.args.c ≡ false = sym c.is_name_character.ensures ∙ c.if-is_name_character.false in
     let new = begun r (reading c.take_kind.new.self) (open_trees c.begin.new.self.nodes.items) kind c.in_ok-kind.ensures.taken c.in_ok-begin.ensures.ok in
-    IfErr-weaker c.between.result _ _ (λ e stuck. node-stuck r c.requires.reading c.requires.state c.args.self.now.at c.args.c kind e no_name c.in_ok-kind.ensures.named (subst (λ x. IsMisplaced x c.args.self.now.at (encode_utf8 c.args.c) e) new (subst (λ y. IsMisplaced _ y (encode_utf8 c.args.c) e) c.in_ok-kind.ensures.stays stuck))) c.between.ensures.err
+    IfErr-weaker c.between.result _ _ (λ e stuck. node-stuck r c.requires.reading c.requires.state c.args.self.now.at c.args.c kind e no_name c.in_ok-kind.ensures.named (subst (λ y. IsMisplaced (with_node r kind) y (encode_utf8 c.args.c) e) c.in_ok-kind.ensures.stays (subst (λ x. IsMisplaced x c.take_kind.new.self.at (encode_utf8 c.args.c) e) new stuck))) c.between.ensures.err
