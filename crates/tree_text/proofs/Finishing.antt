@@ -8,11 +8,12 @@ use Rattle.cst_core.specs.Tree.{SyntaxTree}
 use Rattle.tree_text.specs.KindNames.{name_in}
 use Rattle.tree_text.specs.inner.Completing.{IsAfter, IsFrom}
 use Rattle.tree_text.specs.inner.Gap.{is_gap}
+use Rattle.tree_text.specs.inner.Nowhere.{Nowhere}
 use Rattle.tree_text.specs.inner.Reading.{Reading, IsReading, IsLeft, IsLeftIn, IsLeftOutside, IsPartOfName, CannotEnd, name_part, unread, with_names}
 use Rattle.tree_text.proofs.AnyNames.{more-reading}
 use Rattle.std.specs.Option.{ok_or}
 use Rattle.std.proofs.Common.{Result, Err, IfErr}
-use Rattle.tree_text.specs.Refusals.{IsRefused, Nowhere}
+use Rattle.tree_text.specs.Refusals.{IsRefused}
 use Rattle.tree_text.specs.declared.error.ExpressionError.{ExpressionError}
 use Rattle.tree_text.specs.declared.error.ExpressionError.TheVariants.{Malformed}
 use Rattle.tree_text.specs.declared.expected.Expected.{Expected}

@@ -7,10 +7,11 @@ use Rattle.std.proofs.Common.{◌≡◌, ◌≢◌, ℕ, ◌-◌, List, length, 
 use Rattle.tree_text.specs.KindNames.{name_in}
 use Rattle.cst_core.specs.Green.{IsTooLong}
 use Rattle.cst_core.specs.Tree.{text}
+use Rattle.tree_text.specs.inner.Nowhere.{Nowhere}
 use Rattle.tree_text.specs.inner.Reading.{Reading, CannotGoOn, Lacks, IsDeep, GoesOnAs, IsStuck, IsMisplaced, unread}
 use Rattle.cst_core.specs.TreeError.{TreeError}
 use Rattle.cst_core.specs.TreeError.TheVariants as Trees
-use Rattle.tree_text.specs.Refusals.{IsRefused, IsTreeRefused, Nowhere}
+use Rattle.tree_text.specs.Refusals.{IsRefused, IsTreeRefused}
 use Rattle.tree_text.specs.declared.error.ExpressionError.{ExpressionError}
 use Rattle.tree_text.specs.declared.error.ExpressionError.TheVariants.{Malformed, UnknownKind, TooDeep, Tree, Memory}
 

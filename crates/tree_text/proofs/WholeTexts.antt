@@ -16,8 +16,9 @@ use Rattle.cst_core.specs.Tree.{SyntaxTree, text}
 use Rattle.tree_text.specs.Depth.{depth, depth_limit}
 use Rattle.tree_text.specs.Grammar.{IsExpression, begins_with_name_byte}
 use Rattle.tree_text.specs.KindNames.{KindName, is_name_byte, name_in}
-use Rattle.tree_text.specs.Refusals.{IsRefused, KeepsNames, Begins, MayBegin, MayGoOn, IsMalformed, LacksName, BeginsAs, IsTooDeep, Nowhere, ReadRefuses}
+use Rattle.tree_text.specs.Refusals.{IsRefused, KeepsNames, Begins, MayBegin, MayGoOn, IsMalformed, LacksName, BeginsAs, IsTooDeep, ReadRefuses}
 use Rattle.tree_text.specs.inner.Gap.{is_gap}
+use Rattle.tree_text.specs.inner.Nowhere.{Nowhere}
 use Rattle.tree_text.specs.inner.Reading.{Reading, IsReading, IsLeft, CannotGoOn, CannotEnd, Lacks, IsDeep, GoesOnAs, IsStuck, Reads, ReadsUpTo, first_reading, unread, with_names}
 use Rattle.tree_text.specs.declared.error.ExpressionError.{ExpressionError}
 use Rattle.tree_text.specs.declared.gaps.Gaps.{Gaps}

@@ -9,7 +9,6 @@
 --                        begins with that name, and some does where one kind more has it
 --     BeginsAs           a text begins as an expression does, and only as those of such trees do
 --     IsTooDeep          so it is up to this byte, and these trees are too deep
---     Nowhere            an error that comes at no byte
 --     IsTreeRefused      what a tree's own error says: its text is too long, and no other comes
 --     IsRefused          what an error says: that a text is malformed at its byte, or lacks a name there, or opens too many
 --                        parentheses at once; that its tree has too long a text; nothing where memory ran out, and no other comes
@@ -76,9 +75,6 @@ pub record BeginsAs (given : List KindName) (gaps : ℕ → Bool) (Are : SyntaxT
 
 abbrev pub IsTooDeep : List KindName → (ℕ → Bool) → List ℕ → ℕ → Type 0
 IsTooDeep given gaps w at = (b : BeginsAs given gaps (λ t. depth_limit < depth t) w) × (at ≡ length b.front)
-
-abbrev pub Nowhere : ℕ → Type 0
-Nowhere at = ⊥
 
 abbrev pub IsTreeRefused : Type 0 → TreeError → Type 0
 IsTreeRefused long Trees.TooLong = long

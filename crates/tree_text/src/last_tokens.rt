@@ -2,7 +2,8 @@
 
 ghost use Rattle.std.specs.Prelude.{◌≡◌, IfOk, IfErr, IfSome};
 ghost use Rattle.cst_core.specs.Green.{IsTooLong};
-ghost use Rattle.tree_text.specs.Refusals.{IsRefused, Nowhere};
+ghost use Rattle.tree_text.specs.Refusals.{IsRefused};
+ghost use Rattle.tree_text.specs.inner.Nowhere.{Nowhere};
 
 use crate::error::ExpressionError;
 use cst_core::{GreenToken, SyntaxKind};

@@ -2,7 +2,8 @@ ghost use Rattle.std.specs.Prelude.{◌≡◌, ◌+◌, ◌-◌, ◌≤◌, IfOk
 ghost use Rattle.cst_core.specs.Green.{branch_tree};
 ghost use Rattle.cst_core.specs.GreenElement.{element_tree};
 ghost use Rattle.tree_text.specs.Depth.{depth, depth_limit};
-ghost use Rattle.tree_text.specs.Refusals.{IsRefused, Nowhere};
+ghost use Rattle.tree_text.specs.Refusals.{IsRefused};
+ghost use Rattle.tree_text.specs.inner.Nowhere.{Nowhere};
 ghost use Rattle.tree_text.specs.inner.OpenDepth.{open_depth};
 ghost use Rattle.tree_text.specs.inner.OpenTrees.{open_trees, HasPut, IsInnermostLong};
 
@@ -82,7 +83,7 @@ impl OpenNodes {
             (λ n. open_trees self.old.nodes.items ≡ (n.kind, n.children) ∷ open_trees self.new.nodes.items) }
         ensures err { IfErr result
             (IsRefused (λ x. (x ≡ at) × (open_trees self.old.nodes.items ≡ [])) Nowhere Nowhere
-                (IsInnermostLong (open_trees self.old.nodes.items))) }
+            (IsInnermostLong (open_trees self.old.nodes.items))) }
     {
         let Some(OpenNode { kind, children }) = self.nodes.pop() else {
             return Err(ExpressionError::Malformed {

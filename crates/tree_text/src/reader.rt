@@ -3,7 +3,8 @@ ghost use Rattle.cst_core.specs.Green.{branch_tree, IsTooLong};
 ghost use Rattle.cst_core.specs.Tree.{SyntaxTree};
 ghost use Rattle.tree_text.specs.Depth.{depth, depth_limit};
 ghost use Rattle.tree_text.specs.KindNames.{name_in, is_name_byte};
-ghost use Rattle.tree_text.specs.Refusals.{IsRefused, Nowhere};
+ghost use Rattle.tree_text.specs.Refusals.{IsRefused};
+ghost use Rattle.tree_text.specs.inner.Nowhere.{Nowhere};
 ghost use Rattle.tree_text.specs.inner.Reading.{IsLeft, IsReading, IsStuck, IsMisplaced, CannotEnd, Reads, ReadsUpTo, GoesOn};
 ghost use Rattle.tree_text.specs.inner.Reading.{first_reading, is_outside, may_follow_kind, reading, unread};
 

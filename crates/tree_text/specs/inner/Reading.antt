@@ -31,9 +31,10 @@ use Rattle.cst_core.specs.Tree.{SyntaxTree, text}
 use Rattle.tree_text.specs.Depth.{depth, depth_limit}
 use Rattle.tree_text.specs.Grammar.{begins_with_name_byte}
 use Rattle.tree_text.specs.KindNames.{KindName, AreNames, is_name, is_name_byte, name_in}
-use Rattle.tree_text.specs.Refusals.{IsRefused, KeepsNames, Nowhere}
+use Rattle.tree_text.specs.Refusals.{IsRefused, KeepsNames}
 use Rattle.tree_text.specs.inner.Completing.{OpenTree, IsAfter, IsFrom, IsRestOfToken}
 use Rattle.tree_text.specs.inner.Gap.{is_gap}
+use Rattle.tree_text.specs.inner.Nowhere.{Nowhere}
 use Rattle.tree_text.specs.inner.OpenTrees.{open_trees}
 use Rattle.tree_text.specs.declared.error.ExpressionError.{ExpressionError}
 use Rattle.tree_text.specs.declared.gaps.Gaps.{Gaps}
