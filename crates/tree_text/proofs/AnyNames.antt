@@ -7,7 +7,7 @@ use Rattle.std.proofs.Common.{◌≡◌, ℕ, List, ◌++◌, sym, subst}
 use Rattle.cst_core.specs.Tree.{SyntaxTree}
 use Rattle.tree_text.specs.KindNames.{KindName}
 use Rattle.tree_text.specs.Refusals.{KeepsNames}
-use Rattle.tree_text.specs.inner.Reading.{Reading, IsReading, IsLeft, Reads, SameLeft, unread, with_names}
+use Rattle.tree_text.specs.inner.Reading.{Reading, IsReading, IsLeft, Reads, unread, with_names}
 
 pub record PlainReads (old : Reading) (past : List ℕ) (new : Reading) : Type 0 where
   pub sound : IsReading new

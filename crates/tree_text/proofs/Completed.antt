@@ -3,7 +3,7 @@
 --     completes           where the unread part of a name may be any name
 --     known-or-new        a name that a kind has, or that one kind more may have
 --     may-complete        behind the unread part of a name
-use Rattle.std.proofs.Common.{◌≡◌, ◌≢◌, ◌⊎◌, ℕ, suc, true, not, List, [], ◌∷◌, ◌++◌, length, Option, Some, None, refl, ap, inl, inr, arith}
+use Rattle.std.proofs.Common.{◌≡◌, ◌≢◌, ℕ, suc, true, not, List, [], ◌∷◌, ◌++◌, length, Option, Some, None, refl, ap, inl, inr, arith}
 use Rattle.std.specs.Prelude.{◌==◌, unwrap_or}
 use Rattle.std.specs.List.{list_all}
 use Rattle.cst_core.specs.Green.{Branch, branch_tree}

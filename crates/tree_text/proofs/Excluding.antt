@@ -2,6 +2,7 @@
 --     split-two             two ways in which a text falls into two: the first part of one begins with that of the other
 --     malformed-knows       a malformed text doesn't lack a name, whatever the bytes
 --     malformed-once        a text is malformed at one byte
+--     malformed-never       it is no expression, whatever further names kinds have
 use Rattle.std.proofs.Common.{◌≡◌, ◌⊎◌, ℕ, Bool, true, false, List, [], ◌∷◌, ◌++◌, length, refl, sym, ap, ap₂, ◌∙◌, append_assoc, append-nil, subst, inl, inr}
 use Rattle.std.specs.List.{list_all}
 use Rattle.std.proofs.lemmas.Bool.{and_parts, false≢true}
@@ -9,7 +10,7 @@ use Rattle.std.proofs.lemmas.List.Folds.{list_all-append}
 use Rattle.cst_core.specs.Tree.{SyntaxTree}
 use Rattle.tree_text.specs.Grammar.{IsExpression}
 use Rattle.tree_text.specs.KindNames.{KindName, AreNames, is_name_byte, name_in}
-use Rattle.tree_text.specs.Refusals.{KeepsNames, Begins, MayBegin, MayGoOn, IsMalformed, LacksName}
+use Rattle.tree_text.specs.Refusals.{KeepsNames, Begins, MayGoOn, IsMalformed, LacksName}
 use Rattle.tree_text.proofs.FreshKinds.{one-more}
 
 pub record Longer (p x q y : List ℕ) : Type 0 where
@@ -109,6 +110,14 @@ module _ (given : List KindName) (gaps : ℕ → Bool) where
   not-further w i j m n (b ∷ z) is rest =
       let begins : Begins n.may_begin.0 gaps ((m.front ++ m.name) ++ b ∷ z) = subst (Begins n.may_begin.0 gaps) is n.may_begin.2 in
       absurd (m.stops (goes-on (m.front ++ m.name) m.rest (b ∷ z) n.rest rest n.may_begin.0 n.may_begin.1 b z refl begins))
+
+  not-whole : (w p rest : List ℕ) → w ≡ p ++ rest → (MayGoOn given gaps p rest → ⊥) → (more : List KindName) → KeepsNames given more → (t : SyntaxTree) → IsExpression (name_in more) gaps t w → ⊥
+  not-whole w p [] is stops more keeps t whole = stops (more, keeps, t, subst (IsExpression (name_in more) gaps t) (is ∙ append-nil p) whole)
+  not-whole w p (b ∷ rest) is stops more keeps t whole =
+      stops (more, keeps, (t, rest, subst (IsExpression (name_in more) gaps t) (is ∙ sym (append_assoc p (b ∷ []) rest)) whole))
+
+  pub malformed-never : (w : List ℕ) (i : ℕ) → IsMalformed given gaps w i → (more : List KindName) → KeepsNames given more → (t : SyntaxTree) → IsExpression (name_in more) gaps t w → ⊥
+  malformed-never w i m = not-whole w (m.front ++ m.name) m.rest m.is m.stops
 
   pub malformed-once : (w : List ℕ) (i j : ℕ) → IsMalformed given gaps w i → IsMalformed given gaps w j → i ≡ j
   malformed-once w i j m n = elim (split-two (m.front ++ m.name) m.rest (n.front ++ n.name) n.rest (sym m.is ∙ n.is)) [

@@ -8,14 +8,12 @@
 --     refused-run           where memory is refused
 --     refused-end           where the text is at its end
 --     on-own, back-own, end-on, end-back      with the names that kinds have, and at its end
-use Rattle.std.proofs.Common.{◌≡◌, ◌≢◌, ℕ, ◌+◌, ◌-◌, ◌<◌, Bool, true, false, List, [], ◌∷◌, ◌++◌, length, length-append, None, Some, append_assoc, append-nil, refl, sym, ap, ◌∙◌, subst, arith}
+use Rattle.std.proofs.Common.{◌≡◌, ◌≢◌, ℕ, ◌+◌, ◌-◌, List, [], ◌∷◌, ◌++◌, length, length-append, None, Some, append_assoc, append-nil, refl, sym, ap, ◌∙◌, subst, arith}
 use Rattle.std.specs.Prelude.{encode_utf8}
-use Rattle.std.specs.List.{list_all}
 use Rattle.cst_core.specs.Green.{IsTooLong}
 use Rattle.cst_core.specs.Tree.{SyntaxTree, text}
-use Rattle.tree_text.specs.Depth.{depth, depth_limit}
-use Rattle.tree_text.specs.Grammar.{IsExpression, begins_with_name_byte}
-use Rattle.tree_text.specs.KindNames.{KindName, is_name_byte, name_in}
+use Rattle.tree_text.specs.Grammar.{IsExpression}
+use Rattle.tree_text.specs.KindNames.{KindName, name_in}
 use Rattle.tree_text.specs.Refusals.{IsRefused, KeepsNames, Begins, MayBegin, MayGoOn, IsMalformed, LacksName, BeginsAs, IsTooDeep, ReadRefuses}
 use Rattle.tree_text.specs.inner.Gap.{is_gap}
 use Rattle.tree_text.specs.inner.Nowhere.{Nowhere}

@@ -13,7 +13,7 @@
 --     IsRefused          what an error says: that a text is malformed at its byte, or lacks a name there, or opens too many
 --                        parentheses at once; that its tree has too long a text; nothing where memory ran out, and no other comes
 --     ReadRefuses        why a text isn't read
-use Rattle.std.specs.Prelude.{◌≡◌, ◌≢◌, ℕ, ◌<◌, Bool, false, true, List, [], ◌∷◌, ◌++◌, length, Option, Some, None}
+use Rattle.std.specs.Prelude.{◌≡◌, ◌≢◌, ℕ, ◌<◌, Bool, false, true, List, [], ◌∷◌, ◌++◌, length, Some, None}
 use Rattle.std.specs.List.{list_all}
 use Rattle.cst_core.specs.Green.{IsTooLong}
 use Rattle.cst_core.specs.Tree.{SyntaxTree, text}

@@ -1,8 +1,8 @@
-use Rattle.std.proofs.Common.{◌≡◌, ◌≢◌, ◌≤◌, ℕ, false, Some, length, refl, sym, ap, ◌∙◌, subst}
+use Rattle.std.proofs.Common.{◌≡◌, ◌≤◌, false, length, refl, sym, ap, ◌∙◌, subst}
 use Rattle.std.specs.Prelude.{encode_utf8, ◌==◌}
 use Rattle.std.proofs.lemmas.Result.{on_ok_weaker, IfErr-weaker}
 use Rattle.tree_text.specs.Depth.{depth_limit}
-use Rattle.tree_text.specs.KindNames.{name_in, is_name_byte}
+use Rattle.tree_text.specs.KindNames.{is_name_byte}
 use Rattle.tree_text.specs.inner.OpenTrees.{open_trees}
 use Rattle.tree_text.specs.inner.Reading.{IsReading, IsStuck, IsMisplaced, Reads, reading}
 use Rattle.tree_text.proofs.Leaving.{unread-in}
