@@ -7,7 +7,7 @@ use Rattle.std.proofs.Common.{◌≡◌, ℕ, List, ◌++◌, sym, subst}
 use Rattle.cst_core.specs.Tree.{SyntaxTree}
 use Rattle.tree_text.specs.KindNames.{KindName}
 use Rattle.tree_text.specs.Refusals.{KeepsNames}
-use Rattle.tree_text.specs.inner.Reading.{Reading, IsReading, IsLeft, Reads, unread, with_names}
+use Rattle.tree_text.specs.inner.Reading.{Reading, IsReading, IsLeft, Opens, Reads, unread, with_names}
 
 pub record PlainReads (old : Reading) (past : List ℕ) (new : Reading) : Type 0 where
   pub sound : IsReading new
@@ -25,12 +25,13 @@ more-reading r h more m = record {
 pub own-names : (r : Reading) → IsReading r → KeepsNames r.given r.given
 own-names r h = record { names = h.names; keeps = λ k n is. is }
 
-pub with-any : (old : Reading) (bytes past : List ℕ) (new : Reading) → IsReading old → new.given ≡ old.given → unread old ++ bytes ≡ past ++ unread new
+pub with-any : (old : Reading) (bytes past : List ℕ) (new : Reading) → IsReading old → new.given ≡ old.given → unread old ++ bytes ≡ past ++ unread new → Opens old past new
     → ((more : List KindName) → KeepsNames old.given more → PlainReads (with_names more old) past (with_names more new)) → Reads old bytes new
-with-any old bytes past new h names is each = record {
+with-any old bytes past new h names is opens each = record {
   sound = subst (λ given. IsReading (with_names given new)) (sym names) (each old.given (own-names old h)).sound;
   names = names;
   past = past;
   is = is;
+  opens = opens;
   each = λ more m. let p = each more m in record { on = p.on; back = p.back };
 }

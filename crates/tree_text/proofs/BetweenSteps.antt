@@ -2,7 +2,7 @@
 --     opens, a-gap, begins-name          a parenthesis that opens a node, a character of a gap, the first one of a name
 --     stuck-outside, stuck-inside        one that may not stand there
 --     begins-nothing                     no element begins with it, and no gap has it
-use Rattle.std.proofs.Common.{◌≡◌, ◌≢◌, ℕ, Bool, true, false, not, ◌&&◌, ◌||◌, List, [], ◌∷◌, ◌++◌, Option, Some, None, is_some, refl, sym, ap, ◌∙◌, subst, arith}
+use Rattle.std.proofs.Common.{◌≡◌, ◌≢◌, ℕ, Bool, true, false, not, ◌&&◌, ◌||◌, List, [], ◌∷◌, ◌++◌, Option, Some, None, is_some, inl, refl, sym, ap, ◌∙◌, subst, arith}
 use Rattle.std.specs.Prelude.{encode_utf8, ◌==◌}
 use Rattle.std.specs.List.{list_all}
 use Rattle.std.proofs.lemmas.Bool.{false≢true, eqb-true, eq-eqb}
@@ -11,7 +11,7 @@ use Rattle.cst_core.specs.Tree.{SyntaxTree}
 use Rattle.tree_text.specs.KindNames.{AreNames, name_in, is_name_byte, is_name}
 use Rattle.tree_text.specs.inner.Completing.{IsFrom, IsAfter, OpenTree}
 use Rattle.tree_text.specs.inner.Gap.{is_gap}
-use Rattle.tree_text.specs.inner.Reading.{Reading, IsReading, IsLeft, IsLeftOutside, Reads, CannotGoOn, is_outside, is_nil, unread, with_names}
+use Rattle.tree_text.specs.inner.Reading.{Reading, IsReading, IsLeft, IsLeftOutside, Opened, Reads, CannotGoOn, is_outside, is_nil, unread, with_names}
 use Rattle.tree_text.specs.declared.gaps.Gaps.{Gaps}
 use Rattle.tree_text.specs.declared.reader.State.TheVariants.{Between, NodeKind, TokenKind}
 use Rattle.tree_text.proofs.AnyNames.{PlainReads, more-reading, with-any}
@@ -126,22 +126,32 @@ module _ (r : Reading) (h : IsReading r) (c : ℕ) (between : r.state ≡ Betwee
       let from = from-between r t (b ∷ w) between none (past-unread r Between t (b ∷ w) between left) in
       begins-nothing (name_in r.given) r.gaps h.names c no_open no_close no_gap no_name r.nodes t b after w is from
 
+no-node : Between ≢ NodeKind
+no-node is = cc
+
 -- ---- whatever further names kinds have
 module _ (r : Reading) (h : IsReading r) (c : ℕ) (between : r.state ≡ Between) where
   all-unread : (word : List ℕ) → word ≡ [] → unread r ++ encode_utf8 c ≡ encode_utf8 c ++ word
   all-unread word none = all-past (unread r) (encode_utf8 c) word (no-unread r h c between) none
 
+  opened : c ≡ 40 → is_outside r c ≡ false → Opened r (encode_utf8 c) (record r { state = NodeKind })
+  opened is inside = record {
+    before = [];
+    is = ap encode_utf8 is ∙ encode-ascii 40 (omega arith);
+    back = λ t w apart from. to-between r t w between (no-whole r h c between is inside) from;
+  }
+
   pub opens : c ≡ 40 → is_outside r c ≡ false → Reads r (encode_utf8 c) (record r { state = NodeKind })
   opens is inside =
-      with-any r (encode_utf8 c) (encode_utf8 c) (record r { state = NodeKind }) h refl (all-unread r.word (no-word r h c between)) (λ more m. plain-opens (with_names more r) (more-reading r h more m) c between is inside)
+      with-any r (encode_utf8 c) (encode_utf8 c) (record r { state = NodeKind }) h refl (all-unread r.word (no-word r h c between)) (λ node. inl (opened is inside)) (λ more m. plain-opens (with_names more r) (more-reading r h more m) c between is inside)
 
   pub a-gap : is_gap r.gaps c ≡ true → is_outside r c ≡ false → Reads r (encode_utf8 c) r
   a-gap gap inside =
-      with-any r (encode_utf8 c) (encode_utf8 c) r h refl (all-unread (unread r) (no-unread r h c between)) (λ more m. plain-gap (with_names more r) (more-reading r h more m) c between gap inside)
+      with-any r (encode_utf8 c) (encode_utf8 c) r h refl (all-unread (unread r) (no-unread r h c between)) (λ node. absurd (no-node (sym between ∙ node))) (λ more m. plain-gap (with_names more r) (more-reading r h more m) c between gap inside)
 
   pub begins-name : is_name_byte c ≡ true → is_outside r c ≡ false → Reads r (encode_utf8 c) (record r { state = TokenKind; word = r.word ++ encode_utf8 c })
   begins-name name inside =
-      with-any r (encode_utf8 c) [] (record r { state = TokenKind; word = r.word ++ encode_utf8 c }) h refl (ap (λ x. x ++ encode_utf8 c) (no-unread r h c between ∙ sym (no-word r h c between)))
+      with-any r (encode_utf8 c) [] (record r { state = TokenKind; word = r.word ++ encode_utf8 c }) h refl (ap (λ x. x ++ encode_utf8 c) (no-unread r h c between ∙ sym (no-word r h c between))) (λ node. cc)
       (λ more m. plain-begins (with_names more r) (more-reading r h more m) c between name inside)
 
   pub stuck-outside : is_outside r c ≡ true → CannotGoOn r (encode_utf8 c)

@@ -2,15 +2,17 @@
 --     split-two             two ways in which a text falls into two: the first part of one begins with that of the other
 --     malformed-knows       a malformed text doesn't lack a name, whatever the bytes
 --     malformed-once        a text is malformed at one byte
+--     deep-once             it is too deep at one byte
 --     malformed-never       it is no expression, whatever further names kinds have
-use Rattle.std.proofs.Common.{◌≡◌, ◌⊎◌, ℕ, Bool, true, false, List, [], ◌∷◌, ◌++◌, length, refl, sym, ap, ap₂, ◌∙◌, append_assoc, append-nil, subst, inl, inr}
+use Rattle.std.proofs.Common.{◌≡◌, ◌⊎◌, ℕ, Bool, true, false, List, [], ◌∷◌, ◌++◌, length, refl, sym, ap, ap₂, ◌∙◌, append_assoc, append-nil, subst, inl, inr, arith}
+use Rattle.std.specs.Prelude.{codes}
 use Rattle.std.specs.List.{list_all}
 use Rattle.std.proofs.lemmas.Bool.{and_parts, false≢true}
 use Rattle.std.proofs.lemmas.List.Folds.{list_all-append}
 use Rattle.cst_core.specs.Tree.{SyntaxTree}
 use Rattle.tree_text.specs.Grammar.{IsExpression}
 use Rattle.tree_text.specs.KindNames.{KindName, AreNames, is_name_byte, name_in}
-use Rattle.tree_text.specs.Refusals.{KeepsNames, Begins, MayGoOn, IsMalformed, LacksName}
+use Rattle.tree_text.specs.Refusals.{KeepsNames, Begins, MayGoOn, IsMalformed, IsTooDeep, LacksName}
 use Rattle.tree_text.proofs.FreshKinds.{one-more}
 
 pub record Longer (p x q y : List ℕ) : Type 0 where
@@ -118,6 +120,36 @@ module _ (given : List KindName) (gaps : ℕ → Bool) where
 
   pub malformed-never : (w : List ℕ) (i : ℕ) → IsMalformed given gaps w i → (more : List KindName) → KeepsNames given more → (t : SyntaxTree) → IsExpression (name_in more) gaps t w → ⊥
   malformed-never w i m = not-whole w (m.front ++ m.name) m.rest m.is m.stops
+
+  module _ (w : List ℕ) (i j : ℕ) (m : IsTooDeep given gaps w i) (n : IsTooDeep given gaps w j) where
+    -- before the later parenthesis an expression of a tree that isn't too deep has begun
+    behind : (l : List ℕ) → n.front ≡ (m.front ++ codes "(") ++ l → ⊥
+    behind l is =
+        let f = n.fits in
+        let deep = m.only f.0 (l ++ f.1) (subst (IsExpression (name_in given) gaps f.0) (ap (λ x. x ++ f.1) is ∙ append_assoc (m.front ++ codes "(") l f.1) f.2) in
+        let shallow = f.3 in
+        absurd (omega (arith, deep, shallow))
+
+    not-deeper : (z : List ℕ) → n.front ++ codes "(" ≡ (m.front ++ codes "(") ++ z → i ≡ j
+    not-deeper [] is = m.here ∙ ap length (sym (append-nil (m.front ++ codes "(")) ∙ sym is) ∙ sym n.here
+    not-deeper (b ∷ z) is = elim (split-two n.front (codes "(") (m.front ++ codes "(") (b ∷ z) is) [
+      | inl within ↦ by within.between within.is within.rest
+      | inr past ↦ absurd (behind past.between past.is)
+    ]
+      where
+        nothing : (xs : List ℕ) → [] ≡ xs ++ b ∷ z → ⊥
+        nothing [] none = cc
+        nothing (x ∷ xs) none = cc
+
+        by : (y : List ℕ) → m.front ++ codes "(" ≡ n.front ++ y → codes "(" ≡ y ++ b ∷ z → i ≡ j
+        by [] is' rest = absurd (behind [] (sym (append-nil n.front) ∙ sym is' ∙ sym (append-nil (m.front ++ codes "("))))
+        by (x ∷ y) is' rest = let none : [] ≡ y ++ b ∷ z = cc in absurd (nothing y none)
+
+  pub deep-once : (w : List ℕ) (i j : ℕ) → IsTooDeep given gaps w i → IsTooDeep given gaps w j → i ≡ j
+  deep-once w i j m n = elim (split-two (m.front ++ codes "(") m.rest (n.front ++ codes "(") n.rest (sym m.is ∙ n.is)) [
+    | inl further ↦ not-deeper w i j m n further.between further.is
+    | inr further ↦ sym (not-deeper w j i n m further.between further.is)
+  ]
 
   pub malformed-once : (w : List ℕ) (i j : ℕ) → IsMalformed given gaps w i → IsMalformed given gaps w j → i ≡ j
   malformed-once w i j m n = elim (split-two (m.front ++ m.name) m.rest (n.front ++ n.name) n.rest (sym m.is ∙ n.is)) [

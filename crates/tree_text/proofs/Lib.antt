@@ -1,6 +1,7 @@
 pub mod AnyNames
 pub mod Beginnings
 pub mod BetweenSteps
+pub mod ClosedDepths
 pub mod Closing
 pub mod Completed
 pub mod Depths

@@ -10,18 +10,18 @@
 --     with_node, begun, node-stuck      the node that the name opens, and an error behind it
 --     node-deep                         where as many parentheses are open as may be
 --     token-unquoted                    where a text should begin
-use Rattle.std.proofs.Common.{◌≡◌, ◌≢◌, ℕ, ◌≤◌, ◌<◌, suc, Bool, true, false, not, List, [], ◌∷◌, ◌++◌, ◌||◌, Some, None, length, refl, sym, ap, ◌∙◌, append_assoc, append-nil, subst, arith}
+use Rattle.std.proofs.Common.{◌≡◌, ◌≢◌, ℕ, ◌<◌, suc, Bool, true, false, not, List, [], ◌∷◌, ◌++◌, ◌||◌, Some, None, length, refl, sym, ap, ◌∙◌, append_assoc, append-nil, subst, inl, inr, arith}
 use Rattle.std.specs.Prelude.{encode_utf8, ◌==◌, codes}
 use Rattle.std.specs.List.{list_all}
 use Rattle.std.proofs.lemmas.Bool.{false≢true, eq-eqb, eqb-true, and_parts}
 use Rattle.std.proofs.lemmas.List.Folds.{list_all-append}
 use Rattle.cst_core.specs.Tree.{SyntaxTree, Token, node}
 use Rattle.green_tree.specs.declared.kind.SyntaxKind.{SyntaxKind}
-use Rattle.tree_text.specs.Depth.{depth_limit}
 use Rattle.tree_text.specs.Grammar.{◌⨾◌, IsExactly, begins_with_name_byte}
 use Rattle.tree_text.specs.KindNames.{KindName, AreNames, is_name, name_in, is_name_byte}
 use Rattle.tree_text.specs.inner.Completing.{IsFrom, IsAfter, IsRestOfToken, OpenTree}
 use Rattle.tree_text.specs.inner.Gap.{is_gap}
+use Rattle.tree_text.specs.inner.OpenDepth.{IsFull}
 use Rattle.tree_text.specs.inner.Reading.{Reading, IsReading, IsInside, IsLeft, IsPartOfName, Reads, CannotGoOn, Lacks, IsDeep, IsStuck, IsMisplaced, may_follow_kind, name_part, unread, with_names}
 use Rattle.tree_text.specs.declared.error.ExpressionError.{ExpressionError}
 use Rattle.tree_text.specs.declared.gaps.Gaps.{Gaps}
@@ -30,6 +30,7 @@ use Rattle.tree_text.specs.declared.reader.State.TheVariants.{Between, NodeKind,
 use Rattle.tree_text.proofs.AnyNames.{PlainReads, more-reading, with-any}
 use Rattle.tree_text.proofs.Beginnings.{both}
 use Rattle.tree_text.proofs.BetweenSteps.{begins-nothing}
+use Rattle.tree_text.proofs.ClosedDepths.{close-within}
 use Rattle.tree_text.proofs.Closing.{close-all, close-in, close-node}
 use Rattle.tree_text.proofs.Completed.{open-node}
 use Rattle.tree_text.proofs.FreshKinds.{fresh-kind, one-more}
@@ -131,6 +132,16 @@ past-apart c [] part w no_name is all =
     absurd (false≢true (sym (f.answers is_name_byte large-names no_name) ∙ (and_parts _ _ all').0))
 past-apart c (b ∷ past) part w no_name is all = answers-first c b (past ++ part) is is_name_byte large-names no_name
 
+before-apart : (c : ℕ) (before part w : List ℕ) → is_name_byte c ≡ false → encode_utf8 c ≡ (before ++ codes "(") ++ part → begins_with_name_byte w ≡ false → begins_with_name_byte (before ++ w) ≡ false
+before-apart c [] part w no_name is apart = apart
+before-apart c (b ∷ before) part w no_name is apart = answers-first c b ((before ++ codes "(") ++ part) is is_name_byte large-names no_name
+
+no-node : TokenKind ≢ NodeKind
+no-node is = cc
+
+no-kind : Between ≢ NodeKind
+no-kind is = cc
+
 module _ (r : Reading) (h : IsReading r) where
   abbrev From : List OpenTree → SyntaxTree → List ℕ → Type 0
   From = IsFrom (name_in r.given) (is_gap r.gaps)
@@ -209,10 +220,15 @@ module _ (r : Reading) (h : IsReading r) where
         }) in
         lacking r c (encode-ascii c (follows-ascii r.gaps c follows)) no_name (lacks (unread r) (unread-node r.word))
 
-    pub node-deep : depth_limit ≤ length r.nodes → IsDeep r
-    node-deep deep t w left =
-        let below = open-depth (name_in r.given) (is_gap r.gaps) h.names (are-gaps r.gaps) r.nodes t w (in-state r NodeKind t w kind left) in
-        omega arith
+    pub node-deep : IsFull r.nodes → IsDeep r
+    node-deep full = record {
+      opens = kind;
+      fits = close-within (name_in r.given) (is_gap r.gaps) r.nodes full;
+      only = λ t w left.
+          let below = open-depth (name_in r.given) (is_gap r.gaps) h.names (are-gaps r.gaps) r.nodes t w (in-state r NodeKind t w kind left) in
+          let many = full.0 in
+          omega (arith, many, below);
+    }
 
     pub node-reading : (k : ℕ) → IsReading (with_node r k)
     node-reading k = record { names = h.names; word = refl; inside = tt; whole = none-whole (with_node r k) root-none }
@@ -299,7 +315,7 @@ module _ (r : Reading) (h : IsReading r) where
     pub node-run : (bs : List ℕ) → list_all is_name_byte bs ≡ true → Reads r bs (record r { word = r.word ++ bs })
     node-run bs names =
         let new : Reading = record r { word = r.word ++ bs } in
-        with-any r bs [] new h refl (ap (λ x. x ++ bs) (unread-node r h kind r.word) ∙ sym (unread-node r h kind (r.word ++ bs))) (λ more m. plain-node-run (with_names more r) (more-reading r h more m) kind bs names)
+        with-any r bs [] new h refl (ap (λ x. x ++ bs) (unread-node r h kind r.word) ∙ sym (unread-node r h kind (r.word ++ bs))) (λ node. inr (kind, refl, refl, refl)) (λ more m. plain-node-run (with_names more r) (more-reading r h more m) kind bs names)
 
     pub node-more : (c : ℕ) → is_name_byte c ≡ true → Reads r (encode_utf8 c) (record r { word = r.word ++ encode_utf8 c })
     node-more c name = node-run (encode_utf8 c) (name-bytes r h c name)
@@ -317,6 +333,14 @@ module _ (r : Reading) (h : IsReading r) where
       names = reads.names;
       past = r.word ++ reads.past;
       is = ap (λ x. x ++ encode_utf8 c) (unread-node r h kind r.word) ∙ ap (λ x. r.word ++ x) reads.is ∙ sym (append_assoc r.word reads.past (unread new));
+      opens = λ node. elim (reads.opens node) [
+        | inl o ↦ inl (record {
+          before = r.word ++ o.before;
+          is = ap (λ x. r.word ++ x) o.is ∙ sym (append_assoc r.word o.before (codes "("));
+          back = λ t w apart from. subst (IsLeft r t) (sym (append_assoc r.word o.before w)) (plain-back r h kind k is t (o.before ++ w) (before-apart c o.before (unread new) w no_name (reads.is ∙ ap (λ x. x ++ unread new) o.is) apart) (o.back t w apart from));
+        })
+        | inr same ↦ absurd (no-kind same.0)
+      ];
       each = λ more m.
           let same = reads.each more m in
           let r' = with_names more r in
@@ -345,7 +369,7 @@ module _ (r : Reading) (h : IsReading r) where
     pub token-run : (bs : List ℕ) → list_all is_name_byte bs ≡ true → Reads r bs (record r { word = r.word ++ bs })
     token-run bs names =
         let new : Reading = record r { word = r.word ++ bs } in
-        with-any r bs [] new h refl (ap (λ x. x ++ bs) (unread-token r h kind r.word) ∙ sym (unread-token r h kind (r.word ++ bs))) (λ more m. plain-token-run (with_names more r) (more-reading r h more m) kind bs names)
+        with-any r bs [] new h refl (ap (λ x. x ++ bs) (unread-token r h kind r.word) ∙ sym (unread-token r h kind (r.word ++ bs))) (λ node. absurd (no-node (sym kind ∙ node))) (λ more m. plain-token-run (with_names more r) (more-reading r h more m) kind bs names)
 
     pub token-more : (c : ℕ) → is_name_byte c ≡ true → Reads r (encode_utf8 c) (record r { word = r.word ++ encode_utf8 c })
     token-more c name = token-run (encode_utf8 c) (name-bytes r h c name)
@@ -355,5 +379,5 @@ module _ (r : Reading) (h : IsReading r) where
 
     pub token-named : (c : ℕ) (k : SyntaxKind) → c ≡ 34 → name_in r.given k.0 ≡ Some r.word → Reads r (encode_utf8 c) (record r { state = Text k; word = [] })
     token-named c k quote is =
-        with-any r (encode_utf8 c) (r.word ++ encode_utf8 c) (record r { state = Text k; word = [] }) h refl (ap (λ x. x ++ encode_utf8 c) (unread-token r h kind r.word) ∙ sym (append-nil (r.word ++ encode_utf8 c)))
+        with-any r (encode_utf8 c) (r.word ++ encode_utf8 c) (record r { state = Text k; word = [] }) h refl (ap (λ x. x ++ encode_utf8 c) (unread-token r h kind r.word) ∙ sym (append-nil (r.word ++ encode_utf8 c))) (λ node. cc)
         (λ more m. plain-named (with_names more r) (more-reading r h more m) kind c k quote (m.keeps k.0 r.word is))

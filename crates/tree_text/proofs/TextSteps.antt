@@ -18,7 +18,7 @@ use Rattle.tree_text.specs.inner.Gap.{is_gap}
 use Rattle.tree_text.specs.inner.Meant.{meant}
 use Rattle.tree_text.specs.inner.OpenTrees.{HasPut, IsInnermostLong}
 use Rattle.tree_text.specs.inner.Reading.{Reading, IsReading, IsInside, IsWhole, IsLeft, IsPartOfName, Reads, CannotGoOn, GoesOnAs, is_outside, is_nil, name_part, unread, with_names}
-use Rattle.tree_text.specs.declared.reader.State.TheVariants.{Between, Text, Escape}
+use Rattle.tree_text.specs.declared.reader.State.TheVariants.{Between, NodeKind, Text, Escape}
 use Rattle.tree_text.proofs.AnyNames.{PlainReads, more-reading, with-any}
 use Rattle.tree_text.proofs.Closing.{close-in, close-all}
 use Rattle.tree_text.proofs.OpenTrees.{before-close, past-close}
@@ -32,6 +32,12 @@ apart-text k is = cc
 
 apart-escape : (k : SyntaxKind) → Escape k ≢ Between
 apart-escape k is = cc
+
+no-node-text : (k : SyntaxKind) → Text k ≢ NodeKind
+no-node-text k is = cc
+
+no-node-between : Between ≢ NodeKind
+no-node-between is = cc
 
 large-meant : (x : ℕ) → 128 ≤ x → is_some (meant x) ≡ false
 large-meant x large = unmeant (x == 110) (x == 114) (x == 116) (x == 34) (x == 92) (large-at 110 (omega arith) x large) (large-at 114 (omega arith) x large) (large-at 116 (omega arith) x large) (large-at 34 (omega arith) x large) (large-at 92 (omega arith) x large)
@@ -242,18 +248,18 @@ module _ (r : Reading) (h : IsReading r) where
     pub text-run : (bs : List ℕ) → list_all (λ b. not (b == 34 || b == 92)) bs ≡ true → Reads r bs (record r { word = r.word ++ bs })
     text-run bs plain =
         let new : Reading = record r { word = r.word ++ bs } in
-        with-any r bs bs new h refl (all-read bs (unread new) (no-unread r h k state (r.word ++ bs))) (λ more m. plain-run (with_names more r) (more-reading r h more m) k state bs plain)
+        with-any r bs bs new h refl (all-read bs (unread new) (no-unread r h k state (r.word ++ bs))) (λ node. absurd (no-node-text k (sym state ∙ node))) (λ more m. plain-run (with_names more r) (more-reading r h more m) k state bs plain)
 
     pub text-more : (c : ℕ) → c ≢ 34 → c ≢ 92 → Reads r (encode_utf8 c) (record r { word = r.word ++ encode_utf8 c })
     text-more c no_quote no_escape =
         text-run (encode_utf8 c) (plain-bytes c (neither (c == 34) (c == 92) (other c 34 no_quote) (other c 92 no_escape)))
 
     pub begins-escape : (c : ℕ) → c ≡ 92 → Reads r (encode_utf8 c) (record r { state = Escape k })
-    begins-escape c is = with-any r (encode_utf8 c) (encode_utf8 c) (record r { state = Escape k }) h refl (all-read (encode_utf8 c) [] refl) (λ more m. plain-escape (with_names more r) (more-reading r h more m) k state c is)
+    begins-escape c is = with-any r (encode_utf8 c) (encode_utf8 c) (record r { state = Escape k }) h refl (all-read (encode_utf8 c) [] refl) (λ node. cc) (λ more m. plain-escape (with_names more r) (more-reading r h more m) k state c is)
 
     pub ends-token : (new : List OpenTree) → HasPut (Token k.0 r.word) r.nodes new → Reads r (encode_utf8 34) (record r { nodes = new; state = Between; word = [] })
     ends-token new put =
-        with-any r (encode_utf8 34) (encode_utf8 34) (record r { nodes = new; state = Between; word = [] }) h refl (all-read (encode_utf8 34) [] refl) (λ more m. plain-token (with_names more r) (more-reading r h more m) k state new put)
+        with-any r (encode_utf8 34) (encode_utf8 34) (record r { nodes = new; state = Between; word = [] }) h refl (all-read (encode_utf8 34) [] refl) (λ node. cc) (λ more m. plain-token (with_names more r) (more-reading r h more m) k state new put)
 
     pub token-nowhere : r.nodes ≡ [] → CannotGoOn r (encode_utf8 34)
     token-nowhere none b after is more m = plain-nowhere (with_names more r) (more-reading r h more m) k state none b after is
@@ -272,7 +278,7 @@ module _ (r : Reading) (h : IsReading r) where
     pub ends-escape : (c m : ℕ) → meant c ≡ Some m → Reads r (encode_utf8 c) (record r { state = Text k; word = r.word ++ encode_utf8 m })
     ends-escape c x is =
         let new : Reading = record r { state = Text k; word = r.word ++ encode_utf8 x } in
-        with-any r (encode_utf8 c) (encode_utf8 c) new h refl (all-past (unread r) (encode_utf8 c) [] (no-unread'' r h k state r.word) refl) (λ more m. plain-letter (with_names more r) (more-reading r h more m) k state c x is)
+        with-any r (encode_utf8 c) (encode_utf8 c) new h refl (all-past (unread r) (encode_utf8 c) [] (no-unread'' r h k state r.word) refl) (λ node. cc) (λ more m. plain-letter (with_names more r) (more-reading r h more m) k state c x is)
 
     pub no-escape : (c : ℕ) → meant c ≡ None → CannotGoOn r (encode_utf8 c)
     no-escape c none b after is more m = plain-no-escape (with_names more r) (more-reading r h more m) k state c none b after is
@@ -296,9 +302,9 @@ module _ (r : Reading) (h : IsReading r) where
 
     pub ends-node : (n : Branch) (outer new : List OpenTree) → r.nodes ≡ (n.kind, n.children) ∷ outer → HasPut (branch_tree n) outer new → Reads r (encode_utf8 41) (record r { nodes = new })
     ends-node n outer new is put =
-        with-any r (encode_utf8 41) (encode_utf8 41) (record r { nodes = new }) h refl (between-read (record r { nodes = new }) state) (λ more m. plain-node (with_names more r) (more-reading r h more m) state inside n outer new is put)
+        with-any r (encode_utf8 41) (encode_utf8 41) (record r { nodes = new }) h refl (between-read (record r { nodes = new }) state) (λ node. absurd (no-node-between (sym state ∙ node))) (λ more m. plain-node (with_names more r) (more-reading r h more m) state inside n outer new is put)
 
     pub ends-tree : (n : Branch) (outer : List OpenTree) → r.nodes ≡ (n.kind, n.children) ∷ outer → outer ≡ [] → depth (branch_tree n) ≤ depth_limit → Reads r (encode_utf8 41) (record r { nodes = outer; root = Some n })
     ends-tree n outer is none limited =
         let new : Reading = record r { nodes = outer; root = Some n } in
-        with-any r (encode_utf8 41) (encode_utf8 41) new h refl (between-read new state) (λ more m. plain-tree (with_names more r) (more-reading r h more m) state inside n outer is none limited)
+        with-any r (encode_utf8 41) (encode_utf8 41) new h refl (between-read new state) (λ node. absurd (no-node-between (sym state ∙ node))) (λ more m. plain-tree (with_names more r) (more-reading r h more m) state inside n outer is none limited)

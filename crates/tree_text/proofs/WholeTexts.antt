@@ -8,18 +8,20 @@
 --     refused-run           where memory is refused
 --     refused-end           where the text is at its end
 --     on-own, back-own, end-on, end-back      with the names that kinds have, and at its end
-use Rattle.std.proofs.Common.{◌≡◌, ◌≢◌, ℕ, ◌+◌, ◌-◌, List, [], ◌∷◌, ◌++◌, length, length-append, None, Some, append_assoc, append-nil, refl, sym, ap, ◌∙◌, subst, arith}
-use Rattle.std.specs.Prelude.{encode_utf8}
+use Rattle.std.proofs.Common.{◌≡◌, ◌≢◌, ℕ, ◌+◌, ◌-◌, false, List, [], ◌∷◌, ◌++◌, length, length-append, None, Some, append_assoc, append-nil, inl, inr, refl, sym, ap, ◌∙◌, subst, arith}
+use Rattle.std.specs.Prelude.{codes, encode_utf8}
 use Rattle.cst_core.specs.Green.{IsTooLong}
 use Rattle.cst_core.specs.Tree.{SyntaxTree, text}
-use Rattle.tree_text.specs.Grammar.{IsExpression}
+use Rattle.tree_text.specs.Grammar.{IsExpression, begins_with_name_byte}
 use Rattle.tree_text.specs.KindNames.{KindName, name_in}
 use Rattle.tree_text.specs.Refusals.{IsRefused, KeepsNames, Begins, MayBegin, MayGoOn, IsMalformed, LacksName, BeginsAs, IsTooDeep, ReadRefuses}
+use Rattle.tree_text.specs.inner.Completing.{IsFrom}
 use Rattle.tree_text.specs.inner.Gap.{is_gap}
 use Rattle.tree_text.specs.inner.Nowhere.{Nowhere}
-use Rattle.tree_text.specs.inner.Reading.{Reading, IsReading, IsLeft, CannotGoOn, CannotEnd, Lacks, IsDeep, GoesOnAs, IsStuck, Reads, ReadsUpTo, first_reading, unread, with_names}
+use Rattle.tree_text.specs.inner.Reading.{Reading, IsReading, IsLeft, CannotGoOn, CannotEnd, Lacks, IsDeep, GoesOnAs, IsStuck, Opened, Reads, ReadsUpTo, first_reading, unread, with_names}
 use Rattle.tree_text.specs.declared.error.ExpressionError.{ExpressionError}
 use Rattle.tree_text.specs.declared.gaps.Gaps.{Gaps}
+use Rattle.tree_text.specs.declared.reader.State.TheVariants.{Between, NodeKind}
 use Rattle.tree_text.proofs.AnyNames.{own-names}
 use Rattle.tree_text.proofs.Completed.{completes, may-complete}
 use Rattle.tree_text.proofs.EncodedBytes.{first-byte}
@@ -32,6 +34,12 @@ module _ (given : List KindName) (gaps : Gaps) (whole : List ℕ) where
   abbrev Is : List KindName → SyntaxTree → List ℕ → Type 0
   Is more t w = IsExpression (name_in more) (is_gap gaps) t w
 
+  -- a node is opened at the end of the front: where it isn't, what may be left is the same
+  pub record HasOpened (front : List ℕ) (r : Reading) : Type 0 where
+    pub before : List ℕ
+    pub is : front ≡ before ++ codes "("
+    pub back : (t : SyntaxTree) (w : List ℕ) → begins_with_name_byte w ≡ false → IsFrom (name_in given) (is_gap r.gaps) r.nodes t w → Is given t (before ++ w)
+
   pub record HasRead (rest : List ℕ) (r : Reading) : Type 0 where
     pub front : List ℕ
     pub is : whole ≡ front ++ (unread r ++ rest)
@@ -39,6 +47,10 @@ module _ (given : List KindName) (gaps : Gaps) (whole : List ℕ) where
     pub names : r.given ≡ given
     pub on : (more : List KindName) → KeepsNames given more → (t : SyntaxTree) (w : List ℕ) → Is more t (front ++ w) → IsLeft (with_names more r) t w
     pub back : (more : List KindName) → KeepsNames given more → (t : SyntaxTree) (w : List ℕ) → IsLeft (with_names more r) t w → Is more t (front ++ w)
+    pub opened : r.state ≡ NodeKind → HasOpened front r
+
+  no-node : Between ≢ NodeKind
+  no-node is = cc
 
   pub nothing-read : (rest : List ℕ) (r : Reading) → rest ≡ whole → r ≡ first_reading given gaps → IsReading r → HasRead rest r
   nothing-read rest r is first sound = record {
@@ -48,6 +60,25 @@ module _ (given : List KindName) (gaps : Gaps) (whole : List ℕ) where
     names = ap (λ x. x.given) first;
     on = λ more m t w expression. subst (λ x. IsLeft (with_names more x) t w) (sym first) (from-expression (name_in more) (is_gap gaps) t w expression);
     back = λ more m t w left. as-expression (name_in more) (is_gap gaps) t w (subst (λ x. IsLeft (with_names more x) t w) first left);
+    opened = λ node. absurd (no-node (sym (ap (λ x. x.state) first) ∙ node));
+  }
+
+  -- a node that was opened before, or is opened now
+  opened-still : (front past : List ℕ) (old new : Reading) → past ≡ [] → new.nodes ≡ old.nodes → new.gaps ≡ old.gaps → HasOpened front old → HasOpened (front ++ past) new
+  opened-still front past old new none nodes gaps' o = record {
+    before = o.before;
+    is = ap (λ x. front ++ x) none ∙ append-nil front ∙ o.is;
+    back = λ t w apart from. o.back t w apart (subst (λ g. IsFrom (name_in given) (is_gap g) old.nodes t w) gaps' (subst (λ ns. IsFrom (name_in given) (is_gap new.gaps) ns t w) nodes from));
+  }
+
+  opened-now : (rest past : List ℕ) (old new : Reading) (so_far : HasRead rest old) → Opened old past new → HasOpened (so_far.front ++ past) new
+  opened-now rest past old new so_far o = record {
+    before = so_far.front ++ o.before;
+    is = ap (λ x. so_far.front ++ x) o.is ∙ sym (append_assoc so_far.front o.before (codes "("));
+    back = λ t w apart from.
+        let own = subst (λ g. KeepsNames g g) so_far.names (own-names old so_far.sound) in
+        let left : IsLeft old t (o.before ++ w) = o.back t w apart (subst (λ g. IsFrom (name_in g) (is_gap new.gaps) new.nodes t w) (sym so_far.names) from) in
+        subst (Is given t) (sym (append_assoc so_far.front o.before w)) (so_far.back given own t (o.before ++ w) (subst (λ g. IsLeft (with_names g old) t (o.before ++ w)) so_far.names left));
   }
 
   pub one-more-read : (bytes rest after : List ℕ) (old new : Reading) → rest ≡ bytes ++ after → HasRead rest old → Reads old bytes new → HasRead after new
@@ -62,6 +93,10 @@ module _ (given : List KindName) (gaps : Gaps) (whole : List ℕ) where
         names = reads.names ∙ so_far.names;
         on = λ more m t w expression. (reads.each more (keeps more m)).on t w (so_far.on more m t (reads.past ++ w) (subst (Is more t) (append_assoc so_far.front reads.past w) expression));
         back = λ more m t w left. subst (Is more t) (sym (append_assoc so_far.front reads.past w)) (so_far.back more m t (reads.past ++ w) ((reads.each more (keeps more m)).back t w left));
+        opened = λ node. elim (reads.opens node) [
+          | inl o ↦ opened-now rest reads.past old new so_far o
+          | inr same ↦ opened-still so_far.front reads.past old new same.1 same.2 same.3 (so_far.opened same.0)
+        ];
       }
 
   module _ (rest : List ℕ) (r : Reading) (so_far : HasRead rest r) where
@@ -134,7 +169,18 @@ module _ (given : List KindName) (gaps : Gaps) (whole : List ℕ) where
         }
 
     too-deep : IsDeep r → IsTooDeep given (is_gap gaps) whole (length so_far.front)
-    too-deep deep = (record { front = so_far.front; rest = unread r ++ rest; is = so_far.is; goes = begun; only = λ t w expression. deep t w (on-own t w expression) }, refl)
+    too-deep deep =
+        let o = so_far.opened deep.opens in
+        let f = deep.fits in
+        record {
+          front = o.before;
+          rest = unread r ++ rest;
+          is = so_far.is ∙ ap (λ x. x ++ (unread r ++ rest)) o.is;
+          here = ap length o.is;
+          fits = (f.0, f.1, o.back f.0 f.1 f.2 (subst (λ g. IsFrom (name_in g) (is_gap r.gaps) r.nodes f.0 f.1) so_far.names f.3), f.4);
+          begins = subst (Begins given (is_gap gaps)) o.is begun;
+          only = λ t w expression. deep.only t w (on-own t w (subst (λ x. Is given t (x ++ w)) (sym o.is) expression));
+        }
 
     lacking : (bytes after : List ℕ) → rest ≡ bytes ++ after → Lacks r bytes → LacksName given (is_gap gaps) whole (length so_far.front)
     lacking bytes after is lacks =

@@ -8,12 +8,13 @@
 --     LacksName          at this byte a name begins that no kind has, and what stands behind the name may stand there. No expression
 --                        begins with that name, and some does where one kind more has it
 --     BeginsAs           a text begins as an expression does, and only as those of such trees do
---     IsTooDeep          so it is up to this byte, and these trees are too deep
+--     IsTooDeep          behind a parenthesis, at this byte, a text has begun as an expression does, and only as those of trees
+--                        that are too deep; before it, it had begun as one of a tree that isn't
 --     IsTreeRefused      what a tree's own error says: its text is too long, and no other comes
 --     IsRefused          what an error says: that a text is malformed at its byte, or lacks a name there, or opens too many
 --                        parentheses at once; that its tree has too long a text; nothing where memory ran out, and no other comes
 --     ReadRefuses        why a text isn't read
-use Rattle.std.specs.Prelude.{◌≡◌, ◌≢◌, ℕ, ◌<◌, Bool, false, true, List, [], ◌∷◌, ◌++◌, length, Some, None}
+use Rattle.std.specs.Prelude.{◌≡◌, ◌≢◌, ℕ, ◌≤◌, ◌<◌, Bool, false, true, List, [], ◌∷◌, ◌++◌, length, Some, None, codes}
 use Rattle.std.specs.List.{list_all}
 use Rattle.cst_core.specs.Green.{IsTooLong}
 use Rattle.cst_core.specs.Tree.{SyntaxTree, text}
@@ -73,8 +74,14 @@ pub record BeginsAs (given : List KindName) (gaps : ℕ → Bool) (Are : SyntaxT
   pub goes : Begins given gaps front
   pub only : (t : SyntaxTree) (x : List ℕ) → IsExpression (name_in given) gaps t (front ++ x) → Are t
 
-abbrev pub IsTooDeep : List KindName → (ℕ → Bool) → List ℕ → ℕ → Type 0
-IsTooDeep given gaps w at = (b : BeginsAs given gaps (λ t. depth_limit < depth t) w) × (at ≡ length b.front)
+pub record IsTooDeep (given : List KindName) (gaps : ℕ → Bool) (w : List ℕ) (at : ℕ) : Type 0 where
+  pub front : List ℕ
+  pub rest : List ℕ
+  pub is : w ≡ (front ++ codes "(") ++ rest
+  pub here : at ≡ length (front ++ codes "(")
+  pub fits : (t : SyntaxTree) × (x : List ℕ) × IsExpression (name_in given) gaps t (front ++ x) × (depth t ≤ depth_limit)
+  pub begins : Begins given gaps (front ++ codes "(")
+  pub only : (t : SyntaxTree) (x : List ℕ) → IsExpression (name_in given) gaps t ((front ++ codes "(") ++ x) → depth_limit < depth t
 
 abbrev pub IsTreeRefused : Type 0 → TreeError → Type 0
 IsTreeRefused long Trees.TooLong = long

@@ -2,7 +2,7 @@ ghost use Rattle.std.specs.Prelude.{◌≡◌, ℕ, Bool, List};
 ghost use Rattle.cst_core.specs.Tree.{SyntaxTree};
 ghost use Rattle.tree_text.specs.Grammar.{IsExpression, is_gap_blank};
 ghost use Rattle.tree_text.specs.KindNames.{KindName, name_in};
-ghost use Rattle.tree_text.specs.Refusals.{IsMalformed, KeepsNames, LacksName};
+ghost use Rattle.tree_text.specs.Refusals.{IsMalformed, IsTooDeep, KeepsNames, LacksName};
 
 use crate::kind_names::KindNames;
 
@@ -26,5 +26,14 @@ pub fn malformed_lacks_no_name(names: &KindNames)
         → IsMalformed names.now gaps w i → IsMalformed names.now gaps w j → i ≡ j }
 {
     // For the proof: the names are names, and no two kinds have the same.
+    names.are_names();
+}
+
+/// A text is too deep at one byte, with whatever names, and whatever may stand between elements.
+pub fn too_deep_is_at_one_byte(names: &KindNames)
+    ensures { (gaps : ℕ → Bool) (w : List ℕ) (i j : ℕ)
+        → IsTooDeep names.now gaps w i → IsTooDeep names.now gaps w j → i ≡ j }
+{
+    // For the proof: a read of the names, which are any.
     names.are_names();
 }

@@ -4,7 +4,7 @@ ghost use Rattle.cst_core.specs.GreenElement.{element_tree};
 ghost use Rattle.tree_text.specs.Depth.{depth, depth_limit};
 ghost use Rattle.tree_text.specs.Refusals.{IsRefused};
 ghost use Rattle.tree_text.specs.inner.Nowhere.{Nowhere};
-ghost use Rattle.tree_text.specs.inner.OpenDepth.{open_depth};
+ghost use Rattle.tree_text.specs.inner.OpenDepth.{open_depth, IsFull};
 ghost use Rattle.tree_text.specs.inner.OpenTrees.{open_trees, HasPut, IsInnermostLong};
 
 use crate::error::ExpressionError;
@@ -47,7 +47,7 @@ impl OpenNodes {
     ) -> Result<(), ExpressionError>
         ensures ok { OnOk result (open_trees self.new.nodes.items ≡ (kind.0, []) ∷ open_trees self.old.nodes.items) }
         ensures err { IfErr result
-            (IsRefused Nowhere Nowhere (λ x. (x ≡ at) × (depth_limit ≤ length (open_trees self.old.nodes.items))) ⊥) }
+            (IsRefused Nowhere Nowhere (λ x. (x ≡ at) × IsFull (open_trees self.old.nodes.items)) ⊥) }
     {
         if self.nodes.len() >= DEPTH_LIMIT {
             return Err(ExpressionError::TooDeep { at });

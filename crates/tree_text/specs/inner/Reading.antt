@@ -12,6 +12,8 @@
 --                            first: in any state, in this one, and between elements
 --     with_names             the same reading, where kinds are given other names
 --     SameLeft               past these bytes a reader has read this: what may be left is the same, without them
+--     Opened, Opens          with these bytes it opens a node, and any tree that may be left where that one isn't open may be left before
+--                            its parenthesis; a reader of a node's kind has so, or had and has read nothing
 --     Reads                  after these bytes it has, whatever further names kinds have: it is past them and what was unread, but
 --                            for what is unread now
 --     ReadsUpTo              it has read this text up to what is left of it
@@ -20,11 +22,11 @@
 --     CannotEnd              something must be left, whatever further names kinds have
 --     Lacks                  nothing may be left that goes on with the unread name; but something may that goes on with it and these
 --                            bytes, where one kind more has it
---     IsDeep                 something may be left only for trees that are too deep
+--     IsDeep                 a node is opened, and something may be left only for trees that are too deep; not so where it isn't open
 --     GoesOnAs               something may be left behind these bytes, and only for such trees
 --     IsStuck                an error where these bytes come, at a byte: what it says of all that may be left
 --     IsMisplaced            an error of bytes that come between elements or in a text
-use Rattle.std.specs.Prelude.{◌≡◌, ◌≢◌, ℕ, ◌-◌, ◌≤◌, ◌<◌, Bool, true, false, not, ◌&&◌, ◌||◌, ◌==◌, List, [], ◌∷◌, ◌++◌, length, Option, Some, None, is_some, codes, string_bytes}
+use Rattle.std.specs.Prelude.{◌≡◌, ◌≢◌, ◌⊎◌, ℕ, ◌-◌, ◌≤◌, ◌<◌, Bool, true, false, not, ◌&&◌, ◌||◌, ◌==◌, List, [], ◌∷◌, ◌++◌, length, Option, Some, None, is_some, codes, string_bytes}
 use Rattle.std.specs.List.{list_all}
 use Rattle.cst_core.specs.Green.{Branch, branch_tree, IsTooLong}
 use Rattle.cst_core.specs.Tree.{SyntaxTree, text}
@@ -131,11 +133,21 @@ pub record SameLeft (old : Reading) (past : List ℕ) (new : Reading) : Type 0 w
   pub on : (t : SyntaxTree) (w : List ℕ) → IsLeft old t (past ++ w) → IsLeft new t w
   pub back : (t : SyntaxTree) (w : List ℕ) → IsLeft new t w → IsLeft old t (past ++ w)
 
+pub record Opened (old : Reading) (past : List ℕ) (new : Reading) : Type 0 where
+  pub before : List ℕ
+  pub is : past ≡ before ++ codes "("
+  pub back : (t : SyntaxTree) (w : List ℕ) → begins_with_name_byte w ≡ false → IsFrom (name_in old.given) (is_gap new.gaps) new.nodes t w → IsLeft old t (before ++ w)
+
+abbrev pub Opens : Reading → List ℕ → Reading → Type 0
+Opens old past new =
+    new.state ≡ NodeKind → Opened old past new ⊎ ((old.state ≡ NodeKind) × (past ≡ []) × (new.nodes ≡ old.nodes) × (new.gaps ≡ old.gaps))
+
 pub record Reads (old : Reading) (bytes : List ℕ) (new : Reading) : Type 0 where
   pub sound : IsReading new
   pub names : new.given ≡ old.given
   pub past : List ℕ
   pub is : unread old ++ bytes ≡ past ++ unread new
+  pub opens : Opens old past new
   pub each : (more : List KindName) → KeepsNames old.given more → SameLeft (with_names more old) past (with_names more new)
 
 abbrev pub ReadsUpTo : Reading → List ℕ → List ℕ → Reading → Type 0
@@ -167,8 +179,10 @@ pub record Lacks (r : Reading) (bytes : List ℕ) : Type 0 where
   pub nameless : name_in r.given kind ≡ None
   pub goes : (t : SyntaxTree) × (w : List ℕ) × IsLeft (with_names (r.given ++ (kind, unread r) ∷ []) r) t (unread r ++ next ∷ w)
 
-abbrev pub IsDeep : Reading → Type 0
-IsDeep r = (t : SyntaxTree) (w : List ℕ) → IsLeft r t w → depth_limit < depth t
+pub record IsDeep (r : Reading) : Type 0 where
+  pub opens : r.state ≡ NodeKind
+  pub fits : (t : SyntaxTree) × (w : List ℕ) × (begins_with_name_byte w ≡ false) × IsFrom (name_in r.given) (is_gap r.gaps) r.nodes t w × (depth t ≤ depth_limit)
+  pub only : (t : SyntaxTree) (w : List ℕ) → IsLeft r t w → depth_limit < depth t
 
 pub record GoesOnAs (r : Reading) (bytes : List ℕ) (Are : SyntaxTree → Type 0) : Type 0 where
   pub goes : (t : SyntaxTree) × (w : List ℕ) × IsLeft r t (unread r ++ (bytes ++ w))

@@ -1,8 +1,8 @@
-use Rattle.std.proofs.Common.{◌≡◌, ◌≤◌, false, length, refl, sym, ap, ◌∙◌, subst}
+use Rattle.std.proofs.Common.{◌≡◌, false, refl, sym, ap, ◌∙◌, subst}
 use Rattle.std.specs.Prelude.{encode_utf8, ◌==◌}
 use Rattle.std.proofs.lemmas.Result.{on_ok_weaker, IfErr-weaker}
-use Rattle.tree_text.specs.Depth.{depth_limit}
 use Rattle.tree_text.specs.KindNames.{is_name_byte}
+use Rattle.tree_text.specs.inner.OpenDepth.{IsFull}
 use Rattle.tree_text.specs.inner.OpenTrees.{open_trees}
 use Rattle.tree_text.specs.inner.Reading.{IsReading, IsStuck, IsMisplaced, Reads, reading}
 use Rattle.tree_text.proofs.Leaving.{unread-in}
@@ -43,9 +43,9 @@ returns-in_err-begin-clause-err c =
     let r = reading c.args.self.now in
     let at = c.args.self.now.at in
     let bytes = encode_utf8 c.args.c in
-    let Deep : Type 0 = depth_limit ≤ length (reading c.take_kind.new.self).nodes in
-    let deep = λ (deep : Deep). node-deep r c.requires.reading c.requires.state (subst (λ x. depth_limit ≤ length x.nodes) c.in_ok-kind.ensures.taken deep) in
-    passed-on c.from_residual-in_err-begin.result c.in_err-begin.field-0.0 (IsStuck r at bytes) c.from_residual-in_err-begin.ensures.1 (deep-by r at c.word_at-at.result bytes c.in_err-begin.field-0.0 r.word Deep (unread-in r NodeKind c.requires.state) c.word_at-at.ensures c.in_err-begin.ensures.err deep)
+    let Full : Type 0 = IsFull (reading c.take_kind.new.self).nodes in
+    let deep = λ (full : Full). node-deep r c.requires.reading c.requires.state (subst (λ x. IsFull x.nodes) c.in_ok-kind.ensures.taken full) in
+    passed-on c.from_residual-in_err-begin.result c.in_err-begin.field-0.0 (IsStuck r at bytes) c.from_residual-in_err-begin.ensures.1 (deep-by r at c.word_at-at.result bytes c.in_err-begin.field-0.0 r.word Full (unread-in r NodeKind c.requires.state) c.word_at-at.ensures c.in_err-begin.ensures.err deep)
 
 pub between-requires-clause-reading : goal.between-requires-clause-reading
 between-requires-clause-reading c =
