@@ -57,10 +57,10 @@ module _ (given : List KindName) (gaps : ℕ → Bool) where
       before = l.front ++ l.name
 
       abbrev more : List KindName
-      more = given ++ (l.kind, l.name) ∷ []
+      more = given ++ (l.goes.0, l.name) ∷ []
 
       keeps : KeepsNames given more
-      keeps = one-more given l.kind l.name known l.spelled l.unknown
+      keeps = one-more given l.goes.0 l.name known l.spelled l.unknown
 
       -- the text is malformed before the byte behind the name
       at-name : (z : List ℕ) → before ≡ end ++ z → m.rest ≡ z ++ l.next ∷ l.rest → ⊥
@@ -68,7 +68,7 @@ module _ (given : List KindName) (gaps : ℕ → Bool) where
           let with-next : before ++ l.next ∷ [] ≡ end ++ (z ++ l.next ∷ []) = ap (λ x. x ++ l.next ∷ []) is ∙ append_assoc end z (l.next ∷ []) in
           let rest' : m.rest ≡ (z ++ l.next ∷ []) ++ l.rest = rest ∙ sym (append_assoc z (l.next ∷ []) l.rest) in
           let first = head-of z l.next in
-          m.stops (goes-on end m.rest (z ++ l.next ∷ []) l.rest rest' more keeps first.0 first.1 first.2 (subst (Begins more gaps) with-next l.goes))
+          m.stops (goes-on end m.rest (z ++ l.next ∷ []) l.rest rest' more keeps first.0 first.1 first.2 (subst (Begins more gaps) with-next l.goes.2))
         where
           head-of : (z : List ℕ) (c : ℕ) → (b : ℕ) × (bs : List ℕ) × (z ++ c ∷ [] ≡ b ∷ bs)
           head-of [] c = (c, [], refl)

@@ -202,9 +202,7 @@ module _ (given : List KindName) (gaps : Gaps) (whole : List ℕ) where
           ends = lacks.ends;
           unknown = unknown;
           stops = λ t x apart whole'. lacks.stops t x apart (on-own t (unread r ++ x) (subst (Is given t) (append_assoc so_far.front (unread r) x) whole'));
-          kind = lacks.kind;
-          nameless = subst (λ g. name_in g lacks.kind ≡ None) so_far.names lacks.nameless;
-          goes = (lacks.goes.0, lacks.goes.1, subst (Is more lacks.goes.0) (sym join) expression);
+          goes = (lacks.kind, subst (λ g. name_in g lacks.kind ≡ None) so_far.names lacks.nameless, (lacks.goes.0, lacks.goes.1, subst (Is more lacks.goes.0) (sym join) expression));
         }
 
     -- where the unread part of a name begins

@@ -3,13 +3,13 @@
 --     Begins             a text with which an expression begins
 --     MayBegin           one with which an expression begins if further kinds get names
 --     MayGoOn            an expression may go on behind a front of a text as the text does: with its next byte, or by ending with it
---     IsMalformed        at this byte the text goes on as no expression does, whatever further names kinds have. A front before it
---                        begins an expression, and so does what stands before it, which may be longer by a part of a name
---     LacksName          at this byte a name begins that no kind has, and what stands behind the name may stand there. No expression
---                        begins with that name, and some does where one kind more has it
+--     IsMalformed        at this byte no expression goes on as the text does, whatever further names kinds have. A front stands before
+--                        it that begins an expression, and then a part of a name, or none, with which one may begin
+--     LacksName          at this byte a name begins that no kind has. What stands before it begins an expression, and none begins
+--                        with that and the name; but where one kind more has the name, one does, and with the next byte too
 --     BeginsAs           a text begins as an expression does, and only as those of such trees do
---     IsTooDeep          behind a parenthesis, at this byte, a text has begun as an expression does, and only as those of trees
---                        that are too deep; before it, it had begun as one of a tree that isn't
+--     IsTooDeep          a parenthesis stands before this byte with which only expressions of trees begin that are too deep; without
+--                        it, one of a tree begins that isn't
 --     IsTreeRefused      what a tree's own error says: its text is too long, and no other comes
 --     IsRefused          what an error says: that a text is malformed at its byte, or lacks a name there, or opens too many
 --                        parentheses at once; that its tree has too long a text; nothing where memory ran out, and no other comes
@@ -63,9 +63,7 @@ pub record LacksName (given : List KindName) (gaps : ℕ → Bool) (w : List ℕ
   pub ends : is_name_byte next ≡ false
   pub unknown : (k : ℕ) → name_in given k ≢ Some name
   pub stops : (t : SyntaxTree) (x : List ℕ) → begins_with_name_byte x ≡ false → IsExpression (name_in given) gaps t ((front ++ name) ++ x) → ⊥
-  pub kind : ℕ
-  pub nameless : name_in given kind ≡ None
-  pub goes : Begins (given ++ (kind, name) ∷ []) gaps ((front ++ name) ++ next ∷ [])
+  pub goes : (kind : ℕ) × (name_in given kind ≡ None) × Begins (given ++ (kind, name) ∷ []) gaps ((front ++ name) ++ next ∷ [])
 
 pub record BeginsAs (given : List KindName) (gaps : ℕ → Bool) (Are : SyntaxTree → Type 0) (w : List ℕ) : Type 0 where
   pub front : List ℕ
