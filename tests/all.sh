@@ -1,6 +1,6 @@
 #!/usr/bin/env bash
 # All tests, what fails soonest first: docs, format, the model of scripts, rows and the first caller, without proofs; all proofs and programs,
-# and beside them planted bugs; then scripts through the built program and through a plain model, hostile scripts, each row of the table with
+# and beside them planted bugs; then scripts through the built program and through the model, hostile scripts, each row of the table with
 # each of its allocations made to fail in turn, how many allocations an edit makes, the bindings, and whether these tests notice a program
 # that does nothing.
 set -euo pipefail
@@ -18,7 +18,7 @@ finish
 end_if_failed
 
 start scripts tests/scripts.sh
-start models tests/models.sh
+start models python3 tests/models.py
 start hostile python3 tests/hostile.py
 start growths_refused tests/refuse_growths.sh
 start growths tests/growths.sh

@@ -24,7 +24,7 @@ for program in true false cat "$room/unread"; do
         fi
     done <<'TESTS'
 tests/scripts.sh
-tests/models.sh
+python3 tests/models.py
 python3 tests/hostile.py
 python3 tests/hostile.py damage 100
 python3 tests/depth.py 1000 8192

@@ -2,7 +2,8 @@
 """Scripts for the model and the editor to be compared on. They are printed as `model.py answer` and `model.py batch` read them.
 
     generate.py random SEED COUNT     so many random scripts, the same ones for each seed: `SEED 0`, `SEED 1`, ..
-    generate.py pairs                 every pair of 88 single changes of one small tree
+    generate.py pairs                 every pair of 88 single changes of one small tree, and every pair of 75 of another one, as they are,
+                                      around a change that owns others, and around two of which one owns the other
     generate.py counts SEED COUNT     how many of the random scripts are accepted, refused and bad, and what becomes of their changes
 
 A random script has a small tree, most often with several nodes that are replaced by nodes with copies in them, and `map` lines that say so,
@@ -313,6 +314,37 @@ def pair_scripts():
         for second in changes:
             mapped = [line for change, lines in WRAPPERS.items() if change in (first, second) for line in lines]
             yield "pair %s, %s" % (first, second), opening + mapped + [first, second] + notes + ["finish"]
+    yield from list_pair_scripts()
+
+
+LIST = '(ARG_LIST L_PAREN"(" (LITERAL INT_NUMBER"1") COMMA"," WHITESPACE" " (LITERAL INT_NUMBER"2") R_PAREN")")'
+# What is recorded between the two changes of a pair: nothing, or nodes are replaced by nodes with copies of them.
+BETWEEN = {"pair": [], "pair around an owner": ["replace R/1 V"], "pair around nested owners": ["replace R/1 V", "replace R W"]}
+
+
+def list_changes(new):
+    """Single changes of the list: in each node, of each element, and of each two neighbours. What they bring is a token and a node of a tree."""
+    token, node = new + "/0", new + "/1"
+    both = token + " " + node
+    changes = ["insert first %s %s" % (element, token) for element in ("R", "R/1", "R/4")]
+    changes += ["insert last %s %s" % (element, both) for element in ("R", "R/1", "R/4")]
+    changes += ["replace R " + node, "replace R R", "range R R " + node]
+    for element in ["R/%d" % slot for slot in range(6)] + ["R/1/0", "R/4/0"]:
+        changes += ["insert before %s %s" % (element, token), "insert after %s %s" % (element, token), "delete " + element]
+        changes += ["replace %s %s" % (element, brought) for brought in (token, node, element, both)]
+    return changes + ["range R/%d R/%d%s" % (slot, slot + 1, brought) for slot in range(5) for brought in ("", " " + both)]
+
+
+def list_pair_scripts():
+    """Every pair of single changes of the list, each after the other, and each with one like itself."""
+    opening = ["tree A " + LIST, "edit R A", 'tree V (TUPLE_EXPR L_PAREN"(" (LITERAL INT_NUMBER"7") R_PAREN")")',
+               'tree W (BLOCK_EXPR L_CURLY"{" %s R_CURLY"}")' % LIST, 'tree X (SOURCE_FILE IDENT"x" (LITERAL INT_NUMBER"3"))',
+               'tree Y (SOURCE_FILE IDENT"y" (TUPLE_EXPR L_PAREN"("))', "map V R/1 V/1", "map W R W/1"]
+    notes = ["note w R/1", "note v R/1/0", "note v R/4", "note x X/0"]
+    for name, between in BETWEEN.items():
+        for first in list_changes("X"):
+            for second in list_changes("Y"):
+                yield "%s %s, %s" % (name, first, second), opening + [first] + between + [second] + notes + ["finish"]
 
 
 def counts(scripts):

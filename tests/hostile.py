@@ -8,8 +8,8 @@ Each run has a second of processor time, and a stack of 256 KiB beyond what a sc
 first. There are three parts: rows with their answers; every beginning of three scripts; and good scripts that were damaged, by a fixed seed,
 so each time the same ones. Rows about deep trees, which scripts can't have, come between (tests/depth.py). In a third of these bytes were changed, cut, doubled or exchanged. In the others slots, trees, words and kinds
 were exchanged for others of the script, and lines moved, so that about half of all come to an end or a refusal. Of a damaged script no answer
-is known. The program must end with a status that goes with what it prints, and where it comes to an end or a refusal, the plain model (the
-program `test_plain_model`) must answer the same."""
+is known: the program must print what the model says (tests/model.py), with the status that goes with it. Where it comes to an end or a
+refusal, all else that the editor says of the script is compared with the model as well, as by tests/models.py."""
 import glob
 import multiprocessing
 import os
@@ -20,6 +20,8 @@ import subprocess
 import sys
 
 import depth
+import model
+import models
 from tables import table_rows
 
 SCRIPT_LIMIT = 1_048_576
@@ -444,39 +446,10 @@ def trees_of(script):
     return {line for line in script.split(b"\n") if line.startswith(b"tree ")}
 
 
-def dotted(path):
-    return "." if path == "." else f"./{path}"
-
-
-def paths_of(answer):
-    """The changed and the annotated paths of an answer, in the words of the model."""
-    lines = answer.decode(errors="replace").split("\n")
-    changed = "".join(f" {dotted(path)}" for path in lines[1].split(" ")[1:])
-    notes = [line.split(" ")[2:] for line in lines[2:] if line.startswith("note ")]
-    noted = "".join(f" {number}{dotted(path)}" for number, paths in enumerate(notes) for path in paths)
-    return f" changed{changed} noted{noted}"
-
-
-def model_agrees(answer, model_status, model):
-    """Whether the model says the same as the program."""
-    model = model.decode(errors="replace")
-    if model_status != 0:
-        return False
-    if status_of(answer) == 0:
-        found = re.escape(paths_of(answer)) + r" paths \d+ notes \d+\n\Z"
-        return model.startswith("both: (") and re.search(found, model) is not None
-    refusal = answer.decode().removeprefix("refused ").rstrip("\n")
-    if refusal.startswith(("Intersecting", "MissingMapping")):
-        return model == f"both: {refusal}\n"
-    if refusal in ("NotEachOnce", "OwnerTooEarly", "GapOutOfOrder", "TokenTooEarly"):
-        return model.startswith("both: (")
-    return model == "nothing recorded\n"
-
-
 class Task:
     """What the workers share."""
 
-    syned = model = None
+    syned = answers = None
     stack = 0
     scripts = []
 
@@ -496,14 +469,16 @@ def try_damaged(number):
     """The status, and what is wrong."""
     script = damaged(number, Task.scripts)
     status, out = run(Task.syned, script, Task.stack)
-    if status is None or status_of(out) != status:
-        return status, f"wrong: damaged script {number}: status {status}, it printed {out[:100]!r}\n{script.decode(errors='replace')}"
+    wanted, answer = model.IsAnswer(script)
+    if (status, out) != (wanted, answer):
+        return status, (f"wrong: damaged script {number}: status {status}, it printed {out[:200]!r}; "
+                        f"the model {wanted}, {answer[:200]!r}\n{script.decode(errors='replace')}")
     if status > 1:
         return status, None
-    model_status, model = run(Task.model, script)
-    if model_agrees(out, model_status, model):
-        return status, None
-    return status, f"wrong: damaged script {number}: it printed {out[:200]!r}, the model {model[:200]!r}\n{script.decode(errors='replace')}"
+    batch, lines = models.asked((f"damaged {number}", script))
+    ended, said = run(Task.answers, batch.encode())
+    wrong = f"it ends with status {ended}" if ended != 0 else models.difference(lines, said.decode(errors="replace").split("\n")[:-1])
+    return status, wrong and f"wrong: {wrong}\n{script.decode(errors='replace')}"
 
 
 # ---------------------------------------------------------------------------------------------------------------------
@@ -538,7 +513,7 @@ def rows(pool):
 
 
 def damage(pool, count):
-    statuses, wrong = [0, 0, 0, 0], []
+    statuses, wrong = [0, 0, 0], []
     for status, said in pool.imap(try_damaged, range(count), chunksize=64):
         if said:
             wrong.append(said)
@@ -547,13 +522,13 @@ def damage(pool, count):
         if len(wrong) == MOST_WRONG:
             break
     print(*wrong, sep="\n", end="\n" if wrong else "")
-    print(f"hostile: {count} damaged scripts: {statuses[0]} done, {statuses[1]} refused, {statuses[2]} bad, {statuses[3]} failed; "
-          f"the model agrees to the first two; wrong: {len(wrong)}")
-    return wrong + ["a run failed"] * statuses[3]
+    print(f"hostile: {count} damaged scripts: {statuses[0]} done, {statuses[1]} refused, {statuses[2]} bad; "
+          f"wrong: {len(wrong)}")
+    return wrong
 
 
 def main():
-    Task.syned, Task.model = program("syned"), program("test_plain_model")
+    Task.syned, Task.answers = program("syned"), program("plan_answers")
     Task.scripts = good_scripts()
     needed = needed_stack()
     Task.stack = needed + SPARE_STACK

@@ -4,7 +4,7 @@
     model.py check              compares the model with every known answer and worked example of tests/ and examples/ (tests/known.py)
     model.py run <SCRIPT        what `syned` prints for a script, with its exit status
     model.py answer FILE..      all that the model says of the scripts in these files, in the format below (tests/model_answers.py)
-    model.py batch FILE..       these scripts with the orders to try, as a driver of the product reads them
+    model.py batch FILE..       these scripts with the orders to try, as the program `plan_answers` reads them
 
 How to read it. A function or class has the name of a row of docs/DEFINITIONS.md and says what that row says, in the order of that page:
 search for a name there to find its meaning, and here to find it as code. Names that begin with an underscore and names in capitals are
@@ -13,7 +13,7 @@ function that returns it. Nothing is found step by step: a tree, a place, a fate
 there is. `_kept` keeps what was once found, and `Mapping`, `_Aims` and `_by_path` look things up in tables; neither changes a meaning.
 Paths are tuples of slots, texts are bytes, an address is a tree's number with a path.
 
-The format of `answer`, line by line. A driver prints the same for the same batch, so that `diff` is the comparison.
+The format of `answer`, line by line. `plan_answers` prints the same for the same batch, but for the lines `place` (tests/models.py).
 
     script NAME               begins what is said of one script
     status N                  the exit status of `syned`

@@ -1,4 +1,4 @@
-"""What the model says of scripts, in the format that the head of tests/model.py explains, and the batches that a driver of the product reads."""
+"""What the model says of scripts, in the format that the head of tests/model.py explains, and the batches that `plan_answers` reads."""
 import itertools
 import sys
 
@@ -97,7 +97,7 @@ def answer_lines(model, name, script):
 
 
 def batch_lines(model, name, script):
-    """A script with the orders to try, for a driver."""
+    """A script with the orders to try, for `plan_answers`."""
     outcome = model.Means(script)
     plan = plan_in(model, outcome)
     tried, walked = orders(model, plan, outcome.order) if plan else ([], [])

@@ -71,7 +71,7 @@ def libraries(root="."):
     with open(f"{root}/crates.txt", encoding="utf-8") as table:
         names = re.findall(r"^(\w+):", table.read(), re.M)
     crates = [name for name in names if os.path.exists(f"{root}/crates/{name}/src/lib.rt")]
-    return [name for name in crates if not name.startswith(("test_", "plain_model"))]
+    return [name for name in crates if not name.startswith("test_")]
 
 
 def sources(crate, root="."):

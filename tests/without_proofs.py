@@ -4,12 +4,12 @@
     without_proofs.py rows          `test_rows` on its table, and on tables that are wrong
     without_proofs.py scripts       `syned` on scripts with their answers
     without_proofs.py scripts 1 2   the first of two parts of these, for two processors
-    without_proofs.py models        the editor against the plain model (`test_plain_model`) on such scripts
+    without_proofs.py models        the editor (`plan_answers`) against the model in Python
     without_proofs.py caller        the first caller of docs/CALLING.md, in a copy of the repository
 
-A program that the gate has built is taken if no source is newer; then all scripts are run, by tests/scripts.sh and tests/models.sh.
+A program that the gate has built is taken if no source is newer; then all scripts are run, by tests/scripts.sh and tests/models.py.
 Otherwise `rt try` compiles the program without its proofs and starts it once for each script, which takes most of a second. So then
-`syned` runs the scripts of all tables and examples, and every 24th of the corpus, and the model half as many."""
+`syned` runs the scripts of all tables and examples, and every 24th of the corpus, and `plan_answers` every 24th of its scripts."""
 import glob
 import os
 import re
@@ -18,6 +18,7 @@ import subprocess
 import sys
 import tempfile
 
+import models as compared
 import tables
 
 ROOT = os.path.dirname(os.path.dirname(os.path.abspath(__file__)))
@@ -172,29 +173,14 @@ def scripts(part=1, parts=1):
 
 
 def models():
-    if is_built("test_plain_model"):
-        return subprocess.run([f"{ROOT}/tests/models.sh"], check=False).returncode == 0
-    cases = scripts_with_answers(1, 2)
-    said = try_cases("test_plain_model", cases, False)
-    # A script may be bad or refused before its changes are recorded, and then nothing is compared.
-    ended = re.findall(r"^== (.*)\n((?s:.*?))^case=\1 run=ended status=0 ", said, re.M)
-    good = {name for name, out in ended if name in cases and is_agreed(cases[name][1], out)}
-    counts = [counted(out) or (0, 0) for name, out in ended if name in good]
-    paths, notes = (sum(count[which] for count in counts) for which in (0, 1))
-    print(f"models: compared with the model's: {paths} paths of changed elements, {notes} of annotated ones")
-    return report("models", cases, good, said) and paths > 0 and notes > 0
-
-
-def counted(out):
-    """How many paths of changed and of annotated elements were compared with the model's."""
-    counts = re.search(r" paths (\d+) notes (\d+)\n\Z", out)
-    return counts and (int(counts.group(1)), int(counts.group(2)))
-
-
-def is_agreed(answer, out):
-    if out.startswith("both:"):
-        return wanted_status(answer) != 0 or counted(out) is not None
-    return out.startswith("nothing") and wanted_status(answer) in (1, 2)
+    if is_built("plan_answers"):
+        return subprocess.run([f"{ROOT}/tests/models.py"], check=False).returncode == 0
+    groups = list(compared.runs(share=SHARE))
+    said = try_cases("plan_answers", {f"{number:04}": (compared.batch_of(group), None) for number, group in enumerate(groups)}, False)
+    ended = dict(re.findall(r"^== (.*)\n((?s:.*?))^case=\1 run=ended status=0 ", said, re.M))
+    if not ended:
+        print(*said.splitlines()[-10:], sep="\n")
+    return compared.all_agree((group, ended.get(f"{number:04}", "")) for number, group in enumerate(groups))
 
 
 def caller():

@@ -15,9 +15,8 @@ use crate::fault::Reason;
 use crate::lines::lines_in;
 use crate::session::{Editing, Session};
 use crate::stop::{Stop, Stopped};
-use crate::told::Told;
 use crate::words::Words;
-use cst_core::{SyntaxNode, TreeIds};
+use cst_core::TreeIds;
 use script_lines::{Line, is_blank, read_line};
 use std::alloc::Global;
 use syntax_editor::{SyntaxEdit, SyntaxEditor};
@@ -34,16 +33,14 @@ pub struct CarriedOut {
 /// What a script has recorded where it comes to `finish`.
 #[derive(Drop)]
 pub struct Recorded {
-    /// The root that is edited.
-    pub root: SyntaxNode,
-    /// The editor, with its changes and mappings.
+    /// The editor, with its changes, registrations and mappings.
     pub editor: SyntaxEditor,
     /// The order in which the changes are to be carried out, where the script says one.
     pub order: Option<Vec<usize>>,
     /// The source of the script's tree numbers.
     pub ids: TreeIds,
-    /// What is registered and mapped.
-    pub told: Told,
+    /// The annotation words of the script.
+    pub words: Words,
 }
 
 /// Carries a script out to its end, or says at which line it ends, and why.
@@ -59,30 +56,16 @@ pub fn carry_out(alloc: Global, script: &str) -> Result<CarriedOut, Stopped>
     }
 }
 
-/// What a script records, for another engine that is to carry it out; `None` where a line up to `finish` is bad, or its call
-/// refused, or memory is.
+/// What a script records, for another engine that is to carry it out; `None` where a line is bad, or its call refused, or memory is.
 pub fn record_script(alloc: Global, script: &str) -> Option<Recorded> {
     let mut session = Session::new(alloc);
-    let told = go_to_finish(alloc, &mut session, script).ok()?;
-    what_is_recorded(session, told)
-}
-
-fn what_is_recorded(session: Session, told: Told) -> Option<Recorded> {
-    let (
-        Editing {
-            editor,
-            root,
-            order,
-        },
-        ids,
-        _,
-    ) = session.into_editing().ok()?;
+    go_through(alloc, &mut session, script).ok()?;
+    let (Editing { editor, order }, ids, words) = session.into_editing().ok()?;
     Some(Recorded {
-        root,
         editor,
         order,
         ids,
-        told,
+        words,
     })
 }
 
@@ -107,17 +90,6 @@ fn go_through(alloc: Global, session: &mut Session, script: &str) -> Result<usiz
     let number = record(alloc, session, &lines)?;
     test_end(session, &lines, number)?;
     Ok(number)
-}
-
-// The same, whatever follows. It gives what the lines before `finish` tell.
-fn go_to_finish(alloc: Global, session: &mut Session, script: &str) -> Result<Told, Stopped>
-    requires { state_of session.old ≡ new_state }
-{
-    let lines = lines(alloc, script)?;
-    let number = record(alloc, session, &lines)?;
-    session
-        .told(&lines, number.saturating_sub(1))
-        .map_err(|stop| stop.at(number))
 }
 
 // Carries out the lines before `finish`, and tells the number of that one.
@@ -194,7 +166,7 @@ fn carry_changes_out(alloc: Global, editing: Editing, ids: &mut TreeIds) -> Resu
     ensures done { IfOk result (CarriesOut (editing_of editing) ids.old) }
     ensures stops { IfErr result (StopsFor ⊥ (EndRefuses editing.editor (editing_of editing).order ids.old)) }
 {
-    let Editing { editor, order, .. } = editing;
+    let Editing { editor, order } = editing;
     match order {
         None => finish_at_once(alloc, editor, ids),
         Some(order) => execute(alloc, editor, ids, &order),

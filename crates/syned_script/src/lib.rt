@@ -13,12 +13,10 @@ mod refusal;
 mod roots;
 mod session;
 mod stop;
-mod told;
 mod words;
 
 pub use carried_out::{CarriedOut, Recorded, carry_out, record_script};
 pub use fault::{Fault, Reason};
 pub use refusal::Refusal;
 pub use stop::{Stop, Stopped};
-pub use told::Told;
 pub use words::{Word, Words};

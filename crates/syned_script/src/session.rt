@@ -7,14 +7,13 @@ ghost use Rattle.syned_script.specs.State.{new_state};
 ghost use Rattle.syned_script.specs.inner.Stops.{LineGives, StopsFor};
 ghost use Rattle.syned_script.specs.inner.SessionState.{editing_of, state_of};
 ghost use Rattle.syned_script.specs.declared.fault.Reason.TheVariants.{NoEdit};
-ghost use Rattle.syned_script.specs.declared.stop.Stop.TheVariants.{Bad, Memory};
+ghost use Rattle.syned_script.specs.declared.stop.Stop.TheVariants.{Bad};
 
 use crate::calls;
 use crate::fault::Reason;
 use crate::mapped::map_pair;
 use crate::roots::Roots;
 use crate::stop::Stop;
-use crate::told::Told;
 use crate::words::Words;
 use cst_core::{GreenNode, SyntaxKind, SyntaxNode, TreeIds};
 use script_lines::{Line, Name, Reference, WrittenPosition};
@@ -31,11 +30,10 @@ pub(crate) struct Session {
     editing: Option<Editing>,
 }
 
-/// The editor of a script, the root that it edits, and the order of its changes, where the script says one.
+/// The editor of a script, and the order of its changes, where the script says one.
 #[derive(Drop)]
 pub(crate) struct Editing {
     pub(crate) editor: SyntaxEditor,
-    pub(crate) root: SyntaxNode,
     pub(crate) order: Option<Vec<usize>>,
 }
 
@@ -112,15 +110,6 @@ impl Session {
         Ok((editing, ids, words))
     }
 
-    /// What the first of these lines, so many of them, tell its editor beside the changes. It has carried them out.
-    pub(crate) fn told(&self, lines: &[&str], count: usize) -> Result<Told, Stop> {
-        let mut told = Told::new(self.alloc);
-        for text in lines.iter().take(count) {
-            told.add(self.alloc, &self.roots, &self.words, text)?;
-        }
-        Ok(told)
-    }
-
     fn add_tree(&mut self, name: Name<'_>, root: GreenNode) -> Result<(), Stop>
         ensures { LineGives (state_of self.old) (says.Tree name.entry.text.now (branch_tree root))
             result (state_of self.new) }
@@ -143,25 +132,12 @@ impl Session {
             return Err(Stop::bad(name.at(), Reason::NameTaken));
         }
         let node = self.roots.node(self.alloc, node)?;
-        let (editor, root) = SyntaxEditor::new(self.alloc, &mut self.ids, node)?;
-        let named = self.begin(editor, root)?;
-        self.roots.add(self.alloc, name, named)
-    }
-
-    // Edits from now on, and gives the root.
-    fn begin(&mut self, editor: SyntaxEditor, root: SyntaxNode) -> Result<SyntaxNode, Stop>
-        ensures begun { OnOk result (self.new ≡ record self.old
-            { editing = Some (record { editor = editor; root = root; order = None }) }) }
-        ensures named { IfOk result (λ named. named ≡ root) }
-        ensures memory { IfErr result (λ stop. stop ≡ Memory) }
-    {
-        let named = root.try_clone(self.alloc)?;
+        let (editor, edited) = SyntaxEditor::new(self.alloc, &mut self.ids, node)?;
         self.editing = Some(Editing {
             editor,
-            root,
             order: None,
         });
-        Ok(named)
+        self.roots.add(self.alloc, name, edited)
     }
 
     fn map(

@@ -64,8 +64,8 @@ impl Words {
         }
     }
 
-    /// The annotation of a word that was used before.
-    pub(crate) fn get(&self, word: Name<'_>) -> Option<SyntaxAnnotation>
+    // The annotation of a word that was used before.
+    fn get(&self, word: Name<'_>) -> Option<SyntaxAnnotation>
         ensures { result ≡ number_from 1 self.now word.entry.text.now }
     {
         self.annotations.get(word.as_str()).copied()

@@ -1,9 +1,0 @@
-use Rattle.std.proofs.Common.{arith}
-use Rattle.green_tree.proofs.Slots.{size_at}
-use Rattle.plain_model.proofs.rewriter.Rewriter.+push_node.Goals as goal
-
-pub push_node-requires : goal.push_node-requires
-push_node-requires t c =
-    let below = size_at c.children-child-items.result.now c.loop-slot.slot c.child-item.result c.loop-slot-test.true c.child-item.is in
-    let below_node = rw (c.in-Node.is, c.children-child-items.ensures) at below in
-    (omega arith, tt)
