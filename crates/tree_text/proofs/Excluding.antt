@@ -4,12 +4,14 @@
 --     malformed-once        a text is malformed at one byte
 --     deep-once             it is too deep at one byte
 --     malformed-never       it is no expression, whatever further names kinds have
-use Rattle.std.proofs.Common.{◌≡◌, ◌⊎◌, ℕ, Bool, true, false, List, [], ◌∷◌, ◌++◌, length, refl, sym, ap, ap₂, ◌∙◌, append_assoc, append-nil, subst, inl, inr, arith}
+--     lacking-never, deep-never      no more is one that lacks a name, nor one that is too deep of a tree that isn't
+use Rattle.std.proofs.Common.{◌≡◌, ◌≤◌, ◌⊎◌, ℕ, Bool, true, false, List, [], ◌∷◌, ◌++◌, length, refl, sym, ap, ap₂, ◌∙◌, append_assoc, append-nil, subst, inl, inr, arith}
 use Rattle.std.specs.Prelude.{codes}
 use Rattle.std.specs.List.{list_all}
 use Rattle.std.proofs.lemmas.Bool.{and_parts, false≢true}
 use Rattle.std.proofs.lemmas.List.Folds.{list_all-append}
 use Rattle.cst_core.specs.Tree.{SyntaxTree}
+use Rattle.tree_text.specs.Depth.{depth, depth_limit}
 use Rattle.tree_text.specs.Grammar.{IsExpression}
 use Rattle.tree_text.specs.KindNames.{KindName, AreNames, is_name_byte, name_in}
 use Rattle.tree_text.specs.Refusals.{KeepsNames, Begins, MayGoOn, IsMalformed, IsTooDeep, LacksName}
@@ -150,6 +152,12 @@ module _ (given : List KindName) (gaps : ℕ → Bool) where
     | inl further ↦ not-deeper w i j m n further.between further.is
     | inr further ↦ sym (not-deeper w j i n m further.between further.is)
   ]
+
+  pub lacking-never : (w : List ℕ) (i : ℕ) → LacksName given gaps w i → (t : SyntaxTree) → IsExpression (name_in given) gaps t w → ⊥
+  lacking-never w i l t whole = l.stops t (l.next ∷ l.rest) l.ends (subst (IsExpression (name_in given) gaps t) l.is whole)
+
+  pub deep-never : (w : List ℕ) (i : ℕ) → IsTooDeep given gaps w i → (t : SyntaxTree) → IsExpression (name_in given) gaps t w → depth t ≤ depth_limit → ⊥
+  deep-never w i d t whole limited = let deep = d.only t d.rest (subst (IsExpression (name_in given) gaps t) d.is whole) in omega (arith, deep, limited)
 
   pub malformed-once : (w : List ℕ) (i j : ℕ) → IsMalformed given gaps w i → IsMalformed given gaps w j → i ≡ j
   malformed-once w i j m n = elim (split-two (m.front ++ m.name) m.rest (n.front ++ n.name) n.rest (sym m.is ∙ n.is)) [
