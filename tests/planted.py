@@ -191,7 +191,7 @@ def linked(folder, to):
 class Lab:
     """A copy of some crates and of those below, with the libraries that they need proved."""
 
-    def __init__(self, crates, lanes):
+    def __init__(self, crates, lanes, in_gate):
         self.uses, self.room, self.lanes = uses_of(ROOT), Path(tempfile.mkdtemp(prefix="planted-")), threading.Semaphore(lanes)
         self.kit = Path(subprocess.run(["rt", "doc"], capture_output=True, text=True, check=True).stdout.strip()).parent
         needed = {name for crate in crates for name in below(crate, self.uses)}
@@ -200,19 +200,25 @@ class Lab:
                 if (ROOT / "crates" / crate / part).is_dir():
                     shutil.copytree(ROOT / "crates" / crate / part, self.room / "crates" / crate / part)
         if needed:
-            self.prove(needed, lanes)
+            self.prove(needed if in_gate else needed | set(crates), lanes, in_gate)
 
-    def prove(self, needed, lanes):
-        """Has `rt ci` prove these libraries, or take them from what it kept."""
+    def prove(self, crates, lanes, in_gate):
+        """Has these libraries proved. `rt ci` takes what the gate beside it proves, and `rt check` what earlier checks kept."""
         folder = self.room / "libraries"
-        for crate in needed:
+        for crate in crates:
             shutil.copytree(self.room / "crates" / crate, folder / "crates" / crate)
         shutil.copy(ROOT / "HANDLES", folder)
-        lines = (ROOT / "crates.txt").read_text().splitlines()
-        (folder / "crates.txt").write_text("".join(f"{line}\n" for line in lines if line.split(":")[0] in needed))
-        ran = subprocess.run(["rt", "ci"], cwd=folder, env={**os.environ, "RT_JOBS": str(lanes)}, capture_output=True, text=True, check=False)
-        if ran.returncode:
-            sys.exit(f"planted: the libraries below are not proved\n{ran.stdout[-2000:]}{ran.stderr[-500:]}")
+        lines = [line for line in (ROOT / "crates.txt").read_text().splitlines() if re.match(r"\w*", line)[0] in crates]
+        (folder / "crates.txt").write_text("".join(f"{line}\n" for line in lines))
+        if in_gate:
+            runs = [(["rt", "ci"], folder)]
+        else:
+            check = ["rt", "check", "--only", "", "--jobs", str(lanes)]
+            runs = [(check, folder / "crates" / re.match(r"\w*", line)[0]) for line in lines]
+        for words, place in runs:
+            ran = subprocess.run(words, cwd=place, env={**os.environ, "RT_JOBS": str(lanes)}, capture_output=True, text=True, check=False)
+            if ran.returncode:
+                sys.exit(f"planted: the libraries below are not proved\n{ran.stdout[-2000:]}{ran.stderr[-500:]}")
 
     def check(self, crate, folder, kept, only=()):
         """The status of a check of a crate in a folder, over what an earlier one kept, and what it said."""
@@ -342,7 +348,7 @@ def main(words):
         print(*crates or ["planted: nothing changed"], sep="\n")
         return 0
     lanes = int(os.environ.get("RT_JOBS") or max(1, (os.cpu_count() or 1) - 1))
-    lab = Lab(crates, lanes)
+    lab = Lab(crates, lanes, "--gate" in options)
     try:
         with ThreadPoolExecutor(len(crates)) as each, ThreadPoolExecutor(64) as pool:
             trials = [Trial(lab, crate, pool) for crate in crates]

@@ -1,6 +1,7 @@
 -- The bytes of a character, where the tests on bytes hold of ASCII alone.
 --     encode-ascii           those of an ASCII character
 --     first-byte             the first one: a test that none from 128 on passes answers there as for the character
+--     answers-first          so it does at whatever the first one is
 --     plain-bytes            those of a character that isn't ASCII, of which none is a quote or a backslash
 --     escaped-itself         those of one that has no escape
 --     escaped-ascii          those of one that is known
@@ -128,6 +129,13 @@ first-byte c = elim (cases_lt c 128) [
   | inl small ↦ record { first = c; rest = []; is = encode_ascii c small; answers = λ p test is. is }
   | inr large ↦ let l = encode-large c large in record { first = l.first; rest = l.rest; is = l.is; answers = λ p test is. test l.first l.large }
 ]
+
+pub answers-first : (c b : ℕ) (after : List ℕ) → encode_utf8 c ≡ b ∷ after → (p : ℕ → Bool) → IsAsciiTest p → p c ≡ false → p b ≡ false
+answers-first c b after is p test fails =
+    let f = first-byte c in
+    let both' : f.first ∷ f.rest ≡ b ∷ after = sym f.is ∙ is in
+    let same : f.first ≡ b = cc in
+    subst (λ x. p x ≡ false) same (f.answers p test fails)
 
 -- a character that is no quote and no backslash stands for itself
 pub plain-bytes : (c : ℕ) → is_special c ≡ false → list_all (λ b. not (is_special b)) (encode_utf8 c) ≡ true

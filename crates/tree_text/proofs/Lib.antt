@@ -1,9 +1,12 @@
 pub mod AnyNames
 pub mod Beginnings
 pub mod BetweenSteps
+pub mod ClosedDepths
 pub mod Closing
+pub mod Completed
 pub mod Depths
 pub mod EncodedBytes
+pub mod Excluding
 pub mod Finishing
 pub mod FreshKinds
 pub mod Joining

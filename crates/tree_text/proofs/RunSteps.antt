@@ -1,9 +1,9 @@
 -- What bytes do that only make the word longer.
 --     read-nothing      nothing is read
 --     read-run          such bytes are
-use Rattle.std.proofs.Common.{◌≡◌, ℕ, List, [], ◌++◌, take, drop, append-nil, refl, sym, ◌∙◌, ap, subst}
+use Rattle.std.proofs.Common.{◌≡◌, ℕ, List, [], ◌++◌, take, drop, append-nil, inr, refl, sym, ◌∙◌, ap, subst}
 use Rattle.std.proofs.lemmas.List.{take-append-drop}
-use Rattle.tree_text.specs.inner.Reading.{Reading, IsReading, GoesOn, Reads, ReadsUpTo}
+use Rattle.tree_text.specs.inner.Reading.{Reading, IsReading, GoesOn, Reads, ReadsUpTo, unread}
 use Rattle.tree_text.specs.declared.reader.State.{State}
 use Rattle.tree_text.specs.declared.reader.State.TheVariants.{Between, NodeKind, TokenKind, Text, Escape}
 use Rattle.tree_text.proofs.NameSteps.{node-run, token-run}
@@ -14,7 +14,7 @@ module _ (r : Reading) (h : IsReading r) where
   with_word word = record r { word = word }
 
   no-bytes : Reads r [] r
-  no-bytes = record { sound = h; names = refl; each = λ more m. record { on = λ t w left. left; back = λ t w left. left } }
+  no-bytes = record { sound = h; names = refl; past = []; is = append-nil (unread r); opens = λ node. inr (node, refl, refl, refl); each = λ more m. record { on = λ t w left. left; back = λ t w left. left } }
 
   pub read-nothing : (text : List ℕ) → ReadsUpTo r text text r
   read-nothing text = ([], refl, no-bytes)

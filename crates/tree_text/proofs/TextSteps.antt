@@ -17,21 +17,27 @@ use Rattle.tree_text.specs.inner.Completing.{IsFrom, IsAfter, IsRestOfToken, Ope
 use Rattle.tree_text.specs.inner.Gap.{is_gap}
 use Rattle.tree_text.specs.inner.Meant.{meant}
 use Rattle.tree_text.specs.inner.OpenTrees.{HasPut, IsInnermostLong}
-use Rattle.tree_text.specs.inner.Reading.{Reading, IsReading, IsInside, IsWhole, IsLeft, IsPartOfName, Reads, CannotGoOn, GoesOnAs, is_outside, is_nil, with_names}
-use Rattle.tree_text.specs.declared.reader.State.TheVariants.{Between, Text, Escape}
+use Rattle.tree_text.specs.inner.Reading.{Reading, IsReading, IsInside, IsWhole, IsLeft, IsPartOfName, Reads, CannotGoOn, GoesOnAs, is_outside, is_nil, name_part, unread, with_names}
+use Rattle.tree_text.specs.declared.reader.State.TheVariants.{Between, NodeKind, Text, Escape}
 use Rattle.tree_text.proofs.AnyNames.{PlainReads, more-reading, with-any}
 use Rattle.tree_text.proofs.Closing.{close-in, close-all}
 use Rattle.tree_text.proofs.OpenTrees.{before-close, past-close}
 use Rattle.tree_text.proofs.QuotedTexts.{past-quote, before-quote, past-plain, before-plain, past-escape, before-escape}
 use Rattle.tree_text.proofs.WholeTrees.{after-length}
-use Rattle.tree_text.proofs.EncodedBytes.{encode-ascii, first-byte, plain-bytes, large-at, small-where, are-gaps, other, neither}
-use Rattle.tree_text.proofs.Leaving.{in-state, back-in-state, no-root, no-root-inside, none-whole, from-between, to-between}
+use Rattle.tree_text.proofs.EncodedBytes.{encode-ascii, answers-first, plain-bytes, large-at, small-where, are-gaps, other, neither}
+use Rattle.tree_text.proofs.Leaving.{in-state, back-in-state, unread-in, past-unread, back-unread, all-past, no-root, no-root-inside, none-whole, from-between, to-between}
 
 apart-text : (k : SyntaxKind) → Text k ≢ Between
 apart-text k is = cc
 
 apart-escape : (k : SyntaxKind) → Escape k ≢ Between
 apart-escape k is = cc
+
+no-node-text : (k : SyntaxKind) → Text k ≢ NodeKind
+no-node-text k is = cc
+
+no-node-between : Between ≢ NodeKind
+no-node-between is = cc
 
 large-meant : (x : ℕ) → 128 ≤ x → is_some (meant x) ≡ false
 large-meant x large = unmeant (x == 110) (x == 114) (x == 116) (x == 34) (x == 92) (large-at 110 (omega arith) x large) (large-at 114 (omega arith) x large) (large-at 116 (omega arith) x large) (large-at 34 (omega arith) x large) (large-at 92 (omega arith) x large)
@@ -89,6 +95,9 @@ module _ (r : Reading) (h : IsReading r) where
           back = λ t w left. back-in-state r (Text k) t (bs ++ w) state (before-plain (After r.nodes t) k.0 r.word bs w plain (in-state new (Text k) t w state left));
         }
 
+    no-unread : (word : List ℕ) → name_part r.state word ≡ []
+    no-unread word = ap (λ s. name_part s word) state
+
     in-node : r.nodes ≢ []
     in-node = subst (λ s. IsInside s r.nodes) state h.inside
 
@@ -104,8 +113,11 @@ module _ (r : Reading) (h : IsReading r) where
     quote-there : encode_utf8 34 ≡ 34 ∷ []
     quote-there = encode-ascii 34 (omega arith)
 
+    behind-quote : (t : SyntaxTree) (w : List ℕ) → IsLeft r t (34 ∷ w) → After r.nodes t (Token k.0 r.word) w
+    behind-quote t w left = past-quote (After r.nodes t) k.0 r.word w (in-state r (Text k) t (34 ∷ w) state left)
+
     behind-token : (t : SyntaxTree) (w : List ℕ) → IsLeft r t (encode_utf8 34 ++ w) → After r.nodes t (Token k.0 r.word) w
-    behind-token t w left = past-quote (After r.nodes t) k.0 r.word w (subst (λ b. Rest k r.word t (b ++ w)) quote-there (in-state r (Text k) t (encode_utf8 34 ++ w) state left))
+    behind-token t w left = behind-quote t w (subst (λ b. IsLeft r t (b ++ w)) quote-there left)
 
     plain-long : IsTooLong r.word → (t : SyntaxTree) (w : List ℕ) → IsLeft r t (encode_utf8 34 ++ w) → IsTooLong (text t)
     plain-long long t w left =
@@ -115,8 +127,11 @@ module _ (r : Reading) (h : IsReading r) where
     nowhere : (ns : List OpenTree) (t : SyntaxTree) (w : List ℕ) → ns ≡ [] → After ns t (Token k.0 r.word) w → ⊥
     nowhere ns t w none after = false≢true (sym (subst (λ l. After l t (Token k.0 r.word) w) none after).0)
 
-    plain-nowhere : r.nodes ≡ [] → (t : SyntaxTree) (w : List ℕ) → IsLeft r t (encode_utf8 34 ++ w) → ⊥
-    plain-nowhere none t w left = nowhere r.nodes t w none (behind-token t w left)
+    plain-nowhere : r.nodes ≡ [] → (b : ℕ) (after : List ℕ) → encode_utf8 34 ≡ b ∷ after → (t : SyntaxTree) (w : List ℕ) → IsLeft r t (unread r ++ b ∷ w) → ⊥
+    plain-nowhere none b after is t w left =
+        let both' : b ∷ after ≡ 34 ∷ [] = sym is ∙ quote-there in
+        let same : b ≡ 34 = cc in
+        nowhere r.nodes t w none (behind-quote t w (subst (λ x. IsLeft r t (x ∷ w)) same (past-unread r (Text k) t (b ∷ w) state left)))
 
     plain-token : (new : List OpenTree) → HasPut (Token k.0 r.word) r.nodes new → PlainReads r (encode_utf8 34) (record r { nodes = new; state = Between; word = [] })
     plain-token new put =
@@ -132,6 +147,9 @@ module _ (r : Reading) (h : IsReading r) where
   module _ (k : SyntaxKind) (state : r.state ≡ Escape k) where
     root-none'' : r.root ≡ None
     root-none'' = no-root r h (λ is. apart-escape k (sym state ∙ is))
+
+    no-unread'' : (word : List ℕ) → name_part r.state word ≡ []
+    no-unread'' word = ap (λ s. name_part s word) state
 
     escaped-there : (c : ℕ) (t : SyntaxTree) (w : List ℕ) → IsLeft r t (encode_utf8 c ++ w) → Rest k r.word t (92 ∷ (encode_utf8 c ++ w))
     escaped-there c t w left = in-state r (Escape k) t (encode_utf8 c ++ w) state left
@@ -153,14 +171,16 @@ module _ (r : Reading) (h : IsReading r) where
         }
 
     -- a byte that is no letter of an escape
-    plain-no-escape : (c : ℕ) → meant c ≡ None → (t : SyntaxTree) (w : List ℕ) → IsLeft r t (encode_utf8 c ++ w) → ⊥
-    plain-no-escape c none t w left =
-        let f = first-byte c in
-        let past = past-escape (After r.nodes t) k.0 r.word f.first (f.rest ++ w) (subst (λ b. Rest k r.word t (92 ∷ (b ++ w))) f.is (escaped-there c t w left)) in
-        let nothing = f.answers (λ x. is_some (meant x)) large-meant (ap is_some none) in
+    plain-no-escape : (c : ℕ) → meant c ≡ None → (b : ℕ) (after : List ℕ) → encode_utf8 c ≡ b ∷ after → (t : SyntaxTree) (w : List ℕ) → IsLeft r t (unread r ++ b ∷ w) → ⊥
+    plain-no-escape c none b after is t w left =
+        let past = past-escape (After r.nodes t) k.0 r.word b w (in-state r (Escape k) t (b ∷ w) state (past-unread r (Escape k) t (b ∷ w) state left)) in
+        let nothing = answers-first c b after is (λ x. is_some (meant x)) large-meant (ap is_some none) in
         false≢true (sym nothing ∙ ap is_some past.1)
 
   module _ (state : r.state ≡ Between) (inside : is_outside r 41 ≡ false) where
+    no-unread' : unread r ≡ []
+    no-unread' = unread-in r Between state
+
     close-there : encode_utf8 41 ≡ 41 ∷ []
     close-there = encode-ascii 41 (omega arith)
 
@@ -222,49 +242,69 @@ module _ (r : Reading) (h : IsReading r) where
 -- ---- whatever further names kinds have
 module _ (r : Reading) (h : IsReading r) where
   module _ (k : SyntaxKind) (state : r.state ≡ Text k) where
+    all-read : (bytes part : List ℕ) → part ≡ [] → unread r ++ bytes ≡ bytes ++ part
+    all-read bytes part none = all-past (unread r) bytes part (no-unread r h k state r.word) none
+
     pub text-run : (bs : List ℕ) → list_all (λ b. not (b == 34 || b == 92)) bs ≡ true → Reads r bs (record r { word = r.word ++ bs })
-    text-run bs plain = with-any r bs (record r { word = r.word ++ bs }) h refl (λ more m. plain-run (with_names more r) (more-reading r h more m) k state bs plain)
+    text-run bs plain =
+        let new : Reading = record r { word = r.word ++ bs } in
+        with-any r bs bs new h refl (all-read bs (unread new) (no-unread r h k state (r.word ++ bs))) (λ node. absurd (no-node-text k (sym state ∙ node))) (λ more m. plain-run (with_names more r) (more-reading r h more m) k state bs plain)
 
     pub text-more : (c : ℕ) → c ≢ 34 → c ≢ 92 → Reads r (encode_utf8 c) (record r { word = r.word ++ encode_utf8 c })
     text-more c no_quote no_escape =
         text-run (encode_utf8 c) (plain-bytes c (neither (c == 34) (c == 92) (other c 34 no_quote) (other c 92 no_escape)))
 
     pub begins-escape : (c : ℕ) → c ≡ 92 → Reads r (encode_utf8 c) (record r { state = Escape k })
-    begins-escape c is = with-any r (encode_utf8 c) (record r { state = Escape k }) h refl (λ more m. plain-escape (with_names more r) (more-reading r h more m) k state c is)
+    begins-escape c is = with-any r (encode_utf8 c) (encode_utf8 c) (record r { state = Escape k }) h refl (all-read (encode_utf8 c) [] refl) (λ node. cc) (λ more m. plain-escape (with_names more r) (more-reading r h more m) k state c is)
 
     pub ends-token : (new : List OpenTree) → HasPut (Token k.0 r.word) r.nodes new → Reads r (encode_utf8 34) (record r { nodes = new; state = Between; word = [] })
-    ends-token new put = with-any r (encode_utf8 34) (record r { nodes = new; state = Between; word = [] }) h refl (λ more m. plain-token (with_names more r) (more-reading r h more m) k state new put)
+    ends-token new put =
+        with-any r (encode_utf8 34) (encode_utf8 34) (record r { nodes = new; state = Between; word = [] }) h refl (all-read (encode_utf8 34) [] refl) (λ node. cc) (λ more m. plain-token (with_names more r) (more-reading r h more m) k state new put)
 
     pub token-nowhere : r.nodes ≡ [] → CannotGoOn r (encode_utf8 34)
-    token-nowhere none more m = plain-nowhere (with_names more r) (more-reading r h more m) k state none
+    token-nowhere none b after is more m = plain-nowhere (with_names more r) (more-reading r h more m) k state none b after is
 
     pub token-long : IsTooLong r.word → GoesOnAs r (encode_utf8 34) (λ t. IsTooLong (text t))
     token-long long =
         let closed = close-in (name_in r.given) (is_gap r.gaps) r.nodes (in-node r h k state) (Token k.0 r.word) in
+        let before = before-quote (IsAfter (name_in r.given) (is_gap r.gaps) r.nodes closed.0) k.0 r.word closed.1 closed.3 in
+        let left = back-in-state r (Text k) closed.0 (encode_utf8 34 ++ closed.1) state (subst (λ b. IsRestOfToken (IsAfter (name_in r.given) (is_gap r.gaps) r.nodes closed.0) k.0 r.word (b ++ closed.1)) (sym (quote-there r h k state)) before) in
         record {
-          goes = (closed.0, closed.1, back-in-state r (Text k) closed.0 (encode_utf8 34 ++ closed.1) state (subst (λ b. IsRestOfToken (IsAfter (name_in r.given) (is_gap r.gaps) r.nodes closed.0) k.0 r.word (b ++ closed.1)) (sym (quote-there r h k state)) (before-quote (IsAfter (name_in r.given) (is_gap r.gaps) r.nodes closed.0) k.0 r.word closed.1 closed.3)));
-          only = plain-long r h k state long;
+          goes = (closed.0, closed.1, back-unread r (Text k) closed.0 (encode_utf8 34 ++ closed.1) state left);
+          only = λ t w left. plain-long r h k state long t w (past-unread r (Text k) t (encode_utf8 34 ++ w) state left);
         }
 
   module _ (k : SyntaxKind) (state : r.state ≡ Escape k) where
     pub ends-escape : (c m : ℕ) → meant c ≡ Some m → Reads r (encode_utf8 c) (record r { state = Text k; word = r.word ++ encode_utf8 m })
-    ends-escape c x is = with-any r (encode_utf8 c) (record r { state = Text k; word = r.word ++ encode_utf8 x }) h refl (λ more m. plain-letter (with_names more r) (more-reading r h more m) k state c x is)
+    ends-escape c x is =
+        let new : Reading = record r { state = Text k; word = r.word ++ encode_utf8 x } in
+        with-any r (encode_utf8 c) (encode_utf8 c) new h refl (all-past (unread r) (encode_utf8 c) [] (no-unread'' r h k state r.word) refl) (λ node. cc) (λ more m. plain-letter (with_names more r) (more-reading r h more m) k state c x is)
 
     pub no-escape : (c : ℕ) → meant c ≡ None → CannotGoOn r (encode_utf8 c)
-    no-escape c none more m = plain-no-escape (with_names more r) (more-reading r h more m) k state c none
+    no-escape c none b after is more m = plain-no-escape (with_names more r) (more-reading r h more m) k state c none b after is
 
   module _ (state : r.state ≡ Between) (inside : is_outside r 41 ≡ false) where
-    long-close : (ns : List OpenTree) → r.nodes ≡ ns → ns ≢ [] → (t : SyntaxTree) × (w : List ℕ) × IsLeft r t (encode_utf8 41 ++ w)
+    long-close : (ns : List OpenTree) → r.nodes ≡ ns → ns ≢ [] → (t : SyntaxTree) × (w : List ℕ) × IsLeft r t (unread r ++ (encode_utf8 41 ++ w))
     long-close [] is some = absurd (some refl)
     long-close (n ∷ outer) is some =
         let closed = close-all (name_in r.given) (is_gap r.gaps) outer (node n.0 n.1) refl in
-        (closed.0, closed.1, before-node r h state inside n outer is closed.0 closed.1 closed.3)
+        (closed.0, closed.1, back-unread r Between closed.0 (encode_utf8 41 ++ closed.1) state (before-node r h state inside n outer is closed.0 closed.1 closed.3))
 
     pub node-long : IsInnermostLong r.nodes → GoesOnAs r (encode_utf8 41) (λ t. IsTooLong (text t))
-    node-long long = record { goes = long-close r.nodes refl (node-there r h state inside); only = plain-node-long r h state inside long }
+    node-long long = record {
+      goes = long-close r.nodes refl (node-there r h state inside);
+      only = λ t w left. plain-node-long r h state inside long t w (past-unread r Between t (encode_utf8 41 ++ w) state left);
+    }
+
+    -- both before and behind the parenthesis no name is read
+    between-read : (new : Reading) → new.state ≡ Between → unread r ++ encode_utf8 41 ≡ encode_utf8 41 ++ unread new
+    between-read new is = all-past (unread r) (encode_utf8 41) (unread new) (no-unread' r h state inside) (unread-in new Between is)
 
     pub ends-node : (n : Branch) (outer new : List OpenTree) → r.nodes ≡ (n.kind, n.children) ∷ outer → HasPut (branch_tree n) outer new → Reads r (encode_utf8 41) (record r { nodes = new })
-    ends-node n outer new is put = with-any r (encode_utf8 41) (record r { nodes = new }) h refl (λ more m. plain-node (with_names more r) (more-reading r h more m) state inside n outer new is put)
+    ends-node n outer new is put =
+        with-any r (encode_utf8 41) (encode_utf8 41) (record r { nodes = new }) h refl (between-read (record r { nodes = new }) state) (λ node. absurd (no-node-between (sym state ∙ node))) (λ more m. plain-node (with_names more r) (more-reading r h more m) state inside n outer new is put)
 
     pub ends-tree : (n : Branch) (outer : List OpenTree) → r.nodes ≡ (n.kind, n.children) ∷ outer → outer ≡ [] → depth (branch_tree n) ≤ depth_limit → Reads r (encode_utf8 41) (record r { nodes = outer; root = Some n })
-    ends-tree n outer is none limited = with-any r (encode_utf8 41) (record r { nodes = outer; root = Some n }) h refl (λ more m. plain-tree (with_names more r) (more-reading r h more m) state inside n outer is none limited)
+    ends-tree n outer is none limited =
+        let new : Reading = record r { nodes = outer; root = Some n } in
+        with-any r (encode_utf8 41) (encode_utf8 41) new h refl (between-read new state) (λ node. absurd (no-node-between (sym state ∙ node))) (λ more m. plain-tree (with_names more r) (more-reading r h more m) state inside n outer is none limited)

@@ -4,6 +4,7 @@ pub mod Gap
 pub mod Indents
 pub mod Meant
 pub mod NamedKinds
+pub mod Nowhere
 pub mod OpenDepth
 pub mod OpenTrees
 pub mod Reading

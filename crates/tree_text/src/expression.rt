@@ -83,7 +83,6 @@ fn read(
     while let Some((c, behind)) = first_of(rest) {
         reader.at = expression.len().saturating_sub(rest.len());
         reader.step(c)?;
-        reader.at = expression.len().saturating_sub(behind.len());
         rest = reader.run(behind)?;
     }
     reader.at = expression.len();

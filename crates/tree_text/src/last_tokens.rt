@@ -3,6 +3,7 @@
 ghost use Rattle.std.specs.Prelude.{◌≡◌, IfOk, IfErr, IfSome};
 ghost use Rattle.cst_core.specs.Green.{IsTooLong};
 ghost use Rattle.tree_text.specs.Refusals.{IsRefused};
+ghost use Rattle.tree_text.specs.inner.Nowhere.{Nowhere};
 
 use crate::error::ExpressionError;
 use cst_core::{GreenToken, SyntaxKind};
@@ -33,7 +34,7 @@ impl LastTokens {
         text: &str,
     ) -> Result<GreenToken, ExpressionError>
         ensures ok { IfOk result (λ t. t ≡ record { kind = kind.0; text = text.now }) }
-        ensures err { IfErr result (IsRefused ⊥ ⊥ ⊥ (IsTooLong text.now)) }
+        ensures err { IfErr result (IsRefused Nowhere Nowhere Nowhere (IsTooLong text.now)) }
     {
         if let Some(last) = self.last(kind, text) {
             return Ok(last.share(alloc)?);

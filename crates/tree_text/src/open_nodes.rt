@@ -3,7 +3,8 @@ ghost use Rattle.cst_core.specs.Green.{branch_tree};
 ghost use Rattle.cst_core.specs.GreenElement.{element_tree};
 ghost use Rattle.tree_text.specs.Depth.{depth, depth_limit};
 ghost use Rattle.tree_text.specs.Refusals.{IsRefused};
-ghost use Rattle.tree_text.specs.inner.OpenDepth.{open_depth};
+ghost use Rattle.tree_text.specs.inner.Nowhere.{Nowhere};
+ghost use Rattle.tree_text.specs.inner.OpenDepth.{open_depth, IsFull};
 ghost use Rattle.tree_text.specs.inner.OpenTrees.{open_trees, HasPut, IsInnermostLong};
 
 use crate::error::ExpressionError;
@@ -45,7 +46,8 @@ impl OpenNodes {
         at: usize,
     ) -> Result<(), ExpressionError>
         ensures ok { OnOk result (open_trees self.new.nodes.items ≡ (kind.0, []) ∷ open_trees self.old.nodes.items) }
-        ensures err { IfErr result (IsRefused ⊥ ⊥ (depth_limit ≤ length (open_trees self.old.nodes.items)) ⊥) }
+        ensures err { IfErr result
+            (IsRefused Nowhere Nowhere (λ x. (x ≡ at) × IsFull (open_trees self.old.nodes.items)) ⊥) }
     {
         if self.nodes.len() >= DEPTH_LIMIT {
             return Err(ExpressionError::TooDeep { at });
@@ -60,7 +62,8 @@ impl OpenNodes {
         requires { depth (element_tree element) ≤ depth_limit - length self.old.nodes.items }
         ensures ok { OnOk result
             (HasPut (element_tree element) (open_trees self.old.nodes.items) (open_trees self.new.nodes.items)) }
-        ensures err { IfErr result (IsRefused (open_trees self.old.nodes.items ≡ []) ⊥ ⊥ ⊥) }
+        ensures err { IfErr result
+            (IsRefused (λ x. (x ≡ at) × (open_trees self.old.nodes.items ≡ [])) Nowhere Nowhere ⊥) }
     {
         let Some(mut node) = self.nodes.pop() else {
             return Err(ExpressionError::Malformed {
@@ -79,7 +82,8 @@ impl OpenNodes {
         ensures ok { IfOk result
             (λ n. open_trees self.old.nodes.items ≡ (n.kind, n.children) ∷ open_trees self.new.nodes.items) }
         ensures err { IfErr result
-            (IsRefused (open_trees self.old.nodes.items ≡ []) ⊥ ⊥ (IsInnermostLong (open_trees self.old.nodes.items))) }
+            (IsRefused (λ x. (x ≡ at) × (open_trees self.old.nodes.items ≡ [])) Nowhere Nowhere
+            (IsInnermostLong (open_trees self.old.nodes.items))) }
     {
         let Some(OpenNode { kind, children }) = self.nodes.pop() else {
             return Err(ExpressionError::Malformed {

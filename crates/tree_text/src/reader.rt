@@ -1,11 +1,12 @@
-ghost use Rattle.std.specs.Prelude.{ℕ, ◌≡◌, ◌≢◌, ◌≤◌, ◌++◌, ◌||◌, ◌==◌, [], take, length, false, true, IfOk, IfErr, OnOk, Some, string_bytes, encode_utf8};
+ghost use Rattle.std.specs.Prelude.{ℕ, ◌≡◌, ◌≢◌, ◌≤◌, ◌-◌, ◌++◌, ◌||◌, ◌==◌, [], take, length, false, true, IfOk, IfErr, OnOk, Some, string_bytes, encode_utf8};
 ghost use Rattle.cst_core.specs.Green.{branch_tree, IsTooLong};
 ghost use Rattle.cst_core.specs.Tree.{SyntaxTree};
 ghost use Rattle.tree_text.specs.Depth.{depth, depth_limit};
 ghost use Rattle.tree_text.specs.KindNames.{name_in, is_name_byte};
 ghost use Rattle.tree_text.specs.Refusals.{IsRefused};
+ghost use Rattle.tree_text.specs.inner.Nowhere.{Nowhere};
 ghost use Rattle.tree_text.specs.inner.Reading.{IsLeft, IsReading, IsStuck, IsMisplaced, CannotEnd, Reads, ReadsUpTo, GoesOn};
-ghost use Rattle.tree_text.specs.inner.Reading.{first_reading, is_outside, reading};
+ghost use Rattle.tree_text.specs.inner.Reading.{first_reading, is_outside, may_follow_kind, reading, unread};
 
 use crate::error::ExpressionError;
 use crate::escape::meant_by;
@@ -42,9 +43,8 @@ pub(crate) struct Reader<'a> {
     pub(crate) state: State,
     // Where the next character is.
     pub(crate) at: usize,
-    // The name or the text that is being read, and where it begins.
+    // The name or the text that is being read.
     pub(crate) word: String,
-    pub(crate) word_at: usize,
     // The whole tree, once its last parenthesis was read.
     pub(crate) root: Option<GreenNode>,
 }
@@ -66,7 +66,6 @@ impl<'a> Reader<'a> {
             state: State::Between,
             at: 0,
             word: String::new(alloc),
-            word_at: 0,
             root: None,
         }
     }
@@ -75,7 +74,7 @@ impl<'a> Reader<'a> {
     pub(crate) fn step(&mut self, c: char) -> Result<(), ExpressionError>
         requires { IsReading (reading self.old) }
         ensures ok { OnOk result (Reads (reading self.old) (encode_utf8 c) (reading self.new)) }
-        ensures err { IfErr result (IsStuck (reading self.old) (encode_utf8 c)) }
+        ensures err { IfErr result (IsStuck (reading self.old) self.old.at (encode_utf8 c)) }
     {
         match self.state {
             State::Between => self.between(c),
@@ -91,7 +90,7 @@ impl<'a> Reader<'a> {
         requires { IsReading (reading self.old) }
         ensures ok { IfOk result (λ left. ReadsUpTo (reading self.old) text.now left.now (reading self.new)) }
         ensures shorter { IfOk result (λ left. length left.now ≤ length text.now) }
-        ensures err { IfErr result (IsRefused ⊥ ⊥ ⊥ ⊥) }
+        ensures err { IfErr result (IsRefused Nowhere Nowhere Nowhere ⊥) }
     {
         let count = self.run_length(text);
         if count == 0 {
@@ -107,11 +106,8 @@ impl<'a> Reader<'a> {
     fn push_to_word(&mut self, taken: &str) -> Result<(), ExpressionError>
         ensures ok { OnOk result
             (reading self.new ≡ record (reading self.old) { word = string_bytes self.old.word ++ taken.now }) }
-        ensures err { IfErr result (IsRefused ⊥ ⊥ ⊥ ⊥) }
+        ensures err { IfErr result (IsRefused Nowhere Nowhere Nowhere ⊥) }
     {
-        if self.word.is_empty() {
-            self.word_at = self.at;
-        }
         self.word.push_str(taken)?;
         Ok(())
     }
@@ -131,7 +127,7 @@ impl<'a> Reader<'a> {
         requires reading { IsReading (reading self.old) }
         requires state { self.old.state ≡ State.Between }
         ensures ok { OnOk result (Reads (reading self.old) (encode_utf8 c) (reading self.new)) }
-        ensures err { IfErr result (IsMisplaced (reading self.old) (encode_utf8 c)) }
+        ensures err { IfErr result (IsMisplaced (reading self.old) self.old.at (encode_utf8 c)) }
     {
         if self.is_outside(c) {
             return Err(self.misses(self.expected_outside()));
@@ -162,7 +158,7 @@ impl<'a> Reader<'a> {
         requires reading { IsReading (reading self.old) }
         requires state { self.old.state ≡ State.NodeKind }
         ensures ok { OnOk result (Reads (reading self.old) (encode_utf8 c) (reading self.new)) }
-        ensures err { IfErr result (IsStuck (reading self.old) (encode_utf8 c)) }
+        ensures err { IfErr result (IsStuck (reading self.old) self.old.at (encode_utf8 c)) }
     {
         if is_name_character(c) {
             return self.push_to_name(c);
@@ -170,17 +166,28 @@ impl<'a> Reader<'a> {
         if self.word.is_empty() {
             return Err(self.misses(Expected::KindName));
         }
+        if !self.may_follow_kind(c) {
+            return Err(self.misses(Expected::Element));
+        }
+        let at = self.word_at();
         let kind = self.take_kind()?;
-        self.open.begin(self.alloc, kind, self.word_at)?;
+        self.open.begin(self.alloc, kind, at)?;
         self.state = State::Between;
         self.between(c)
+    }
+
+    // Right behind its kind a node goes on with a gap, with the parenthesis of an element, or with its own.
+    fn may_follow_kind(&self, c: char) -> bool
+        ensures { result ≡ may_follow_kind self.now.gaps c }
+    {
+        c == '(' || c == ')' || self.gaps.has(c)
     }
 
     fn in_token_kind(&mut self, c: char) -> Result<(), ExpressionError>
         requires reading { IsReading (reading self.old) }
         requires state { self.old.state ≡ State.TokenKind }
         ensures ok { OnOk result (Reads (reading self.old) (encode_utf8 c) (reading self.new)) }
-        ensures err { IfErr result (IsStuck (reading self.old) (encode_utf8 c)) }
+        ensures err { IfErr result (IsStuck (reading self.old) self.old.at (encode_utf8 c)) }
     {
         if is_name_character(c) {
             return self.push_to_name(c);
@@ -196,7 +203,7 @@ impl<'a> Reader<'a> {
         requires reading { IsReading (reading self.old) }
         requires state { self.old.state ≡ State.Text kind }
         ensures ok { OnOk result (Reads (reading self.old) (encode_utf8 c) (reading self.new)) }
-        ensures err { IfErr result (IsMisplaced (reading self.old) (encode_utf8 c)) }
+        ensures err { IfErr result (IsMisplaced (reading self.old) self.old.at (encode_utf8 c)) }
     {
         match c {
             '"' => self.end_token(kind),
@@ -212,7 +219,7 @@ impl<'a> Reader<'a> {
         requires reading { IsReading (reading self.old) }
         requires state { self.old.state ≡ State.Escape kind }
         ensures ok { OnOk result (Reads (reading self.old) (encode_utf8 c) (reading self.new)) }
-        ensures err { IfErr result (IsMisplaced (reading self.old) (encode_utf8 c)) }
+        ensures err { IfErr result (IsMisplaced (reading self.old) self.old.at (encode_utf8 c)) }
     {
         let Some(meant) = meant_by(c) else {
             return Err(self.misses(Expected::Escape));
@@ -225,23 +232,28 @@ impl<'a> Reader<'a> {
     fn push_to_name(&mut self, c: char) -> Result<(), ExpressionError>
         ensures ok { OnOk result
             (reading self.new ≡ record (reading self.old) { word = string_bytes self.old.word ++ encode_utf8 c }) }
-        ensures err { IfErr result (IsRefused ⊥ ⊥ ⊥ ⊥) }
+        ensures err { IfErr result (IsRefused Nowhere Nowhere Nowhere ⊥) }
     {
-        if self.word.is_empty() {
-            self.word_at = self.at;
-        }
         self.word.push(c)?;
         Ok(())
+    }
+
+    // Where the name that is being read begins.
+    fn word_at(&self) -> usize
+        ensures { result ≡ self.now.at - length (string_bytes self.now.word) }
+    {
+        self.at.saturating_sub(self.word.len())
     }
 
     // The kind of the name that was read.
     fn take_kind(&mut self) -> Result<SyntaxKind, ExpressionError>
         ensures named { IfOk result (λ k. name_in self.old.names.now k.0 ≡ Some (string_bytes self.old.word)) }
         ensures taken { OnOk result (reading self.new ≡ record (reading self.old) { word = [] }) }
-        ensures unknown { IfErr result
-            (IsRefused ⊥ ((k : ℕ) → name_in self.old.names.now k ≢ Some (string_bytes self.old.word)) ⊥ ⊥) }
+        ensures stays { OnOk result (self.new.at ≡ self.old.at) }
+        ensures unknown { IfErr result (IsRefused Nowhere (λ x. (x ≡ self.old.at - length (string_bytes self.old.word))
+            × ((k : ℕ) → name_in self.old.names.now k ≢ Some (string_bytes self.old.word))) Nowhere ⊥) }
     {
-        let at = self.word_at;
+        let at = self.word_at();
         let kind = self
             .last_kinds
             .kind(self.names, &self.word)
@@ -254,7 +266,7 @@ impl<'a> Reader<'a> {
         requires reading { IsReading (reading self.old) }
         requires state { self.old.state ≡ State.Text kind }
         ensures ok { OnOk result (Reads (reading self.old) (encode_utf8 34) (reading self.new)) }
-        ensures err { IfErr result (IsMisplaced (reading self.old) (encode_utf8 34)) }
+        ensures err { IfErr result (IsMisplaced (reading self.old) self.old.at (encode_utf8 34)) }
     {
         let token = self.last_tokens.token(self.alloc, kind, &self.word)?;
         self.word.clear();
@@ -267,7 +279,7 @@ impl<'a> Reader<'a> {
         requires state { self.old.state ≡ State.Between }
         requires inside { is_outside (reading self.old) 41 ≡ false }
         ensures ok { OnOk result (Reads (reading self.old) (encode_utf8 41) (reading self.new)) }
-        ensures err { IfErr result (IsMisplaced (reading self.old) (encode_utf8 41)) }
+        ensures err { IfErr result (IsMisplaced (reading self.old) self.old.at (encode_utf8 41)) }
     {
         let node = self.open.end(self.alloc, self.at)?;
         if self.open.is_empty() {
@@ -281,9 +293,11 @@ impl<'a> Reader<'a> {
     pub(crate) fn finish(self) -> Result<GreenNode, ExpressionError>
         requires { IsReading (reading self) }
         ensures limited { IfOk result (λ n. depth (branch_tree n) ≤ depth_limit) }
-        ensures only { (t : SyntaxTree) → IsLeft (reading self.entry) t [] → IfOk result (λ n. branch_tree n ≡ t) }
-        ensures found { IfOk result (λ n. IsLeft (reading self.entry) (branch_tree n) []) }
-        ensures err { IfErr result (IsRefused (CannotEnd (reading self.entry)) ⊥ ⊥ ⊥) }
+        ensures only { (t : SyntaxTree) → IsLeft (reading self.entry) t (unread (reading self.entry))
+            → IfOk result (λ n. branch_tree n ≡ t) }
+        ensures found { IfOk result (λ n. IsLeft (reading self.entry) (branch_tree n) (unread (reading self.entry))) }
+        ensures err { IfErr result
+            (IsRefused (λ x. (x ≡ self.entry.at) × CannotEnd (reading self.entry)) Nowhere Nowhere ⊥) }
     {
         let missing = self.misses(self.expected_at_end());
         self.root.ok_or(missing)

@@ -1,4 +1,4 @@
-use Rattle.std.proofs.Common.{refl, rules}
+use Rattle.std.proofs.Common.{length, refl, rules}
 use Rattle.std.specs.Prelude.{encode_utf8}
 use Rattle.std.proofs.lemmas.Result.{IfOk-weaker, IfErr-weaker}
 use Rattle.cst_core.specs.Green.{branch_tree}
@@ -31,7 +31,7 @@ loop-c-preserved c =
 
 pub returns-in_err-step-clause-refused : goal.returns-in_err-step-clause-refused
 returns-in_err-step-clause-refused c =
-    passed-on c.from_residual.result c.in_err-step.field-0.0 (ReadRefuses c.args.names.now (is_gap c.args.gaps) c.args.expression.now) c.from_residual.ensures.1 (stuck-there c.args.names.now c.args.gaps c.args.expression.now c.loop-c.rest.now (reading c.loop-c.reader) c.loop-c.invariant.read c.in-Some.c c.in-Some.behind.now c.in_err-step.field-0.0 c.in-Some.ensures.some c.in_err-step.ensures.err)
+    passed-on c.from_residual.result c.in_err-step.field-0.0 (ReadRefuses c.args.names.now (is_gap c.args.gaps) c.args.expression.now) c.from_residual.ensures.1 (stuck-there c.args.names.now c.args.gaps c.args.expression.now c.loop-c.rest.now (reading c.loop-c.reader) c.loop-c.invariant.read c.saturating_sub.result c.in-Some.c c.in-Some.behind.now c.in_err-step.field-0.0 c.saturating_sub.ensures c.in-Some.ensures.some c.in_err-step.ensures.err)
 
 pub returns-in_err-rest-clause-refused : goal.returns-in_err-rest-clause-refused
 returns-in_err-rest-clause-refused c =
@@ -53,4 +53,4 @@ returns-clause-only c =
 pub returns-clause-refused : goal.returns-clause-refused
 returns-clause-refused c =
     let none = c.in_default.ensures.none refl in
-    IfErr-weaker c.finish.result _ _ (λ e h. refused-end c.args.names.now c.args.gaps c.args.expression.now c.loop-c.rest.now (reading c.loop-c.reader) c.loop-c.invariant.read e none h) c.finish.ensures.err
+    IfErr-weaker c.finish.result _ _ (λ e h. refused-end c.args.names.now c.args.gaps c.args.expression.now c.loop-c.rest.now (reading c.loop-c.reader) c.loop-c.invariant.read (length c.args.expression.now) e refl none h) c.finish.ensures.err

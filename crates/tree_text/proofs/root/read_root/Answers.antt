@@ -1,5 +1,5 @@
-use Rattle.std.proofs.Common.{◌≡◌, ◌≤◌, ℕ, List, [], ◌++◌, Result, Ok, Err, IfErr, IsErrAnd, MatchResult, length, append-nil, refl, sym, ap, subst}
-use Rattle.cst_core.specs.Green.{IsTooLong, branch_tree, length_limit}
+use Rattle.std.proofs.Common.{◌≡◌, ℕ, List, [], Result, Ok, Err, IfErr, IsErrAnd, MatchResult, append-nil, refl, sym, subst}
+use Rattle.cst_core.specs.Green.{IsTooLong, branch_tree}
 use Rattle.cst_core.specs.Tree.{SyntaxTree, text}
 use Rattle.cst_core.specs.TreeError.{TreeError}
 use Rattle.cst_core.specs.TreeError.TheVariants as Trees

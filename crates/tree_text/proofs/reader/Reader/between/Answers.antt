@@ -1,4 +1,4 @@
-use Rattle.std.proofs.Common.{◌≡◌, ◌≢◌, false, sym, ◌∙◌, subst, arith}
+use Rattle.std.proofs.Common.{◌≡◌, ◌≢◌, false, refl, sym, ◌∙◌, subst, arith}
 use Rattle.std.specs.Prelude.{encode_utf8}
 use Rattle.std.proofs.lemmas.Result.{on_ok_weaker}
 use Rattle.tree_text.specs.inner.Reading.{IsMisplaced, Reads, reading, is_outside}
@@ -8,7 +8,7 @@ use Rattle.tree_text.proofs.reader.Reader.between.Goals as goal
 pub returns-then-is_outside-clause-err : goal.returns-then-is_outside-clause-err
 returns-then-is_outside-clause-err c =
     let r = reading c.args.self.now in
-    subst (IsMisplaced r (encode_utf8 c.args.c)) (sym c.misses.ensures) (stuck-outside r c.requires.reading c.args.c c.requires.state (sym c.is_outside.ensures ∙ c.if-is_outside.true))
+    subst (IsMisplaced r c.args.self.now.at (encode_utf8 c.args.c)) (sym c.misses.ensures) (refl, stuck-outside r c.requires.reading c.args.c c.requires.state (sym c.is_outside.ensures ∙ c.if-is_outside.true))
 
 pub returns-in-40-clause-ok : goal.returns-in-40-clause-ok
 returns-in-40-clause-ok c =
@@ -32,4 +32,4 @@ returns-in_default-3-clause-err c =
     let inside : is_outside r c.args.c ≡ false = sym c.is_outside.ensures ∙ c.if-is_outside.false in
     let no_open : c.args.c ≢ 40 = omega arith in
     let no_close : c.args.c ≢ 41 = omega arith in
-    subst (IsMisplaced r (encode_utf8 c.args.c)) (sym c.misses-in_default-3.ensures) (stuck-inside r c.requires.reading c.args.c c.requires.state inside no_open no_close (sym c.has.ensures ∙ c.if-has.false) (sym c.is_name_character.ensures ∙ c.if-is_name_character.false))
+    subst (IsMisplaced r c.args.self.now.at (encode_utf8 c.args.c)) (sym c.misses-in_default-3.ensures) (refl, stuck-inside r c.requires.reading c.args.c c.requires.state inside no_open no_close (sym c.has.ensures ∙ c.if-has.false) (sym c.is_name_character.ensures ∙ c.if-is_name_character.false))

@@ -12,7 +12,8 @@ use Rattle.tree_text.proofs.reader.Reader.close.Goals as goal
 pub returns-in_err-node-clause-err : goal.returns-in_err-node-clause-err
 returns-in_err-node-clause-err c =
     let r = reading c.args.self.now in
-    passed-on c.from_residual.result c.in_err-node.field-0.0 (IsMisplaced r (encode_utf8 41)) c.from_residual.ensures.1 (misplaced-by r (encode_utf8 41) c.in_err-node.field-0.0 (r.nodes ≡ []) (IsInnermostLong r.nodes) c.in_err-node.ensures.err (λ none. absurd (node-there r c.requires.reading c.requires.state c.requires.inside none)) (node-long r c.requires.reading c.requires.state c.requires.inside))
+    let at = c.args.self.now.at in
+    passed-on c.from_residual.result c.in_err-node.field-0.0 (IsMisplaced r at (encode_utf8 41)) c.from_residual.ensures.1 (misplaced-by r at (encode_utf8 41) c.in_err-node.field-0.0 (r.nodes ≡ []) (IsInnermostLong r.nodes) c.in_err-node.ensures.err (λ none. absurd (node-there r c.requires.reading c.requires.state c.requires.inside none)) (node-long r c.requires.reading c.requires.state c.requires.inside))
 
 pub returns-then-is_empty-clause-ok : goal.returns-then-is_empty-clause-ok
 returns-then-is_empty-clause-ok c =

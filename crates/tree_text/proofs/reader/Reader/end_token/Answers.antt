@@ -6,7 +6,7 @@ use Rattle.cst_core.specs.Tree.{Token}
 use Rattle.tree_text.specs.inner.OpenTrees.{HasPut, open_trees}
 use Rattle.tree_text.specs.inner.Reading.{IsMisplaced, Reads, reading}
 use Rattle.tree_text.specs.declared.reader.State.TheVariants.{Between}
-use Rattle.tree_text.proofs.Refusing.{passed-on, misplaced-by}
+use Rattle.tree_text.proofs.Refusing.{passed-on, misplaced-as}
 use Rattle.tree_text.proofs.TextSteps.{ends-token, token-long}
 use Rattle.tree_text.proofs.reader.Reader.end_token.Goals as goal
 
@@ -14,7 +14,8 @@ pub returns-in_err-token-clause-err : goal.returns-in_err-token-clause-err
 returns-in_err-token-clause-err c =
     let r = reading c.args.self.now in
     let long = λ (long : IsTooLong c.deref.result.now). token-long r c.requires.reading c.args.kind c.requires.state (subst IsTooLong c.deref.ensures long) in
-    passed-on c.from_residual.result c.in_err-token.field-0.0 (IsMisplaced r (encode_utf8 34)) c.from_residual.ensures.1 (misplaced-by r (encode_utf8 34) c.in_err-token.field-0.0 ⊥ (IsTooLong c.deref.result.now) c.in_err-token.ensures.err (λ none. absurd none) long)
+    let at = c.args.self.now.at in
+    passed-on c.from_residual.result c.in_err-token.field-0.0 (IsMisplaced r at (encode_utf8 34)) c.from_residual.ensures.1 (misplaced-as r at (encode_utf8 34) c.in_err-token.field-0.0 (IsTooLong c.deref.result.now) c.in_err-token.ensures.err long)
 
 pub returns-clause-ok : goal.returns-clause-ok
 returns-clause-ok c =

@@ -1,10 +1,10 @@
-use Rattle.std.proofs.Common.{◌≡◌, ◌≢◌, ℕ, false, Some, sym, ◌∙◌, subst, arith}
+use Rattle.std.proofs.Common.{◌≡◌, ◌≢◌, refl, sym, ◌∙◌, subst, arith}
 use Rattle.std.specs.Prelude.{encode_utf8}
 use Rattle.std.proofs.lemmas.Result.{on_ok_weaker}
-use Rattle.tree_text.specs.KindNames.{name_in, is_name_byte}
 use Rattle.tree_text.specs.inner.Reading.{IsStuck, Reads, reading}
-use Rattle.tree_text.specs.declared.reader.State.TheVariants.{Text}
-use Rattle.tree_text.proofs.Refusing.{passed-on, stuck-by}
+use Rattle.tree_text.specs.declared.reader.State.TheVariants.{Text, TokenKind}
+use Rattle.tree_text.proofs.Leaving.{unread-in}
+use Rattle.tree_text.proofs.Refusing.{passed-on, unknown-by}
 use Rattle.tree_text.proofs.NameSteps.{token-more, token-named, token-unknown, token-unquoted}
 use Rattle.tree_text.proofs.reader.Reader.in_token_kind.Goals as goal
 
@@ -17,13 +17,15 @@ pub returns-then-c-ne34-clause-err : goal.returns-then-c-ne34-clause-err
 returns-then-c-ne34-clause-err c =
     let r = reading c.args.self.now in
     let no_quote : c.args.c ≢ 34 = omega arith in
-    subst (IsStuck r (encode_utf8 c.args.c)) (sym c.misses.ensures) (token-unquoted r c.requires.reading c.requires.state c.args.c (sym c.is_name_character.ensures ∙ c.if-is_name_character.false) no_quote)
+    subst (IsStuck r c.args.self.now.at (encode_utf8 c.args.c)) (sym c.misses.ensures) (refl, token-unquoted r c.requires.reading c.requires.state c.args.c (sym c.is_name_character.ensures ∙ c.if-is_name_character.false) no_quote)
 
 pub returns-in_err-take_kind-clause-err : goal.returns-in_err-take_kind-clause-err
 returns-in_err-take_kind-clause-err c =
     let r = reading c.args.self.now in
-    let no_name : is_name_byte c.args.c ≡ false = sym c.is_name_character.ensures ∙ c.if-is_name_character.false in
-    passed-on c.from_residual.result c.in_err-take_kind.field-0.0 (IsStuck r (encode_utf8 c.args.c)) c.from_residual.ensures.1 (stuck-by r (encode_utf8 c.args.c) c.in_err-take_kind.field-0.0 ⊥ ((k : ℕ) → name_in r.given k ≢ Some r.word) ⊥ ⊥ c.in_err-take_kind.ensures.unknown (λ none. absurd none) (token-unknown r c.requires.reading c.requires.state c.args.c no_name) (λ deep. absurd deep) (λ long. absurd long))
+    let at = c.args.self.now.at in
+    let bytes = encode_utf8 c.args.c in
+    let quote : c.args.c ≡ 34 = omega arith in
+    passed-on c.from_residual.result c.in_err-take_kind.field-0.0 (IsStuck r at bytes) c.from_residual.ensures.1 (unknown-by r at bytes c.in_err-take_kind.field-0.0 r.word (unread-in r TokenKind c.requires.state) c.in_err-take_kind.ensures.unknown (token-unknown r c.requires.reading c.requires.state c.args.c quote))
 
 pub returns-clause-ok : goal.returns-clause-ok
 returns-clause-ok c =
