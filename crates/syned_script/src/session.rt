@@ -133,11 +133,18 @@ impl Session {
         }
         let node = self.roots.node(self.alloc, node)?;
         let (editor, edited) = SyntaxEditor::new(self.alloc, &mut self.ids, node)?;
+        self.begin(editor);
+        self.roots.add(self.alloc, name, edited)
+    }
+
+    // Edits from now on.
+    fn begin(&mut self, editor: SyntaxEditor)
+        ensures { self.new ≡ record self.old { editing = Some (record { editor = editor; order = None }) } }
+    {
         self.editing = Some(Editing {
             editor,
             order: None,
         });
-        self.roots.add(self.alloc, name, edited)
     }
 
     fn map(
