@@ -1,10 +1,9 @@
 //! The least that any engine does for an edit: of each node of the new tree that a change touches, its list of children, those that
-//! stay shared, and one node, from the leaves up. What is to be made is found out beforehand.
+//! stay shared, and one node, from the leaves up; and copies of what else the edit hands back. What is to be made is found out beforehand.
 use anyhow::{Context, Result};
-use cst_core::{GreenElement, GreenNode, SyntaxElement, SyntaxKind, SyntaxNode};
+use cst_core::{GreenElement, GreenNode, SyntaxElement, SyntaxKind};
 use std::alloc::Global;
-use std::collections::HashMap;
-use syntax_editor::SyntaxEdit;
+use syntax_editor::{Annotations, SyntaxEdit};
 
 /// Which nodes of the new tree are touched.
 #[derive(Clone, Copy)]
@@ -15,203 +14,121 @@ pub(crate) enum Touches {
     Blocks,
 }
 
-/// A child of a node that is to be made.
+/// A node that is to be made, of children that are there and, at `None`, of nodes that are made before.
 #[derive(Drop)]
-enum Child {
-    /// An element that is there.
-    Shared(GreenElement),
-    /// The node that is made as the one of this number.
-    Made(usize),
-}
-
-/// A node that is to be made.
-#[derive(Drop)]
-struct Touched {
+struct Touched<'a> {
     kind: SyntaxKind,
-    children: Vec<Child>,
+    children: Vec<Option<&'a GreenElement>>,
 }
 
-/// The nodes that are to be made, each after those below it.
+/// The nodes that are to be made, each after those below it, the last child's first.
 #[derive(Drop)]
-pub(crate) struct Floor {
-    touched: Vec<Touched>,
+pub(crate) struct Floor<'a> {
+    touched: Vec<Touched<'a>>,
 }
 
-// Notes the nodes that an element is in.
-fn note_ancestors(
-    alloc: Global,
-    element: &SyntaxElement,
-    noted: &mut HashMap<SyntaxNode, usize>,
-) -> Result<()> {
-    let mut parent = element.parent(alloc)?;
-    for _ in 0..element.slots().len() {
-        let Some(node) = parent else {
-            break;
-        };
-        parent = node.parent(alloc)?;
-        noted.insert(node, 0)?;
-    }
-    Ok(())
+/// A node of the new tree, how many nodes it is in, and the changed elements in it.
+#[derive(Clone, Copy)]
+struct Place<'a> {
+    node: &'a GreenNode,
+    depth: usize,
+    changed: &'a [SyntaxElement],
 }
 
-fn ancestors(alloc: Global, edit: &SyntaxEdit) -> Result<HashMap<SyntaxNode, usize>> {
-    let mut noted = HashMap::new(alloc);
-    for element in edit.changed_elements() {
-        note_ancestors(alloc, element, &mut noted)?;
-    }
-    Ok(noted)
+/// What an edit hands back beside its tree: the changed elements, and those of each annotation.
+#[derive(Drop)]
+pub(crate) struct Answer {
+    changed: Vec<SyntaxElement>,
+    annotated: Vec<Vec<SyntaxElement>>,
 }
 
-// The nodes of the new tree that a changed element is in, in document order.
-fn touched_nodes(alloc: Global, edit: &SyntaxEdit) -> Result<Vec<SyntaxNode>> {
-    let noted = ancestors(alloc, edit)?;
-    let mut nodes = Vec::new(alloc);
-    for node in edit.new_root().descendants(alloc)? {
-        if noted.get(&node).is_some() {
-            nodes.push(node)?;
+impl Touches {
+    // Whether a child at this depth, with these changed elements in it, is made anew.
+    fn is_made(self, child: &GreenNode, depth: usize, changed: &[SyntaxElement]) -> bool {
+        match self {
+            Touches::Ancestors => changed.first().is_some_and(|it| it.slots().len() > depth),
+            Touches::Blocks => child.kind() != SyntaxKind::LITERAL,
         }
     }
-    Ok(nodes)
 }
 
-// A child that is a node and no literal.
-fn block(child: &GreenElement) -> Option<&GreenNode> {
-    match child {
-        GreenElement::Node(node) => {
-            if node.kind() == SyntaxKind::LITERAL {
-                None
-            } else {
-                Some(node)
+impl<'a> Place<'a> {
+    // The changed elements in the child at a slot, of those that are left, and the others. They are in document order.
+    fn at_slot(
+        self,
+        slot: usize,
+        left: &'a [SyntaxElement],
+    ) -> (&'a [SyntaxElement], &'a [SyntaxElement]) {
+        let mut number = 0usize;
+        for element in left {
+            if element.slots().get(self.depth).copied() != Some(slot) {
+                break;
+            }
+            number = number.saturating_add(1);
+        }
+        left.split_at_checked(number).unwrap_or((left, &[]))
+    }
+
+    // How it is made. The children that are made before are put on a list, the last one first.
+    fn to_make(
+        self,
+        alloc: Global,
+        touches: Touches,
+        waiting: &mut Vec<Place<'a>>,
+    ) -> Result<Touched<'a>> {
+        let depth = self.depth.saturating_add(1);
+        let mut children = Vec::with_capacity(alloc, self.node.children().len())?;
+        let mut made = Vec::new(alloc);
+        let mut left = self.changed;
+        for (slot, child) in self.node.children().iter().enumerate() {
+            let (changed, others) = self.at_slot(slot, left);
+            left = others;
+            match child {
+                GreenElement::Node(node) if touches.is_made(node, depth, changed) => {
+                    made.push(Place { node, depth, changed })?;
+                    children.push(None)?;
+                }
+                _ => children.push(Some(child))?,
             }
         }
-        GreenElement::Token(_) => None,
-    }
-}
-
-// Adds the children of a node that are nodes and no literals, from the last to the first.
-fn add_blocks(alloc: Global, node: &GreenNode, waiting: &mut Vec<GreenNode>) -> Result<()> {
-    for child in node.children().iter().rev() {
-        if let Some(block) = block(child) {
-            waiting.push(block.share(alloc)?)?;
+        for place in made.iter().rev() {
+            waiting.push(*place)?;
         }
+        Ok(Touched { kind: self.node.kind(), children })
     }
-    Ok(())
 }
 
-// A node and those below it but literals, in document order. The paths of nodes many levels down would take more room than they do.
-fn blocks(alloc: Global, root: &GreenNode) -> Result<Vec<GreenNode>> {
-    let mut waiting = Vec::new(alloc);
-    waiting.push(root.share(alloc)?)?;
-    let mut blocks = Vec::new(alloc);
-    for _ in 0..u64::MAX {
-        let Some(node) = waiting.pop() else {
-            break;
-        };
-        add_blocks(alloc, &node, &mut waiting)?;
-        blocks.push(node)?;
-    }
-    Ok(blocks)
-}
-
-// How a node is made, where the last of these numbers are those of the nodes below it, the first child's last. They are taken off.
-fn block_to_make(alloc: Global, node: &GreenNode, numbers: &mut Vec<usize>) -> Result<Touched> {
-    let mut children = Vec::new(alloc);
-    for child in node.children() {
-        let number = match block(child) {
-            Some(_) => numbers.pop(),
-            None => None,
-        };
-        children.push(child_to_make(alloc, child, number)?)?;
-    }
-    Ok(Touched {
-        kind: node.kind(),
-        children,
-    })
-}
-
-fn child_to_make(alloc: Global, child: &GreenElement, number: Option<usize>) -> Result<Child> {
-    Ok(match number {
-        Some(number) => Child::Made(number),
-        None => Child::Shared(child.share(alloc)?),
-    })
-}
-
-// How a node is made, where the nodes below it have these numbers.
-fn to_make(
-    alloc: Global,
-    node: &SyntaxNode,
-    numbers: &HashMap<SyntaxNode, usize>,
-) -> Result<Touched> {
-    let mut children = Vec::new(alloc);
-    for (element, green) in node
-        .children_with_tokens(alloc)?
-        .iter()
-        .zip(node.as_green().children().iter())
-    {
-        let number = match element {
-            SyntaxElement::Node(child) => numbers.get(child).copied(),
-            SyntaxElement::Token(_) => None,
-        };
-        children.push(child_to_make(alloc, green, number)?)?;
-    }
-    Ok(Touched {
-        kind: node.kind(),
-        children,
-    })
-}
-
-impl Touched {
+impl Touched<'_> {
     // The node, which takes over those made before that are its children.
-    fn make(&self, alloc: Global, made: &mut [Option<GreenNode>]) -> Result<GreenNode> {
+    fn make(&self, alloc: Global, made: &mut Vec<GreenNode>) -> Result<GreenNode> {
         let mut children = Vec::with_capacity(alloc, self.children.len())?;
         for child in &self.children {
             children.push(match child {
-                Child::Shared(green) => green.share(alloc)?,
-                Child::Made(number) => GreenElement::Node(take_node(made, *number)?),
+                Some(green) => green.share(alloc)?,
+                None => GreenElement::Node(made.pop().context("no node")?),
             })?;
         }
         Ok(GreenNode::new(alloc, self.kind, children)?)
     }
 }
 
-fn take_node(made: &mut [Option<GreenNode>], number: usize) -> Result<GreenNode> {
-    made.get_mut(number)
-        .context("no such node")?
-        .take()
-        .context("a node of two parents")
-}
-
-impl Floor {
+impl<'a> Floor<'a> {
     /// What there is to make for an edit.
-    pub(crate) fn of(alloc: Global, edit: &SyntaxEdit, touches: Touches) -> Result<Floor> {
-        match touches {
-            Touches::Ancestors => Floor::of_ancestors(alloc, edit),
-            Touches::Blocks => Floor::of_blocks(alloc, edit.new_root().as_green()),
-        }
-    }
-
-    fn of_ancestors(alloc: Global, edit: &SyntaxEdit) -> Result<Floor> {
-        let mut nodes = touched_nodes(alloc, edit)?;
-        nodes.reverse();
-        let mut numbers = HashMap::new(alloc);
+    pub(crate) fn of(alloc: Global, edit: &'a SyntaxEdit, touches: Touches) -> Result<Floor<'a>> {
+        let mut waiting = Vec::new(alloc);
+        waiting.push(Place {
+            node: edit.new_root().as_green(),
+            depth: 0,
+            changed: edit.changed_elements(),
+        })?;
         let mut touched = Vec::new(alloc);
-        for node in nodes {
-            touched.push(to_make(alloc, &node, &numbers)?)?;
-            numbers.insert(node, touched.len() - 1)?;
+        for _ in 0..u64::MAX {
+            let Some(place) = waiting.pop() else {
+                break;
+            };
+            touched.push(place.to_make(alloc, touches, &mut waiting)?)?;
         }
-        Ok(Floor { touched })
-    }
-
-    fn of_blocks(alloc: Global, root: &GreenNode) -> Result<Floor> {
-        let mut nodes = blocks(alloc, root)?;
-        nodes.reverse();
-        let mut numbers = Vec::new(alloc);
-        let mut touched = Vec::new(alloc);
-        for node in nodes {
-            let number = touched.len();
-            touched.push(block_to_make(alloc, &node, &mut numbers)?)?;
-            numbers.push(number)?;
-        }
+        touched.reverse();
         Ok(Floor { touched })
     }
 
@@ -220,13 +137,39 @@ impl Floor {
         self.touched.len()
     }
 
-    /// Makes it, and gives the last node, which is the new tree.
+    /// Makes them, and gives the last one, which is the new tree.
     pub(crate) fn make(&self, alloc: Global) -> Result<Option<GreenNode>> {
         let mut made = Vec::with_capacity(alloc, self.touched.len())?;
         for touched in &self.touched {
             let node = touched.make(alloc, &mut made)?;
-            made.push(Some(node))?;
+            made.push(node)?;
         }
-        Ok(made.pop().flatten())
+        Ok(made.pop())
+    }
+}
+
+// Copies of elements, in a list of exact room.
+fn copied(alloc: Global, elements: &[SyntaxElement]) -> Result<Vec<SyntaxElement>> {
+    let mut copies = Vec::with_capacity(alloc, elements.len())?;
+    for element in elements {
+        copies.push(element.try_clone(alloc)?)?;
+    }
+    Ok(copies)
+}
+
+impl Answer {
+    /// A copy of what an edit hands back, with the elements of its first n annotations.
+    pub(crate) fn of(alloc: Global, edit: &SyntaxEdit, annotations: usize) -> Result<Answer> {
+        let mut source = Annotations::new(1);
+        let mut annotated = Vec::with_capacity(alloc, annotations)?;
+        for _ in 0..annotations {
+            if let Some(annotation) = source.next() {
+                annotated.push(copied(alloc, edit.find_annotation(annotation))?)?;
+            }
+        }
+        Ok(Answer {
+            changed: copied(alloc, edit.changed_elements())?,
+            annotated,
+        })
     }
 }
