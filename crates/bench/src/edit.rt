@@ -1,11 +1,11 @@
-//! The edits: a tree, as `tree.rt` has it, and what is changed in it: `replace N`, `insert N`, `note N`, `bring N`, `wrap N`.
-use crate::calls::{Call, make_all};
-use crate::tree::{Tree, in_blocks, list, literal};
+//! The edits: a tree, and what is changed in it, namely `replace N`, `insert N`, `note N`, `bring N` or `wrap N`.
+use crate::tree::{Tree, in_blocks, list, literal, new_root};
+use crate::watch::Watch;
 use crate::words::Words;
 use anyhow::{Context, Result, anyhow};
-use cst_core::{SyntaxKind, SyntaxNode, TreeIds};
+use cst_core::{SyntaxKind, SyntaxNode};
 use std::alloc::Global;
-use syntax_editor::{Annotations, SyntaxEditor, SyntaxMappingBuilder};
+use syntax_editor::{Annotations, Position, SyntaxAnnotation, SyntaxEditor, SyntaxMappingBuilder};
 
 #[derive(Clone, Copy)]
 pub(crate) enum Changes {
@@ -13,7 +13,7 @@ pub(crate) enum Changes {
     Replace(usize),
     /// After one in n literals another one is inserted.
     Insert(usize),
-    /// The same, and each literal is registered with an annotation of its own.
+    /// The n children of the root are registered, each with an annotation of its own, and a literal is inserted after each.
     Note(usize),
     /// After each literal a payload is inserted, whose n literals are registered so.
     Bring(usize),
@@ -27,29 +27,24 @@ pub(crate) struct Edit {
     pub(crate) changes: Changes,
 }
 
+/// A call that records a change, or a registration.
+#[derive(Drop)]
+enum Call {
+    Insert(Position, SyntaxNode),
+    Replace(SyntaxNode, SyntaxNode),
+    Annotate(SyntaxNode, SyntaxAnnotation),
+}
+
 /// An editor, and the calls to be made on it.
 #[derive(Drop)]
 pub(crate) struct Prepared {
-    pub(crate) editor: SyntaxEditor,
-    pub(crate) calls: Vec<Call>,
+    editor: SyntaxEditor,
+    calls: Vec<Call>,
 }
 
-fn new_literal(alloc: Global, ids: &mut TreeIds) -> Result<SyntaxNode> {
-    Ok(SyntaxNode::new_root(alloc, ids, literal(alloc)?)?)
-}
-
-// One in n of the literals.
-fn targets(alloc: Global, root: &SyntaxNode, step: usize) -> Result<Vec<SyntaxNode>> {
-    let mut targets = Vec::new(alloc);
-    let mut passed = 0usize;
-    for literal in root.descendants_of_kind(alloc, SyntaxKind::LITERAL)? {
-        passed = passed.saturating_add(1);
-        if passed >= step {
-            targets.push(literal)?;
-            passed = 0;
-        }
-    }
-    Ok(targets)
+fn new_literal(watch: &mut Watch) -> Result<SyntaxNode> {
+    let green = literal(watch.alloc)?;
+    new_root(watch, green)
 }
 
 // What stands in n blocks from this one on.
@@ -71,91 +66,98 @@ fn mapped(alloc: Global, block: &SyntaxNode, copy: SyntaxNode) -> Result<SyntaxM
     Ok(builder)
 }
 
-// Registers each child of a node.
-fn annotate(alloc: Global, node: &SyntaxNode, calls: &mut Vec<Call>) -> Result<()> {
-    let mut annotations = Annotations::new(1);
-    for child in node.children(alloc)? {
-        let annotation = annotations.next().context("no annotation")?;
-        calls.push(Call::Annotate(child, annotation))?;
+impl Call {
+    fn make(self, alloc: Global, editor: &mut SyntaxEditor) -> Result<()> {
+        match self {
+            Call::Insert(position, new) => editor.insert(alloc, position, new)?,
+            Call::Replace(target, new) => editor.replace(alloc, target, new)?,
+            Call::Annotate(node, annotation) => editor.add_annotation(alloc, node, annotation)?,
+        }
+        Ok(())
     }
-    Ok(())
 }
 
-fn replace(
-    alloc: Global,
-    ids: &mut TreeIds,
-    root: &SyntaxNode,
-    step: usize,
-    calls: &mut Vec<Call>,
-) -> Result<()> {
-    for target in targets(alloc, root, step)? {
-        calls.push(Call::Replace(target, new_literal(alloc, ids)?))?;
+impl Prepared {
+    fn push(&mut self, call: Call) -> Result<()> {
+        self.calls.push(call)?;
+        Ok(())
     }
-    Ok(())
-}
 
-fn insert(
-    alloc: Global,
-    ids: &mut TreeIds,
-    root: &SyntaxNode,
-    step: usize,
-    calls: &mut Vec<Call>,
-) -> Result<()> {
-    for target in targets(alloc, root, step)? {
-        let new = new_literal(alloc, ids)?;
-        calls.push(Call::insert_after(alloc, target, new)?)?;
+    fn insert(&mut self, alloc: Global, target: SyntaxNode, new: SyntaxNode) -> Result<()> {
+        let position = Position::after(alloc, target)?.context("no parent")?;
+        self.push(Call::Insert(position, new))
     }
-    Ok(())
-}
 
-fn bring(
-    alloc: Global,
-    root: &SyntaxNode,
-    payload: &SyntaxNode,
-    calls: &mut Vec<Call>,
-) -> Result<()> {
-    annotate(alloc, payload, calls)?;
-    for target in root.children(alloc)? {
-        let new = payload.try_clone(alloc)?;
-        calls.push(Call::insert_after(alloc, target, new)?)?;
+    fn annotate(&mut self, alloc: Global, list: &SyntaxNode) -> Result<()> {
+        let mut annotations = Annotations::new(1);
+        for literal in list.children(alloc)? {
+            let annotation = annotations.next().context("no annotation")?;
+            self.push(Call::Annotate(literal, annotation))?;
+        }
+        Ok(())
     }
-    Ok(())
-}
 
-// The block in n others, of which the editor is told.
-fn wrapped(
-    alloc: Global,
-    ids: &mut TreeIds,
-    editor: &mut SyntaxEditor,
-    block: &SyntaxNode,
-    wraps: usize,
-) -> Result<SyntaxNode> {
-    let green = in_blocks(alloc, block.green(alloc)?, wraps)?;
-    let payload = SyntaxNode::new_root(alloc, ids, green)?;
-    let copy = inside(alloc, &payload, wraps)?;
-    editor.add_mapping(alloc, mapped(alloc, block, copy)?)?;
-    Ok(payload)
-}
-
-fn wrap(
-    alloc: Global,
-    ids: &mut TreeIds,
-    editor: &mut SyntaxEditor,
-    root: &SyntaxNode,
-    wraps: usize,
-    calls: &mut Vec<Call>,
-) -> Result<()> {
-    for block in root.descendants_of_kind(alloc, SyntaxKind::BLOCK_EXPR)? {
-        let inner = inside(alloc, &block, 1)?;
-        calls.push(Call::insert_after(alloc, inner, new_literal(alloc, ids)?)?)?;
-        let payload = wrapped(alloc, ids, editor, &block, wraps)?;
-        calls.push(Call::Replace(block, payload))?;
+    // A new literal in the place of a target, or after it.
+    fn put(&mut self, watch: &mut Watch, changes: Changes, target: SyntaxNode) -> Result<()> {
+        let new = new_literal(watch)?;
+        match changes {
+            Changes::Replace(_) => self.push(Call::Replace(target, new)),
+            _ => self.insert(watch.alloc, target, new),
+        }
     }
-    Ok(())
+
+    fn bring(&mut self, alloc: Global, root: &SyntaxNode, payload: &SyntaxNode) -> Result<()> {
+        self.annotate(alloc, payload)?;
+        for target in root.children(alloc)? {
+            self.insert(alloc, target, payload.try_clone(alloc)?)?;
+        }
+        Ok(())
+    }
+
+    // Of the block's copy in n blocks the editor is told.
+    fn wrap(&mut self, watch: &mut Watch, block: SyntaxNode, wraps: usize) -> Result<()> {
+        let alloc = watch.alloc;
+        self.put(watch, Changes::Insert(1), inside(alloc, &block, 1)?)?;
+        let green = in_blocks(alloc, block.green(alloc)?, wraps)?;
+        let payload = new_root(watch, green)?;
+        let builder = mapped(alloc, &block, inside(alloc, &payload, wraps)?)?;
+        self.editor.add_mapping(alloc, builder)?;
+        self.push(Call::Replace(block, payload))
+    }
+
+    fn push_all(&mut self, watch: &mut Watch, changes: Changes, root: &SyntaxNode) -> Result<()> {
+        match changes {
+            Changes::Note(_) => self.annotate(watch.alloc, root)?,
+            Changes::Bring(notes) => {
+                let payload = list(watch.alloc, notes)?;
+                return self.bring(watch.alloc, root, &new_root(watch, payload)?);
+            }
+            Changes::Wrap(wraps) => {
+                for block in root.descendants_of_kind(watch.alloc, SyntaxKind::BLOCK_EXPR)? {
+                    self.wrap(watch, block, wraps)?;
+                }
+                return Ok(());
+            }
+            _ => {}
+        }
+        for target in changes.targets(watch.alloc, root)? {
+            self.put(watch, changes, target)?;
+        }
+        Ok(())
+    }
+
+    /// Makes the calls.
+    pub(crate) fn record(self, alloc: Global) -> Result<SyntaxEditor> {
+        let Prepared { mut editor, calls } = self;
+        for call in calls {
+            call.make(alloc, &mut editor)?;
+        }
+        Ok(editor)
+    }
 }
 
 impl Changes {
-    fn read(words: &mut Words<'_>) -> Result<Changes> {
+    fn read(words: &mut Words) -> Result<Changes> {
         match words.word() {
             "replace" => Ok(Changes::Replace(words.number()?)),
             "insert" => Ok(Changes::Insert(words.number()?)),
@@ -166,52 +168,47 @@ impl Changes {
         }
     }
 
-    fn push_calls(
-        self,
-        alloc: Global,
-        ids: &mut TreeIds,
-        editor: &mut SyntaxEditor,
-        root: &SyntaxNode,
-        calls: &mut Vec<Call>,
-    ) -> Result<()> {
+    /// How many annotations there are.
+    pub(crate) fn annotations(self) -> usize {
         match self {
-            Changes::Replace(step) => replace(alloc, ids, root, step, calls),
-            Changes::Insert(step) => insert(alloc, ids, root, step, calls),
-            Changes::Note(step) => {
-                annotate(alloc, root, calls)?;
-                insert(alloc, ids, root, step, calls)
-            }
-            Changes::Bring(notes) => {
-                let payload = SyntaxNode::new_root(alloc, ids, list(alloc, notes)?)?;
-                bring(alloc, root, &payload, calls)
-            }
-            Changes::Wrap(wraps) => wrap(alloc, ids, editor, root, wraps, calls),
+            Changes::Note(notes) | Changes::Bring(notes) => notes,
+            _ => 0,
         }
+    }
+
+    // The literals that they aim at.
+    fn targets(self, alloc: Global, root: &SyntaxNode) -> Result<Vec<SyntaxNode>> {
+        let step = match self {
+            Changes::Replace(step) | Changes::Insert(step) => step,
+            _ => 1,
+        };
+        let mut targets = Vec::new(alloc);
+        let mut passed = 0usize;
+        for literal in root.descendants_of_kind(alloc, SyntaxKind::LITERAL)? {
+            passed = passed.saturating_add(1);
+            if passed >= step {
+                targets.push(literal)?;
+                passed = 0;
+            }
+        }
+        Ok(targets)
     }
 }
 
 impl Edit {
-    pub(crate) fn read(words: &mut Words<'_>) -> Result<Edit> {
+    pub(crate) fn read(words: &mut Words) -> Result<Edit> {
         Ok(Edit {
             tree: Tree::read(words)?,
             changes: Changes::read(words)?,
         })
     }
 
-    /// The tree, the payloads and the mapping, with an editor and the calls to be made.
-    pub(crate) fn prepare(self, alloc: Global, ids: &mut TreeIds) -> Result<Prepared> {
-        let root = self.tree.root(alloc, ids)?;
-        let (mut editor, root) = SyntaxEditor::new(alloc, ids, root)?;
-        let mut calls = Vec::new(alloc);
-        self.changes
-            .push_calls(alloc, ids, &mut editor, &root, &mut calls)?;
-        Ok(Prepared { editor, calls })
-    }
-
-    /// An editor with its changes recorded.
-    pub(crate) fn record(self, alloc: Global, ids: &mut TreeIds) -> Result<SyntaxEditor> {
-        let Prepared { mut editor, calls } = self.prepare(alloc, ids)?;
-        make_all(alloc, calls, &mut editor)?;
-        Ok(editor)
+    pub(crate) fn prepare(self, watch: &mut Watch) -> Result<Prepared> {
+        let root = self.tree.root(watch)?;
+        let (editor, root) = SyntaxEditor::new(watch.alloc, &mut watch.ids, root)?;
+        let calls = Vec::new(watch.alloc);
+        let mut prepared = Prepared { editor, calls };
+        prepared.push_all(watch, self.changes, &root)?;
+        Ok(prepared)
     }
 }

@@ -1,18 +1,10 @@
 //! The least that any engine does for an edit: of each node of the new tree that a change touches, its list of children, those that
 //! stay shared, and one node, from the leaves up; and copies of what else the edit hands back. What is to be made is found out beforehand.
+use crate::edit::Changes;
 use anyhow::{Context, Result};
 use cst_core::{GreenElement, GreenNode, SyntaxElement, SyntaxKind};
 use std::alloc::Global;
 use syntax_editor::{Annotations, SyntaxEdit};
-
-/// Which nodes of the new tree are touched.
-#[derive(Clone, Copy)]
-pub(crate) enum Touches {
-    /// Those that a changed element is in.
-    Ancestors,
-    /// All but literals.
-    Blocks,
-}
 
 /// A node that is to be made, of children that are there and, at `None`, of nodes that are made before.
 #[derive(Drop)]
@@ -35,45 +27,28 @@ struct Place<'a> {
     changed: &'a [SyntaxElement],
 }
 
-/// What an edit hands back beside its tree: the changed elements, and those of each annotation.
-#[derive(Drop)]
-pub(crate) struct Answer {
-    changed: Vec<SyntaxElement>,
-    annotated: Vec<Vec<SyntaxElement>>,
-}
-
-impl Touches {
-    // Whether a child at this depth, with these changed elements in it, is made anew.
-    fn is_made(self, child: &GreenNode, depth: usize, changed: &[SyntaxElement]) -> bool {
+impl Changes {
+    // Whether they touch a node at this depth, in which these changed elements are: where blocks are wrapped all nodes but literals.
+    fn touch(self, child: &GreenNode, depth: usize, changed: &[SyntaxElement]) -> bool {
         match self {
-            Touches::Ancestors => changed.first().is_some_and(|it| it.slots().len() > depth),
-            Touches::Blocks => child.kind() != SyntaxKind::LITERAL,
+            Changes::Wrap(_) => child.kind() != SyntaxKind::LITERAL,
+            _ => changed.first().is_some_and(|it| it.slots().len() > depth),
         }
     }
+}
+
+// How many of these elements are in the child at a slot. They are in document order.
+fn count_at(elements: &[SyntaxElement], depth: usize, slot: usize) -> usize {
+    let is_there = |it: &&SyntaxElement| it.slots().get(depth) == Some(&slot);
+    elements.iter().take_while(is_there).count()
 }
 
 impl<'a> Place<'a> {
-    // The changed elements in the child at a slot, of those that are left, and the others. They are in document order.
-    fn at_slot(
-        self,
-        slot: usize,
-        left: &'a [SyntaxElement],
-    ) -> (&'a [SyntaxElement], &'a [SyntaxElement]) {
-        let mut number = 0usize;
-        for element in left {
-            if element.slots().get(self.depth).copied() != Some(slot) {
-                break;
-            }
-            number = number.saturating_add(1);
-        }
-        left.split_at_checked(number).unwrap_or((left, &[]))
-    }
-
     // How it is made. The children that are made before are put on a list, the last one first.
     fn to_make(
         self,
         alloc: Global,
-        touches: Touches,
+        changes: Changes,
         waiting: &mut Vec<Place<'a>>,
     ) -> Result<Touched<'a>> {
         let depth = self.depth.saturating_add(1);
@@ -81,11 +56,16 @@ impl<'a> Place<'a> {
         let mut made = Vec::new(alloc);
         let mut left = self.changed;
         for (slot, child) in self.node.children().iter().enumerate() {
-            let (changed, others) = self.at_slot(slot, left);
+            let number = count_at(left, self.depth, slot);
+            let (changed, others) = left.split_at_checked(number).unwrap_or((left, &[]));
             left = others;
             match child {
-                GreenElement::Node(node) if touches.is_made(node, depth, changed) => {
-                    made.push(Place { node, depth, changed })?;
+                GreenElement::Node(node) if changes.touch(node, depth, changed) => {
+                    made.push(Place {
+                        node,
+                        depth,
+                        changed,
+                    })?;
                     children.push(None)?;
                 }
                 _ => children.push(Some(child))?,
@@ -94,7 +74,10 @@ impl<'a> Place<'a> {
         for place in made.iter().rev() {
             waiting.push(*place)?;
         }
-        Ok(Touched { kind: self.node.kind(), children })
+        Ok(Touched {
+            kind: self.node.kind(),
+            children,
+        })
     }
 }
 
@@ -114,7 +97,7 @@ impl Touched<'_> {
 
 impl<'a> Floor<'a> {
     /// What there is to make for an edit.
-    pub(crate) fn of(alloc: Global, edit: &'a SyntaxEdit, touches: Touches) -> Result<Floor<'a>> {
+    pub(crate) fn of(alloc: Global, edit: &'a SyntaxEdit, changes: Changes) -> Result<Floor<'a>> {
         let mut waiting = Vec::new(alloc);
         waiting.push(Place {
             node: edit.new_root().as_green(),
@@ -126,7 +109,7 @@ impl<'a> Floor<'a> {
             let Some(place) = waiting.pop() else {
                 break;
             };
-            touched.push(place.to_make(alloc, touches, &mut waiting)?)?;
+            touched.push(place.to_make(alloc, changes, &mut waiting)?)?;
         }
         touched.reverse();
         Ok(Floor { touched })
@@ -157,19 +140,18 @@ fn copied(alloc: Global, elements: &[SyntaxElement]) -> Result<Vec<SyntaxElement
     Ok(copies)
 }
 
-impl Answer {
-    /// A copy of what an edit hands back, with the elements of its first n annotations.
-    pub(crate) fn of(alloc: Global, edit: &SyntaxEdit, annotations: usize) -> Result<Answer> {
-        let mut source = Annotations::new(1);
-        let mut annotated = Vec::with_capacity(alloc, annotations)?;
-        for _ in 0..annotations {
-            if let Some(annotation) = source.next() {
-                annotated.push(copied(alloc, edit.find_annotation(annotation))?)?;
-            }
-        }
-        Ok(Answer {
-            changed: copied(alloc, edit.changed_elements())?,
-            annotated,
-        })
+/// Copies of what an edit hands back beside its tree: the changed elements, and those of its first n annotations.
+pub(crate) fn copy_answer(
+    alloc: Global,
+    edit: &SyntaxEdit,
+    annotations: usize,
+) -> Result<Vec<Vec<SyntaxElement>>> {
+    let mut source = Annotations::new(1);
+    let mut lists = Vec::with_capacity(alloc, annotations.saturating_add(1))?;
+    lists.push(copied(alloc, edit.changed_elements())?)?;
+    for _ in 0..annotations {
+        let annotation = source.next().context("no annotation")?;
+        lists.push(copied(alloc, edit.find_annotation(annotation))?)?;
     }
+    Ok(lists)
 }

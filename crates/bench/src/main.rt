@@ -1,50 +1,75 @@
-//! Times edits of large trees and walks over them, and prints what it read: counts, and nanoseconds. Each line of the standard input says what
-//! is to be done, in words (tests/figures.py writes such lines, and makes tables of what comes out):
+//! Measures edits of large trees, and walks over them. A line of the standard input says what is to be done and how often (tests/figures.py
+//! and tests/memory.py write such lines): `count` or `time`, a number, and one of these:
 //!
 //! ```text
-//! count|time|mark TIMES steps|finish|order TREE CHANGES
-//! count|time|mark TIMES children|elements|descendants|ancestors|next_token|prev_token TREE
+//! steps TREE CHANGES      record, plan and carry out, and the least that any engine does
+//! order TREE CHANGES      plan, and carry out one change at a time
+//! WALK TREE               go over a tree, and copy the paths of what is found
 //! ```
 //!
-//! `count` reads counts alone, `time` the clock, and `mark` puts marks round each part, for a library that counts bytes
-//! (tests/memory.py). TREE and CHANGES are those of `tree.rt` and `edit.rt`. A line comes out for each part, namely what was done, what was
-//! read, how often, and what it was each time:
-//!
-//! ```text
-//! steps literals 512 replace 512; recorded; 3; 40125 36012 35870
-//! ```
+//! A line comes out for each figure: the line, what was read, and the count or the nanoseconds, as
+//! `time 3 order literals 512 replace 1; InDefaultOrder; 280125`.
 #![tactic(auto)]
 
-mod calls;
 mod edit;
 mod floor;
 mod steps;
-mod task;
 mod tree;
 mod walk;
 mod watch;
 mod words;
 
-use crate::task::Task;
-use crate::watch::Watch;
+use crate::edit::Edit;
+use crate::steps::{carry_out_in_order, carry_out_in_steps};
+use crate::tree::Tree;
+use crate::walk::Walk;
+use crate::watch::{Meter, Watch};
+use crate::words::Words;
 use anyhow::Result;
-use std::alloc::Global;
 use std::io::read_to_string;
-use std::rt::Clock;
 
-fn carry_out<R: Print + Clock>(rt: &R, alloc: Global, line: &str) -> Result<()> {
-    let task = Task::read(line)?;
-    let mut watch = Watch::new(rt, alloc, task.meter)?;
-    for _ in 0..task.times {
-        task.work.carry_out(alloc, &mut watch)?;
+#[derive(Clone, Copy)]
+enum Work {
+    Steps(Edit),
+    Order(Edit),
+    Walk(Walk, Tree),
+}
+
+impl Work {
+    fn read(words: &mut Words) -> Result<Work> {
+        match words.word() {
+            "steps" => Ok(Work::Steps(Edit::read(words)?)),
+            "order" => Ok(Work::Order(Edit::read(words)?)),
+            word => Ok(Work::Walk(Walk::named(word)?, Tree::read(words)?)),
+        }
     }
-    watch.report(task.what, task.times)
+
+    fn carry_out(self, watch: &mut Watch) -> Result<()> {
+        match self {
+            Work::Steps(edit) => carry_out_in_steps(watch, edit),
+            Work::Order(edit) => carry_out_in_order(watch, edit),
+            Work::Walk(walk, tree) => walk.go(watch, tree),
+        }
+    }
+}
+
+fn carry_out(watch: &mut Watch, line: &str) -> Result<()> {
+    let mut words = Words { rest: line };
+    watch.meter = Meter::read(&mut words)?;
+    let times = words.number()?;
+    let work = Work::read(&mut words)?;
+    for _ in 0..times {
+        work.carry_out(watch)?;
+        watch.report(line)?;
+    }
+    Ok(())
 }
 
 fn main(rt: HostRuntime) -> Result<()> {
     let input = read_to_string(rt.alloc(), rt.stdin())?;
+    let mut watch = Watch::new(rt)?;
     for line in input.lines() {
-        carry_out(&rt, rt.alloc(), line)?;
+        carry_out(&mut watch, line)?;
     }
     Ok(())
 }

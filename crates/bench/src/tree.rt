@@ -1,7 +1,8 @@
-//! The trees that are edited and walked over: `literals N`, `leaves N`, `blocks CHAINS DEPTH`, `tokens N`, `chain N`.
+//! The trees: `literals N`, `leaves N`, `blocks CHAINS DEPTH`, `tokens N`.
+use crate::watch::Watch;
 use crate::words::Words;
 use anyhow::{Result, anyhow};
-use cst_core::{GreenElement, GreenNode, GreenToken, SyntaxKind, SyntaxNode, TreeIds};
+use cst_core::{GreenElement, GreenNode, GreenToken, SyntaxKind, SyntaxNode};
 use std::alloc::Global;
 
 /// Children of each node above the leaves.
@@ -13,12 +14,10 @@ pub(crate) enum Tree {
     Literals(usize),
     /// n literals at the leaves of nodes with eight children each.
     Leaves(usize),
-    /// Chains of blocks, side by side, with a literal in the innermost block of each.
+    /// Chains of blocks, side by side, and a literal in the innermost block of each.
     Blocks { chains: usize, depth: usize },
     /// n tokens below one node.
     Tokens(usize),
-    /// n nodes, each in the next one, with a token in each.
-    Chain(usize),
 }
 
 fn token(alloc: Global) -> Result<GreenElement> {
@@ -32,16 +31,16 @@ pub(crate) fn literal(alloc: Global) -> Result<GreenNode> {
     Ok(GreenNode::new(alloc, SyntaxKind::LITERAL, children)?)
 }
 
-fn tokens(alloc: Global, number: usize) -> Result<Vec<GreenElement>> {
-    let mut tokens = Vec::with_capacity(alloc, number)?;
+fn tokens(alloc: Global, number: usize) -> Result<GreenNode> {
+    let mut tokens = Vec::new(alloc);
     for _ in 0..number {
         tokens.push(token(alloc)?)?;
     }
-    Ok(tokens)
+    Ok(GreenNode::new(alloc, SyntaxKind::ARG_LIST, tokens)?)
 }
 
 fn literals(alloc: Global, number: usize) -> Result<Vec<GreenElement>> {
-    let mut literals = Vec::with_capacity(alloc, number)?;
+    let mut literals = Vec::new(alloc);
     for _ in 0..number {
         literals.push(GreenElement::Node(literal(alloc)?))?;
     }
@@ -54,26 +53,19 @@ pub(crate) fn list(alloc: Global, number: usize) -> Result<GreenNode> {
     Ok(GreenNode::new(alloc, SyntaxKind::STMT_LIST, literals)?)
 }
 
-fn push_list(
-    alloc: Global,
-    parents: &mut Vec<GreenElement>,
-    children: Vec<GreenElement>,
-) -> Result<()> {
+fn parent(alloc: Global, elements: &[GreenElement]) -> Result<GreenElement> {
+    let mut children = Vec::with_capacity(alloc, elements.len())?;
+    for element in elements {
+        children.push(element.share(alloc)?)?;
+    }
     let parent = GreenNode::new(alloc, SyntaxKind::STMT_LIST, children)?;
-    parents.push(GreenElement::Node(parent))?;
-    Ok(())
+    Ok(GreenElement::Node(parent))
 }
 
-// Nodes with eight of the elements each, in order.
-fn by_eight(alloc: Global, elements: Vec<GreenElement>) -> Result<Vec<GreenElement>> {
+fn parents(alloc: Global, elements: &[GreenElement]) -> Result<Vec<GreenElement>> {
     let mut parents = Vec::new(alloc);
-    let mut children = Vec::new(alloc);
-    for element in elements {
-        children.push(element)?;
-        if children.len() == EIGHT {
-            push_list(alloc, &mut parents, children)?;
-            children = Vec::new(alloc);
-        }
+    for eight in elements.chunks(EIGHT) {
+        parents.push(parent(alloc, eight)?)?;
     }
     Ok(parents)
 }
@@ -84,32 +76,36 @@ fn leaves(alloc: Global, number: usize) -> Result<GreenNode> {
         if topmost.len() < EIGHT {
             break;
         }
-        topmost = by_eight(alloc, topmost)?;
+        topmost = parents(alloc, &topmost)?;
     }
     Ok(GreenNode::new(alloc, SyntaxKind::SOURCE_FILE, topmost)?)
 }
 
 // A list of what is between braces.
-fn in_braces(alloc: Global, inner: GreenElement) -> Result<GreenElement> {
-    let open = GreenElement::Token(GreenToken::new(alloc, SyntaxKind::L_CURLY, "{")?);
-    let close = GreenElement::Token(GreenToken::new(alloc, SyntaxKind::R_CURLY, "}")?);
-    let children = vec![in alloc; open, inner, close]?;
-    let list = GreenNode::new(alloc, SyntaxKind::STMT_LIST, children)?;
-    Ok(GreenElement::Node(list))
+fn in_braces(alloc: Global, inner: GreenNode) -> Result<GreenNode> {
+    let open = GreenToken::new(alloc, SyntaxKind::L_CURLY, "{")?;
+    let close = GreenToken::new(alloc, SyntaxKind::R_CURLY, "}")?;
+    let children = vec![in alloc;
+        GreenElement::Token(open),
+        GreenElement::Node(inner),
+        GreenElement::Token(close),
+    ]?;
+    Ok(GreenNode::new(alloc, SyntaxKind::STMT_LIST, children)?)
 }
 
 /// Something in so many blocks.
 pub(crate) fn in_blocks(alloc: Global, inner: GreenNode, times: usize) -> Result<GreenNode> {
     let mut node = inner;
     for _ in 0..times {
-        let children = vec![in alloc; in_braces(alloc, GreenElement::Node(node))?]?;
+        let list = in_braces(alloc, node)?;
+        let children = vec![in alloc; GreenElement::Node(list)]?;
         node = GreenNode::new(alloc, SyntaxKind::BLOCK_EXPR, children)?;
     }
     Ok(node)
 }
 
 fn blocks(alloc: Global, chains: usize, depth: usize) -> Result<GreenNode> {
-    let mut children = Vec::with_capacity(alloc, chains)?;
+    let mut children = Vec::new(alloc);
     for _ in 0..chains {
         let chain = in_blocks(alloc, literal(alloc)?, depth)?;
         children.push(GreenElement::Node(chain))?;
@@ -117,17 +113,13 @@ fn blocks(alloc: Global, chains: usize, depth: usize) -> Result<GreenNode> {
     Ok(GreenNode::new(alloc, SyntaxKind::SOURCE_FILE, children)?)
 }
 
-fn chain(alloc: Global, number: usize) -> Result<GreenNode> {
-    let mut node = literal(alloc)?;
-    for _ in 1..number {
-        let children = vec![in alloc; GreenElement::Node(node), token(alloc)?]?;
-        node = GreenNode::new(alloc, SyntaxKind::BLOCK_EXPR, children)?;
-    }
-    Ok(node)
+/// The root of a tree of its own.
+pub(crate) fn new_root(watch: &mut Watch, green: GreenNode) -> Result<SyntaxNode> {
+    Ok(SyntaxNode::new_root(watch.alloc, &mut watch.ids, green)?)
 }
 
 impl Tree {
-    pub(crate) fn read(words: &mut Words<'_>) -> Result<Tree> {
+    pub(crate) fn read(words: &mut Words) -> Result<Tree> {
         match words.word() {
             "literals" => Ok(Tree::Literals(words.number()?)),
             "leaves" => Ok(Tree::Leaves(words.number()?)),
@@ -136,7 +128,6 @@ impl Tree {
                 depth: words.number()?,
             }),
             "tokens" => Ok(Tree::Tokens(words.number()?)),
-            "chain" => Ok(Tree::Chain(words.number()?)),
             _ => Err(anyhow!("a tree is wanted")),
         }
     }
@@ -146,16 +137,12 @@ impl Tree {
             Tree::Literals(number) => list(alloc, number),
             Tree::Leaves(number) => leaves(alloc, number),
             Tree::Blocks { chains, depth } => blocks(alloc, chains, depth),
-            Tree::Tokens(number) => {
-                let tokens = tokens(alloc, number)?;
-                Ok(GreenNode::new(alloc, SyntaxKind::ARG_LIST, tokens)?)
-            }
-            Tree::Chain(number) => chain(alloc, number),
+            Tree::Tokens(number) => tokens(alloc, number),
         }
     }
 
-    /// Its root.
-    pub(crate) fn root(self, alloc: Global, ids: &mut TreeIds) -> Result<SyntaxNode> {
-        Ok(SyntaxNode::new_root(alloc, ids, self.green(alloc)?)?)
+    pub(crate) fn root(self, watch: &mut Watch) -> Result<SyntaxNode> {
+        let green = self.green(watch.alloc)?;
+        new_root(watch, green)
     }
 }

@@ -1,66 +1,29 @@
-//! Walks over trees, beside copies of the paths of the elements that they give.
+//! Walks over trees, beside copies of the paths of what they give.
 use crate::tree::Tree;
-use crate::watch::{Figure, Watch};
+use crate::watch::{Figure, Watch, copy_paths};
 use anyhow::{Context, Result, anyhow};
-use cst_core::{SyntaxNode, SyntaxToken, TreeIds};
+use cst_core::{SyntaxNode, SyntaxToken};
 use std::alloc::Global;
-use std::rt::Clock;
 
 #[derive(Clone, Copy)]
 pub(crate) enum Walk {
-    /// The children that are nodes.
     Children,
-    /// All children.
+    /// `elements`: the children that are tokens too.
     Elements,
     Descendants,
-    /// The node that the first token is in, and those around it.
+    /// `ancestors`: the last node, and those around it.
     Ancestors,
-    /// The tokens one after another.
+    /// `next_token`: the tokens one after another.
     NextToken,
-    /// The same backwards.
+    /// `prev_token`: the same backwards.
     PrevToken,
 }
 
-// The paths of nodes, in copies.
-fn paths(alloc: Global, nodes: &[SyntaxNode]) -> Result<Vec<Vec<usize>>> {
-    let mut paths = Vec::with_capacity(alloc, nodes.len())?;
-    for node in nodes {
-        paths.push(node.path(alloc)?)?;
-    }
-    Ok(paths)
-}
-
-// The paths of tokens, in copies.
-fn token_paths(alloc: Global, tokens: &[SyntaxToken]) -> Result<Vec<Vec<usize>>> {
-    let mut paths = Vec::with_capacity(alloc, tokens.len())?;
-    for token in tokens {
-        paths.push(token.path(alloc)?)?;
-    }
-    Ok(paths)
-}
-
-fn stop_at_nodes<R: Print + Clock>(
-    alloc: Global,
-    watch: &mut Watch<'_, R>,
-    nodes: &[SyntaxNode],
-) -> Result<()> {
-    watch.stop(Figure::Walked)?;
-    watch.count(Figure::Elements, nodes.len() as u64)?;
+fn go_over_elements(watch: &mut Watch, root: &SyntaxNode) -> Result<()> {
     watch.start()?;
-    let _paths = paths(alloc, nodes)?;
-    watch.stop(Figure::PathsCopied)
-}
-
-fn stop_at_tokens<R: Print + Clock>(
-    alloc: Global,
-    watch: &mut Watch<'_, R>,
-    tokens: &[SyntaxToken],
-) -> Result<()> {
+    let elements = root.children_with_tokens(watch.alloc)?;
     watch.stop(Figure::Walked)?;
-    watch.count(Figure::Elements, tokens.len() as u64)?;
-    watch.start()?;
-    let _paths = token_paths(alloc, tokens)?;
-    watch.stop(Figure::PathsCopied)
+    watch.count(Figure::Elements, elements.len() as u64)
 }
 
 impl Walk {
@@ -72,23 +35,42 @@ impl Walk {
             "ancestors" => Ok(Walk::Ancestors),
             "next_token" => Ok(Walk::NextToken),
             "prev_token" => Ok(Walk::PrevToken),
-            _ => Err(anyhow!("steps, finish, order or a walk is wanted")),
+            _ => Err(anyhow!("what is measured is wanted")),
         }
     }
 
-    fn token_after(self, alloc: Global, token: &SyntaxToken) -> Result<Option<SyntaxToken>> {
+    fn nodes(self, alloc: Global, from: &SyntaxNode) -> Result<Vec<SyntaxNode>> {
+        match self {
+            Walk::Children => Ok(from.children(alloc)?),
+            Walk::Ancestors => Ok(from.ancestors(alloc)?),
+            _ => Ok(from.descendants(alloc)?),
+        }
+    }
+
+    fn go_over_nodes(self, watch: &mut Watch, from: &SyntaxNode) -> Result<()> {
+        watch.start()?;
+        let nodes = self.nodes(watch.alloc, from)?;
+        watch.stop(Figure::Walked)?;
+        watch.count(Figure::Elements, nodes.len() as u64)?;
+        let mut paths = Vec::with_capacity(watch.alloc, nodes.len())?;
+        for node in &nodes {
+            paths.push(node.slots())?;
+        }
+        copy_paths(watch, &paths)
+    }
+
+    fn next(self, alloc: Global, token: &SyntaxToken) -> Result<Option<SyntaxToken>> {
         match self {
             Walk::PrevToken => Ok(token.prev_token(alloc)?),
             _ => Ok(token.next_token(alloc)?),
         }
     }
 
-    // This token, and those that come after it.
-    fn tokens_from(self, alloc: Global, first: SyntaxToken) -> Result<Vec<SyntaxToken>> {
+    fn tokens(self, alloc: Global, first: SyntaxToken) -> Result<Vec<SyntaxToken>> {
         let mut tokens = Vec::new(alloc);
         let mut token = first;
         for _ in 0..u64::MAX {
-            let next = self.token_after(alloc, &token)?;
+            let next = self.next(alloc, &token)?;
             tokens.push(token)?;
             token = match next {
                 Some(next) => next,
@@ -98,60 +80,38 @@ impl Walk {
         Ok(tokens)
     }
 
-    fn go_over_tokens<R: Print + Clock>(
-        self,
-        alloc: Global,
-        watch: &mut Watch<'_, R>,
-        first: Option<SyntaxToken>,
-    ) -> Result<()> {
+    fn go_over_tokens(self, watch: &mut Watch, first: Option<SyntaxToken>) -> Result<()> {
         let first = first.context("no token")?;
         watch.start()?;
-        let tokens = self.tokens_from(alloc, first)?;
-        stop_at_tokens(alloc, watch, &tokens)
+        let tokens = self.tokens(watch.alloc, first)?;
+        watch.stop(Figure::Walked)?;
+        watch.count(Figure::Elements, tokens.len() as u64)?;
+        let mut paths = Vec::with_capacity(watch.alloc, tokens.len())?;
+        for token in &tokens {
+            paths.push(token.slots())?;
+        }
+        copy_paths(watch, &paths)
     }
 
-    // What the walk begins at is found before.
-    fn go_from<R: Print + Clock>(
-        self,
-        alloc: Global,
-        watch: &mut Watch<'_, R>,
-        root: &SyntaxNode,
-    ) -> Result<()> {
+    // What it begins at is found before it is timed.
+    fn go_from(self, watch: &mut Watch, root: &SyntaxNode) -> Result<()> {
         match self {
-            Walk::Children => {
-                watch.start()?;
-                stop_at_nodes(alloc, watch, &root.children(alloc)?)
-            }
-            Walk::Descendants => {
-                watch.start()?;
-                stop_at_nodes(alloc, watch, &root.descendants(alloc)?)
-            }
+            Walk::Elements => go_over_elements(watch, root),
             Walk::Ancestors => {
-                let first = root.first_token(alloc)?.context("no token")?;
-                watch.start()?;
-                stop_at_nodes(alloc, watch, &first.parent_ancestors(alloc)?)
+                let last = root.descendants(watch.alloc)?.pop().context("no node")?;
+                self.go_over_nodes(watch, &last)
             }
-            Walk::Elements => {
-                watch.start()?;
-                let elements = root.children_with_tokens(alloc)?;
-                watch.stop(Figure::Walked)?;
-                watch.count(Figure::Elements, elements.len() as u64)
-            }
-            Walk::NextToken => self.go_over_tokens(alloc, watch, root.first_token(alloc)?),
-            Walk::PrevToken => self.go_over_tokens(alloc, watch, root.last_token(alloc)?),
+            Walk::NextToken => self.go_over_tokens(watch, root.first_token(watch.alloc)?),
+            Walk::PrevToken => self.go_over_tokens(watch, root.last_token(watch.alloc)?),
+            _ => self.go_over_nodes(watch, root),
         }
     }
 
     /// Builds a tree, and goes over it.
-    pub(crate) fn go<R: Print + Clock>(
-        self,
-        alloc: Global,
-        watch: &mut Watch<'_, R>,
-        tree: Tree,
-    ) -> Result<()> {
+    pub(crate) fn go(self, watch: &mut Watch, tree: Tree) -> Result<()> {
         watch.start()?;
-        let root = tree.root(alloc, &mut TreeIds::new(1))?;
+        let root = tree.root(watch)?;
         watch.stop(Figure::Built)?;
-        self.go_from(alloc, watch, &root)
+        self.go_from(watch, &root)
     }
 }

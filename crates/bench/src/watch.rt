@@ -1,41 +1,33 @@
-//! Reads counts, the clock, or puts marks, and keeps what was read.
-use anyhow::Result;
+//! Reads counts or the clock, and keeps what was read until a work is done.
+use crate::words::Words;
+use anyhow::{Result, anyhow};
+use cst_core::TreeIds;
 use std::alloc::Global;
-use std::rt::Clock;
 use std::time::Instant;
 
-/// Bytes of the list that is a mark: a library that stands before the C library knows it by its length. No other list is as long.
-const MARK: usize = 7_654_321;
-
-/// What is read.
 #[derive(Clone, Copy)]
 pub(crate) enum Meter {
-    /// Counts alone.
     Counts,
-    /// The clock, before and after each part.
     Clock,
-    /// The same, with a list taken and freed right before each part, and right after it.
-    Marks,
 }
 
 /// What a number says.
-#[derive(Clone, Copy, PartialEq, Eq)]
+#[derive(Clone, Copy, Debug)]
 pub(crate) enum Figure {
     Built,
+    Walked,
+    Elements,
+    PathsCopied,
     Changes,
     Recorded,
     Planned,
     CarriedOut,
     NodesBuilt,
     Bytes,
-    LeastNodes,
+    NodesAtLeast,
     Least,
     LeastWithAnswer,
-    Finished,
     InDefaultOrder,
-    Elements,
-    Walked,
-    PathsCopied,
 }
 
 #[derive(Clone, Copy)]
@@ -44,108 +36,79 @@ struct Reading {
     number: u128,
 }
 
-/// What was read so far, and since when a part has been going on.
+/// What was read, since when a part has been going on, and what every work needs.
 #[derive(Drop)]
-pub(crate) struct Watch<'a, R: Print + Clock> {
-    rt: &'a R,
-    alloc: Global,
-    meter: Meter,
+pub(crate) struct Watch {
+    rt: HostRuntime,
     start: Instant,
     readings: Vec<Reading>,
+    pub(crate) meter: Meter,
+    pub(crate) alloc: Global,
+    pub(crate) ids: TreeIds,
 }
 
-impl Figure {
-    fn name(self) -> &'static str {
-        match self {
-            Figure::Built => "built",
-            Figure::Changes => "changes",
-            Figure::Recorded => "recorded",
-            Figure::Planned => "planned",
-            Figure::CarriedOut => "carried out",
-            Figure::NodesBuilt => "nodes built",
-            Figure::Bytes => "bytes",
-            Figure::LeastNodes => "nodes at least",
-            Figure::Least => "the least",
-            Figure::LeastWithAnswer => "the least with its answer",
-            Figure::Finished => "finished",
-            Figure::InDefaultOrder => "by the default order",
-            Figure::Elements => "elements",
-            Figure::Walked => "walked",
-            Figure::PathsCopied => "paths copied",
+impl Meter {
+    pub(crate) fn read(words: &mut Words) -> Result<Meter> {
+        match words.word() {
+            "count" => Ok(Meter::Counts),
+            "time" => Ok(Meter::Clock),
+            _ => Err(anyhow!("count or time is wanted")),
         }
     }
 }
 
-fn mark(alloc: Global) -> Result<()> {
-    let mut list = Vec::with_capacity(alloc, MARK)?;
-    list.push(0u8)?;
-    Ok(())
-}
-
-impl<'a, R: Print + Clock> Watch<'a, R> {
-    pub(crate) fn new(rt: &'a R, alloc: Global, meter: Meter) -> Result<Watch<'a, R>> {
-        let start = Instant::now(rt)?;
+impl Watch {
+    pub(crate) fn new(rt: HostRuntime) -> Result<Watch> {
         Ok(Watch {
+            start: Instant::now(&rt)?,
+            readings: Vec::new(rt.alloc()),
+            meter: Meter::Counts,
+            alloc: rt.alloc(),
+            ids: TreeIds::new(1),
             rt,
-            alloc,
-            meter,
-            start,
-            readings: Vec::new(alloc),
         })
-    }
-
-    fn read(&mut self, figure: Figure, number: u128) -> Result<()> {
-        self.readings.push(Reading { figure, number })?;
-        Ok(())
     }
 
     /// A part begins.
     pub(crate) fn start(&mut self) -> Result<()> {
-        if let Meter::Marks = self.meter {
-            mark(self.alloc)?;
-        }
-        self.start = Instant::now(self.rt)?;
+        self.start = Instant::now(&self.rt)?;
         Ok(())
     }
 
     /// The part has ended.
     pub(crate) fn stop(&mut self, figure: Figure) -> Result<()> {
-        let nanoseconds = self.start.elapsed(self.rt)?.as_nanos();
-        match self.meter {
-            Meter::Counts => Ok(()),
-            Meter::Clock => self.read(figure, nanoseconds),
-            Meter::Marks => {
-                mark(self.alloc)?;
-                self.read(figure, nanoseconds)
-            }
+        let number = self.start.elapsed(&self.rt)?.as_nanos();
+        if let Meter::Clock = self.meter {
+            self.readings.push(Reading { figure, number })?;
         }
+        Ok(())
     }
 
-    /// Keeps a count, where counts are read.
+    /// Keeps a count.
     pub(crate) fn count(&mut self, figure: Figure, number: u64) -> Result<()> {
-        match self.meter {
-            Meter::Counts => self.read(figure, number as u128),
-            _ => Ok(()),
-        }
-    }
-
-    fn report_figure(&self, what: &str, times: usize, figure: Figure) -> Result<()> {
-        let name = figure.name();
-        print!(self.rt; "{what}; {name}; {times};")?;
-        for reading in &self.readings {
-            if reading.figure == figure {
-                print!(self.rt; " {}", reading.number)?;
-            }
-        }
-        println!(self.rt)?;
-        Ok(())
-    }
-
-    /// Prints a line for each figure, of which so many were read.
-    pub(crate) fn report(&self, what: &str, times: usize) -> Result<()> {
-        for first in self.readings.iter().take(self.readings.len() / times.max(1)) {
-            self.report_figure(what, times, first.figure)?;
+        let number = number as u128;
+        if let Meter::Counts = self.meter {
+            self.readings.push(Reading { figure, number })?;
         }
         Ok(())
     }
+
+    /// Prints what was read, each number on a line that begins with this one.
+    pub(crate) fn report(&mut self, line: &str) -> Result<()> {
+        for Reading { figure, number } in &self.readings {
+            println!(self.rt; "{line}; {figure:?}; {number}")?;
+        }
+        self.readings.clear();
+        Ok(())
+    }
+}
+
+/// Copies paths, each into a list of its own.
+pub(crate) fn copy_paths(watch: &mut Watch, paths: &[&[usize]]) -> Result<()> {
+    watch.start()?;
+    let mut copies = Vec::with_capacity(watch.alloc, paths.len())?;
+    for path in paths {
+        copies.push(Vec::from_slice(watch.alloc, path)?)?;
+    }
+    watch.stop(Figure::PathsCopied)
 }

@@ -15,7 +15,6 @@ impl<'a> Words<'a> {
         word
     }
 
-    /// The next word as a number.
     pub(crate) fn number(&mut self) -> Result<usize> {
         self.word().parse::<usize>().context("a number is wanted")
     }
