@@ -1,8 +1,8 @@
 //! The edits: a tree, and what is changed in it, namely `replace N`, `insert N`, `note N`, `bring N` or `wrap N`.
+use crate::Words;
 use crate::tree::{Tree, in_blocks, list, literal, new_root};
 use crate::watch::Watch;
-use crate::words::Words;
-use anyhow::{Context, Result, anyhow};
+use anyhow::{Context, Result};
 use cst_core::{SyntaxKind, SyntaxNode};
 use std::alloc::Global;
 use syntax_editor::{Annotations, Position, SyntaxAnnotation, SyntaxEditor, SyntaxMappingBuilder};
@@ -19,12 +19,6 @@ pub(crate) enum Changes {
     Bring(usize),
     /// Each block is replaced by one with n blocks round its copy, and a literal inserted into it.
     Wrap(usize),
-}
-
-#[derive(Clone, Copy)]
-pub(crate) struct Edit {
-    tree: Tree,
-    pub(crate) changes: Changes,
 }
 
 /// A call that records a change, or a registration.
@@ -78,32 +72,23 @@ impl Call {
 }
 
 impl Prepared {
-    fn push(&mut self, call: Call) -> Result<()> {
-        self.calls.push(call)?;
-        Ok(())
-    }
-
     fn insert(&mut self, alloc: Global, target: SyntaxNode, new: SyntaxNode) -> Result<()> {
         let position = Position::after(alloc, target)?.context("no parent")?;
-        self.push(Call::Insert(position, new))
+        Ok(self.calls.push(Call::Insert(position, new))?)
     }
 
+    fn replace(&mut self, target: SyntaxNode, new: SyntaxNode) -> Result<()> {
+        Ok(self.calls.push(Call::Replace(target, new))?)
+    }
+
+    // Registers the children of a list.
     fn annotate(&mut self, alloc: Global, list: &SyntaxNode) -> Result<()> {
         let mut annotations = Annotations::new(1);
         for literal in list.children(alloc)? {
             let annotation = annotations.next().context("no annotation")?;
-            self.push(Call::Annotate(literal, annotation))?;
+            self.calls.push(Call::Annotate(literal, annotation))?;
         }
         Ok(())
-    }
-
-    // A new literal in the place of a target, or after it.
-    fn put(&mut self, watch: &mut Watch, changes: Changes, target: SyntaxNode) -> Result<()> {
-        let new = new_literal(watch)?;
-        match changes {
-            Changes::Replace(_) => self.push(Call::Replace(target, new)),
-            _ => self.insert(watch.alloc, target, new),
-        }
     }
 
     fn bring(&mut self, alloc: Global, root: &SyntaxNode, payload: &SyntaxNode) -> Result<()> {
@@ -117,31 +102,32 @@ impl Prepared {
     // Of the block's copy in n blocks the editor is told.
     fn wrap(&mut self, watch: &mut Watch, block: SyntaxNode, wraps: usize) -> Result<()> {
         let alloc = watch.alloc;
-        self.put(watch, Changes::Insert(1), inside(alloc, &block, 1)?)?;
+        self.insert(alloc, inside(alloc, &block, 1)?, new_literal(watch)?)?;
         let green = in_blocks(alloc, block.green(alloc)?, wraps)?;
         let payload = new_root(watch, green)?;
         let builder = mapped(alloc, &block, inside(alloc, &payload, wraps)?)?;
         self.editor.add_mapping(alloc, builder)?;
-        self.push(Call::Replace(block, payload))
+        self.replace(block, payload)
     }
 
-    fn push_all(&mut self, watch: &mut Watch, changes: Changes, root: &SyntaxNode) -> Result<()> {
+    fn change(&mut self, watch: &mut Watch, target: SyntaxNode, changes: Changes) -> Result<()> {
         match changes {
-            Changes::Note(_) => self.annotate(watch.alloc, root)?,
-            Changes::Bring(notes) => {
-                let payload = list(watch.alloc, notes)?;
-                return self.bring(watch.alloc, root, &new_root(watch, payload)?);
-            }
-            Changes::Wrap(wraps) => {
-                for block in root.descendants_of_kind(watch.alloc, SyntaxKind::BLOCK_EXPR)? {
-                    self.wrap(watch, block, wraps)?;
-                }
-                return Ok(());
-            }
-            _ => {}
+            Changes::Replace(_) => self.replace(target, new_literal(watch)?),
+            Changes::Wrap(wraps) => self.wrap(watch, target, wraps),
+            _ => self.insert(watch.alloc, target, new_literal(watch)?),
+        }
+    }
+
+    fn push_all(&mut self, watch: &mut Watch, root: &SyntaxNode, changes: Changes) -> Result<()> {
+        if let Changes::Bring(notes) = changes {
+            let payload = list(watch.alloc, notes)?;
+            return self.bring(watch.alloc, root, &new_root(watch, payload)?);
+        }
+        if let Changes::Note(_) = changes {
+            self.annotate(watch.alloc, root)?;
         }
         for target in changes.targets(watch.alloc, root)? {
-            self.put(watch, changes, target)?;
+            self.change(watch, target, changes)?;
         }
         Ok(())
     }
@@ -157,14 +143,14 @@ impl Prepared {
 }
 
 impl Changes {
-    fn read(words: &mut Words) -> Result<Changes> {
-        match words.word() {
-            "replace" => Ok(Changes::Replace(words.number()?)),
-            "insert" => Ok(Changes::Insert(words.number()?)),
-            "note" => Ok(Changes::Note(words.number()?)),
-            "bring" => Ok(Changes::Bring(words.number()?)),
-            "wrap" => Ok(Changes::Wrap(words.number()?)),
-            _ => Err(anyhow!("changes are wanted")),
+    pub(crate) fn read(words: &mut Words) -> Option<Changes> {
+        match (words.word(), words.number().ok()?) {
+            ("replace", step) => Some(Changes::Replace(step)),
+            ("insert", step) => Some(Changes::Insert(step)),
+            ("note", notes) => Some(Changes::Note(notes)),
+            ("bring", notes) => Some(Changes::Bring(notes)),
+            ("wrap", wraps) => Some(Changes::Wrap(wraps)),
+            _ => None,
         }
     }
 
@@ -176,39 +162,32 @@ impl Changes {
         }
     }
 
-    // The literals that they aim at.
+    // What they aim at.
     fn targets(self, alloc: Global, root: &SyntaxNode) -> Result<Vec<SyntaxNode>> {
-        let step = match self {
-            Changes::Replace(step) | Changes::Insert(step) => step,
-            _ => 1,
+        let (kind, step) = match self {
+            Changes::Replace(step) | Changes::Insert(step) => (SyntaxKind::LITERAL, step),
+            Changes::Wrap(_) => (SyntaxKind::BLOCK_EXPR, 1),
+            _ => (SyntaxKind::LITERAL, 1),
         };
         let mut targets = Vec::new(alloc);
         let mut passed = 0usize;
-        for literal in root.descendants_of_kind(alloc, SyntaxKind::LITERAL)? {
+        for node in root.descendants_of_kind(alloc, kind)? {
             passed = passed.saturating_add(1);
             if passed >= step {
-                targets.push(literal)?;
+                targets.push(node)?;
                 passed = 0;
             }
         }
         Ok(targets)
     }
-}
 
-impl Edit {
-    pub(crate) fn read(words: &mut Words) -> Result<Edit> {
-        Ok(Edit {
-            tree: Tree::read(words)?,
-            changes: Changes::read(words)?,
-        })
-    }
-
-    pub(crate) fn prepare(self, watch: &mut Watch) -> Result<Prepared> {
-        let root = self.tree.root(watch)?;
+    /// An editor of a tree, and the calls.
+    pub(crate) fn prepare(self, watch: &mut Watch, tree: Tree) -> Result<Prepared> {
+        let root = tree.root(watch)?;
         let (editor, root) = SyntaxEditor::new(watch.alloc, &mut watch.ids, root)?;
         let calls = Vec::new(watch.alloc);
         let mut prepared = Prepared { editor, calls };
-        prepared.push_all(watch, self.changes, &root)?;
+        prepared.push_all(watch, &root, self)?;
         Ok(prepared)
     }
 }

@@ -24,7 +24,7 @@ pub(crate) struct Floor<'a> {
 struct Place<'a> {
     node: &'a GreenNode,
     depth: usize,
-    changed: &'a [SyntaxElement],
+    edits: &'a [SyntaxElement],
 }
 
 impl Changes {
@@ -45,39 +45,28 @@ fn count_at(elements: &[SyntaxElement], depth: usize, slot: usize) -> usize {
 
 impl<'a> Place<'a> {
     // How it is made. The children that are made before are put on a list, the last one first.
-    fn to_make(
-        self,
-        alloc: Global,
-        changes: Changes,
-        waiting: &mut Vec<Place<'a>>,
-    ) -> Result<Touched<'a>> {
+    fn touched(self, alloc: Global, changes: Changes, on: &mut Vec<Self>) -> Result<Touched<'a>> {
         let depth = self.depth.saturating_add(1);
         let mut children = Vec::with_capacity(alloc, self.node.children().len())?;
         let mut made = Vec::new(alloc);
-        let mut left = self.changed;
+        let mut left = self.edits;
         for (slot, child) in self.node.children().iter().enumerate() {
             let number = count_at(left, self.depth, slot);
-            let (changed, others) = left.split_at_checked(number).unwrap_or((left, &[]));
+            let (edits, others) = left.split_at_checked(number).unwrap_or((left, &[]));
             left = others;
             match child {
-                GreenElement::Node(node) if changes.touch(node, depth, changed) => {
-                    made.push(Place {
-                        node,
-                        depth,
-                        changed,
-                    })?;
+                GreenElement::Node(node) if changes.touch(node, depth, edits) => {
+                    made.push(Place { node, depth, edits })?;
                     children.push(None)?;
                 }
                 _ => children.push(Some(child))?,
             }
         }
         for place in made.iter().rev() {
-            waiting.push(*place)?;
+            on.push(*place)?;
         }
-        Ok(Touched {
-            kind: self.node.kind(),
-            children,
-        })
+        let kind = self.node.kind();
+        Ok(Touched { kind, children })
     }
 }
 
@@ -99,17 +88,18 @@ impl<'a> Floor<'a> {
     /// What there is to make for an edit.
     pub(crate) fn of(alloc: Global, edit: &'a SyntaxEdit, changes: Changes) -> Result<Floor<'a>> {
         let mut waiting = Vec::new(alloc);
-        waiting.push(Place {
+        let root = Place {
             node: edit.new_root().as_green(),
             depth: 0,
-            changed: edit.changed_elements(),
-        })?;
+            edits: edit.changed_elements(),
+        };
+        waiting.push(root)?;
         let mut touched = Vec::new(alloc);
         for _ in 0..u64::MAX {
             let Some(place) = waiting.pop() else {
                 break;
             };
-            touched.push(place.to_make(alloc, changes, &mut waiting)?)?;
+            touched.push(place.touched(alloc, changes, &mut waiting)?)?;
         }
         touched.reverse();
         Ok(Floor { touched })

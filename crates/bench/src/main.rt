@@ -17,49 +17,50 @@ mod steps;
 mod tree;
 mod walk;
 mod watch;
-mod words;
 
-use crate::edit::Edit;
+use crate::edit::Changes;
 use crate::steps::{carry_out_in_order, carry_out_in_steps};
 use crate::tree::Tree;
 use crate::walk::Walk;
 use crate::watch::{Meter, Watch};
-use crate::words::Words;
-use anyhow::Result;
+use anyhow::{Context, Result};
 use std::io::read_to_string;
 
-#[derive(Clone, Copy)]
-enum Work {
-    Steps(Edit),
-    Order(Edit),
-    Walk(Walk, Tree),
+/// What is left of a line. One space stands between its words.
+#[derive(Drop)]
+struct Words<'a> {
+    rest: &'a str,
 }
 
-impl Work {
-    fn read(words: &mut Words) -> Result<Work> {
-        match words.word() {
-            "steps" => Ok(Work::Steps(Edit::read(words)?)),
-            "order" => Ok(Work::Order(Edit::read(words)?)),
-            word => Ok(Work::Walk(Walk::named(word)?, Tree::read(words)?)),
-        }
+impl<'a> Words<'a> {
+    // The next word, which is empty at the end of the line.
+    fn word(&mut self) -> &'a str {
+        let (word, rest) = self.rest.split_once(' ').unwrap_or((self.rest, ""));
+        self.rest = rest;
+        word
     }
 
-    fn carry_out(self, watch: &mut Watch) -> Result<()> {
-        match self {
-            Work::Steps(edit) => carry_out_in_steps(watch, edit),
-            Work::Order(edit) => carry_out_in_order(watch, edit),
-            Work::Walk(walk, tree) => walk.go(watch, tree),
-        }
+    fn number(&mut self) -> Result<usize> {
+        self.word().parse::<usize>().context("a number is wanted")
     }
 }
 
 fn carry_out(watch: &mut Watch, line: &str) -> Result<()> {
     let mut words = Words { rest: line };
-    watch.meter = Meter::read(&mut words)?;
+    watch.meter = match words.word() {
+        "time" => Meter::Clock,
+        _ => Meter::Counts,
+    };
     let times = words.number()?;
-    let work = Work::read(&mut words)?;
+    let work = words.word();
+    let tree = Tree::read(&mut words)?;
+    let changes = Changes::read(&mut words);
     for _ in 0..times {
-        work.carry_out(watch)?;
+        match (work, changes) {
+            ("steps", Some(changes)) => carry_out_in_steps(watch, tree, changes)?,
+            ("order", Some(changes)) => carry_out_in_order(watch, tree, changes)?,
+            (word, _) => Walk::named(word)?.go(watch, tree)?,
+        }
         watch.report(line)?;
     }
     Ok(())

@@ -1,12 +1,13 @@
 //! Edits, part by part or at once, and the least that any engine does for them.
-use crate::edit::{Changes, Edit};
+use crate::edit::Changes;
 use crate::floor::{Floor, copy_answer};
+use crate::tree::Tree;
 use crate::watch::{Figure, Watch};
 use anyhow::Result;
 use syntax_editor::{EditPlan, OnePassEngine, SyntaxEdit, SyntaxEditor};
 
-fn recorded(watch: &mut Watch, edit: Edit) -> Result<SyntaxEditor> {
-    let prepared = edit.prepare(watch)?;
+fn recorded(watch: &mut Watch, tree: Tree, changes: Changes) -> Result<SyntaxEditor> {
+    let prepared = changes.prepare(watch, tree)?;
     watch.start()?;
     let editor = prepared.record(watch.alloc)?;
     watch.stop(Figure::Recorded)?;
@@ -48,11 +49,11 @@ fn make_least(watch: &mut Watch, made: &SyntaxEdit, changes: Changes) -> Result<
 }
 
 /// Records, plans and carries out, and makes the least.
-pub(crate) fn carry_out_in_steps(watch: &mut Watch, edit: Edit) -> Result<()> {
-    let editor = recorded(watch, edit)?;
+pub(crate) fn carry_out_in_steps(watch: &mut Watch, tree: Tree, changes: Changes) -> Result<()> {
+    let editor = recorded(watch, tree, changes)?;
     let plan = planned(watch, editor)?;
     let made = run(watch, &plan)?;
-    make_least(watch, &made, edit.changes)
+    make_least(watch, &made, changes)
 }
 
 fn execute(watch: &mut Watch, plan: &EditPlan) -> Result<()> {
@@ -64,8 +65,8 @@ fn execute(watch: &mut Watch, plan: &EditPlan) -> Result<()> {
 }
 
 /// Plans, and carries one change out after another.
-pub(crate) fn carry_out_in_order(watch: &mut Watch, edit: Edit) -> Result<()> {
-    let editor = edit.prepare(watch)?.record(watch.alloc)?;
+pub(crate) fn carry_out_in_order(watch: &mut Watch, tree: Tree, changes: Changes) -> Result<()> {
+    let editor = changes.prepare(watch, tree)?.record(watch.alloc)?;
     watch.start()?;
     let plan = editor.plan(watch.alloc)?;
     execute(watch, &plan)

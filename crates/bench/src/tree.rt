@@ -1,6 +1,6 @@
 //! The trees: `literals N`, `leaves N`, `blocks CHAINS DEPTH`, `tokens N`.
+use crate::Words;
 use crate::watch::Watch;
-use crate::words::Words;
 use anyhow::{Result, anyhow};
 use cst_core::{GreenElement, GreenNode, GreenToken, SyntaxKind, SyntaxNode};
 use std::alloc::Global;
@@ -14,8 +14,8 @@ pub(crate) enum Tree {
     Literals(usize),
     /// n literals at the leaves of nodes with eight children each.
     Leaves(usize),
-    /// Chains of blocks, side by side, and a literal in the innermost block of each.
-    Blocks { chains: usize, depth: usize },
+    /// n chains of m blocks, side by side, and a literal in the innermost block of each.
+    Blocks(usize, usize),
     /// n tokens below one node.
     Tokens(usize),
 }
@@ -53,19 +53,20 @@ pub(crate) fn list(alloc: Global, number: usize) -> Result<GreenNode> {
     Ok(GreenNode::new(alloc, SyntaxKind::STMT_LIST, literals)?)
 }
 
-fn parent(alloc: Global, elements: &[GreenElement]) -> Result<GreenElement> {
-    let mut children = Vec::with_capacity(alloc, elements.len())?;
+fn shared(alloc: Global, elements: &[GreenElement]) -> Result<Vec<GreenElement>> {
+    let mut shared = Vec::with_capacity(alloc, elements.len())?;
     for element in elements {
-        children.push(element.share(alloc)?)?;
+        shared.push(element.share(alloc)?)?;
     }
-    let parent = GreenNode::new(alloc, SyntaxKind::STMT_LIST, children)?;
-    Ok(GreenElement::Node(parent))
+    Ok(shared)
 }
 
 fn parents(alloc: Global, elements: &[GreenElement]) -> Result<Vec<GreenElement>> {
     let mut parents = Vec::new(alloc);
-    for eight in elements.chunks(EIGHT) {
-        parents.push(parent(alloc, eight)?)?;
+    for children in elements.chunks(EIGHT) {
+        let children = shared(alloc, children)?;
+        let parent = GreenNode::new(alloc, SyntaxKind::STMT_LIST, children)?;
+        parents.push(GreenElement::Node(parent))?;
     }
     Ok(parents)
 }
@@ -120,14 +121,11 @@ pub(crate) fn new_root(watch: &mut Watch, green: GreenNode) -> Result<SyntaxNode
 
 impl Tree {
     pub(crate) fn read(words: &mut Words) -> Result<Tree> {
-        match words.word() {
-            "literals" => Ok(Tree::Literals(words.number()?)),
-            "leaves" => Ok(Tree::Leaves(words.number()?)),
-            "blocks" => Ok(Tree::Blocks {
-                chains: words.number()?,
-                depth: words.number()?,
-            }),
-            "tokens" => Ok(Tree::Tokens(words.number()?)),
+        match (words.word(), words.number()?) {
+            ("literals", number) => Ok(Tree::Literals(number)),
+            ("leaves", number) => Ok(Tree::Leaves(number)),
+            ("tokens", number) => Ok(Tree::Tokens(number)),
+            ("blocks", chains) => Ok(Tree::Blocks(chains, words.number()?)),
             _ => Err(anyhow!("a tree is wanted")),
         }
     }
@@ -136,7 +134,7 @@ impl Tree {
         match self {
             Tree::Literals(number) => list(alloc, number),
             Tree::Leaves(number) => leaves(alloc, number),
-            Tree::Blocks { chains, depth } => blocks(alloc, chains, depth),
+            Tree::Blocks(chains, depth) => blocks(alloc, chains, depth),
             Tree::Tokens(number) => tokens(alloc, number),
         }
     }

@@ -59,29 +59,24 @@ impl Walk {
         copy_paths(watch, &paths)
     }
 
-    fn next(self, alloc: Global, token: &SyntaxToken) -> Result<Option<SyntaxToken>> {
-        match self {
-            Walk::PrevToken => Ok(token.prev_token(alloc)?),
-            _ => Ok(token.next_token(alloc)?),
-        }
-    }
-
-    fn tokens(self, alloc: Global, first: SyntaxToken) -> Result<Vec<SyntaxToken>> {
+    // These tokens, from the first one on.
+    fn tokens(self, alloc: Global, first: Option<SyntaxToken>) -> Result<Vec<SyntaxToken>> {
         let mut tokens = Vec::new(alloc);
-        let mut token = first;
+        let mut next = first;
         for _ in 0..u64::MAX {
-            let next = self.next(alloc, &token)?;
-            tokens.push(token)?;
-            token = match next {
-                Some(next) => next,
-                None => break,
+            let Some(token) = next else {
+                break;
             };
+            next = match self {
+                Walk::PrevToken => token.prev_token(alloc)?,
+                _ => token.next_token(alloc)?,
+            };
+            tokens.push(token)?;
         }
         Ok(tokens)
     }
 
     fn go_over_tokens(self, watch: &mut Watch, first: Option<SyntaxToken>) -> Result<()> {
-        let first = first.context("no token")?;
         watch.start()?;
         let tokens = self.tokens(watch.alloc, first)?;
         watch.stop(Figure::Walked)?;

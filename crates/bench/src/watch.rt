@@ -1,6 +1,5 @@
 //! Reads counts or the clock, and keeps what was read until a work is done.
-use crate::words::Words;
-use anyhow::{Result, anyhow};
+use anyhow::Result;
 use cst_core::TreeIds;
 use std::alloc::Global;
 use std::time::Instant;
@@ -30,31 +29,15 @@ pub(crate) enum Figure {
     InDefaultOrder,
 }
 
-#[derive(Clone, Copy)]
-struct Reading {
-    figure: Figure,
-    number: u128,
-}
-
 /// What was read, since when a part has been going on, and what every work needs.
 #[derive(Drop)]
 pub(crate) struct Watch {
     rt: HostRuntime,
     start: Instant,
-    readings: Vec<Reading>,
+    readings: Vec<(Figure, u128)>,
     pub(crate) meter: Meter,
     pub(crate) alloc: Global,
     pub(crate) ids: TreeIds,
-}
-
-impl Meter {
-    pub(crate) fn read(words: &mut Words) -> Result<Meter> {
-        match words.word() {
-            "count" => Ok(Meter::Counts),
-            "time" => Ok(Meter::Clock),
-            _ => Err(anyhow!("count or time is wanted")),
-        }
-    }
 }
 
 impl Watch {
@@ -77,25 +60,24 @@ impl Watch {
 
     /// The part has ended.
     pub(crate) fn stop(&mut self, figure: Figure) -> Result<()> {
-        let number = self.start.elapsed(&self.rt)?.as_nanos();
+        let nanoseconds = self.start.elapsed(&self.rt)?.as_nanos();
         if let Meter::Clock = self.meter {
-            self.readings.push(Reading { figure, number })?;
+            self.readings.push((figure, nanoseconds))?;
         }
         Ok(())
     }
 
     /// Keeps a count.
     pub(crate) fn count(&mut self, figure: Figure, number: u64) -> Result<()> {
-        let number = number as u128;
         if let Meter::Counts = self.meter {
-            self.readings.push(Reading { figure, number })?;
+            self.readings.push((figure, number as u128))?;
         }
         Ok(())
     }
 
     /// Prints what was read, each number on a line that begins with this one.
     pub(crate) fn report(&mut self, line: &str) -> Result<()> {
-        for Reading { figure, number } in &self.readings {
+        for (figure, number) in &self.readings {
             println!(self.rt; "{line}; {figure:?}; {number}")?;
         }
         self.readings.clear();
