@@ -1,7 +1,7 @@
 //! The edits: a tree, and what is changed in it, namely `replace N`, `insert N`, `note N`, `bring N` or `wrap N`.
-use crate::Words;
 use crate::tree::{Tree, in_blocks, list, literal, new_root};
 use crate::watch::Watch;
+use crate::{Words, number};
 use anyhow::{Context, Result};
 use cst_core::{SyntaxKind, SyntaxNode};
 use std::alloc::Global;
@@ -77,10 +77,6 @@ impl Prepared {
         Ok(self.calls.push(Call::Insert(position, new))?)
     }
 
-    fn replace(&mut self, target: SyntaxNode, new: SyntaxNode) -> Result<()> {
-        Ok(self.calls.push(Call::Replace(target, new))?)
-    }
-
     // Registers the children of a list.
     fn annotate(&mut self, alloc: Global, list: &SyntaxNode) -> Result<()> {
         let mut annotations = Annotations::new(1);
@@ -107,12 +103,12 @@ impl Prepared {
         let payload = new_root(watch, green)?;
         let builder = mapped(alloc, &block, inside(alloc, &payload, wraps)?)?;
         self.editor.add_mapping(alloc, builder)?;
-        self.replace(block, payload)
+        Ok(self.calls.push(Call::Replace(block, payload))?)
     }
 
     fn change(&mut self, watch: &mut Watch, target: SyntaxNode, changes: Changes) -> Result<()> {
         match changes {
-            Changes::Replace(_) => self.replace(target, new_literal(watch)?),
+            Changes::Replace(_) => Ok(self.calls.push(Call::Replace(target, new_literal(watch)?))?),
             Changes::Wrap(wraps) => self.wrap(watch, target, wraps),
             _ => self.insert(watch.alloc, target, new_literal(watch)?),
         }
@@ -144,7 +140,7 @@ impl Prepared {
 
 impl Changes {
     pub(crate) fn read(words: &mut Words) -> Option<Changes> {
-        match (words.word(), words.number().ok()?) {
+        match (words.next()?, number(words).ok()?) {
             ("replace", step) => Some(Changes::Replace(step)),
             ("insert", step) => Some(Changes::Insert(step)),
             ("note", notes) => Some(Changes::Note(notes)),

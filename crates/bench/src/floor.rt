@@ -8,7 +8,7 @@ use syntax_editor::{Annotations, SyntaxEdit};
 
 /// A node that is to be made, of children that are there and, at `None`, of nodes that are made before.
 #[derive(Drop)]
-struct Touched<'a> {
+pub(crate) struct Touched<'a> {
     kind: SyntaxKind,
     children: Vec<Option<&'a GreenElement>>,
 }
@@ -16,7 +16,7 @@ struct Touched<'a> {
 /// The nodes that are to be made, each after those below it, the last child's first.
 #[derive(Drop)]
 pub(crate) struct Floor<'a> {
-    touched: Vec<Touched<'a>>,
+    pub(crate) touched: Vec<Touched<'a>>,
 }
 
 /// A node of the new tree, how many nodes it is in, and the changed elements in it.
@@ -88,12 +88,8 @@ impl<'a> Floor<'a> {
     /// What there is to make for an edit.
     pub(crate) fn of(alloc: Global, edit: &'a SyntaxEdit, changes: Changes) -> Result<Floor<'a>> {
         let mut waiting = Vec::new(alloc);
-        let root = Place {
-            node: edit.new_root().as_green(),
-            depth: 0,
-            edits: edit.changed_elements(),
-        };
-        waiting.push(root)?;
+        let (node, depth, edits) = (edit.new_root().as_green(), 0, edit.changed_elements());
+        waiting.push(Place { node, depth, edits })?;
         let mut touched = Vec::new(alloc);
         for _ in 0..u64::MAX {
             let Some(place) = waiting.pop() else {
@@ -103,11 +99,6 @@ impl<'a> Floor<'a> {
         }
         touched.reverse();
         Ok(Floor { touched })
-    }
-
-    /// How many nodes there are to make.
-    pub(crate) fn len(&self) -> usize {
-        self.touched.len()
     }
 
     /// Makes them, and gives the last one, which is the new tree.
@@ -121,7 +112,6 @@ impl<'a> Floor<'a> {
     }
 }
 
-// Copies of elements, in a list of exact room.
 fn copied(alloc: Global, elements: &[SyntaxElement]) -> Result<Vec<SyntaxElement>> {
     let mut copies = Vec::with_capacity(alloc, elements.len())?;
     for element in elements {

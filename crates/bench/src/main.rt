@@ -1,14 +1,12 @@
-//! Measures edits of large trees, and walks over them. A line of the standard input says what is to be done and how often (tests/figures.py
-//! and tests/memory.py write such lines): `count` or `time`, a number, and one of these:
+//! Measures edits of large trees, and walks over them. Each line of the standard input (tests/figures.py and tests/memory.py write such
+//! lines) is `count` or `time`, how often, and one of these. A line comes out for each figure: the same, what was read, and the count or
+//! the nanoseconds, as `time 3 order literals 512 replace 1; InDefaultOrder; 280125`.
 //!
 //! ```text
 //! steps TREE CHANGES      record, plan and carry out, and the least that any engine does
 //! order TREE CHANGES      plan, and carry out one change at a time
 //! WALK TREE               go over a tree, and copy the paths of what is found
 //! ```
-//!
-//! A line comes out for each figure: the line, what was read, and the count or the nanoseconds, as
-//! `time 3 order literals 512 replace 1; InDefaultOrder; 280125`.
 #![tactic(auto)]
 
 mod edit;
@@ -25,34 +23,24 @@ use crate::walk::Walk;
 use crate::watch::{Meter, Watch};
 use anyhow::{Context, Result};
 use std::io::read_to_string;
+use std::str::Split;
 
-/// What is left of a line. One space stands between its words.
-#[derive(Drop)]
-struct Words<'a> {
-    rest: &'a str,
-}
+/// The words of a line that are left.
+type Words<'a> = Split<'a, char>;
 
-impl<'a> Words<'a> {
-    // The next word, which is empty at the end of the line.
-    fn word(&mut self) -> &'a str {
-        let (word, rest) = self.rest.split_once(' ').unwrap_or((self.rest, ""));
-        self.rest = rest;
-        word
-    }
-
-    fn number(&mut self) -> Result<usize> {
-        self.word().parse::<usize>().context("a number is wanted")
-    }
+fn number(words: &mut Words) -> Result<usize> {
+    let word = words.next().context("a number is wanted")?;
+    word.parse::<usize>().context("a number is wanted")
 }
 
 fn carry_out(watch: &mut Watch, line: &str) -> Result<()> {
-    let mut words = Words { rest: line };
-    watch.meter = match words.word() {
-        "time" => Meter::Clock,
+    let mut words = line.split(' ');
+    watch.meter = match words.next() {
+        Some("time") => Meter::Clock,
         _ => Meter::Counts,
     };
-    let times = words.number()?;
-    let work = words.word();
+    let times = number(&mut words)?;
+    let work = words.next().context("a work is wanted")?;
     let tree = Tree::read(&mut words)?;
     let changes = Changes::read(&mut words);
     for _ in 0..times {

@@ -32,16 +32,13 @@ fn run(watch: &mut Watch, plan: &EditPlan) -> Result<SyntaxEdit> {
     Ok(made)
 }
 
-fn make(watch: &mut Watch, floor: &Floor<'_>) -> Result<()> {
-    watch.count(Figure::NodesAtLeast, floor.len() as u64)?;
-    watch.start()?;
-    let _tree = floor.make(watch.alloc)?;
-    watch.stop(Figure::Least)
-}
-
 fn make_least(watch: &mut Watch, made: &SyntaxEdit, changes: Changes) -> Result<()> {
     let floor = Floor::of(watch.alloc, made, changes)?;
-    make(watch, &floor)?;
+    watch.count(Figure::NodesAtLeast, floor.touched.len() as u64)?;
+    watch.start()?;
+    let tree = floor.make(watch.alloc)?;
+    watch.stop(Figure::Least)?;
+    drop(tree);
     watch.start()?;
     let _tree = floor.make(watch.alloc)?;
     let _answer = copy_answer(watch.alloc, made, changes.annotations())?;

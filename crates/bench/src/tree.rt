@@ -1,6 +1,6 @@
 //! The trees: `literals N`, `leaves N`, `blocks CHAINS DEPTH`, `tokens N`.
-use crate::Words;
 use crate::watch::Watch;
+use crate::{Words, number};
 use anyhow::{Result, anyhow};
 use cst_core::{GreenElement, GreenNode, GreenToken, SyntaxKind, SyntaxNode};
 use std::alloc::Global;
@@ -20,21 +20,22 @@ pub(crate) enum Tree {
     Tokens(usize),
 }
 
-fn token(alloc: Global) -> Result<GreenElement> {
-    let token = GreenToken::new(alloc, SyntaxKind::INT_NUMBER, "1")?;
+fn token(alloc: Global, kind: SyntaxKind, text: &str) -> Result<GreenElement> {
+    let token = GreenToken::new(alloc, kind, text)?;
     Ok(GreenElement::Token(token))
 }
 
 /// A node of one token.
 pub(crate) fn literal(alloc: Global) -> Result<GreenNode> {
-    let children = vec![in alloc; token(alloc)?]?;
+    let token = token(alloc, SyntaxKind::INT_NUMBER, "1")?;
+    let children = vec![in alloc; token]?;
     Ok(GreenNode::new(alloc, SyntaxKind::LITERAL, children)?)
 }
 
 fn tokens(alloc: Global, number: usize) -> Result<GreenNode> {
     let mut tokens = Vec::new(alloc);
     for _ in 0..number {
-        tokens.push(token(alloc)?)?;
+        tokens.push(token(alloc, SyntaxKind::INT_NUMBER, "1")?)?;
     }
     Ok(GreenNode::new(alloc, SyntaxKind::ARG_LIST, tokens)?)
 }
@@ -82,24 +83,19 @@ fn leaves(alloc: Global, number: usize) -> Result<GreenNode> {
     Ok(GreenNode::new(alloc, SyntaxKind::SOURCE_FILE, topmost)?)
 }
 
-// A list of what is between braces.
-fn in_braces(alloc: Global, inner: GreenNode) -> Result<GreenNode> {
-    let open = GreenToken::new(alloc, SyntaxKind::L_CURLY, "{")?;
-    let close = GreenToken::new(alloc, SyntaxKind::R_CURLY, "}")?;
-    let children = vec![in alloc;
-        GreenElement::Token(open),
-        GreenElement::Node(inner),
-        GreenElement::Token(close),
-    ]?;
-    Ok(GreenNode::new(alloc, SyntaxKind::STMT_LIST, children)?)
+fn in_braces(alloc: Global, inner: GreenNode) -> Result<GreenElement> {
+    let open = token(alloc, SyntaxKind::L_CURLY, "{")?;
+    let close = token(alloc, SyntaxKind::R_CURLY, "}")?;
+    let children = vec![in alloc; open, GreenElement::Node(inner), close]?;
+    let list = GreenNode::new(alloc, SyntaxKind::STMT_LIST, children)?;
+    Ok(GreenElement::Node(list))
 }
 
 /// Something in so many blocks.
 pub(crate) fn in_blocks(alloc: Global, inner: GreenNode, times: usize) -> Result<GreenNode> {
     let mut node = inner;
     for _ in 0..times {
-        let list = in_braces(alloc, node)?;
-        let children = vec![in alloc; GreenElement::Node(list)]?;
+        let children = vec![in alloc; in_braces(alloc, node)?]?;
         node = GreenNode::new(alloc, SyntaxKind::BLOCK_EXPR, children)?;
     }
     Ok(node)
@@ -121,26 +117,22 @@ pub(crate) fn new_root(watch: &mut Watch, green: GreenNode) -> Result<SyntaxNode
 
 impl Tree {
     pub(crate) fn read(words: &mut Words) -> Result<Tree> {
-        match (words.word(), words.number()?) {
-            ("literals", number) => Ok(Tree::Literals(number)),
-            ("leaves", number) => Ok(Tree::Leaves(number)),
-            ("tokens", number) => Ok(Tree::Tokens(number)),
-            ("blocks", chains) => Ok(Tree::Blocks(chains, words.number()?)),
+        match (words.next(), number(words)?) {
+            (Some("literals"), number) => Ok(Tree::Literals(number)),
+            (Some("leaves"), number) => Ok(Tree::Leaves(number)),
+            (Some("tokens"), number) => Ok(Tree::Tokens(number)),
+            (Some("blocks"), chains) => Ok(Tree::Blocks(chains, number(words)?)),
             _ => Err(anyhow!("a tree is wanted")),
         }
     }
 
-    fn green(self, alloc: Global) -> Result<GreenNode> {
-        match self {
-            Tree::Literals(number) => list(alloc, number),
-            Tree::Leaves(number) => leaves(alloc, number),
-            Tree::Blocks(chains, depth) => blocks(alloc, chains, depth),
-            Tree::Tokens(number) => tokens(alloc, number),
-        }
-    }
-
     pub(crate) fn root(self, watch: &mut Watch) -> Result<SyntaxNode> {
-        let green = self.green(watch.alloc)?;
+        let green = match self {
+            Tree::Literals(number) => list(watch.alloc, number)?,
+            Tree::Leaves(number) => leaves(watch.alloc, number)?,
+            Tree::Blocks(chains, depth) => blocks(watch.alloc, chains, depth)?,
+            Tree::Tokens(number) => tokens(watch.alloc, number)?,
+        };
         new_root(watch, green)
     }
 }

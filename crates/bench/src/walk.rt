@@ -1,6 +1,6 @@
 //! Walks over trees, beside copies of the paths of what they give.
 use crate::tree::Tree;
-use crate::watch::{Figure, Watch, copy_paths};
+use crate::watch::{Figure, Watch};
 use anyhow::{Context, Result, anyhow};
 use cst_core::{SyntaxNode, SyntaxToken};
 use std::alloc::Global;
@@ -8,15 +8,24 @@ use std::alloc::Global;
 #[derive(Clone, Copy)]
 pub(crate) enum Walk {
     Children,
-    /// `elements`: the children that are tokens too.
+    /// Children that are nodes or tokens.
     Elements,
     Descendants,
-    /// `ancestors`: the last node, and those around it.
+    /// Those of the last node, itself among them.
     Ancestors,
-    /// `next_token`: the tokens one after another.
     NextToken,
-    /// `prev_token`: the same backwards.
     PrevToken,
+}
+
+// Copies paths, each into a list of its own.
+fn copy_paths(watch: &mut Watch, paths: &[&[usize]]) -> Result<()> {
+    watch.count(Figure::Elements, paths.len() as u64)?;
+    watch.start()?;
+    let mut copies = Vec::with_capacity(watch.alloc, paths.len())?;
+    for path in paths {
+        copies.push(Vec::from_slice(watch.alloc, path)?)?;
+    }
+    watch.stop(Figure::PathsCopied)
 }
 
 fn go_over_elements(watch: &mut Watch, root: &SyntaxNode) -> Result<()> {
@@ -51,7 +60,6 @@ impl Walk {
         watch.start()?;
         let nodes = self.nodes(watch.alloc, from)?;
         watch.stop(Figure::Walked)?;
-        watch.count(Figure::Elements, nodes.len() as u64)?;
         let mut paths = Vec::with_capacity(watch.alloc, nodes.len())?;
         for node in &nodes {
             paths.push(node.slots())?;
@@ -60,9 +68,8 @@ impl Walk {
     }
 
     // These tokens, from the first one on.
-    fn tokens(self, alloc: Global, first: Option<SyntaxToken>) -> Result<Vec<SyntaxToken>> {
+    fn tokens(self, alloc: Global, mut next: Option<SyntaxToken>) -> Result<Vec<SyntaxToken>> {
         let mut tokens = Vec::new(alloc);
-        let mut next = first;
         for _ in 0..u64::MAX {
             let Some(token) = next else {
                 break;
@@ -80,7 +87,6 @@ impl Walk {
         watch.start()?;
         let tokens = self.tokens(watch.alloc, first)?;
         watch.stop(Figure::Walked)?;
-        watch.count(Figure::Elements, tokens.len() as u64)?;
         let mut paths = Vec::with_capacity(watch.alloc, tokens.len())?;
         for token in &tokens {
             paths.push(token.slots())?;

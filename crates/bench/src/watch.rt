@@ -52,13 +52,12 @@ impl Watch {
         })
     }
 
-    /// A part begins.
     pub(crate) fn start(&mut self) -> Result<()> {
         self.start = Instant::now(&self.rt)?;
         Ok(())
     }
 
-    /// The part has ended.
+    /// A part has ended, which began at the last `start`.
     pub(crate) fn stop(&mut self, figure: Figure) -> Result<()> {
         let nanoseconds = self.start.elapsed(&self.rt)?.as_nanos();
         if let Meter::Clock = self.meter {
@@ -83,14 +82,4 @@ impl Watch {
         self.readings.clear();
         Ok(())
     }
-}
-
-/// Copies paths, each into a list of its own.
-pub(crate) fn copy_paths(watch: &mut Watch, paths: &[&[usize]]) -> Result<()> {
-    watch.start()?;
-    let mut copies = Vec::with_capacity(watch.alloc, paths.len())?;
-    for path in paths {
-        copies.push(Vec::from_slice(watch.alloc, path)?)?;
-    }
-    watch.stop(Figure::PathsCopied)
 }
