@@ -1,10 +1,11 @@
 //! The edits: a tree, and what is changed in it, namely `replace N`, `insert N`, `note N`, `bring N` or `wrap N`.
-use crate::tree::{Tree, in_blocks, list, literal, new_root};
+use crate::tree::{Tree, in_blocks, list, literal};
 use crate::watch::Watch;
 use crate::{Words, number};
 use anyhow::{Context, Result};
 use cst_core::{SyntaxKind, SyntaxNode};
 use std::alloc::Global;
+use std::mem::replace;
 use syntax_editor::{Annotations, Position, SyntaxAnnotation, SyntaxEditor, SyntaxMappingBuilder};
 
 #[derive(Clone, Copy)]
@@ -32,21 +33,20 @@ enum Call {
 /// An editor, and the calls to be made on it.
 #[derive(Drop)]
 pub(crate) struct Prepared {
-    editor: SyntaxEditor,
+    pub(crate) editor: SyntaxEditor,
     calls: Vec<Call>,
 }
 
 fn new_literal(watch: &mut Watch) -> Result<SyntaxNode> {
     let green = literal(watch.alloc)?;
-    new_root(watch, green)
+    Ok(SyntaxNode::new_root(watch.alloc, &mut watch.ids, green)?)
 }
 
 // What stands in n blocks from this one on.
 fn inside(alloc: Global, block: &SyntaxNode, times: usize) -> Result<SyntaxNode> {
     let mut path = Vec::new(alloc);
     for _ in 0..times {
-        path.push(0)?;
-        path.push(1)?;
+        path.extend_from_slice(&[0, 1])?;
     }
     let inner = block.element_at(alloc, &path)?.context("no block")?;
     inner.into_node().context("no node")
@@ -95,29 +95,40 @@ impl Prepared {
         Ok(())
     }
 
-    // Of the block's copy in n blocks the editor is told.
+    // A block in n others, of whose copy the editor is told.
+    fn wrapped(&mut self, watch: &mut Watch, block: &SyntaxNode, n: usize) -> Result<SyntaxNode> {
+        let green = in_blocks(watch.alloc, block.green(watch.alloc)?, n)?;
+        let payload = SyntaxNode::new_root(watch.alloc, &mut watch.ids, green)?;
+        let builder = mapped(watch.alloc, block, inside(watch.alloc, &payload, n)?)?;
+        self.editor.add_mapping(watch.alloc, builder)?;
+        Ok(payload)
+    }
+
     fn wrap(&mut self, watch: &mut Watch, block: SyntaxNode, wraps: usize) -> Result<()> {
-        let alloc = watch.alloc;
-        self.insert(alloc, inside(alloc, &block, 1)?, new_literal(watch)?)?;
-        let green = in_blocks(alloc, block.green(alloc)?, wraps)?;
-        let payload = new_root(watch, green)?;
-        let builder = mapped(alloc, &block, inside(alloc, &payload, wraps)?)?;
-        self.editor.add_mapping(alloc, builder)?;
+        self.put(watch, inside(watch.alloc, &block, 1)?)?;
+        let payload = self.wrapped(watch, &block, wraps)?;
         Ok(self.calls.push(Call::Replace(block, payload))?)
+    }
+
+    // A new literal after a target.
+    fn put(&mut self, watch: &mut Watch, target: SyntaxNode) -> Result<()> {
+        let new = new_literal(watch)?;
+        self.insert(watch.alloc, target, new)
     }
 
     fn change(&mut self, watch: &mut Watch, target: SyntaxNode, changes: Changes) -> Result<()> {
         match changes {
             Changes::Replace(_) => Ok(self.calls.push(Call::Replace(target, new_literal(watch)?))?),
             Changes::Wrap(wraps) => self.wrap(watch, target, wraps),
-            _ => self.insert(watch.alloc, target, new_literal(watch)?),
+            _ => self.put(watch, target),
         }
     }
 
     fn push_all(&mut self, watch: &mut Watch, root: &SyntaxNode, changes: Changes) -> Result<()> {
         if let Changes::Bring(notes) = changes {
-            let payload = list(watch.alloc, notes)?;
-            return self.bring(watch.alloc, root, &new_root(watch, payload)?);
+            let list = list(watch.alloc, notes)?;
+            let payload = SyntaxNode::new_root(watch.alloc, &mut watch.ids, list)?;
+            return self.bring(watch.alloc, root, &payload);
         }
         if let Changes::Note(_) = changes {
             self.annotate(watch.alloc, root)?;
@@ -129,12 +140,11 @@ impl Prepared {
     }
 
     /// Makes the calls.
-    pub(crate) fn record(self, alloc: Global) -> Result<SyntaxEditor> {
-        let Prepared { mut editor, calls } = self;
-        for call in calls {
-            call.make(alloc, &mut editor)?;
+    pub(crate) fn record(&mut self, alloc: Global) -> Result<()> {
+        for call in replace(&mut self.calls, Vec::new(alloc)) {
+            call.make(alloc, &mut self.editor)?;
         }
-        Ok(editor)
+        Ok(())
     }
 }
 
@@ -147,14 +157,6 @@ impl Changes {
             ("bring", notes) => Some(Changes::Bring(notes)),
             ("wrap", wraps) => Some(Changes::Wrap(wraps)),
             _ => None,
-        }
-    }
-
-    /// How many annotations there are.
-    pub(crate) fn annotations(self) -> usize {
-        match self {
-            Changes::Note(notes) | Changes::Bring(notes) => notes,
-            _ => 0,
         }
     }
 

@@ -13,12 +13,6 @@ pub(crate) struct Touched<'a> {
     children: Vec<Option<&'a GreenElement>>,
 }
 
-/// The nodes that are to be made, each after those below it, the last child's first.
-#[derive(Drop)]
-pub(crate) struct Floor<'a> {
-    pub(crate) touched: Vec<Touched<'a>>,
-}
-
 /// A node of the new tree, how many nodes it is in, and the changed elements in it.
 #[derive(Clone, Copy)]
 struct Place<'a> {
@@ -39,8 +33,14 @@ impl Changes {
 
 // How many of these elements are in the child at a slot. They are in document order.
 fn count_at(elements: &[SyntaxElement], depth: usize, slot: usize) -> usize {
-    let is_there = |it: &&SyntaxElement| it.slots().get(depth) == Some(&slot);
-    elements.iter().take_while(is_there).count()
+    let mut count = 0usize;
+    for element in elements {
+        if element.slots().get(depth).copied() != Some(slot) {
+            break;
+        }
+        count = count.saturating_add(1);
+    }
+    count
 }
 
 impl<'a> Place<'a> {
@@ -84,32 +84,33 @@ impl Touched<'_> {
     }
 }
 
-impl<'a> Floor<'a> {
-    /// What there is to make for an edit.
-    pub(crate) fn of(alloc: Global, edit: &'a SyntaxEdit, changes: Changes) -> Result<Floor<'a>> {
-        let mut waiting = Vec::new(alloc);
-        let (node, depth, edits) = (edit.new_root().as_green(), 0, edit.changed_elements());
-        waiting.push(Place { node, depth, edits })?;
-        let mut touched = Vec::new(alloc);
-        for _ in 0..u64::MAX {
-            let Some(place) = waiting.pop() else {
-                break;
-            };
-            touched.push(place.touched(alloc, changes, &mut waiting)?)?;
-        }
-        touched.reverse();
-        Ok(Floor { touched })
+/// What there is to make for an edit, each node after those below it, the last child's first.
+pub(crate) fn floor(
+    alloc: Global,
+    edit: &SyntaxEdit,
+    changes: Changes,
+) -> Result<Vec<Touched<'_>>> {
+    let (node, depth, edits) = (edit.new_root().as_green(), 0, edit.changed_elements());
+    let mut waiting = vec![in alloc; Place { node, depth, edits }]?;
+    let mut floor = Vec::new(alloc);
+    for _ in 0..u64::MAX {
+        let Some(place) = waiting.pop() else {
+            break;
+        };
+        floor.push(place.touched(alloc, changes, &mut waiting)?)?;
     }
+    floor.reverse();
+    Ok(floor)
+}
 
-    /// Makes them, and gives the last one, which is the new tree.
-    pub(crate) fn make(&self, alloc: Global) -> Result<Option<GreenNode>> {
-        let mut made = Vec::with_capacity(alloc, self.touched.len())?;
-        for touched in &self.touched {
-            let node = touched.make(alloc, &mut made)?;
-            made.push(node)?;
-        }
-        Ok(made.pop())
+/// Makes it, and gives the last node, which is the new tree.
+pub(crate) fn make(alloc: Global, floor: &[Touched]) -> Result<Option<GreenNode>> {
+    let mut made = Vec::with_capacity(alloc, floor.len())?;
+    for touched in floor {
+        let node = touched.make(alloc, &mut made)?;
+        made.push(node)?;
     }
+    Ok(made.pop())
 }
 
 fn copied(alloc: Global, elements: &[SyntaxElement]) -> Result<Vec<SyntaxElement>> {
@@ -120,16 +121,14 @@ fn copied(alloc: Global, elements: &[SyntaxElement]) -> Result<Vec<SyntaxElement
     Ok(copies)
 }
 
+type Lists = Vec<Vec<SyntaxElement>>;
+
 /// Copies of what an edit hands back beside its tree: the changed elements, and those of its first n annotations.
-pub(crate) fn copy_answer(
-    alloc: Global,
-    edit: &SyntaxEdit,
-    annotations: usize,
-) -> Result<Vec<Vec<SyntaxElement>>> {
+pub(crate) fn copy_answer(alloc: Global, edit: &SyntaxEdit, notes: usize) -> Result<Lists> {
     let mut source = Annotations::new(1);
-    let mut lists = Vec::with_capacity(alloc, annotations.saturating_add(1))?;
+    let mut lists = Vec::with_capacity(alloc, notes.saturating_add(1))?;
     lists.push(copied(alloc, edit.changed_elements())?)?;
-    for _ in 0..annotations {
+    for _ in 0..notes {
         let annotation = source.next().context("no annotation")?;
         lists.push(copied(alloc, edit.find_annotation(annotation))?)?;
     }

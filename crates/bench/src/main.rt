@@ -5,7 +5,7 @@
 //! ```text
 //! steps TREE CHANGES      record, plan and carry out, and the least that any engine does
 //! order TREE CHANGES      plan, and carry out one change at a time
-//! WALK TREE               go over a tree, and copy the paths of what is found
+//! WALK TREE               `children`, `elements`, `descendants`, `ancestors`, `next_token`, `prev_token`; copies of the paths that it gives
 //! ```
 #![tactic(auto)]
 
@@ -19,7 +19,7 @@ mod watch;
 use crate::edit::Changes;
 use crate::steps::{carry_out_in_order, carry_out_in_steps};
 use crate::tree::Tree;
-use crate::walk::Walk;
+use crate::walk::build_and_go_over;
 use crate::watch::{Meter, Watch};
 use anyhow::{Context, Result};
 use std::io::read_to_string;
@@ -47,7 +47,7 @@ fn carry_out(watch: &mut Watch, line: &str) -> Result<()> {
         match (work, changes) {
             ("steps", Some(changes)) => carry_out_in_steps(watch, tree, changes)?,
             ("order", Some(changes)) => carry_out_in_order(watch, tree, changes)?,
-            (word, _) => Walk::named(word)?.go(watch, tree)?,
+            (walk, _) => build_and_go_over(watch, tree, walk)?,
         }
         watch.report(line)?;
     }
@@ -56,7 +56,7 @@ fn carry_out(watch: &mut Watch, line: &str) -> Result<()> {
 
 fn main(rt: HostRuntime) -> Result<()> {
     let input = read_to_string(rt.alloc(), rt.stdin())?;
-    let mut watch = Watch::new(rt)?;
+    let mut watch = Watch::new(rt);
     for line in input.lines() {
         carry_out(&mut watch, line)?;
     }

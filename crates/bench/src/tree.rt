@@ -5,7 +5,6 @@ use anyhow::{Result, anyhow};
 use cst_core::{GreenElement, GreenNode, GreenToken, SyntaxKind, SyntaxNode};
 use std::alloc::Global;
 
-/// Children of each node above the leaves.
 const EIGHT: usize = 8;
 
 #[derive(Clone, Copy)]
@@ -25,7 +24,6 @@ fn token(alloc: Global, kind: SyntaxKind, text: &str) -> Result<GreenElement> {
     Ok(GreenElement::Token(token))
 }
 
-/// A node of one token.
 pub(crate) fn literal(alloc: Global) -> Result<GreenNode> {
     let token = token(alloc, SyntaxKind::INT_NUMBER, "1")?;
     let children = vec![in alloc; token]?;
@@ -110,11 +108,6 @@ fn blocks(alloc: Global, chains: usize, depth: usize) -> Result<GreenNode> {
     Ok(GreenNode::new(alloc, SyntaxKind::SOURCE_FILE, children)?)
 }
 
-/// The root of a tree of its own.
-pub(crate) fn new_root(watch: &mut Watch, green: GreenNode) -> Result<SyntaxNode> {
-    Ok(SyntaxNode::new_root(watch.alloc, &mut watch.ids, green)?)
-}
-
 impl Tree {
     pub(crate) fn read(words: &mut Words) -> Result<Tree> {
         match (words.next(), number(words)?) {
@@ -133,6 +126,6 @@ impl Tree {
             Tree::Blocks(chains, depth) => blocks(watch.alloc, chains, depth)?,
             Tree::Tokens(number) => tokens(watch.alloc, number)?,
         };
-        new_root(watch, green)
+        Ok(SyntaxNode::new_root(watch.alloc, &mut watch.ids, green)?)
     }
 }

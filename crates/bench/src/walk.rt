@@ -2,117 +2,96 @@
 use crate::tree::Tree;
 use crate::watch::{Figure, Watch};
 use anyhow::{Context, Result, anyhow};
-use cst_core::{SyntaxNode, SyntaxToken};
+use cst_core::{Direction, SyntaxElement, SyntaxNode, SyntaxToken};
 use std::alloc::Global;
 
-#[derive(Clone, Copy)]
-pub(crate) enum Walk {
-    Children,
-    /// Children that are nodes or tokens.
-    Elements,
-    Descendants,
-    /// Those of the last node, itself among them.
-    Ancestors,
-    NextToken,
-    PrevToken,
-}
-
-// Copies paths, each into a list of its own.
 fn copy_paths(watch: &mut Watch, paths: &[&[usize]]) -> Result<()> {
-    watch.count(Figure::Elements, paths.len() as u64)?;
-    watch.start()?;
+    watch.count(Figure::Elements, paths.len() as u64);
+    watch.start();
     let mut copies = Vec::with_capacity(watch.alloc, paths.len())?;
     for path in paths {
         copies.push(Vec::from_slice(watch.alloc, path)?)?;
     }
-    watch.stop(Figure::PathsCopied)
+    watch.stop(Figure::PathsCopied);
+    Ok(())
 }
 
-fn go_over_elements(watch: &mut Watch, root: &SyntaxNode) -> Result<()> {
-    watch.start()?;
-    let elements = root.children_with_tokens(watch.alloc)?;
-    watch.stop(Figure::Walked)?;
-    watch.count(Figure::Elements, elements.len() as u64)
+fn stop_at_nodes(watch: &mut Watch, nodes: &[SyntaxNode]) -> Result<()> {
+    watch.stop(Figure::Walked);
+    let mut paths = Vec::with_capacity(watch.alloc, nodes.len())?;
+    for node in nodes {
+        paths.push(node.slots())?;
+    }
+    copy_paths(watch, &paths)
 }
 
-impl Walk {
-    pub(crate) fn named(word: &str) -> Result<Walk> {
-        match word {
-            "children" => Ok(Walk::Children),
-            "elements" => Ok(Walk::Elements),
-            "descendants" => Ok(Walk::Descendants),
-            "ancestors" => Ok(Walk::Ancestors),
-            "next_token" => Ok(Walk::NextToken),
-            "prev_token" => Ok(Walk::PrevToken),
-            _ => Err(anyhow!("what is measured is wanted")),
-        }
+fn stop_at_tokens(watch: &mut Watch, tokens: &[SyntaxToken]) -> Result<()> {
+    watch.stop(Figure::Walked);
+    let mut paths = Vec::with_capacity(watch.alloc, tokens.len())?;
+    for token in tokens {
+        paths.push(token.slots())?;
     }
+    copy_paths(watch, &paths)
+}
 
-    fn nodes(self, alloc: Global, from: &SyntaxNode) -> Result<Vec<SyntaxNode>> {
-        match self {
-            Walk::Children => Ok(from.children(alloc)?),
-            Walk::Ancestors => Ok(from.ancestors(alloc)?),
-            _ => Ok(from.descendants(alloc)?),
-        }
-    }
+fn stop_at_elements(watch: &mut Watch, elements: &[SyntaxElement]) -> Result<()> {
+    watch.stop(Figure::Walked);
+    watch.count(Figure::Elements, elements.len() as u64);
+    Ok(())
+}
 
-    fn go_over_nodes(self, watch: &mut Watch, from: &SyntaxNode) -> Result<()> {
-        watch.start()?;
-        let nodes = self.nodes(watch.alloc, from)?;
-        watch.stop(Figure::Walked)?;
-        let mut paths = Vec::with_capacity(watch.alloc, nodes.len())?;
-        for node in &nodes {
-            paths.push(node.slots())?;
-        }
-        copy_paths(watch, &paths)
-    }
+// The node that a walk ended at, and those around it.
+fn go_up(watch: &mut Watch, last: Option<SyntaxNode>) -> Result<()> {
+    let last = last.context("no node")?;
+    watch.start();
+    stop_at_nodes(watch, &last.ancestors(watch.alloc)?)
+}
 
-    // These tokens, from the first one on.
-    fn tokens(self, alloc: Global, mut next: Option<SyntaxToken>) -> Result<Vec<SyntaxToken>> {
-        let mut tokens = Vec::new(alloc);
-        for _ in 0..u64::MAX {
-            let Some(token) = next else {
-                break;
-            };
-            next = match self {
-                Walk::PrevToken => token.prev_token(alloc)?,
-                _ => token.next_token(alloc)?,
-            };
-            tokens.push(token)?;
-        }
-        Ok(tokens)
+fn next(alloc: Global, token: &SyntaxToken, to: Direction) -> Result<Option<SyntaxToken>> {
+    match to {
+        Direction::Next => Ok(token.next_token(alloc)?),
+        Direction::Prev => Ok(token.prev_token(alloc)?),
     }
+}
 
-    fn go_over_tokens(self, watch: &mut Watch, first: Option<SyntaxToken>) -> Result<()> {
-        watch.start()?;
-        let tokens = self.tokens(watch.alloc, first)?;
-        watch.stop(Figure::Walked)?;
-        let mut paths = Vec::with_capacity(watch.alloc, tokens.len())?;
-        for token in &tokens {
-            paths.push(token.slots())?;
-        }
-        copy_paths(watch, &paths)
+fn tokens(alloc: Global, first: SyntaxToken, to: Direction) -> Result<Vec<SyntaxToken>> {
+    let mut tokens = Vec::new(alloc);
+    let mut token = first;
+    for _ in 0..u64::MAX {
+        let following = next(alloc, &token, to)?;
+        tokens.push(token)?;
+        token = match following {
+            Some(following) => following,
+            None => break,
+        };
     }
+    Ok(tokens)
+}
 
-    // What it begins at is found before it is timed.
-    fn go_from(self, watch: &mut Watch, root: &SyntaxNode) -> Result<()> {
-        match self {
-            Walk::Elements => go_over_elements(watch, root),
-            Walk::Ancestors => {
-                let last = root.descendants(watch.alloc)?.pop().context("no node")?;
-                self.go_over_nodes(watch, &last)
-            }
-            Walk::NextToken => self.go_over_tokens(watch, root.first_token(watch.alloc)?),
-            Walk::PrevToken => self.go_over_tokens(watch, root.last_token(watch.alloc)?),
-            _ => self.go_over_nodes(watch, root),
-        }
-    }
+fn go_on(watch: &mut Watch, first: Option<SyntaxToken>, to: Direction) -> Result<()> {
+    let first = first.context("no token")?;
+    watch.start();
+    stop_at_tokens(watch, &tokens(watch.alloc, first, to)?)
+}
 
-    /// Builds a tree, and goes over it.
-    pub(crate) fn go(self, watch: &mut Watch, tree: Tree) -> Result<()> {
-        watch.start()?;
-        let root = tree.root(watch)?;
-        watch.stop(Figure::Built)?;
-        self.go_from(watch, &root)
+fn go_over(watch: &mut Watch, root: &SyntaxNode, walk: &str) -> Result<()> {
+    let alloc = watch.alloc;
+    watch.start();
+    match walk {
+        "children" => stop_at_nodes(watch, &root.children(alloc)?),
+        "elements" => stop_at_elements(watch, &root.children_with_tokens(alloc)?),
+        "descendants" => stop_at_nodes(watch, &root.descendants(alloc)?),
+        "ancestors" => go_up(watch, root.descendants(alloc)?.pop()),
+        "next_token" => go_on(watch, root.first_token(alloc)?, Direction::Next),
+        "prev_token" => go_on(watch, root.last_token(alloc)?, Direction::Prev),
+        _ => Err(anyhow!("there is no such work")),
     }
+}
+
+/// Builds a tree, and goes over it.
+pub(crate) fn build_and_go_over(watch: &mut Watch, tree: Tree, walk: &str) -> Result<()> {
+    watch.start();
+    let root = tree.root(watch)?;
+    watch.stop(Figure::Built);
+    go_over(watch, &root, walk)
 }
