@@ -160,7 +160,6 @@ impl Changes {
         }
     }
 
-    // What they aim at.
     fn targets(self, alloc: Global, root: &SyntaxNode) -> Result<Vec<SyntaxNode>> {
         let (kind, step) = match self {
             Changes::Replace(step) | Changes::Insert(step) => (SyntaxKind::LITERAL, step),

@@ -5,8 +5,6 @@ use anyhow::{Result, anyhow};
 use cst_core::{GreenElement, GreenNode, GreenToken, SyntaxKind, SyntaxNode};
 use std::alloc::Global;
 
-const EIGHT: usize = 8;
-
 #[derive(Clone, Copy)]
 pub(crate) enum Tree {
     /// n literals below one node.
@@ -60,9 +58,9 @@ fn shared(alloc: Global, elements: &[GreenElement]) -> Result<Vec<GreenElement>>
     Ok(shared)
 }
 
-fn parents(alloc: Global, elements: &[GreenElement]) -> Result<Vec<GreenElement>> {
+fn by_eight(alloc: Global, elements: &[GreenElement]) -> Result<Vec<GreenElement>> {
     let mut parents = Vec::new(alloc);
-    for children in elements.chunks(EIGHT) {
+    for children in elements.chunks(8) {
         let children = shared(alloc, children)?;
         let parent = GreenNode::new(alloc, SyntaxKind::STMT_LIST, children)?;
         parents.push(GreenElement::Node(parent))?;
@@ -73,10 +71,10 @@ fn parents(alloc: Global, elements: &[GreenElement]) -> Result<Vec<GreenElement>
 fn leaves(alloc: Global, number: usize) -> Result<GreenNode> {
     let mut topmost = literals(alloc, number)?;
     for _ in 0..64 {
-        if topmost.len() < EIGHT {
+        if topmost.len() < 8 {
             break;
         }
-        topmost = parents(alloc, &topmost)?;
+        topmost = by_eight(alloc, &topmost)?;
     }
     Ok(GreenNode::new(alloc, SyntaxKind::SOURCE_FILE, topmost)?)
 }

@@ -40,7 +40,6 @@ fn stop_at_elements(watch: &mut Watch, elements: &[SyntaxElement]) -> Result<()>
     Ok(())
 }
 
-// The node that a walk ended at, and those around it.
 fn go_up(watch: &mut Watch, last: Option<SyntaxNode>) -> Result<()> {
     let last = last.context("no node")?;
     watch.start();
