@@ -72,34 +72,32 @@ class Works:
     """What is measured where trees have at most this many parts. All other numbers are parts of that one."""
 
     def __init__(self, most):
-        self.most, sizes = most, doubled(LEAST, most)
-        self.sizes, depths, blocks, notes = sizes, doubled(1, most // 128), most // 32, most // 8
-        self.orders, self.widths, self.depths = doubled(256, most // 8), sizes, doubled(64, most // 8)
-        self.growths = {}
-        for it in SUBJECTS:
-            self.growths[f"{it}: the changes, of a tree of {most:,}"] = [spread(it, most, size) for size in sizes]
-            self.growths[f"{it}: the tree, with {LEAST} changes"] = [spread(it, size, LEAST) for size in sizes]
-            self.growths[f"{it}: both"] = [spread(it, size, size) for size in sizes]
-        self.growths[f"chains of 16 blocks, 16 to {blocks:,}"] = [nested(size // 32, 16, 1) for size in sizes]
+        self.most, self.sizes = most, doubled(LEAST, most)
+        blocks, notes, depths = most // 32, most // 8, doubled(1, most // 128)
         self.levels = {
             f"blocks round each copy, 1 to {depths[-1]}, of {blocks // 4} chains of 4": [nested(blocks // 4, 4, it) for it in depths],
             f"blocks of a chain, 1 to {depths[-1]}, of {blocks:,} in all": [nested(blocks // it, it, 1) for it in depths],
         }
-        self.growths |= self.levels
-        self.growths["literals with a note each"] = [noted(size) for size in sizes]
-        self.growths[f"notes of a payload that is brought 16 times, 64 to {notes:,}"] = [brought(size // 8, 16) for size in sizes]
-        self.growths[f"the times that a payload of {notes:,} notes is brought, 1 to {most // LEAST}"] = [
-            brought(notes, size // LEAST) for size in sizes
-        ]
-        self.edits = list(dict.fromkeys(edit for edits in self.growths.values() for edit in edits))
-        self.payloads = [brought(notes, times) for times in (16, 64)]
-        self.ordered = [spread(it, size, size) for it in SUBJECTS for size in self.orders]
-        wide, deep = [f"literals {size}" for size in sizes], [f"blocks 1 {size // 2 - 1}" for size in self.depths]
-        self.walks = {
-            **{f"{walk} of a wide node of {most}": [f"{walk} {it}" for it in wide] for walk in ("children", "descendants", "next_token")},
-            **{f"{walk} of a chain of {self.depths[-1]}": [f"{walk} {it}" for it in deep] for walk in ("descendants", "ancestors", "next_token")},
+        self.growths = {name: edits for subject in SUBJECTS for name, edits in self.growths_of(subject)} | {
+            f"chains of 16 blocks, 16 to {blocks:,}": [nested(size // 32, 16, 1) for size in self.sizes],
+            **self.levels,
+            "literals with a note each": [noted(size) for size in self.sizes],
+            f"notes of a payload that is brought 16 times, 64 to {notes:,}": [brought(size // 8, 16) for size in self.sizes],
+            f"the times that a payload of {notes:,} notes is brought, 1 to {most // LEAST}": [brought(notes, size // LEAST) for size in self.sizes],
         }
-        self.shown = self.shown_edits(blocks, notes)
+        self.edits = list(dict.fromkeys(edit for edits in self.growths.values() for edit in edits))
+        self.shown = [it for it in self.shown_edits(blocks, notes) if it in self.edits]
+        self.payloads = [brought(notes, times) for times in (16, 64)]
+        self.ordered = [spread(it, size, size) for it in SUBJECTS for size in doubled(256, notes)]
+        # A chain of n nodes: a root, blocks with a list each, and a literal.
+        wide, deep = [f"literals {size}" for size in self.sizes], [f"blocks 1 {size // 2 - 1}" for size in doubled(64, notes)]
+        self.walks = {f"{walk} of a wide node of {most}": [f"{walk} {it}" for it in wide] for walk in ("children", "descendants", "next_token")}
+        self.walks |= {f"{walk} of a chain of {notes}": [f"{walk} {it}" for it in deep] for walk in ("descendants", "ancestors", "next_token")}
+
+    def growths_of(self, subject):
+        yield f"{subject}: the changes, of a tree of {self.most:,}", [spread(subject, self.most, size) for size in self.sizes]
+        yield f"{subject}: the tree, with {LEAST} changes", [spread(subject, size, LEAST) for size in self.sizes]
+        yield f"{subject}: both", [spread(subject, size, size) for size in self.sizes]
 
     def shown_edits(self, blocks, notes):
         """The edits that have a row of their own."""
@@ -109,7 +107,7 @@ class Works:
         shown += [nested(blocks // 4, 4, wraps) for wraps in (1, 8, 64, 256)]
         shown += [nested(blocks // depth, depth, 1) for depth in (1, 8, 64, 256)]
         shown += [noted(part), brought(notes, 16), brought(notes, 64)]
-        return [it for it in shown if it in self.edits]
+        return shown
 
 
 def measured(program, lines, **environment):
@@ -203,8 +201,8 @@ class Run:
 
     def orders(self):
         for edit in self.works.ordered:
-            read = self.ordered[edit.order]
-            yield (edit.name, f"{read['Changes'][0]:,}"), [finished(self.ordered[edit.steps]), least(read, "InDefaultOrder")], []
+            at_once, in_order = self.ordered[edit.steps], self.ordered[edit.order]
+            yield (edit.name, f"{at_once['Changes'][0]:,}"), [finished(at_once), least(in_order, "InDefaultOrder")], []
 
     def walks(self):
         for name, works in self.works.walks.items():
@@ -259,7 +257,8 @@ def show(runs):
 
 
 def main():
-    runs, most = (int(it) for it in [*sys.argv[1:], "1", "32768"][:2]) if len(sys.argv) != 2 else (int(sys.argv[1]), 32768)
+    numbers = [int(it) for it in sys.argv[1:]]
+    runs, most = numbers + [1, 32768][len(numbers) :]
     program = subprocess.run(["bash", f"{ROOT}/tests/program.sh", "bench"], stdout=subprocess.PIPE, text=True, check=True, cwd=ROOT).stdout.strip()
     works = Works(most)
     show([Run(os.path.join(ROOT, program), works) for _ in range(runs)])

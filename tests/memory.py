@@ -24,12 +24,12 @@ HEADS = ("finish, most", "run, most", "run, kept", "nodes", "finish / nodes", "r
 
 
 def marked(program, room):
-    """What the program prints, a line for each part, and what the library says of each: the clock was read before it, and then after it."""
+    """What the program prints, a line for each part, and what the library says of each. Between two parts it says a line, too."""
     library = os.path.join(room, "memory_marks.so")
     subprocess.run([os.environ.get("CC", "cc"), "-O1", "-shared", "-fPIC", "-o", library, f"{ROOT}/tests/memory_marks.c", "-ldl"], check=True)
     lines = "".join(f"time 1 {it.steps}\n" for it in EDITS)
     run = subprocess.run([program], input=lines, capture_output=True, text=True, env={"LD_PRELOAD": library}, check=True)
-    return run.stdout.splitlines(), run.stderr.splitlines()[1::2]
+    return run.stdout.splitlines(), run.stderr.splitlines()[::2]
 
 
 def bytes_by_part(lines, counts):
