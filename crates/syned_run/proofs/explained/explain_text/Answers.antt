@@ -1,4 +1,4 @@
-use Rattle.std.proofs.Common.{◌≡◌, ◌<◌, ℕ, List, Result, Ok, Err, IfOk, Option, Some, None, String, string_bytes, subst, sym, refl}
+use Rattle.std.proofs.Common.{ℕ, List, Result, IfOk, Option, String, string_bytes, subst, sym, refl}
 use Rattle.std.specs.Global.{Global}
 use Rattle.std.specs.Option.{MatchOption}
 use Rattle.std.specs.declared.alloc.AllocError.{AllocError}
