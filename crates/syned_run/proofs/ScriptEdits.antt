@@ -146,7 +146,7 @@ makes p number places are one can =
       changed_are = all-found root (changed (is_free p.changes) made) front.0;
       annotated_paths = found_paths p made;
       annotated_are = λ a. ap (map Some) (finds a) ∙ all-found root (paths_with a (found_paths p made)) (leads-with root (found_paths p made) a front.1);
-      unregistered = λ a none. finds a ∙ ap (found_at root) (none-with (is_registered p) (found_paths p made) a third.1 none);
+      unregistered = λ _ a none. finds a ∙ ap (found_at root) (none-with (is_registered p) (found_paths p made) a third.1 none);
       annotated_is = λ _. refl;
     }
 
