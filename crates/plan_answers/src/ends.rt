@@ -1,4 +1,5 @@
 //! Runs of `syned` over readers and writers that fail at one place, and over a reader without end.
+ghost use Rattle.std.specs.Prelude.{◌≡◌, IfOk};
 
 use std::alloc::{AllocError, Global};
 use std::io::{self, ErrorKind, Read, Write};
@@ -16,7 +17,9 @@ enum Fault {
 }
 
 impl Fault {
-    fn count(self) -> io::Result<usize> {
+    fn count(self) -> io::Result<usize>
+        ensures { IfOk result (λ n. n ≡ 0) }
+    {
         match self {
             Fault::Failing => Err(io::Error::from(ErrorKind::Other)),
             Fault::Interrupted => Err(io::Error::from(ErrorKind::Interrupted)),
