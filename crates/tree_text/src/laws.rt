@@ -34,6 +34,6 @@ pub fn too_deep_is_at_one_byte(names: &KindNames)
     ensures { (gaps : ℕ → Bool) (w : List ℕ) (i j : ℕ)
         → IsTooDeep names.now gaps w i → IsTooDeep names.now gaps w j → i ≡ j }
 {
-    // It holds of any names.
-    let _ = names;
+    // For the proof: the names are names, and no two kinds have the same.
+    names.are_names();
 }
