@@ -1,5 +1,5 @@
 #!/usr/bin/env bash
-# All tests, what fails soonest first: docs, format, the model of scripts, rows and the first caller, without proofs; all proofs and programs,
+# All tests, what fails soonest first: docs, format, the model of scripts, rows and callers, without proofs; all proofs and programs,
 # and beside them planted bugs; then scripts through the built program and through the model, hostile scripts, each row of the table with
 # each of its allocations made to fail in turn, how many allocations an edit makes, the bindings, and whether these tests notice a program
 # that does nothing.

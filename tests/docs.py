@@ -157,12 +157,12 @@ def shown_code(text):
 
 
 def compare_examples():
-    """A heading of docs/CALLING.md names the file of `callers` whose code it shows; README.md shows code of any."""
-    files = (ROOT / "crates/callers/src").glob("*.rt")
-    sources = {file.name: file.read_text() for file in files if file.stem != "main"}
+    """A heading of docs/CALLING.md names the caller whose code it shows, of the crate or of examples/; README.md shows code of any."""
+    sources = {file.name: file.read_text() for file in (ROOT / "crates/callers/src").glob("*.rt") if file.stem != "main"}
+    sources |= {str(file.relative_to(ROOT)): file.read_text() for file in (ROOT / "examples/callers").glob("*.txt")}
     shown = set()
     for section in re.split(r"^## ", (ROOT / "docs/CALLING.md").read_text(), flags=re.M):
-        named = re.search(r"`(\w+\.rt)`", section.split("\n")[0])
+        named = re.search(r"`(\w+\.rt|examples/callers/\w+\.txt)`", section.split("\n")[0])
         if named:
             shown.add(named.group(1))
             for code in shown_code(section):

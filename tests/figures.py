@@ -1,78 +1,133 @@
 #!/usr/bin/env python3
 """Runs the program `bench` with times and prints the tables of docs/log/FIGURES.md; it is no test, and nothing in it can fail.
 
-    figures.py [RUNS]     so many runs in a row (1 if it is not said), with nothing beside them
+    figures.py [RUNS [MOST]]    so many runs in a row (1 if it is not said), with nothing beside them; trees of at most MOST parts (32,768; 2,048 or more)
 
-A time is the least of all runs, in milliseconds. A multiple or a power is given from the least to the greatest of the runs.
+`bench` reads what it is to do and prints counts and nanoseconds. What it does, and all that is computed of the times, is here. A time is
+the least of all runs, in milliseconds. A multiple or a power is given from the least to the greatest of the runs.
 """
 import math
 import os
-import re
 import subprocess
 import sys
+from typing import NamedTuple
 
-os.chdir(os.path.join(os.path.dirname(os.path.abspath(__file__)), ".."))
+ROOT = os.path.dirname(os.path.dirname(os.path.abspath(__file__)))
+LEAST = 512
+# In each round all edits have their turn, so that a while in which the machine is slow does not fall on one growth alone.
+ROUNDS, TRIES, TURNS, WALKS = 5, 3, 15, 5
+# The C library gives a large list back to the system when it is freed, until one that is larger still has been freed; then it keeps what
+# is freed for later ones. Edits are measured as if one of 30 MiB had been freed, as in a program that has run for a while.
+SETTLED = {"GLIBC_TUNABLES": "glibc.malloc.mmap_threshold=31457280:glibc.malloc.trim_threshold=62914560"}
+FLAT, CHAIN = "tokens 100000", "blocks 1 74"
 
-# The edits that are shown: what is edited, and how many changes there are.
-SHOWN = [
-    ("literals, replaced, 8192 parts", 8192),
-    ("literals, replaced, 32768 parts", 512),
-    ("literals, replaced, 32768 parts", 32768),
-    ("statements, inserts, 8192 parts", 8192),
-    ("statements, inserts, 32768 parts", 512),
-    ("statements, inserts, 32768 parts", 32768),
-    ("leaves of eight a node, replaced, 8192 parts", 8192),
-    ("leaves of eight a node, replaced, 32768 parts", 512),
-    ("leaves of eight a node, replaced, 32768 parts", 32768),
-    ("blocks, wrapped 1 times, 16 chains of 16", 512),
-    ("blocks, wrapped 1 times, 128 chains of 16", 4096),
-    ("blocks, wrapped 1 times, 1024 chains of 16", 32768),
-    ("blocks, wrapped 1 times, 256 chains of 4", 2048),
-    ("blocks, wrapped 8 times, 256 chains of 4", 2048),
-    ("blocks, wrapped 64 times, 256 chains of 4", 2048),
-    ("blocks, wrapped 256 times, 256 chains of 4", 2048),
-    ("blocks, wrapped 1 times, 1024 chains of 1", 2048),
-    ("blocks, wrapped 1 times, 128 chains of 8", 2048),
-    ("blocks, wrapped 1 times, 16 chains of 64", 2048),
-    ("blocks, wrapped 1 times, 4 chains of 256", 2048),
-    ("notes, inserts, 8192 parts", 8192),
-    ("payload of 4096 notes, brought 16 times", 16),
-    ("payload of 4096 notes, brought 64 times", 64),
-]
 
-# What grows, in the order in which `bench` goes through it.
-GROWTHS = [
-    "literals: the changes, of a tree of 32,768",
-    "literals: the tree, with 512 changes",
-    "literals: both",
-    "statements: the changes, of a tree of 32,768",
-    "statements: the tree, with 512 changes",
-    "statements: both",
-    "leaves: the changes, of a tree of 32,768",
-    "leaves: the tree, with 512 changes",
-    "leaves: both",
-    "chains of 16 blocks, 16 to 1,024",
-    "blocks round each copy, 1 to 256, of 256 chains of 4",
-    "blocks of a chain, 1 to 256, of 1,024 in all",
-    "literals with a note each",
-    "notes of a payload that is brought 16 times, 64 to 4,096",
-    "the times that a payload of 4,096 notes is brought, 1 to 64",
-]
+class Edit(NamedTuple):
+    """An edit, by the name that the tables give it, and by the words of `bench`: a tree, and what is changed in it."""
 
-# Those of them that grow by levels of nested blocks.
-BY_LEVELS = [
-    "blocks round each copy, 1 to 256, of 256 chains of 4",
-    "blocks of a chain, 1 to 256, of 1,024 in all",
-]
+    name: str
+    tree: str
+    changes: str
 
-TIMES = r"recorded (\d+) ns, planned (\d+) ns, run (\d+) ns"
-EDIT = re.compile(rf"(.*): (\d+) changes, (\d+) nodes built, (\d+) in the tree, {TIMES}, the least (\d+) ns, with its answer (\d+) ns")
-GROWS = re.compile(r"what grows: .*")
-NOTES = re.compile(rf"notes on (\d+) statements: {TIMES}; without notes {TIMES}")
-PAYLOAD = re.compile(r"(a payload of .*): finished (\d+) ns, (\d+) paths copied (\d+) ns")
-ORDER = re.compile(r"(.*): (\d+) changes, finished (\d+) ns, by the default order (\d+) ns")
-WALK = re.compile(r"(.*) of (\d+): (\d+) elements (\d+) ns, their paths (\d+) ns")
-TREE = re.compile(r"(.*): (\d+) elements, (\d+) ns")
+    @property
+    def steps(self):
+        return f"steps {self.tree} {self.changes}"
+
+    @property
+    def order(self):
+        return f"order {self.tree} {self.changes}"
+
+
+# What is edited in a tree of equal parts: its name, the tree and the change.
+SUBJECTS = {
+    "literals": ("literals, replaced", "literals", "replace"),
+    "statements": ("statements, inserts", "literals", "insert"),
+    "leaves": ("leaves of eight a node, replaced", "leaves", "replace"),
+}
+
+
+def spread(subject, parts, changes):
+    name, tree, change = SUBJECTS[subject]
+    return Edit(f"{name}, {parts} parts", f"{tree} {parts}", f"{change} {parts // changes}")
+
+
+def nested(chains, depth, wraps):
+    return Edit(f"blocks, wrapped {wraps} times, {chains} chains of {depth}", f"blocks {chains} {depth}", f"wrap {wraps}")
+
+
+def noted(parts):
+    return Edit(f"notes, inserts, {parts} parts", f"literals {parts}", f"note {parts}")
+
+
+def brought(notes, times):
+    return Edit(f"payload of {notes} notes, brought {times} times", f"literals {times}", f"bring {notes}")
+
+
+def doubled(first, last):
+    """The numbers from the first to the last, each twice the one before."""
+    return [first << at for at in range(int(math.log2(last // first)) + 1)]
+
+
+class Works:
+    """What is measured where trees have at most this many parts. All other numbers are parts of that one."""
+
+    def __init__(self, most):
+        self.most, self.sizes = most, doubled(LEAST, most)
+        blocks, notes, depths = most // 32, most // 8, doubled(1, most // 128)
+        self.levels = {
+            f"blocks round each copy, 1 to {depths[-1]}, of {blocks // 4} chains of 4": [nested(blocks // 4, 4, it) for it in depths],
+            f"blocks of a chain, 1 to {depths[-1]}, of {blocks:,} in all": [nested(blocks // it, it, 1) for it in depths],
+        }
+        self.growths = {name: edits for subject in SUBJECTS for name, edits in self.growths_of(subject)} | {
+            f"chains of 16 blocks, 16 to {blocks:,}": [nested(size // 32, 16, 1) for size in self.sizes],
+            **self.levels,
+            "literals with a note each": [noted(size) for size in self.sizes],
+            f"notes of a payload that is brought 16 times, 64 to {notes:,}": [brought(size // 8, 16) for size in self.sizes],
+            f"the times that a payload of {notes:,} notes is brought, 1 to {most // LEAST}": [brought(notes, size // LEAST) for size in self.sizes],
+        }
+        self.edits = list(dict.fromkeys(edit for edits in self.growths.values() for edit in edits))
+        self.shown = [it for it in self.shown_edits(blocks, notes) if it in self.edits]
+        self.payloads = [brought(notes, times) for times in (16, 64)]
+        self.ordered = [spread(it, size, size) for it in SUBJECTS for size in doubled(256, notes)]
+        # A chain of n nodes: a root, blocks with a list each, and a literal.
+        wide, deep = [f"literals {size}" for size in self.sizes], [f"blocks 1 {size // 2 - 1}" for size in doubled(64, notes)]
+        self.walks = {f"{walk} of a wide node of {most}": [f"{walk} {it}" for it in wide] for walk in ("children", "descendants", "next_token")}
+        self.walks |= {f"{walk} of a chain of {notes}": [f"{walk} {it}" for it in deep] for walk in ("descendants", "ancestors", "next_token")}
+
+    def growths_of(self, subject):
+        yield f"{subject}: the changes, of a tree of {self.most:,}", [spread(subject, self.most, size) for size in self.sizes]
+        yield f"{subject}: the tree, with {LEAST} changes", [spread(subject, size, LEAST) for size in self.sizes]
+        yield f"{subject}: both", [spread(subject, size, size) for size in self.sizes]
+
+    def shown_edits(self, blocks, notes):
+        """The edits that have a row of their own."""
+        part, most = self.most // 4, self.most
+        shown = [spread(it, *size) for it in SUBJECTS for size in ((part, part), (most, LEAST), (most, most))]
+        shown += [nested(chains, 16, 1) for chains in (16, blocks // 8, blocks)]
+        shown += [nested(blocks // 4, 4, wraps) for wraps in (1, 8, 64, 256)]
+        shown += [nested(blocks // depth, depth, 1) for depth in (1, 8, 64, 256)]
+        shown += [noted(part), brought(notes, 16), brought(notes, 64)]
+        return shown
+
+
+def measured(program, lines, **environment):
+    """What one run prints of these lines: the numbers by work and figure, in the order in which they were read."""
+    run = subprocess.run([program], input="\n".join(lines) + "\n", capture_output=True, text=True, env={**os.environ, **environment}, check=True)
+    readings = {}
+    for line in run.stdout.splitlines():
+        task, figure, number = line.split("; ")
+        work = task.split(" ", 2)[2]
+        readings.setdefault(work, {}).setdefault(figure, []).append(int(number))
+    return readings
+
+
+def least(readings, figure):
+    return min(readings[figure]) / 1e6
+
+
+def finished(readings):
+    """The least time of planning and carrying out."""
+    return min(map(sum, zip(readings["Planned"], readings["CarriedOut"]))) / 1e6
 
 
 def power(times):
@@ -82,63 +137,92 @@ def power(times):
     return sum(step * math.log2(time) for step, time in zip(steps, times)) / sum(step * step for step in steps)
 
 
-class Figures:
-    """What the runs printed, by what it is of; of each the numbers of all runs."""
+class Run:
+    """One run: the numbers that were read, and what tables are made of them, by the names of their rows."""
 
-    def __init__(self):
-        self.edits, self.powers, self.notes, self.payloads = {}, {}, {}, {}
-        self.levels, self.orders, self.trees, self.walks = {}, {}, {}, {}
+    def __init__(self, program, works):
+        self.works = works
+        self.trees = measured(program, [f"count 1 {it}" for it in self.tree_works().values()] + [f"time 1 {it}" for it in self.tree_works().values()])
+        self.walked = measured(program, [f"{meter} {it}" for walks in works.walks.values() for it in walks for meter in ("count 1", f"time {WALKS}")])
+        counts = [f"count 1 {it.steps}" for it in works.edits] + [f"count 1 descendants {it.tree}" for it in works.edits]
+        times = [f"time {TRIES} {it.steps}" for it in works.edits] * ROUNDS
+        self.edited = measured(program, counts + times, **SETTLED)
+        pairs = [(noted(size), spread("statements", size, size)) for size in works.sizes]
+        self.noted = measured(program, [f"time 1 {it.steps}" for pair in pairs for it in pair * TURNS], **SETTLED)
+        copied = [(it.steps, self.copies(it)) for it in works.payloads]
+        self.brought = measured(program, [f"time 1 {it}" for pair in copied for it in pair * TURNS], **SETTLED)
+        ordered = [f"{meter} {it}" for edit in works.ordered for it in (edit.steps, edit.order) for meter in ("count 1", f"time {TRIES}")]
+        self.ordered = measured(program, ordered, **SETTLED)
 
-    def read(self, lines):
-        """Takes in what one run printed. Of what is printed twice in a run the first counts."""
-        new, grown, walks = Figures(), [], {}
-        for line in lines:
-            if found := EDIT.fullmatch(line):
-                recorded, planned, run, least, answer = (int(it) / 1e6 for it in found.groups()[4:])
-                ratios = [planned / answer, run / answer, recorded / planned]
-                times = [recorded, planned, run, least, answer]
-                new.edits.setdefault((found[1], int(found[2])), [int(found[3]), int(found[4]), *times, *ratios])
-                grown[-1].append((recorded, planned + run))
-            elif GROWS.fullmatch(line):
-                grown.append([])
-            elif found := NOTES.fullmatch(line):
-                recorded, planned, run, *plain = (int(it) / 1e6 for it in found.groups()[1:])
-                noted, without = planned + run, plain[1] + plain[2]
-                new.notes[found[1]] = [noted, without, noted / without, (noted + recorded) / (without + plain[0])]
-            elif found := PAYLOAD.fullmatch(line):
-                finished, copied = int(found[2]) / 1e6, int(found[4]) / 1e6
-                new.payloads[found[1]] = [finished, copied, finished / copied]
-            elif found := ORDER.fullmatch(line):
-                new.orders[found[1]] = [int(found[2]), int(found[3]) / 1e6, int(found[4]) / 1e6]
-            elif found := WALK.fullmatch(line):
-                walks.setdefault(found[1], []).append((int(found[2]), int(found[3]), int(found[4]) / 1e6, int(found[5]) / 1e6))
-            elif found := TREE.fullmatch(line):
-                new.trees[found[1]] = [int(found[2]), int(found[3]) / 1e6]
-        for name, sizes in walks.items():
-            size, count, walk, paths = sizes[-1]
-            new.walks[f"{name} of {size}"] = [count, walk, paths, power([it[2] for it in sizes]), power([it[3] for it in sizes])]
-        for growth, times in zip(GROWTHS, grown):
-            new.powers[growth] = [power(it) for it in zip(*times)]
-            for at, time in enumerate(times if growth in BY_LEVELS else []):
-                # As many changes at each depth, which is twice the one before.
-                new.levels[growth, 2**at] = [mine / (first * 2**at) for mine, first in zip(time, times[0])]
-        for mine, theirs in zip(vars(self).values(), vars(new).values()):
-            for key, numbers in theirs.items():
-                mine.setdefault(key, []).append(numbers)
+    @staticmethod
+    def tree_works():
+        return {"flat node's children": f"elements {FLAT}", "flat node's tokens, backwards": f"prev_token {FLAT}", "chain's descendants": f"descendants {CHAIN}"}
+
+    @staticmethod
+    def copies(payload):
+        """A walk that gives as many paths as a payload has notes in the new tree."""
+        (_, times), (_, notes) = payload.tree.split(), payload.changes.split()
+        return f"descendants literals {int(times) * int(notes)}"
+
+    def edits(self):
+        for edit in self.works.shown:
+            read, nodes = self.edited[edit.steps], self.edited[f"descendants {edit.tree}"]["Elements"][0]
+            figures = ("Recorded", "Planned", "CarriedOut", "Least", "LeastWithAnswer")
+            recorded, planned, run, floor, answer = times = [least(read, figure) for figure in figures]
+            ratios = [planned / answer, run / answer, recorded / planned]
+            yield (edit.name, f"{read['Changes'][0]:,}"), times, ratios, f"{read['NodesBuilt'][0]:,} of {nodes:,}"
+
+    def grown(self, edits):
+        """The times of planning and carrying out, and of recording, edit by edit."""
+        read = [self.edited[it.steps] for it in edits]
+        return [least(it, "Planned") + least(it, "CarriedOut") for it in read], [least(it, "Recorded") for it in read]
+
+    def powers(self):
+        for name, edits in self.works.growths.items():
+            yield (name,), [], [power(times) for times in self.grown(edits)]
+
+    def levels(self):
+        """Where levels grow there are as many changes at each depth, which is twice the one before."""
+        for name, edits in self.works.levels.items():
+            for at, both in enumerate(zip(*self.grown(edits))):
+                first = [times[0] for times in self.grown(edits)]
+                yield (name, 2**at), [], [time / (one * 2**at) for time, one in zip(both, first)]
+
+    def notes(self):
+        for size in self.works.sizes:
+            mine, plain = self.noted[noted(size).steps], self.noted[spread("statements", size, size).steps]
+            times, recorded = [finished(mine), finished(plain)], [least(mine, "Recorded"), least(plain, "Recorded")]
+            yield (f"{size:,}",), times, [times[0] / times[1], (times[0] + recorded[0]) / (times[1] + recorded[1])]
+
+    def payloads(self):
+        for edit in self.works.payloads:
+            times = [finished(self.brought[edit.steps]), least(self.brought[self.copies(edit)], "PathsCopied")]
+            yield (f"a {edit.name}",), times, [times[0] / times[1]]
+
+    def orders(self):
+        for edit in self.works.ordered:
+            at_once, in_order = self.ordered[edit.steps], self.ordered[edit.order]
+            yield (edit.name, f"{at_once['Changes'][0]:,}"), [finished(at_once), least(in_order, "InDefaultOrder")], []
+
+    def walks(self):
+        for name, works in self.works.walks.items():
+            read = [self.walked[it] for it in works]
+            times = [[least(it, figure) for it in read] for figure in ("Walked", "PathsCopied")]
+            yield (name, f"{read[-1]['Elements'][0]:,}"), [it[-1] for it in times], [power(it) for it in times]
+
+    def alone(self):
+        for name, work in self.tree_works().items():
+            read = self.trees[work]
+            count, built = f"{read['Elements'][0]:,}", name.split("'")[0] + " built"
+            if not name.endswith("backwards"):
+                yield (built, count), [least(read, "Built")], []
+            yield (name, count), [least(read, "Walked")], []
 
 
-def spread(numbers, digits=1):
+def from_to(numbers, digits):
     """From the least to the greatest."""
-    least, most = f"{min(numbers):.{digits}f}", f"{max(numbers):.{digits}f}"
-    return least if least == most else f"{least} to {most}"
-
-
-def table(heads, rows):
-    print("| " + " | ".join(heads) + " |")
-    print("|" + "---|" * len(heads))
-    for row in rows:
-        print("| " + " | ".join(map(str, row)) + " |")
-    print()
+    lowest, highest = f"{min(numbers):.{digits}f}", f"{max(numbers):.{digits}f}"
+    return lowest if lowest == highest else f"{lowest} to {highest}"
 
 
 def milliseconds(number):
@@ -146,53 +230,39 @@ def milliseconds(number):
     return f"{number:.2g}" if number < 99.5 else f"{number:.0f}"
 
 
-def edit_row(key, runs):
-    nodes_built, nodes = runs[0][:2]
-    columns = list(zip(*runs))
-    times = [milliseconds(min(it)) for it in columns[2:7]]
-    return [key[0], f"{key[1]:,}", *times, *map(spread, columns[7:10]), f"{nodes_built:,} of {nodes:,}"]
+def table(heads, runs, digits=1, time=milliseconds):
+    """A row for each name: of each time the least of the runs, of each multiple or power the least and the greatest."""
+    print("| " + " | ".join(heads) + " |")
+    print("|" + "---|" * len(heads))
+    for rows in zip(*runs):
+        names, _, _, *rest = rows[0]
+        times = [time(min(it)) for it in zip(*(row[1] for row in rows))]
+        ratios = [from_to(it, digits) for it in zip(*(row[2] for row in rows))]
+        print("| " + " | ".join(map(str, [*names, *times, *ratios, *rest])) + " |")
+    print()
 
 
-def show(figures):
+def show(runs):
     heads = ["edit", "changes", "recorded", "planned", "carried out", "the least", "the least with its answer"]
-    heads += ["planned, times that", "carried out, times that"]
-    shown = [key for key in SHOWN if key in figures.edits]
-    table([*heads, "recorded, times planned", "nodes built"], [edit_row(key, figures.edits[key]) for key in shown])
-    powers = [[name, spread([it[1] for it in runs], 2), spread([it[0] for it in runs], 2)] for name, runs in figures.powers.items()]
-    table(["what grows", "planned and carried out", "recorded"], powers)
-    levels = [
-        [name, depth, spread([it[1] for it in runs], 2), spread([it[0] for it in runs], 2)]
-        for (name, depth), runs in figures.levels.items()
-    ]
-    table(["what grows", "depth", "planned and carried out, each change and level, times that at depth 1", "recorded"], levels)
-    notes = [
-        [f"{int(size):,}", *(milliseconds(min(it[at] for it in runs)) for at in (0, 1)), *(spread([it[at] for it in runs]) for at in (2, 3))]
-        for size, runs in figures.notes.items()
-    ]
-    table(["notes and inserts", "finished", "the same without notes", "times that", "with recording, times that"], notes)
-    payloads = [
-        [label, *(milliseconds(min(it[at] for it in runs)) for at in (0, 1)), spread([it[2] for it in runs])]
-        for label, runs in figures.payloads.items()
-    ]
-    table(["payload", "finished", "as many paths copied", "times that"], payloads)
-    orders = [
-        [label, f"{runs[0][0]:,}", *(milliseconds(min(it[at] for it in runs)) for at in (1, 2))] for label, runs in figures.orders.items()
-    ]
-    table(["edit", "changes", "finished", "by the default order"], orders)
-    walks = [
-        [label, f"{runs[0][0]:,}", *(milliseconds(min(it[at] for it in runs)) for at in (1, 2)), *(spread([it[at] for it in runs], 2) for at in (3, 4))]
-        for label, runs in figures.walks.items()
-    ]
-    table(["walk", "elements", "milliseconds", "their paths copied", "power", "power of these copies"], walks)
-    table(["what", "elements", "milliseconds"], [[label, f"{runs[0][0]:,}", f"{min(it[1] for it in runs):.2f}"] for label, runs in figures.trees.items()])
+    heads += ["planned, times that", "carried out, times that", "recorded, times planned", "nodes built"]
+    table(heads, [run.edits() for run in runs])
+    table(["edit", "changes", "finished", "by the default order"], [run.orders() for run in runs])
+    table(["what", "elements", "milliseconds"], [run.alone() for run in runs], time="{:.2f}".format)
+    table(["walk", "elements", "milliseconds", "their paths copied", "power", "power of these copies"], [run.walks() for run in runs], 2)
+    table(["what grows", "planned and carried out", "recorded"], [run.powers() for run in runs], 2)
+    heads = ["what grows", "depth", "planned and carried out, each change and level, times that at depth 1", "recorded"]
+    table(heads, [run.levels() for run in runs], 2)
+    table(["notes and inserts", "finished", "the same without notes", "times that", "with recording, times that"], [run.notes() for run in runs])
+    table(["payload", "finished", "as many paths copied", "times that"], [run.payloads() for run in runs])
 
 
 def main():
-    program = subprocess.run(["bash", "tests/program.sh", "bench"], capture_output=True, text=True, check=True).stdout.strip()
-    figures = Figures()
-    for _ in range(int(sys.argv[1]) if len(sys.argv) > 1 else 1):
-        figures.read(subprocess.run([program, "time"], capture_output=True, text=True, check=True).stdout.splitlines())
-    show(figures)
+    numbers = [int(it) for it in sys.argv[1:]]
+    runs, most = numbers + [1, 32768][len(numbers) :]
+    program = subprocess.run(["bash", f"{ROOT}/tests/program.sh", "bench"], stdout=subprocess.PIPE, text=True, check=True, cwd=ROOT).stdout.strip()
+    works = Works(most)
+    show([Run(os.path.join(ROOT, program), works) for _ in range(runs)])
 
 
-main()
+if __name__ == "__main__":
+    main()

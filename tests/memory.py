@@ -1,10 +1,11 @@
 #!/usr/bin/env python3
 """Measures what edits of the program `bench` hold; it is no test, and nothing in it can fail.
 
-A library that is built for it (tests/memory_marks.c) counts the bytes of the blocks that the program takes and frees. For each edit it
-prints
+A library that is built for it (tests/memory_marks.c) counts the bytes of the blocks that the program takes and frees, from one reading of
+the clock to the next. For each edit this prints
 
-    finish, most       the most that `finish` held at a time beyond what was there before it
+    finish, most       the most that `finish` would hold at a time beyond what was there before it: that of planning, or of carrying out,
+                       and then with what is kept of planning
     run, most          the same of carrying out a plan that was made before
     run, kept          what was still there of that after it: the new tree, with its changed elements and notes
     nodes              what the nodes take that any engine has to make, with their lists of children
@@ -15,46 +16,48 @@ import os
 import subprocess
 import tempfile
 
-os.chdir(os.path.join(os.path.dirname(os.path.abspath(__file__)), ".."))
+from figures import ROOT, nested, noted, spread
 
-CALLS = ("finish", "run", "nodes")
+PARTS = 8192
+EDITS = [*(spread(it, PARTS, PARTS) for it in ("literals", "statements", "leaves")), nested(PARTS // 32, 16, 1), noted(PARTS)]
 HEADS = ("finish, most", "run, most", "run, kept", "nodes", "finish / nodes", "run / kept")
 
 
 def marked(program, room):
-    """What the program prints, a line for each call, and what the library says of each."""
+    """What the program prints, a line for each part, and what the library says of each. Between two parts it says a line, too."""
     library = os.path.join(room, "memory_marks.so")
-    subprocess.run([os.environ.get("CC", "cc"), "-O1", "-shared", "-fPIC", "-o", library, "tests/memory_marks.c", "-ldl"], check=True)
-    run = subprocess.run([program, "memory"], capture_output=True, text=True, env={"LD_PRELOAD": library}, check=True)
-    return run.stdout.splitlines(), run.stderr.splitlines()
+    subprocess.run([os.environ.get("CC", "cc"), "-O1", "-shared", "-fPIC", "-o", library, f"{ROOT}/tests/memory_marks.c", "-ldl"], check=True)
+    lines = "".join(f"time 1 {it.steps}\n" for it in EDITS)
+    run = subprocess.run([program], input=lines, capture_output=True, text=True, env={"LD_PRELOAD": library}, check=True)
+    return run.stdout.splitlines(), run.stderr.splitlines()[::2]
 
 
-def bytes_by_edit(lines, counts):
-    """The most and what is kept, by edit and call."""
+def bytes_by_part(lines, counts):
+    """The most and what is kept, by edit and part."""
     assert len(lines) == len(counts), (lines, counts)
-    edits = {}
+    parts = {}
     for line, count in zip(lines, counts):
-        edit, call = line.rsplit(": ", 1)
+        task, part, _ = line.split("; ")
         _, most, _, kept = count.split()
-        edits.setdefault(edit, {})[call.split(",")[0]] = (int(most), int(kept))
-    return edits
+        parts.setdefault(task, {})[part] = (int(most), int(kept))
+    return parts
 
 
-def row(calls):
+def row(parts):
     """The figures of an edit, in the order of HEADS."""
-    (finish, _), (run, kept), (_, nodes) = (calls[call] for call in CALLS)
+    (planning, plan), (run, kept), (_, nodes) = (parts[part] for part in ("Planned", "CarriedOut", "Least"))
+    finish = max(planning, plan + run)
     return [f"{number:,}" for number in (finish, run, kept, nodes)] + [f"{finish / nodes:.1f}", f"{run / max(kept, 1):.1f}"]
 
 
 def main():
-    made = subprocess.run(["bash", "tests/program.sh", "bench"], stdout=subprocess.PIPE, text=True, check=True)
-    program = os.path.abspath(made.stdout.strip())
+    made = subprocess.run(["bash", f"{ROOT}/tests/program.sh", "bench"], stdout=subprocess.PIPE, text=True, check=True, cwd=ROOT)
     with tempfile.TemporaryDirectory() as room:
-        edits = bytes_by_edit(*marked(program, room))
+        parts = bytes_by_part(*marked(os.path.join(ROOT, made.stdout.strip()), room))
     print("| edit | " + " | ".join(HEADS) + " |")
     print("|" + "---|" * (len(HEADS) + 1))
-    for edit, calls in edits.items():
-        print(f"| {edit} | " + " | ".join(row(calls)) + " |")
+    for edit in EDITS:
+        print(f"| {edit.name} | " + " | ".join(row(parts[f"time 1 {edit.steps}"])) + " |")
 
 
 main()

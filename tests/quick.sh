@@ -1,6 +1,6 @@
 #!/usr/bin/env bash
 # quick.sh [CHECK..]: the quick check, for while you write, or some of it: format, docs, every row, scripts, the model of scripts against the
-# known answers, the editor against the model, and the first caller of docs/CALLING.md, all without proofs. tests/all.sh proves.
+# known answers, the editor against the model, and callers of docs/CALLING.md, all without proofs. tests/all.sh proves.
 set -euo pipefail
 cd "$(dirname "$0")/.."
 source tests/steps.sh

@@ -5,7 +5,7 @@
     without_proofs.py scripts       `syned` on scripts with their answers
     without_proofs.py scripts 1 2   the first of two parts of these, for two processors
     without_proofs.py models        the editor (`plan_answers`) against the model in Python
-    without_proofs.py caller        the first caller of docs/CALLING.md, in a copy of the repository
+    without_proofs.py caller        the callers of docs/CALLING.md that are not proved: the first one, and those of examples/callers
 
 A program that the gate has built is taken if no source is newer; then all scripts are run, by tests/scripts.sh and tests/models.py.
 Otherwise `rt try` compiles the program without its proofs and starts it once for each script, which takes most of a second. So then
@@ -183,13 +183,31 @@ def models():
     return compared.all_agree((group, ended.get(f"{number:04}", "")) for number, group in enumerate(groups))
 
 
-def caller():
-    """The page shows a line of crates.txt, the source of a program, and what that prints."""
+def calling_program():
+    """A line of crates.txt, the files of a program by name, and what it prints: the first caller of docs/CALLING.md, and beside it a module for
+    each caller of examples/callers, which it calls at its end. They stand on `printed.rt` of the crate `callers`."""
     with open(f"{ROOT}/docs/CALLING.md", encoding="utf-8") as file:
         page = file.read()
     entry = re.search(r"^ *(my_caller: .*)$", page, re.M).group(1)
-    code = re.search(r"^   ```rust\n((?s:.*?))^   ```", page, re.M).group(1)
+    code = re.sub(r"^   ", "", re.search(r"^   ```rust\n((?s:.*?))^   ```", page, re.M).group(1), flags=re.M)
     wanted = re.search(r"`rt try` prints `(.*?)`", page).group(1) + "\n"
+    files, modules = {}, ["printed"]
+    for path in sorted(glob.glob(f"{ROOT}/examples/callers/*.txt")):
+        modules.append(os.path.basename(path).removesuffix(".txt"))
+        with open(path, encoding="utf-8") as source, open(path.removesuffix("txt") + "stdout", encoding="utf-8") as printed:
+            files[f"{modules[-1]}.rt"], wanted = source.read(), wanted + printed.read()
+    with open(f"{ROOT}/crates/callers/src/printed.rt", encoding="utf-8") as source:
+        files["printed.rt"] = source.read()
+    head, body = code.split("#![tactic(auto)]\n")
+    before, end = body.rsplit("    Ok(())\n", 1)
+    calls = "".join(f'    println!(rt; "{{}}", {it}::example(rt.alloc())?)?;\n' for it in modules[1:])
+    files["main.rt"] = f"{head}#![tactic(auto)]\n" + "".join(f"mod {it};\n" for it in modules) + f"{before}{calls}    Ok(())\n{end}"
+    return entry, files, wanted
+
+
+def caller():
+    """Runs these callers as one program, in a copy of the repository."""
+    entry, sources, wanted = calling_program()
     with tempfile.TemporaryDirectory() as copy:
         list_files = ["git", "ls-files", "--cached", "--others", "--exclude-standard", "-z", "crates", "crates.txt", "HANDLES"]
         files = subprocess.run(list_files, cwd=ROOT, capture_output=True, text=True, check=True).stdout.split("\0")
@@ -200,13 +218,14 @@ def caller():
         with open(f"{copy}/crates.txt", "a", encoding="utf-8") as crates:
             crates.write(f"{entry}\n")
         os.makedirs(f"{copy}/crates/my_caller/src")
-        with open(f"{copy}/crates/my_caller/src/main.rt", "w", encoding="utf-8") as main:
-            main.write(re.sub(r"^   ", "", code, flags=re.M))
+        for name, text in sources.items():
+            with open(f"{copy}/crates/my_caller/src/{name}", "w", encoding="utf-8") as source:
+                source.write(text)
         done = try_program("my_caller", root=copy)
     if done.stdout != wanted or done.returncode != 0:
-        print(f"caller: wrong: {done.stdout!r}, {wanted!r} is wanted", *done.stderr.splitlines()[-5:], sep="\n")
+        print("caller: wrong:", done.stdout, "wanted:", wanted, *done.stderr.splitlines()[-5:], sep="\n")
         return False
-    print(f"caller: prints {wanted}", end="")
+    print(f"caller: {len(sources) - 1} callers print what is wanted, without proofs")
     return True
 
 

@@ -1,232 +1,136 @@
 //! The least that any engine does for an edit: of each node of the new tree that a change touches, its list of children, those that
-//! stay shared, and one node, from the leaves up. What is to be made is found out beforehand.
+//! stay shared, and one node, from the leaves up; and copies of what else the edit hands back. What is to be made is found out beforehand.
+use crate::edit::Changes;
 use anyhow::{Context, Result};
-use cst_core::{GreenElement, GreenNode, SyntaxElement, SyntaxKind, SyntaxNode};
+use cst_core::{GreenElement, GreenNode, SyntaxElement, SyntaxKind};
 use std::alloc::Global;
-use std::collections::HashMap;
-use syntax_editor::SyntaxEdit;
+use syntax_editor::{Annotations, SyntaxEdit};
 
-/// Which nodes of the new tree are touched.
-#[derive(Clone, Copy)]
-pub(crate) enum Touches {
-    /// Those that a changed element is in.
-    Ancestors,
-    /// All but literals.
-    Blocks,
-}
-
-/// A child of a node that is to be made.
+/// A node that is to be made, of children that are there and, at `None`, of nodes that are made before.
 #[derive(Drop)]
-enum Child {
-    /// An element that is there.
-    Shared(GreenElement),
-    /// The node that is made as the one of this number.
-    Made(usize),
-}
-
-/// A node that is to be made.
-#[derive(Drop)]
-struct Touched {
+pub(crate) struct Touched<'a> {
     kind: SyntaxKind,
-    children: Vec<Child>,
+    children: Vec<Option<&'a GreenElement>>,
 }
 
-/// The nodes that are to be made, each after those below it.
-#[derive(Drop)]
-pub(crate) struct Floor {
-    touched: Vec<Touched>,
+/// A node of the new tree, how many nodes it is in, and the changed elements in it.
+#[derive(Clone, Copy)]
+struct Place<'a> {
+    node: &'a GreenNode,
+    depth: usize,
+    edits: &'a [SyntaxElement],
 }
 
-// Notes the nodes that an element is in.
-fn note_ancestors(
-    alloc: Global,
-    element: &SyntaxElement,
-    noted: &mut HashMap<SyntaxNode, usize>,
-) -> Result<()> {
-    let mut parent = element.parent(alloc)?;
-    for _ in 0..element.slots().len() {
-        let Some(node) = parent else {
-            break;
-        };
-        parent = node.parent(alloc)?;
-        noted.insert(node, 0)?;
-    }
-    Ok(())
-}
-
-fn ancestors(alloc: Global, edit: &SyntaxEdit) -> Result<HashMap<SyntaxNode, usize>> {
-    let mut noted = HashMap::new(alloc);
-    for element in edit.changed_elements() {
-        note_ancestors(alloc, element, &mut noted)?;
-    }
-    Ok(noted)
-}
-
-// The nodes of the new tree that a changed element is in, in document order.
-fn touched_nodes(alloc: Global, edit: &SyntaxEdit) -> Result<Vec<SyntaxNode>> {
-    let noted = ancestors(alloc, edit)?;
-    let mut nodes = Vec::new(alloc);
-    for node in edit.new_root().descendants(alloc)? {
-        if noted.get(&node).is_some() {
-            nodes.push(node)?;
+impl Changes {
+    // Whether they touch a node at this depth, in which these changed elements are: where blocks are wrapped all nodes but literals.
+    fn touch(self, child: &GreenNode, depth: usize, changed: &[SyntaxElement]) -> bool {
+        match self {
+            Changes::Wrap(_) => child.kind() != SyntaxKind::LITERAL,
+            _ => changed.first().is_some_and(|it| it.slots().len() > depth),
         }
     }
-    Ok(nodes)
 }
 
-// A child that is a node and no literal.
-fn block(child: &GreenElement) -> Option<&GreenNode> {
-    match child {
-        GreenElement::Node(node) => {
-            if node.kind() == SyntaxKind::LITERAL {
-                None
-            } else {
-                Some(node)
+// How many of these elements are in the child at a slot. They are in document order.
+fn count_at(elements: &[SyntaxElement], depth: usize, slot: usize) -> usize {
+    let mut count = 0usize;
+    for element in elements {
+        if element.slots().get(depth).copied() != Some(slot) {
+            break;
+        }
+        count = count.saturating_add(1);
+    }
+    count
+}
+
+impl<'a> Place<'a> {
+    // How it is made. The children that are made before are put on a list, the last one first.
+    fn touched(self, alloc: Global, changes: Changes, on: &mut Vec<Self>) -> Result<Touched<'a>> {
+        let depth = self.depth.saturating_add(1);
+        let mut children = Vec::with_capacity(alloc, self.node.children().len())?;
+        let mut made = Vec::new(alloc);
+        let mut left = self.edits;
+        for (slot, child) in self.node.children().iter().enumerate() {
+            let number = count_at(left, self.depth, slot);
+            let (edits, others) = left.split_at_checked(number).unwrap_or((left, &[]));
+            left = others;
+            match child {
+                GreenElement::Node(node) if changes.touch(node, depth, edits) => {
+                    made.push(Place { node, depth, edits })?;
+                    children.push(None)?;
+                }
+                _ => children.push(Some(child))?,
             }
         }
-        GreenElement::Token(_) => None,
-    }
-}
-
-// Adds the children of a node that are nodes and no literals, from the last to the first.
-fn add_blocks(alloc: Global, node: &GreenNode, waiting: &mut Vec<GreenNode>) -> Result<()> {
-    for child in node.children().iter().rev() {
-        if let Some(block) = block(child) {
-            waiting.push(block.share(alloc)?)?;
+        for place in made.iter().rev() {
+            on.push(*place)?;
         }
+        let kind = self.node.kind();
+        Ok(Touched { kind, children })
     }
-    Ok(())
 }
 
-// A node and those below it but literals, in document order. The paths of nodes many levels down would take more room than they do.
-fn blocks(alloc: Global, root: &GreenNode) -> Result<Vec<GreenNode>> {
-    let mut waiting = Vec::new(alloc);
-    waiting.push(root.share(alloc)?)?;
-    let mut blocks = Vec::new(alloc);
-    for _ in 0..u64::MAX {
-        let Some(node) = waiting.pop() else {
-            break;
-        };
-        add_blocks(alloc, &node, &mut waiting)?;
-        blocks.push(node)?;
-    }
-    Ok(blocks)
-}
-
-// How a node is made, where the last of these numbers are those of the nodes below it, the first child's last. They are taken off.
-fn block_to_make(alloc: Global, node: &GreenNode, numbers: &mut Vec<usize>) -> Result<Touched> {
-    let mut children = Vec::new(alloc);
-    for child in node.children() {
-        let number = match block(child) {
-            Some(_) => numbers.pop(),
-            None => None,
-        };
-        children.push(child_to_make(alloc, child, number)?)?;
-    }
-    Ok(Touched {
-        kind: node.kind(),
-        children,
-    })
-}
-
-fn child_to_make(alloc: Global, child: &GreenElement, number: Option<usize>) -> Result<Child> {
-    Ok(match number {
-        Some(number) => Child::Made(number),
-        None => Child::Shared(child.share(alloc)?),
-    })
-}
-
-// How a node is made, where the nodes below it have these numbers.
-fn to_make(
-    alloc: Global,
-    node: &SyntaxNode,
-    numbers: &HashMap<SyntaxNode, usize>,
-) -> Result<Touched> {
-    let mut children = Vec::new(alloc);
-    for (element, green) in node
-        .children_with_tokens(alloc)?
-        .iter()
-        .zip(node.as_green().children().iter())
-    {
-        let number = match element {
-            SyntaxElement::Node(child) => numbers.get(child).copied(),
-            SyntaxElement::Token(_) => None,
-        };
-        children.push(child_to_make(alloc, green, number)?)?;
-    }
-    Ok(Touched {
-        kind: node.kind(),
-        children,
-    })
-}
-
-impl Touched {
+impl Touched<'_> {
     // The node, which takes over those made before that are its children.
-    fn make(&self, alloc: Global, made: &mut [Option<GreenNode>]) -> Result<GreenNode> {
+    fn make(&self, alloc: Global, made: &mut Vec<GreenNode>) -> Result<GreenNode> {
         let mut children = Vec::with_capacity(alloc, self.children.len())?;
         for child in &self.children {
             children.push(match child {
-                Child::Shared(green) => green.share(alloc)?,
-                Child::Made(number) => GreenElement::Node(take_node(made, *number)?),
+                Some(green) => green.share(alloc)?,
+                None => GreenElement::Node(made.pop().context("no node")?),
             })?;
         }
         Ok(GreenNode::new(alloc, self.kind, children)?)
     }
 }
 
-fn take_node(made: &mut [Option<GreenNode>], number: usize) -> Result<GreenNode> {
-    made.get_mut(number)
-        .context("no such node")?
-        .take()
-        .context("a node of two parents")
+/// What there is to make for an edit, each node after those below it, the last child's first.
+pub(crate) fn floor(
+    alloc: Global,
+    edit: &SyntaxEdit,
+    changes: Changes,
+) -> Result<Vec<Touched<'_>>> {
+    let (node, depth, edits) = (edit.new_root().as_green(), 0, edit.changed_elements());
+    let mut waiting = vec![in alloc; Place { node, depth, edits }]?;
+    let mut floor = Vec::new(alloc);
+    for _ in 0..u64::MAX {
+        let Some(place) = waiting.pop() else {
+            break;
+        };
+        floor.push(place.touched(alloc, changes, &mut waiting)?)?;
+    }
+    floor.reverse();
+    Ok(floor)
 }
 
-impl Floor {
-    /// What there is to make for an edit.
-    pub(crate) fn of(alloc: Global, edit: &SyntaxEdit, touches: Touches) -> Result<Floor> {
-        match touches {
-            Touches::Ancestors => Floor::of_ancestors(alloc, edit),
-            Touches::Blocks => Floor::of_blocks(alloc, edit.new_root().as_green()),
-        }
+/// Makes it, and gives the last node, which is the new tree.
+pub(crate) fn make(alloc: Global, floor: &[Touched]) -> Result<Option<GreenNode>> {
+    let mut made = Vec::with_capacity(alloc, floor.len())?;
+    for touched in floor {
+        let node = touched.make(alloc, &mut made)?;
+        made.push(node)?;
     }
+    Ok(made.pop())
+}
 
-    fn of_ancestors(alloc: Global, edit: &SyntaxEdit) -> Result<Floor> {
-        let mut nodes = touched_nodes(alloc, edit)?;
-        nodes.reverse();
-        let mut numbers = HashMap::new(alloc);
-        let mut touched = Vec::new(alloc);
-        for node in nodes {
-            touched.push(to_make(alloc, &node, &numbers)?)?;
-            numbers.insert(node, touched.len() - 1)?;
-        }
-        Ok(Floor { touched })
+fn copied(alloc: Global, elements: &[SyntaxElement]) -> Result<Vec<SyntaxElement>> {
+    let mut copies = Vec::with_capacity(alloc, elements.len())?;
+    for element in elements {
+        copies.push(element.try_clone(alloc)?)?;
     }
+    Ok(copies)
+}
 
-    fn of_blocks(alloc: Global, root: &GreenNode) -> Result<Floor> {
-        let mut nodes = blocks(alloc, root)?;
-        nodes.reverse();
-        let mut numbers = Vec::new(alloc);
-        let mut touched = Vec::new(alloc);
-        for node in nodes {
-            let number = touched.len();
-            touched.push(block_to_make(alloc, &node, &mut numbers)?)?;
-            numbers.push(number)?;
-        }
-        Ok(Floor { touched })
-    }
+type Lists = Vec<Vec<SyntaxElement>>;
 
-    /// How many nodes there are to make.
-    pub(crate) fn len(&self) -> usize {
-        self.touched.len()
+/// Copies of what an edit hands back beside its tree: the changed elements, and those of its first n annotations.
+pub(crate) fn copy_answer(alloc: Global, edit: &SyntaxEdit, notes: usize) -> Result<Lists> {
+    let mut source = Annotations::new(1);
+    let mut lists = Vec::with_capacity(alloc, notes.saturating_add(1))?;
+    lists.push(copied(alloc, edit.changed_elements())?)?;
+    for _ in 0..notes {
+        let annotation = source.next().context("no annotation")?;
+        lists.push(copied(alloc, edit.find_annotation(annotation))?)?;
     }
-
-    /// Makes it, and gives the last node, which is the new tree.
-    pub(crate) fn make(&self, alloc: Global) -> Result<Option<GreenNode>> {
-        let mut made = Vec::with_capacity(alloc, self.touched.len())?;
-        for touched in &self.touched {
-            let node = touched.make(alloc, &mut made)?;
-            made.push(Some(node))?;
-        }
-        Ok(made.pop().flatten())
-    }
+    Ok(lists)
 }

@@ -1,16 +1,11 @@
-//! Callers of the editor, which docs/CALLING.md shows: each edits a small tree. The program prints what each makes of it.
+//! Callers of the editor, which docs/CALLING.md shows beside those of examples/callers: each edits a small tree. The program prints what each
+//! makes of it.
 #![tactic(auto)]
 
 mod assist;
-mod formatter;
-mod generator;
-mod levels;
-mod moved;
-mod organise;
 mod printed;
 mod rename;
 mod search_replace;
-mod steps;
 
 use anyhow::Result;
 
@@ -22,12 +17,6 @@ fn show<R: Print>(rt: &R, text: &str) -> Result<()> {
 fn main(rt: HostRuntime) -> Result<()> {
     show(&rt, &assist::example(rt.alloc())?)?;
     show(&rt, &search_replace::example(rt.alloc())?)?;
-    show(&rt, &generator::example(rt.alloc())?)?;
-    show(&rt, &formatter::example(rt.alloc())?)?;
-    show(&rt, &levels::example(rt.alloc())?)?;
     show(&rt, &rename::example(rt.alloc())?)?;
-    show(&rt, &moved::example(rt.alloc())?)?;
-    show(&rt, &steps::example(rt.alloc())?)?;
-    show(&rt, &organise::example(rt.alloc())?)?;
     Ok(())
 }

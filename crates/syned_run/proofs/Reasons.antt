@@ -2,10 +2,8 @@
 --     no-script-ends      bytes that are no script
 --     text-ends           a script that is text and not too long
 --     stops-without       one that ends at a line, and not because memory ran out
---     explains-text       what is said of it
-use Rattle.std.proofs.Common.{◌≡◌, ◌≢◌, ◌<◌, ℕ, List, Option, Some, None, length, inl, inr, refl, subst, arith}
-use Rattle.std.specs.Prelude.{String, string_bytes}
-use Rattle.std.specs.Option.{MatchOption}
+--     reason-of           what is said of it
+use Rattle.std.proofs.Common.{◌≡◌, ◌≢◌, ◌<◌, ℕ, List, inl, inr, refl, subst, arith}
 use Rattle.syned_script.specs.Script.{Refused, BadLine, StopsAt}
 use Rattle.syned_script.specs.declared.stop.Stop.{Stop}
 use Rattle.syned_script.specs.declared.stop.Stop.TheVariants as stop

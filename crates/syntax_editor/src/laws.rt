@@ -20,7 +20,6 @@ ghost use Rattle.syntax_editor.specs.EditorLaws.{target_depth, all_asked_for, co
 
 use edit_map::laws::newer_copies_stand;
 use edit_plan::laws::changes_of_one_depth_own_nothing;
-
 pub use edit_plan::laws::edit_text_is_filled;
 
 /// Before any merge a list holds one Replace of an element at most. It is a deletion where a call deleted the element, and

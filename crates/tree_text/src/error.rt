@@ -5,13 +5,14 @@ use cst_core::TreeError;
 use std::alloc::{AllocError, AllocFailed};
 use thiserror::Error;
 
-/// Why there is no tree. Where the text is to blame, `at` says at which of its bytes, counted from 0.
+/// Why there is no tree. Where the text is to blame, `at` says at which of its bytes, counted from 0. What an error says of
+/// the text there is a definition (`ReadRefuses`).
 #[derive(Debug, PartialEq, Eq, Drop, Error)]
 pub enum ExpressionError {
     /// What stands at this byte is not what a tree expression may have there; at the text's length, the text ends too early.
     #[error("Malformed {at}")]
     Malformed { at: usize, expected: Expected },
-    /// No kind has the name that begins at this byte.
+    /// No kind has the name that begins at this byte. What stands behind the name may stand there.
     #[error("UnknownKind {at}")]
     UnknownKind { at: usize },
     /// More parentheses than `DEPTH_LIMIT` are open at once. The kind of the first node that is too deep begins at this byte.

@@ -1,4 +1,4 @@
-use Rattle.std.proofs.Common.{◌≡◌, ℕ, List, Result, Ok, Err, IfOk, Option, Some, None, String, string_bytes}
+use Rattle.std.proofs.Common.{◌≡◌, List, ℕ, Result, Ok, Err, IfOk, Option, Some, None, String, string_bytes}
 use Rattle.std.specs.Global.{Global}
 use Rattle.std.specs.Option.{MatchOption}
 use Rattle.std.specs.declared.alloc.AllocError.{AllocError}
@@ -8,14 +8,16 @@ use Rattle.syned_run.specs.inner.Responding.{OutcomeIn, IsReasonOf}
 use Rattle.syned_run.proofs.Reasons.{no-script-ends, text-ends, reason-of}
 use Rattle.syned_run.proofs.explained.explain.Goals as goal
 
-of-text : (script text : List ℕ) (r : Result (Option (String Global)) AllocError) → text ≡ script → (IsNoScript script → ⊥) → IfOk r (λ o. MatchOption o (OutcomeIn text 0) (λ reason. IsReasonOf text (string_bytes reason))) → IfOk r (λ o. MatchOption o (EndsIn script 0) (λ reason. IsReason script (string_bytes reason)))
-of-text script text (Ok None) same is told = text-ends script text 0 same is told
-of-text script text (Ok (Some reason)) same is told = reason-of script text (string_bytes reason) same is told
-of-text script text (Err e) same is told = tt
+told : (script text : List ℕ) → text ≡ script → (IsNoScript script → ⊥) → (r : Result (Option (String Global)) AllocError)
+    → IfOk r (λ o. MatchOption o (OutcomeIn text 0) (λ reason. IsReasonOf text (string_bytes reason)))
+    → IfOk r (λ o. MatchOption o (EndsIn script 0) (λ reason. IsReason script (string_bytes reason)))
+told script text same is (Ok None) h = text-ends script text 0 same is h
+told script text same is (Ok (Some reason)) h = reason-of script text (string_bytes reason) same is h
+told script text same is (Err e) h = tt
 
 pub returns-in-Some : goal.returns-in-Some
-returns-in-Some c = of-text c.args.script.now c.in-Some.text.now c.explain_text.result c.in-Some.ensures.0 c.in-Some.ensures.1 c.explain_text.ensures
+returns-in-Some c =
+    told c.args.script.now c.in-Some.text.now c.in-Some.ensures.0 c.in-Some.ensures.1 c.explain_text.result c.explain_text.ensures
 
 pub returns-in_ok-of_no_script-in-None : goal.returns-in_ok-of_no_script-in-None
-returns-in_ok-of_no_script-in-None c =
-    (c.in_ok-of_no_script-in-None.ensures, no-script-ends c.args.script.now c.in-None.ensures)
+returns-in_ok-of_no_script-in-None c = (c.in_ok-of_no_script-in-None.ensures, no-script-ends c.args.script.now c.in-None.ensures)

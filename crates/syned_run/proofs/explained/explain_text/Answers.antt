@@ -1,4 +1,4 @@
-use Rattle.std.proofs.Common.{◌≡◌, ◌<◌, ℕ, List, Result, Ok, Err, IfOk, Option, Some, None, String, string_bytes, subst, sym, refl}
+use Rattle.std.proofs.Common.{ℕ, List, Result, IfOk, Option, String, string_bytes, subst, sym, refl}
 use Rattle.std.specs.Global.{Global}
 use Rattle.std.specs.Option.{MatchOption}
 use Rattle.std.specs.declared.alloc.AllocError.{AllocError}
@@ -17,10 +17,10 @@ returns c =
     let script = c.args.script.now in
     elim c.match-carry_out.branch [
       | in-Ok w ↦
-        let outcome = Edited w.in-Ok.field-0.edit w.in-Ok.field-0.words in
-        subst (IsTold script) (sym w.result-is) (printed outcome, (outcome, w.in-Ok.ensures.ok, refl, refl))
+          let outcome = Edited w.in-Ok.field-0.edit w.in-Ok.field-0.words in
+          subst (IsTold script) (sym w.result-is) (printed outcome, (outcome, w.in-Ok.ensures.ok, refl, refl))
       | in-Err+in_ok-of_stop-in-Err w ↦
-        let said = w.in_ok-of_stop-in-Err.ensures in
-        let stopped = w.in-Err.stopped in
-        subst (IsTold script) (sym w.result-is) (said.said, stops-without script stopped.line stopped.stop said.remembered w.in-Err.ensures.err)
+          let said = w.in_ok-of_stop-in-Err.ensures in
+          let stopped = w.in-Err.stopped in
+          subst (IsTold script) (sym w.result-is) (said.said, stops-without script stopped.line stopped.stop said.remembered w.in-Err.ensures.err)
     ]
