@@ -469,15 +469,15 @@ def try_damaged(number):
     """The status, and what is wrong."""
     script = damaged(number, Task.scripts)
     status, out = run(Task.syned, script, Task.stack)
-    wanted, answer = model.IsAnswer(script)
-    if (status, out) != (wanted, answer):
+    meant = model.IsAnswer(script)
+    if (status, out) != meant:
         return status, (f"wrong: damaged script {number}: status {status}, it printed {out[:200]!r}; "
-                        f"the model {wanted}, {answer[:200]!r}\n{script.decode(errors='replace')}")
+                        f"the model {meant[0]}, {meant[1][:200]!r}\n{script.decode(errors='replace')}")
     if status > 1:
         return status, None
-    batch, lines = models.asked((f"damaged {number}", script))
+    batch, wanted = models.asked((f"damaged {number}", script))
     ended, said = run(Task.answers, batch.encode())
-    wrong = f"it ends with status {ended}" if ended != 0 else models.difference(lines, said.decode(errors="replace").split("\n")[:-1])
+    wrong = f"it ends with status {ended}" if ended != 0 else models.difference(wanted, said.decode(errors="replace"))
     return status, wrong and f"wrong: {wrong}\n{script.decode(errors='replace')}"
 
 
