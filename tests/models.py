@@ -46,7 +46,7 @@ def asked(case):
 
 
 def runs(words=(), share=1):
-    """The scripts whose names contain one of the words, or one in so many of all, asked and in groups, of which each is for a run of the program."""
+    """One in so many of the scripts whose names contain one of the words, each asked, in groups for one run of the program."""
     group, size = [], 0
     chosen = (case for case in cases() if not words or any(word in case[0] for word in words))
     with multiprocessing.get_context("fork").Pool() as pool:
