@@ -199,11 +199,13 @@ class Lab:
             for part in ("src", "specs", "proofs"):
                 if (ROOT / "crates" / crate / part).is_dir():
                     shutil.copytree(ROOT / "crates" / crate / part, self.room / "crates" / crate / part)
-        if needed:
-            self.prove(needed if in_gate else needed | set(crates), lanes, in_gate)
+        # What was proved of the unchanged crates stands here: the gate proves them beside this.
+        self.proved = ROOT if in_gate else self.room / "libraries"
+        if owed := needed if in_gate else needed | set(crates):
+            self.prove(owed, lanes, in_gate)
 
     def prove(self, crates, lanes, in_gate):
-        """Has these libraries proved. `rt ci` takes what the gate beside it proves, and `rt check` what earlier checks kept."""
+        """Has these crates proved. `rt ci` takes what the gate proves, and `rt check` what earlier checks kept."""
         folder = self.room / "libraries"
         for crate in crates:
             shutil.copytree(self.room / "crates" / crate, folder / "crates" / crate)
@@ -213,8 +215,7 @@ class Lab:
         if in_gate:
             runs = [(["rt", "ci"], folder)]
         else:
-            check = ["rt", "check", "--only", "", "--jobs", str(lanes)]
-            runs = [(check, folder / "crates" / re.match(r"\w*", line)[0]) for line in lines]
+            runs = [(["rt", "check", "--jobs", str(lanes)], folder / "crates" / re.match(r"\w*", line)[0]) for line in lines]
         for words, place in runs:
             ran = subprocess.run(words, cwd=place, env={**os.environ, "RT_JOBS": str(lanes)}, capture_output=True, text=True, check=False)
             if ran.returncode:
@@ -246,7 +247,7 @@ class Trial:
 
     def run(self):
         """What became of each bug, by its name: a verdict, and why."""
-        kept = ROOT / "crates" / self.crate / "out/incremental"
+        kept = self.lab.proved / "crates" / self.crate / "out/incremental"
         if kept.is_dir():
             linked(kept, self.seed)
         status, said = self.lab.check(self.crate, self.folder, self.seed)
