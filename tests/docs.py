@@ -5,7 +5,7 @@
 - What docs/CALLING.md and README.md show of a caller, and docs/SCRIPTS.md of a script, is in its file, word for word.
 - docs/GUARANTEES.md names each public call once, and its contracts cite the definitions that the row names.
 - Each file that a page names is there. No line of a page is over 120 columns but in a table, README.md is one page, and it names the kit.
-- docs/ARCHITECTURE.md says how many crates, files and functions its walks have (tests/walk.py).
+- docs/ARCHITECTURE.md says how many crates, files and functions its walks have, and none has more functions than it had (tests/walk.py).
 - Each file of rows is read for one group, and is not too long (tests/rows.py).
 - Each planted bug can be made. Each public function has one, or a reason. There are as many as tests/planted.txt says, a number that
   never falls (tests/planted.py).
@@ -278,13 +278,17 @@ def compare_readme():
 
 
 def compare_walks():
-    """docs/ARCHITECTURE.md says how many functions each of its walks has."""
+    """docs/ARCHITECTURE.md says how many functions each of its walks has, and none has more than it had."""
     text = (ROOT / "docs/ARCHITECTURE.md").read_text()
     sources = walk.Sources()
-    for call in walk.WALKS:
-        told = f"**`{call}`: {walk.counted(sources.walk(call))}**"
+    for call, most in walk.WALKS.items():
+        functions = sources.walk(call)
+        told, counts = f"**`{call}`: {walk.counted(functions)}**", tuple(map(len, walk.parted(functions)))
         if told not in text:
             wrong.append(f"docs/ARCHITECTURE.md: does not say {told}")
+        if counts != most:
+            more = any(count > it for count, it in zip(counts, most))
+            wrong.append(f"tests/walk.py: {call} has {counts} functions, {'at most' if more else 'so lower'} {most}")
 
 
 def compare_believed():
