@@ -157,73 +157,75 @@ class LineWords(unittest.TestCase):
 
 
 class Refusals(unittest.TestCase):
-    def assert_refused(self, script, refusal, changes=(), line=None):
+    def assert_refused(self, script, refusal, changes=(), where=None):
         with self.assertRaises(Refused) as caught:
             script.finish()
         error = caught.exception
         self.assertEqual((error.refusal, error.changes), (refusal, changes))
-        # The line that is refused is the last one, unless another is named.
-        line = line or str(script).count("\n")
-        self.assertTrue(str(error).startswith(f"line {line}: "), str(error))
+        # The sentence begins with what is printed of the refusal, and ends with the line, which is the last one unless another is named.
+        printed = " ".join(["refused", refusal.value, *map(str, changes)])
+        self.assertTrue(str(error).startswith(f"{printed}: "), str(error))
+        where = where or "line %d" % str(script).count("\n")
+        self.assertTrue(str(error).endswith(f": {where}"), str(error))
         self.assertEqual(str(error), error.sentence)
 
     def test_foreign(self):
         script, _ = begun()
         other = script.tree(ARGUMENTS)
         script.delete(other[0])
-        self.assert_refused(script, Refusal.FOREIGN, line=4)
+        self.assert_refused(script, Refusal.FOREIGN, where="line 4")
 
     def test_bad_range(self):
         script, root = begun()
         script.range(root[1], root[0])
-        self.assert_refused(script, Refusal.BAD_RANGE, line=3)
+        self.assert_refused(script, Refusal.BAD_RANGE, where="line 3")
 
     def test_deletes_root(self):
         script, root = begun()
         script.delete(root)
-        self.assert_refused(script, Refusal.DELETES_ROOT, line=3)
+        self.assert_refused(script, Refusal.DELETES_ROOT, where="line 3")
 
     def test_root_replacement(self):
         script, root = begun()
         script.replace(root, *words(script, "x"))
-        self.assert_refused(script, Refusal.ROOT_REPLACEMENT, line=4)
+        self.assert_refused(script, Refusal.ROOT_REPLACEMENT, where="line 4")
 
     def test_not_a_child(self):
         script, root = begun()
         block = script.tree(node(Kind.STMT_LIST, BLOCK))
         script.map(block, root[1], block[0][1])
-        self.assert_refused(script, Refusal.NOT_A_CHILD, line=4)
+        self.assert_refused(script, Refusal.NOT_A_CHILD, where="line 4")
 
     def test_not_younger(self):
         script, root = begun()
         block = script.tree(BLOCK)
         script.map(root, block[1], root[1])
-        self.assert_refused(script, Refusal.NOT_YOUNGER, line=4)
+        self.assert_refused(script, Refusal.NOT_YOUNGER, where="line 4")
 
     def test_other_shape(self):
         script, root = begun()
         block = script.tree(BLOCK)
         script.map(block, root, block[1])
-        self.assert_refused(script, Refusal.OTHER_SHAPE, line=4)
+        self.assert_refused(script, Refusal.OTHER_SHAPE, where="line 4")
 
     def test_intersecting(self):
         script, root = begun()
         script.delete(root[3])
         script.replace(root[1], *words(script, "x"))
         script.range(root[1], root[2])
-        self.assert_refused(script, Refusal.INTERSECTING, (1, 2))
+        self.assert_refused(script, Refusal.INTERSECTING, (1, 2), "changes 1 (line 5) and 2 (line 6)")
 
     def test_missing_mapping(self):
         script, root = begun()
         script.replace(root[1], script.tree(BLOCK))
         script.replace(root[1][0], *words(script, "x"))
-        self.assert_refused(script, Refusal.MISSING_MAPPING, (1, 0))
+        self.assert_refused(script, Refusal.MISSING_MAPPING, (1, 0), "changes 1 (line 6) and 0 (line 4)")
 
     def test_not_each_once(self):
         script, root = begun()
         script.delete(root[1])
         script.order(0, 0)
-        self.assert_refused(script, Refusal.NOT_EACH_ONCE)
+        self.assert_refused(script, Refusal.NOT_EACH_ONCE, (), "change 0 (line 3) is there twice")
 
     def test_owner_too_early(self):
         script, root = begun()
