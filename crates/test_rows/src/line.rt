@@ -1,14 +1,5 @@
 use test_trees::first_word;
 
-/// What a row asks.
-#[derive(Clone, Copy)]
-pub enum Row<'a> {
-    /// `? QUESTION`: a question about a value that stands by itself.
-    Question(&'a str),
-    /// `WORDS: STEP ; STEP ; ..`: what is asked, in words, and the steps.
-    Steps(&'a str),
-}
-
 /// What a row says of its answer, or of those of its steps that are asked about.
 #[derive(Clone, Copy)]
 pub enum Wanted<'a> {
@@ -39,8 +30,8 @@ pub enum Line<'a> {
     Group(&'a str),
     /// `tree NAME TREE`: a tree that the questions after it name.
     Tree { name: &'a str, text: &'a str },
-    /// A row and what it says of its answer.
-    Row { row: Row<'a>, wanted: Wanted<'a> },
+    /// A row: `WORDS: STEP ; STEP ; ..` or `? STEP`, and what it says of its answer.
+    Row { steps: &'a str, wanted: Wanted<'a> },
     /// `end`: the last line of a file, so that one that is cut off is noticed.
     End,
     Malformed,
@@ -69,19 +60,12 @@ impl<'a> Line<'a> {
     }
 
     fn read_row(line: &'a str) -> Option<Line<'a>> {
-        if let Some(text) = line.strip_prefix("? ") {
-            let (question, wanted) = split_wanted(text)?;
-            return Some(Line::Row {
-                row: Row::Question(question),
-                wanted,
-            });
-        }
-        let (_, text) = line.split_once(": ")?;
+        let text = match line.strip_prefix("? ") {
+            Some(step) => step,
+            None => line.split_once(": ")?.1,
+        };
         let (steps, wanted) = split_wanted(text)?;
-        Some(Line::Row {
-            row: Row::Steps(steps),
-            wanted,
-        })
+        Some(Line::Row { steps, wanted })
     }
 }
 

@@ -5,12 +5,28 @@
 #![tactic(auto)]
 
 mod asked;
+mod calls;
+mod editors;
+mod errors;
+mod facts;
+mod greens;
+mod indents;
 mod line;
-mod part;
+mod making;
+mod mappings;
+mod nodes;
+mod plans;
+mod recording;
 mod report;
+mod roots;
 mod row;
 mod run;
-mod table;
+mod runs;
+mod session;
+mod shown;
+mod standing;
+mod texts;
+mod values;
 
 use crate::report::REFUSED;
 use crate::run::Run;

@@ -1,7 +1,7 @@
 //! The trees that rows of tests share, by name.
 
 use crate::expression::{Row, expand, find_row};
-use crate::row_error::RowError;
+use crate::no_answer::NoAnswer;
 use cst_core::GreenNode;
 use std::alloc::Global;
 use tree_text::read_tree;
@@ -81,17 +81,17 @@ const ROWS: &[(&str, &str)] = &[
 ];
 
 /// The tree of an expression, in which every row tree may be named.
-pub fn green(alloc: Global, expression: &str) -> Result<GreenNode, RowError> {
+pub fn green(alloc: Global, expression: &str) -> Result<GreenNode, NoAnswer> {
     let expanded = expand(alloc, &all_rows(alloc)?, expression)?;
     Ok(read_tree(alloc, &expanded)?)
 }
 
 /// The row tree of this name: L, U, X, Y, A3, V, S1, S2, S3, B, BB, BBB, D, Q, M, NM, NR, W, E, F, AR, K, J, G or H.
-pub fn row(alloc: Global, name: &str) -> Result<GreenNode, RowError> {
+pub fn row(alloc: Global, name: &str) -> Result<GreenNode, NoAnswer> {
     find_row(alloc, &all_rows(alloc)?, name)
 }
 
-fn all_rows(alloc: Global) -> Result<Vec<Row>, RowError> {
+fn all_rows(alloc: Global) -> Result<Vec<Row>, NoAnswer> {
     let mut rows = Vec::new(alloc);
     for (name, expression) in ROWS {
         let expression = expand(alloc, &rows, expression)?;

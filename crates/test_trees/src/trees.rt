@@ -39,11 +39,11 @@ pub fn read_tree(alloc: Global, text: &str) -> Result<GreenNode, NoAnswer> {
 // An expression, or the name of a row tree or of one that holds P_31 often: P, of 2^32 - 1 bytes, or P_31 twice or three times.
 fn short_tree(alloc: Global, text: &str) -> Result<GreenNode, NoAnswer> {
     match text {
-        "P" => Ok(p_file(alloc)?),
-        "P31x2" => Ok(capped_halves(alloc, 2)?),
-        "P31x3" => Ok(capped_halves(alloc, 3)?),
-        _ if text.starts_with('(') => Ok(green(alloc, text)?),
-        _ => Ok(row(alloc, text)?),
+        "P" => p_file(alloc),
+        "P31x2" => capped_halves(alloc, 2),
+        "P31x3" => capped_halves(alloc, 3),
+        _ if text.starts_with('(') => green(alloc, text),
+        _ => row(alloc, text),
     }
 }
 
@@ -132,5 +132,5 @@ pub fn element_below(
     path: &str,
 ) -> Result<SyntaxElement, NoAnswer> {
     let slots = slots_of(alloc, path)?;
-    root.element_at(alloc, &slots)?.ok_or(NoAnswer::Nowhere)
+    root.element_at(alloc, &slots)?.ok_or(NoAnswer::Row("no element stands there"))
 }

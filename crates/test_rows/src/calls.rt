@@ -1,7 +1,15 @@
-//! Which answers each call owes a row.
+//! The calls that rows ask about: each by its name in a row, with its name in the sources and the answers that it owes.
 //!
 //! No row is owed where a text of 2^32 bytes would have to be made: `GreenToken::new`, `whitespace` and `token` that are too long.
-//! `dedent` and `reset_indent` make no text longer, so they have no row that is.
+//! `dedent` and `reset_indent` make no text longer, so they have no row that is. Questions owe no answers, and name their calls beside them.
+
+use crate::session::Session;
+use crate::shown::{Answer, Done};
+use crate::{
+    editors, errors, facts, greens, indents, making, mappings, nodes, plans, recording, runs, texts,
+    values,
+};
+use test_trees::{NoAnswer, Words};
 
 /// A call as a row has it, its name in the sources, and what it can answer where memory is there: that it is done, and each refusal
 /// by its name, with a space between them.
@@ -12,8 +20,8 @@ pub struct Owed<'a> {
     pub answers: &'a str,
 }
 
-// A line for each call. One text, since each reference that a constant holds makes the proof of what reads it longer.
-const OWED: &str = r#"new_root SyntaxNode::new_root ok TooLong NoTreeNumber
+/// A line for each call. One text, since each reference that a constant holds makes the proof of what reads it longer.
+pub const OWED: &str = r#"new_root SyntaxNode::new_root ok TooLong NoTreeNumber
 clone_subtree SyntaxNode::clone_subtree ok NoTreeNumber
 green_node GreenNode::new ok TooLong
 capped GreenNode::capped ok
@@ -101,23 +109,60 @@ impl<'a> Owed<'a> {
     }
 }
 
-/// A line for each call that owes rows.
-pub fn owed_lines() -> &'static str {
-    OWED
-}
-
-// The name in the sources of a call that has one of these lines.
-fn name_in(lines: &'static str, call: &str) -> Option<&'static str> {
-    for line in lines.lines() {
+/// The name in the sources of a call that owes rows.
+pub fn name_of(call: &str) -> &'static str {
+    for line in OWED.lines() {
         match Owed::read(line) {
-            Some(owed) if owed.call == call => return Some(owed.name),
+            Some(owed) if owed.call == call => return owed.name,
             _ => (),
         }
     }
-    None
+    "a call that owes no row"
 }
 
-/// The name in the sources of a call that owes rows.
-pub fn name_of(call: &str) -> &'static str {
-    name_in(owed_lines(), call).unwrap_or("a call that owes no row")
+/// Makes a call, by its name and the words of its arguments.
+pub fn call(s: &mut Session, name: &str, words: &mut Words, answer: &mut Answer) -> Done {
+    if let Some(done) = making::answer(s, name, words, answer) {
+        return done;
+    }
+    if let Some(done) = mappings::answer(s, name, words, answer) {
+        return done;
+    }
+    if let Some(done) = editors::answer(s, name, words, answer) {
+        return done;
+    }
+    if let Some(done) = recording::answer(s, name, words) {
+        return done;
+    }
+    if let Some(done) = plans::answer(s, name, words, answer) {
+        return done;
+    }
+    if let Some(done) = runs::answer(s, name, words, answer) {
+        return done;
+    }
+    if let Some(done) = indents::answer(s, name, words, answer) {
+        return done;
+    }
+    ask(s, name, words, answer)
+}
+
+// The same of a call that only asks.
+fn ask(s: &mut Session, name: &str, words: &mut Words, answer: &mut Answer) -> Done {
+    if let Some(done) = nodes::answer(s, name, words, answer) {
+        return done;
+    }
+    if let Some(done) = greens::answer(s, name, words, answer) {
+        return done;
+    }
+    if let Some(done) = texts::answer(s, name, words, answer) {
+        return done;
+    }
+    match name {
+        "equal" => values::equal(s, words, answer),
+        "form" => values::form(s, words, answer),
+        "same_shape" => values::shape(s, words, answer),
+        "views" => values::views(s, words, answer),
+        _ if name.ends_with("error") => errors::answer(name, words, answer),
+        _ => facts::answer(s, name, words, answer),
+    }
 }

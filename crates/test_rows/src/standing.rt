@@ -1,7 +1,7 @@
 //! What a refusal leaves as it is: numbers that stand for the values, made without memory.
 ghost use Rattle.std.specs.Prelude.{◌≤◌, length};
 
-use cst_core::{GreenNode, SyntaxElement, SyntaxNode};
+use cst_core::{GreenNode, SyntaxElement};
 use std::hash::{DefaultHasher, Hash, Hasher};
 use syntax_editor::{Change, EditPlan, EditRun, Position, SyntaxEditor, SyntaxMapping};
 
@@ -41,15 +41,14 @@ impl Group {
     }
 }
 
-/// The number that comes next, how many builders there are, the mappings, the editors, how many changes and registered
-/// elements there are for a plan that is built, and the plans.
+/// The number that comes next, how many builders there are, and changes and registered elements for a plan that is built, the mappings, the
+/// editors and the plans.
 #[derive(Clone, Copy)]
 pub struct Standing {
     pub next: Option<u64>,
-    pub builders: usize,
+    pub to_build: (usize, usize, usize),
     pub mappings: Group,
     pub editors: Group,
-    pub to_build: (usize, usize),
     pub plans: Group,
 }
 
@@ -68,11 +67,11 @@ impl Standing {
 
     /// Whether a call took something.
     pub fn has_lost(&self, after: &Standing) -> bool {
-        after.builders < self.builders
-            || after.mappings.count < self.mappings.count
+        after.mappings.count < self.mappings.count
             || after.editors.count < self.editors.count
             || after.to_build.0 < self.to_build.0
             || after.to_build.1 < self.to_build.1
+            || after.to_build.2 < self.to_build.2
     }
 }
 
@@ -84,7 +83,7 @@ fn both(first: u64, second: u64) -> u64 {
     hasher.finish()
 }
 
-fn hash_of<T: Hash>(value: &T) -> u64 {
+pub fn hash_of<T: Hash>(value: &T) -> u64 {
     let mut hasher = DefaultHasher::new();
     value.hash(&mut hasher);
     hasher.finish()
@@ -145,21 +144,14 @@ fn change_standing(change: &Change) -> u64 {
 
 fn gap_standing(at: &Position) -> u64 {
     both(
-        first_of_standing(at.first_of()),
+        one_standing(at.first_of()),
         one_standing(at.after_of()),
     )
 }
 
-fn first_of_standing(node: Option<&SyntaxNode>) -> u64 {
-    match node {
-        Some(node) => hash_of(node),
-        None => 0,
-    }
-}
-
-fn one_standing(element: Option<&SyntaxElement>) -> u64 {
-    match element {
-        Some(element) => hash_of(element),
+fn one_standing<T: Hash>(value: Option<&T>) -> u64 {
+    match value {
+        Some(value) => hash_of(value),
         None => 0,
     }
 }

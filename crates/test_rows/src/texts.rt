@@ -1,0 +1,189 @@
+//! Trees as text: expressions that are read and written, and lines of a tree, also with names of kinds of one's own.
+
+use crate::greens::kind_of;
+use crate::session::{CHANGED, Session};
+use crate::shown::{Answer, Done, Show, told};
+use cst_core::{GreenNode, SyntaxElement, SyntaxKind, SyntaxNode, TreeIds};
+use std::alloc::Global;
+use test_trees::{NoAnswer, Words};
+use tree_text::{
+    ExpressionError, KindNames, NameError, WriteError, dump, dump_node, read_line_tree, read_root,
+    read_tree, read_tree_with, write_tree, write_tree_with,
+};
+
+/// The question of this name, if it is one of these: `read_tree EXPRESSION`, `read_line_tree EXPRESSION` or `read_root NUMBER EXPRESSION`, each
+/// expression between quotes; `write_tree TREE`; `write_named KIND NAME TREE`, of a node of this kind with the tree below it;
+/// `read_named KIND NAME EXPRESSION`; `dump ELEMENT`; `dump_named KIND NAME TREE`, of such a node and of it as an element; or
+/// `name_kind KIND NAME KIND NAME`, what the second kind's name answers. A name `-` is given to no kind.
+pub fn answer(s: &mut Session, name: &str, words: &mut Words, answer: &mut Answer) -> Option<Done> {
+    let alloc = s.alloc;
+    let done = match name {
+        "read_tree" | "read_line_tree" => read(alloc, name, words, answer),
+        "read_root" => root(alloc, words, answer),
+        "write_tree" => write(s, words, answer),
+        "write_named" => write_named(s, words, answer),
+        "read_named" => read_named(alloc, words, answer),
+        "dump" => dump_of(s, words, answer),
+        "dump_named" => dump_named(s, words, answer),
+        "name_kind" => name_kind(alloc, words, answer),
+        _ => return None,
+    };
+    Some(done)
+}
+
+/// What an argument between quotes stands for: `\n`, `\r`, `\t`, `\"` and `\\` are escapes.
+pub fn unquote(alloc: Global, quoted: &str) -> Result<String, NoAnswer> {
+    let inner = quoted.strip_prefix('"').and_then(|inner| inner.strip_suffix('"'));
+    let mut text = String::new(alloc);
+    let mut is_escaped = false;
+    for c in inner.ok_or(NoAnswer::Arguments)?.chars() {
+        if is_escaped {
+            text.push(unescape(c)?)?;
+            is_escaped = false;
+        } else if c == '\\' {
+            is_escaped = true;
+        } else {
+            text.push(c)?;
+        }
+    }
+    Ok(text)
+}
+
+fn unescape(c: char) -> Result<char, NoAnswer> {
+    match c {
+        'n' => Ok('\n'),
+        'r' => Ok('\r'),
+        't' => Ok('\t'),
+        '"' | '\\' => Ok(c),
+        _ => Err(NoAnswer::Arguments),
+    }
+}
+
+// What an error prints, and its sentence.
+fn refused(call: &'static str, error: &ExpressionError, answer: &mut Answer) -> Done {
+    if let ExpressionError::Memory = error {
+        return Err(NoAnswer::Refused(call));
+    }
+    Ok(write!(answer.text, "{error}: {}", error.help())?)
+}
+
+fn read(alloc: Global, name: &str, words: &mut Words, answer: &mut Answer) -> Done {
+    let expression = unquote(alloc, words.take_rest())?;
+    let is_line = name == "read_line_tree";
+    let (call, read) = if is_line {
+        ("read_line_tree", read_line_tree(alloc, &expression))
+    } else {
+        ("read_tree", read_tree(alloc, &expression))
+    };
+    match read {
+        Ok(tree) => tree.show(answer),
+        Err(error) => refused(call, &error, answer),
+    }
+}
+
+// Of a root its number, and of any such call the number that comes next.
+fn root(alloc: Global, words: &mut Words, answer: &mut Answer) -> Done {
+    let mut ids = TreeIds::new(words.number()?);
+    let before = ids.peek();
+    let expression = unquote(alloc, words.take_rest())?;
+    match read_root(alloc, &mut ids, &expression) {
+        Ok(node) => {
+            write!(answer.text, "{} ", node.tree())?;
+            node.as_green().show(answer)?;
+        }
+        Err(error) if ids.peek() == before => refused("read_root", &error, answer)?,
+        Err(_) => return Err(CHANGED),
+    }
+    answer.word(", then ")?;
+    answer.number_or_none(ids.peek())
+}
+
+// Of a call that writes a tree.
+fn written(answer: &mut Answer, call: &'static str, called: Result<String, WriteError>) -> Done {
+    match called {
+        Ok(text) => answer.quote(&text),
+        Err(WriteError::Memory) => Err(NoAnswer::Refused(call)),
+        Err(error) => answer.print(&error),
+    }
+}
+
+fn write(s: &mut Session, words: &mut Words, answer: &mut Answer) -> Done {
+    let tree = s.trees.defined.tree(s.alloc, words.take_rest())?;
+    written(answer, "write_tree", write_tree(s.alloc, &tree))
+}
+
+// The kind and its name of the next words.
+fn names(alloc: Global, words: &mut Words) -> Result<(SyntaxKind, KindNames), NoAnswer> {
+    let kind = kind_of(words)?;
+    let name = words.word()?;
+    let mut names = KindNames::new(alloc);
+    if name == "-" {
+        return Ok((kind, names));
+    }
+    match names.add(alloc, kind, name) {
+        Ok(()) => Ok((kind, names)),
+        Err(NameError::Memory) => Err(NoAnswer::Refused("KindNames::add")),
+        Err(_) => Err(NoAnswer::Arguments),
+    }
+}
+
+// A node of this kind with a tree below it.
+fn above(s: &Session, kind: SyntaxKind, words: &mut Words) -> Result<GreenNode, NoAnswer> {
+    let tree = s.trees.defined.tree(s.alloc, words.take_rest())?;
+    let mut children = Vec::new(s.alloc);
+    children.push(tree.into())?;
+    Ok(GreenNode::new(s.alloc, kind, children)?)
+}
+
+fn write_named(s: &mut Session, words: &mut Words, answer: &mut Answer) -> Done {
+    let (kind, names) = names(s.alloc, words)?;
+    let tree = above(s, kind, words)?;
+    written(answer, "write_tree_with", write_tree_with(s.alloc, &tree, &names))
+}
+
+fn read_named(alloc: Global, words: &mut Words, answer: &mut Answer) -> Done {
+    let (_, names) = names(alloc, words)?;
+    let expression = unquote(alloc, words.take_rest())?;
+    match read_tree_with(alloc, &expression, &names) {
+        Ok(tree) => {
+            write!(answer.text, "{} ", tree.kind().0)?;
+            tree.show(answer)
+        }
+        Err(error) => refused("read_tree_with", &error, answer),
+    }
+}
+
+fn dump_of(s: &mut Session, words: &mut Words, answer: &mut Answer) -> Done {
+    let element = s.trees.element(words)?;
+    told(answer, "dump", dump(s.alloc, &element, &KindNames::new(s.alloc)))
+}
+
+fn dump_named(s: &mut Session, words: &mut Words, answer: &mut Answer) -> Done {
+    let (kind, names) = names(s.alloc, words)?;
+    let tree = above(s, kind, words)?;
+    let node = SyntaxNode::new_root(s.alloc, &mut TreeIds::new(1), tree)?;
+    told(answer, "dump_node", dump_node(s.alloc, &node, &names))?;
+    let mut other = Answer::new(s.alloc);
+    let element = SyntaxElement::from(node);
+    told(&mut other, "dump", dump(s.alloc, &element, &names))?;
+    if other.text != answer.text {
+        answer.word("; another text of the element")?;
+    }
+    Ok(())
+}
+
+fn name_kind(alloc: Global, words: &mut Words, answer: &mut Answer) -> Done {
+    let (_, mut names) = names(alloc, words)?;
+    let kind = kind_of(words)?;
+    let name = unquote(alloc, words.take_rest())?;
+    let before = names.kind(&name);
+    let added = names.add(alloc, kind, &name);
+    let after = names.kind(&name);
+    match added {
+        Ok(()) if after == Some(kind) && names.name(kind) == Some(name.as_str()) => answer.word("ok"),
+        Ok(()) => Err(CHANGED),
+        Err(_) if after != before => Err(CHANGED),
+        Err(NameError::Memory) => Err(NoAnswer::Refused("KindNames::add")),
+        Err(error) => answer.print(&error),
+    }
+}

@@ -1,0 +1,153 @@
+//! Equality, hash and form of element values, the shape of nodes, and typed nodes through their traits.
+ghost use Rattle.std.specs.Prelude.{◌≡◌, IsTrue, IfOk};
+ghost use Rattle.cst_core.specs.Tree.{label};
+ghost use Rattle.cst_core.specs.Element.{subtree};
+
+use crate::session::Session;
+use crate::shown::{Answer, Done, kind_name};
+use crate::standing::hash_of;
+use cst_core::ast::{BlockExpr, Fn, LetStmt, StmtList};
+use cst_core::{AstNode, HasAttrs, SyntaxElement, SyntaxNode, same_shape};
+use std::alloc::{AllocError, Global};
+use std::hash::Hash;
+use test_trees::Words;
+
+/// `equal ELEMENT ELEMENT`
+pub fn equal(s: &mut Session, words: &mut Words, answer: &mut Answer) -> Done {
+    let (left, right) = s.trees.two_elements(words)?;
+    answer.word(equality(&left, &right))
+}
+
+// By `==` both ways, and by the hash, which differs where these values do.
+fn compare<T: Hash>(left: &T, right: &T) -> &'static str {
+    match (left == right, right == left, hash_of(left) == hash_of(right)) {
+        (true, true, true) => "yes",
+        (false, false, false) => "no",
+        _ => "in one way and not in another",
+    }
+}
+
+// As elements, and as the nodes or tokens that they are.
+fn equality(left: &SyntaxElement, right: &SyntaxElement) -> &'static str {
+    let own = compare(left, right);
+    let by_form = match (left, right) {
+        (SyntaxElement::Node(left), SyntaxElement::Node(right)) => compare(left, right),
+        (SyntaxElement::Token(left), SyntaxElement::Token(right)) => compare(left, right),
+        _ => "no",
+    };
+    if own == by_form {
+        own
+    } else {
+        "as elements and not as what they are, or the other way round"
+    }
+}
+
+/// `form ELEMENT`: by the node or token that is taken and put back, and by the one that is lent.
+pub fn form(s: &mut Session, words: &mut Words, answer: &mut Answer) -> Done {
+    let element = s.trees.element(words)?;
+    let lent = lent_form(&element);
+    let taken = taken_form(element);
+    answer.word(if lent == taken { lent } else { "one lent and another taken" })
+}
+
+fn lent_form(element: &SyntaxElement) -> &'static str {
+    match (element.as_node(), element.as_token()) {
+        (Some(node), None) if hash_of(node) == hash_of(element) => "node",
+        (None, Some(token)) if hash_of(token) == hash_of(element) => "token",
+        _ => "both or none",
+    }
+}
+
+fn taken_form(element: SyntaxElement) -> &'static str {
+    let before = hash_of(&element);
+    if element.as_node().is_some() {
+        return match element.into_node() {
+            Some(node) if hash_of(&SyntaxElement::from(node)) == before => "node",
+            _ => "none",
+        };
+    }
+    match element.into_token() {
+        Some(token) if hash_of(&SyntaxElement::from(token)) == before => "token",
+        _ => "none",
+    }
+}
+
+/// `same_shape NODE NODE`, both ways
+pub fn shape(s: &mut Session, words: &mut Words, answer: &mut Answer) -> Done {
+    let left = s.trees.node(words)?;
+    let right = s.trees.node(words)?;
+    let shapes = match (same_shape(&left, &right), same_shape(&right, &left)) {
+        (true, true) => "yes",
+        (false, false) => "no",
+        _ => "one way and not the other",
+    };
+    answer.word(shapes)
+}
+
+/// `views NODE`: the kinds of the node's views as BlockExpr, as StmtList, as LetStmt and as Fn
+pub fn views(s: &mut Session, words: &mut Words, answer: &mut Answer) -> Done {
+    let node = s.trees.node(words)?;
+    let alloc = s.alloc;
+    view_name::<BlockExpr>(alloc, &node, answer)?;
+    view_name::<StmtList>(alloc, &node, answer)?;
+    attributed_name::<LetStmt>(alloc, &node, answer)?;
+    attributed_name::<Fn>(alloc, &node, answer)
+}
+
+// What a function over any typed node knows from the trait alone.
+
+fn view<T: AstNode>(node: SyntaxNode) -> T
+    requires { IsTrue (T.is_kind (label (subtree node))) }
+    ensures { T.syntax_node result ≡ node }
+{
+    T::cast(node).unwrap()
+}
+
+fn view_if_castable<T: AstNode>(node: SyntaxNode) -> Option<T> {
+    if T::can_cast(node.kind()) {
+        Some(view(node))
+    } else {
+        None
+    }
+}
+
+fn can_cast_again<T: AstNode>(view: &T) -> bool
+    ensures { IsTrue result }
+{
+    T::can_cast(view.syntax().kind())
+}
+
+fn same_view<T: AstNode>(view: T, node: SyntaxNode) -> T
+    requires { node ≡ T.syntax_node view }
+    ensures { T.syntax_node result ≡ T.syntax_node view }
+{
+    T::cast(node).unwrap()
+}
+
+fn view_again<T: AstNode>(alloc: Global, view: T) -> Result<T, AllocError>
+    ensures { IfOk result (λ t. T.syntax_node t ≡ T.syntax_node view) }
+{
+    let node = view.syntax().try_clone(alloc)?;
+    Ok(same_view(view, node))
+}
+
+// The name of the kind of the node's view, `none` where there is none, after a space.
+fn view_name<T: AstNode>(alloc: Global, node: &SyntaxNode, answer: &mut Answer) -> Done {
+    if !answer.text.is_empty() {
+        answer.word(" ")?;
+    }
+    let Some(typed) = view_if_castable::<T>(node.try_clone(alloc)?) else {
+        let is_view = T::cast(node.try_clone(alloc)?).is_some();
+        return answer.word(if is_view { "a view of a kind that has none" } else { "none" });
+    };
+    let again = view_again(alloc, typed)?;
+    if can_cast_again(&again) && again.syntax() == node {
+        answer.word(kind_name(again.syntax().kind()))
+    } else {
+        answer.word("a view of another node")
+    }
+}
+
+fn attributed_name<T: HasAttrs>(alloc: Global, node: &SyntaxNode, answer: &mut Answer) -> Done {
+    view_name::<T>(alloc, node, answer)
+}
