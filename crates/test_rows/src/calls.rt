@@ -6,8 +6,8 @@
 use crate::session::Session;
 use crate::shown::{Answer, Done};
 use crate::{
-    editors, errors, facts, greens, indents, making, mappings, nodes, plans, recording, runs, texts,
-    values,
+    editors, errors, facts, greens, indents, making, mappings, nodes, plans, recording, runs,
+    texts, values,
 };
 use test_trees::{NoAnswer, Words};
 

@@ -62,8 +62,13 @@ fn give_factory(s: &mut Session, words: &mut Words) -> Done {
 
 // The first clash that there would be if the last editor went into the one before it.
 fn clashes_with(s: &mut Session, answer: &mut Answer) -> Done {
-    let (other, before) = s.editors.split_last().ok_or(NoAnswer::Row("no editor was made"))?;
-    let own = before.last().ok_or(NoAnswer::Row("one editor alone was made"))?;
+    let (other, before) = s
+        .editors
+        .split_last()
+        .ok_or(NoAnswer::Row("no editor was made"))?;
+    let own = before
+        .last()
+        .ok_or(NoAnswer::Row("one editor alone was made"))?;
     match asked(own.clashes_with(s.alloc, other))? {
         Some((first, second)) => Ok(write!(answer.text, "ok {first} {second}")?),
         None => answer.word("none"),

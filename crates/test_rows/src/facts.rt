@@ -168,7 +168,11 @@ fn of_token(alloc: Global, answer: &mut Answer, name: &str, it: &SyntaxToken) ->
         "as_green" => it.as_green().show(answer),
         "green" => told(answer, "SyntaxToken::green", it.green(alloc)),
         "ancestors" => {
-            told(answer, "SyntaxToken::parent_ancestors", it.parent_ancestors(alloc))
+            told(
+                answer,
+                "SyntaxToken::parent_ancestors",
+                it.parent_ancestors(alloc),
+            )
         }
         _ => around!("SyntaxToken", alloc, answer, name, it),
     }

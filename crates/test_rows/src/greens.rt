@@ -4,8 +4,8 @@ use crate::session::{CHANGED, Session};
 use crate::shown::{Answer, Done, Show, show_green, told};
 use crate::texts::unquote;
 use cst_core::{
-    GreenElement, GreenNode, GreenToken, KIND_NAMES, LENGTH_LIMIT, SyntaxKind, SyntaxNode, TreeError,
-    TreeIds,
+    GreenElement, GreenNode, GreenToken, KIND_NAMES, LENGTH_LIMIT, SyntaxKind, SyntaxNode,
+    TreeError, TreeIds,
 };
 use std::alloc::Global;
 use test_trees::{NoAnswer, Words, green, halves, p, row, slots_of};
@@ -52,7 +52,11 @@ const CONSTANTS: [(&str, SyntaxKind); 65] = constants!(
 
 /// The kind with the number that the next word says.
 pub fn kind_of(words: &mut Words) -> Result<SyntaxKind, NoAnswer> {
-    let number = words.word()?.parse::<u16>().ok().ok_or(NoAnswer::Arguments)?;
+    let number = words
+        .word()?
+        .parse::<u16>()
+        .ok()
+        .ok_or(NoAnswer::Arguments)?;
     Ok(SyntaxKind(number))
 }
 
@@ -72,7 +76,10 @@ fn checked_name(kind: SyntaxKind) -> &'static str {
     if SyntaxKind::from_name(name) != Some(kind) {
         return "a name that does not lead back";
     }
-    if !CONSTANTS.iter().any(|(own, constant)| *own == name && *constant == kind) {
+    if !CONSTANTS
+        .iter()
+        .any(|(own, constant)| *own == name && *constant == kind)
+    {
         return "a name that is not its constant's";
     }
     name

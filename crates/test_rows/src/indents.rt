@@ -72,7 +72,10 @@ fn sum(words: &mut Words, answer: &mut Answer) -> Done {
 // A level as it prints: as it is, and in a width of 14, 13 and 14, at the right end, at the left end and in the middle.
 fn print(words: &mut Words, answer: &mut Answer) -> Done {
     let level = IndentLevel(words.level()?);
-    Ok(write!(answer.text, "[{level}] [{level:*>14}] [{level:*<13}] [{level:*^14}]")?)
+    Ok(write!(
+        answer.text,
+        "[{level}] [{level:*>14}] [{level:*<13}] [{level:*^14}]"
+    )?)
 }
 
 fn free_indent(s: &mut Session, words: &mut Words, answer: &mut Answer) -> Done {

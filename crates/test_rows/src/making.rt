@@ -99,7 +99,11 @@ fn splice_children(alloc: Global, words: &mut Words, answer: &mut Answer) -> Don
 
 // Whether the calls of a source that begins at the first number give the annotations of the others, each above the one before.
 fn annotations(words: &mut Words, answer: &mut Answer) -> Done {
-    let first = words.word()?.parse::<u32>().ok().ok_or(NoAnswer::Arguments)?;
+    let first = words
+        .word()?
+        .parse::<u32>()
+        .ok()
+        .ok_or(NoAnswer::Arguments)?;
     let mut source = Annotations::new(first);
     let mut before = None;
     for word in words.take_rest().split(' ') {
@@ -203,7 +207,11 @@ fn show_token(alloc: Global, token: &SyntaxToken, answer: &mut Answer) -> Done {
     let parent = token.parent(alloc)?.ok_or(NoAnswer::Row("no parent"))?;
     let count = parent.children_with_tokens(alloc)?.len();
     let kind = parent.kind().name().unwrap_or("");
-    Ok(write!(answer.text, " of {}, one of {count} below {kind}", token.tree())?)
+    Ok(write!(
+        answer.text,
+        " of {}, one of {count} below {kind}",
+        token.tree()
+    )?)
 }
 
 // A token with the text of a tree.
@@ -236,7 +244,10 @@ fn wrap(s: &mut Session, words: &mut Words, answer: &mut Answer) -> Done {
     let editor = last(&mut s.editors)?;
     let node = s.trees.node(words)?;
     let kind = kind_in(words)?;
-    let (before, after) = words.take_rest().split_once("round").ok_or(NoAnswer::Arguments)?;
+    let (before, after) = words
+        .take_rest()
+        .split_once("round")
+        .ok_or(NoAnswer::Arguments)?;
     let before = s.trees.elements(&mut Words::of(before))?;
     let after = s.trees.elements(&mut Words::of(after))?;
     let copy = editor.wrap(s.alloc, &mut s.ids, &node, kind, &before, &after);

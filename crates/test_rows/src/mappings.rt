@@ -42,7 +42,10 @@ fn map_node(s: &mut Session, words: &mut Words) -> Done {
 
 fn map_children(s: &mut Session, words: &mut Words) -> Done {
     let builder = last(&mut s.builders)?;
-    let (inputs, outputs) = words.take_rest().split_once(" to ").ok_or(NoAnswer::Arguments)?;
+    let (inputs, outputs) = words
+        .take_rest()
+        .split_once(" to ")
+        .ok_or(NoAnswer::Arguments)?;
     let inputs = s.trees.nodes(inputs)?;
     let outputs = s.trees.nodes(outputs)?;
     asked(builder.map_children(s.alloc, &inputs, &outputs))
@@ -135,7 +138,11 @@ fn follow(s: &mut Session, words: &mut Words, answer: &mut Answer) -> Done {
 // The form of an element, its text, the number of its tree and its path.
 fn show_end(called: Result<SyntaxElement, AllocError>, answer: &mut Answer) -> Done {
     let element = asked(called)?;
-    answer.word(if element.as_node().is_some() { "ok node " } else { "ok token " })?;
+    answer.word(if element.as_node().is_some() {
+        "ok node "
+    } else {
+        "ok token "
+    })?;
     let text = element.text(answer.alloc)?;
     answer.quote(&text)?;
     write!(answer.text, " of {} at ", element.tree())?;

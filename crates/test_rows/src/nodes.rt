@@ -12,11 +12,24 @@ use test_trees::{NoAnswer, Words, slots_of};
 /// `element_at NODE PATH`, `element_of_tree NODE PATH`, `prev_token TOKEN` or `next_token TOKEN`.
 pub fn answer(s: &mut Session, name: &str, words: &mut Words, answer: &mut Answer) -> Option<Done> {
     match name {
-        "first_child" | "last_child" | "next_sibling" | "prev_sibling" | "children"
-        | "descendants" | "first_child_or_token" | "last_child_or_token"
-        | "children_with_tokens" | "descendants_with_tokens" | "first_token" | "last_token"
-        | "descendants_of_kind" | "token_at_offset" | "covering_element" | "element_at"
-        | "element_of_tree" | "subtree_copy" => Some(of_node(s, name, words, answer)),
+        "first_child"
+        | "last_child"
+        | "next_sibling"
+        | "prev_sibling"
+        | "children"
+        | "descendants"
+        | "first_child_or_token"
+        | "last_child_or_token"
+        | "children_with_tokens"
+        | "descendants_with_tokens"
+        | "first_token"
+        | "last_token"
+        | "descendants_of_kind"
+        | "token_at_offset"
+        | "covering_element"
+        | "element_at"
+        | "element_of_tree"
+        | "subtree_copy" => Some(of_node(s, name, words, answer)),
         "prev_token" | "next_token" => Some(of_token(s, name, words, answer)),
         _ => None,
     }
@@ -98,7 +111,11 @@ fn at(alloc: Global, it: &SyntaxNode, name: &str, words: &mut Words, answer: &mu
         }
         "element_at" => {
             let slots = slots_of(alloc, words.word()?)?;
-            told(answer, "SyntaxNode::element_at", it.element_at(alloc, &slots))
+            told(
+                answer,
+                "SyntaxNode::element_at",
+                it.element_at(alloc, &slots),
+            )
         }
         _ => {
             let called = it.element_of_tree(alloc, slots_of(alloc, words.word()?)?);

@@ -95,7 +95,10 @@ impl Report {
         if !self.is_partial {
             owed.note_all(rt, asked)?;
             let Count { owed, lacks } = owed;
-            println!(rt; "{} of {owed} owed pairs of a call and its answer have a row", owed.saturating_sub(lacks))?;
+            println!(rt;
+                "{} of {owed} owed pairs of a call and its answer have a row",
+                owed.saturating_sub(lacks)
+            )?;
             if self.wrong == 0 {
                 println!(rt; "all rows answer as expected")?;
             } else {

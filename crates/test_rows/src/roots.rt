@@ -102,7 +102,10 @@ impl Roots {
     }
 
     /// Such a position, and the elements of all words that are left.
-    pub fn insertions(&self, words: &mut Words) -> Result<(Position, Vec<SyntaxElement>), NoAnswer> {
+    pub fn insertions(
+        &self,
+        words: &mut Words,
+    ) -> Result<(Position, Vec<SyntaxElement>), NoAnswer> {
         let side = words.word()?;
         let at = self.position_at(side, words.word()?)?;
         Ok((at, self.elements(words)?))

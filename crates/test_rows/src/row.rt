@@ -8,6 +8,7 @@ use crate::standing::Standing;
 use test_trees::{NoAnswer, Words, first_word};
 
 /// What is taken of a row, in a session of its own.
+#[derive(Drop)]
 pub struct Row<'a> {
     pub session: &'a mut Session,
     pub asked: &'a mut Asked,

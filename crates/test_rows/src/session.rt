@@ -62,7 +62,11 @@ impl Session {
     pub fn standing(&self) -> Standing {
         Standing {
             next: self.ids.peek(),
-            to_build: (self.builders.len(), self.changes.len(), self.registrations.len()),
+            to_build: (
+                self.builders.len(),
+                self.changes.len(),
+                self.registrations.len(),
+            ),
             mappings: mappings_standing(&self.mappings),
             editors: editors_standing(&self.editors),
             plans: plans_standing(&self.plans),

@@ -143,10 +143,7 @@ fn change_standing(change: &Change) -> u64 {
 }
 
 fn gap_standing(at: &Position) -> u64 {
-    both(
-        one_standing(at.first_of()),
-        one_standing(at.after_of()),
-    )
+    both(one_standing(at.first_of()), one_standing(at.after_of()))
 }
 
 fn one_standing<T: Hash>(value: Option<&T>) -> u64 {

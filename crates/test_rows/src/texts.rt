@@ -33,7 +33,9 @@ pub fn answer(s: &mut Session, name: &str, words: &mut Words, answer: &mut Answe
 
 /// What an argument between quotes stands for: `\n`, `\r`, `\t`, `\"` and `\\` are escapes.
 pub fn unquote(alloc: Global, quoted: &str) -> Result<String, NoAnswer> {
-    let inner = quoted.strip_prefix('"').and_then(|inner| inner.strip_suffix('"'));
+    let inner = quoted
+        .strip_prefix('"')
+        .and_then(|inner| inner.strip_suffix('"'));
     let mut text = String::new(alloc);
     let mut is_escaped = false;
     for c in inner.ok_or(NoAnswer::Arguments)?.chars() {
@@ -138,7 +140,11 @@ fn above(s: &Session, kind: SyntaxKind, words: &mut Words) -> Result<GreenNode, 
 fn write_named(s: &mut Session, words: &mut Words, answer: &mut Answer) -> Done {
     let (kind, names) = names(s.alloc, words)?;
     let tree = above(s, kind, words)?;
-    written(answer, "write_tree_with", write_tree_with(s.alloc, &tree, &names))
+    written(
+        answer,
+        "write_tree_with",
+        write_tree_with(s.alloc, &tree, &names),
+    )
 }
 
 fn read_named(alloc: Global, words: &mut Words, answer: &mut Answer) -> Done {
@@ -155,7 +161,11 @@ fn read_named(alloc: Global, words: &mut Words, answer: &mut Answer) -> Done {
 
 fn dump_of(s: &mut Session, words: &mut Words, answer: &mut Answer) -> Done {
     let element = s.trees.element(words)?;
-    told(answer, "dump", dump(s.alloc, &element, &KindNames::new(s.alloc)))
+    told(
+        answer,
+        "dump",
+        dump(s.alloc, &element, &KindNames::new(s.alloc)),
+    )
 }
 
 fn dump_named(s: &mut Session, words: &mut Words, answer: &mut Answer) -> Done {
@@ -180,7 +190,9 @@ fn name_kind(alloc: Global, words: &mut Words, answer: &mut Answer) -> Done {
     let added = names.add(alloc, kind, &name);
     let after = names.kind(&name);
     match added {
-        Ok(()) if after == Some(kind) && names.name(kind) == Some(name.as_str()) => answer.word("ok"),
+        Ok(()) if after == Some(kind) && names.name(kind) == Some(name.as_str()) => answer.word(
+            "ok",
+        ),
         Ok(()) => Err(CHANGED),
         Err(_) if after != before => Err(CHANGED),
         Err(NameError::Memory) => Err(NoAnswer::Refused("KindNames::add")),

@@ -20,7 +20,11 @@ pub fn equal(s: &mut Session, words: &mut Words, answer: &mut Answer) -> Done {
 
 // By `==` both ways, and by the hash, which differs where these values do.
 fn compare<T: Hash>(left: &T, right: &T) -> &'static str {
-    match (left == right, right == left, hash_of(left) == hash_of(right)) {
+    match (
+        left == right,
+        right == left,
+        hash_of(left) == hash_of(right),
+    ) {
         (true, true, true) => "yes",
         (false, false, false) => "no",
         _ => "in one way and not in another",
@@ -47,7 +51,11 @@ pub fn form(s: &mut Session, words: &mut Words, answer: &mut Answer) -> Done {
     let element = s.trees.element(words)?;
     let lent = lent_form(&element);
     let taken = taken_form(element);
-    answer.word(if lent == taken { lent } else { "one lent and another taken" })
+    answer.word(if lent == taken {
+        lent
+    } else {
+        "one lent and another taken"
+    })
 }
 
 fn lent_form(element: &SyntaxElement) -> &'static str {
@@ -62,14 +70,18 @@ fn taken_form(element: SyntaxElement) -> &'static str {
     let before = hash_of(&element);
     if element.as_node().is_some() {
         return match element.into_node() {
-            Some(node) if hash_of(&SyntaxElement::from(node)) == before => "node",
-            _ => "none",
+            Some(node) => name_if(hash_of(&SyntaxElement::from(node)) == before, "node"),
+            None => "none",
         };
     }
     match element.into_token() {
-        Some(token) if hash_of(&SyntaxElement::from(token)) == before => "token",
-        _ => "none",
+        Some(token) => name_if(hash_of(&SyntaxElement::from(token)) == before, "token"),
+        None => "none",
     }
+}
+
+fn name_if(is_same: bool, name: &'static str) -> &'static str {
+    if is_same { name } else { "another element" }
 }
 
 /// `same_shape NODE NODE`, both ways
@@ -138,7 +150,11 @@ fn view_name<T: AstNode>(alloc: Global, node: &SyntaxNode, answer: &mut Answer) 
     }
     let Some(typed) = view_if_castable::<T>(node.try_clone(alloc)?) else {
         let is_view = T::cast(node.try_clone(alloc)?).is_some();
-        return answer.word(if is_view { "a view of a kind that has none" } else { "none" });
+        return answer.word(if is_view {
+            "a view of a kind that has none"
+        } else {
+            "none"
+        });
     };
     let again = view_again(alloc, typed)?;
     if can_cast_again(&again) && again.syntax() == node {

@@ -132,5 +132,6 @@ pub fn element_below(
     path: &str,
 ) -> Result<SyntaxElement, NoAnswer> {
     let slots = slots_of(alloc, path)?;
-    root.element_at(alloc, &slots)?.ok_or(NoAnswer::Row("no element stands there"))
+    root.element_at(alloc, &slots)?
+        .ok_or(NoAnswer::Row("no element stands there"))
 }
