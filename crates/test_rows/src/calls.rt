@@ -3,14 +3,6 @@
 //! No row is owed where a text of 2^32 bytes would have to be made: `GreenToken::new`, `whitespace` and `token` that are too long.
 //! `dedent` and `reset_indent` make no text longer, so they have no row that is. Questions owe no answers, and name their calls beside them.
 
-use crate::session::Session;
-use crate::shown::{Answer, Done};
-use crate::{
-    editors, errors, facts, greens, indents, making, mappings, nodes, plans, recording, runs,
-    texts, values,
-};
-use test_trees::{NoAnswer, Words};
-
 /// A call as a row has it, its name in the sources, and what it can answer where memory is there: that it is done, and each refusal
 /// by its name, with a space between them.
 #[derive(Clone, Copy)]
@@ -118,51 +110,4 @@ pub fn name_of(call: &str) -> &'static str {
         }
     }
     "a call that owes no row"
-}
-
-/// Makes a call, by its name and the words of its arguments.
-pub fn call(s: &mut Session, name: &str, words: &mut Words, answer: &mut Answer) -> Done {
-    if let Some(done) = making::answer(s, name, words, answer) {
-        return done;
-    }
-    if let Some(done) = mappings::answer(s, name, words, answer) {
-        return done;
-    }
-    if let Some(done) = editors::answer(s, name, words, answer) {
-        return done;
-    }
-    if let Some(done) = recording::answer(s, name, words) {
-        return done;
-    }
-    if let Some(done) = plans::answer(s, name, words, answer) {
-        return done;
-    }
-    if let Some(done) = runs::answer(s, name, words, answer) {
-        return done;
-    }
-    if let Some(done) = indents::answer(s, name, words, answer) {
-        return done;
-    }
-    ask(s, name, words, answer)
-}
-
-// The same of a call that only asks.
-fn ask(s: &mut Session, name: &str, words: &mut Words, answer: &mut Answer) -> Done {
-    if let Some(done) = nodes::answer(s, name, words, answer) {
-        return done;
-    }
-    if let Some(done) = greens::answer(s, name, words, answer) {
-        return done;
-    }
-    if let Some(done) = texts::answer(s, name, words, answer) {
-        return done;
-    }
-    match name {
-        "equal" => values::equal(s, words, answer),
-        "form" => values::form(s, words, answer),
-        "same_shape" => values::shape(s, words, answer),
-        "views" => values::views(s, words, answer),
-        _ if name.ends_with("error") => errors::answer(name, words, answer),
-        _ => facts::answer(s, name, words, answer),
-    }
 }

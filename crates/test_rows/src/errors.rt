@@ -12,9 +12,9 @@ use tree_text::{Expected, ExpressionError, NameError, WriteError};
 
 // What an error prints, and its sentence.
 macro_rules! tell {
-    ($answer:ident, $error:expr) => {
+    ($out:ident, $error:expr) => {
         match $error {
-            Some(error) => Ok(write!($answer.text, "{error}: {}", error.help())?),
+            Some(error) => Ok(write!($out.text, "{error}: {}", error.help())?),
             None => Err(NoAnswer::Arguments),
         }
     };
@@ -22,93 +22,75 @@ macro_rules! tell {
 
 /// `map_error CASE`, and the same of each other type. An error that holds another one is by the name of its variant, as `execute_error Edit`.
 /// Of `row_error CASE` what it prints alone.
-pub fn answer(name: &str, words: &mut Words, answer: &mut Answer) -> Done {
+pub fn answer(name: &str, words: &mut Words, out: &mut Answer) -> Done {
     let case = words.word()?;
     match name {
-        "expression_error" => tell!(answer, expression_error(case)),
-        "write_error" => tell!(answer, write_error(case)),
-        "name_error" => tell!(answer, name_error(case)),
-        "engine_error" => tell!(answer, engine_error(case)),
-        "row_error" => answer.print(&row_error(case).ok_or(NoAnswer::Arguments)?),
-        _ => tell!(answer, error(name, case)),
+        "expression_error" => tell!(out, expression_error(case)),
+        "write_error" => tell!(out, write_error(case)),
+        "name_error" => tell!(out, name_error(case)),
+        "engine_error" => tell!(out, engine_error(case)),
+        "row_error" => out.print(&row_error(case).ok_or(NoAnswer::Arguments)?),
+        _ => tell!(out, error(name, case)),
     }
 }
 
-// Any refusal of the editor prints what the error that it holds does.
-fn error(name: &str, case: &str) -> Option<Error> {
-    match name {
-        "tree_error" => tree_error(case).map(Error::Tree),
-        "map_error" => map_error(case).map(Error::Map),
-        "record_error" => record_error(case).map(Error::Record),
-        "merge_error" => merge_error(case).map(Error::Merge),
-        "wrap_error" => wrap_error(case).map(Error::Wrap),
-        "indent_error" => indent_error(case).map(Error::Indent),
-        "edit_error" => edit_error(case).map(Error::Edit),
-        "execute_error" => execute_error(case).map(Error::Execute),
-        "error" => any_error(case),
-        _ => None,
-    }
-}
-
-// The variant of this name.
+// The variant of this name, as an error that may hold it.
 macro_rules! variant {
     ($case:ident, $type:ident: $($name:ident)*) => {{
         $(if $case == stringify!($name) {
-            return Some($type::$name);
+            return Some($type::$name.into());
         })*
         None
     }};
 }
 
-fn tree_error(case: &str) -> Option<TreeError> {
-    if case == "AllocError" {
-        return Some(TreeError::from(AllocError));
+// Any refusal of the editor prints what the error that it holds does.
+fn error(name: &str, case: &str) -> Option<Error> {
+    match (name, case) {
+        ("tree_error", "AllocError") => Some(Error::from(TreeError::from(AllocError))),
+        ("tree_error", _) => variant!(case, TreeError: TooLong NoTreeNumber Memory),
+        ("map_error", _) =>
+            variant!(case, MapError: NotAChild NotYounger OtherShape MoreInputs Memory),
+        ("record_error", _) => record_error(case),
+        ("merge_error", _) => variant!(case, MergeError: OtherRoot Memory),
+        ("wrap_error", _) =>
+            variant!(case, WrapError: TooLong NoTreeNumber NotYounger Foreign Memory),
+        ("indent_error", _) => {
+            variant!(case, IndentError: LevelTooLarge TooLong NoTreeNumber NotYounger Memory)
+        }
+        ("edit_error", _) => edit_error(case),
+        ("execute_error", "Edit") => Some(ExecuteError::Edit(EditError::TooLong).into()),
+        ("execute_error", _) => {
+            variant!(case, ExecuteError: NotEachOnce OwnerTooEarly GapOutOfOrder TokenTooEarly)
+        }
+        ("error", _) => any_error(case),
+        _ => None,
     }
-    variant!(case, TreeError: TooLong NoTreeNumber Memory)
 }
 
-fn map_error(case: &str) -> Option<MapError> {
-    variant!(case, MapError: NotAChild NotYounger OtherShape MoreInputs Memory)
-}
-
-fn record_error(case: &str) -> Option<RecordError> {
+fn record_error(case: &str) -> Option<Error> {
     variant!(case, RecordError: Foreign BadRange DeletesRoot RootReplacement LevelTooLarge NoTreeNumber Memory)
 }
 
-fn merge_error(case: &str) -> Option<MergeError> {
-    variant!(case, MergeError: OtherRoot Memory)
-}
-
-fn wrap_error(case: &str) -> Option<WrapError> {
-    variant!(case, WrapError: TooLong NoTreeNumber NotYounger Foreign Memory)
-}
-
-fn indent_error(case: &str) -> Option<IndentError> {
-    variant!(case, IndentError: LevelTooLarge TooLong NoTreeNumber NotYounger Memory)
-}
-
-fn edit_error(case: &str) -> Option<EditError> {
+fn edit_error(case: &str) -> Option<Error> {
     match case {
-        "Intersecting" => Some(EditError::Intersecting {
+        "Intersecting" => Some(Error::Edit(EditError::Intersecting {
             first: 0,
             second: 2,
-        }),
-        "MissingMapping" => Some(EditError::MissingMapping {
+        })),
+        "MissingMapping" => Some(Error::Edit(EditError::MissingMapping {
             change: 1,
             owner: 0,
-        }),
+        })),
         _ => variant!(case, EditError: TooLong NoTreeNumber Memory),
     }
 }
 
 fn engine_error(case: &str) -> Option<EngineError> {
-    variant!(case, EngineError: TooLong Memory)
-}
-
-fn execute_error(case: &str) -> Option<ExecuteError> {
     match case {
-        "Edit" => Some(ExecuteError::Edit(EditError::TooLong)),
-        _ => variant!(case, ExecuteError: NotEachOnce OwnerTooEarly GapOutOfOrder TokenTooEarly),
+        "TooLong" => Some(EngineError::TooLong),
+        "Memory" => Some(EngineError::Memory),
+        _ => None,
     }
 }
 
@@ -136,19 +118,27 @@ fn expression_error(case: &str) -> Option<ExpressionError> {
         "UnknownKind" => Some(ExpressionError::UnknownKind { at: 1 }),
         "TooDeep" => Some(ExpressionError::TooDeep { at: 201 }),
         "Tree" => Some(ExpressionError::Tree(TreeError::NoTreeNumber)),
-        _ => variant!(case, ExpressionError: Memory),
+        "Memory" => Some(ExpressionError::Memory),
+        _ => None,
     }
 }
 
 fn write_error(case: &str) -> Option<WriteError> {
     match case {
         "NoName" => Some(WriteError::NoName(SyntaxKind(65))),
-        _ => variant!(case, WriteError: Memory),
+        "Memory" => Some(WriteError::Memory),
+        _ => None,
     }
 }
 
 fn name_error(case: &str) -> Option<NameError> {
-    variant!(case, NameError: Misspelled Named Taken Memory)
+    match case {
+        "Misspelled" => Some(NameError::Misspelled),
+        "Named" => Some(NameError::Named),
+        "Taken" => Some(NameError::Taken),
+        "Memory" => Some(NameError::Memory),
+        _ => None,
+    }
 }
 
 // What rows answer where a tree is not read.

@@ -2,6 +2,7 @@
 
 use crate::session::{CHANGED, Session};
 use crate::shown::{Answer, Done, Show, show_green, told};
+use crate::texts;
 use crate::texts::unquote;
 use cst_core::{
     GreenElement, GreenNode, GreenToken, KIND_NAMES, LENGTH_LIMIT, SyntaxKind, SyntaxNode,
@@ -10,30 +11,29 @@ use cst_core::{
 use std::alloc::Global;
 use test_trees::{NoAnswer, Words, green, halves, p, row, slots_of};
 
-/// The question of this name, if it is one of these: `kind_name NUMBER`, `kind_from_name NAME`, `green_token KIND TEXT`,
+/// `kind_name NUMBER`, `kind_from_name NAME`, `green_token KIND TEXT`,
 /// `green_letters LETTERS`, `splice START END LETTERS`, `get TREE PATH`, `green_text TREE`, `child_count TREE`, `read EXPRESSION`,
 /// `row NAME`, `limit`, `length TREE`, `doubled K`, `halves COUNT`, `root_from TREE FIRST`, `draws FIRST` or `roots FIRST`.
-pub fn answer(s: &mut Session, name: &str, words: &mut Words, answer: &mut Answer) -> Option<Done> {
+pub fn answer(s: &mut Session, name: &str, words: &mut Words, out: &mut Answer) -> Done {
     let alloc = s.alloc;
-    let done = match name {
-        "kind_name" => name_of(words, answer),
-        "kind_from_name" => from_name(alloc, words, answer),
-        "green_token" => token(alloc, words, answer),
-        "green_letters" => node(alloc, words, answer),
-        "splice" => splice(alloc, words, answer),
-        "get" => get(s, words, answer),
-        "read" => read(alloc, words, answer),
-        "row" => tree_or_why(row(alloc, words.take_rest()), answer),
-        "limit" => answer.number(LENGTH_LIMIT),
-        "green_text" | "child_count" | "length" => of_tree(s, name, words, answer),
-        "doubled" => doubled(alloc, words, answer),
-        "halves" => node_of_halves(alloc, words, answer),
-        "root_from" => root_from(s, words, answer),
-        "draws" => draws(words, answer),
-        "roots" => roots(s, words, answer),
-        _ => return None,
-    };
-    Some(done)
+    match name {
+        "kind_name" => name_of(words, out),
+        "kind_from_name" => from_name(alloc, words, out),
+        "green_token" => token(alloc, words, out),
+        "green_letters" => node(alloc, words, out),
+        "splice" => splice(alloc, words, out),
+        "get" => get(s, words, out),
+        "read" => read(alloc, words, out),
+        "row" => tree_or_why(row(alloc, words.take_rest()), out),
+        "limit" => out.number(LENGTH_LIMIT),
+        "green_text" | "child_count" | "length" => of_tree(s, name, words, out),
+        "doubled" => doubled(alloc, words, out),
+        "halves" => node_of_halves(alloc, words, out),
+        "root_from" => root_from(s, words, out),
+        "draws" => draws(words, out),
+        "roots" => roots(s, words, out),
+        _ => texts::answer(s, name, words, out),
+    }
 }
 
 macro_rules! constants {
@@ -60,8 +60,8 @@ pub fn kind_of(words: &mut Words) -> Result<SyntaxKind, NoAnswer> {
     Ok(SyntaxKind(number))
 }
 
-fn name_of(words: &mut Words, answer: &mut Answer) -> Done {
-    answer.word(checked_name(kind_of(words)?))
+fn name_of(words: &mut Words, out: &mut Answer) -> Done {
+    out.word(checked_name(kind_of(words)?))
 }
 
 // The name, which leads back to the kind, is its constant's, and stands at its number in the table of names.
@@ -85,36 +85,36 @@ fn checked_name(kind: SyntaxKind) -> &'static str {
     name
 }
 
-fn from_name(alloc: Global, words: &mut Words, answer: &mut Answer) -> Done {
+fn from_name(alloc: Global, words: &mut Words, out: &mut Answer) -> Done {
     let name = unquote(alloc, words.take_rest())?;
-    answer.number_or_none(SyntaxKind::from_name(&name).map(|kind| u64::from(kind.0)))
+    out.number_or_none(SyntaxKind::from_name(&name).map(|kind| u64::from(kind.0)))
 }
 
-fn of_tree(s: &mut Session, name: &str, words: &mut Words, answer: &mut Answer) -> Done {
+fn of_tree(s: &mut Session, name: &str, words: &mut Words, out: &mut Answer) -> Done {
     let tree = s.trees.defined.tree(s.alloc, words.take_rest())?;
     match name {
-        "green_text" => tree.to_string(s.alloc)?.show(answer),
-        "child_count" => answer.number(tree.children().len() as u64),
-        _ => answer.number(tree.length()),
+        "green_text" => tree.to_string(s.alloc)?.show(out),
+        "child_count" => out.number(tree.children().len() as u64),
+        _ => out.number(tree.length()),
     }
 }
 
 /// A tree, or why there is none.
-fn tree_or_why(tree: Result<GreenNode, NoAnswer>, answer: &mut Answer) -> Done {
+fn tree_or_why(tree: Result<GreenNode, NoAnswer>, out: &mut Answer) -> Done {
     match tree {
-        Ok(tree) => tree.show(answer),
-        Err(NoAnswer::Row(why)) => answer.word(why),
+        Ok(tree) => tree.show(out),
+        Err(NoAnswer::Row(why)) => out.word(why),
         Err(error) => Err(error),
     }
 }
 
-fn read(alloc: Global, words: &mut Words, answer: &mut Answer) -> Done {
+fn read(alloc: Global, words: &mut Words, out: &mut Answer) -> Done {
     let expression = unquote(alloc, words.take_rest())?;
-    tree_or_why(green(alloc, &expression), answer)
+    tree_or_why(green(alloc, &expression), out)
 }
 
 // A token of a kind by its number, and that token shared.
-fn token(alloc: Global, words: &mut Words, answer: &mut Answer) -> Done {
+fn token(alloc: Global, words: &mut Words, out: &mut Answer) -> Done {
     let kind = kind_of(words)?;
     let text = unquote(alloc, words.take_rest())?;
     let Ok(token) = GreenToken::new(alloc, kind, &text) else {
@@ -122,10 +122,10 @@ fn token(alloc: Global, words: &mut Words, answer: &mut Answer) -> Done {
     };
     let shared = token.share(alloc)?;
     if shared.kind() != token.kind() || shared.text() != token.text() {
-        return answer.word("another token where it is shared");
+        return out.word("another token where it is shared");
     }
-    write!(answer.text, "{} ", token.kind().0)?;
-    shared.show(answer)
+    write!(out.text, "{} ", token.kind().0)?;
+    shared.show(out)
 }
 
 // A token of each letter.
@@ -140,23 +140,20 @@ fn letters(alloc: Global, text: &str) -> Result<Vec<GreenElement>, NoAnswer> {
 }
 
 // A node of a token of each letter, made by `new` and by `capped`.
-fn node(alloc: Global, words: &mut Words, answer: &mut Answer) -> Done {
+fn node(alloc: Global, words: &mut Words, out: &mut Answer) -> Done {
     let text = unquote(alloc, words.take_rest())?;
     match GreenNode::new(alloc, SyntaxKind::NAME, letters(alloc, &text)?) {
-        Ok(node) => node.show(answer)?,
+        Ok(node) => node.show(out)?,
         Err(_) => return Err(NoAnswer::Refused("GreenNode::new")),
     }
     let mut other = Answer::new(alloc);
     let capped = GreenNode::capped(alloc, SyntaxKind::NAME, letters(alloc, &text)?);
     told(&mut other, "GreenNode::capped", capped)?;
-    if other.text != answer.text {
-        answer.word("; capped another one")?;
-    }
-    Ok(())
+    out.agree(&other)
 }
 
 // Of a node of the tokens `abc`, which is then as it was.
-fn splice(alloc: Global, words: &mut Words, answer: &mut Answer) -> Done {
+fn splice(alloc: Global, words: &mut Words, out: &mut Answer) -> Done {
     let start = words.count()?;
     let end = words.count()?;
     let node = GreenNode::new(alloc, SyntaxKind::NAME, letters(alloc, "abc")?)?;
@@ -166,98 +163,95 @@ fn splice(alloc: Global, words: &mut Words, answer: &mut Answer) -> Done {
         return Err(NoAnswer::Arguments);
     }
     let spliced = node.splice_children(alloc, start, end, new);
-    told(answer, "GreenNode::splice_children", spliced)?;
+    told(out, "GreenNode::splice_children", spliced)?;
     if node.to_string(alloc)?.as_str() != "abc" {
-        return answer.word("; the old node changed");
+        return out.word("; the old node changed");
     }
     Ok(())
 }
 
 // In the tree, and with tree and element shared.
-fn get(s: &mut Session, words: &mut Words, answer: &mut Answer) -> Done {
+fn get(s: &mut Session, words: &mut Words, out: &mut Answer) -> Done {
     let tree = s.trees.defined.tree(s.alloc, words.word()?)?;
     let slots = slots_of(s.alloc, words.word()?)?;
     let Some(element) = tree.get(&slots) else {
-        return answer.word("none");
+        return out.word("none");
     };
-    show_green(answer, element)?;
+    show_green(out, element)?;
     let mut other = Answer::new(s.alloc);
     element.share(s.alloc)?.share(s.alloc)?.show(&mut other)?;
-    if other.text != answer.text {
-        answer.word("; another one where it is shared")?;
-    }
-    Ok(())
+    out.agree(&other)
 }
 
 // The length of P_K.
-fn doubled(alloc: Global, words: &mut Words, answer: &mut Answer) -> Done {
+fn doubled(alloc: Global, words: &mut Words, out: &mut Answer) -> Done {
     match p(alloc, words.count()?) {
-        Ok(tree) => answer.number(tree.length()),
-        Err(NoAnswer::Row(why)) => answer.word(why),
+        Ok(tree) => out.number(tree.length()),
+        Err(NoAnswer::Row(why)) => out.word(why),
         Err(error) => Err(error),
     }
 }
 
 // The length of a node that holds P_31 this many times.
-fn node_of_halves(alloc: Global, words: &mut Words, answer: &mut Answer) -> Done {
+fn node_of_halves(alloc: Global, words: &mut Words, out: &mut Answer) -> Done {
     let halves = halves(alloc, words.count()?)?;
     match GreenNode::new(alloc, SyntaxKind::LITERAL, halves) {
-        Ok(node) => answer.number(node.length()),
+        Ok(node) => out.number(node.length()),
         Err(TreeError::Memory) => Err(NoAnswer::Refused("GreenNode::new")),
-        Err(error) => answer.print(&error),
+        Err(error) => out.print(&error),
     }
 }
 
 // What a new root has as its number, or why there is none. Where there is none no number is drawn.
-fn new_root(alloc: Global, ids: &mut TreeIds, tree: GreenNode, answer: &mut Answer) -> Done {
+fn new_root(alloc: Global, ids: &mut TreeIds, tree: GreenNode, out: &mut Answer) -> Done {
     let before = ids.peek();
     let called = SyntaxNode::new_root(alloc, ids, tree);
     if called.is_err() && ids.peek() != before {
         return Err(CHANGED);
     }
-    answer.number_or_why("SyntaxNode::new_root", called)
+    out.number_or_why("SyntaxNode::new_root", called)
 }
 
 // The number of a new root of the tree, and the number that comes then.
-fn root_from(s: &mut Session, words: &mut Words, answer: &mut Answer) -> Done {
+fn root_from(s: &mut Session, words: &mut Words, out: &mut Answer) -> Done {
     let tree = s.trees.defined.tree(s.alloc, words.word()?)?;
     let mut ids = TreeIds::new(words.number()?);
-    new_root(s.alloc, &mut ids, tree, answer)?;
-    answer.word(", then ")?;
-    answer.number_or_none(ids.next())
+    new_root(s.alloc, &mut ids, tree, out)?;
+    out.word(", then ")?;
+    out.number_or_none(ids.next())
 }
 
 // Three draws: the next number, which `peek` gives too, twice, and `is_spent` fits.
-fn draws(words: &mut Words, answer: &mut Answer) -> Done {
+fn draws(words: &mut Words, out: &mut Answer) -> Done {
     let mut ids = TreeIds::new(words.number()?);
     for comma in ["", ", ", ", "] {
         let is_spent = ids.is_spent();
         let peeked = ids.peek();
         let peeked_again = ids.peek();
         let number = ids.next();
-        answer.word(comma)?;
+        out.word(comma)?;
         if peeked == number && peeked_again == number && is_spent == number.is_none() {
-            answer.number_or_none(number)?;
+            out.number_or_none(number)?;
         } else {
-            answer.word("what was not foretold")?;
+            out.word("what was not foretold")?;
         }
     }
     Ok(())
 }
 
 // The number of a new root, that of a copied node, and the number that comes then.
-fn roots(s: &mut Session, words: &mut Words, answer: &mut Answer) -> Done {
+fn roots(s: &mut Session, words: &mut Words, out: &mut Answer) -> Done {
     let mut ids = TreeIds::new(words.number()?);
     let tree = s.trees.defined.tree(s.alloc, "X")?;
-    new_root(s.alloc, &mut ids, tree, answer)?;
-    answer.word(", ")?;
+    new_root(s.alloc, &mut ids, tree, out)?;
+    out.word(", ")?;
     let node = s.trees.node(&mut Words::of("L"))?;
     let before = ids.peek();
     let copied = node.clone_subtree(s.alloc, &mut ids);
     if copied.is_err() && ids.peek() != before {
         return Err(CHANGED);
     }
-    answer.number_or_why("SyntaxNode::clone_subtree", copied)?;
-    answer.word(", then ")?;
-    answer.number_or_none(ids.peek())
+    out.number_or_why("SyntaxNode::clone_subtree", copied)?;
+    out.word(", then ")?;
+    out.number_or_none(ids.peek())
 }

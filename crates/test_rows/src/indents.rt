@@ -1,6 +1,7 @@
 //! Levels of indentation, and trees that are indented and dedented.
 
 use crate::editors::block;
+use crate::greens;
 use crate::making::factory;
 use crate::session::{CHANGED, Session};
 use crate::shown::{Answer, Done};
@@ -9,115 +10,96 @@ use cst_core::{AstNode, SyntaxNode};
 use syntax_editor::{AstNodeEdit, IndentError, IndentLevel, SyntaxFactory, indent};
 use test_trees::{NoAnswer, Words, asked};
 
-/// The step of this name, if it is one of these.
-pub fn answer(s: &mut Session, name: &str, words: &mut Words, answer: &mut Answer) -> Option<Done> {
-    let done = match name {
-        "from_element" => from_element(s, words, answer),
-        "from_node" => from_node(s, words, answer),
-        "from_token" => from_token(s, words, answer),
-        "indent_level" => indent_level(s, words, answer),
-        "is_zero" => is_zero(words, answer),
-        "sum" => sum(words, answer),
-        "print" => print(words, answer),
-        "free_indent" => free_indent(s, words, answer),
-        "indent" => typed_indent(s, words, answer),
-        "dedent" => dedent(s, words, answer),
-        "reset_indent" => reset_indent(s, words, answer),
-        "indent_with_mapping" => indent_with_mapping(s, words, answer),
-        _ => return None,
-    };
-    Some(done)
+/// Takes the step of this name, or passes on what is none of these.
+pub fn answer(s: &mut Session, name: &str, words: &mut Words, out: &mut Answer) -> Done {
+    match name {
+        "from_element" => level(
+            IndentLevel::from_element(s.alloc, &s.trees.element(words)?),
+            out,
+        ),
+        "from_node" => level(IndentLevel::from_node(s.alloc, &s.trees.node(words)?), out),
+        "from_token" => level(
+            IndentLevel::from_token(s.alloc, &s.trees.token(words)?),
+            out,
+        ),
+        "indent_level" => level(block(s, words)?.indent_level(s.alloc), out),
+        "is_zero" => out.truth(IndentLevel(words.level()?).is_zero()),
+        "sum" => sum(words, out),
+        "print" => print(words, out),
+        "free_indent" => free_indent(s, words, out),
+        "indent" => typed_indent(s, words, out),
+        "dedent" => dedent(s, words, out),
+        "reset_indent" => reset_indent(s, words, out),
+        "indent_with_mapping" => indent_with_mapping(s, words, out),
+        _ => greens::answer(s, name, words, out),
+    }
 }
 
-fn level(called: Result<IndentLevel, IndentError>, answer: &mut Answer) -> Done {
-    answer.given(u64::from(asked(called)?.0))
-}
-
-fn from_element(s: &mut Session, words: &mut Words, answer: &mut Answer) -> Done {
-    let element = s.trees.element(words)?;
-    level(IndentLevel::from_element(s.alloc, &element), answer)
-}
-
-fn from_node(s: &mut Session, words: &mut Words, answer: &mut Answer) -> Done {
-    let node = s.trees.node(words)?;
-    level(IndentLevel::from_node(s.alloc, &node), answer)
-}
-
-fn from_token(s: &mut Session, words: &mut Words, answer: &mut Answer) -> Done {
-    let token = s.trees.token(words)?;
-    level(IndentLevel::from_token(s.alloc, &token), answer)
-}
-
-fn indent_level(s: &mut Session, words: &mut Words, answer: &mut Answer) -> Done {
-    let block = block(s, words)?;
-    level(block.indent_level(s.alloc), answer)
-}
-
-fn is_zero(words: &mut Words, answer: &mut Answer) -> Done {
-    answer.truth(IndentLevel(words.level()?).is_zero())
+fn level(called: Result<IndentLevel, IndentError>, out: &mut Answer) -> Done {
+    out.given(u64::from(asked(called)?.0))
 }
 
 // Whether no indentation, and first one level more, then another one, is the third level.
-fn sum(words: &mut Words, answer: &mut Answer) -> Done {
+fn sum(words: &mut Words, out: &mut Answer) -> Done {
     let first = words.level()?;
     let second = words.level()?;
     if first.checked_add(second).is_none() {
-        return answer.word("none");
+        return out.word("none");
     }
     let mut level = IndentLevel::zero() + first;
     level += second;
-    answer.truth(level == IndentLevel::from(words.level()?))
+    out.truth(level == IndentLevel::from(words.level()?))
 }
 
 // A level as it prints: as it is, and in a width of 14, 13 and 14, at the right end, at the left end and in the middle.
-fn print(words: &mut Words, answer: &mut Answer) -> Done {
+fn print(words: &mut Words, out: &mut Answer) -> Done {
     let level = IndentLevel(words.level()?);
     Ok(write!(
-        answer.text,
+        out.text,
         "[{level}] [{level:*>14}] [{level:*<13}] [{level:*^14}]"
     )?)
 }
 
-fn free_indent(s: &mut Session, words: &mut Words, answer: &mut Answer) -> Done {
+fn free_indent(s: &mut Session, words: &mut Words, out: &mut Answer) -> Done {
     let node = s.trees.node(words)?;
     let level = IndentLevel(words.level()?);
-    answer.root(&asked(indent(s.alloc, &node, &mut s.ids, level))?)
+    out.root(&asked(indent(s.alloc, &node, &mut s.ids, level))?)
 }
 
-fn typed_indent(s: &mut Session, words: &mut Words, answer: &mut Answer) -> Done {
+fn typed_indent(s: &mut Session, words: &mut Words, out: &mut Answer) -> Done {
     let block = block(s, words)?;
     let level = IndentLevel(words.level()?);
-    answer.root(asked(block.indent(s.alloc, &mut s.ids, level))?.syntax())
+    out.root(asked(block.indent(s.alloc, &mut s.ids, level))?.syntax())
 }
 
 // Of a list of statements, or of a block.
-fn dedent(s: &mut Session, words: &mut Words, answer: &mut Answer) -> Done {
+fn dedent(s: &mut Session, words: &mut Words, out: &mut Answer) -> Done {
     let node = s.trees.node(words)?;
     let level = IndentLevel(words.level()?);
     if StmtList::can_cast(node.kind()) {
-        return dedent_by::<StmtList>(s, node, level, answer);
+        return dedent_by::<StmtList>(s, node, level, out);
     }
-    dedent_by::<BlockExpr>(s, node, level, answer)
+    dedent_by::<BlockExpr>(s, node, level, out)
 }
 
 fn dedent_by<N: AstNodeEdit>(
     s: &mut Session,
     node: SyntaxNode,
     level: IndentLevel,
-    answer: &mut Answer,
+    out: &mut Answer,
 ) -> Done {
     let node = N::cast(node).ok_or(NoAnswer::Row("no block and no list of statements"))?;
-    answer.root(asked(node.dedent(s.alloc, &mut s.ids, level))?.syntax())
+    out.root(asked(node.dedent(s.alloc, &mut s.ids, level))?.syntax())
 }
 
-fn reset_indent(s: &mut Session, words: &mut Words, answer: &mut Answer) -> Done {
+fn reset_indent(s: &mut Session, words: &mut Words, out: &mut Answer) -> Done {
     let block = block(s, words)?;
-    answer.root(asked(block.reset_indent(s.alloc, &mut s.ids))?.syntax())
+    out.root(asked(block.reset_indent(s.alloc, &mut s.ids))?.syntax())
 }
 
 // By a factory, whose mapping is the last one from then on, whatever the call answers but want of memory, which leaves the mapping empty. The
 // new block goes by the name `it`.
-fn indent_with_mapping(s: &mut Session, words: &mut Words, answer: &mut Answer) -> Done {
+fn indent_with_mapping(s: &mut Session, words: &mut Words, out: &mut Answer) -> Done {
     let block = block(s, words)?;
     let level = IndentLevel(words.level()?);
     let mut factory = factory(s.alloc, words.word()?)?;
@@ -129,7 +111,7 @@ fn indent_with_mapping(s: &mut Session, words: &mut Words, answer: &mut Answer) 
     keep_mapping(s, &mut factory, is_memory)?;
     let block = asked(called)?;
     s.trees.add("it", block.syntax().try_clone(s.alloc)?)?;
-    answer.root(block.syntax())
+    out.root(block.syntax())
 }
 
 fn keep_mapping(s: &mut Session, factory: &mut SyntaxFactory, is_memory: bool) -> Done {

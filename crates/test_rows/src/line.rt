@@ -1,24 +1,5 @@
 use test_trees::first_word;
 
-/// What a row says of its answer, or of those of its steps that are asked about.
-#[derive(Clone, Copy)]
-pub enum Wanted<'a> {
-    /// ` = ANSWER`: it is this one.
-    Answer(&'a str),
-    /// ` != ANSWER`: it is another one. Such a row fails where all answers are taken for equal.
-    Other(&'a str),
-}
-
-impl<'a> Wanted<'a> {
-    pub fn is_met(self, answer: &str) -> bool {
-        let (named, is_the_answer) = match self {
-            Wanted::Answer(wanted) => (wanted, true),
-            Wanted::Other(unwanted) => (unwanted, false),
-        };
-        (answer == named) == is_the_answer
-    }
-}
-
 /// A line of the table.
 #[derive(Clone, Copy)]
 pub enum Line<'a> {
@@ -29,9 +10,17 @@ pub enum Line<'a> {
     /// `group NAME`: the lines of the file `NAME.rows`.
     Group(&'a str),
     /// `tree NAME TREE`: a tree that the questions after it name.
-    Tree { name: &'a str, text: &'a str },
-    /// A row: `WORDS: STEP ; STEP ; ..` or `? STEP`, and what it says of its answer.
-    Row { steps: &'a str, wanted: Wanted<'a> },
+    Tree {
+        name: &'a str,
+        text: &'a str,
+    },
+    /// A row: `WORDS: STEP ; STEP ; ..` or `? STEP`. Its answer is this one (` = ANSWER`), or another one (` != ANSWER`), so that the row fails
+    /// where all answers are taken for equal.
+    Row {
+        steps: &'a str,
+        answer: &'a str,
+        is_it: bool,
+    },
     /// `end`: the last line of a file, so that one that is cut off is noticed.
     End,
     Malformed,
@@ -64,16 +53,13 @@ impl<'a> Line<'a> {
             Some(step) => step,
             None => line.split_once(": ")?.1,
         };
-        let (steps, wanted) = split_wanted(text)?;
-        Some(Line::Row { steps, wanted })
-    }
-}
-
-// What is asked, and what a row says of its answer.
-fn split_wanted(row: &str) -> Option<(&str, Wanted<'_>)> {
-    let (asked, answer) = row.split_once("= ")?;
-    match asked.strip_suffix(" !") {
-        Some(asked) => Some((asked, Wanted::Other(answer))),
-        None => Some((asked.strip_suffix(' ')?, Wanted::Answer(answer))),
+        let (asked, answer) = text.split_once("= ")?;
+        let is_it = !asked.ends_with(" !");
+        let steps = asked.strip_suffix(if is_it { " " } else { " !" })?;
+        Some(Line::Row {
+            steps,
+            answer,
+            is_it,
+        })
     }
 }

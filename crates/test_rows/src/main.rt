@@ -7,14 +7,13 @@
 mod asked;
 mod calls;
 mod editors;
+mod elements;
 mod errors;
-mod facts;
 mod greens;
 mod indents;
 mod line;
 mod making;
 mod mappings;
-mod nodes;
 mod plans;
 mod recording;
 mod report;

@@ -1,5 +1,6 @@
 //! Trees, numbers, annotations, positions, and elements made of parts.
 
+use crate::mappings;
 use crate::roots::{annotation_of, kind_in};
 use crate::session::{Session, last};
 use crate::shown::{Answer, Done};
@@ -11,30 +12,29 @@ use std::alloc::{AllocError, Global};
 use syntax_editor::{Annotations, Element, Position, SyntaxAnnotation, SyntaxFactory};
 use test_trees::{NoAnswer, Words, asked, number_of, read_tree};
 
-/// The step of this name, if it is one of these.
-pub fn answer(s: &mut Session, name: &str, words: &mut Words, answer: &mut Answer) -> Option<Done> {
+/// Takes the step of this name, or passes on what is none of these.
+pub fn answer(s: &mut Session, name: &str, words: &mut Words, out: &mut Answer) -> Done {
     let alloc = s.alloc;
-    let done = match name {
+    match name {
         "tree" => tree(s, words),
         "numbers" => numbers(s, words),
-        "new_root" => new_root(s, words, answer),
-        "clone_subtree" => clone_subtree(s, words, answer),
-        "green_node" | "capped" => green_node(alloc, name, words, answer),
-        "splice_children" => splice_children(alloc, words, answer),
-        "next" => next(s, answer),
-        "peek" => answer.number_or_none(s.ids.peek()),
-        "annotations" => annotations(words, answer),
-        "before" | "after" => gap(s, name, words, answer),
+        "new_root" => new_root(s, words, out),
+        "clone_subtree" => clone_subtree(s, words, out),
+        "green_node" | "capped" => green_node(alloc, name, words, out),
+        "splice_children" => splice_children(alloc, words, out),
+        "next" => out.given_or_none(s.ids.next()),
+        "peek" => out.number_or_none(s.ids.peek()),
+        "annotations" => annotations(words, out),
+        "before" | "after" => gap(s, name, words, out),
         "first" | "last" => gap_in(s, name, words),
-        "syntax_element" => syntax_element(s, words, answer),
-        "typed_element" => typed_element(s, words, answer),
-        "token" => token(s, words, answer),
-        "node" => node(s, words, answer),
-        "wrap" => wrap(s, words, answer),
-        "whitespace" => whitespace(s, words, answer),
-        _ => return None,
-    };
-    Some(done)
+        "syntax_element" => syntax_element(s, words, out),
+        "typed_element" => typed_element(s, words, out),
+        "token" => token(s, words, out),
+        "node" => node(s, words, out),
+        "wrap" => wrap(s, words, out),
+        "whitespace" => whitespace(s, words, out),
+        _ => mappings::answer(s, name, words, out),
+    }
 }
 
 fn tree(s: &mut Session, words: &mut Words) -> Done {
@@ -53,21 +53,14 @@ fn numbers(s: &mut Session, words: &mut Words) -> Done {
     Ok(())
 }
 
-fn next(s: &mut Session, answer: &mut Answer) -> Done {
-    match s.ids.next() {
-        Some(number) => answer.given(number),
-        None => answer.word("none"),
-    }
-}
-
-fn new_root(s: &mut Session, words: &mut Words, answer: &mut Answer) -> Done {
+fn new_root(s: &mut Session, words: &mut Words, out: &mut Answer) -> Done {
     let green = read_tree(s.alloc, words.take_rest())?;
-    answer.root(&asked(SyntaxNode::new_root(s.alloc, &mut s.ids, green))?)
+    out.root(&asked(SyntaxNode::new_root(s.alloc, &mut s.ids, green))?)
 }
 
-fn clone_subtree(s: &mut Session, words: &mut Words, answer: &mut Answer) -> Done {
+fn clone_subtree(s: &mut Session, words: &mut Words, out: &mut Answer) -> Done {
     let node = s.trees.node(words)?;
-    answer.root(&asked(node.clone_subtree(s.alloc, &mut s.ids))?)
+    out.root(&asked(node.clone_subtree(s.alloc, &mut s.ids))?)
 }
 
 // The trees that the words name.
@@ -80,25 +73,25 @@ fn greens(alloc: Global, words: &mut Words) -> Result<Vec<GreenElement>, NoAnswe
 }
 
 // Made by `new`, or by `capped`.
-fn green_node(alloc: Global, name: &str, words: &mut Words, answer: &mut Answer) -> Done {
+fn green_node(alloc: Global, name: &str, words: &mut Words, out: &mut Answer) -> Done {
     let children = greens(alloc, words)?;
     let node = if name == "capped" {
         asked(GreenNode::capped(alloc, SyntaxKind::SOURCE_FILE, children))?
     } else {
         asked(GreenNode::new(alloc, SyntaxKind::SOURCE_FILE, children))?
     };
-    answer.given(node.length())
+    out.given(node.length())
 }
 
 // The other trees stand before the children of the first one.
-fn splice_children(alloc: Global, words: &mut Words, answer: &mut Answer) -> Done {
+fn splice_children(alloc: Global, words: &mut Words, out: &mut Answer) -> Done {
     let node = read_tree(alloc, words.word()?)?;
     let new = greens(alloc, words)?;
-    answer.given(asked(node.splice_children(alloc, 0, 0, new))?.length())
+    out.given(asked(node.splice_children(alloc, 0, 0, new))?.length())
 }
 
 // Whether the calls of a source that begins at the first number give the annotations of the others, each above the one before.
-fn annotations(words: &mut Words, answer: &mut Answer) -> Done {
+fn annotations(words: &mut Words, out: &mut Answer) -> Done {
     let first = words
         .word()?
         .parse::<u32>()
@@ -109,7 +102,7 @@ fn annotations(words: &mut Words, answer: &mut Answer) -> Done {
     for word in words.take_rest().split(' ') {
         let given = source.next();
         if !is_wanted(before, given, word) {
-            return answer.word("none");
+            return out.word("none");
         }
         before = given;
     }
@@ -127,14 +120,18 @@ fn is_wanted(
     given == annotation_of(wanted) && before < given
 }
 
-fn gap(s: &mut Session, name: &str, words: &mut Words, answer: &mut Answer) -> Done {
+fn gap(s: &mut Session, name: &str, words: &mut Words, out: &mut Answer) -> Done {
     let element = s.trees.element(words)?;
     let position = if name == "before" {
         Position::before(s.alloc, element)
     } else {
         Position::after(s.alloc, &element)
     };
-    answer.some(asked(position)?.is_some())
+    out.word(if asked(position)?.is_some() {
+        "ok"
+    } else {
+        "none"
+    })
 }
 
 fn gap_in(s: &mut Session, name: &str, words: &mut Words) -> Done {
@@ -148,10 +145,10 @@ fn gap_in(s: &mut Session, name: &str, words: &mut Words) -> Done {
 }
 
 // The text of an element that a call made.
-fn made(alloc: Global, called: Result<SyntaxElement, AllocError>, answer: &mut Answer) -> Done {
+fn made(alloc: Global, called: Result<SyntaxElement, AllocError>, out: &mut Answer) -> Done {
     let text = asked(called)?.text(alloc)?;
-    answer.word("ok ")?;
-    answer.quote(&text)
+    out.word("ok ")?;
+    out.quote(&text)
 }
 
 fn made_of<E: Element>(alloc: Global, value: E) -> Result<SyntaxElement, AllocError> {
@@ -159,16 +156,16 @@ fn made_of<E: Element>(alloc: Global, value: E) -> Result<SyntaxElement, AllocEr
 }
 
 // The element by a reference to it.
-fn syntax_element(s: &mut Session, words: &mut Words, answer: &mut Answer) -> Done {
+fn syntax_element(s: &mut Session, words: &mut Words, out: &mut Answer) -> Done {
     let element = s.trees.element(words)?;
-    made(s.alloc, made_of(s.alloc, &element), answer)
+    made(s.alloc, made_of(s.alloc, &element), out)
 }
 
 // The element by a reference to the typed node of its kind.
-fn typed_element(s: &mut Session, words: &mut Words, answer: &mut Answer) -> Done {
+fn typed_element(s: &mut Session, words: &mut Words, out: &mut Answer) -> Done {
     let node = s.trees.node(words)?;
     match made_of_typed(s.alloc, node) {
-        Some(called) => made(s.alloc, called, answer),
+        Some(called) => made(s.alloc, called, out),
         None => Err(NoAnswer::Row("no typed node")),
     }
 }
@@ -201,46 +198,46 @@ fn text_of_tree(alloc: Global, text: &str) -> Result<String, NoAnswer> {
 }
 
 // A token's kind, its text, the number of its tree, and what it stands below.
-fn show_token(alloc: Global, token: &SyntaxToken, answer: &mut Answer) -> Done {
-    write!(answer.text, "ok {} ", token.kind().name().unwrap_or(""))?;
-    answer.quote(token.text())?;
+fn show_token(alloc: Global, token: &SyntaxToken, out: &mut Answer) -> Done {
+    write!(out.text, "ok {} ", token.kind().name().unwrap_or(""))?;
+    out.quote(token.text())?;
     let parent = token.parent(alloc)?.ok_or(NoAnswer::Row("no parent"))?;
     let count = parent.children_with_tokens(alloc)?.len();
     let kind = parent.kind().name().unwrap_or("");
     Ok(write!(
-        answer.text,
+        out.text,
         " of {}, one of {count} below {kind}",
         token.tree()
     )?)
 }
 
 // A token with the text of a tree.
-fn token(s: &mut Session, words: &mut Words, answer: &mut Answer) -> Done {
+fn token(s: &mut Session, words: &mut Words, out: &mut Answer) -> Done {
     let kind = kind_in(words)?;
     let text = text_of_tree(s.alloc, words.take_rest())?;
     let factory = SyntaxFactory::without_mappings(s.alloc);
     let token = asked(factory.token(s.alloc, &mut s.ids, kind, &text))?;
-    show_token(s.alloc, &token, answer)
+    show_token(s.alloc, &token, out)
 }
 
 // The same of a factory with mappings or without.
-fn whitespace(s: &mut Session, words: &mut Words, answer: &mut Answer) -> Done {
+fn whitespace(s: &mut Session, words: &mut Words, out: &mut Answer) -> Done {
     let factory = factory(s.alloc, words.word()?)?;
     let text = text_of_tree(s.alloc, words.take_rest())?;
     let token = asked(factory.whitespace(s.alloc, &mut s.ids, &text))?;
-    show_token(s.alloc, &token, answer)
+    show_token(s.alloc, &token, out)
 }
 
 // A node of the elements of all words that are left.
-fn node(s: &mut Session, words: &mut Words, answer: &mut Answer) -> Done {
+fn node(s: &mut Session, words: &mut Words, out: &mut Answer) -> Done {
     let kind = kind_in(words)?;
     let children = s.trees.elements(words)?;
     let factory = SyntaxFactory::without_mappings(s.alloc);
-    answer.root(&asked(factory.node(s.alloc, &mut s.ids, kind, &children))?)
+    out.root(&asked(factory.node(s.alloc, &mut s.ids, kind, &children))?)
 }
 
 // A node, a kind, the elements that stand before `round`, and those after it.
-fn wrap(s: &mut Session, words: &mut Words, answer: &mut Answer) -> Done {
+fn wrap(s: &mut Session, words: &mut Words, out: &mut Answer) -> Done {
     let editor = last(&mut s.editors)?;
     let node = s.trees.node(words)?;
     let kind = kind_in(words)?;
@@ -251,5 +248,5 @@ fn wrap(s: &mut Session, words: &mut Words, answer: &mut Answer) -> Done {
     let before = s.trees.elements(&mut Words::of(before))?;
     let after = s.trees.elements(&mut Words::of(after))?;
     let copy = editor.wrap(s.alloc, &mut s.ids, &node, kind, &before, &after);
-    answer.root_at(&asked(copy)?)
+    out.root_at(&asked(copy)?)
 }

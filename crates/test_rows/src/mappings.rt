@@ -1,5 +1,6 @@
 //! Builders of mappings, where their pairs go, and mappings that no editor has.
 
+use crate::editors;
 use crate::session::{Session, last, take};
 use crate::shown::{Answer, Done};
 use cst_core::SyntaxElement;
@@ -7,26 +8,25 @@ use std::alloc::AllocError;
 use syntax_editor::{MapError, SyntaxMapping, SyntaxMappingBuilder};
 use test_trees::{NoAnswer, Words, asked};
 
-/// The step of this name, if it is one of these.
-pub fn answer(s: &mut Session, name: &str, words: &mut Words, answer: &mut Answer) -> Option<Done> {
-    let done = match name {
+/// Takes the step of this name, or passes on what is none of these.
+pub fn answer(s: &mut Session, name: &str, words: &mut Words, out: &mut Answer) -> Done {
+    match name {
         "builder" => builder(s, words),
         "map_node" => map_node(s, words),
         "map_children" => map_children(s, words),
         "map" => map(s, words),
-        "map_all" => map_all(s),
-        "map_editor" => map_editor(s),
-        "finish_builder" => finish_builder(s),
-        "add_mapping" => add_mapping(s),
-        "mapping" => mapping(s),
+        "map_all" | "map_editor" | "finish_builder" | "add_mapping" => finish(s, name),
+        "mapping" => Ok(s.mappings.push(SyntaxMapping::new(s.alloc))?),
         "merge_mappings" => merge_mappings(s),
         "clone_mapping" => clone_mapping(s),
-        "drop_mapping" => drop_mapping(s),
-        "place" => place(s, words, answer),
-        "follow" => follow(s, words, answer),
-        _ => return None,
-    };
-    Some(done)
+        "drop_mapping" => {
+            let _ = s.mappings.pop();
+            Ok(())
+        }
+        "place" => place(s, words, out),
+        "follow" => follow(s, words, out),
+        _ => editors::answer(s, name, words, out),
+    }
 }
 
 fn builder(s: &mut Session, words: &mut Words) -> Done {
@@ -65,32 +65,19 @@ fn map(s: &mut Session, words: &mut Words) -> Done {
     asked(called)
 }
 
-// The pairs of the last builder go into the mapping of the last editor.
-fn map_all(s: &mut Session) -> Done {
-    let mapping = last(&mut s.editors)?.make_mut().mappings();
-    let mapping = mapping.ok_or(NoAnswer::Row("no mappings"))?;
-    asked(take(&mut s.builders)?.finish(s.alloc, mapping))
-}
-
-// The same, by the editor's call.
-fn map_editor(s: &mut Session) -> Done {
-    let editor = last(&mut s.editors)?;
-    asked(editor.add_mapping(s.alloc, take(&mut s.builders)?))
-}
-
-// The pairs of the last builder go into the last mapping: by the builder's call, and by the mapping's.
-fn finish_builder(s: &mut Session) -> Done {
-    let mapping = last(&mut s.mappings)?;
-    asked(take(&mut s.builders)?.finish(s.alloc, mapping))
-}
-
-fn add_mapping(s: &mut Session) -> Done {
-    let mapping = last(&mut s.mappings)?;
-    asked(mapping.add_mapping(s.alloc, take(&mut s.builders)?))
-}
-
-fn mapping(s: &mut Session) -> Done {
-    Ok(s.mappings.push(SyntaxMapping::new(s.alloc))?)
+// The pairs of the last builder go into the mapping of the last editor, by the editor's call or by the builder's, or into the last mapping, by the
+// builder's call or by the mapping's.
+fn finish(s: &mut Session, name: &str) -> Done {
+    let builder = take(&mut s.builders)?;
+    match name {
+        "map_editor" => asked(last(&mut s.editors)?.add_mapping(s.alloc, builder)),
+        "finish_builder" => asked(builder.finish(s.alloc, last(&mut s.mappings)?)),
+        "add_mapping" => asked(last(&mut s.mappings)?.add_mapping(s.alloc, builder)),
+        _ => {
+            let mapping = last(&mut s.editors)?.make_mut().mappings();
+            asked(builder.finish(s.alloc, mapping.ok_or(NoAnswer::Row("no mappings"))?))
+        }
+    }
 }
 
 // The last mapping goes into the one before it.
@@ -110,41 +97,35 @@ fn clone_mapping(s: &mut Session) -> Done {
     Ok(())
 }
 
-// The last mapping goes.
-fn drop_mapping(s: &mut Session) -> Done {
-    let _ = s.mappings.pop();
-    Ok(())
-}
-
-fn place(s: &mut Session, words: &mut Words, answer: &mut Answer) -> Done {
+fn place(s: &mut Session, words: &mut Words, out: &mut Answer) -> Done {
     let mapping = last(&mut s.mappings)?;
     let target = s.trees.node(words)?;
     let payload = s.trees.node(words)?;
     match asked(mapping.place(s.alloc, &target, &payload))? {
         Some(path) => {
-            answer.word("ok ")?;
-            answer.path(&path)
+            out.word("ok ")?;
+            out.path(&path)
         }
-        None => answer.word("none"),
+        None => out.word("none"),
     }
 }
 
-fn follow(s: &mut Session, words: &mut Words, answer: &mut Answer) -> Done {
+fn follow(s: &mut Session, words: &mut Words, out: &mut Answer) -> Done {
     let mapping = last(&mut s.mappings)?;
     let element = s.trees.element(words)?;
-    show_end(mapping.follow(s.alloc, &element), answer)
+    show_end(mapping.follow(s.alloc, &element), out)
 }
 
 // The form of an element, its text, the number of its tree and its path.
-fn show_end(called: Result<SyntaxElement, AllocError>, answer: &mut Answer) -> Done {
+fn show_end(called: Result<SyntaxElement, AllocError>, out: &mut Answer) -> Done {
     let element = asked(called)?;
-    answer.word(if element.as_node().is_some() {
+    out.word(if element.as_node().is_some() {
         "ok node "
     } else {
         "ok token "
     })?;
-    let text = element.text(answer.alloc)?;
-    answer.quote(&text)?;
-    write!(answer.text, " of {} at ", element.tree())?;
-    answer.path(element.slots())
+    let text = element.text(out.alloc)?;
+    out.quote(&text)?;
+    write!(out.text, " of {} at ", element.tree())?;
+    out.path(element.slots())
 }

@@ -4,6 +4,7 @@ ghost use Rattle.edit_plan.specs.Fits.{Fits};
 
 use crate::editors::{deleted_paths, keep_edit};
 use crate::roots::{Roots, annotation};
+use crate::runs;
 use crate::session::{CHANGED, Session, last, take};
 use crate::shown::{Answer, Done};
 use cst_core::{GreenNode, SyntaxNode};
@@ -16,59 +17,54 @@ use syntax_editor::{
 use test_trees::{NoAnswer, Words, asked, number_of};
 use tree_text::write_tree;
 
-/// The step of this name, if it is one of these.
-pub fn answer(s: &mut Session, name: &str, words: &mut Words, answer: &mut Answer) -> Option<Done> {
+/// Takes the step of this name, or passes on what is none of these.
+pub fn answer(s: &mut Session, name: &str, words: &mut Words, out: &mut Answer) -> Done {
     let alloc = s.alloc;
-    let done = match name {
-        "plan" => plan(s, answer),
-        "change" => change(s, words),
+    match name {
+        "plan" => plan(s, out),
+        "change" => Ok(s.changes.push(next_change(&s.trees, words)?)?),
         "register" => register(s, words),
-        "check_changes" => check_changes(s, words, answer),
-        "build" => build(s, words, answer),
-        "is_empty" => is_empty(s, answer),
-        "plan_deletions" => deletions(s, answer),
-        "plan_text" => text(s, answer),
-        "text_edits" => text_edits(s, answer),
-        "is_dropped" => is_dropped(s, words, answer),
-        "owner" => owner(s, words, answer),
-        "default_order" => default_order(s, answer),
-        "execute" => execute(s, words, answer),
-        "run" => run(s, &mut OnePassEngine::new(alloc), answer),
-        "run_spliced" => run(s, &mut SpliceEngine::new(alloc), answer),
-        "built" => built(s, words, answer),
-        _ => return None,
-    };
-    Some(done)
+        "check_changes" => check_changes(s, words, out),
+        "build" => build(s, words, out),
+        "is_empty" => out.truth(last_plan(s)?.is_empty()),
+        "plan_deletions" => deleted_paths(last_plan(s)?.changes(), out),
+        "plan_text" => text(s, out),
+        "text_edits" => text_edits(s, out),
+        "is_dropped" => is_dropped(s, words, out),
+        "owner" => owner(s, words, out),
+        "default_order" => default_order(s, out),
+        "execute" => execute(s, words, out),
+        "run" => run(s, &mut OnePassEngine::new(alloc), out),
+        "run_spliced" => run(s, &mut SpliceEngine::new(alloc), out),
+        "built" => built(s, words, out),
+        _ => runs::answer(s, name, words, out),
+    }
 }
 
-fn plan(s: &mut Session, answer: &mut Answer) -> Done {
+fn plan(s: &mut Session, out: &mut Answer) -> Done {
     let plan = asked(take(&mut s.editors)?.plan(s.alloc))?;
-    keep(s, plan, answer)
+    keep(s, plan, out)
 }
 
 // Keeps a plan, and answers how many changes it has.
-fn keep(s: &mut Session, plan: EditPlan, answer: &mut Answer) -> Done {
+fn keep(s: &mut Session, plan: EditPlan, out: &mut Answer) -> Done {
     let count = plan.len();
     s.plans.push(plan)?;
-    answer.given(count as u64)
+    out.given(count as u64)
 }
 
 // Each text edit: its offsets and its text.
-fn text_edits(s: &mut Session, answer: &mut Answer) -> Done {
+fn text_edits(s: &mut Session, out: &mut Answer) -> Done {
     let edits = asked(last(&mut s.plans)?.text_edits(s.alloc))?;
-    answer.word("ok")?;
+    out.word("ok")?;
     for edit in &edits {
-        write!(answer.text, " {}-{} ", edit.start, edit.end)?;
-        answer.quote(&edit.text)?;
+        write!(out.text, " {}-{} ", edit.start, edit.end)?;
+        out.quote(&edit.text)?;
     }
     Ok(())
 }
 
 // One more change of the plan that is built.
-fn change(s: &mut Session, words: &mut Words) -> Done {
-    Ok(s.changes.push(next_change(&s.trees, words)?)?)
-}
-
 fn next_change(trees: &Roots, words: &mut Words) -> Result<Change, NoAnswer> {
     match words.word()? {
         "insert" => {
@@ -79,24 +75,25 @@ fn next_change(trees: &Roots, words: &mut Words) -> Result<Change, NoAnswer> {
             let (at, new) = trees.insertions(words)?;
             Ok(Change::InsertAll(at, ElementList::from(new)))
         }
-        "delete" => Ok(Change::Replace(trees.element(words)?, None)),
-        "replace" => {
-            let (target, new) = trees.two_elements(words)?;
-            Ok(Change::Replace(target, Some(new)))
-        }
-        "replace_with_many" => {
-            let (target, new) = trees.replacements(words)?;
-            Ok(Change::ReplaceWithMany(target, ElementList::from(new)))
-        }
-        "replace_all" => replace_all(trees, words),
-        _ => Err(NoAnswer::Arguments),
+        name => replacement(trees, name, words),
     }
 }
 
-fn replace_all(trees: &Roots, words: &mut Words) -> Result<Change, NoAnswer> {
-    let (first, end) = trees.two_elements(words)?;
-    let new = trees.elements(words)?;
-    Ok(Change::ReplaceAll(first, end, ElementList::from(new)))
+fn replacement(trees: &Roots, name: &str, words: &mut Words) -> Result<Change, NoAnswer> {
+    let target = trees.element(words)?;
+    match name {
+        "delete" => Ok(Change::Replace(target, None)),
+        "replace" => Ok(Change::Replace(target, Some(trees.element(words)?))),
+        "replace_with_many" => {
+            let new = ElementList::from(trees.elements(words)?);
+            Ok(Change::ReplaceWithMany(target, new))
+        }
+        "replace_all" => {
+            let end = trees.element(words)?;
+            Ok(Change::ReplaceAll(target, end, ElementList::from(trees.elements(words)?)))
+        }
+        _ => Err(NoAnswer::Arguments),
+    }
 }
 
 // One more registered element of the plan that is built.
@@ -125,10 +122,10 @@ fn root(trees: &Roots, words: &mut Words) -> Result<SyntaxNode, NoAnswer>
 }
 
 // Whether the changes so far make a plan, by the last mapping, or by none. All stay.
-fn check_changes(s: &mut Session, words: &mut Words, answer: &mut Answer) -> Done {
+fn check_changes(s: &mut Session, words: &mut Words, out: &mut Answer) -> Done {
     let root = root(&s.trees, words)?;
     if !all_fit(&root, &s.changes) {
-        return answer.word("not fitting");
+        return out.word("not fitting");
     }
     let nothing = SyntaxMapping::new(s.alloc);
     let mapping = s.mappings.last().unwrap_or(&nothing);
@@ -136,17 +133,17 @@ fn check_changes(s: &mut Session, words: &mut Words, answer: &mut Answer) -> Don
 }
 
 // A plan of the changes and registered elements so far, by the last mapping, or by none.
-fn build(s: &mut Session, words: &mut Words, answer: &mut Answer) -> Done {
+fn build(s: &mut Session, words: &mut Words, out: &mut Answer) -> Done {
     let alloc = s.alloc;
     let root = root(&s.trees, words)?;
     let changes = replace(&mut s.changes, Vec::new(alloc));
     if !all_fit(&root, &changes) {
-        return answer.word("not fitting");
+        return out.word("not fitting");
     }
     let registrations = replace(&mut s.registrations, Vec::new(alloc));
     let mapping = s.mappings.pop().unwrap_or(SyntaxMapping::new(alloc));
     let plan = asked(EditPlan::build(alloc, root, changes, registrations, mapping))?;
-    keep(s, plan, answer)
+    keep(s, plan, out)
 }
 
 // A change of a plan.
@@ -164,60 +161,48 @@ fn last_plan(s: &Session) -> Result<&EditPlan, NoAnswer> {
     s.plans.last().ok_or(NoAnswer::Row("no plan was made"))
 }
 
-fn is_empty(s: &mut Session, answer: &mut Answer) -> Done {
-    answer.truth(last_plan(s)?.is_empty())
-}
-
-// The paths of what the changes of the last plan delete, one element each, in their order.
-fn deletions(s: &mut Session, answer: &mut Answer) -> Done {
-    deleted_paths(last_plan(s)?.changes(), answer)
-}
-
-fn text(s: &mut Session, answer: &mut Answer) -> Done {
+fn text(s: &mut Session, out: &mut Answer) -> Done {
     let text = last_plan(s)?.to_string(s.alloc)?;
-    answer.quote(&text)
+    out.quote(&text)
 }
 
-fn is_dropped(s: &mut Session, words: &mut Words, answer: &mut Answer) -> Done {
+fn is_dropped(s: &mut Session, words: &mut Words, out: &mut Answer) -> Done {
     let plan = last_plan(s)?;
     let change = number(plan, words)?;
-    answer.truth(plan.is_dropped(change))
+    out.truth(plan.is_dropped(change))
 }
 
-fn owner(s: &mut Session, words: &mut Words, answer: &mut Answer) -> Done {
+fn owner(s: &mut Session, words: &mut Words, out: &mut Answer) -> Done {
     let plan = last_plan(s)?;
     let change = number(plan, words)?;
-    match plan.owner(change) {
-        Some(owner) => answer.given(owner as u64),
-        None => answer.word("none"),
-    }
+    out.given_or_none(plan.owner(change).map(|owner| owner as u64))
 }
 
-fn default_order(s: &mut Session, answer: &mut Answer) -> Done {
+fn default_order(s: &mut Session, out: &mut Answer) -> Done {
     let order = asked(last_plan(s)?.default_order(s.alloc))?;
-    answer.word("ok")?;
+    out.word("ok")?;
     for change in order.iter() {
-        write!(answer.text, " {change}")?;
+        write!(out.text, " {change}")?;
     }
     Ok(())
 }
 
-fn execute(s: &mut Session, words: &mut Words, answer: &mut Answer) -> Done {
+fn execute(s: &mut Session, words: &mut Words, out: &mut Answer) -> Done {
     let order = words.counts(s.alloc)?;
     let plan = last(&mut s.plans)?;
     let edit = asked(plan.execute(s.alloc, &mut s.ids, &order))?;
-    keep_edit(s, edit, answer)
+    keep_edit(s, edit, out)
 }
 
 // Carries the last plan out with this engine.
-fn run<E: EditEngine>(s: &mut Session, engine: &mut E, answer: &mut Answer) -> Done {
+fn run<E: EditEngine>(s: &mut Session, engine: &mut E, out: &mut Answer) -> Done {
     let plan = last(&mut s.plans)?;
     let edit = asked(plan.run_with(s.alloc, &mut s.ids, engine))?;
-    keep_edit(s, edit, answer)
+    keep_edit(s, edit, out)
 }
 
 // The count of an engine that makes the last plan's tree in one pass, from the number of the next word on, if the other engine makes the same.
-fn built(s: &mut Session, words: &mut Words, answer: &mut Answer) -> Done {
+fn built(s: &mut Session, words: &mut Words, out: &mut Answer) -> Done {
     let alloc = s.alloc;
     let mut engine = match words.next() {
         Some(builds) => OnePassEngine::starting_at(alloc, number_of(builds)?),
@@ -225,9 +210,9 @@ fn built(s: &mut Session, words: &mut Words, answer: &mut Answer) -> Done {
     };
     let plan = last_plan(s)?;
     if is_same(alloc, plan, &mut engine)? {
-        answer.given(engine.builds())
+        out.given(engine.builds())
     } else {
-        answer.word("the engines differ")
+        out.word("the engines differ")
     }
 }
 

@@ -1,87 +1,64 @@
 //! The calls that record.
 
+use crate::plans;
 use crate::roots::{annotation, annotation_of, kind_in};
 use crate::session::{Session, last};
-use crate::shown::Done;
+use crate::shown::{Answer, Done};
 use cst_core::ast::{Fn, LetStmt};
 use cst_core::{AstNode, HasAttrs, SyntaxNode};
 use list_removal::remove_separated;
 use syntax_editor::AttrsOwnerEdit;
 use test_trees::{NoAnswer, Words, asked};
 
-/// The step of this name, if it is one of these.
-pub fn answer(s: &mut Session, name: &str, words: &mut Words) -> Option<Done> {
-    let done = match name {
-        "insert" => insert(s, words),
-        "insert_all" => insert_all(s, words),
-        "insert_with_whitespace" => insert_with_whitespace(s, words),
-        "insert_all_with_whitespace" => insert_all_with_whitespace(s, words),
-        "delete" => delete(s, words),
-        "delete_all" => delete_all(s, words),
-        "replace" => replace(s, words),
-        "replace_with_many" => replace_with_many(s, words),
-        "replace_all" => replace_all(s, words),
+/// Takes the step of this name, or passes on what is none of these.
+pub fn answer(s: &mut Session, name: &str, words: &mut Words, out: &mut Answer) -> Done {
+    match name {
+        "insert" | "insert_with_whitespace" => insert(s, name, words),
+        "insert_all" | "insert_all_with_whitespace" => insert_all(s, name, words),
+        "delete" | "delete_all" | "replace" | "replace_with_many" | "replace_all" => {
+            replace(s, name, words)
+        }
         "add_annotation" => add_annotation(s, words),
         "add_annotation_all" => add_annotation_all(s, words),
         "remove_attrs_and_docs" => remove_attrs_and_docs(s, words),
         "remove_separated" => removed_with_separator(s, words),
-        _ => return None,
-    };
-    Some(done)
+        _ => plans::answer(s, name, words, out),
+    }
 }
 
-fn insert(s: &mut Session, words: &mut Words) -> Done {
+fn insert(s: &mut Session, name: &str, words: &mut Words) -> Done {
     let editor = last(&mut s.editors)?;
     let (at, new) = s.trees.insertion(words)?;
-    asked(editor.insert(s.alloc, at, new))
-}
-
-fn insert_all(s: &mut Session, words: &mut Words) -> Done {
-    let editor = last(&mut s.editors)?;
-    let (at, new) = s.trees.insertions(words)?;
-    asked(editor.insert_all(s.alloc, at, new))
-}
-
-fn insert_with_whitespace(s: &mut Session, words: &mut Words) -> Done {
-    let editor = last(&mut s.editors)?;
-    let (at, new) = s.trees.insertion(words)?;
+    if name == "insert" {
+        return asked(editor.insert(s.alloc, at, new));
+    }
     asked(editor.insert_with_whitespace(s.alloc, &mut s.ids, at, new))
 }
 
-fn insert_all_with_whitespace(s: &mut Session, words: &mut Words) -> Done {
+fn insert_all(s: &mut Session, name: &str, words: &mut Words) -> Done {
     let editor = last(&mut s.editors)?;
     let (at, new) = s.trees.insertions(words)?;
+    if name == "insert_all" {
+        return asked(editor.insert_all(s.alloc, at, new));
+    }
     asked(editor.insert_all_with_whitespace(s.alloc, &mut s.ids, at, new))
 }
 
-fn delete(s: &mut Session, words: &mut Words) -> Done {
+fn replace(s: &mut Session, name: &str, words: &mut Words) -> Done {
     let editor = last(&mut s.editors)?;
-    asked(editor.delete(s.alloc, s.trees.element(words)?))
-}
-
-fn delete_all(s: &mut Session, words: &mut Words) -> Done {
-    let editor = last(&mut s.editors)?;
-    let (first, end) = s.trees.two_elements(words)?;
-    asked(editor.delete_all(s.alloc, first, end))
-}
-
-fn replace(s: &mut Session, words: &mut Words) -> Done {
-    let editor = last(&mut s.editors)?;
-    let (target, new) = s.trees.two_elements(words)?;
-    asked(editor.replace(s.alloc, target, new))
-}
-
-fn replace_with_many(s: &mut Session, words: &mut Words) -> Done {
-    let editor = last(&mut s.editors)?;
-    let (target, new) = s.trees.replacements(words)?;
-    asked(editor.replace_with_many(s.alloc, target, new))
-}
-
-fn replace_all(s: &mut Session, words: &mut Words) -> Done {
-    let editor = last(&mut s.editors)?;
-    let (first, end) = s.trees.two_elements(words)?;
-    let new = s.trees.elements(words)?;
-    asked(editor.replace_all(s.alloc, first, end, new))
+    let target = s.trees.element(words)?;
+    match name {
+        "delete" => asked(editor.delete(s.alloc, target)),
+        "delete_all" => asked(editor.delete_all(s.alloc, target, s.trees.element(words)?)),
+        "replace" => asked(editor.replace(s.alloc, target, s.trees.element(words)?)),
+        "replace_with_many" => {
+            asked(editor.replace_with_many(s.alloc, target, s.trees.elements(words)?))
+        }
+        _ => {
+            let end = s.trees.element(words)?;
+            asked(editor.replace_all(s.alloc, target, end, s.trees.elements(words)?))
+        }
+    }
 }
 
 // Registered with the annotation of the next word, or with the first one.
@@ -94,8 +71,7 @@ fn add_annotation(s: &mut Session, words: &mut Words) -> Done {
 fn add_annotation_all(s: &mut Session, words: &mut Words) -> Done {
     let editor = last(&mut s.editors)?;
     let annotation = annotation_of("1").ok_or(NoAnswer::Arguments)?;
-    let elements = s.trees.elements(words)?;
-    asked(editor.add_annotation_all(s.alloc, elements, annotation))
+    asked(editor.add_annotation_all(s.alloc, s.trees.elements(words)?, annotation))
 }
 
 // Of a function or a statement.
@@ -116,6 +92,5 @@ fn remove_from<N: HasAttrs>(s: &mut Session, node: SyntaxNode) -> Done {
 fn removed_with_separator(s: &mut Session, words: &mut Words) -> Done {
     let editor = last(&mut s.editors)?;
     let element = s.trees.element(words)?;
-    let separator = kind_in(words)?;
-    asked(remove_separated(s.alloc, editor, &element, separator))
+    asked(remove_separated(s.alloc, editor, &element, kind_in(words)?))
 }

@@ -1,7 +1,8 @@
 //! A row: its steps in their order, and what those answer that are asked about. A question is a row of one step.
 
 use crate::asked::Asked;
-use crate::calls::{call, name_of};
+use crate::calls::name_of;
+use crate::making;
 use crate::session::Session;
 use crate::shown::{Answer, Done};
 use crate::standing::Standing;
@@ -88,7 +89,7 @@ fn answer_to(s: &mut Session, step: &str, answer: &mut Answer) -> Done {
     answer.text.clear();
     let mut words = Words::of(step);
     let name = words.word()?;
-    match call(s, name, &mut words, answer) {
+    match making::answer(s, name, &mut words, answer) {
         Ok(()) => words.end()?,
         Err(NoAnswer::Refusal(refusal)) => {
             answer.text.clear();

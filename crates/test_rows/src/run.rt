@@ -1,7 +1,7 @@
 //! A run of the table, line by line.
 
 use crate::asked::Asked;
-use crate::line::{Line, Wanted};
+use crate::line::Line;
 use crate::report::{Part, Report};
 use crate::row::Row;
 use crate::session::Session;
@@ -104,7 +104,11 @@ impl Run {
                     Err(reason) => self.report.note_end(rt, text, reason),
                 }
             }
-            Line::Row { steps, wanted } => self.answer_row(rt, text, steps, wanted),
+            Line::Row {
+                steps,
+                answer,
+                is_it,
+            } => self.answer_row(rt, text, steps, answer, is_it),
             Line::Group(_) => self.report.note_wrong(rt, text, "a group names a group"),
             Line::Malformed => self.report.note_wrong(rt, text, "the line is malformed"),
         }
@@ -116,7 +120,8 @@ impl Run {
         rt: &R,
         text: &str,
         steps: &str,
-        wanted: Wanted,
+        answer: &str,
+        is_it: bool,
     ) -> io::Result<()> {
         let mut answers = String::new(self.alloc);
         self.session.clear();
@@ -130,7 +135,7 @@ impl Run {
             println!(rt; "Memory: {call}")?;
         }
         match taken {
-            Ok(()) if wanted.is_met(&answers) => Ok(()),
+            Ok(()) if (answers.as_str() == answer) == is_it => Ok(()),
             Ok(()) => self.report.note_wrong(rt, text, answers),
             Err(reason) => self.report.note_end(rt, text, reason),
         }

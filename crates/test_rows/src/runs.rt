@@ -2,6 +2,7 @@
 ghost use Rattle.std.specs.Prelude.{◌≡◌, ◌<◌, length, IfOk};
 
 use crate::editors::keep_edit;
+use crate::indents;
 use crate::session::{CHANGED, Session};
 use crate::shown::{Answer, Done};
 use crate::standing::run_standing;
@@ -13,14 +14,14 @@ use test_trees::{NoAnswer, Words, asked};
 // Texts up to this length are shown.
 const SHOWN: u64 = 200;
 
-/// The step of this name, if it is one of these: `stepped`, `finish_run` or `finish_counting`. Words that are numbers are changes that are carried
+/// `stepped`, `finish_run` or `finish_counting`. Words that are numbers are changes that are carried
 /// out, and each other word is a question.
-pub fn answer(s: &mut Session, name: &str, words: &mut Words, answer: &mut Answer) -> Option<Done> {
+pub fn answer(s: &mut Session, name: &str, words: &mut Words, out: &mut Answer) -> Done {
     match name {
-        "stepped" => Some(step_through(s, words, answer)),
-        "finish_run" => Some(finish_run(s, words, answer)),
-        "finish_counting" => Some(finish_counting(s, words, answer)),
-        _ => None,
+        "stepped" => step_through(s, words, out),
+        "finish_run" => finish_run(s, words, out),
+        "finish_counting" => finish_counting(s, words, out),
+        _ => indents::answer(s, name, words, out),
     }
 }
 
@@ -28,37 +29,37 @@ fn plan(plans: &[EditPlan]) -> Result<&EditPlan, NoAnswer> {
     plans.last().ok_or(NoAnswer::Row("no plan was made"))
 }
 
-fn step_through(s: &mut Session, words: &mut Words, answer: &mut Answer) -> Done {
-    answer.word("ok")?;
+fn step_through(s: &mut Session, words: &mut Words, out: &mut Answer) -> Done {
+    out.word("ok")?;
     let plan = plan(&s.plans)?;
     let mut stepped = Stepped::new(s.alloc, plan, &mut s.refused)?;
-    stepped.take_all(words, &mut s.refused, answer)
+    stepped.take_all(words, &mut s.refused, out)
 }
 
 // The edit that a run gives where it is complete.
-fn finish_run(s: &mut Session, words: &mut Words, answer: &mut Answer) -> Done {
+fn finish_run(s: &mut Session, words: &mut Words, out: &mut Answer) -> Done {
     let plan = plan(&s.plans)?;
     let mut stepped = Stepped::new(s.alloc, plan, &mut s.refused)?;
-    stepped.take_all(words, &mut s.refused, answer)?;
-    answer.text.clear();
+    stepped.take_all(words, &mut s.refused, out)?;
+    out.text.clear();
     if !stepped.run.is_complete() {
-        return answer.word("not complete");
+        return out.word("not complete");
     }
     let Stepped { run, .. } = stepped;
     let edit = asked(run.finish(s.alloc, &mut s.ids))?;
-    keep_edit(s, edit, answer)
+    keep_edit(s, edit, out)
 }
 
 // The same, with the count of the walk that gives the edit its paths, from the first number on. Where there is no edit it is as it was.
-fn finish_counting(s: &mut Session, words: &mut Words, answer: &mut Answer) -> Done {
+fn finish_counting(s: &mut Session, words: &mut Words, out: &mut Answer) -> Done {
     let first = words.number()?;
     let mut walk = OnePassEngine::starting_at(s.alloc, first);
     let plan = plan(&s.plans)?;
     let mut stepped = Stepped::new(s.alloc, plan, &mut s.refused)?;
-    stepped.take_all(words, &mut s.refused, answer)?;
-    answer.text.clear();
+    stepped.take_all(words, &mut s.refused, out)?;
+    out.text.clear();
     if !stepped.run.is_complete() {
-        return answer.word("not complete");
+        return out.word("not complete");
     }
     let Stepped { run, .. } = stepped;
     let called = run.finish_counting(s.alloc, &mut s.ids, &mut walk);
@@ -66,8 +67,8 @@ fn finish_counting(s: &mut Session, words: &mut Words, answer: &mut Answer) -> D
         return Err(CHANGED);
     }
     let edit = asked(called)?;
-    keep_edit(s, edit, answer)?;
-    Ok(write!(answer.text, ", built {}", walk.builds())?)
+    keep_edit(s, edit, out)?;
+    Ok(write!(out.text, ", built {}", walk.builds())?)
 }
 
 // A run of a plan, and how many changes that has.
@@ -114,15 +115,15 @@ impl<'a> Stepped<'a> {
         &mut self,
         words: &mut Words,
         refused: &mut Option<&'static str>,
-        answer: &mut Answer,
+        out: &mut Answer,
     ) -> Done {
         for word in words.take_rest().split(' ').filter(|word| !word.is_empty()) {
             match word.parse::<usize>() {
-                Ok(change) if change < self.count => self.step(change, refused, answer)?,
+                Ok(change) if change < self.count => self.step(change, refused, out)?,
                 Ok(_) => return Err(NoAnswer::Arguments),
                 Err(_) => {
-                    answer.word(" ")?;
-                    self.ask(word, answer)?;
+                    out.word(" ")?;
+                    self.ask(word, out)?;
                 }
             }
         }
@@ -130,16 +131,11 @@ impl<'a> Stepped<'a> {
     }
 
     // Carries a change out, if it may be the next one. A refused call leaves the run as it was, and is made again.
-    fn step(
-        &mut self,
-        change: usize,
-        refused: &mut Option<&'static str>,
-        answer: &mut Answer,
-    ) -> Done
+    fn step(&mut self, change: usize, refused: &mut Option<&'static str>, out: &mut Answer) -> Done
         requires { change < self.old.count }
     {
         if !self.run.ready(change) {
-            return answer.word(" not_ready");
+            return out.word(" not_ready");
         }
         let before = run_standing(&self.run, self.count);
         if self.run.step(self.alloc, change).is_ok() {
@@ -152,49 +148,49 @@ impl<'a> Stepped<'a> {
         Ok(self.run.step(self.alloc, change)?)
     }
 
-    fn ask(&self, word: &str, answer: &mut Answer) -> Done {
+    fn ask(&self, word: &str, out: &mut Answer) -> Done {
         match word {
-            "green" => short_text(self.run.green(), answer),
-            "ready" => self.ready(answer),
-            "next" => answer.number_or_none(self.run.next_ready().map(|change| change as u64)),
-            "builds" => answer.number(self.run.builds()),
-            "complete" => answer.truth(self.run.is_complete()),
-            "plan" => answer.number(self.run.plan().len() as u64),
-            _ => self.payload(word, answer),
+            "green" => short_text(self.run.green(), out),
+            "ready" => self.ready(out),
+            "next" => out.number_or_none(self.run.next_ready().map(|change| change as u64)),
+            "builds" => out.number(self.run.builds()),
+            "complete" => out.truth(self.run.is_complete()),
+            "plan" => out.number(self.run.plan().len() as u64),
+            _ => self.payload(word, out),
         }
     }
 
     // The payload of a change, as `payload/NUMBER`.
-    fn payload(&self, word: &str, answer: &mut Answer) -> Done {
+    fn payload(&self, word: &str, out: &mut Answer) -> Done {
         let digits = word.strip_prefix("payload/").ok_or(NoAnswer::Arguments)?;
         match digits.parse::<usize>() {
             Ok(change) if change < self.count => match self.run.payload(change) {
-                Some(payload) => short_text(payload, answer),
-                None => answer.word("none"),
+                Some(payload) => short_text(payload, out),
+                None => out.word("none"),
             },
             _ => Err(NoAnswer::Arguments),
         }
     }
 
     // The changes that may be the next ones, between braces.
-    fn ready(&self, answer: &mut Answer) -> Done {
+    fn ready(&self, out: &mut Answer) -> Done {
         let mut space = "{";
         for change in 0..self.count {
             if self.run.ready(change) {
-                write!(answer.text, "{space}{change}")?;
+                write!(out.text, "{space}{change}")?;
                 space = " ";
             }
         }
-        answer.word(if space == "{" { "{}" } else { "}" })
+        out.word(if space == "{" { "{}" } else { "}" })
     }
 }
 
 // The text of a tree, or the length of a long one.
-fn short_text(tree: &GreenNode, answer: &mut Answer) -> Done {
+fn short_text(tree: &GreenNode, out: &mut Answer) -> Done {
     let length = tree.length();
     if length > SHOWN {
-        return Ok(write!(answer.text, "{length}_bytes")?);
+        return Ok(write!(out.text, "{length}_bytes")?);
     }
-    let text = tree.to_string(answer.alloc)?;
-    answer.quote(&text)
+    let text = tree.to_string(out.alloc)?;
+    out.quote(&text)
 }

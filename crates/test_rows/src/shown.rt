@@ -50,6 +50,14 @@ impl Answer {
         Ok(write!(self.text, "ok {number}")?)
     }
 
+    /// A call gave this number, or none.
+    pub fn given_or_none(&mut self, number: Option<u64>) -> Done {
+        match number {
+            Some(number) => self.given(number),
+            None => self.word("none"),
+        }
+    }
+
     pub fn number_or_none(&mut self, number: Option<u64>) -> Done {
         match number {
             Some(number) => self.number(number),
@@ -62,9 +70,13 @@ impl Answer {
         self.word(if holds { "true" } else { "false" })
     }
 
-    /// Whether a call gave something.
-    pub fn some(&mut self, is_some: bool) -> Done {
-        self.word(if is_some { "ok" } else { "none" })
+    /// Another way to get the answer has to give the same one.
+    pub fn agree(&mut self, other: &Answer) -> Done {
+        if self.text == other.text {
+            return Ok(());
+        }
+        self.word("; another way ")?;
+        self.word(&other.text)
     }
 
     /// What a value or an error prints.
@@ -174,78 +186,78 @@ impl Answer {
 
 /// What is shown in one way, wherever it stands.
 pub trait Show {
-    fn show(&self, answer: &mut Answer) -> Done;
+    fn show(&self, out: &mut Answer) -> Done;
 }
 
 /// What a call gave that may be refused because memory ran out, by its name in the sources.
 pub fn told<T: Show + Drop>(
-    answer: &mut Answer,
+    out: &mut Answer,
     call: &'static str,
     called: Result<T, AllocError>,
 ) -> Done {
     match called {
-        Ok(given) => given.show(answer),
+        Ok(given) => given.show(out),
         Err(_) => Err(NoAnswer::Refused(call)),
     }
 }
 
 impl<T: Show> Show for Option<T> {
-    fn show(&self, answer: &mut Answer) -> Done {
+    fn show(&self, out: &mut Answer) -> Done {
         match self {
-            Some(given) => given.show(answer),
-            None => answer.word("none"),
+            Some(given) => given.show(out),
+            None => out.word("none"),
         }
     }
 }
 
 impl<T: Show> Show for Vec<T> {
-    fn show(&self, answer: &mut Answer) -> Done {
+    fn show(&self, out: &mut Answer) -> Done {
         let mut comma = "";
         for item in self {
-            answer.word(comma)?;
-            item.show(answer)?;
+            out.word(comma)?;
+            item.show(out)?;
             comma = ", ";
         }
         if comma.is_empty() {
-            return answer.word("none");
+            return out.word("none");
         }
         Ok(())
     }
 }
 
 impl Show for String {
-    fn show(&self, answer: &mut Answer) -> Done {
-        answer.quote(self)
+    fn show(&self, out: &mut Answer) -> Done {
+        out.quote(self)
     }
 }
 
 impl Show for SyntaxElement {
-    fn show(&self, answer: &mut Answer) -> Done {
-        answer.place(self.tree(), self.slots(), self.kind())
+    fn show(&self, out: &mut Answer) -> Done {
+        out.place(self.tree(), self.slots(), self.kind())
     }
 }
 
 impl Show for SyntaxNode {
-    fn show(&self, answer: &mut Answer) -> Done {
-        answer.place(self.tree(), self.slots(), self.kind())
+    fn show(&self, out: &mut Answer) -> Done {
+        out.place(self.tree(), self.slots(), self.kind())
     }
 }
 
 impl Show for SyntaxToken {
-    fn show(&self, answer: &mut Answer) -> Done {
-        answer.place(self.tree(), self.slots(), self.kind())
+    fn show(&self, out: &mut Answer) -> Done {
+        out.place(self.tree(), self.slots(), self.kind())
     }
 }
 
 impl Show for TokenAtOffset {
-    fn show(&self, answer: &mut Answer) -> Done {
+    fn show(&self, out: &mut Answer) -> Done {
         match self {
-            TokenAtOffset::None => answer.word("none"),
-            TokenAtOffset::Single(token) => token.show(answer),
+            TokenAtOffset::None => out.word("none"),
+            TokenAtOffset::Single(token) => token.show(out),
             TokenAtOffset::Between(left, right) => {
-                left.show(answer)?;
-                answer.word(", ")?;
-                right.show(answer)
+                left.show(out)?;
+                out.word(", ")?;
+                right.show(out)
             }
         }
     }
@@ -253,30 +265,30 @@ impl Show for TokenAtOffset {
 
 // Kind, how many children, length and text.
 impl Show for GreenNode {
-    fn show(&self, answer: &mut Answer) -> Done {
+    fn show(&self, out: &mut Answer) -> Done {
         let count = self.children().len();
-        write!(answer.text, "{} of {count}, ", kind_name(self.kind()))?;
-        let text = self.to_string(answer.alloc)?;
-        answer.extent(self.length(), &text)
+        write!(out.text, "{} of {count}, ", kind_name(self.kind()))?;
+        let text = self.to_string(out.alloc)?;
+        out.extent(self.length(), &text)
     }
 }
 
 impl Show for GreenToken {
-    fn show(&self, answer: &mut Answer) -> Done {
-        write!(answer.text, "{}, ", kind_name(self.kind()))?;
-        answer.extent(self.length(), self.text())
+    fn show(&self, out: &mut Answer) -> Done {
+        write!(out.text, "{}, ", kind_name(self.kind()))?;
+        out.extent(self.length(), self.text())
     }
 }
 
 impl Show for GreenElement {
-    fn show(&self, answer: &mut Answer) -> Done {
-        show_green(answer, self.as_ref())
+    fn show(&self, out: &mut Answer) -> Done {
+        show_green(out, self.as_ref())
     }
 }
 
-pub fn show_green(answer: &mut Answer, element: GreenElementRef<'_>) -> Done {
+pub fn show_green(out: &mut Answer, element: GreenElementRef<'_>) -> Done {
     match element {
-        GreenElementRef::Node(node) => node.show(answer),
-        GreenElementRef::Token(token) => token.show(answer),
+        GreenElementRef::Node(node) => node.show(out),
+        GreenElementRef::Token(token) => token.show(out),
     }
 }

@@ -24,9 +24,61 @@ impl Group {
 
     // One more value, after the others.
     fn add(&mut self, value: u64) {
+        let mut hasher = DefaultHasher::new();
+        hasher.write_u64(self.all);
+        hasher.write_u64(value);
         self.count = self.count.saturating_add(1);
         self.before_last = self.all;
-        self.all = both(self.all, value);
+        self.all = hasher.finish();
+    }
+
+    fn add_hash<T: Hash>(&mut self, value: &T) {
+        self.add(hash_of(value));
+    }
+
+    fn add_all(&mut self, elements: &[SyntaxElement]) {
+        for element in elements {
+            self.add_hash(element);
+        }
+    }
+
+    // Its gap, or what it replaces, and its payload.
+    fn add_change(&mut self, change: &Change) {
+        match change {
+            Change::Insert(at, new) => {
+                self.add_gap(at);
+                self.add_hash(new);
+            }
+            Change::InsertAll(at, new) => {
+                self.add_gap(at);
+                self.add_all(new.as_slice());
+            }
+            Change::Replace(old, new) => {
+                self.add_hash(old);
+                self.add(option_hash(new.as_ref()));
+            }
+            Change::ReplaceWithMany(old, new) => {
+                self.add_hash(old);
+                self.add_all(new.as_slice());
+            }
+            Change::ReplaceAll(first, end, new) => {
+                self.add_hash(first);
+                self.add_hash(end);
+                self.add_all(new.as_slice());
+            }
+        }
+    }
+
+    fn add_gap(&mut self, at: &Position) {
+        self.add(option_hash(at.first_of()));
+        self.add(option_hash(at.after_of()));
+    }
+
+    fn add_tree(&mut self, tree: &GreenNode) {
+        self.add(u64::from(tree.kind().0));
+        for child in tree.children() {
+            self.add(child.length());
+        }
     }
 
     // Whether the values are the same ones, but for a last one that was taken, or came.
@@ -38,6 +90,19 @@ impl Group {
         } else {
             after.all == self.all
         }
+    }
+}
+
+pub fn hash_of<T: Hash>(value: &T) -> u64 {
+    let mut hasher = DefaultHasher::new();
+    value.hash(&mut hasher);
+    hasher.finish()
+}
+
+fn option_hash<T: Hash>(value: Option<&T>) -> u64 {
+    match value {
+        Some(value) => hash_of(value),
+        None => 0,
     }
 }
 
@@ -75,20 +140,6 @@ impl Standing {
     }
 }
 
-// A number that stands for two.
-fn both(first: u64, second: u64) -> u64 {
-    let mut hasher = DefaultHasher::new();
-    hasher.write_u64(first);
-    hasher.write_u64(second);
-    hasher.finish()
-}
-
-pub fn hash_of<T: Hash>(value: &T) -> u64 {
-    let mut hasher = DefaultHasher::new();
-    value.hash(&mut hasher);
-    hasher.finish()
-}
-
 /// The mappings, by how many pairs each has.
 pub fn mappings_standing(mappings: &[SyntaxMapping]) -> Group {
     let mut group = Group::new();
@@ -102,63 +153,22 @@ pub fn mappings_standing(mappings: &[SyntaxMapping]) -> Group {
 pub fn editors_standing(editors: &[SyntaxEditor]) -> Group {
     let mut group = Group::new();
     for editor in editors {
-        group.add(changes_standing(editor.changes()));
+        let mut changes = Group::new();
+        for change in editor.changes() {
+            changes.add_change(change);
+        }
+        group.add(changes.all);
     }
     group
 }
 
-/// The plans, by what becomes of each change.
+/// The plans, by how many changes each has.
 pub fn plans_standing(plans: &[EditPlan]) -> Group {
     let mut group = Group::new();
     for plan in plans {
         group.add(plan.len() as u64);
     }
     group
-}
-
-fn changes_standing(changes: &[Change]) -> u64 {
-    let mut group = Group::new();
-    for change in changes {
-        group.add(change_standing(change));
-    }
-    group.all
-}
-
-// Its form, its gap or what it replaces, and its payload.
-fn change_standing(change: &Change) -> u64 {
-    match change {
-        Change::Insert(at, new) => both(1, both(gap_standing(at), hash_of(new))),
-        Change::InsertAll(at, new) => {
-            both(2, both(gap_standing(at), elements_standing(new.as_slice())))
-        }
-        Change::Replace(old, new) => both(3, both(hash_of(old), one_standing(new.as_ref()))),
-        Change::ReplaceWithMany(old, new) => {
-            both(4, both(hash_of(old), elements_standing(new.as_slice())))
-        }
-        Change::ReplaceAll(first, end, new) => {
-            let range = both(hash_of(first), hash_of(end));
-            both(5, both(range, elements_standing(new.as_slice())))
-        }
-    }
-}
-
-fn gap_standing(at: &Position) -> u64 {
-    both(one_standing(at.first_of()), one_standing(at.after_of()))
-}
-
-fn one_standing<T: Hash>(value: Option<&T>) -> u64 {
-    match value {
-        Some(value) => hash_of(value),
-        None => 0,
-    }
-}
-
-fn elements_standing(elements: &[SyntaxElement]) -> u64 {
-    let mut group = Group::new();
-    for element in elements {
-        group.add(hash_of(element));
-    }
-    group.all
 }
 
 /// A run of a plan with n changes: which may be the next ones, the tree and the payloads, each by the lengths of its children,
@@ -168,26 +178,12 @@ pub fn run_standing(run: &EditRun, count: usize) -> u64
 {
     let mut group = Group::new();
     group.add(run.builds());
-    group.add(tree_standing(run.green()));
+    group.add_tree(run.green());
     for change in 0..count {
-        group.add(if run.ready(change) { 1 } else { 0 });
-        group.add(payload_standing(run.payload(change)));
-    }
-    group.all
-}
-
-fn payload_standing(payload: Option<&GreenNode>) -> u64 {
-    match payload {
-        Some(tree) => tree_standing(tree),
-        None => 0,
-    }
-}
-
-fn tree_standing(tree: &GreenNode) -> u64 {
-    let mut group = Group::new();
-    group.add(u64::from(tree.kind().0));
-    for child in tree.children() {
-        group.add(child.length());
+        group.add(u64::from(run.ready(change)));
+        if let Some(payload) = run.payload(change) {
+            group.add_tree(payload);
+        }
     }
     group.all
 }

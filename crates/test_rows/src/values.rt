@@ -6,16 +6,28 @@ ghost use Rattle.cst_core.specs.Element.{subtree};
 use crate::session::Session;
 use crate::shown::{Answer, Done, kind_name};
 use crate::standing::hash_of;
+use crate::{elements, errors};
 use cst_core::ast::{BlockExpr, Fn, LetStmt, StmtList};
 use cst_core::{AstNode, HasAttrs, SyntaxElement, SyntaxNode, same_shape};
 use std::alloc::{AllocError, Global};
 use std::hash::Hash;
 use test_trees::Words;
 
-/// `equal ELEMENT ELEMENT`
-pub fn equal(s: &mut Session, words: &mut Words, answer: &mut Answer) -> Done {
+/// `equal ELEMENT ELEMENT`, `form ELEMENT`, `same_shape NODE NODE` or `views NODE`; what is none of these is of an error or of an element.
+pub fn answer(s: &mut Session, name: &str, words: &mut Words, out: &mut Answer) -> Done {
+    match name {
+        "equal" => equal(s, words, out),
+        "form" => form(s, words, out),
+        "same_shape" => shape(s, words, out),
+        "views" => views(s, words, out),
+        _ if name.ends_with("error") => errors::answer(name, words, out),
+        _ => elements::answer(s, name, words, out),
+    }
+}
+
+fn equal(s: &mut Session, words: &mut Words, out: &mut Answer) -> Done {
     let (left, right) = s.trees.two_elements(words)?;
-    answer.word(equality(&left, &right))
+    out.word(equality(&left, &right))
 }
 
 // By `==` both ways, and by the hash, which differs where these values do.
@@ -46,12 +58,12 @@ fn equality(left: &SyntaxElement, right: &SyntaxElement) -> &'static str {
     }
 }
 
-/// `form ELEMENT`: by the node or token that is taken and put back, and by the one that is lent.
-pub fn form(s: &mut Session, words: &mut Words, answer: &mut Answer) -> Done {
+// By the node or token that is taken and put back, and by the one that is lent.
+fn form(s: &mut Session, words: &mut Words, out: &mut Answer) -> Done {
     let element = s.trees.element(words)?;
     let lent = lent_form(&element);
     let taken = taken_form(element);
-    answer.word(if lent == taken {
+    out.word(if lent == taken {
         lent
     } else {
         "one lent and another taken"
@@ -84,8 +96,8 @@ fn name_if(is_same: bool, name: &'static str) -> &'static str {
     if is_same { name } else { "another element" }
 }
 
-/// `same_shape NODE NODE`, both ways
-pub fn shape(s: &mut Session, words: &mut Words, answer: &mut Answer) -> Done {
+// Both ways.
+fn shape(s: &mut Session, words: &mut Words, out: &mut Answer) -> Done {
     let left = s.trees.node(words)?;
     let right = s.trees.node(words)?;
     let shapes = match (same_shape(&left, &right), same_shape(&right, &left)) {
@@ -93,17 +105,17 @@ pub fn shape(s: &mut Session, words: &mut Words, answer: &mut Answer) -> Done {
         (false, false) => "no",
         _ => "one way and not the other",
     };
-    answer.word(shapes)
+    out.word(shapes)
 }
 
-/// `views NODE`: the kinds of the node's views as BlockExpr, as StmtList, as LetStmt and as Fn
-pub fn views(s: &mut Session, words: &mut Words, answer: &mut Answer) -> Done {
+// The kinds of the node's views as BlockExpr, as StmtList, as LetStmt and as Fn
+fn views(s: &mut Session, words: &mut Words, out: &mut Answer) -> Done {
     let node = s.trees.node(words)?;
     let alloc = s.alloc;
-    view_name::<BlockExpr>(alloc, &node, answer)?;
-    view_name::<StmtList>(alloc, &node, answer)?;
-    attributed_name::<LetStmt>(alloc, &node, answer)?;
-    attributed_name::<Fn>(alloc, &node, answer)
+    view_name::<BlockExpr>(alloc, &node, out)?;
+    view_name::<StmtList>(alloc, &node, out)?;
+    attributed_name::<LetStmt>(alloc, &node, out)?;
+    attributed_name::<Fn>(alloc, &node, out)
 }
 
 // What a function over any typed node knows from the trait alone.
@@ -144,13 +156,13 @@ fn view_again<T: AstNode>(alloc: Global, view: T) -> Result<T, AllocError>
 }
 
 // The name of the kind of the node's view, `none` where there is none, after a space.
-fn view_name<T: AstNode>(alloc: Global, node: &SyntaxNode, answer: &mut Answer) -> Done {
-    if !answer.text.is_empty() {
-        answer.word(" ")?;
+fn view_name<T: AstNode>(alloc: Global, node: &SyntaxNode, out: &mut Answer) -> Done {
+    if !out.text.is_empty() {
+        out.word(" ")?;
     }
     let Some(typed) = view_if_castable::<T>(node.try_clone(alloc)?) else {
         let is_view = T::cast(node.try_clone(alloc)?).is_some();
-        return answer.word(if is_view {
+        return out.word(if is_view {
             "a view of a kind that has none"
         } else {
             "none"
@@ -158,12 +170,12 @@ fn view_name<T: AstNode>(alloc: Global, node: &SyntaxNode, answer: &mut Answer) 
     };
     let again = view_again(alloc, typed)?;
     if can_cast_again(&again) && again.syntax() == node {
-        answer.word(kind_name(again.syntax().kind()))
+        out.word(kind_name(again.syntax().kind()))
     } else {
-        answer.word("a view of another node")
+        out.word("a view of another node")
     }
 }
 
-fn attributed_name<T: HasAttrs>(alloc: Global, node: &SyntaxNode, answer: &mut Answer) -> Done {
-    view_name::<T>(alloc, node, answer)
+fn attributed_name<T: HasAttrs>(alloc: Global, node: &SyntaxNode, out: &mut Answer) -> Done {
+    view_name::<T>(alloc, node, out)
 }

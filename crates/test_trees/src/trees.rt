@@ -2,11 +2,11 @@
 
 use crate::doubling::{capped_halves, p_file};
 use crate::long::{at_level, blank, fill, many};
-use crate::nested::{Nesting, nested};
+use crate::nested::nested;
 use crate::no_answer::NoAnswer;
 use crate::rows::{green, row};
 use crate::words::{Words, name_and_path, number_of, slots_of};
-use cst_core::{GreenNode, SyntaxElement, SyntaxNode, SyntaxToken, TreeIds};
+use cst_core::{GreenNode, SyntaxElement, SyntaxNode, TreeIds};
 use std::alloc::Global;
 
 /// The tree that a text says: a name or an expression, `long BYTES TREE`, `deep LEVEL TREE`, `wide COUNT TREE`,
@@ -27,7 +27,7 @@ pub fn read_tree(alloc: Global, text: &str) -> Result<GreenNode, NoAnswer> {
             many(alloc, &short_tree(alloc, words.take_rest())?, count)
         }
         "nested" => {
-            let nesting = Nesting::from_name(words.word()?)?;
+            let nesting = words.word()?;
             let depth = words.number()?;
             nested(alloc, short_tree(alloc, words.take_rest())?, nesting, depth)
         }
@@ -103,20 +103,6 @@ impl Trees {
         let (tree, path) = name_and_path(address);
         let root = self.root(alloc, tree)?;
         element_below(alloc, &root, path)
-    }
-
-    /// The node there.
-    pub fn node(&self, alloc: Global, address: &str) -> Result<SyntaxNode, NoAnswer> {
-        self.element(alloc, address)?
-            .into_node()
-            .ok_or(NoAnswer::Form)
-    }
-
-    /// The token there.
-    pub fn token(&self, alloc: Global, address: &str) -> Result<SyntaxToken, NoAnswer> {
-        self.element(alloc, address)?
-            .into_token()
-            .ok_or(NoAnswer::Form)
     }
 }
 
