@@ -1,6 +1,8 @@
 //! Which answers of which calls rows asked about.
 
+use crate::calls::{OWED, Owed};
 use std::alloc::Global;
+use std::io;
 use test_trees::{NoAnswer, first_word};
 
 /// The calls that have a row, each with the first word of what it answered there, as `CALL ANSWER` in a line of its own.
@@ -24,10 +26,28 @@ impl Asked {
         Ok(self.pairs.push(pair)?)
     }
 
-    pub fn has(&self, call: &str, answer: &str) -> bool {
+    fn has(&self, call: &str, answer: &str) -> bool {
         self.pairs.iter().any(|pair| match pair.strip_prefix(call) {
             Some(rest) => rest.strip_prefix(' ') == Some(answer),
             None => false,
         })
+    }
+
+    /// Prints each owed pair that has no row, and how many have one. Gives the number of those that have none.
+    pub fn print_missing<R: Print>(&self, rt: &R) -> io::Result<u32> {
+        let mut all = 0_u32;
+        let mut lacks = 0_u32;
+        for owed in OWED.lines().filter_map(Owed::read) {
+            for answer in owed.answers.split(' ') {
+                all = all.saturating_add(1);
+                if !self.has(owed.call, answer) {
+                    lacks = lacks.saturating_add(1);
+                    println!(rt; "no row: {} answers {answer}", owed.call)?;
+                }
+            }
+        }
+        let have = all.saturating_sub(lacks);
+        println!(rt; "{have} of {all} owed pairs of a call and its answer have a row")?;
+        Ok(lacks)
     }
 }

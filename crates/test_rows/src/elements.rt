@@ -4,7 +4,7 @@ use crate::roots::kind_in;
 use crate::session::{CHANGED, Session};
 use crate::shown::{Answer, Done, Show, kind_name, show_green, told};
 use crate::standing::hash_of;
-use cst_core::{Direction, SyntaxElement, SyntaxNode, SyntaxToken, TreeIds};
+use cst_core::{Direction, SyntaxElement, SyntaxNode, SyntaxToken};
 use std::alloc::{AllocError, Global};
 use test_trees::{NoAnswer, Words, slots_of};
 
@@ -122,17 +122,7 @@ fn at(alloc: Global, it: &SyntaxNode, name: &str, words: &mut Words, out: &mut A
             let called = it.element_of_tree(alloc, slots_of(alloc, words.word()?)?);
             told(out, "SyntaxNode::element_of_tree", called)
         }
-        _ => subtree_copy(alloc, it, out),
-    }
-}
-
-// The copy's number is drawn from a source that begins at 40.
-fn subtree_copy(alloc: Global, it: &SyntaxNode, out: &mut Answer) -> Done {
-    let mut ids = TreeIds::new(40);
-    match it.clone_subtree(alloc, &mut ids) {
-        Ok(copy) => out.root_facts(&copy),
-        Err(_) if ids.peek() != Some(40) => Err(CHANGED),
-        Err(_) => Err(NoAnswer::Refused("SyntaxNode::clone_subtree")),
+        _ => Err(NoAnswer::Arguments),
     }
 }
 

@@ -1,19 +1,16 @@
-//! Kinds and their names, shared trees and their lengths, and sources of tree numbers.
+//! Kinds and their names, shared trees and their lengths.
 
-use crate::session::{CHANGED, Session};
+use crate::session::Session;
 use crate::shown::{Answer, Done, Show, show_green, told};
 use crate::texts;
 use crate::texts::unquote;
-use cst_core::{
-    GreenElement, GreenNode, GreenToken, KIND_NAMES, LENGTH_LIMIT, SyntaxKind, SyntaxNode,
-    TreeError, TreeIds,
-};
+use cst_core::{GreenElement, GreenNode, GreenToken, KIND_NAMES, LENGTH_LIMIT, SyntaxKind};
 use std::alloc::Global;
-use test_trees::{NoAnswer, Words, green, halves, p, row, slots_of};
+use test_trees::{NoAnswer, Words, green, p, row, slots_of};
 
 /// `kind_name NUMBER`, `kind_from_name NAME`, `green_token KIND TEXT`,
 /// `green_letters LETTERS`, `splice START END LETTERS`, `get TREE PATH`, `green_text TREE`, `child_count TREE`, `read EXPRESSION`,
-/// `row NAME`, `limit`, `length TREE`, `doubled K`, `halves COUNT`, `root_from TREE FIRST`, `draws FIRST` or `roots FIRST`.
+/// `row NAME`, `limit`, `length TREE`, or `doubled K`.
 pub fn answer(s: &mut Session, name: &str, words: &mut Words, out: &mut Answer) -> Done {
     let alloc = s.alloc;
     match name {
@@ -28,10 +25,6 @@ pub fn answer(s: &mut Session, name: &str, words: &mut Words, out: &mut Answer) 
         "limit" => out.number(LENGTH_LIMIT),
         "green_text" | "child_count" | "length" => of_tree(s, name, words, out),
         "doubled" => doubled(alloc, words, out),
-        "halves" => node_of_halves(alloc, words, out),
-        "root_from" => root_from(s, words, out),
-        "draws" => draws(words, out),
-        "roots" => roots(s, words, out),
         _ => texts::answer(s, name, words, out),
     }
 }
@@ -190,68 +183,4 @@ fn doubled(alloc: Global, words: &mut Words, out: &mut Answer) -> Done {
         Err(NoAnswer::Row(why)) => out.word(why),
         Err(error) => Err(error),
     }
-}
-
-// The length of a node that holds P_31 this many times.
-fn node_of_halves(alloc: Global, words: &mut Words, out: &mut Answer) -> Done {
-    let halves = halves(alloc, words.count()?)?;
-    match GreenNode::new(alloc, SyntaxKind::LITERAL, halves) {
-        Ok(node) => out.number(node.length()),
-        Err(TreeError::Memory) => Err(NoAnswer::Refused("GreenNode::new")),
-        Err(error) => out.print(&error),
-    }
-}
-
-// What a new root has as its number, or why there is none. Where there is none no number is drawn.
-fn new_root(alloc: Global, ids: &mut TreeIds, tree: GreenNode, out: &mut Answer) -> Done {
-    let before = ids.peek();
-    let called = SyntaxNode::new_root(alloc, ids, tree);
-    if called.is_err() && ids.peek() != before {
-        return Err(CHANGED);
-    }
-    out.number_or_why("SyntaxNode::new_root", called)
-}
-
-// The number of a new root of the tree, and the number that comes then.
-fn root_from(s: &mut Session, words: &mut Words, out: &mut Answer) -> Done {
-    let tree = s.trees.defined.tree(s.alloc, words.word()?)?;
-    let mut ids = TreeIds::new(words.number()?);
-    new_root(s.alloc, &mut ids, tree, out)?;
-    out.word(", then ")?;
-    out.number_or_none(ids.next())
-}
-
-// Three draws: the next number, which `peek` gives too, twice, and `is_spent` fits.
-fn draws(words: &mut Words, out: &mut Answer) -> Done {
-    let mut ids = TreeIds::new(words.number()?);
-    for comma in ["", ", ", ", "] {
-        let is_spent = ids.is_spent();
-        let peeked = ids.peek();
-        let peeked_again = ids.peek();
-        let number = ids.next();
-        out.word(comma)?;
-        if peeked == number && peeked_again == number && is_spent == number.is_none() {
-            out.number_or_none(number)?;
-        } else {
-            out.word("what was not foretold")?;
-        }
-    }
-    Ok(())
-}
-
-// The number of a new root, that of a copied node, and the number that comes then.
-fn roots(s: &mut Session, words: &mut Words, out: &mut Answer) -> Done {
-    let mut ids = TreeIds::new(words.number()?);
-    let tree = s.trees.defined.tree(s.alloc, "X")?;
-    new_root(s.alloc, &mut ids, tree, out)?;
-    out.word(", ")?;
-    let node = s.trees.node(&mut Words::of("L"))?;
-    let before = ids.peek();
-    let copied = node.clone_subtree(s.alloc, &mut ids);
-    if copied.is_err() && ids.peek() != before {
-        return Err(CHANGED);
-    }
-    out.number_or_why("SyntaxNode::clone_subtree", copied)?;
-    out.word(", then ")?;
-    out.number_or_none(ids.peek())
 }

@@ -23,7 +23,7 @@ pub fn answer(s: &mut Session, name: &str, words: &mut Words, out: &mut Answer) 
         "green_node" | "capped" => green_node(alloc, name, words, out),
         "splice_children" => splice_children(alloc, words, out),
         "next" => out.given_or_none(s.ids.next()),
-        "peek" => out.number_or_none(s.ids.peek()),
+        "peek" => peek(s, out),
         "annotations" => annotations(words, out),
         "before" | "after" => gap(s, name, words, out),
         "first" | "last" => gap_in(s, name, words),
@@ -53,14 +53,25 @@ fn numbers(s: &mut Session, words: &mut Words) -> Done {
     Ok(())
 }
 
+// The number that comes next.
+fn peek(s: &mut Session, out: &mut Answer) -> Done {
+    if s.ids.is_spent() != s.ids.peek().is_none() {
+        return out.word("spent in one way and not in another");
+    }
+    out.number_or_none(s.ids.peek())
+}
+
 fn new_root(s: &mut Session, words: &mut Words, out: &mut Answer) -> Done {
-    let green = read_tree(s.alloc, words.take_rest())?;
+    let green = s.trees.defined.tree(s.alloc, words.take_rest())?;
     out.root(&asked(SyntaxNode::new_root(s.alloc, &mut s.ids, green))?)
 }
 
+// The copy goes by the name `it` from then on.
 fn clone_subtree(s: &mut Session, words: &mut Words, out: &mut Answer) -> Done {
     let node = s.trees.node(words)?;
-    out.root(&asked(node.clone_subtree(s.alloc, &mut s.ids))?)
+    let copy = asked(node.clone_subtree(s.alloc, &mut s.ids))?;
+    out.root(&copy)?;
+    s.trees.add("it", copy)
 }
 
 // The trees that the words name.

@@ -1,5 +1,4 @@
 use crate::asked::Asked;
-use crate::calls::{OWED, Owed};
 use crate::line::Line;
 use std::fmt::Display;
 use std::io;
@@ -91,56 +90,21 @@ impl Report {
 
     /// Prints how many of the owed pairs have a row and whether all rows answered as expected, and says whether both is so.
     pub fn close<R: Print>(&self, rt: &R, asked: &Asked) -> io::Result<ExitCode> {
-        let mut owed = Count { owed: 0, lacks: 0 };
+        let mut lacks = 0;
         if !self.is_partial {
-            owed.note_all(rt, asked)?;
-            let Count { owed, lacks } = owed;
-            println!(rt;
-                "{} of {owed} owed pairs of a call and its answer have a row",
-                owed.saturating_sub(lacks)
-            )?;
+            lacks = asked.print_missing(rt)?;
             if self.wrong == 0 {
                 println!(rt; "all rows answer as expected")?;
             } else {
                 println!(rt; "{} lines of the table are wrong", self.wrong)?;
             }
         }
-        if self.wrong != 0 || owed.lacks != 0 {
+        if self.wrong != 0 || lacks != 0 {
             Ok(ExitCode::FAILURE)
         } else if self.is_cut {
             Ok(ExitCode::from(REFUSED))
         } else {
             Ok(ExitCode::SUCCESS)
         }
-    }
-}
-
-// The pairs of a call and its answer that are owed a row, and how many have none.
-#[derive(Clone, Copy)]
-struct Count {
-    owed: u32,
-    lacks: u32,
-}
-
-impl Count {
-    // Counts the pairs of each call, and prints those that have no row.
-    fn note_all<R: Print>(&mut self, rt: &R, asked: &Asked) -> io::Result<()> {
-        for line in OWED.lines() {
-            if let Some(owed) = Owed::read(line) {
-                self.note(rt, asked, &owed)?;
-            }
-        }
-        Ok(())
-    }
-
-    fn note<R: Print>(&mut self, rt: &R, asked: &Asked, owed: &Owed) -> io::Result<()> {
-        for answer in owed.answers.split(' ') {
-            self.owed = self.owed.saturating_add(1);
-            if !asked.has(owed.call, answer) {
-                self.lacks = self.lacks.saturating_add(1);
-                println!(rt; "no row: {} answers {answer}", owed.call)?;
-            }
-        }
-        Ok(())
     }
 }

@@ -19,8 +19,7 @@ const SHOWN: u64 = 200;
 pub fn answer(s: &mut Session, name: &str, words: &mut Words, out: &mut Answer) -> Done {
     match name {
         "stepped" => step_through(s, words, out),
-        "finish_run" => finish_run(s, words, out),
-        "finish_counting" => finish_counting(s, words, out),
+        "finish_run" | "finish_counting" => finish(s, name, words, out),
         _ => indents::answer(s, name, words, out),
     }
 }
@@ -36,39 +35,32 @@ fn step_through(s: &mut Session, words: &mut Words, out: &mut Answer) -> Done {
     stepped.take_all(words, &mut s.refused, out)
 }
 
-// The edit that a run gives where it is complete.
-fn finish_run(s: &mut Session, words: &mut Words, out: &mut Answer) -> Done {
-    let plan = plan(&s.plans)?;
-    let mut stepped = Stepped::new(s.alloc, plan, &mut s.refused)?;
-    stepped.take_all(words, &mut s.refused, out)?;
-    out.text.clear();
-    if !stepped.run.is_complete() {
-        return out.word("not complete");
-    }
-    let Stepped { run, .. } = stepped;
-    let edit = asked(run.finish(s.alloc, &mut s.ids))?;
-    keep_edit(s, edit, out)
-}
-
-// The same, with the count of the walk that gives the edit its paths, from the first number on. Where there is no edit it is as it was.
-fn finish_counting(s: &mut Session, words: &mut Words, out: &mut Answer) -> Done {
-    let first = words.number()?;
+// The edit that a run gives where it is complete, also with the count of the walk that gives the edit its paths, from the first number on. Where there
+// is no edit the count is as it was.
+fn finish(s: &mut Session, name: &str, words: &mut Words, out: &mut Answer) -> Done {
+    let is_counted = name == "finish_counting";
+    let first = if is_counted { words.number()? } else { 0 };
     let mut walk = OnePassEngine::starting_at(s.alloc, first);
-    let plan = plan(&s.plans)?;
-    let mut stepped = Stepped::new(s.alloc, plan, &mut s.refused)?;
+    let mut stepped = Stepped::new(s.alloc, plan(&s.plans)?, &mut s.refused)?;
     stepped.take_all(words, &mut s.refused, out)?;
     out.text.clear();
     if !stepped.run.is_complete() {
         return out.word("not complete");
     }
     let Stepped { run, .. } = stepped;
-    let called = run.finish_counting(s.alloc, &mut s.ids, &mut walk);
+    let called = if is_counted {
+        run.finish_counting(s.alloc, &mut s.ids, &mut walk)
+    } else {
+        run.finish(s.alloc, &mut s.ids)
+    };
     if called.is_err() && walk.builds() != first {
         return Err(CHANGED);
     }
-    let edit = asked(called)?;
-    keep_edit(s, edit, out)?;
-    Ok(write!(out.text, ", built {}", walk.builds())?)
+    keep_edit(s, asked(called)?, out)?;
+    if is_counted {
+        write!(out.text, ", built {}", walk.builds())?;
+    }
+    Ok(())
 }
 
 // A run of a plan, and how many changes that has.

@@ -2,7 +2,7 @@
 
 use cst_core::{
     GreenElement, GreenElementRef, GreenNode, GreenToken, SyntaxElement, SyntaxKind, SyntaxNode,
-    SyntaxToken, TokenAtOffset, TreeError,
+    SyntaxToken, TokenAtOffset,
 };
 use std::alloc::{AllocError, Global};
 use std::fmt::Display;
@@ -155,32 +155,6 @@ impl Answer {
     fn extent(&mut self, length: u64, text: &str) -> Done {
         write!(self.text, "{length} bytes ")?;
         self.quote(text)
-    }
-
-    /// Number, path, kind, slot, start, length and text of a root.
-    pub fn root_facts(&mut self, root: &SyntaxNode) -> Done {
-        self.number(root.tree())?;
-        self.word(" ")?;
-        self.path(root.slots())?;
-        let kind = kind_name(root.kind());
-        let slot = root.index();
-        let start = root.text_start();
-        write!(self.text, " {kind} in slot {slot}, from {start}, ")?;
-        let text = root.text(self.alloc)?;
-        self.extent(root.text_len(), &text)
-    }
-
-    /// The number of a tree that was made, or why there is none.
-    pub fn number_or_why(
-        &mut self,
-        call: &'static str,
-        made: Result<SyntaxNode, TreeError>,
-    ) -> Done {
-        match made {
-            Ok(node) => self.number(node.tree()),
-            Err(TreeError::Memory) => Err(NoAnswer::Refused(call)),
-            Err(error) => self.print(&error),
-        }
     }
 }
 

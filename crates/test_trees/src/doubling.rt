@@ -36,18 +36,12 @@ pub fn pair(alloc: Global, tree: &GreenElement) -> Result<Vec<GreenElement>, All
     Ok(children)
 }
 
-/// P_31 this many times.
-pub fn halves(alloc: Global, count: usize) -> Result<Vec<GreenElement>, NoAnswer> {
-    let half = p(alloc, 31)?;
-    let mut all = Vec::new(alloc);
-    for _ in 0..count {
-        all.push(half.share(alloc)?)?;
-    }
-    Ok(all)
-}
-
 /// A LITERAL that holds P_31 this many times, whatever its length.
 pub fn capped_halves(alloc: Global, count: usize) -> Result<GreenNode, NoAnswer> {
-    let children = halves(alloc, count)?;
-    Ok(GreenNode::capped(alloc, SyntaxKind::LITERAL, children)?)
+    let half = p(alloc, 31)?;
+    let mut halves = Vec::new(alloc);
+    for _ in 0..count {
+        halves.push(half.share(alloc)?)?;
+    }
+    Ok(GreenNode::capped(alloc, SyntaxKind::LITERAL, halves)?)
 }

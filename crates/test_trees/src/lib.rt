@@ -13,7 +13,7 @@ mod shown;
 mod trees;
 mod words;
 
-pub use doubling::{halves, p};
+pub use doubling::p;
 pub use no_answer::{NoAnswer, asked};
 pub use rows::{green, row};
 pub use shown::{push_path, push_quoted};

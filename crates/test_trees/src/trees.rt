@@ -40,6 +40,7 @@ pub fn read_tree(alloc: Global, text: &str) -> Result<GreenNode, NoAnswer> {
 fn short_tree(alloc: Global, text: &str) -> Result<GreenNode, NoAnswer> {
     match text {
         "P" => p_file(alloc),
+        "P31x1" => capped_halves(alloc, 1),
         "P31x2" => capped_halves(alloc, 2),
         "P31x3" => capped_halves(alloc, 3),
         _ if text.starts_with('(') => green(alloc, text),
