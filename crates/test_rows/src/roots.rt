@@ -110,23 +110,6 @@ impl Roots {
         let at = self.position_at(side, words.word()?)?;
         Ok((at, self.elements(words)?))
     }
-
-    pub fn two_elements(
-        &self,
-        words: &mut Words,
-    ) -> Result<(SyntaxElement, SyntaxElement), NoAnswer> {
-        let first = self.element(words)?;
-        Ok((first, self.element(words)?))
-    }
-
-    /// An element, and those of all words that are left.
-    pub fn replacements(
-        &self,
-        words: &mut Words,
-    ) -> Result<(SyntaxElement, Vec<SyntaxElement>), NoAnswer> {
-        let target = self.element(words)?;
-        Ok((target, self.elements(words)?))
-    }
 }
 
 fn gap(called: Result<Option<Position>, AllocError>) -> Result<Position, NoAnswer> {

@@ -1,5 +1,5 @@
 use crate::roots::Roots;
-use crate::standing::{Standing, editors_standing, mappings_standing, plans_standing};
+use crate::standing::{Standing, editors_standing, lengths_standing};
 use cst_core::{SyntaxElement, TreeIds};
 use std::alloc::Global;
 use syntax_editor::{
@@ -67,9 +67,9 @@ impl Session {
                 self.changes.len(),
                 self.registrations.len(),
             ),
-            mappings: mappings_standing(&self.mappings),
+            mappings: lengths_standing(self.mappings.iter().map(|it| it.len())),
             editors: editors_standing(&self.editors),
-            plans: plans_standing(&self.plans),
+            plans: lengths_standing(self.plans.iter().map(|it| it.len())),
         }
     }
 

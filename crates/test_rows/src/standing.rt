@@ -3,7 +3,7 @@ ghost use Rattle.std.specs.Prelude.{◌≤◌, length};
 
 use cst_core::{GreenNode, SyntaxElement};
 use std::hash::{DefaultHasher, Hash, Hasher};
-use syntax_editor::{Change, EditPlan, EditRun, Position, SyntaxEditor, SyntaxMapping};
+use syntax_editor::{Change, EditRun, Position, SyntaxEditor};
 
 /// Some values in their order: how many there are, what stands for all of them, and for all but the last.
 #[derive(Clone, Copy)]
@@ -42,26 +42,31 @@ impl Group {
         }
     }
 
-    // Its gap, or what it replaces, and its payload.
+    // Its form, its gap or what it replaces, and its payload.
     fn add_change(&mut self, change: &Change) {
         match change {
             Change::Insert(at, new) => {
+                self.add(1);
                 self.add_gap(at);
                 self.add_hash(new);
             }
             Change::InsertAll(at, new) => {
+                self.add(2);
                 self.add_gap(at);
                 self.add_all(new.as_slice());
             }
             Change::Replace(old, new) => {
+                self.add(3);
                 self.add_hash(old);
                 self.add(option_hash(new.as_ref()));
             }
             Change::ReplaceWithMany(old, new) => {
+                self.add(4);
                 self.add_hash(old);
                 self.add_all(new.as_slice());
             }
             Change::ReplaceAll(first, end, new) => {
+                self.add(5);
                 self.add_hash(first);
                 self.add_hash(end);
                 self.add_all(new.as_slice());
@@ -140,11 +145,11 @@ impl Standing {
     }
 }
 
-/// The mappings, by how many pairs each has.
-pub fn mappings_standing(mappings: &[SyntaxMapping]) -> Group {
+/// Values of which each has so many parts, as a mapping has pairs, and a plan changes.
+pub fn lengths_standing<I: Iterator<Item = usize>>(lengths: I) -> Group {
     let mut group = Group::new();
-    for mapping in mappings {
-        group.add(mapping.len() as u64);
+    for length in lengths {
+        group.add(length as u64);
     }
     group
 }
@@ -158,15 +163,6 @@ pub fn editors_standing(editors: &[SyntaxEditor]) -> Group {
             changes.add_change(change);
         }
         group.add(changes.all);
-    }
-    group
-}
-
-/// The plans, by how many changes each has.
-pub fn plans_standing(plans: &[EditPlan]) -> Group {
-    let mut group = Group::new();
-    for plan in plans {
-        group.add(plan.len() as u64);
     }
     group
 }

@@ -26,8 +26,8 @@ pub fn answer(s: &mut Session, name: &str, words: &mut Words, out: &mut Answer) 
 }
 
 fn equal(s: &mut Session, words: &mut Words, out: &mut Answer) -> Done {
-    let (left, right) = s.trees.two_elements(words)?;
-    out.word(equality(&left, &right))
+    let left = s.trees.element(words)?;
+    out.word(equality(&left, &s.trees.element(words)?))
 }
 
 // By `==` both ways, and by the hash, which differs where these values do.
@@ -58,16 +58,15 @@ fn equality(left: &SyntaxElement, right: &SyntaxElement) -> &'static str {
     }
 }
 
-// By the node or token that is taken and put back, and by the one that is lent.
+// By the node or token that is lent, and by the one that is taken, and put back.
 fn form(s: &mut Session, words: &mut Words, out: &mut Answer) -> Done {
     let element = s.trees.element(words)?;
     let lent = lent_form(&element);
-    let taken = taken_form(element);
-    out.word(if lent == taken {
-        lent
-    } else {
-        "one lent and another taken"
-    })
+    let copy = element.try_clone(s.alloc)?;
+    if lent != taken_form(element, copy) {
+        out.word("lent and not taken: ")?;
+    }
+    out.word(lent)
 }
 
 fn lent_form(element: &SyntaxElement) -> &'static str {
@@ -78,22 +77,19 @@ fn lent_form(element: &SyntaxElement) -> &'static str {
     }
 }
 
-fn taken_form(element: SyntaxElement) -> &'static str {
+fn taken_form(element: SyntaxElement, copy: SyntaxElement) -> &'static str {
     let before = hash_of(&element);
-    if element.as_node().is_some() {
-        return match element.into_node() {
-            Some(node) => name_if(hash_of(&SyntaxElement::from(node)) == before, "node"),
-            None => "none",
-        };
+    let node = element
+        .into_node()
+        .map(|node| hash_of(&SyntaxElement::from(node)) == before);
+    let token = copy
+        .into_token()
+        .map(|token| hash_of(&SyntaxElement::from(token)) == before);
+    match (node, token) {
+        (Some(true), None) => "node",
+        (None, Some(true)) => "token",
+        _ => "both or none",
     }
-    match element.into_token() {
-        Some(token) => name_if(hash_of(&SyntaxElement::from(token)) == before, "token"),
-        None => "none",
-    }
-}
-
-fn name_if(is_same: bool, name: &'static str) -> &'static str {
-    if is_same { name } else { "another element" }
 }
 
 // Both ways.
