@@ -8,8 +8,8 @@ use crate::shown::{Answer, Done};
 use cst_core::AstNode;
 use cst_core::ast::BlockExpr;
 use std::alloc::AllocError;
-use syntax_editor::{Change, Error, SyntaxEdit, SyntaxEditor};
-use test_trees::{NoAnswer, Words, asked};
+use syntax_editor::{Change, SyntaxEdit, SyntaxEditor};
+use test_trees::{NoAnswer, Words};
 
 /// Takes the step of this name, or passes on what is none of these.
 pub fn answer(s: &mut Session, name: &str, words: &mut Words, out: &mut Answer) -> Done {
@@ -18,8 +18,8 @@ pub fn answer(s: &mut Session, name: &str, words: &mut Words, out: &mut Answer) 
         "with_ast_node" => with_ast_node(s, words, out),
         "factory" => give_factory(s, words),
         "clashes_with" => clashes_with(s, out),
-        "merge" => merge(s),
-        "check" => asked(last(&mut s.editors)?.check(s.alloc)),
+        "merge" => merge(s, out),
+        "check" => out.asked(last(&mut s.editors)?.check(s.alloc)),
         "finish" => finish(s, out),
         "changes" => out.number(last(&mut s.editors)?.changes().len() as u64),
         "deleted" => is_deleted(s, words, out),
@@ -35,14 +35,14 @@ pub fn answer(s: &mut Session, name: &str, words: &mut Words, out: &mut Answer) 
 
 fn new(s: &mut Session, words: &mut Words, out: &mut Answer) -> Done {
     let node = s.trees.node(words)?;
-    let (editor, root) = asked(SyntaxEditor::new(s.alloc, &mut s.ids, node))?;
+    let (editor, root) = out.asked(SyntaxEditor::new(s.alloc, &mut s.ids, node))?;
     s.editors.push(editor)?;
     out.root(&root)
 }
 
 fn with_ast_node(s: &mut Session, words: &mut Words, out: &mut Answer) -> Done {
     let block = block(s, words)?;
-    let (editor, root) = asked(SyntaxEditor::with_ast_node(s.alloc, &mut s.ids, &block))?;
+    let (editor, root) = out.asked(SyntaxEditor::with_ast_node(s.alloc, &mut s.ids, &block))?;
     s.editors.push(editor)?;
     out.root(root.syntax())
 }
@@ -68,27 +68,27 @@ fn clashes_with(s: &mut Session, out: &mut Answer) -> Done {
     let own = before
         .last()
         .ok_or(NoAnswer::Row("one editor alone was made"))?;
-    match asked(own.clashes_with(s.alloc, other))? {
+    match out.asked(own.clashes_with(s.alloc, other))? {
         Some((first, second)) => Ok(write!(out.text, "ok {first} {second}")?),
         None => out.word("none"),
     }
 }
 
 // The last editor goes into the one before it, or is given back.
-fn merge(s: &mut Session) -> Done {
+fn merge(s: &mut Session, out: &mut Answer) -> Done {
     let other = take(&mut s.editors)?;
     match last(&mut s.editors)?.merge(s.alloc, other) {
         Ok(()) => Ok(()),
         Err((refusal, other)) => {
             s.editors.push(other)?;
-            Err(NoAnswer::Refusal(Error::Merge(refusal)))
+            out.asked(Err(refusal))
         }
     }
 }
 
 fn finish(s: &mut Session, out: &mut Answer) -> Done {
     let editor = take(&mut s.editors)?;
-    let edit = asked(editor.finish(s.alloc, &mut s.ids))?;
+    let edit = out.asked(editor.finish(s.alloc, &mut s.ids))?;
     keep_edit(s, edit, out)
 }
 
@@ -101,7 +101,8 @@ pub fn keep_edit(s: &mut Session, edit: SyntaxEdit, out: &mut Answer) -> Done {
 fn is_deleted(s: &mut Session, words: &mut Words, out: &mut Answer) -> Done {
     let editor = last(&mut s.editors)?;
     let element = s.trees.element(words)?;
-    out.truth(asked(editor.deleted(s.alloc, &element))?)
+    let is_deleted = out.asked(editor.deleted(s.alloc, &element))?;
+    out.truth(is_deleted)
 }
 
 /// The paths of what changes delete, one element each, in the order of the changes.
@@ -146,7 +147,8 @@ fn text(s: &mut Session, name: &str, words: &mut Words, out: &mut Answer) -> Don
 }
 
 fn show_text(called: Result<String, AllocError>, out: &mut Answer) -> Done {
-    out.quote(&asked(called)?)?;
+    let text = out.asked(called)?;
+    out.quote(&text)?;
     let shown = out.text.replace(out.alloc, '\x1b', "\\e")?;
     out.text.clear();
     out.word("ok ")?;
@@ -167,7 +169,7 @@ fn of_edit(s: &mut Session, name: &str, words: &mut Words, out: &mut Answer) -> 
 fn find_element(s: &mut Session, words: &mut Words, out: &mut Answer) -> Done {
     let edit = last(&mut s.edits)?;
     let old = s.trees.node(words)?;
-    match asked(edit.find_element(s.alloc, &old))? {
+    match out.asked(edit.find_element(s.alloc, &old))? {
         Some(node) => out.root_at(&node),
         None => out.word("none"),
     }

@@ -8,7 +8,7 @@ use crate::shown::{Answer, Done};
 use cst_core::ast::{BlockExpr, StmtList};
 use cst_core::{AstNode, SyntaxNode};
 use syntax_editor::{AstNodeEdit, IndentError, IndentLevel, SyntaxFactory, indent};
-use test_trees::{NoAnswer, Words, asked};
+use test_trees::{NoAnswer, Words};
 
 /// Takes the step of this name, or passes on what is none of these.
 pub fn answer(s: &mut Session, name: &str, words: &mut Words, out: &mut Answer) -> Done {
@@ -36,7 +36,8 @@ pub fn answer(s: &mut Session, name: &str, words: &mut Words, out: &mut Answer) 
 }
 
 fn level(called: Result<IndentLevel, IndentError>, out: &mut Answer) -> Done {
-    out.given(u64::from(asked(called)?.0))
+    let level = out.asked(called)?;
+    out.given(u64::from(level.0))
 }
 
 // Whether no indentation, and first one level more, then another one, is the third level.
@@ -63,13 +64,15 @@ fn print(words: &mut Words, out: &mut Answer) -> Done {
 fn free_indent(s: &mut Session, words: &mut Words, out: &mut Answer) -> Done {
     let node = s.trees.node(words)?;
     let level = IndentLevel(words.level()?);
-    out.root(&asked(indent(s.alloc, &node, &mut s.ids, level))?)
+    let node = out.asked(indent(s.alloc, &node, &mut s.ids, level))?;
+    out.root(&node)
 }
 
 fn typed_indent(s: &mut Session, words: &mut Words, out: &mut Answer) -> Done {
     let block = block(s, words)?;
     let level = IndentLevel(words.level()?);
-    out.root(asked(block.indent(s.alloc, &mut s.ids, level))?.syntax())
+    let block = out.asked(block.indent(s.alloc, &mut s.ids, level))?;
+    out.root(block.syntax())
 }
 
 // Of a list of statements, or of a block.
@@ -89,12 +92,14 @@ fn dedent_by<N: AstNodeEdit>(
     out: &mut Answer,
 ) -> Done {
     let node = N::cast(node).ok_or(NoAnswer::Row("no block and no list of statements"))?;
-    out.root(asked(node.dedent(s.alloc, &mut s.ids, level))?.syntax())
+    let node = out.asked(node.dedent(s.alloc, &mut s.ids, level))?;
+    out.root(node.syntax())
 }
 
 fn reset_indent(s: &mut Session, words: &mut Words, out: &mut Answer) -> Done {
     let block = block(s, words)?;
-    out.root(asked(block.reset_indent(s.alloc, &mut s.ids))?.syntax())
+    let block = out.asked(block.reset_indent(s.alloc, &mut s.ids))?;
+    out.root(block.syntax())
 }
 
 // By a factory, whose mapping is the last one from then on, whatever the call answers but want of memory, which leaves the mapping empty. The
@@ -109,7 +114,7 @@ fn indent_with_mapping(s: &mut Session, words: &mut Words, out: &mut Answer) -> 
         _ => false,
     };
     keep_mapping(s, &mut factory, is_memory)?;
-    let block = asked(called)?;
+    let block = out.asked(called)?;
     s.trees.add("it", block.syntax().try_clone(s.alloc)?)?;
     out.root(block.syntax())
 }

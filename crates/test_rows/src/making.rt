@@ -10,7 +10,7 @@ use cst_core::{
 };
 use std::alloc::{AllocError, Global};
 use syntax_editor::{Annotations, Element, Position, SyntaxAnnotation, SyntaxFactory};
-use test_trees::{NoAnswer, Words, asked, number_of, read_tree};
+use test_trees::{NoAnswer, Words, number_of, read_tree};
 
 /// Takes the step of this name, or passes on what is none of these.
 pub fn answer(s: &mut Session, name: &str, words: &mut Words, out: &mut Answer) -> Done {
@@ -26,7 +26,7 @@ pub fn answer(s: &mut Session, name: &str, words: &mut Words, out: &mut Answer) 
         "peek" => peek(s, out),
         "annotations" => annotations(words, out),
         "before" | "after" => gap(s, name, words, out),
-        "first" | "last" => gap_in(s, name, words),
+        "first" | "last" => gap_in(s, name, words, out),
         "syntax_element" => syntax_element(s, words, out),
         "typed_element" => typed_element(s, words, out),
         "token" => token(s, words, out),
@@ -63,13 +63,14 @@ fn peek(s: &mut Session, out: &mut Answer) -> Done {
 
 fn new_root(s: &mut Session, words: &mut Words, out: &mut Answer) -> Done {
     let green = s.trees.defined.tree(s.alloc, words.take_rest())?;
-    out.root(&asked(SyntaxNode::new_root(s.alloc, &mut s.ids, green))?)
+    let root = out.asked(SyntaxNode::new_root(s.alloc, &mut s.ids, green))?;
+    out.root(&root)
 }
 
 // The copy goes by the name `it` from then on.
 fn clone_subtree(s: &mut Session, words: &mut Words, out: &mut Answer) -> Done {
     let node = s.trees.node(words)?;
-    let copy = asked(node.clone_subtree(s.alloc, &mut s.ids))?;
+    let copy = out.asked(node.clone_subtree(s.alloc, &mut s.ids))?;
     out.root(&copy)?;
     s.trees.add("it", copy)
 }
@@ -87,9 +88,9 @@ fn greens(alloc: Global, words: &mut Words) -> Result<Vec<GreenElement>, NoAnswe
 fn green_node(alloc: Global, name: &str, words: &mut Words, out: &mut Answer) -> Done {
     let children = greens(alloc, words)?;
     let node = if name == "capped" {
-        asked(GreenNode::capped(alloc, SyntaxKind::SOURCE_FILE, children))?
+        out.asked(GreenNode::capped(alloc, SyntaxKind::SOURCE_FILE, children))?
     } else {
-        asked(GreenNode::new(alloc, SyntaxKind::SOURCE_FILE, children))?
+        out.asked(GreenNode::new(alloc, SyntaxKind::SOURCE_FILE, children))?
     };
     out.given(node.length())
 }
@@ -98,7 +99,8 @@ fn green_node(alloc: Global, name: &str, words: &mut Words, out: &mut Answer) ->
 fn splice_children(alloc: Global, words: &mut Words, out: &mut Answer) -> Done {
     let node = read_tree(alloc, words.word()?)?;
     let new = greens(alloc, words)?;
-    out.given(asked(node.splice_children(alloc, 0, 0, new))?.length())
+    let spliced = out.asked(node.splice_children(alloc, 0, 0, new))?;
+    out.given(spliced.length())
 }
 
 // Whether the calls of a source that begins at the first number give the annotations of the others, each above the one before.
@@ -138,26 +140,23 @@ fn gap(s: &mut Session, name: &str, words: &mut Words, out: &mut Answer) -> Done
     } else {
         Position::after(s.alloc, &element)
     };
-    out.word(if asked(position)?.is_some() {
-        "ok"
-    } else {
-        "none"
-    })
+    let position = out.asked(position)?;
+    out.word(if position.is_some() { "ok" } else { "none" })
 }
 
-fn gap_in(s: &mut Session, name: &str, words: &mut Words) -> Done {
+fn gap_in(s: &mut Session, name: &str, words: &mut Words, out: &mut Answer) -> Done {
     let node = s.trees.node(words)?;
     let _ = if name == "first" {
-        asked(Position::first_child_of(s.alloc, &node))?
+        out.asked(Position::first_child_of(s.alloc, &node))?
     } else {
-        asked(Position::last_child_of(s.alloc, &node))?
+        out.asked(Position::last_child_of(s.alloc, &node))?
     };
     Ok(())
 }
 
 // The text of an element that a call made.
 fn made(alloc: Global, called: Result<SyntaxElement, AllocError>, out: &mut Answer) -> Done {
-    let text = asked(called)?.text(alloc)?;
+    let text = out.asked(called)?.text(alloc)?;
     out.word("ok ")?;
     out.quote(&text)
 }
@@ -227,7 +226,7 @@ fn token(s: &mut Session, words: &mut Words, out: &mut Answer) -> Done {
     let kind = kind_in(words)?;
     let text = text_of_tree(s.alloc, words.take_rest())?;
     let factory = SyntaxFactory::without_mappings(s.alloc);
-    let token = asked(factory.token(s.alloc, &mut s.ids, kind, &text))?;
+    let token = out.asked(factory.token(s.alloc, &mut s.ids, kind, &text))?;
     show_token(s.alloc, &token, out)
 }
 
@@ -235,7 +234,7 @@ fn token(s: &mut Session, words: &mut Words, out: &mut Answer) -> Done {
 fn whitespace(s: &mut Session, words: &mut Words, out: &mut Answer) -> Done {
     let factory = factory(s.alloc, words.word()?)?;
     let text = text_of_tree(s.alloc, words.take_rest())?;
-    let token = asked(factory.whitespace(s.alloc, &mut s.ids, &text))?;
+    let token = out.asked(factory.whitespace(s.alloc, &mut s.ids, &text))?;
     show_token(s.alloc, &token, out)
 }
 
@@ -244,7 +243,8 @@ fn node(s: &mut Session, words: &mut Words, out: &mut Answer) -> Done {
     let kind = kind_in(words)?;
     let children = s.trees.elements(words)?;
     let factory = SyntaxFactory::without_mappings(s.alloc);
-    out.root(&asked(factory.node(s.alloc, &mut s.ids, kind, &children))?)
+    let node = out.asked(factory.node(s.alloc, &mut s.ids, kind, &children))?;
+    out.root(&node)
 }
 
 // A node, a kind, the elements that stand before `round`, and those after it.
@@ -259,5 +259,6 @@ fn wrap(s: &mut Session, words: &mut Words, out: &mut Answer) -> Done {
     let before = s.trees.elements(&mut Words::of(before))?;
     let after = s.trees.elements(&mut Words::of(after))?;
     let copy = editor.wrap(s.alloc, &mut s.ids, &node, kind, &before, &after);
-    out.root_at(&asked(copy)?)
+    let copy = out.asked(copy)?;
+    out.root_at(&copy)
 }

@@ -7,14 +7,14 @@ use crate::roots::{Roots, annotation};
 use crate::runs;
 use crate::session::{CHANGED, Session, last, take};
 use crate::shown::{Answer, Done};
-use cst_core::{GreenNode, SyntaxNode};
+use cst_core::{GreenNode, SyntaxNode, TreeError};
 use std::alloc::Global;
 use std::mem::replace;
 use syntax_editor::{
-    Change, EditEngine, EditPlan, ElementList, EngineError, Error, OnePassEngine, Rewritten,
-    SpliceEngine, SyntaxMapping,
+    Change, EditEngine, EditPlan, ElementList, EngineError, OnePassEngine, Rewritten, SpliceEngine,
+    SyntaxMapping,
 };
-use test_trees::{NoAnswer, Words, asked, number_of};
+use test_trees::{NoAnswer, Words, number_of};
 use tree_text::write_tree;
 
 /// Takes the step of this name, or passes on what is none of these.
@@ -42,7 +42,7 @@ pub fn answer(s: &mut Session, name: &str, words: &mut Words, out: &mut Answer) 
 }
 
 fn plan(s: &mut Session, out: &mut Answer) -> Done {
-    let plan = asked(take(&mut s.editors)?.plan(s.alloc))?;
+    let plan = out.asked(take(&mut s.editors)?.plan(s.alloc))?;
     keep(s, plan, out)
 }
 
@@ -55,7 +55,7 @@ fn keep(s: &mut Session, plan: EditPlan, out: &mut Answer) -> Done {
 
 // Each text edit: its offsets and its text.
 fn text_edits(s: &mut Session, out: &mut Answer) -> Done {
-    let edits = asked(last(&mut s.plans)?.text_edits(s.alloc))?;
+    let edits = out.asked(last(&mut s.plans)?.text_edits(s.alloc))?;
     out.word("ok")?;
     for edit in &edits {
         write!(out.text, " {}-{} ", edit.start, edit.end)?;
@@ -129,7 +129,7 @@ fn check_changes(s: &mut Session, words: &mut Words, out: &mut Answer) -> Done {
     }
     let nothing = SyntaxMapping::new(s.alloc);
     let mapping = s.mappings.last().unwrap_or(&nothing);
-    asked(EditPlan::check(s.alloc, &root, &s.changes, mapping))
+    out.asked(EditPlan::check(s.alloc, &root, &s.changes, mapping))
 }
 
 // A plan of the changes and registered elements so far, by the last mapping, or by none.
@@ -142,7 +142,7 @@ fn build(s: &mut Session, words: &mut Words, out: &mut Answer) -> Done {
     }
     let registrations = replace(&mut s.registrations, Vec::new(alloc));
     let mapping = s.mappings.pop().unwrap_or(SyntaxMapping::new(alloc));
-    let plan = asked(EditPlan::build(alloc, root, changes, registrations, mapping))?;
+    let plan = out.asked(EditPlan::build(alloc, root, changes, registrations, mapping))?;
     keep(s, plan, out)
 }
 
@@ -179,7 +179,7 @@ fn owner(s: &mut Session, words: &mut Words, out: &mut Answer) -> Done {
 }
 
 fn default_order(s: &mut Session, out: &mut Answer) -> Done {
-    let order = asked(last_plan(s)?.default_order(s.alloc))?;
+    let order = out.asked(last_plan(s)?.default_order(s.alloc))?;
     out.word("ok")?;
     for change in order.iter() {
         write!(out.text, " {change}")?;
@@ -190,14 +190,14 @@ fn default_order(s: &mut Session, out: &mut Answer) -> Done {
 fn execute(s: &mut Session, words: &mut Words, out: &mut Answer) -> Done {
     let order = words.counts(s.alloc)?;
     let plan = last(&mut s.plans)?;
-    let edit = asked(plan.execute(s.alloc, &mut s.ids, &order))?;
+    let edit = out.asked(plan.execute(s.alloc, &mut s.ids, &order))?;
     keep_edit(s, edit, out)
 }
 
 // Carries the last plan out with this engine.
 fn run<E: EditEngine>(s: &mut Session, engine: &mut E, out: &mut Answer) -> Done {
     let plan = last(&mut s.plans)?;
-    let edit = asked(plan.run_with(s.alloc, &mut s.ids, engine))?;
+    let edit = out.asked(plan.run_with(s.alloc, &mut s.ids, engine))?;
     keep_edit(s, edit, out)
 }
 
@@ -209,7 +209,7 @@ fn built(s: &mut Session, words: &mut Words, out: &mut Answer) -> Done {
         None => OnePassEngine::new(alloc),
     };
     let plan = last_plan(s)?;
-    if is_same(alloc, plan, &mut engine)? {
+    if is_same(alloc, plan, &mut engine, out)? {
         out.given(engine.builds())
     } else {
         out.word("the engines differ")
@@ -217,13 +217,18 @@ fn built(s: &mut Session, words: &mut Words, out: &mut Answer) -> Done {
 }
 
 // Whether the other engine makes the same tree and paths. A refused run must leave the engine's count as it was.
-fn is_same(alloc: Global, plan: &EditPlan, engine: &mut OnePassEngine) -> Result<bool, NoAnswer> {
+fn is_same(
+    alloc: Global,
+    plan: &EditPlan,
+    engine: &mut OnePassEngine,
+    out: &mut Answer,
+) -> Result<bool, NoAnswer> {
     let before = engine.builds();
     match engine.run(alloc, plan) {
         Ok(one) => is_spliced_as(alloc, plan, &one),
         Err(_) if engine.builds() != before => Err(CHANGED),
-        Err(EngineError::Memory) => Err(NoAnswer::Refusal(Error::Memory)),
-        Err(EngineError::TooLong) => is_spliced_too_long(alloc, plan),
+        Err(EngineError::Memory) => Err(NoAnswer::Refused("EditEngine::run")),
+        Err(EngineError::TooLong) => is_spliced_too_long(alloc, plan, out),
     }
 }
 
@@ -232,17 +237,17 @@ fn is_spliced_as(alloc: Global, plan: &EditPlan, one: &Rewritten) -> Result<bool
         Ok(other) if one.changed == other.changed && one.annotated == other.annotated => {
             is_same_tree(alloc, &one.green, &other.green)
         }
-        Err(EngineError::Memory) => Err(NoAnswer::Refusal(Error::Memory)),
+        Err(EngineError::Memory) => Err(NoAnswer::Refused("EditEngine::run")),
         _ => Ok(false),
     }
 }
 
 // Where the other engine's tree is too long.
-fn is_spliced_too_long(alloc: Global, plan: &EditPlan) -> Result<bool, NoAnswer> {
+fn is_spliced_too_long(alloc: Global, plan: &EditPlan, out: &mut Answer) -> Result<bool, NoAnswer> {
     match SpliceEngine::new(alloc).run(alloc, plan) {
         Ok(_) => Ok(false),
-        Err(EngineError::Memory) => Err(NoAnswer::Refusal(Error::Memory)),
-        Err(EngineError::TooLong) => asked(Err(cst_core::TreeError::TooLong)),
+        Err(EngineError::Memory) => Err(NoAnswer::Refused("EditEngine::run")),
+        Err(EngineError::TooLong) => out.asked(Err(TreeError::TooLong)),
     }
 }
 

@@ -91,13 +91,10 @@ fn answer_to(s: &mut Session, step: &str, answer: &mut Answer) -> Done {
     let name = words.word()?;
     match making::answer(s, name, &mut words, answer) {
         Ok(()) => words.end()?,
-        Err(NoAnswer::Refusal(refusal)) => {
-            answer.text.clear();
-            answer.print(&refusal)?;
-            if answer.text.as_str() == "Memory" {
-                return Err(NoAnswer::Refused(name_of(name)));
-            }
+        Err(NoAnswer::Refusal) if answer.text.as_str() == "Memory" => {
+            return Err(NoAnswer::Refused(name_of(name)));
         }
+        Err(NoAnswer::Refusal) => return Ok(()),
         Err(error) => return Err(error),
     }
     if answer.text.is_empty() {

@@ -9,7 +9,7 @@ use crate::standing::run_standing;
 use cst_core::GreenNode;
 use std::alloc::{AllocError, Global};
 use syntax_editor::{EditPlan, EditRun, OnePassEngine};
-use test_trees::{NoAnswer, Words, asked};
+use test_trees::{NoAnswer, Words};
 
 // Texts up to this length are shown.
 const SHOWN: u64 = 200;
@@ -56,7 +56,8 @@ fn finish(s: &mut Session, name: &str, words: &mut Words, out: &mut Answer) -> D
     if called.is_err() && walk.builds() != first {
         return Err(CHANGED);
     }
-    keep_edit(s, asked(called)?, out)?;
+    let edit = out.asked(called)?;
+    keep_edit(s, edit, out)?;
     if is_counted {
         write!(out.text, ", built {}", walk.builds())?;
     }

@@ -6,6 +6,7 @@ use cst_core::{
 };
 use std::alloc::{AllocError, Global};
 use std::fmt::Display;
+use syntax_editor::Error;
 use test_trees::{NoAnswer, push_path, push_quoted};
 
 /// A step is taken, and its answer is written.
@@ -34,6 +35,19 @@ impl Answer {
             alloc,
             text: String::new(alloc),
             tree: 7,
+        }
+    }
+
+    /// What a call gave. If it is refused, what the refusal prints is the answer.
+    pub fn asked<T, E: Into<Error>>(&mut self, called: Result<T, E>) -> Result<T, NoAnswer> {
+        match called {
+            Ok(given) => Ok(given),
+            Err(refusal) => {
+                let refusal: Error = refusal.into();
+                self.text.clear();
+                self.print(&refusal)?;
+                Err(NoAnswer::Refusal)
+            }
         }
     }
 

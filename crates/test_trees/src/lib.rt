@@ -14,7 +14,7 @@ mod trees;
 mod words;
 
 pub use doubling::p;
-pub use no_answer::{NoAnswer, asked};
+pub use no_answer::NoAnswer;
 pub use rows::{green, row};
 pub use shown::{push_path, push_quoted};
 pub use trees::{Trees, element_below, read_tree};

@@ -1,11 +1,10 @@
 use cst_core::TreeError;
 use std::alloc::{AllocError, AllocFailed};
 use std::fmt;
-use syntax_editor::Error;
 use tree_text::ExpressionError;
 
 /// Why a row of a table has no answer, or which refusal is its answer.
-#[derive(Drop)]
+#[derive(Clone, Copy)]
 pub enum NoAnswer {
     /// The row asks for what is not there: this.
     Row(&'static str),
@@ -15,27 +14,19 @@ pub enum NoAnswer {
     Form,
     /// Memory was refused to what asks, and to no call that is asked about.
     Memory,
-    /// The call that is asked about is refused. If memory is there, that is the answer.
-    Refusal(Error),
+    /// The call that is asked about is refused, and its refusal is written. If memory is there, that is the answer.
+    Refusal,
     /// The call of this name that is asked about was refused because memory ran out.
     Refused(&'static str),
 }
 
 impl NoAnswer {
     /// Whether it is want of memory in what asks, and in no call that is asked about.
-    pub fn is_memory(&self) -> bool {
+    pub fn is_memory(self) -> bool {
         match self {
             NoAnswer::Memory => true,
             _ => false,
         }
-    }
-}
-
-/// What a call that is asked about gave.
-pub fn asked<T, E: Into<Error>>(called: Result<T, E>) -> Result<T, NoAnswer> {
-    match called {
-        Ok(given) => Ok(given),
-        Err(refusal) => Err(NoAnswer::Refusal(refusal.into())),
     }
 }
 
@@ -46,7 +37,7 @@ impl fmt::Display for NoAnswer {
             NoAnswer::Arguments => f.write_str("other arguments are wanted"),
             NoAnswer::Form => f.write_str("a node or a token where the other was asked for"),
             NoAnswer::Memory => f.write_str("Memory"),
-            NoAnswer::Refusal(refusal) => write!(f, "{refusal}"),
+            NoAnswer::Refusal => f.write_str("a call is refused"),
             NoAnswer::Refused(call) => write!(f, "{call} is refused for want of memory"),
         }
     }
