@@ -101,6 +101,21 @@ impl EditPlan {
         Ok(())
     }
 
+    /// For the trial.
+    pub fn registrations(&self) -> &[(SyntaxElement, SyntaxAnnotation)] {
+        self.registrations.as_slice()
+    }
+
+    /// For the trial.
+    pub fn mapping(&self) -> &SyntaxMapping {
+        &self.mapping
+    }
+
+    /// For the trial.
+    pub fn root(&self) -> &SyntaxNode {
+        &self.root
+    }
+
     /// How many changes there are.
     pub fn len(&self) -> usize
         ensures count { result ≡ length self.now.changes }

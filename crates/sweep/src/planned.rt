@@ -13,19 +13,19 @@ pub struct Planned<'a> {
 }
 
 #[derive(Clone, Copy)]
-enum Around {
+enum Kind {
     None,
     Dropping,
     Keeping,
 }
 
-fn around(change: &Change) -> Around {
+fn around(change: &Change) -> Kind {
     match change {
-        Change::Replace(SyntaxElement::Node(_), Some(SyntaxElement::Node(_))) => Around::Keeping,
-        Change::Replace(SyntaxElement::Node(_), _) => Around::Dropping,
-        Change::ReplaceWithMany(SyntaxElement::Node(_), _) => Around::Dropping,
-        Change::ReplaceAll(_, _, _) => Around::Dropping,
-        _ => Around::None,
+        Change::Replace(SyntaxElement::Node(_), Some(SyntaxElement::Node(_))) => Kind::Keeping,
+        Change::Replace(SyntaxElement::Node(_), _) => Kind::Dropping,
+        Change::ReplaceWithMany(SyntaxElement::Node(_), _) => Kind::Dropping,
+        Change::ReplaceAll(_, _, _) => Kind::Dropping,
+        _ => Kind::None,
     }
 }
 
@@ -85,10 +85,10 @@ pub fn add_fates(
         let fate = open.last().map_or(Fate::Independent, |around| around.1);
         sorted[index].fate = fate;
         let inside = match around(&changes[number]) {
-            Around::None => continue,
-            Around::Dropping => Fate::Dropped,
-            Around::Keeping if fate.is_dropped() => Fate::Dropped,
-            Around::Keeping => Fate::Owned(number),
+            Kind::None => continue,
+            Kind::Dropping => Fate::Dropped,
+            Kind::Keeping if fate.is_dropped() => Fate::Dropped,
+            Kind::Keeping => Fate::Owned(number),
         };
         open.push((site, inside))?;
     }
