@@ -125,9 +125,9 @@ def least(readings, figure):
     return min(readings[figure]) / 1e6
 
 
-def finished(readings):
+def finished(readings, carried_out="CarriedOut"):
     """The least time of planning and carrying out."""
-    return min(map(sum, zip(readings["Planned"], readings["CarriedOut"]))) / 1e6
+    return min(map(sum, zip(readings["Planned"], readings[carried_out]))) / 1e6
 
 
 def power(times):
@@ -202,7 +202,7 @@ class Run:
     def orders(self):
         for edit in self.works.ordered:
             at_once, in_order = self.ordered[edit.steps], self.ordered[edit.order]
-            yield (edit.name, f"{at_once['Changes'][0]:,}"), [finished(at_once), least(in_order, "InDefaultOrder")], []
+            yield (edit.name, f"{at_once['Changes'][0]:,}"), [finished(at_once), finished(in_order, "InDefaultOrder")], []
 
     def walks(self):
         for name, works in self.works.walks.items():

@@ -48,7 +48,7 @@ impl<'a> Place<'a> {
     fn touched(self, alloc: Global, changes: Changes, on: &mut Vec<Self>) -> Result<Touched<'a>> {
         let depth = self.depth.saturating_add(1);
         let mut children = Vec::with_capacity(alloc, self.node.children().len())?;
-        let mut made = Vec::new(alloc);
+        let first = on.len();
         let mut left = self.edits;
         for (slot, child) in self.node.children().iter().enumerate() {
             let number = count_at(left, self.depth, slot);
@@ -56,14 +56,14 @@ impl<'a> Place<'a> {
             left = others;
             match child {
                 GreenElement::Node(node) if changes.touch(node, depth, edits) => {
-                    made.push(Place { node, depth, edits })?;
+                    on.push(Place { node, depth, edits })?;
                     children.push(None)?;
                 }
                 _ => children.push(Some(child))?,
             }
         }
-        for place in made.iter().rev() {
-            on.push(*place)?;
+        if let Some(made) = on.as_mut_slice().get_mut(first..) {
+            made.reverse();
         }
         let kind = self.node.kind();
         Ok(Touched { kind, children })

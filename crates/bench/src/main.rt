@@ -4,7 +4,7 @@
 //!
 //! ```text
 //! steps TREE CHANGES      record, plan and carry out, and the least that any engine does
-//! order TREE CHANGES      plan, and carry out one change at a time
+//! order TREE CHANGES      record, plan, and carry out one change at a time
 //! WALK TREE               `children`, `elements`, `descendants`, `ancestors`, `next_token`, `prev_token`; copies of the paths that it gives
 //! ```
 #![tactic(auto)]
@@ -17,7 +17,7 @@ mod walk;
 mod watch;
 
 use crate::edit::Changes;
-use crate::steps::{carry_out_in_order, carry_out_in_steps};
+use crate::steps::{edit_at_once, edit_in_order};
 use crate::tree::Tree;
 use crate::walk::build_and_go_over;
 use crate::watch::{Meter, Watch};
@@ -45,8 +45,8 @@ fn carry_out(watch: &mut Watch, line: &str) -> Result<()> {
     let changes = Changes::read(&mut words);
     for _ in 0..times {
         match (work, changes) {
-            ("steps", Some(changes)) => carry_out_in_steps(watch, tree, changes)?,
-            ("order", Some(changes)) => carry_out_in_order(watch, tree, changes)?,
+            ("steps", Some(changes)) => edit_at_once(watch, tree, changes)?,
+            ("order", Some(changes)) => edit_in_order(watch, tree, changes)?,
             (walk, _) => build_and_go_over(watch, tree, walk)?,
         }
         watch.report(line)?;

@@ -62,15 +62,8 @@ fn carry_out(watch: &mut Watch, plan: &EditPlan, changes: Changes) -> Result<()>
     make_both(watch, &made, changes)
 }
 
-/// Records, plans and carries out, and makes the least.
-pub(crate) fn carry_out_in_steps(watch: &mut Watch, tree: Tree, changes: Changes) -> Result<()> {
-    let mut prepared = changes.prepare(watch, tree)?;
-    record(watch, &mut prepared)?;
-    let plan = planned(watch, prepared)?;
-    carry_out(watch, &plan, changes)
-}
-
-fn execute(watch: &mut Watch, plan: &EditPlan) -> Result<()> {
+fn carry_out_in_order(watch: &mut Watch, plan: &EditPlan) -> Result<()> {
+    watch.start();
     let order = plan.default_order(watch.alloc)?;
     let made = plan.execute(watch.alloc, &mut watch.ids, &order)?;
     watch.stop(Figure::InDefaultOrder);
@@ -78,11 +71,18 @@ fn execute(watch: &mut Watch, plan: &EditPlan) -> Result<()> {
     Ok(())
 }
 
-/// Plans, and carries one change out after another.
-pub(crate) fn carry_out_in_order(watch: &mut Watch, tree: Tree, changes: Changes) -> Result<()> {
+fn recorded_and_planned(watch: &mut Watch, tree: Tree, changes: Changes) -> Result<EditPlan> {
     let mut prepared = changes.prepare(watch, tree)?;
-    prepared.record(watch.alloc)?;
-    watch.start();
-    let plan = prepared.editor.plan(watch.alloc)?;
-    execute(watch, &plan)
+    record(watch, &mut prepared)?;
+    planned(watch, prepared)
+}
+
+pub(crate) fn edit_at_once(watch: &mut Watch, tree: Tree, changes: Changes) -> Result<()> {
+    let plan = recorded_and_planned(watch, tree, changes)?;
+    carry_out(watch, &plan, changes)
+}
+
+pub(crate) fn edit_in_order(watch: &mut Watch, tree: Tree, changes: Changes) -> Result<()> {
+    let plan = recorded_and_planned(watch, tree, changes)?;
+    carry_out_in_order(watch, &plan)
 }
