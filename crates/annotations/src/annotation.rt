@@ -1,3 +1,5 @@
+//! `SyntaxAnnotation`, what elements are registered with, and `Annotations`, the source from which callers draw them.
+
 ghost use Rattle.std.specs.Prelude.{◌≡◌, max, Some, option_and_then};
 ghost use Rattle.annotations.specs.Annotation.{annotation_after};
 

@@ -1,3 +1,5 @@
+//! `ChangeList`: the recorded changes in order, with a table of the Replaces that agrees with them. `SyntaxEditor` records into it.
+
 ghost use Rattle.std.specs.Prelude.{◌≡◌, ◌<◌, ◌≤◌, ◌+◌, ◌^◌, List, Option, Some, length, map, IfOk, false, [], ◌∷◌, ◌++◌, position, option_map, None, is_none, OnOk, OnErr};
 ghost use Rattle.std.specs.List.{list_any};
 ghost use Rattle.std.specs.Vec.{vec_len, vec_capacity};

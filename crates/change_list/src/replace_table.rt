@@ -1,3 +1,6 @@
+//! `ReplaceTable`: by path, the first Replace of an element, and whether any Replace of it deletes it; `ChangeList` asks it.
+//! All that takes memory is done before anything is said, so that a refusal leaves it as it was.
+
 ghost use Rattle.std.specs.Prelude.{◌≡◌, Some, None, IfOk};
 ghost use Rattle.cst_core.specs.Path.{Path};
 ghost use Rattle.change_list.specs.inner.Indexing.{number_at, entry_of, entry_at, IsNumbered, KeepsNumbers, SaysAt};

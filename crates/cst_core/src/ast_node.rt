@@ -1,3 +1,5 @@
+//! `AstNode`, the trait of typed nodes, with the law that each implementation proves, and `HasAttrs`.
+
 ghost use Rattle.std.specs.Prelude.{◌≡◌, ◌↔◌, IsTrue, IsSome, IfSome};
 ghost use Rattle.green_tree.specs.Tree.{label};
 ghost use Rattle.cst_core.specs.Element.{subtree};

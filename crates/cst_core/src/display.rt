@@ -1,3 +1,5 @@
+//! What `{}`, `{:?}` and `{:#?}` write of nodes, tokens and elements.
+
 ghost use Rattle.std.specs.Prelude.{◌≡◌, [], ◌∷◌, ◌++◌, OnOk};
 ghost use Rattle.std.specs.Fmt.{WritesOnOk};
 ghost use Rattle.cst_core.specs.Debug.{node_debug};

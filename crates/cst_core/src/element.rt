@@ -1,3 +1,5 @@
+//! `SyntaxElement`: a node or a token, with what can be asked of either.
+
 ghost use Rattle.std.specs.Prelude.{◌≡◌, ◌<◌, IfOk, Ok, Some, None, option_map, string_bytes};
 ghost use Rattle.green_tree.specs.Path.{last_slot};
 ghost use Rattle.green_tree.specs.Tree.{at, label, text, text_length};

@@ -1,3 +1,5 @@
+//! `LentNode`: a node that is lent, so that its children are looked at before memory is taken for one. `navigation` walks by it.
+
 ghost use Rattle.std.specs.Prelude.{◌≡◌, ◌≤◌, ◌++◌, length, reverse, IfOk, OnOk, Ok, None};
 ghost use Rattle.green_tree.specs.Path.{first_item, last_item};
 ghost use Rattle.green_tree.specs.Tree.{children};

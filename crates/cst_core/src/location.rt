@@ -1,3 +1,5 @@
+//! `Location`: a tree's number, the tree and a path. What nodes, tokens and elements share is written here once.
+
 ghost use Rattle.std.proofs.Common.{rules};
 ghost use Rattle.std.specs.Cmp.Rules.{comparing, hashing};
 ghost use Rattle.std.specs.Cmp.Lexicographic.{pointwise};

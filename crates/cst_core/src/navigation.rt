@@ -1,3 +1,5 @@
+//! Walks from a node: children, descendants, ancestors, parent, siblings, first and last token.
+
 ghost use Rattle.std.specs.Prelude.{◌≡◌, ◌≤◌, [], ◌∷◌, ◌++◌, length, filter_map, take, drop, IfOk, OnOk, Ok, None};
 ghost use Rattle.green_tree.specs.Path.{first_item, last_item};
 ghost use Rattle.green_tree.specs.Tree.{children};

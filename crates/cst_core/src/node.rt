@@ -1,3 +1,5 @@
+//! `SyntaxNode`: facts, equality, hash and conversions. It holds its shared node, so that most facts need no walk from the root.
+
 ghost use Rattle.std.proofs.Common.{rules};
 ghost use Rattle.std.specs.Cmp.Rules.{comparing, hashing};
 ghost use Rattle.std.specs.Cmp.Lexicographic.{pointwise};

@@ -1,3 +1,5 @@
+//! Elements by offset: `TokenAtOffset`, and the last element whose text contains a range.
+
 ghost use Rattle.std.specs.Prelude.{◌≡◌, IfOk, Ok, None};
 ghost use Rattle.cst_core.specs.AtOffset.{token_at, covering_of};
 

@@ -1,3 +1,5 @@
+//! The digest of a path, which is hashed in its place.
+
 ghost use Rattle.std.specs.Prelude.{◌≡◌};
 ghost use Rattle.cst_core.specs.PathDigest.{digest_below, path_digest};
 

@@ -1,3 +1,5 @@
+//! `same_shape`: two nodes of the same kinds, down to the tokens.
+
 ghost use Rattle.std.specs.Prelude.{◌↔◌, IsTrue};
 ghost use Rattle.green_tree.specs.Tree.{SameShape};
 ghost use Rattle.cst_core.specs.Element.{subtree};

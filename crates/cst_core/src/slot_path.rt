@@ -1,3 +1,5 @@
+//! `SlotPath`: the slots on the way to an element. Up to three take no memory of their own. `Location` holds one.
+
 ghost use Rattle.std.specs.Prelude.{◌≡◌, [], ◌∷◌, ◌++◌, IfOk, IfSome};
 ghost use Rattle.cst_core.specs.inner.SlotPath.{slots_of};
 

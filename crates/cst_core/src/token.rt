@@ -1,3 +1,5 @@
+//! `SyntaxToken`: facts, equality, hash, conversions, and the tokens before and after it.
+
 ghost use Rattle.std.proofs.Common.{rules};
 ghost use Rattle.std.specs.Cmp.Rules.{comparing, hashing};
 ghost use Rattle.std.specs.Cmp.Lexicographic.{pointwise};

@@ -1,3 +1,5 @@
+//! `TreeIds`: the source of tree numbers, which each call that makes a tree draws from.
+
 ghost use Rattle.std.specs.Prelude.{ℕ, ◌≡◌, ◌↔◌, ◌+◌, IfSome, IsNone, OnSome, IfNone, IsTrue};
 ghost use Rattle.cst_core.specs.TreeIds.{IsSpent};
 

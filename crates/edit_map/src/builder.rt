@@ -1,3 +1,5 @@
+//! `SyntaxMappingBuilder`: pairs whose copies are children of one parent, each tested as it comes.
+
 ghost use Rattle.std.specs.Prelude.{◌≡◌, ◌↔◌, ◌≤◌, length, [], ◌∷◌, ◌++◌, IsTrue, IfErr, IfOk, OnOk, OnErr, All, reverse};
 ghost use Rattle.std.specs.List.{zip};
 ghost use Rattle.cst_core.specs.Element.{IsChild};

@@ -1,3 +1,5 @@
+//! `MapError`: why a pair is not taken up by a builder.
+
 ghost use Rattle.std.specs.Prelude.{◌<◌, length};
 
 use std::alloc::{AllocError, AllocFailed};

@@ -1,3 +1,5 @@
+//! `SyntaxMapping`: which node is the copy of which. Plans ask for `place`, the way up from a target to a payload.
+
 ghost use Rattle.std.specs.Prelude.{◌≡◌, length, [], ◌++◌, IfOk, OnOk, OnErr, reverse, option_map, MatchOption};
 ghost use Rattle.cst_core.specs.Element.{address};
 ghost use Rattle.edit_map.specs.Mapping.{IsPlace, copied, path_in};

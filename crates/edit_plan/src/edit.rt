@@ -1,3 +1,5 @@
+//! `SyntaxEdit`: the old and the new root, the changed elements and the annotated ones.
+
 ghost use Rattle.std.specs.Prelude.{◌≡◌, IfOk};
 ghost use Rattle.edit_plan.specs.Plan.{stand_in};
 ghost use Rattle.annotations.specs.AnnotationTable.{found_for};

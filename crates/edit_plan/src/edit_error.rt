@@ -1,3 +1,5 @@
+//! `EditError`: why a plan is not built or not carried out.
+
 ghost use Rattle.std.specs.Prelude.{◌<◌, length};
 
 use crate::engine_error::EngineError;

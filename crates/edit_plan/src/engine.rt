@@ -1,3 +1,5 @@
+//! `EditEngine`: what makes the new tree of a plan, with the law that each engine proves. `EditPlan::run_with` calls it once.
+
 ghost use Rattle.std.specs.Prelude.{◌<◌, is_ok, IfOk, IfErr};
 ghost use Rattle.cst_core.specs.Green.{branch_tree, length_limit};
 ghost use Rattle.cst_core.specs.Tree.{text_length};

@@ -1,3 +1,5 @@
+//! `EngineError`: why an engine makes no tree.
+
 ghost use Rattle.std.specs.Prelude.{◌<◌, length};
 
 use std::alloc::{AllocError, AllocFailed};

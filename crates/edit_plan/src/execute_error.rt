@@ -1,3 +1,5 @@
+//! `ExecuteError`: why a plan is not carried out in an order.
+
 ghost use Rattle.std.specs.Prelude.{◌<◌, length};
 
 use crate::edit_error::EditError;

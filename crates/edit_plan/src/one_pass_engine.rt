@@ -1,3 +1,5 @@
+//! `OnePassEngine`: the engine of `finish`. It makes the tree in one pass, and counts the nodes that it builds.
+
 ghost use Rattle.std.specs.Prelude.{◌≡◌};
 
 use crate::engine::EditEngine;

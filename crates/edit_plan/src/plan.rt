@@ -1,3 +1,5 @@
+//! `EditPlan`: a root, changes, registrations and a mapping, with what is found out when it is built.
+
 ghost use Rattle.std.specs.Prelude.{◌≡◌, ◌==◌, ◌<◌, [], length, slice_get, option_and_then, false, All, IfOk, IfErr, OnOk};
 ghost use Rattle.std.specs.Option.{option_map_or};
 ghost use Rattle.edit_change.specs.Fits.{Fits};

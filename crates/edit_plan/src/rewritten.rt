@@ -1,3 +1,5 @@
+//! `Rewritten`: what an engine answers, namely the new tree with the paths of changed and annotated elements.
+
 ghost use Rattle.std.specs.Prelude.{◌≡◌};
 
 use annotations::SyntaxAnnotation;

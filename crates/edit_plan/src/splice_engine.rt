@@ -1,3 +1,5 @@
+//! `SpliceEngine`: the engine that carries out one change at a time, in the default order.
+
 use crate::engine::EditEngine;
 use crate::engine_error::EngineError;
 use crate::plan::EditPlan;

@@ -1,3 +1,5 @@
+//! `Stage`: an element while it is edited, that is the old one, the one that stands now, and the aims that are done.
+
 ghost use Rattle.std.specs.Prelude.{◌≡◌, ℕ, List, [], IfOk, OnOk, OnErr};
 ghost use Rattle.green_tree.specs.Tree.{SyntaxTree};
 ghost use Rattle.green_tree.specs.GreenElement.{element_tree, element_trees};

@@ -1,3 +1,5 @@
+//! `TreeError`: why a tree cannot be made.
+
 ghost use Rattle.std.specs.Prelude.{◌<◌, length};
 
 use std::alloc::{AllocError, AllocFailed};

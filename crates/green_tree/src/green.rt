@@ -1,3 +1,5 @@
+//! `GreenToken`, `GreenNode`, `GreenElement` and `GreenElementRef`: trees that are shared, and dropped without a call that nests.
+
 ghost use Rattle.std.specs.Prelude.{◌≡◌, ◌↔◌, ◌+◌, ◌<◌, ◌≤◌, ◌++◌, min, map, length, IfOk, IfSome, OnOk, string_bytes, option_map};
 ghost use Rattle.green_tree.specs.Tree.{label, text, at};
 ghost use Rattle.green_tree.specs.GreenElementRef.{ref_tree};

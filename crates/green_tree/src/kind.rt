@@ -1,3 +1,5 @@
+//! `SyntaxKind`: the kinds by their numbers, with their names.
+
 ghost use Rattle.std.specs.Prelude.{ℕ, ◌≡◌, ◌↔◌, option_map, map, length, nat_eq, position};
 ghost use Rattle.std.specs.Cmp.Lexicographic.{pointwise};
 ghost use Rattle.green_tree.specs.Kind.{kind_names, name_of};

@@ -1,3 +1,5 @@
+//! The tokens at an offset, and the path of what covers a range.
+
 ghost use Rattle.std.specs.Prelude.{◌≡◌, ◌<◌, ◌≤◌, ◌++◌, [], IfNone, IfOk, IfSome, IsOk, OnOk, Ok, Some, None, option_map};
 ghost use Rattle.green_tree.specs.Tree.{text_length};
 ghost use Rattle.green_tree.specs.inner.TokensByOffset.{covering, tokens_touching};

@@ -1,3 +1,5 @@
+//! Whether two trees have the same kinds, down to the tokens.
+
 ghost use Rattle.std.specs.Prelude.{◌↔◌, IsTrue};
 ghost use Rattle.green_tree.specs.Tree.{SameShape};
 ghost use Rattle.green_tree.specs.Green.{branch_tree};

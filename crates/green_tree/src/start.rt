@@ -1,3 +1,5 @@
+//! Where the element at a path starts, in bytes.
+
 ghost use Rattle.std.specs.Prelude.{◌≡◌, ◌<◌, ◌≤◌, [], ◌∷◌, length, IsSome};
 ghost use Rattle.green_tree.specs.Tree.{at, text_length};
 ghost use Rattle.green_tree.specs.Order.{start};

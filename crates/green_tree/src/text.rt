@@ -1,3 +1,5 @@
+//! The text of a node, and `Display` of shared trees.
+
 ghost use Rattle.std.specs.Prelude.{◌≡◌, [], ◌∷◌, ◌++◌, IfOk, OnOk, string_bytes};
 ghost use Rattle.std.specs.Fmt.{WritesOnOk};
 ghost use Rattle.green_tree.specs.Tree.{text};

@@ -1,3 +1,5 @@
+//! The first and the last token below a node, and the tokens before and after a path.
+
 ghost use Rattle.std.specs.Prelude.{◌≡◌, ◌≤◌, [], ◌∷◌, ◌++◌, length, take, option_and_then, IfOk, IfNone, IfSome, IsSome, Ok, None};
 ghost use Rattle.green_tree.specs.Tree.{at};
 ghost use Rattle.green_tree.specs.inner.Neighbors.{first_token, last_token, last_token_before, first_token_after};

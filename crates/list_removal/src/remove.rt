@@ -1,3 +1,5 @@
+//! `remove_separated`: finds the separator that goes with an element, and records one deletion of both.
+
 ghost use Rattle.std.specs.Prelude.{◌≡◌, IfOk, IfErr, OnOk, OnErr};
 ghost use Rattle.cst_core.specs.SyntaxElement.{next_sibling, previous_sibling};
 ghost use Rattle.syntax_editor.specs.Editor.{Records, Takes};

@@ -1,3 +1,5 @@
+//! `Steps`: the step from a cell to the one below it at a slot. The latest from each cell is kept, so a chain hashes nothing.
+
 ghost use Rattle.std.specs.Prelude.{◌≡◌, ◌≤◌, ◌<◌, ◌^◌, ℕ, [], length, OnOk, OnErr, IfOk, IfSome, Some};
 ghost use Rattle.path_table.specs.inner.Steps.{step, latest_from, IsEntered, AreSame};
 

@@ -1,3 +1,5 @@
+//! `PathTable`: numbers by path. Each path leads to a cell of its own, so that one walk down finds the numbers on the way.
+
 ghost use Rattle.std.specs.Prelude.{◌≡◌, ◌≤◌, ◌<◌, ◌+◌, ℕ, Option, None, Some, OnOk, OnErr, IfOk, length, take, unwrap_or};
 ghost use Rattle.green_tree.specs.Path.{Path};
 ghost use Rattle.path_table.specs.inner.PathTable.{cell_below, next_cell, cell_further, cell_at, number_in, number_by_path, SameSteps, SameCells, SameNumbers, IsPut, size, IsTree, IsGrown};

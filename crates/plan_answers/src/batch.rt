@@ -1,3 +1,5 @@
+//! The scripts that the program reads, each with the orders to try and to walk.
+
 use anyhow::{Result, bail};
 use std::alloc::{AllocError, Global};
 

@@ -1,3 +1,5 @@
+//! `LineError`: why a line is not read, which tells memory from a bad line.
+
 ghost use Rattle.script_lines.specs.inner.Expressions.{IsBad, IsOfExpression};
 
 use crate::fault::{Fault, Flaw, Wanted};

@@ -1,3 +1,5 @@
+//! `Name`: the name of a tree, which exists only if it is spelled right.
+
 ghost use Rattle.std.specs.Prelude.{◌≡◌, ◌↔◌, IsSome, IfSome};
 ghost use Rattle.script_lines.specs.Name.{IsName};
 

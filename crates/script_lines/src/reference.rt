@@ -1,3 +1,5 @@
+//! `Reference`: a tree's name with the slots that lead to an element.
+
 ghost use Rattle.std.specs.Prelude.{◌≡◌, ℕ, List, [], ◌∷◌, IfOk, IfErr, MatchOption, unwrap_or};
 ghost use Rattle.script_lines.specs.Line.{Each, IsNumber, IsRef, between};
 ghost use Rattle.script_lines.specs.LineValue.{ref_of};

@@ -1,3 +1,5 @@
+//! `run` and `run_explained`: a script is read, carried out and answered. The program `syned` is a call of the second.
+
 ghost use Rattle.std.specs.Prelude.{◌≡◌, ◌≤◌, ◌<◌, ◌+◌};
 ghost use Rattle.syned_run.specs.Ends.{TakesFront, TakesAtMost, script_limit};
 ghost use Rattle.syned_run.specs.Answer.{Answers, Fails};

@@ -1,3 +1,5 @@
+//! `Refusal`: the error that a refused call gave, which prints it.
+
 ghost use Rattle.std.specs.Prelude.{◌<◌, length};
 
 use cst_core::TreeError;

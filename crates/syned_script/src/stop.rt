@@ -1,3 +1,5 @@
+//! `Stop`: why a script ends at a line.
+
 ghost use Rattle.std.specs.Prelude.{◌≡◌};
 ghost use Rattle.syned_script.specs.declared.stop.Stop.TheVariants.{Bad};
 

@@ -1,3 +1,5 @@
+//! `Error`, which the refusal of any call turns into.
+
 ghost use Rattle.std.specs.Prelude.{◌<◌, length};
 
 use crate::error::{MergeError, RecordError};

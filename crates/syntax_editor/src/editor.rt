@@ -1,3 +1,5 @@
+//! `SyntaxEditor`: a root, the list of changes, registrations and a factory. Its invariant is that each change fits the root.
+
 ghost use Rattle.std.specs.Prelude.{◌≡◌, ◌↔◌, ◌+◌, ◌<◌, cond, [], IfOk, IfErr, OnOk, OnErr, Some};
 ghost use Rattle.cst_core.specs.Green.{length_limit};
 ghost use Rattle.cst_core.specs.Tree.{text_length};

@@ -1,3 +1,5 @@
+//! `RecordError` and `MergeError`: why a change is not recorded, and why two editors are not merged.
+
 ghost use Rattle.std.specs.Prelude.{◌≡◌, ◌<◌, length};
 ghost use Rattle.syntax_editor.specs.RecordRefusal.{of_space};
 

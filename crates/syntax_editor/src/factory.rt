@@ -1,3 +1,5 @@
+//! `SyntaxFactory`: makes tokens and nodes, and keeps which one is the copy of which, if it was made with mappings.
+
 ghost use Rattle.std.specs.Prelude.{◌≡◌, ◌↔◌, ◌+◌, ◌<◌, ◌≤◌, [], length, false, None, Some, unwrap_or, option_map, IfOk, IfErr, OnOk, OnErr};
 ghost use Rattle.std.specs.Borrow.{sem};
 ghost use Rattle.cst_core.specs.Tree.{SameShape, text};

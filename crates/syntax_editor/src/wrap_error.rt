@@ -1,3 +1,5 @@
+//! `WrapError`: why a node is not put between other elements.
+
 ghost use Rattle.std.specs.Prelude.{◌<◌, length};
 
 use std::alloc::{AllocError, AllocFailed};

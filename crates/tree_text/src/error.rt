@@ -1,3 +1,5 @@
+//! `ExpressionError`: why a text is no tree, and at which byte, which tells memory from a bad expression.
+
 ghost use Rattle.std.specs.Prelude.{◌≡◌, ◌≢◌, ◌<◌, length};
 
 use crate::expected::Expected;

@@ -1,3 +1,5 @@
+//! `push_escaped`, and what a letter after a backslash means.
+
 ghost use Rattle.std.specs.Prelude.{◌≡◌, ◌++◌, OnOk, string_bytes};
 ghost use Rattle.tree_text.specs.Escape.{escaped};
 ghost use Rattle.tree_text.specs.inner.Meant.{meant};

@@ -1,3 +1,5 @@
+//! `Expected`: what may stand where the reader stops.
+
 ghost use Rattle.std.specs.Prelude.{◌<◌, length};
 
 /// What may stand at the byte at which the reader of a tree expression stops.

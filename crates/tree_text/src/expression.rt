@@ -1,3 +1,5 @@
+//! `read_tree`, `read_tree_with` and `read_line_tree`: the tree that a text stands for.
+
 ghost use Rattle.std.specs.Prelude.{◌≡◌, ◌≤◌, [], false, IfErr, IfOk, None};
 ghost use Rattle.cst_core.specs.Green.{branch_tree};
 ghost use Rattle.cst_core.specs.Tree.{SyntaxTree, is_token};

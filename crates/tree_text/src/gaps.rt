@@ -1,3 +1,5 @@
+//! `Gaps`: what may be between the elements of an expression.
+
 ghost use Rattle.std.specs.Prelude.{◌≡◌};
 ghost use Rattle.tree_text.specs.inner.Gap.{is_gap};
 

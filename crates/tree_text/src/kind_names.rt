@@ -1,3 +1,5 @@
+//! `KindNames`: names for kinds of a caller's own, which reading and writing take.
+
 ghost use Rattle.std.specs.Prelude.{ℕ, ◌≡◌, ◌≢◌, ◌↔◌, ◌++◌, [], ◌∷◌, true, false, Some, None, Err, IsSome, IfSome, IsNone, OnOk, OnErr, option_map};
 ghost use Rattle.tree_text.specs.KindNames.{name_in, is_name, is_name_byte, IsTaken, AreNames};
 

@@ -1,3 +1,5 @@
+//! Laws of tree expressions: a text is one tree at most, and what stops the reader is at one byte.
+
 ghost use Rattle.std.specs.Prelude.{◌≡◌, ℕ, Bool, List};
 ghost use Rattle.cst_core.specs.Tree.{SyntaxTree};
 ghost use Rattle.tree_text.specs.Grammar.{IsExpression, is_gap_blank};

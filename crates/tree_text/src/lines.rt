@@ -1,3 +1,5 @@
+//! `dump` and `dump_node`: a tree as text, a line for each element.
+
 ghost use Rattle.std.specs.Prelude.{◌≡◌, ◌+◌, ◌++◌, ◌<◌, [], length, IfOk, OnOk, string_bytes};
 ghost use Rattle.cst_core.specs.AtOffset.{end_of};
 ghost use Rattle.cst_core.specs.Element.{subtree};

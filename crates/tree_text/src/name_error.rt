@@ -1,3 +1,5 @@
+//! `NameError`: why a kind is not given a name.
+
 ghost use Rattle.std.specs.Prelude.{◌<◌, length};
 
 use std::alloc::{AllocError, AllocFailed};

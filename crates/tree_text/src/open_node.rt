@@ -1,3 +1,5 @@
+//! A node that is being read.
+
 use cst_core::{GreenElement, SyntaxKind};
 
 /// A node whose closing parenthesis was not read yet.

@@ -1,3 +1,5 @@
+//! The nodes that are open while a tree is read, so that nesting takes no stack, and `DEPTH_LIMIT`.
+
 ghost use Rattle.std.specs.Prelude.{◌≡◌, ◌+◌, ◌-◌, ◌≤◌, IfOk, IfErr, OnOk, IsTrue, ◌↔◌, length, [], ◌∷◌};
 ghost use Rattle.cst_core.specs.Green.{branch_tree};
 ghost use Rattle.cst_core.specs.GreenElement.{element_tree};

@@ -1,3 +1,5 @@
+//! `read_root`: the same as a root with a number of its own.
+
 ghost use Rattle.std.specs.Prelude.{◌≡◌, ◌+◌, ◌≤◌, [], IfErr, IfOk, OnOk, OnErr, Err};
 ghost use Rattle.cst_core.specs.Tree.{SyntaxTree};
 ghost use Rattle.cst_core.specs.TreeIds.{IsSpent};

@@ -1,3 +1,5 @@
+//! `write_tree` and `write_tree_with`: the text of a tree, which `read_tree` reads.
+
 ghost use Rattle.std.specs.Prelude.{◌≡◌, ◌++◌, [], IfOk, OnOk, Some, None, option_map, is_none, if◌then◌else◌, string_bytes, codes};
 ghost use Rattle.cst_core.specs.Green.{branch_tree, leaf_tree};
 ghost use Rattle.tree_text.specs.Grammar.{IsExpression, is_gap_blank, is_gap_space};

@@ -1,3 +1,5 @@
+//! `WriteError`: why a tree is not written.
+
 ghost use Rattle.std.specs.Prelude.{◌<◌, length};
 
 use cst_core::SyntaxKind;

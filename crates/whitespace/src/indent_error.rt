@@ -1,3 +1,5 @@
+//! `IndentError`: why a level is not read, or a tree not indented.
+
 ghost use Rattle.std.specs.Prelude.{◌≡◌, Some, IsSome, ◌<◌, length};
 ghost use Rattle.whitespace.specs.inner.AlongRefusal.{of_pairs};
 

@@ -1,3 +1,5 @@
+//! `token` and `whitespace`: a token in a tree of its own.
+
 ghost use Rattle.std.specs.Prelude.{◌≡◌, ◌↔◌, ◌+◌, ◌<◌, ◌≤◌, [], length, IfOk, OnOk, OnErr};
 ghost use Rattle.cst_core.specs.Green.{length_limit, branch_tree};
 ghost use Rattle.cst_core.specs.TreeIds.{spent};

@@ -1,3 +1,5 @@
+//! `Space`: the whitespace before the first and after the last of new elements. It reads only the levels that the rule names.
+
 ghost use Rattle.std.specs.Prelude.{ℕ, suc, ◌≡◌, max, Some, IsSome, IfOk, IfErr};
 ghost use Rattle.cst_core.specs.SyntaxElement.{element_of};
 ghost use Rattle.whitespace.specs.Level.{level};

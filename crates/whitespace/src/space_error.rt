@@ -1,3 +1,5 @@
+//! `SpaceError`: why new elements get no whitespace.
+
 ghost use Rattle.std.specs.Prelude.{◌≡◌, Some, IsSome};
 ghost use Rattle.whitespace.specs.inner.SpaceRefusal.{of_level, of_whitespace};
 

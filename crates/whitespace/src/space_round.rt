@@ -1,3 +1,5 @@
+//! `elements_with_spaces`: new elements between their whitespace tokens.
+
 ghost use Rattle.std.specs.Prelude.{◌≡◌, ◌+◌, ◌∷◌, [], ◌++◌, ◌≤◌, None, IfOk, IfErr, OnOk, OnErr, string_bytes};
 ghost use Rattle.cst_core.specs.TreeIds.{spent};
 ghost use Rattle.whitespace.specs.Spacing.{space_text, space_elements, with_spaces, spaced, numbers_needed, space_refusal};

@@ -1,3 +1,5 @@
+//! `default_order`: the changes from the last one in the document to the first.
+
 ghost use Rattle.std.specs.Prelude.{◌≡◌, map, reverse, IfOk};
 ghost use Rattle.edit_change.specs.inner.Fate.{fate};
 ghost use Rattle.edit_steps.specs.Schedule.{IsAllowed};

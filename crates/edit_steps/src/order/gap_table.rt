@@ -1,3 +1,5 @@
+//! `GapTable`: numbers by gap, for the inserts of one gap, which wait for each other.
+
 ghost use Rattle.std.specs.Prelude.{◌≡◌, cond, None, Some, OnOk, IfOk};
 ghost use Rattle.edit_change.specs.Aim.{Aim, same_gap};
 ghost use Rattle.edit_change.specs.ChangeAim.{aim, position_aim};

@@ -1,3 +1,5 @@
+//! `OrderError`: why an order is not allowed.
+
 use std::alloc::AllocError;
 use thiserror::Error;
 

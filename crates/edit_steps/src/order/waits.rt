@@ -1,3 +1,5 @@
+//! `Waits`: for one reason, how many changes each one still waits for.
+
 ghost use Rattle.std.specs.Prelude.{◌≡◌, ◌<◌, ◌-◌, ℕ, length, slice_index, nat_eq, count_by, IfOk};
 ghost use Rattle.edit_steps.specs.inner.Followers.{link};
 ghost use Rattle.edit_steps.specs.inner.Waits.{one_if, points_at};

@@ -1,3 +1,5 @@
+//! `AimTarget`: the node whose children an aim alters, and where among them, if the old element has it.
+
 ghost use Rattle.std.specs.Prelude.{◌≡◌, ◌<◌, ◌+◌, ◌^◌, option_map, IfSome};
 ghost use Rattle.green_tree.specs.GreenElement.{element_tree};
 ghost use Rattle.edit_steps.specs.inner.AimTargets.{child_count, child_at, child_of, live_target, site_of};

@@ -1,3 +1,5 @@
+//! `Done`: an aim that is done, as it is seen from the node whose children it altered.
+
 ghost use Rattle.std.specs.Prelude.{◌≡◌, IfSome};
 ghost use Rattle.edit_steps.specs.inner.Starts.{index_of, count_of, last_of, is_before, earlier, later, removed_before, added_before};
 

@@ -1,3 +1,5 @@
+//! `DoneList`: the done aims of one node, and where a gap or a slot begins after them.
+
 ghost use Rattle.std.specs.Prelude.{◌≡◌, ◌<◌, ◌++◌, ◌∷◌, [], List, IfSome, OnOk};
 ghost use Rattle.std.specs.Vec.{vec_len, vec_capacity};
 ghost use Rattle.edit_steps.specs.declared.stage.done.Done.{Done};

@@ -1,3 +1,5 @@
+//! `DoneTable`: done aims by their node's path, one step a slot on the way down.
+
 ghost use Rattle.std.specs.Prelude.{◌≡◌, [], None, Some, IfOk};
 ghost use Rattle.green_tree.specs.Path.{Path};
 ghost use Rattle.path_table.specs.inner.PathTable.{next_cell, cell_at, number_by_path};

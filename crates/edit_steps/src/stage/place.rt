@@ -1,3 +1,5 @@
+//! `Place`: where an aim's target is in the element as it stands now.
+
 ghost use Rattle.std.specs.Prelude.{IfOk};
 ghost use Rattle.edit_steps.specs.inner.Putting.{CanPutIn, IsPlaceOf};
 

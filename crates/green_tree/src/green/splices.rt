@@ -1,3 +1,6 @@
+//! `splice_at`: a splice of the children of the node at the end of a path, in place where nothing else holds the way, with a count of
+//! the nodes that are changed or made.
+
 ghost use Rattle.std.specs.Prelude.{◌≡◌, ◌<◌, ◌≤◌, ◌+◌, [], length, IfOk, OnOk, OnErr};
 ghost use Rattle.green_tree.specs.Count.{counted};
 ghost use Rattle.green_tree.specs.Green.{branch_tree};

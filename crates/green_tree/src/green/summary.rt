@@ -1,3 +1,5 @@
+//! `Summary`: what a node knows of its children, so that `length` and `has_token` read a field.
+
 ghost use Rattle.std.specs.Prelude.{◌≡◌, ◌≤◌, ◌+◌, ◌||◌, ◌∷◌, [], min, false, IfSome};
 ghost use Rattle.green_tree.specs.Tree.{text};
 ghost use Rattle.green_tree.specs.Green.{capped_length, length_limit};
