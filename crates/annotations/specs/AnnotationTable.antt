@@ -1,7 +1,7 @@
 -- Elements by annotation.
---     entries_of                    the entries of a table in code, with lists for vectors
---     annotated_path                a path with the number of its annotation, in code
---     found_for                     the elements that a list of entries has for an annotation: none where it has none
+--     entries_of                    The entries of a table in code, with lists in place of vectors.
+--     annotated_path                The number of an annotation and a path, in code.
+--     found_for                     The elements that a list of entries has for an annotation, none if it has no entry.
 use Rattle.std.specs.Prelude.{ℕ, nat_eq, List, [], map, Vec}
 use Rattle.std.specs.Global.{Global}
 use Rattle.std.specs.Map.{lookup}

@@ -1,8 +1,11 @@
 -- What the assist makes of a list.
---     calls                the calls on the first three arguments, in order
---     after_calls          an editor after such calls
---     Rearranges           an editor is another one after the calls on the three child nodes of a root
---     IsRearranged         an edit is what an editor with these calls makes under this tree number, and its text is what the changes give
+--     calls, after_calls            The calls on the first three arguments, in order; an editor after some calls.
+--     Rearranges                    One editor is another after these calls, on the three child nodes of a root.
+--     IsRearranged                  An edit is what an editor with these calls makes under a tree number, and its text is what
+--                                   `changed_text` says.
+--
+-- Of `(1, 2, 3)` the assist records the replacements of `1` by `2` and of `2` by `1`, and the deletion of the siblings
+-- from the second comma to the `3`.
 use Rattle.std.specs.Prelude.{◌≡◌, ℕ, List, [], ◌∷◌}
 use Rattle.std.specs.List.{fold}
 use Rattle.syntax_editor.specs.Tree.{text}

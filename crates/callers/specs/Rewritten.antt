@@ -1,12 +1,14 @@
 -- What search and replacement record of the nodes of a file.
---     is_match, is_block            a node has a pattern's kind and text; it is a block
---     with_match, with_matches      the changes with the replacement of a node, of each of some nodes, that matches
+--     is_match, is_block            A node has the kind and the text of a pattern; it is a BLOCK_EXPR.
+--     with_match, with_matches      The changes after a node was replaced if it matches; after each of some nodes was.
 --     in_parentheses                the root of a tree of its own: a copy of a node between parentheses, where this is the next tree number
---     with_block, with_blocks       the next tree number and the changes with the wrapper of a node, of each of some nodes, that is a block
---     ReplacesMatches, WrapsBlocks  an editor is another one after the replacement of the matches among some nodes, after their blocks were wrapped
---     rewriting                     the next tree number and the changes once all nodes of a root were looked at, matches first
---     Rewrites                      an editor is another one after that
---     IsRewritten                   an edit is what these changes make of a file, where this is the next tree number
+--     with_block, with_blocks       The next tree number and the changes after a node was replaced by its wrapper if it is a block; after
+--                                   each of some nodes was.
+--     ReplacesMatches, WrapsBlocks  One editor is another after the matches among some nodes were replaced; after the blocks among them
+--                                   were wrapped.
+--     rewriting, Rewrites           The next tree number and the changes for all nodes of a root, matches first; one editor is another
+--                                   after these.
+--     IsRewritten                   An edit is what these changes make of a file, by some mapping.
 use Rattle.std.specs.Prelude.{◌≡◌, ℕ, ◌+◌, Bool, ◌&&◌, ◌==◌, cond, List, [], ◌∷◌, codes}
 use Rattle.std.specs.List.{fold}
 use Rattle.std.specs.Cmp.Lexicographic.{pointwise}

@@ -1,13 +1,28 @@
 -- The list of changes after each call that records one.
---     are_one                         two values are of one element
---     replacement_of                  the payload of a Replace of this element, which is nothing in a deletion; no answer for any other change
---     is_replace_of                   the change is a Replace of this element
---     replacements_of                 the payload of each Replace of an element, in the order of the list
---     is_deleted                      some Replace of the element has no payload
---     with_replacement, taken_up      a Replace that brings what a function makes of what it brought; the first Replace of an element taken up so, or a new one at the end
---     delete, replace                 the first Replace of the element takes it up, and a deletion stays one; where there is none, a new one stands at the end
---     insert, insert_all, replace_with_many, delete_all, replace_all      one more at the end; a range of one element is deleted or replaced as that element
---     merged                          one list after the other
+-- Each of these takes the list of changes before a call to the list after it.
+--
+--     are_one                       Two values have equal tree numbers and paths.
+--     replacement_of, replacements_of  The new element in a `Replace` of an element, which a deletion lacks; no answer for any other
+--                                   change. The same of each change of a list, in order.
+--     is_replace_of                 The change is a `Replace` of the element.
+--     is_deleted                    Some `Replace` of the element is a deletion.
+--     with_replacement, taken_up    A `Replace` whose new element a function exchanges; the list with the first `Replace` of an element
+--                                   exchanged like this, or with one more at the end if there is none.
+--     delete                        The first `Replace` of the element becomes a deletion. If there is none, a deletion is added at the
+--                                   end.
+--     replace                       The first `Replace` of the element gets the new element, but a deletion stays a deletion. If there is
+--                                   none, a `Replace` is added at the end.
+--     insert, insert_all, replace_with_many  One more change at the end.
+--     delete_all, replace_all       A `ReplaceAll` at the end. A range of one element is recorded as by `delete`, or as by
+--                                   `replace_with_many`.
+--     merged                        One list and then the other, of changes or of registrations.
+--
+-- Replacing `R/1` by `x`, deleting `R/1` and replacing `R/1` by `y` leaves one change, the deletion of `R/1`. So `R/1`
+-- is deleted, and the new text is `(, 2)`. Replacing `R/1` by `x`, `R/4` by `x` and `R/1` by `y` leaves two changes: of
+-- `R/1` by `y` and of `R/4` by `x`.
+--
+-- After the range from `R/1` to `R/3` is deleted, `is_deleted` of `R/1` is false, since it looks only at `Replace`. Two
+-- editors that each deleted `R/1`, merged, hold two deletions, and these clash.
 use Rattle.std.specs.Prelude.{Bool, cond, List, [], ◌∷◌, ◌++◌, find, filter_map, Option, Some, None, option_map, is_some, is_none}
 use Rattle.std.specs.List.{list_any, before_first, after_first}
 use Rattle.std.specs.Option.{option_map_or}

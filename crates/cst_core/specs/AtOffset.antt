@@ -1,8 +1,18 @@
 -- Elements by where their texts stand, in bytes from the tree's start.
---     end_of                      where the element's text ends
---     tokens_touching             of the tokens at or below an element, those whose text is not empty, begins at an offset or before it, and ends there or after it
---     first_two, token_at         of a list of tokens none, the only one, or the first two; that of these tokens
---     covering_of                 of the elements at or below one, the last whose text contains a range of bytes
+--     end_of                        Where the element's text ends, in bytes from the start of the whole tree's text.
+--     tokens_touching               The tokens at or below an element that touch an offset, counted from the start of the whole tree.
+--     first_two, token_at           Of a list of tokens: none, the only one, or the first two; that of the tokens which touch an offset.
+--     covering_of                   Of the elements at or below one, the last in document order whose text contains a range of the whole
+--                                   tree.
+--
+-- At most two tokens touch one offset, since they have text and follow one another; no law states this.
+--
+-- `L/4` ends at byte 5. Below `L` byte 4 is between the tokens `L/3` and `L/4/0`. Below `L/4` it touches `L/4/0` alone,
+-- and byte 3 touches none. Bytes 4 to 5 are covered last by `L/4/0`, both below `L` and below `L/4`. Bytes 3 to 5 are
+-- covered by `L`, and below `L/4` by nothing.
+--
+-- A loop from parent to parent ends by the first law: the length of the path is its measure. A function that calls
+-- itself for each child ends by the second.
 use Rattle.std.specs.Prelude.{ℕ, ◌+◌, List, [], ◌∷◌, map, filter, Option}
 use Rattle.green_tree.specs.Path.{last_item}
 use Rattle.green_tree.specs.Tree.{text_length}

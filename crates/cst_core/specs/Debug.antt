@@ -1,7 +1,9 @@
 -- What `{:?}` writes of element values.
---     node_debug         the kind of a node, and where its text starts and ends
---     token_debug        that of a token and its text in quotes; it says nothing of a text past ASCII
---     element_debug      what the node or token shows, in the form's parentheses
+--     node_debug, token_debug       The kind, `@`, the start, `..` and the end; for a token also its text in quotes. The second is defined
+--                                   only for texts in ASCII.
+--     element_debug                 `Node(..)` or `Token(..)` around that of the node or token.
+--
+-- They speak of `{:?}` alone. `{:#?}` also writes what is below the element, a line each.
 use Rattle.std.specs.Prelude.{ℕ, List, ◌++◌, Option, Some, codes, decimal}
 use Rattle.std.specs.Fmt.{◌++?◌, debug_str}
 use Rattle.green_tree.specs.Tree.{label, text}

@@ -1,13 +1,15 @@
 -- Element values of trees that have a number.
---     Address                          a tree's number and a path in it
---     Element                          a value that stands for an element: the number, the whole tree, the path
---     address, subtree                 its address, and the tree that it stands for
---     same_address, same_element       equal numbers and paths
---     IsElement, IsNode, IsToken       the path leads to an element; to a node; to a token
---     IsChild                          the second is a child of the first
---     element_at, below                the value of the same tree at a path; at a path that is counted from the element
---     root_of, parent_of               the root of its tree; its parent, which a root has none of
---     NumbersTell                      elements of equal tree numbers are of equal trees
+--     Address, address              A number and a path; those of an element value.
+--     Element                       What a contract sees of an element value: a tree's number, the whole tree, and a path in it.
+--     subtree                       The tree at the value's path.
+--     same_address, same_element    Two addresses have equal numbers and paths; two values have equal addresses.
+--     IsElement, IsNode, IsToken    The path leads to something; to a node; to a token.
+--     IsChild                       The second value is a child of the first: it has the same tree number, is no root, and has the path of
+--                                   the first as its parent path.
+--     element_at, below             The value of the same tree at a path; at a path counted from the element.
+--     root_of, parent_of            The root of the value's tree; the parent, which a root lacks.
+--     NumbersTell                   Among some element values, equal tree numbers mean equal trees. This holds if every number comes from
+--                                   one source.
 use Rattle.std.specs.Prelude.{◌≡◌, ◌≢◌, ℕ, AllPairs, Bool, true, false, ◌&&◌, List, [], ◌∷◌, ◌++◌, unwrap_or, nat_eq, Option, Some, None, option_map, IsSome}
 use Rattle.green_tree.specs.Path.{Path, same_path, parent_path}
 use Rattle.green_tree.specs.Tree.{Token, SyntaxTree, at, is_token}

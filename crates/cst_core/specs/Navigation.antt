@@ -1,10 +1,13 @@
 -- The elements around one.
---     family_of                      the children of its parent, which it is among; of a root, the root alone
---     next_node, previous_node       the nearest of its siblings after it, before it, that is a node
---     siblings_on                    itself, and then its siblings in one direction, the nearest first
---     nodes_above, ancestors_of      the nodes above it, the nearest first; the same with itself before them
---     element_ancestors              the ancestors of a node, itself first; of a token, its parent first
---     elements_of                    the elements at or below it, in document order
+--     family_of                     The children of the element's parent, with the element; of a root, the root alone.
+--     next_node, previous_node      The nearest sibling after the element that is a node; the nearest one before it.
+--     siblings_on                   The element, and then its siblings in one direction, the nearest first.
+--     nodes_above, ancestors_of     The nodes above the element, the nearest first; the element and then these.
+--     element_ancestors             `ancestors_of` for a node, `nodes_above` for a token.
+--     elements_of                   The nodes and tokens at or below the element, in document order.
+--
+-- The next node after `L/1` is `L/4`. Back from `L/2`, `siblings_on` is `L/2`, `L/1`, `L/0`. The element ancestors of
+-- `L/4` are `L/4` and `L`, and so are those of the token `L/4/0`.
 use Rattle.std.specs.Prelude.{suc, List, [], ◌∷◌, map, filter_map, take, drop, reverse, Option}
 use Rattle.std.specs.Option.{option_map_or}
 use Rattle.green_tree.specs.Path.{last_slot, above, first_item, last_item}

@@ -1,14 +1,20 @@
 -- Element values by their form.
---     element_of                       the value, whatever its form
---     node_of, token_of                the value of a node, of a token
---     syntax_as, syntax_of             the value as a node or a token, by the form of a tree; of the tree that it stands for
---     syntax_at                        the value of the same tree at a path, if the path leads to an element
---     child_elements, child_nodes      the children, and those that are nodes, in order
---     next_sibling, previous_sibling   the sibling one slot on, one slot back, if there is one
---     descendants_of                   the nodes at or below an element, in document order
---     descendants_of_kind              those of one kind
---     first_token_of, last_token_of    the first token at or below it, in document order; the last one
---     token_before, token_after        the last token that stands before it in its tree; the first one that stands after it
+--     element_of, node_of, token_of  The value in a `SyntaxElement`; only if it is a node; only if it is a token.
+--     syntax_as, syntax_of          A value as a `SyntaxElement`: a node or a token, as a given tree is; as the value's subtree is.
+--     syntax_at                     The value of the same tree at a path, as a `SyntaxElement`, if the path leads to an element.
+--     child_elements, child_nodes   The children in order; those of them that are nodes.
+--     next_sibling, previous_sibling  The sibling one slot after the element, if there is one; one slot before it.
+--     descendants_of, descendants_of_kind  The nodes at or below an element, in document order; those of them that are of one kind.
+--     first_token_of, last_token_of  The first token at or below an element, if there is one; the last one.
+--     token_before, token_after     The last token before an element in its tree; the first one after it, as `tokens_after` says.
+--
+-- In code, `==` on element values is `same_element`, and equal values have equal hashes. Where this page says 'equal
+-- numbers mean equal trees', the contract or law has `NumbersTell` as its premise. For plans, that is of
+-- `elements_held`: of all element values that the plan holds.
+--
+-- The child nodes of `L` are `L/1` and `L/4`; its descendants are `L`, `L/1` and `L/4`, and those of the kind LITERAL
+-- are `L/1` and `L/4`. The token before `L/4/0` is `L/3`. In `(ARG_LIST L_PAREN"(" (ATTR) R_PAREN")")` the token before
+-- `)` is `(`, and the token after `(` is `)`: a node without tokens is passed over.
 use Rattle.std.specs.Prelude.{List, [], ◌∷◌, ◌==◌, length, map, filter, filter_map, Option, Some, None, option_map, option_and_then}
 use Rattle.green_tree.specs.Path.{Path, next_path, previous_path, counted_from, first_item, last_item}
 use Rattle.green_tree.specs.Tree as tree

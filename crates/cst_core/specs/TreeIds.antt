@@ -1,6 +1,8 @@
 -- Sources of tree numbers, each as the number that it gives next.
---     spent, IsSpent                the greatest number, which is given to no tree; a source that has come to it has none left
---     LacksNumber                   all that a root of this tree lacks is a number
+--     spent, IsSpent                2^64 - 1, which no source returns; a source has come to it, so it has no number left.
+--     LacksNumber                   A tree is short enough for a root, but the source of numbers is spent.
+--
+-- Each number that `next` returns is one greater than the one before it, so one source never returns a number twice.
 use Rattle.std.specs.Prelude.{◌≡◌, ℕ, ◌<◌}
 use Rattle.green_tree.specs.Tree.{SyntaxTree, text_length}
 use Rattle.green_tree.specs.Green.{length_limit}

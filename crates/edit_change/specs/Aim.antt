@@ -1,10 +1,20 @@
 -- Where something aims in a tree, by paths alone: all that the place of its payload hangs on.
---     Gap                           a node and an index from 0 to its number of children: before its child i, the last after its last child
---     Aim                           before the first child of a node, after an element, or over some elements
---     gap_of, aims_at_gap           the gap that an insert fills; it is this one
---     same_gap                      two inserts fill one gap: a gap has one form, so they have the same
---     starts_at, replaces           a replacement replaces from this path on; it replaces this path
---     parents                       the node whose children are altered: none for a replaced root
+--     Gap                           A node, and an index from 0 to its number of children. Gap i is before child i, and the last gap is
+--                                   after the last child.
+--     Aim                           Where a change aims, by paths alone: first in a node, after an element (`AfterElement`), or over its
+--                                   targets. The new tree depends only on this and on the payload.
+--     gap_of, aims_at_gap           The gap that an aim fills, if it is an insert and not after the top; an aim fills this gap.
+--     same_gap                      Two aims fill one gap.
+--     starts_at, replaces           A replacement has this path as its first target; among its targets.
+--     parents                       The path of the node whose child list an aim alters. A replaced root has none.
+--
+-- `After e` is gap i + 1 of the parent, where e is child i, so each gap has exactly one form. Before `R/1` is `After
+-- R/0`, gap 1 of `R`. Before `R/0` is `FirstChild R`, gap 0.
+--
+-- A contract of a call that takes an element in any form, by value or by reference, is written with the trait `Element`
+-- (edit_change: `src/element_like.rt`). `E.element` is the `SyntaxElement` that a value of the type `E` is converted
+-- to. `E.is_owned` says that this takes no memory: so it is for `SyntaxNode`, `SyntaxToken` and `SyntaxElement`, and
+-- not for references.
 use Rattle.std.specs.Prelude.{ℕ, suc, Bool, false, ◌&&◌, nat_eq, List, [], ◌∷◌, Option, Some, None}
 use Rattle.std.specs.Option.{option_map_or}
 use Rattle.green_tree.specs.Path.{Path, same_path, has_path, parent_path, last_slot}

@@ -1,8 +1,12 @@
 -- Changes of a tree: the payload of each and what it replaces.
---     payload                       the elements of a change's payload
---     elements                      all that it holds: its anchor or targets, and its payload
---     targets                       the paths that a replacement replaces, in order
---     shared_targets                two replacements have a target in common
+-- A `Change` has one of five forms: `Insert`, `InsertAll`, `Replace` (a deletion if it has no new element),
+-- `ReplaceWithMany`, and `ReplaceAll` (of the siblings from a first to a last). Changes are numbered from 0 in the
+-- order in which they were recorded.
+--
+--     payload                       The new elements of a change, in order.
+--     elements                      All element values in a change: its anchor or its ends, and its payload.
+--     targets                       The paths that a replacement replaces: one, or those of the siblings from first to last.
+--     shared_targets                Two replacements have a target in common. Deletions count, and so do replacements that are dropped.
 use Rattle.std.specs.Prelude.{Bool, List, [], ◌∷◌, map, Some, None}
 use Rattle.std.specs.List.{list_any}
 use Rattle.cst_core.specs.Path.{Path, has_path, siblings}

@@ -1,6 +1,6 @@
 -- Where a change aims.
---     position_aim, aim             the aim of a position, of a change
---     aim_path                      the path that says where a change aims: of an insert's anchor, of the first element that is replaced
+--     aim, position_aim             The aim of a change; of a position.
+--     aim_path                      The path of an insert's anchor, or of the first element that a replacement replaces.
 use Rattle.cst_core.specs.Path.{Path}
 use Rattle.cst_core.specs.SyntaxElement.{element_of}
 use Rattle.edit_change.specs.Aim.{Aim, FirstIn, AfterElement, Over}

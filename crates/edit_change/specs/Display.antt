@@ -1,14 +1,19 @@
 -- The text that shows a change, coloured or plain: green is put in, red is taken away.
---     in_style                      a colour's code in a coloured text, nothing in a plain one
---     escape                        the byte that a colour's code begins with
---     put_in, taken_away            the colours' beginnings
---     reset                         their end
---     element_texts                 the texts of elements, one after another
---     siblings_of                   the trees of an element's siblings, with its own
---     with_insert, at_position      the text of trees with bytes put in at a slot; the parent's, with bytes at a position
---     exchanged, with_range         an old text that is taken away, and a new one that is put in; the text of trees in which
---                                   those from a slot up to another one, which stays, are exchanged for bytes
---     change_text                   the text of a change
+-- A text is `Coloured` or `Plain`: the same text with the codes of colours, or without them.
+--
+--     in_style                      The code of a colour in a coloured text; nothing in a plain one.
+--     escape                        The byte 27, with which the code of a colour begins.
+--     put_in, taken_away, reset     The code that begins green; the one that begins red; the one that ends a colour.
+--     element_texts                 The texts of elements, one after another.
+--     siblings_of                   The trees of the children of an element's parent.
+--     with_insert, at_position      The text of trees with green bytes at a slot; the parent's text with green bytes at a position.
+--     exchanged, with_range         An old text in red, then a new one in green; the text of trees, where those from a slot up to another
+--                                   are exchanged so.
+--     change_text                   For an insert, the parent's text with the new text in green at the gap. For a replacement, the old text
+--                                   in red and the new one in green.
+--
+-- A deletion has only the old text. The text of a `ReplaceAll` is shown within the parent's text. Inserting `x` after
+-- `R/0`: `(`, green `x`, `1, 2)`.
 use Rattle.std.specs.Prelude.{ℕ, suc, List, [], ◌∷◌, ◌++◌, codes, map, take, drop, Some, None}
 use Rattle.cst_core.specs.Path.{parent_path, last_slot}
 use Rattle.cst_core.specs.Tree.{SyntaxTree, children}

@@ -1,7 +1,7 @@
 -- How many nodes a pass from the leaves up builds anew.
---     inside                        of these paths, those that begin with a slot, without it
---     touched, touched_from         the nodes of a tree that are above one of these paths, or at one; those of children from a slot on
---     parents_of                    the nodes whose children are altered
+--     inside                        Those of some paths that begin with a slot, without that slot.
+--     touched, touched_from         How many elements of a tree are above one of some paths, or at one; of children from a slot on.
+--     parents_of                    The nodes whose child lists some aims alter.
 use Rattle.std.specs.Prelude.{ℕ, suc, ◌+◌, nat_eq, cond, List, [], ◌∷◌, flat_map}
 use Rattle.green_tree.specs.Path.{Path}
 use Rattle.green_tree.specs.Tree.{Tree, Forest, Token, Node, end, more}

@@ -1,11 +1,12 @@
 -- What a change must meet to be a change of a tree.
---     is_native, is_native_position      of the root's tree number, and the path leads to an element of its form there; the same of a position's anchor
---     is_root                            the path is that of a root
---     have_one_path, are_siblings        two elements at one path; below one parent
---     is_range                           the ends are one element, or siblings and the last not before the first
---     is_one_node                        the elements are one node, as can stand for a root
---     fits                               a change of the root's tree: what it aims at is native, a range has two ends, and a root is replaced by one node or not at all
---     Fits                               the same as a fact
+--     is_native, is_native_position  An element has the root's tree number, and its path leads to an element of its form in the root's
+--                                   tree; a position's anchor is native.
+--     is_root                       The element's path is empty.
+--     have_one_path, are_siblings   Two elements have the same path; neither is a root, and their parents have the same path.
+--     is_range                      Two ends have the same path, or are siblings of which the last is not before the first.
+--     is_one_node                   A list is one node, so it may replace a root.
+--     fits, Fits                    A change fits a tree: what it aims at is native, a `ReplaceAll` has two different ends that are a
+--                                   range, and a root is replaced by one node or not at all; the same as a fact.
 use Rattle.std.specs.Prelude.{Bool, true, false, ◌==◌, ◌&&◌, ◌||◌, not, nat_le, List, [], ◌∷◌, Some, None, IsTrue}
 use Rattle.std.specs.Option.{option_map_or}
 use Rattle.cst_core.specs.Path.{same_path, parent_path, last_slot}

@@ -1,16 +1,30 @@
 -- Which changes clash, and which lie inside what another one replaces.
---     pairs_with, pairs             the numbers of a change and of each one before it; of each two of n changes
---     clashes                       two changes share a target
---     first_clash                   the first two that share a target, by the second and then by the first
---     region, region_of_one         the targets of a replacement with all that is below them: a replaced token alone is no region; that of one target
---     region_at                     the change whose region has this path
---     is_keeping                    the region of a node replaced by a node: what aims into it moves along
---     surroundings                  an insert's anchor and the elements above it; the elements above a replacement's targets
---     is_around                     a region is around a change
---     is_dropped                    some dropping region is around it
---     Numbered, undropped           a change with its number; the changes that are not dropped, with their numbers
---     owner                         of a change that is not dropped: the replacement with the deepest region around it
---     is_independent, has_owner     neither dropped nor owned; owned by this change
+--     pairs_with, pairs             The pairs of each lesser number with this one; all pairs of numbers below n, ordered by the second
+--                                   number and then by the first.
+--     clashes                       The changes of these two numbers share a target.
+--     first_clash                   The first pair, in the order of `pairs`, that clashes. A list of changes with a clash is refused.
+--                                   `clashes_with` gives it of two editors before they are merged.
+--     region, region_of_one         The targets of a replacement, which include everything below them too, but none where it replaces one
+--                                   token alone; the region of one target.
+--     region_at                     The first change whose region has this path.
+--     is_keeping                    A `Replace` of a node by a node: changes that aim into the old node move into the new one. Every other
+--                                   region drops them.
+--     surroundings                  The elements whose replacement drops or moves this change: an insert's anchor and the elements above
+--                                   it, or the elements above a replacement's targets.
+--     is_around                     The region of one change has one of the surroundings of another.
+--     is_dropped                    Some region that is not keeping is around the change.
+--     Numbered, undropped           A change with its number; the changes that are not dropped, with their numbers.
+--     owner                         For a change that is not dropped: the replacement with the deepest region around it, if there is one.
+--     is_independent, has_owner     The change is neither dropped nor owned; it is owned by the change of this number.
+--
+-- Replacing `R/1/0` and replacing `R/1` do not clash. In the deletions of `R/1`, `R/4`, `R/4` and `R/1`, in this order,
+-- the first clash is that of the changes 1 and 2.
+--
+-- A token that is replaced or deleted by itself has no region, so what is inserted after it is kept. An insert after a
+-- replaced node is inside the region. Nothing is around a replacement of the root.
+--
+-- Deleting `R/1` and inserting `x` after `R/1`: the insert is dropped, and the text is `(, 2)`. Deleting the comma
+-- `R/2` and inserting `x` after it: `(1x 2)`.
 use Rattle.std.specs.Prelude.{ℕ, Bool, true, false, ◌&&◌, not, cond, nat_eq, List, [], ◌∷◌, map, length, flat_map, filter_map, position, find, slice_get, Option, Some, None, is_none, filter}
 use Rattle.std.specs.List.{list_any, enumerate_from}
 use Rattle.std.specs.Option.{option_map_or}

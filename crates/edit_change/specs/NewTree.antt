@@ -1,19 +1,25 @@
 -- The tree that a set of changes makes of an old one, all of them at once.
---     change_aims                       the aims of numbered changes
---     Origin, OriginTree            a label with the address that an element was copied from, and the change that brought it
---     plain                         the tree without its origins
---     origin                        of what is kept below an address
---     moved_path, moved_aim         a path, an aim, exchanged into a payload
---     only                          of numbered aims, those whose changes pass a test
---     targets_of, payload_of        the targets and the payload of the change at a number
---     is_free                       that change has no owner and is not dropped
---     independents, dependents      the changes without an owner; the changes that a change owns, moved into its payload
---     payload_rewritten             the payload of a change, each element rewritten
---     given, given_within           what a change gives: its payload, rewritten by the moved changes that it owns; with owners nested at most so deep
---     Gives                         the equation that `given` meets, and no other function
---     tree_rewritten                the old tree rewritten by some changes, which give what they give
---     new_tree                      the old tree rewritten by the changes without an owner
---     stage_tree, stage_payload     the same by those of the changes that are done; the payload of a keeping replacement then
+--     change_aims                   The numbered aims of numbered changes.
+--     Origin, OriginTree            A label that adds to a kind the address that the element was copied from, and the change whose payload
+--                                   it is in, if any; a tree of such labels.
+--     plain                         The tree with the kinds alone as labels.
+--     origin                        The label of an element copied from a path below an address, in the payload of a change or in none.
+--     moved_path, moved_aim         A path below the owner's target, moved below the target's place in the payload; an aim with its paths
+--                                   moved so.
+--     only                          Those of some numbered aims whose numbers pass a test.
+--     targets_of, payload_of        The targets of the change of a number; its payload.
+--     is_free                       The change of this number is independent.
+--     independents                  The aims of the changes that are neither dropped nor owned.
+--     dependents                    The aims of the changes that a change owns, moved into its payload.
+--     payload_rewritten             The payload as it was recorded, each element rewritten by such aims.
+--     given, given_within           The elements that a change adds: its payload, rewritten by its dependents; the same with owners nested
+--                                   at most n deep.
+--     Gives                         The equation that says so. `given` meets it and nothing else does (a law), so a reader can ignore how
+--                                   `given` computes.
+--     tree_rewritten                The old tree, rewritten by some changes.
+--     new_tree                      The old tree, rewritten by the independent changes.
+--     stage_tree, stage_payload     `new_tree` of only those changes that are done; a payload, rewritten by only those dependents that are
+--                                   done.
 use Rattle.std.specs.Prelude.{◌≡◌, ℕ, zero, suc, Bool, false, List, [], ◌++◌, map, length, drop, filter, slice_get, unwrap_or, Option, Some, None}
 use Rattle.std.specs.List.{enumerate_from}
 use Rattle.std.specs.Option.{option_map_or}

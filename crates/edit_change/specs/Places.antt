@@ -1,10 +1,16 @@
 -- What finishing a list of changes answers: the new tree with what is told of it, or a refusal.
---     IsPlaceIn                     this path of an owner's payload leads to an element that stands there for the owner's target
---     HasPlace                      this path is the place from which a change finds where it moves to in its owner's payload
---     IsUnplaced, IsFirstUnplaced   a change that is not dropped and has no place in its owner's payload; the least such change
---     FindsPlace, ArePlaces         a change has its place where one is kept for each owner; each change does
---     elements_held                 all element values that a plan holds, of which NumbersTell is the premise of every promise on the tree
---     TextIsTooLong                 the new text passes the limit
+--     IsPlaceIn                     An owner's payload has an element at this path, and the path is the place of the owner's target.
+--     HasPlace                      The place from which a change finds where it moves to: `IsPlaceIn`, but not `.` for an insert after the
+--                                   owner's target itself, since there is no gap after the top of a payload.
+--     IsUnplaced, IsFirstUnplaced   A change has an owner, but no place in its payload; the first change for which this holds. A list with
+--                                   such a change is refused.
+--     FindsPlace, ArePlaces         With one path for each owner, a change has its place at the path of its owner; every change has.
+--     elements_held                 All element values of a plan: the root, those of its changes, the registered and the mapped ones.
+--     TextIsTooLong                 The text of the new tree reaches the limit. Trees on the way to it do not count.
+--
+-- Replacing `R/1` by itself and inserting `x` after `R/1`: change 1 has no place in the payload of change 0. Replacing
+-- `R/1/0` and replacing `R/1` by a literal to which nothing is mapped: change 0 has no place in the payload of change
+-- 1.
 use Rattle.std.specs.Prelude.{◌≡◌, ◌≢◌, ℕ, ◌<◌, ◌≤◌, List, [], ◌∷◌, ◌++◌, map, flat_map, slice_get, Some, IfSome, IsSome, IsSomeAnd, All}
 use Rattle.cst_core.specs.Path.{Path}
 use Rattle.cst_core.specs.Tree.{at, text_length}

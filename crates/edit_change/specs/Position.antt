@@ -1,9 +1,8 @@
 -- Positions: the gap before the first child of a node, or the gap after an element.
---     anchor              that node or element
---     first_of            the node, of the first form
---     after_of            the element, of the second
---     after, before       the gap after an element, and the one before it: none beside a root
---     last_child_of       the last gap of a node
+--     anchor                        The node n or the element e of the position.
+--     first_of, after_of            The node n, if the position is `FirstChild n`; the element e, if it is `After e`.
+--     after, before                 The position after an element; the one before it. A root has neither.
+--     last_child_of                 `After` the last child of a node; `FirstChild` of a node without children.
 use Rattle.std.specs.Prelude.{Option, Some, None, option_map}
 use Rattle.std.specs.Option.{option_map_or}
 use Rattle.cst_core.specs.Path.{last_item}

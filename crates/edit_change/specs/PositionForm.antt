@@ -1,5 +1,6 @@
 -- The two forms of a position, as contracts see them. Each gap has exactly one.
---     PositionForm                  the gap before the first child of a node; the gap after an element
+--     PositionForm                  What a contract sees of a `Position`: `FirstChild n`, gap 0 of the node n, or `After e`, the gap after
+--                                   the element e.
 use Rattle.cst_core.specs.Element.{Element}
 use Rattle.cst_core.specs.declared.element.SyntaxElement.{SyntaxElement}
 

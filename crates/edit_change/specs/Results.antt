@@ -1,10 +1,13 @@
 -- What is told of a new tree: which elements changes brought, where annotated ones are, and which node stands for an old one.
---     is_brought                    a change without an owner brought the element
---     changed                       the paths, in document order, of the brought elements whose parent is none
---     copies_of                     the paths, in document order, of the elements copied from an address
---     paths_with                    the paths that stand with an annotation
---     annotated                     an annotation with each path, by registration and then in document order
---     stands_like, stand_in_path            what is at a path has the kind of an old element and starts where that one does; the path of the first node, in document order, of the kind of an old one that starts where that one does
+--     is_brought                    An origin names an independent change: the element comes from that change's payload.
+--     changed                       The paths, in document order, of the elements that come from the payload of an independent change and
+--                                   whose parent does not.
+--     copies_of                     The paths, in document order, of the elements that were copied from an address. An element that stays
+--                                   in place is copied from its old self.
+--     paths_with                    Of annotated paths, those of one annotation, in order.
+--     annotated                     For each registration in order: its annotation with the paths of the copies of the followed element.
+--     stands_like, stand_in_path    What is at a path has the kind and the start of an old element, each start counted in its tree; the
+--                                   first path of a node for which this holds.
 use Rattle.std.specs.Prelude.{ℕ, nat_eq, ◌&&◌, Bool, false, List, map, filter, flat_map, find, Option}
 use Rattle.std.specs.Option.{option_map_or}
 use Rattle.cst_core.specs.Path.{Path}

@@ -1,11 +1,16 @@
 -- The tree that a set of numbered aims makes of an old one, all of them at once.
---     NumberedAim, numbers          an aim and the number that it goes by; the numbers alone
---     inserts_at, replacements_at   the numbers of those that insert into a gap; that replace from a path on
---     is_replaced                   some aim replaces this path
---     gap_order                     the order of several inserts of one gap
---     gap, slot                     what stands in a gap; in a child's slot
---     rewritten, rewritten_whole    each child list anew from gap 0, slot 0, gap 1, slot 1, .., the last gap; the same where the top may be replaced
---     rewritten_from                the children from a slot on
+--     NumberedAim, numbers          An aim with the number of its change; the numbers alone.
+--     inserts_at, replacements_at   The numbers of the changes that insert into a gap; of those whose first target is a path.
+--     is_replaced                   Some change replaces this path.
+--     gap_order                     The order of several inserts into one gap: the recorded order. This definition alone says so.
+--     gap, slot                     The elements in a gap: those of its inserts, in that order. In a child's slot: those of the replacement
+--                                   that starts there, none if one starts earlier, else the child.
+--     rewritten, rewritten_from     A tree with every child list made anew at once: gap 0, slot 0, gap 1, slot 1, .., the last gap; the
+--                                   same of children from a slot on.
+--     rewritten_whole               The same where the top itself may be replaced.
+--
+-- In `rewritten`, `label_at` labels what is kept, and `given` says which elements each change adds. Inserting `x` and
+-- then `y` after `R/0`: gap 1 has `x` and then `y`, and the text is `(xy1, 2)`.
 use Rattle.std.specs.Prelude.{ℕ, suc, Bool, cond, List, [], ◌∷◌, ◌++◌, map, filter, flat_map}
 use Rattle.std.specs.List.{list_any}
 use Rattle.green_tree.specs.Path.{Path}

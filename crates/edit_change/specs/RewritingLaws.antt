@@ -1,12 +1,17 @@
 -- What the laws of places and of rewriting speak of.
---     StandsThere                   what stands at this path of a payload is there for a target; at the empty path for no insert after the target
---     IsUntouched                   no change aims at a gap of the node at this path or of one below, or over an element below
---     is_at_depth                   what is around a change is above this depth, and what it replaces is not
---     brought_text                  the text of a change's payload
---     filled_text, text_filled      the old text, in which each gap and each replaced range gives a text for each change that aims there;
---                                   the same where the top may be replaced
---     filled_text_from              that of the children from a slot on
---     changed_text                  the text that changes give a tree, where none of them is owned
+--     StandsThere                   A path of a payload is the place of a target (`StandsFor`), but not `.` for an insert after the target
+--                                   itself.
+--     IsUntouched                   No change inserts into a node at this path or below it, and none replaces an element below it.
+--     is_at_depth                   Every path of `surroundings` has fewer slots than a number, and every path of `region` has at least as
+--                                   many.
+--     brought_text                  The text of the payload of a change.
+--     filled_text, filled_text_from  The old text, with a text for each change in its gap or in place of the range that it replaces; the
+--                                   same of children from a slot on.
+--     text_filled                   The same where the top itself may be replaced.
+--     changed_text                  `text_filled` with the payloads of the undropped changes; it is used where none of them is owned.
+--
+-- Deleting `R/1` and replacing `R/3` are both at depth 1. An insert after `R/1` is at depth 2, since `R/1` is one of
+-- its surroundings.
 use Rattle.std.specs.Prelude.{◌≡◌, ◌≢◌, ℕ, suc, nat_lt, Bool, ◌&&◌, not, false, cond, List, [], ◌∷◌, ◌++◌, length, map, flat_map}
 use Rattle.std.specs.List.{list_all}
 use Rattle.cst_core.specs.Path.{Path}

@@ -1,7 +1,9 @@
 -- The topmost elements of a tree that pass a test of their label.
---     holds_at, parent_holds        the element at a path passes; its parent does, and the top has none
---     topmost                       the paths, in document order, of the elements that pass and whose parent does not
---     paths_of                      paths in code
+--     holds_at, parent_holds        The label at a path passes a test; the label of its parent does. The top has no parent.
+--     topmost                       The paths, in document order, of the elements that pass a test and whose parents do not.
+--     paths_of                      Paths in code.
+--
+-- Inserting one element first in `L/1` and replacing `L/4` by two: the topmost new elements are at `1/0`, `4` and `5`.
 use Rattle.std.specs.Prelude.{ℕ, ◌&&◌, Bool, false, not, List, [], ◌∷◌, map, filter, Vec}
 use Rattle.std.specs.Global.{Global}
 use Rattle.std.specs.Option.{option_map_or}

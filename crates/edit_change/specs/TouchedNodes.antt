@@ -1,8 +1,9 @@
 -- How many nodes a pass from the leaves up builds anew for a plan.
---     touched_each                  the nodes touched in several elements by the same aims
---     touched_in                    the nodes touched in the payload of a change by what it owns
---     touched_by                    the nodes touched, over the old tree and the payload of each owner
---     Raises                        a count is raised by no more than this, by just this where a premise holds; at the greatest number it stays
+--     touched_each                  The touched elements of several trees, by the same aims, added up.
+--     touched_in                    The touched elements of a change's payload, by its dependents.
+--     touched_by                    The touched elements of a plan: those of the old tree by the independent changes, and those of every
+--                                   payload (`touched_in`).
+--     Raises                        A count rises by at most a number, and by exactly that number if a premise holds; at 2^64 - 1 it stays.
 use Rattle.std.specs.Prelude.{◌≡◌, ℕ, ◌+◌, ◌≤◌, List, sum_by}
 use Rattle.std.specs.List.{enumerate_from}
 use Rattle.cst_core.specs.Path.{Path}

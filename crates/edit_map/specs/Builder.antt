@@ -1,15 +1,20 @@
 -- How mappings are made.
---     SameCopies                     two mappings give each address the same copy
---     IsMadeOf                       the mapping is what these pairs make, the newest first: the newest pair of an address stands
---     IsPair, ArePairs               a pair of nodes that rises; each pair of a mapping is one
---     AreDistinct                    no address has two pairs
---     IsMapping                      what is true of every mapping in code: both of these
---     Builder                        the parent of the copies, and the pairs so far, the newest first
---     with_pairs                     a builder with more pairs, the newest of them last
---     IsPairUnder, ArePairsUnder     what a builder with this parent asks of a pair; each pair of a builder is such a pair
---     RefusesPair                    why it refuses one: the first of these that is missing
---     RefusesFirst                   why it refuses the first pair that it does not take
---     RefusesChildren                why it refuses inputs and outputs
+--     SameCopies                    Two mappings have the same copy of each address.
+--     IsMadeOf                      A mapping is made of a list of pairs, the newest first: the newest pair of each address wins, and there
+--                                   are no other pairs. Their order is left open.
+--     IsPair, ArePairs              A pair of two nodes that rises; each pair of a mapping is one.
+--     AreDistinct                   No address has two pairs.
+--     IsMapping                     `ArePairs` and `AreDistinct`: this holds for every mapping in code.
+--     Builder                       The parent of the copies, and the pairs so far, the newest first.
+--     with_pairs                    A builder with more pairs, the newest of them last.
+--     IsPairUnder, ArePairsUnder    What a builder asks of a pair: the copy is a child of its parent, and the two are a pair; each pair of
+--                                   a builder meets this.
+--     RefusesPair                   Why a pair is refused: `NotAChild`, else `NotYounger`, else `OtherShape`. `Memory` is returned only for
+--                                   a pair that meets all three.
+--     RefusesFirst                  Why a list of pairs is refused: for the first pair that is not accepted. `Memory` is returned only if
+--                                   that pair and all before it would be accepted.
+--     RefusesChildren               Why inputs and outputs are refused: `MoreInputs`, if there are more inputs than outputs; else as
+--                                   `RefusesFirst` says. `Memory` is returned only if there are not more inputs.
 use Rattle.std.specs.Prelude.{◌≡◌, ◌≢◌, ◌<◌, ◌≤◌, List, ◌∷◌, ◌++◌, length, reverse, All, AllPairs, Contains}
 use Rattle.std.specs.List.{zip}
 use Rattle.cst_core.specs.Tree.{SameShape}

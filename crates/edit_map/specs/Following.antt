@@ -1,9 +1,15 @@
 -- Following of nodes and tokens.
---     asked_paths                    the paths of the nodes that may be mapped, from the top down: those above an element, and a node itself
---     step_among                     the lowest of the ancestors at these paths that has a copy, exchanged for it
---     syntax_step                    the nearest mapped one of these exchanged for its copy, if there is one and the path below leads on in it
---     LeadsTo                        an element is followed to this one, where equal tree numbers have equal trees
---     SyntaxSteps, IsReached         n of these steps lead from one element to another; some do, and no further one is possible
+-- Only nodes are mapped. Where trees of one number differ, a path may lead nowhere in a copy.
+--
+--     asked_paths                   The paths of the nodes that may be mapped: those above an element, and that of a node itself.
+--     step_among                    The lowest of the nodes at some paths that has a copy, exchanged for that copy; the path below is kept.
+--     syntax_step                   `step_among` the asked paths, if the path below leads to an element in the copy.
+--     LeadsTo                       If equal numbers mean equal trees, the second element is what the first is `followed` to.
+--     SyntaxSteps, IsReached        n of these steps lead from one element to another; some number of them does, and no further one is
+--                                   possible.
+--
+-- With `R/1` mapped to child 1 of `(7)`, the token `R/1/0` is followed to the token `1/0` of `(7)`. `R/4` is followed
+-- to itself.
 use Rattle.std.specs.Prelude.{◌≡◌, ℕ, zero, suc, List, ◌∷◌, filter_map, Option, None, option_map, option_and_then, IsSomeAnd}
 use Rattle.cst_core.specs.Path.{Path, above, up_to, last_item}
 use Rattle.cst_core.specs.Element.{Element, NumbersTell}

@@ -1,16 +1,29 @@
 -- Which element of a younger tree is the copy of which one.
---     Mapping                        pairs of an element and its copy, the newest first: the newest pair of an address wins
---     copy, copied                   the copy of an address, if it has one; the copy's address, or the address itself
---     mapped_elements                the elements of all pairs
---     Rises, IsRising                a copy has a greater tree number and the same shape; each copy does
---     child_address                  the address of a child
---     StandsFor                      what stands in a payload at a path is there for this address
---     path_in                        the path of a place in code, if there is one
---     IsPlace                        the place of a target in a payload, or that there is none
---     below_copy                     an element with one of its ancestors exchanged for a copy
---     step                           the nearest mapped ancestor-or-self of an element exchanged for its copy, if there is one
---     Steps, IsFollowed              n steps lead from one element to another; they do, and no further step is possible
---     followed, followed_within      the element that is reached where no step is possible; after at most n steps
+--     Mapping                       Pairs of an element and its copy, the newest first. The newest pair of an address wins.
+--     copy, copied                  The copy of an address, if it has one; the address of the copy, or else the address itself.
+--     mapped_elements               The elements of all pairs, originals and copies.
+--     Rises, IsRising               A copy has a greater tree number than its original, and the same shape; every copy has.
+--     child_address                 The address of the child in a slot.
+--     StandsFor                     At this path of a payload is the place of an address. The paragraph under the table explains it.
+--     path_in                       The path of a place in code, if there is one.
+--     IsPlace                       A target has this place in a payload; if no path is named, it has none.
+--     below_copy                    An element, where itself or an element above it is exchanged for a copy; the path below is kept.
+--     step                          The lowest of an element and the elements above it that has a copy, exchanged for that copy; the path
+--                                   below is kept.
+--     Steps, IsFollowed             n steps lead from one element to another; some number of steps does, and no further step is possible.
+--     followed, followed_within     The end of an element's steps, after at most as many as there are pairs; the element after at most n
+--                                   steps.
+--
+-- `StandsFor`: at the path `.` a payload is the place of itself. Its child i is the place of every address whose copy
+-- is that child, and of the child itself if the child has no copy. From such an address, the rest of a longer path
+-- leads on in the same way.
+--
+-- Let `(7)` be an argument list of a later tree. With `R/1` mapped to child 1 of `(7)`, the place of `R/1` in `(7)` is
+-- `1`. If the payload is that copy itself, `R/1` has no place in it. Without a mapping, an element has a place in a
+-- payload of the same tree: `R/1` has the place `1` in `R`, and `.` in `R/1`.
+--
+-- A copy of a copy is no place, though following leads to it: with `R/2` mapped to `S/0`, and `S/0` to `V/0`, the
+-- element `R/2` is followed to `V/0`, but has no place in `V`.
 use Rattle.std.specs.Prelude.{◌≡◌, ℕ, zero, suc, ◌<◌, List, [], ◌∷◌, ◌++◌, map, length, drop, find, filter_map, Option, None, option_map, MatchOption, IsSomeAnd, All, Vec}
 use Rattle.std.specs.Global.{Global}
 use Rattle.std.specs.Option.{option_map_or}

@@ -1,7 +1,9 @@
 -- The refusal of an edit that stands for one of what it stands on.
---     of_clash                      for that of an index of what changes replace
---     of_tree                       for that of its new tree
---     of_engine                     for that of the engine that makes the tree
+--     of_clash, of_tree, of_engine  The `EditError` for a `ClashError`; for a `TreeError`; for an `EngineError`.
+--
+-- A plan with two deletions of `R/1` is refused: `Intersecting` with the changes 0 and 1. Inserting `x` first in `R/1`
+-- and replacing `R/1` by a node to which nothing is mapped is refused: `MissingMapping` with the change 0 and its owner
+-- 1.
 use Rattle.cst_core.specs.TreeError.{TreeError}
 use Rattle.cst_core.specs.TreeError.TheVariants as tree
 use Rattle.edit_change.specs.declared.clash_error.ClashError.{ClashError}

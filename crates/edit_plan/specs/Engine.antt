@@ -1,9 +1,20 @@
 -- What an engine makes of a plan.
---     IsRewritten                   a tree with changed and annotated paths is what a plan makes
---     HasRewritten                  the same, of values in code
---     EngineRefuses                 why an engine does not carry a plan out
---     RanBefore                     the one run of an engine that came before a refused edit: what it answered goes by the refusal
---     CountsTouched, CountsRun      how carrying a plan out in one pass raises a count of nodes; what a run of such an engine does to its count
+-- An engine that you supply must keep the law of the trait `EditEngine`: its result meets `HasRewritten` and has a text
+-- below the limit, and its refusal meets `EngineRefuses`. `E.runs` is what else a run of an engine `E` promises; for
+-- `OnePassEngine` that is `CountsRun`.
+--
+--     IsRewritten                   A tree is that of `WouldMake` without origins, the changed paths are those of `changed`, every
+--                                   annotated path leads to an element, and its annotation `is_registered`. Only the annotated paths need
+--                                   equal numbers to mean equal trees: then they are `annotated`.
+--     HasRewritten                  The same of values in code.
+--     EngineRefuses                 Why an engine does not carry a plan out: `MakesTooLong`.
+--     RanBefore                     What is known of the one run of an engine before a refused edit: it had no answer for `TooLong`, and an
+--                                   answer for `NoTreeNumber`.
+--     CountsTouched, CountsRun      One pass raises a count of built nodes by at most `touched_by`, and by exactly that where equal numbers
+--                                   mean equal trees; the same of a run, where a refused run leaves the count.
+--
+-- Replacing `R/1` touches one node, and builds it. A replaced root that owns nothing touches none. As aims in one tree,
+-- an insert into `R/1` and a replacement of `R/1` touch two nodes, and one of these is built.
 use Rattle.std.specs.Prelude.{◌≡◌, ℕ, Bool, true, false, List, map, All, IsSome, MatchBool, Vec}
 use Rattle.std.specs.Global.{Global}
 use Rattle.cst_core.specs.Path.{Path}

@@ -1,17 +1,22 @@
 -- Plans and the edits that they make, as contracts see them, and what is refused.
---     Plan, IsPlan                  the root, the changes, the registrations (elements with annotations) and the mapping; what is true of every plan
---     new_plan                      the plan of these, where code has the lists
---     with_changes                  a plan with other changes
---     BuildRefuses                  why a plan is not built
---     Edit                          the old root, the new root, the changed elements, and for annotations the elements that are found
---     new_edit                      the edit of these, where code has the list of the changed elements
---     stand_in                   the element of the new tree that stands for an old one
---     registered_elements                    registrations, by the values of their elements
---     is_registered                 something is registered with the annotation
---     WouldMake                     the tree that a plan makes, with its origins
---     MakesTooLong                  the text of that tree passes the limit
---     Makes                         the edit is what the plan makes of the old tree, under a tree number
---     RunRefuses                    why a plan is not carried out, where this is the next tree number
+--     Plan, new_plan                A root, changes, registrations (elements with annotations) and a mapping; the plan of these, where code
+--                                   has the lists.
+--     IsPlan                        What holds for every plan: its root is the top node of a tree, each change fits that tree, no two
+--                                   clash, each owned change has its place, and `IsMapping` holds.
+--     with_changes                  A plan, with other changes.
+--     BuildRefuses                  Why a list of changes is no plan: `Intersecting` with the first clash; if there is none,
+--                                   `MissingMapping` with the first change without a place.
+--     Edit, new_edit                An old root, a new root, the changed elements, and the elements found for annotations; the edit of
+--                                   these, where code has the lists.
+--     stand_in                      The first node of the new tree that has the kind and the start of an old one, if there is one.
+--     registered_elements           The registrations, with `Element` in place of `SyntaxElement`.
+--     is_registered                 A plan has a registration with this annotation.
+--     WouldMake                     The new tree of a plan, with origins; its owners have places as in `ArePlaces`.
+--     MakesTooLong                  The new tree of a plan is too long.
+--     Makes                         An edit is what a plan makes under a tree number. 'What finishing promises' goes through it clause by
+--                                   clause.
+--     RunRefuses                    Why a plan is not carried out: `TooLong`, if the new tree is too long; `NoTreeNumber`, if it is not and
+--                                   the source is spent.
 use Rattle.std.specs.Prelude.{◌≡◌, ℕ, nat_eq, Bool, false, List, [], ◌∷◌, map, Option, Some, None, option_map, All, Vec}
 use Rattle.std.specs.List.{list_any}
 use Rattle.std.specs.Global.{Global}

@@ -1,9 +1,15 @@
 -- The text of a plan: a line for each change.
---     slot_text, path_text          a slot after `/`; the slots of a path with `/` between them, `.` for the top
---     position_text                 the form of a position, and the path of what it is in or after
---     what_text                     what a change does, and where
---     fate_text                     what becomes of the change at a number, unless it is carried out on the tree
---     line_text, plan_text          the line of a change with its number; those of a plan
+-- `{}` of a plan prints a line for each change, in the order of their numbers. Paths are those of the old tree.
+--
+--     slot_text, path_text          A slot after `/`; the slots of a path with `/` between them, or `.` for the root.
+--     position_text                 ` first ` and the path of a node, or ` after ` and that of an element.
+--     what_text                     What a change does, and where: `insert`, `insert_all`, `delete`, `replace`, `replace_with_many` or
+--                                   `replace_all`, with a position, the path of the target, or those of both ends of a range.
+--     fate_text                     `, dropped`; `, along with 2` for a change that moves along with change 2; nothing for one that is
+--                                   carried out on the tree.
+--     line_text, plan_text          The line of a change: its number, `what_text` and `fate_text`; those of a plan.
+--
+-- If `R/4/0` is deleted and then `R/4`, the text is `0 delete 4/0, dropped` and, on the second line, `1 delete 4`.
 use Rattle.std.specs.Prelude.{ℕ, false, cond, List, [], ◌∷◌, ◌++◌, flat_map, slice_get, Some, None, is_some, option_and_then, codes, decimal}
 use Rattle.std.specs.List.{enumerate_from}
 use Rattle.std.specs.Option.{option_map_or}

@@ -1,6 +1,9 @@
 -- The text edits of a plan.
---     AreTextEdits                  edits are what the changes of a plan do to its text
---     AreApart                      pieces are in order from an offset on up to another one, and none starts before the one before it ends
+--     AreTextEdits                  Edits are `text_pieces` of a plan.
+--     AreApart                      Pieces are in order from an offset on up to another one, and none starts before the one before it ends.
+--
+-- In `R` with the text `(1, 2)`: an insert of `()` before `R/1`, the deletion of `R/3` and the replacement of `R/4` by
+-- `3` are the edits 1 to 1 `()`, 3 to 4 with nothing, and 4 to 5 `3`.
 use Rattle.std.specs.Prelude.{◌≡◌, ◌≤◌, ℕ, List, [], ◌∷◌, map}
 use Rattle.cst_core.specs.Path.{Path}
 use Rattle.edit_change.specs.Places.{ArePlaces}

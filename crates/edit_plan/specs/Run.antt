@@ -1,14 +1,19 @@
 -- A plan that is carried out one change at a time, as contracts see it.
---     Run                           the plan, of each change whether it is done, and how many nodes were built
---     new_run                       one in which nothing is done
---     is_done                       the change at a number is done
---     IsRun                         what is true of every run
---     TellsReady, CanStep           an answer tells whether a change can be the next; it can be
---     next_ready                    the least change that can be the next
---     ShowsTree, IsPayloadAt         the tree at this stage; the payload of a change at this stage
---     ShowsPayload                  the same of a payload in code, which there is exactly if other changes can be carried out in it
---     way_length                    one more than the length of the path of the node whose children a change alters: 0 for a replaced root
---     CountsWay, CountsStep         how a count rises by the way to a change; by a step
+--     Run, new_run                  A plan, for each change whether it is done, and how many nodes the steps built; a run in which nothing
+--                                   is done.
+--     is_done                       The change of this number is done.
+--     IsRun                         What holds for every run: its plan is a plan; no dropped change is done; and if a change is done, so
+--                                   are all that must come before it (`comes_first`).
+--     TellsReady, CanStep           A result says whether a change may be the next one of a run (`is_ready`); the change may be.
+--     next_ready                    The least change that may be the next one, if any may.
+--     ShowsTree                     A tree is the `stage_tree` of what is done, without origins, whatever the order of the steps was.
+--     IsPayloadAt                   A tree is the `stage_payload` of what is done, without origins.
+--     ShowsPayload                  A run shows a payload exactly for a change that `has_stage`, and then it is `IsPayloadAt`.
+--     way_length                    One more than the length of the path of the node whose child list a change alters, in its owner's
+--                                   payload or in the tree; 0 for a replaced root.
+--     CountsWay                     A count of built nodes rises by `way_length` where equal numbers mean equal trees. Otherwise it stays
+--                                   the same if the change aims at nothing in its owner's payload.
+--     CountsStep                    A step raises the count of a run so.
 use Rattle.std.specs.Prelude.{◌≡◌, ◌+◌, ℕ, Bool, true, false, List, [], ◌∷◌, map, length, sum_by, slice_get, slice_index_or, find, Option, Some, option_map, is_some, IfSome, IsSomeAnd}
 use Rattle.std.specs.List.{enumerate_from}
 use Rattle.std.specs.Borrow.{Bor}

@@ -1,10 +1,18 @@
 -- The order in which changes are carried out where none is asked for: from the last in the document to the first.
---     gap_path                      the path of the slot that a gap stands before
---     document_path                 of a change: this path, or that of the first element that it replaces
---     fills_gap                     the change is an insert
---     stands_ahead                  document order of changes: a gap stands before its slot
---     default_first                 the first change comes before the second: it stands after it, or both fill one gap and it stands last there
---     IsDefaultOrder                an order of each undropped change that goes by `default_first`
+--     gap_path, document_path       The path of the slot after a gap; the path of the slot after an insert's gap, or of the first element
+--                                   that a replacement replaces.
+--     fills_gap                     The change is an insert.
+--     stands_ahead                  One change comes before another by `document_path`, in document order; at one path an insert comes
+--                                   before a replacement.
+--     default_first                 The second change is ahead of the first; or neither is ahead of the other, and the first comes last in
+--                                   their gap.
+--     IsDefaultOrder                An order `ListsEachOnce`, and respects `default_first`.
+--
+-- The refusals of an order are, in this order, `NotEachOnce`, `OwnerTooEarly`, `GapOutOfOrder` and `TokenTooEarly`.
+--
+-- Of two inserts into one gap, `x` recorded before `y`, the order 1 0 is allowed and 0 1 is not. An insert after a
+-- deleted comma comes before the deletion. Of an insert before `R/1` and one before `R/4`, recorded in this order, the
+-- default order is 1 0.
 use Rattle.std.specs.Prelude.{ℕ, suc, Bool, true, false, not, ◌&&◌, ◌||◌, List, [], ◌∷◌, ◌++◌, IsTrue}
 use Rattle.cst_core.specs.Path.{Path, same_path, precedes, parent_path, last_slot}
 use Rattle.cst_core.specs.SyntaxElement.{element_of}

@@ -1,5 +1,6 @@
 -- Why an order is refused.
---     OrderRefuses                  the first part of an allowed order that it is not; or that memory ran out
+--     OrderRefuses                  Why an order is not allowed: the first of these four that does not hold, each tested over the whole
+--                                   order.
 use Rattle.std.specs.Prelude.{◌≡◌, ℕ, false, List, IsTrue}
 use Rattle.edit_change.specs.declared.change.Change.{Change}
 use Rattle.edit_steps.specs.Schedule.{ListsEachOnce, respects, owned_first, gap_first, token_first}

@@ -1,15 +1,22 @@
 -- In which orders the changes may be carried out one at a time.
---     owned_first, gap_first, token_first      the first change has to be carried out before the second: it is owned by it;
---                                   it inserts into the same gap and stands last there; it inserts after a token that the other replaces
---     last_in_gap, stands_last      of two inserts of one gap, the one that stands last; the first one is that
---     token_before, anchor_token    the token that a position is after; that an insert stands after
---     comes_first                   one of these
---     index_in                      where a number stands in the order, or the length of the order
---     stands_before                 in the order, the one number stands before the other
---     ListsEachOnce, respects       the order has each undropped change once and nothing else; it keeps to such a test
---     IsAllowed                     an allowed order
---     is_complete                   each change that is not dropped is in a set
---     is_ready                      what must come before a change is done, and it is not
+--     owned_first                   The first change must be carried out before the second, because the second owns it.
+--     gap_first                     The first change must come before the second, because both insert into one gap and the first comes last
+--                                   there. Each insert goes to the front of its gap.
+--     token_first                   The first change must come before the second, because the first inserts after a token that the second
+--                                   replaces.
+--     last_in_gap, stands_last      Of two inserts into one gap, the one that comes last there by `gap_order`; the first of the two is that
+--                                   one.
+--     token_before, anchor_token    The path of the token that a position directly follows, if any; of the token that an insert directly
+--                                   follows.
+--     comes_first                   One of these three holds.
+--     index_in, stands_before       The index of a number in an order, or the order's length if it is not there; the index of one number is
+--                                   less than that of another.
+--     ListsEachOnce                 An order has each undropped change once and nothing else.
+--     respects                      Where a test puts one undropped change before another, the order does too.
+--     IsAllowed                     An order `ListsEachOnce`, and respects `owned_first`, `gap_first` and `token_first`.
+--     is_complete                   Every undropped change is done.
+--     is_ready                      A change may be the next one: it is neither dropped nor done, and every change that comes first is
+--                                   done.
 use Rattle.edit_change.specs.Nesting.{Numbered, undropped, is_dropped, has_owner}
 use Rattle.std.specs.Prelude.{◌≡◌, ℕ, Bool, false, not, ◌&&◌, ◌||◌, nat_eq, nat_lt, min, max, List, [], ◌∷◌, count_by, Option, Some, None, IsTrue}
 use Rattle.std.specs.List.{list_all, position_or_len}

@@ -1,6 +1,9 @@
 -- How many nodes are built where one change is carried out.
---     is_child, is_live             there is such a child; an aim leads to a gap or a slot that is there
---     step_builds                   the node whose children an aim alters and those above it; none if the aim is not live
+--     is_child, is_live             A path leads to an element below the top; an aim leads to a gap or a slot that is there.
+--     step_builds                   How many nodes are built where one aim is carried out: the altered node and those above it, none if the
+--                                   aim is not live.
+--
+-- In `L` an insert after `L/1/0` builds 2 nodes, and one after `L/2/0` none, since `L/2` is a token.
 use Rattle.std.specs.Prelude.{◌+◌, ℕ, Bool, true, false, cond, not, [], ◌∷◌, length, sum_by}
 use Rattle.std.specs.Option.{option_map_or}
 use Rattle.green_tree.specs.Path.{Path}

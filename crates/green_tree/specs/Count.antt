@@ -1,5 +1,5 @@
 -- Counts of nodes that are built.
---     counted        a count after n more: at the greatest number it stays
+--     counted                       A count after n more; at 2^64 - 1 it stays.
 use Rattle.std.specs.Prelude.{ℕ, ◌+◌, ◌-◌, ◌^◌, min}
 
 abbrev pub counted : ℕ → ℕ → ℕ

@@ -1,11 +1,13 @@
 -- What shared trees stand for.
---     Leaf, Branch                a token's kind and bytes; a node's kind and its children
---     leaf_tree, branch_tree      the trees of these
---     spliced                     a node with trees in the place of the children from a slot up to another one, which stays
---     texts                       the texts of trees, one after another
---     length_limit                the least length in bytes that no tree of an element value has
---     IsTooLong                   a text has that length or a greater one
---     capped_length               how many bytes a text has, as far as the limit
+--     Leaf, Branch                  What a contract sees of a shared token: its kind and bytes. Of a shared node: its kind and children.
+--     leaf_tree, branch_tree        The tree of a shared token; of a shared node.
+--     spliced                       A node with other trees in place of its children from one slot up to another, which is kept.
+--     texts                         The texts of several trees, one after another.
+--     length_limit, IsTooLong       4,294,967,296; a text has at least that many bytes.
+--     capped_length                 The lesser of a text's number of bytes and that limit.
+--
+-- The text of `L` is `(1, 2)`, of 6 bytes. `at L 1/0` is the token INT_NUMBER `1`; `at L 0/0` is nothing. `L` has the
+-- shape of `(7, 8)` with the same kinds, and not that of `(7)`.
 use Rattle.std.specs.Prelude.{ℕ, ◌++◌, ◌≤◌, min, take, drop, List, length}
 use Rattle.green_tree.specs.Tree.{SyntaxTree, Token, node, forest, forest_text}
 

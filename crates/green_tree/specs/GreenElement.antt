@@ -1,5 +1,5 @@
 -- What shared elements stand for.
---     element_tree, element_trees   the tree of an element; the trees of several
+--     element_tree, element_trees   The tree of a shared element; of several.
 use Rattle.std.specs.Prelude.{List, map}
 use Rattle.green_tree.specs.Tree.{SyntaxTree}
 use Rattle.green_tree.specs.Green.{branch_tree, leaf_tree}

@@ -1,5 +1,5 @@
 -- What borrowed elements stand for.
---     ref_tree                    the tree of such an element
+--     ref_tree                      The tree of a borrowed element.
 use Rattle.green_tree.specs.Tree.{SyntaxTree}
 use Rattle.green_tree.specs.Green.{branch_tree, leaf_tree}
 use Rattle.green_tree.specs.declared.green.GreenElementRef.{GreenElementRef}

@@ -1,8 +1,11 @@
 -- The kinds and their names.
---     named_kinds    each kind that has a name, beside that name
---     kind_names     the names, in the order of the kinds' numbers
---     name_of        the name at a number
---     kind_text      the name, or how a kind without one is shown
+--     named_kinds                   Each kind that has a name, as its constant, with that name.
+--     kind_names, name_of           The names in the order of the kinds' numbers; the name of a number, if it has one.
+--     kind_text                     What `{:?}` writes of a kind: its name, or `SyntaxKind(65)` if it has none.
+--
+-- Kind 28 is `SyntaxKind::ARG_LIST` and has that name. Kind 65 has no name, and nodes and tokens may have it. Two laws
+-- of `cst_core::laws` say that the names in code are `kind_names` (`names_stand_at_their_numbers`), and that each
+-- constant has the number of its name (`constants_have_their_names`).
 use Rattle.std.specs.Prelude.{ℕ, List, [], ◌∷◌, ◌++◌, Option, map, slice_get, unwrap_or, codes, decimal}
 use Rattle.green_tree.specs.declared.kind.SyntaxKind.{SyntaxKind}
 use Rattle.green_tree.specs.declared.kind.TheConstants.SyntaxKind as Kinds

@@ -1,7 +1,12 @@
 -- The elements of a tree by where their texts stand, in bytes from the tree's start.
---     length_at                   how many bytes the text of the element at a path has
---     touches                     the text is not empty, begins at an offset or before it, and ends there or after it
---     covers                      the text contains a range of bytes
+--     length_at                     How many bytes the text of the element at a path has.
+--     touches                       A text is not empty, starts at an offset or before it, and ends there or after it.
+--     covers                        A text contains a range from its first byte up to its end.
+--
+-- Each token of `L` has one byte. At byte 1 the tokens `0` and `1/0` touch, at byte 0 only the token `0`. In `(ARG_LIST
+-- L_PAREN"(" COMMA"" R_PAREN")")` the tokens `0` and `2` touch at byte 1, since the comma is empty. Bytes 1 to 2 of `L`
+-- are covered by `.`, `1` and `1/0`, of which `1/0` is the last. Bytes 1 to 3 are covered by `.` alone, and the empty
+-- range at byte 1 by `.`, `0`, `1` and `1/0`.
 use Rattle.std.specs.Prelude.{ℕ, ◌+◌, Bool, ◌&&◌, nat_lt, nat_le}
 use Rattle.std.specs.Option.{option_map_or}
 use Rattle.green_tree.specs.Path.{Path}

@@ -1,7 +1,10 @@
 -- The nodes and the tokens of a tree in document order.
---     node_paths, token_paths             the paths of the nodes, and of the tokens
---     tokens_before, tokens_after         the paths of the tokens that stand before the element at a path; after it
---     start                               where the element at a path starts: how many bytes the tokens before it have
+--     node_paths, token_paths       The paths of all nodes in document order; of all tokens.
+--     tokens_before, tokens_after   The paths of the tokens before the element at a path; of those after it, which include those below it.
+--     start                         Where an element starts: how many bytes the tokens before it have.
+--
+-- The tokens of `L` are at `0`, `1/0`, `2`, `3`, `4/0` and `5`. The first four come before `L/4`, so it starts at byte
+-- 4. The last two come after it, and the first of these is inside it.
 use Rattle.std.specs.Prelude.{ℕ, false, not, List, length, filter, sum_by}
 use Rattle.std.specs.Option.{option_map_or}
 use Rattle.green_tree.specs.Path.{Path, precedes}

@@ -1,13 +1,17 @@
 -- Paths of child slots, counted from 0. The empty path leads to the top.
---     Path                        a list of slots, from the top down
---     same_path, has_path         whether two paths are equal; whether a path is in a list
---     precedes                    document order: an element stands before all that is below it, and what is below one child before the next child
---     parent_path, last_slot      the path of the parent, and the slot in it (the empty path and 0 at the top)
---     next_path, previous_path    the path of the sibling one slot on, one slot back
---     up_to, above                the paths on the way to an element, from the top down: with the element itself, and without it
---     counted_from                the numbers from one on, n of them
---     siblings                    the paths from the first sibling to the last
---     first_item, last_item       the first and the last item of a list
+--     Path                          The child slots on the way from the top of a tree to an element, counted from 0.
+--     same_path, has_path           Two paths are equal; a list has this path.
+--     precedes                      Document order: an element comes before everything below it, and what is below one child comes before
+--                                   the next child.
+--     parent_path, last_slot        The path without its last slot; that slot. For `.` they are `.` and 0.
+--     next_path, previous_path      The path of the next sibling; of the previous one. `.` has neither, and slot 0 has no previous one.
+--     above, up_to                  The paths of all elements above a path, from the top down; the same with the path itself at the end.
+--     counted_from                  n numbers, each one greater than the one before it, from a first number on.
+--     siblings                      The paths from a first sibling to a last one.
+--     first_item, last_item         The first item of a list, if there is one; the last one.
+--
+-- The path `1/0` has the parent path `1` and the last slot 0. In `L` the paths before it in document order are `.`, `0`
+-- and `1`.
 use Rattle.std.specs.Prelude.{ℕ, zero, suc, ◌-◌, ◌&&◌, ◌||◌, Bool, true, false, List, [], ◌∷◌, ◌++◌, map, nat_eq, nat_lt, Option, Some, None}
 use Rattle.std.specs.List.{list_any}
 use lib.Pointwise.{pointwise}

@@ -1,17 +1,17 @@
 -- Trees of a source text. Each element carries a label: in a plain tree its kind, in a rewritten one also where it came from.
---     Tree, Forest                   a token with its bytes, or a node with its children; the children in order
---     SyntaxTree                     a tree whose labels are the kinds
---     trees, forest                  the children as a list, and back
---     node                           a node from the list of its children
---     label, children, is_token      of the element at the top
---     text, text_length              the bytes of all tokens, in order, and how many they are
---     forest_text                    those of trees side by side
---     at                             the element that a path leads to
---     paths, paths_from              the paths of all elements in document order: preorder, the top first; those of children from a slot on
---     tokens, forest_tokens          the labels and texts of all tokens, in document order; those of trees side by side
---     relabelled, forest_relabelled  the tree with a function of each label in its place; trees side by side
---     without_texts, SameShape       the tree with each text empty; equal but for the texts
---     forest_without_texts           trees side by side, with each text empty
+--     Tree, Forest                  A token with a label and bytes, or a node with a label and children; trees side by side.
+--     SyntaxTree                    A tree whose labels are kinds.
+--     trees, forest, node           The trees of a forest as a list; the forest of a list; the node with a label and a list of children.
+--     label, children, is_token     Of the top of a tree: its label; its children in order, none for a token; whether it is a token.
+--     text, text_length             The bytes of all tokens in document order; how many they are, without a limit.
+--     forest_text, forest_tokens, forest_relabelled, forest_without_texts  `text`, `tokens`, `relabelled` and `without_texts` of trees side
+--                                   by side.
+--     at                            The part of a tree that a path leads to, if there is one.
+--     paths                         The paths of all parts in document order, the top first.
+--     paths_from                    The paths in trees side by side, of which the first is in a given slot.
+--     tokens                        The label and the bytes of each token, in document order.
+--     relabelled                    The tree with a function applied to each label.
+--     without_texts, SameShape      The tree with every text empty; two trees have equal kinds and child lists, whatever their texts.
 use Rattle.std.specs.Prelude.{◌≡◌, ℕ, suc, Bool, true, false, List, [], ◌∷◌, ◌++◌, map, length, slice_get, Option, Some, option_and_then}
 use Rattle.green_tree.specs.Path.{Path}
 

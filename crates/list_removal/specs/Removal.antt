@@ -1,11 +1,32 @@
 -- An element of a separated list that is removed with one separator beside it.
---     is_token_of, if_token_of              an element is a token of this kind; an element, if there is one and it is such a token
---     past_whitespace                       the sibling a step on from an element, or, where that is a whitespace token, one step further
---     next_separator, previous_separator    this sibling, on and back, where it is a token of the separator's kind
---     with_whitespace_after                 the whitespace token directly after an element, or the element itself where there is none
---     removed_run                           the first and the last of the siblings that go
---     removal                               the one call that deletes them
---     RemovalRefuses                        why it is refused, that memory ran out among it
+--     is_token_of, if_token_of      An element is a token of this kind, which no node is; an element, if there is one and it is such a
+--                                   token.
+--     past_whitespace               The sibling one step from an element. If that is a WHITESPACE token, the sibling one step further.
+--     next_separator, previous_separator  `past_whitespace` after an element, if it is a token of the separator's kind; the same before it.
+--     with_whitespace_after         The WHITESPACE token directly after an element, or the element itself if there is none.
+--     removed_run                   The first and the last sibling that are deleted: the first line that fits in the table below.
+--     removal                       The call that deletes them: `DeletingAll`, so an element alone is deleted as by `delete`.
+--     RemovalRefuses                Why a removal is refused: `Foreign`, else `DeletesRoot`, as `refusal` says of that call.
+--
+-- | beside the element | first | last |
+-- |---|---|---|
+-- | a next separator | the element | the WHITESPACE token directly after the separator, or the separator |
+-- | a previous separator | the separator | the element |
+-- | neither | the element | the element |
+--
+-- The siblings are read in the element's tree. If that tree has the number of the editor's tree but is another tree,
+-- the call is `Foreign` also if the other end of the run is not in the editor's tree. This cannot happen where equal
+-- numbers mean equal trees.
+--
+-- With COMMA as the separator, `R/1` is deleted with `R/2` and `R/3`, and the text is `(2)`. `R/4` has no comma after
+-- it, so it is deleted with the comma before it: the space `R/3` is skipped, the run is `R/2` to `R/4`, and the text is
+-- `(1)`. Both removals together clash, since both runs have `R/2`. With SEMICOLON, `R/1` is deleted alone: `(, 2)`. `R`
+-- itself: `DeletesRoot`. A child of `()`: `Foreign`.
+--
+-- In `1,2,1` the `2` is deleted with the comma after it. If two WHITESPACE tokens are before the comma, `1` is deleted
+-- alone; if two are after it, the first of them is deleted too. With WHITESPACE as the separator, the token beside the
+-- element is skipped first: with one such token between `1` and `2`, `1` is deleted alone; with two, it is deleted with
+-- both.
 use Rattle.std.specs.Prelude.{◌≡◌, Bool, false, ◌==◌, cond, Option, Some, None, option_and_then, unwrap_or}
 use Rattle.cst_core.specs.Tree.{label}
 use Rattle.cst_core.specs.Element.{Element, subtree}

@@ -1,6 +1,8 @@
 -- What a removal leaves of a text.
---     end_of             where the element at a path ends, in bytes from the start of the tree's text
---     text_without       the tree's text without what stands from the start of one element to the end of another
+--     end_of                        Where the element at a path ends, in bytes from the start of the tree's text.
+--     text_without                  A tree's text up to the start of one element, and then what follows the end of another.
+--
+-- The removal of `R/1` with COMMA cuts the bytes 1 to 3 of `(1, 2)`, counted from 0, both included.
 use Rattle.std.specs.Prelude.{ℕ, ◌+◌, List, ◌++◌, take, drop}
 use Rattle.std.specs.Option.{option_map_or}
 use Rattle.cst_core.specs.Path.{Path}

@@ -1,13 +1,19 @@
 -- What a set of changes does to the text of the old tree, piece by piece.
---     TextPiece, as_piece           a text that stands in the place of what is from one offset of the old text up to another one; a text edit in code
---     in_text_order                 the changes without an owner, from left to right: as what they give stands in the new tree
---     number_token                  a change as one token
---     offset                        where what a change takes away starts, or where it inserts
---     old_text                      what it takes away
---     text_piece                    what a change does to the text, with all that it owns carried out in its payload
---     altering_pieces               the same, if that is another text
---     text_pieces                   those of all changes without an owner
---     applied_from, applied         the text that pieces make of an old one, of which this many bytes are gone; of a whole one
+-- What an editor of texts has to do, so that its text becomes that of the new tree. Offsets are in bytes of the old
+-- text.
+--
+--     TextPiece, as_piece           A text that stands in the place of what is from `first` up to `stop` in the old text; a `TextEdit` of
+--                                   code as one.
+--     in_text_order                 The changes without an owner, from left to right: the numbers in the tree that is rewritten with
+--                                   `number_token` in the place of what each change gives.
+--     number_token                  A change stands as one token, whose label is its number.
+--     gap_offset, offset            Where a gap is: at the start of a node, or at the end of an element. Where a change starts: at its gap,
+--                                   or at the start of the first element that it replaces.
+--     old_text                      The texts of the elements that a change replaces; nothing for an insert.
+--     text_piece                    What a change does: from `offset` on, the new text stands in the place of `old_text`.
+--     altering_pieces               That, if the two texts differ, and else nothing.
+--     text_pieces                   Those of all changes in `in_text_order`. The new text of each is that of what it gives (`given`).
+--     applied_from, applied         The text that pieces make of an old text, of which the first `gone` bytes are gone; of a whole one.
 use Rattle.std.specs.Prelude.{ℕ, ◌+◌, ◌-◌, cond, List, [], ◌∷◌, ◌++◌, length, take, drop, flat_map, slice_get, string_bytes}
 use Rattle.std.specs.Option.{option_map_or}
 use Rattle.cst_core.specs.Path.{Path, same_path}

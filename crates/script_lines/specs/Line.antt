@@ -1,20 +1,20 @@
 -- How a line of a script is written.
---     line_text           a line without the carriage return at its end, if it has one
---     between             what stands between the bytes of this value in a text: one part more than there are such bytes
---     is_empty            a text has no byte
---     words               what stands between the spaces of a text and is not empty
---     fields              the words of a line
---     is_comment          a field begins a comment
---     no_command          there are no fields, or the first one begins a comment
---     is_blank            a line is empty or a comment
---     Each                a relation of the elements of two lists, one by one
---     IsNumber            decimal digits of a number below 2 ^ 64
---     IsRef               a name, and then the slots of a path, with a `/` between
---     IsGap               two fields for a position: a word, and the element beside it
---     IsSpaces            nothing but spaces
---     IsLineTree          an expression of a tree, in which no more than 200 parentheses are open at once
---     IsTreeLine          a line for a new tree, whose expression is the rest of the line and may have spaces
---     IsLine              a line says this
+--     line_text                     A line without the carriage return at its end, if it has one.
+--     between                       The parts of a text that stand between the bytes of one value: one part more than there are such bytes.
+--     is_empty, words, fields       A text has no byte; the parts between the spaces of a text that are not empty; the words of a line.
+--     is_comment, no_command, is_blank  A field begins with `#`; there are no fields, or the first one is such; a line with such fields,
+--                                   which does nothing.
+--     Each                          Two lists are equally long, and what stands at one place is related.
+--     IsNumber                      Decimal digits, at least one, of a number below 2^64.
+--     IsRef                         The parts between the slashes of a field are a name and then the numbers of a path.
+--     IsGap                         A word and a field say a position: `first` or `last` and a node, `before` or `after` and an element.
+--     IsSpaces                      Nothing but spaces.
+--     IsLineTree                    An expression of a tree with only spaces between elements and no names of one's own, nested at most 200
+--                                   deep.
+--     IsTreeLine                    A line for a new tree: `tree`, a name and the tree's expression, with spaces between and, if any, at
+--                                   both ends. The expression is the rest of the line, so it may have spaces.
+--     IsLine                        A line says this. It has no other form: the fields of a command are its word and exactly those that it
+--                                   needs.
 use Rattle.std.specs.Prelude.{◌≡◌, ◌≢◌, ℕ, ◌==◌, ◌-◌, ◌<◌, ◌≤◌, ◌^◌, Bool, true, false, not, List, [], ◌∷◌, ◌++◌, length, take, filter, nat_eq, codes, cond, Some}
 use Rattle.std.specs.List.{slice_split, ends_with, starts_with, AllByRecursion}
 use Rattle.std.specs.Str.Parse.{IsNumeral, digits_value}

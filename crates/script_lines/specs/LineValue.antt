@@ -1,7 +1,5 @@
 -- Lines in code, as what they say.
---     ref_of, refs_of        a reference in code; those of a vector
---     gap_of                 a position in code
---     line_of                a line in code
+--     ref_of, refs_of, gap_of, line_of  What a reference in code says; those of a vector; a position in code; a line in code.
 use Rattle.std.specs.Prelude.{List, map, Vec}
 use Rattle.std.specs.Global.{Global}
 use Rattle.cst_core.specs.Green.{branch_tree}

@@ -1,6 +1,6 @@
 -- Names of a script.
---     is_name_byte, starts_with_letter      a letter, a digit or an underscore of ASCII; the first byte is a letter
---     IsName                                at most 32 of these bytes, a letter first
+--     is_name_byte, starts_with_letter, IsName  An ASCII letter, a digit or an underscore; a text begins with a letter; it does, has only
+--                                   such bytes, and at most 32 of them.
 use Rattle.std.specs.Prelude.{ℕ, ◌≤◌, ◌==◌, Bool, false, ◌||◌, List, [], ◌∷◌, length, IsTrue}
 use Rattle.std.specs.List.{AllPass}
 use Rattle.std.specs.Char.{is_ascii_digit, is_ascii_alphabetic}

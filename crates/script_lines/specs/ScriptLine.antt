@@ -1,7 +1,10 @@
 -- What a line of a script says.
---     Ref            the way to an element: the name of a tree, and a path in it
---     Gap            a position: the first or the last gap of a node, the gap before or after an element
---     ScriptLine     what a line says; nothing, if it is empty or a comment
+-- Each line of a script is read by itself, without its newline.
+--
+--     Ref, Gap                      The way to an element: the name of a tree, and a path in it. A position: the first or the last gap of a
+--                                   node, the gap before or after an element.
+--     ScriptLine                    What a line says: nothing (`Blank`), or one of the eleven commands with what it names. A tree stands
+--                                   for itself, names and annotation words are bytes.
 use Rattle.std.specs.Prelude.{ℕ, List}
 use Rattle.cst_core.specs.Path.{Path}
 use Rattle.cst_core.specs.Tree.{SyntaxTree}

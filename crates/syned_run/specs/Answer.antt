@@ -1,18 +1,21 @@
 -- What a run prints, and what becomes of its ends.
---     spaced, paths_text         paths, each after one space
---     Note, note_text            an annotation word with the paths of its elements; the line of these
---     path_of, paths_of          the path of an element; those of elements in turn
---     notes_of                   each of the words that were used with the paths of the elements that its annotation is found at
---     edit_text                  what is printed of an edit: the new text, escaped, the paths of what changed, and the notes
---     refused_text, bad_text     the line of a refusal that prints this; that of a bad line with this number
---     status_of, printed         the exit status of a script that ends so, and what is printed
---     IsNoScript                 bytes that are too many for a script, or no text
---     IsOutcome                  a script ends so that a run has this status, and prints this
---     IsAnswer                   a run that read these bytes ends with this status, and prints this
---     IsAnswerOf                 the same of a run that took its script from a reader
---     Answers                    a run with this status read its script to the end and wrote all of its answer
---     WritesBeginning            a run read its script to the end and wrote a beginning of an answer to it
---     Fails                      it did, or wrote nothing
+-- A run of `syned` reads a script and prints an answer. It ends with the status 0 if an edit was made, 1 if it was
+-- refused, 2 if the script is bad, and 3 if the run failed.
+--
+--     spaced, paths_text            A path after a space; several paths so.
+--     Note, note_text               An annotation's word with the paths of its elements; the line of a note, such as `note w 1 5`.
+--     path_of, paths_of, notes_of   The path of an element; those of several; each word that was used with the paths of the elements that
+--                                   its annotation is found at.
+--     edit_text                     The printed edit: the new text, escaped, the changed paths, and the notes.
+--     refused_text, bad_text        The line of what a refusal prints; that of a bad script, with the number of the bad line.
+--     status_of, printed            The exit status of a script that ends so: 0 for an edit, 1 for a refusal, 2 for a bad line; what is
+--                                   printed.
+--     IsNoScript                    Bytes that are too many for a script, or not UTF-8.
+--     IsOutcome                     A script ends (`Means`) so that a run has this status, and prints this.
+--     IsAnswer                      The same of bytes that may be no script; those are bad in line 0.
+--     IsAnswerOf                    `IsAnswer`, for the script that a run took from a reader: its first bytes, by `IsFrontOf`.
+--     Answers                       A run read its script and wrote all of its answer.
+--     WritesBeginning, Fails        A run read its script and wrote a beginning of an answer; it did, or wrote nothing.
 use Rattle.std.specs.Prelude.{◌≡◌, ◌⊎◌, ℕ, ◌+◌, ◌<◌, List, ◌++◌, map, length, take, Option, codes, decimal, IsUtf8}
 use Rattle.std.specs.List.{flat_map}
 use Rattle.std.specs.Io.KnownBytes.{Appends, Consumes, Keeps}

@@ -1,9 +1,10 @@
 -- What is put into room for it.
---     PutsInto            bytes stand at the beginning of a room that they fit into; one that is too small stays as it was
---     AnswersInto         the same of the answer to a script that ends with this status, so many bytes
---     EndsIn, HasNoEdit   a script ends with this status; with one above 0
---     IsReason            a sentence, which is not empty, about a script that has no edit
---     ExplainsInto        nothing is put where the script has an edit, else such a sentence, or that memory ran out; so many bytes
+--     PutsInto, AnswersInto         Bytes stand at the beginning of a room that they fit into, and a room that is too small stays as it
+--                                   was; the same of the answer to a script that ends with this status, so many bytes.
+--     EndsIn, HasNoEdit             A script ends with this status; with one above 0.
+--     IsReason                      A sentence, which is not empty, about a script that has no edit.
+--     ExplainsInto                  Nothing is put where the script has an edit, and the count is 0; else such a sentence, or `memory ran
+--                                   out`, and the count is its length.
 use Rattle.std.specs.Prelude.{◌≡◌, ◌⊎◌, ℕ, ◌≤◌, ◌<◌, List, ◌++◌, length, drop, codes}
 use Rattle.syned_run.specs.Answer.{IsAnswer}
 

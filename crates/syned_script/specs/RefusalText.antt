@@ -1,5 +1,5 @@
 -- What a refusal of a script's call prints.
---     refusal_text    what the error prints that it holds
+--     refusal_text                  What the error prints that a refusal holds, as `Intersecting 0 2`.
 use Rattle.std.specs.Prelude.{ℕ, List}
 use Rattle.syntax_editor.specs.TreeErrorText.{tree_error_text}
 use Rattle.syntax_editor.specs.MapErrorText.{map_error_text}

@@ -1,16 +1,18 @@
 -- What a script means.
---     lines_of_parts, lines_in    the lines of a text: what stands before each newline, and the rest, unless that is empty
---     Outcome                     how a script ends: an edit, with the annotation words; a refused call; a bad line, counted from 1
---     EndRefuses                  why the changes are not carried out
---     CarriesOut                  the changes are carried out, in the order if there is one
---     FinishGives                 what `finish` gives of what is edited
---     FinishEnds                  how `finish` ends a script: only empty lines and comments may follow
---     LineEnds                    how the line with a number ends the script, before other lines
---     Ends                        the same of lines, the first of which has the number; without a `finish`, it is the line after them
---     Carried                     lines were carried out, one after the other
---     EndsSo, Means               how lines end: those before one were carried out, and that one ends them; how a script ends
---     EndsAt                      the same, and the line that ends them has this number
---     StopsSo, StopsAt            lines without an edit end so, unless memory ran out; so does a script
+--     lines_of_parts, lines_in      The lines of a text: what stands before each newline, and the rest, unless that is empty.
+--     Outcome                       How a script ends: `Edited`, with the edit and the annotation words, `Refused`, or `BadLine`, with the
+--                                   number of the line.
+--     EndRefuses                    Why `finish` does not carry the changes out. With an order the plan comes first, then the order, then
+--                                   the new tree.
+--     CarriesOut, FinishGives       The edit is what the plan of the editor makes, its text is not too long, and the order, if there is
+--                                   one, is allowed; what `finish` gives of what is edited.
+--     FinishEnds                    How `finish` ends a script: the first line after it that is not blank is bad.
+--     LineEnds, Ends                How a line with a number ends the script before other lines; the same of lines, the first of which has
+--                                   the number. Without a `finish` it is the line after the last one that is bad.
+--     Carried                       Lines were carried out, one after the other.
+--     EndsSo, Means                 How lines end: those before one were carried out, and that one ends them; how a script ends.
+--     EndsAt                        Lines end so (`EndsSo`), and the line that ends them has this number.
+--     StopsSo, StopsAt              Lines without an edit end so, unless memory ran out; a refused call at its line. So does a script.
 use Rattle.std.specs.Prelude.{◌≡◌, ◌⊎◌, ℕ, suc, ◌+◌, ◌==◌, ◌<◌, not, cond, List, [], ◌∷◌, ◌++◌, length, Option, Some, None, IfSome, MatchOption, MatchBool}
 use Rattle.std.specs.List.{slice_split, list_all, position_or_len}
 use Rattle.syntax_editor.specs.Tree.{text_length}

@@ -1,22 +1,27 @@
 -- What the lines of a script have made so far, and what one more line does.
---     Editing                     the editor, and the order of its changes, if a line gave one
---     Roots, with_root            the root with each name; the same with one more root
---     State, new_state            the next tree number, the roots, the words by their first use, what is edited; before the first line
---     element_in, node_in         the element that a reference leads to; the same of a node
---     elements_in                 those of several references, if there is one for each
---     position_in                 the position that a line names
---     of_both                     what is made of two values, if there are both
---     call_in                     the call that a line makes to record a change
---     Step                        what a line does: the script goes on in another state, its call is refused, the line is bad
---     with_editor                 a state with another editor
---     root_refusal                why a tree becomes no root, if it doesn't
---     tree_step, edit_step        what a line `tree` does, what a line `edit` does
---     record_step, recorded_in    what a call does that records a change; the same, where there may be no such call or no editor
---     PairRefuses                 why a pair of a node and its copy is refused below a parent
---     PairStep, MapStep           what a pair does below a parent; what a line `map` does
---     with_word, annotation_of    the words after one was used; the annotation of a word
---     note_step, order_step       what a line `note` does, what a line `order` does
---     Steps                       what a line does that does not end the script
+-- A script is carried out line by line. What the lines made so far is a state, and a line does one of three things with
+-- it: the script goes on in another state, the call of the line is refused, or the line is bad.
+--
+--     Editing                       The editor, and the order of its changes, if a line gave one.
+--     Roots, with_root              The root with each name; the same with one more root.
+--     State, new_state              The number of the next tree, the roots, the annotation words by their first use, and what is edited;
+--                                   the state before the first line.
+--     element_in, node_in, elements_in  The element that a reference leads to; the node; those of several references, if there is one for
+--                                   each.
+--     position_in                   The position that a line names; none beside a root.
+--     of_both                       What is made of two values, if there are both.
+--     call_in                       The call that a line makes to record a change, if all that it names is there. One new element has a
+--                                   call of its own, and so has a range without any.
+--     Step                          What a line does: `Goes` to a state, `Refuses`, or `IsBad`.
+--     with_editor                   A state with another editor.
+--     root_refusal, tree_step       Why a tree becomes no root, if it doesn't: `TooLong` first; what a line `tree` does.
+--     edit_step                     What a line `edit` does: the root is the node's own, or one of a new tree where the node has a parent.
+--     record_step, recorded_in      What a call does that records a change; the same, where there may be no such call or no editor.
+--     PairRefuses, PairStep, MapStep  Why a pair of a node and its copy is refused below a parent; what the pair does; what a line `map`
+--                                   does.
+--     with_word, annotation_of      The words after one was used: a new one comes last; the annotation of a word, which counts from 1.
+--     note_step, order_step         What a line `note` does, what a line `order` does.
+--     Steps                         What a line does that does not end the script.
 use Rattle.std.specs.Prelude.{◌≡◌, ℕ, suc, ◌==◌, ◌&&◌, ◌||◌, cond, List, [], ◌∷◌, ◌++◌, Option, Some, None, option_map, option_and_then, is_some, nat_le, MatchOption}
 use Rattle.std.specs.Option.{option_map_or}
 use Rattle.std.specs.List.{list_any, position_or_len}

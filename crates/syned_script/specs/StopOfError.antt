@@ -1,7 +1,5 @@
 -- Why a script ends at a line, by the error of a call.
---     stop_of_line, stop_of_tree, stop_of_map      by an error of reading the line, of making a tree, of mapping a node
---     stop_of_record                               by an error of recording a change
---     stop_of_edit, stop_of_execute                by an error of carrying the changes out, and of doing so in an order
+--     stop_of_line, stop_of_tree, stop_of_map, stop_of_record, stop_of_edit, stop_of_execute  Why a script ends, by the error of the call.
 use Rattle.syntax_editor.specs.TreeError.{TreeError}
 use Rattle.syntax_editor.specs.TreeError.TheVariants as tree_error
 use Rattle.syntax_editor.specs.MapError.{MapError}

@@ -1,13 +1,15 @@
 -- The attributes and comments of a node, each with the whitespace directly after it.
---     is_attr_or_doc            the child in a slot is an attribute or a comment
---     is_whitespace             the child in a slot is of the kind WHITESPACE
---     is_removed                it is one, or is of the kind WHITESPACE directly after one
---     removed_slots             the slots of these
---     removed_children          the children there
---     remove_attrs_and_docs     the list of changes after their deletion, in order
---     without_attrs_and_docs    an editor after it
---     is_foreign                the node, or one of these children, is not of the root's tree
---     RemovalRefuses            why they are not deleted; memory runs out only after the node was looked at
+--     is_attr_or_doc, is_whitespace  The child in a slot has the kind ATTR, COMMENT or DOC_COMMENT; it has the kind WHITESPACE.
+--     is_removed                    The child in a slot is an attribute or a comment; or it is WHITESPACE directly after one.
+--     removed_slots, removed_children  The slots of these children; the children.
+--     remove_attrs_and_docs         The list of changes after each of these is deleted, in order.
+--     without_attrs_and_docs        The editor with that list.
+--     is_foreign, RemovalRefuses    The node or one of these children is not native; why they are not deleted: `Foreign`, if that is so.
+--                                   `Memory` is returned only if the node is native.
+--
+-- In a function with an attribute, a newline, a comment and a newline before `fn f() {}`, these four are deleted. A
+-- space before the attribute is kept, and so is a second WHITESPACE after it. A comment that was replaced before is
+-- deleted in the place of its replacement in the list.
 use Rattle.std.specs.Prelude.{◌≡◌, ℕ, ◌-◌, ◌==◌, ◌&&◌, ◌||◌, not, Bool, true, false, List, [], ◌∷◌, length, map, filter, slice_get}
 use Rattle.std.specs.List.{fold, list_any}
 use Rattle.std.specs.Option.{option_map_or}

@@ -1,16 +1,23 @@
 -- Editors as contracts see them.
---     Editor, IsEditor              the root that is edited, the changes recorded so far, the registrations (elements with annotations) and the factory's mappings; what is true of every editor
---     editor_of                     an editor of these parts
---     has_parent                    an element is not the root of its tree
---     edited_root, new_editor       the root that a new editor edits, one of a tree of its own where it has a parent; that editor
---     LacksRootNumber               such a tree is to be made, and its source of numbers is spent
---     after_call, Records           what a call that records leaves after; it was carried out
---     Takes, RecordRefuses          nothing speaks against a call; why it is refused
---     MemoryLast                    where a call can look for its reasons without memory, as where all that it is given is owned, it runs out only where nothing speaks against the call
---     HasPairs, Maps                a factory with these pairs, whose copies win over those that it had; an editor whose factory took them up
---     with_registrations, registrations_of         an editor with more registrations, after those before; each of n elements with an annotation
---     registered_with, Registers    an editor in which these elements are registered with an annotation, too; a call makes one of it
---     plan_of, FinishRefuses        the plan of an editor; why its changes are not carried out
+--     Editor, editor_of             The root that is edited, the changes so far, the registrations, and the mapping of the factory, if it
+--                                   keeps one; the editor of these.
+--     IsEditor                      What holds for every editor: its root is a root, and each change fits it.
+--     has_parent                    The element is not the root of its tree.
+--     edited_root                   The root that a new editor edits: the node itself, or, if it has a parent, its subtree as a root under
+--                                   the next number.
+--     new_editor, LacksRootNumber   An editor of that root with nothing recorded; such a number is needed, and the source is spent.
+--     after_call, Records           The editor after a call, with the recorded list; a call leaves that editor.
+--     Takes                         `refusal` has no reason against a call.
+--     RecordRefuses                 Why a call is refused: the reason of `refusal`.
+--     MemoryLast                    If a condition is met, as that all arguments are owned, a call returns `Memory` only if `Takes` holds.
+--     HasPairs, Maps                A factory has a mapping of new pairs and of those it had before, in which the new ones win; the same of
+--                                   an editor, where nothing else changed.
+--     with_registrations, registrations_of  An editor with more registrations after those it had; the registrations of some elements with
+--                                   one annotation.
+--     registered_with, Registers    An editor with some elements also registered with one annotation; a call leaves that editor.
+--     plan_of                       The plan of an editor. A factory that keeps no mapping counts as one with an empty mapping.
+--     FinishRefuses                 Why finishing is refused: as `BuildRefuses` says; `TooLong` and `NoTreeNumber` only where the changes
+--                                   are a plan, as `RunRefuses` says.
 use Rattle.std.specs.Prelude.{◌≡◌, ℕ, Bool, true, false, cond, List, [], ◌++◌, map, Option, None, Some, unwrap_or, Result, Err, All, IsTrue}
 use Rattle.cst_core.specs.Element.{Element, subtree}
 use Rattle.cst_core.specs.Path.{same_path}

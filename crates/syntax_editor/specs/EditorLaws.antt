@@ -1,8 +1,8 @@
 -- What the laws of an editor speak of.
---     asked_for               what a call asks for in the place of an element, which is nothing where it deletes it; no answer where it asks for nothing
---     all_asked_for           what each of n calls asks for, in their order
---     target_depth            how many elements are above what a call replaces or deletes; no answer of an insert
---     copy_by                 the copy of an address by an editor's mappings, none where its factory keeps none
+--     asked_for, all_asked_for      What a call asks for in place of an element: a new element, or nothing if it deletes it; no answer for
+--                                   other calls. The same of several calls.
+--     target_depth                  The number of slots in the path of what a call replaces or deletes; none for an insert.
+--     copy_by                       The copy of an address by the mapping of an editor's factory, if it keeps one.
 use Rattle.std.specs.Prelude.{ℕ, ◌&&◌, cond, List, [], length, filter_map, Option, Some, None, unwrap_or}
 use Rattle.cst_core.specs.Element.{Address, Element}
 use Rattle.edit_map.specs.Mapping.{copy}

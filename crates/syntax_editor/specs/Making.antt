@@ -1,6 +1,5 @@
 -- Nodes made of elements.
---     trees_of              the trees that elements stand for
---     node_tree             a node of this kind with these as its children
+--     trees_of, node_tree           The trees of some elements, in order; a node of a kind with these as its children.
 use Rattle.std.specs.Prelude.{List, map}
 use Rattle.cst_core.specs.Tree.{SyntaxTree, node}
 use Rattle.cst_core.specs.Element.{subtree}

@@ -1,7 +1,9 @@
 -- Merging one editor into another.
---     AreMergeable                  the roots are one element, and each change of the other editor fits the own root
---     IsMerged                      the other's changes and registrations after the own ones; of what both map, the other's copy wins
---     MergeRefuses                  why an editor is not merged
+--     AreMergeable                  Two editors have the same root (`same_element`), and each change of the second fits it.
+--     IsMerged                      The same root, the changes and registrations of the second after the first's, and a mapping made of
+--                                   both, in which the second editor's copies win.
+--     MergeRefuses                  Why a merge is refused: `OtherRoot`, if the editors are not mergeable. `Memory` is returned only if
+--                                   they are.
 use Rattle.std.specs.Prelude.{◌≡◌, true, [], ◌++◌, Some, unwrap_or, All}
 use Rattle.cst_core.specs.Element.{same_element}
 use Rattle.edit_map.specs.Mapping.{Mapping}

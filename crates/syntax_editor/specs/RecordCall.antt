@@ -1,7 +1,18 @@
 -- Calls that record a change, each with what it is given.
---     RecordCall                 such a call
---     recorded, all_recorded     the list of changes after it; the list of a new editor after n, the first one first
---     refusal                    why a call is refused, if it is: the first of its reasons, in the order of the lines
+--     RecordCall                    A call that records a change, with its arguments.
+--     recorded, all_recorded        The list of changes after a call; that of a new editor after several calls.
+--     refusal                       Why a call is refused, if it is: the first line that fits in the table below.
+--
+-- | refusal, in this order | inserts | deletion | replacement by one or many | range |
+-- |---|---|---|---|---|
+-- | `Foreign` | the position is not native | the target is not native | the target is not native | an end is not native |
+-- | `BadRange` | | | | the ends are no range |
+-- | `DeletesRoot` | | the target is the root | | the root alone is deleted |
+-- | `RootReplacement` | | | the root is replaced, and not by one node | the root alone is replaced, and not by one node |
+--
+-- New elements may come from any tree. Deleting `R`: `DeletesRoot`. Replacing `R` by `_`, or by `()` twice:
+-- `RootReplacement`. The range from `R/4` to `R/1`, or from `R/0` to `R/1/0`: `BadRange`. Inserting first in `()`:
+-- `Foreign`. Deleting the range from `R` to `R`: `DeletesRoot`.
 use Rattle.std.specs.Prelude.{Bool, ◌&&◌, ◌||◌, not, List, [], ◌∷◌, Option}
 use Rattle.std.specs.List.{fold}
 use Rattle.cst_core.specs.Element.{Element}

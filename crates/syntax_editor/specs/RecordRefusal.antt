@@ -1,5 +1,5 @@
 -- Refusals of what a call that records stands on, as why nothing is recorded.
---     of_space                      why new elements get no whitespace round them
+--     of_space                      The `RecordError` for a `SpaceError`.
 use Rattle.whitespace.specs.declared.space_error.SpaceError.{SpaceError}
 use Rattle.whitespace.specs.declared.space_error.SpaceError.TheVariants as space
 use Rattle.syntax_editor.specs.declared.error.RecordError.{RecordError}

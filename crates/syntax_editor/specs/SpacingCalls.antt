@@ -1,7 +1,11 @@
 -- The calls that insert elements with the whitespace round them, where the next tree number is this one.
---     spaced_insert               the insert that such a call records
---     spacing_refusal             why it is refused, if it is: its position is of another tree, or there is no such whitespace
---     SpacingRefuses              why it is refused; memory runs out only after the position was looked at
+--     spaced_insert                 The `InsertAll` that the call records.
+--     spacing_refusal, SpacingRefuses  Why the call is refused, if it is: `Foreign` if the position is not native, else as `space_refusal`
+--                                   says; the same as a fact. `Memory` is returned only if the position is native.
+--
+-- The literal `3` after `R/2`: `(1, 3 2)`. The literal `3` first in `R`: `3 (1, 2)`. A statement after the `{` of a
+-- statement list at level 0: on a new line, after four spaces. An import after the `{` of the item list `{}`: `{`,
+-- newline, four spaces, `use }`. An empty list after `R/2`: an empty `InsertAll`, and `(1, 2)`.
 use Rattle.std.specs.Prelude.{◌≡◌, ℕ, true, cond, List, Option, Some, option_map}
 use Rattle.cst_core.specs.Element.{Element}
 use Rattle.cst_core.specs.declared.element.SyntaxElement.{SyntaxElement}

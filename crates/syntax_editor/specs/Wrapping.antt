@@ -1,9 +1,15 @@
 -- A node that is put between other elements, where this is the next tree number.
---     wrapped_tree               a node of this kind with the trees of elements, of the node and of other elements as its children
---     wrapper, wrapped_copy      it, as the root of a tree of this number; the copy of the node in it
---     CanWrap                    nothing speaks against it: such a root can be made, its number is greater than that of the node's tree, and the node is of the editor's
---     WrapRefuses                why it is refused: the first of these that is missing; memory runs out only where none is
---     Wraps                      an editor in which a node is replaced by another one, and whose factory took these pairs up
+--     wrapped_tree, wrapper         A node of a kind whose children are the trees of some elements, of a node, and of other elements; it as
+--                                   the root of a tree with a number.
+--     wrapped_copy                  The copy of the node in it: the child after those first elements.
+--     CanWrap, WrapRefuses          The root can be made under the next number, this is greater than the number of the node's tree, and the
+--                                   node is of the editor's tree; why not: the first of these that is missing. `Memory` is returned only if
+--                                   none is.
+--     Wraps                         An editor in which a node is replaced by another one, and whose factory took up pairs of nodes and
+--                                   copies.
+--
+-- With `(` and `)` around it and the kind TUPLE_EXPR, `L/1` is replaced by `(1)`, and the text is `((1), 2)`. Its copy
+-- is child 1 of the new node, so a replacement of `L/1/0` by `x`, recorded before or after, gives `((x), 2)`.
 use Rattle.std.specs.Prelude.{◌≡◌, ℕ, ◌<◌, ◌≤◌, true, false, List, [], ◌∷◌, ◌++◌, length}
 use Rattle.cst_core.specs.Tree.{SyntaxTree, node, text}
 use Rattle.cst_core.specs.Green.{IsTooLong}

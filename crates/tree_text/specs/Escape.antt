@@ -1,6 +1,6 @@
 -- Texts as they stand between two quotes of a tree expression. Their bytes are escaped one by one: what has an escape is ASCII.
---     escape     a byte's escape where it has one, else the byte alone
---     escaped    a text with each of its bytes escaped
+--     escape, escaped               What is written for a byte: its escape if it has one, else the byte alone; a text with every byte so
+--                                   written.
 use Rattle.std.specs.Prelude.{ℕ, List, [], ◌∷◌, ◌==◌, if◌then◌else◌, codes}
 use Rattle.std.specs.List.{flat_map}
 

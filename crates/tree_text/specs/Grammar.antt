@@ -1,19 +1,20 @@
 -- Tree expressions: which texts are written for a tree, whoever reads or writes them. Texts are bytes.
--- A function `names` says what each kind is called, and a test `gaps` which bytes may stand between elements.
---     ◌⨾◌, Joined             a text that falls into two, one of each description
---     IsExactly               a text and no other
---     is_gap_space            a byte that may stand between the elements of an expression within a line: a space
---     is_gap_blank            one that may between those of any other: a space, a tab, a newline or a carriage return
---     IsGap                   a text of such bytes alone, or of none
---     IsWritten               what is written between quotes for a byte: its escape, or itself if it is no quote and no backslash
---     IsQuoted                what is written between quotes for a text: that of each of its bytes, in order
---     IsName                  the name of a kind
---     begins_with_name_byte   a text begins with a byte that names may have, so that it would go on with a name before it
---     IsApart                 a text that doesn't
---     IsTreeText              what is written for a tree: of a token its kind's name and its quoted text; of a node, in
---                             parentheses, its kind's name and its elements, which don't go on with that name
---     AreElements             what is written for elements: each with a gap before it, and a gap after the last
---     IsExpression            an expression of a tree: it is a node, and this is written for it. Nothing stands before or after
+-- `names` gives the name of a kind if it has one, and `gaps` says which bytes may be between elements.
+--
+--     ◌⨾◌, Joined                   A text that falls into two parts, the first as one description says and the second as another.
+--     IsExactly                     This text and no other.
+--     is_gap_space, is_gap_blank    A space, for expressions within a line; a space, tab, newline or carriage return, for all others.
+--     IsGap                         Such bytes alone, or nothing.
+--     IsWritten                     What is written between quotes for a byte: its `escape`, or itself if it is neither quote nor
+--                                   backslash.
+--     IsQuoted                      What is written between quotes for a text: that of each of its bytes, in order.
+--     IsName                        The name of this kind.
+--     begins_with_name_byte, IsApart  A text begins with a letter, a digit or an underscore, so that it would go on with a name before it;
+--                                   a text that doesn't.
+--     IsTreeText                    What is written for a tree. For a token: its kind's name, `"`, its quoted text, `"`. For a node: `(`,
+--                                   its kind's name, its elements, which don't go on with that name, `)`.
+--     AreElements                   What is written for elements: each with a gap before it, and a gap after the last.
+--     IsExpression                  An expression of a tree: the tree is a node, and this is written for it. Nothing is before or after it.
 use Rattle.std.specs.Prelude.{◌≡◌, ◌⊎◌, ℕ, Bool, true, false, ◌||◌, ◌==◌, List, [], ◌∷◌, ◌++◌, Option, Some, codes}
 use Rattle.std.specs.List.{list_all}
 use Rattle.cst_core.specs.Tree.{SyntaxTree, Token, Node, Forest, end, more, is_token}

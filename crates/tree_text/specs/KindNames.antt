@@ -1,11 +1,12 @@
 -- Names of kinds, of one's own beside the 65.
---     KindName           a kind by its number, and the name that it is given
---     name_in            the name of a kind: its own, or else the one that it is given
---     text_in            that name, or how a kind without one is shown
---     IsTaken            a kind has this name
---     is_name_byte       an ASCII letter, a digit or an underscore
---     is_name            a text is spelled as a name of a kind: of these alone, and not empty
---     AreNames           each is spelled so, and no two kinds have the same
+--     KindName                      The number of a kind, and the name that it is given.
+--     name_in                       The name of a kind: one of the 65, or else the one that it is given; `None` if it has none.
+--     text_in                       The name of a kind, or `SyntaxKind(66)` if it has none.
+--     IsTaken                       A kind has this name.
+--     is_name_byte, is_name         An ASCII letter, a digit or an underscore; a text of these alone, and not empty.
+--     AreNames                      Names of kinds are spelled so, and no two kinds have the same.
+--
+-- The lines of `(LITERAL INT_NUMBER"1")` are `LITERAL@0..1` and, after two spaces, `INT_NUMBER@0..1 "1"`.
 use Rattle.std.specs.Prelude.{◌≡◌, ℕ, Bool, true, not, ◌&&◌, ◌||◌, ◌==◌, List, Option, Some, unwrap_or, nat_eq, length}
 use Rattle.std.specs.List.{list_all}
 use Rattle.std.specs.Char.{is_ascii_alphanumeric}

@@ -1,7 +1,8 @@
 -- A tree as lines, one for each node and token.
---     line                   how an element's line begins: its indentation, its kind, where its text starts and ends
---     lines, forest_lines    those of a tree whose text starts at a byte; those of trees side by side
---     lines_in               the lines of a tree where kinds are given names
+--     line                          How a line begins: its indentation, the kind, `@`, where the text starts, `..` and where it ends.
+--     lines, forest_lines           The lines of a tree whose text starts at a byte: its own, and those below it, indented by two spaces
+--                                   more; the same of trees side by side. A token's line ends with its text in quotes, escaped.
+--     lines_in                      The lines of a tree, where kinds are given names.
 use Rattle.std.specs.Prelude.{ℕ, ◌+◌, List, [], ◌++◌, length, codes, decimal}
 use Rattle.cst_core.specs.Tree.{SyntaxTree, Token, Node, Forest, end, more, text_length, forest_text}
 use Rattle.tree_text.specs.Escape.{escaped}

@@ -1,19 +1,31 @@
 -- What it means that a text is refused as a tree expression, where kinds are given names, and at which of its bytes.
---     KeepsNames         further names of kinds, where each kind that has a name keeps it
---     Begins             a text with which an expression begins
---     MayBegin           one with which an expression begins if further kinds get names
---     MayGoOn            an expression may go on behind a front of a text as the text does: with its next byte, or by ending with it
---     IsMalformed        at this byte no expression goes on as the text does, whatever further names kinds have. A front stands before
---                        it that begins an expression, and then a part of a name, or none, with which one may begin
---     LacksName          at this byte a name begins that no kind has. What stands before it begins an expression, and none begins
---                        with that and the name; but where one kind more has the name, one does, and with the next byte too
---     BeginsAs           a text begins as an expression does, and only as those of such trees do
---     IsTooDeep          a parenthesis stands before this byte with which only expressions of trees begin that are too deep; without
---                        it, one of a tree begins that isn't
---     IsTreeRefused      what a tree's own error says: its text is too long, and no other comes
---     IsRefused          what an error says: that a text is malformed at its byte, or lacks a name there, or opens too many
---                        parentheses at once; that its tree has too long a text; nothing where memory ran out, and no other comes
---     ReadRefuses        why a text isn't read
+--     KeepsNames                    Further names of kinds: each kind that has a name keeps it, and no two kinds have the same.
+--     Begins, MayBegin              An expression begins with this text; one may, if further kinds get names.
+--     MayGoOn                       An expression may go on behind a front of a text as the text does: with its next byte or, at the text's
+--                                   end, by ending there.
+--     IsMalformed                   A text is malformed at this byte. An expression may begin with what is before it, and may not go on as
+--                                   the text does. Without the part of a name at its end, what is before it begins an expression with the
+--                                   names as they are.
+--     LacksName                     A text lacks a name at this byte. There a name that no kind has begins, an expression begins with what
+--                                   is before it, and none with that and the name. But where one kind more has the name, one begins with
+--                                   that, the name and the next byte, which is no byte of a name.
+--     BeginsAs                      A front of a text is that of an expression, and only of those of such trees.
+--     IsTooDeep                     A text is too deep at this byte. With the parenthesis before it, what is before it begins an
+--                                   expression, and only those of trees that are nested more than 200 deep; without that parenthesis also
+--                                   one of a tree that isn't.
+--     IsRefused, IsTreeRefused      What an error says, of its byte if it has one: one thing for each of `Malformed`, `UnknownKind`,
+--                                   `TooDeep` and `Tree(TooLong)`. It says nothing for `Memory`, and no other comes; the same of the tree's
+--                                   own errors.
+--     ReadRefuses                   Why a text isn't read: at the byte of the error it is malformed (`Malformed`), lacks the name of a kind
+--                                   (`UnknownKind`), or is too deep (`TooDeep`); or it begins only as the expressions of trees whose text
+--                                   is too long (`Tree(TooLong)`).
+--
+-- `(ATTR IDENT"a\n" )` is an expression of the node ATTR with one token, whose text is `a` and a newline: after `(` and
+-- the name come the elements, a gap of one space, the token and a gap of one space. `(ATTRIDENT"a")` is none, since the
+-- token goes on with the node's name; `(ATTR(NAME))` is one. The newline of the text may also be written as itself, so
+-- a tree has many expressions; but a text is an expression of one tree at most. `(NOPE)` and `(NOPE !)` lack a name at
+-- byte 1, since `(NOPE)` and `(NOPE ` begin an expression once a kind is called `NOPE`. `(NAME !)`, `( NAME)`, `(NOPE`
+-- and `(NOPE"a")` are malformed at the bytes 6, 1, 5 and 5, whatever kinds are called.
 use Rattle.std.specs.Prelude.{◌≡◌, ◌≢◌, ℕ, ◌≤◌, ◌<◌, Bool, false, true, List, [], ◌∷◌, ◌++◌, length, Some, None, codes}
 use Rattle.std.specs.List.{list_all}
 use Rattle.cst_core.specs.Green.{IsTooLong}

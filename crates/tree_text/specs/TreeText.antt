@@ -1,9 +1,13 @@
 -- The tree expression of a tree.
---     tree_text, elements_text    that of a tree, with a function of kinds for their names; that of elements, a space before each
---     expression_of               the tree expression of a tree, where kinds are given names
---     kinds, forest_kinds         the kinds of all nodes and tokens of a tree, in document order; those of trees side by side
---     unnamed_in                  the first of these that has no name
---     NamesUnnamed                the error of a tree of which it is that kind, and of no other
+--     tree_text, elements_text      The tree expression of a tree, with a function from kinds to names; those of elements, one space before
+--                                   each.
+--     expression_of                 The tree expression of a tree, where kinds are given names: one of all that the grammar allows.
+--     kinds, forest_kinds           The kinds of all nodes and tokens of a tree, in document order; the same of trees side by side.
+--     unnamed_in                    The first of these kinds that has no name, if there is one.
+--     NamesUnnamed                  A call is refused with `NoName` exactly if there is such a kind, and names that one.
+--
+-- The text of `(LITERAL IDENT"a\"b")` is `a"b`, and its `escaped` form is `a\"b`. The depth of `(LITERAL (NAME
+-- IDENT"a"))` is 2.
 use Rattle.std.specs.Prelude.{◌≡◌, ◌↔◌, ℕ, List, [], ◌∷◌, ◌++◌, Option, Some, is_none, Result, Err, codes}
 use Rattle.std.specs.List.{find}
 use Rattle.cst_core.specs.Tree.{SyntaxTree, Token, Node, Forest, end, more}

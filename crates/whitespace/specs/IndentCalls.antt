@@ -1,9 +1,10 @@
 -- What the calls that indent and dedent answer.
---     fresh_root                  a tree as a root of this number
---     CanBeRoot                   such a root can be made, where this number comes next
---     RootRefuses                 why such a root is not made, where this number comes next
---     ResetRefuses                why a node is not dedented by its own level
---     next_after, MappingRefuses  the number that comes next after a refusal to indent with a mapping; why it is refused
+--     fresh_root                    A tree as a root under a number.
+--     CanBeRoot, RootRefuses        A tree is short enough for a root, and a number is left; why no such root is made: `TooLong`, else
+--                                   `NoTreeNumber`.
+--     ResetRefuses                  Why a node is not dedented by its level: `LevelTooLarge`, else as `RootRefuses` says.
+--     MappingRefuses, next_after    Why a node is not indented with a mapping: as `RootRefuses` says, else `NotYounger` if the copy is too
+--                                   old; the next tree number then.
 use Rattle.std.specs.Prelude.{◌≡◌, ◌<◌, ◌≤◌, ◌+◌, ℕ, Bool, true, false, []}
 use Rattle.cst_core.specs.Tree.{SyntaxTree, text_length}
 use Rattle.cst_core.specs.Green.{length_limit}

@@ -1,5 +1,5 @@
 -- Refusals of what a call stands on, as why a node is not indented.
---     of_tree                       why a tree is not made
+--     of_tree                       The `IndentError` for a `TreeError`.
 use Rattle.cst_core.specs.TreeError.{TreeError}
 use Rattle.cst_core.specs.TreeError.TheVariants as tree
 use Rattle.whitespace.specs.declared.indent_error.IndentError.{IndentError}

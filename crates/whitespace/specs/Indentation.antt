@@ -1,12 +1,14 @@
 -- Trees indented and dedented: the text of each whitespace token changes, and nothing else.
---     lines, dedented_line            the parts of a text between its newlines; a line without n spaces at its start, where it has them
---     dedented_lines                  lines of which each but the first is such a line
---     indented_text                   spaces after a text that holds a newline
---     dedented_text                   each line but the first dedented
---     with_texts, in_whitespace       a tree with other texts of its tokens; of its whitespace tokens
---     forest_with_texts               trees side by side with other texts
---     indented, dedented, reset       a tree indented or dedented by a level; that of an element dedented by its own level
---     mapped_children                 each child node of an element, with the child node of another one at the same index
+--     lines, dedented_line          The parts of a text between its newlines; a line without the spaces of a level at its start, if it has
+--                                   them.
+--     dedented_lines, dedented_text  Lines, each but the first dedented; a text with its lines dedented so, since what is before the first
+--                                   newline starts no line.
+--     indented_text                 A text with a newline, followed by the spaces of a level; any other text as it is.
+--     with_texts, forest_with_texts  A tree with other texts of its tokens; trees side by side.
+--     in_whitespace                 A tree with other texts of its tokens of the kind WHITESPACE.
+--     indented, dedented            A tree with the texts of these tokens indented, or dedented, by a level.
+--     reset                         The tree of an element, dedented by the level of that element.
+--     mapped_children               Each child node of an element, with the child node of another element at the same index.
 use Rattle.std.specs.Prelude.{ℕ, ◌*◌, ◌==◌, cond, nat_eq, List, [], ◌∷◌, ◌++◌, map, drop, zip}
 use Rattle.std.specs.List.{slice_split, starts_with, join_with_byte}
 use Rattle.cst_core.specs.Tree.{Forest, Token, Node, end, more, SyntaxTree}

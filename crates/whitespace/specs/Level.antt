@@ -1,12 +1,12 @@
 -- Levels of indentation, four spaces each.
---     newline, space, is_newline      the two bytes of which levels are made, and a test for the first
---     level_text                      a level as spaces
---     has_newline                     a text holds a newline
---     breaks_line                     a whitespace token that holds a newline
---     tokens_up_to                    the tokens of a tree up to this one, in document order
---     level_after                    the level of what stands after a text that holds a newline
---     token_level, level              of a token: by the nearest whitespace token that breaks the line, at it or before it; of an element: of the first token in it
---     is_too_deep                     a level that is past the greatest one
+--     newline, space, is_newline    The bytes 10 and 32; a byte is the first of these.
+--     level_text                    A level as a text: four spaces for each.
+--     has_newline, breaks_line      A text holds a newline; a token of the kind WHITESPACE has such a text.
+--     tokens_up_to                  The tokens before a token in document order, and then the token itself.
+--     level_after                   The number of characters after the last newline of a text, divided by four and rounded down.
+--     token_level                   `level_after` of the last token in `tokens_up_to` that breaks the line; 0 if none does.
+--     level                         The level of an element's first token; 0 if it has none.
+--     is_too_deep                   A level is greater than 255.
 use Rattle.std.specs.Prelude.{ℕ, ◌*◌, ◌/◌, ◌==◌, ◌&&◌, Bool, nat_lt, List, [], ◌∷◌, ◌++◌, length, replicate, map, filter}
 use Rattle.std.specs.List.{list_any, after_last}
 use Rattle.std.specs.Option.{option_map_or}

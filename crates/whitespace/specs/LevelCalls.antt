@@ -1,8 +1,11 @@
 -- What the calls that read a level answer.
---     LevelRefuses                why a level is not read
---     ReadsLevel                  a level that is read, or why it is not
---     is_read_at_once             no other token is looked for: a token breaks the line or is the first of its tree, a node has no token
---     ReadsAtOnce                 of such an element the level is read without memory
+--     ReadsLevel, LevelRefuses      A call returns the level, which is not too deep, or is refused; why: `LevelTooLarge`, if the level is
+--                                   too deep.
+--     is_read_at_once, ReadsAtOnce  No token is looked for beside an element: a token breaks the line or is the first of its tree, a node
+--                                   has no token; a call returns `Memory` of no such element.
+--
+-- After a newline and 1,023 spaces the level is 255, and after one more space 256. A comment with a newline does not
+-- count, nor does a node of the kind WHITESPACE.
 use Rattle.std.specs.Prelude.{◌≡◌, ℕ, Bool, true, false, ◌||◌, Result, Ok, Err, IsTrue}
 use Rattle.std.specs.Option.{is_none}
 use Rattle.cst_core.specs.SyntaxElement.{first_token_of, token_before}

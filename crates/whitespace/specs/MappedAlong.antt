@@ -1,6 +1,7 @@
 -- What is mapped along with a copy of a node.
---     is_not_younger, is_too_old    a node with a child node, and a copy whose number is not greater; and mappings are kept
---     MapsAlong                   what mappings become, where some are kept
+--     is_not_younger, is_too_old    A node has child nodes, and the number of its copy is not greater than the node's; the same, and
+--                                   mappings are kept.
+--     MapsAlong                     A mapping, if one is kept, gets the pairs of child nodes, which win.
 use Rattle.std.specs.Prelude.{◌≡◌, ◌&&◌, not, nat_le, nat_eq, ℕ, Bool, List, ◌++◌, length, reverse, Option, Some, None, is_some}
 use Rattle.cst_core.specs.Element.{Element}
 use Rattle.cst_core.specs.SyntaxElement.{child_nodes}

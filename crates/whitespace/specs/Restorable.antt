@@ -1,7 +1,10 @@
 -- Texts and trees that dedenting restores after they were indented.
---     lines_between           the lines between two newlines of a text
---     IsRestorable            a text from which n spaces can be taken away again after they were added
---     HasRestorableTexts      each whitespace token of a tree that holds a newline has such a text
+--     lines_between                 The lines between two newlines of a text.
+--     IsRestorable                  A text has only spaces after its last newline, and no line between two newlines starts with the spaces
+--                                   of a level.
+--     HasRestorableTexts            Each WHITESPACE token of a tree that holds a newline has such a text.
+--
+-- `syntax_editor::laws` has these. The laws of plans, as `edit_text_is_filled`, are in `edit_plan::laws`.
 use Rattle.std.specs.Prelude.{◌≡◌, ℕ, ◌-◌, ◌==◌, false, nat_eq, List, drop, take, length, All, IsTrue}
 use Rattle.std.specs.List.{list_all, after_last, starts_with}
 use Rattle.cst_core.specs.Tree.{SyntaxTree, tokens}

@@ -1,23 +1,44 @@
 -- The whitespace that goes round elements as they are inserted.
---     Space                        none, one space, or a new line at a level
---     Neighbor, neighbor           what it goes by: an element's kind and its level
---     is_statement, opens_list     a neighbor is a statement; a new element is an import or a statement, first in the braces of its list
---     between                      the whitespace between two neighbors: the first line of the table that fits
---     space_before, space_after    the whitespace at a position before the first new element, and after the last
---     space_in_parent                 that after an element, where the parent and the first new element are these
---     space_following              that after an element, before a first new one
---     next_of                      the element that stands after a position
---     is_deep                      a new line at a level past the greatest one
---     space_text                   whitespace as a text
---     lone_tree, lone_token        the tree of a token of a kind alone; the token, in such a tree with this number
---     whitespace                   such a token of whitespace
---     LacksTokenNumber             no number is left for such a tree, of a text that is not too long
---     space_elements               whitespace as such a token, or as nothing
---     space_in_front, space_at_end  the whitespace round a list of new elements
---     is_deep_round                there is such a new line among these two
---     with_spaces, spaced          new elements between two whitespaces, whose tokens have the tree numbers from this one on; with that at a position
---     numbers_needed               how many such tokens there are
---     space_refusal                why new elements get no whitespace, if they do not: the first of the reasons
+--     Space                         No space, one space, or a new line at a level.
+--     Neighbor, neighbor            A kind and a level; those of an element, read in that element's tree.
+--     is_statement                  The kind is LET_STMT, EXPR_STMT, or that of an item.
+--     opens_list                    The new element comes after the `{` of a list: a USE in an ITEM_LIST, or a statement in a STMT_LIST.
+--     between                       The whitespace between two neighbors: the first line of the table below that fits.
+--     space_before                  The whitespace before the first new element: none at the start of a node, else `space_following`.
+--     space_after                   The whitespace after the last new element: `between` it and the next element, none if there is no next
+--                                   one.
+--     space_in_parent               The whitespace after an anchor: a new line one level deeper than the parent if `opens_list`, else
+--                                   `between`.
+--     space_following               `space_in_parent` of an anchor, its parent and the first new element.
+--     next_of                       The element directly after a position, if there is one.
+--     is_deep                       A new line at a level greater than 255.
+--     space_text                    Whitespace as a text.
+--     lone_tree, lone_token, whitespace  A SOURCE_FILE with one token of a kind; that token, in such a tree with a number; such a token of
+--                                   whitespace.
+--     LacksTokenNumber              The text is short enough for such a tree, but no number is left.
+--     space_elements                Whitespace as a list: such a token, or nothing.
+--     space_in_front, space_at_end  The whitespace before and after a list of new elements; none if the list is empty.
+--     is_deep_round                 One of these two `is_deep`.
+--     with_spaces, spaced           New elements between two whitespaces, whose trees have the numbers from a given one on; with that at a
+--                                   position.
+--     numbers_needed                How many numbers that takes.
+--     space_refusal                 Why new elements get no whitespace, if they do not: `LevelTooLarge`, else `NoTreeNumber`.
+--
+-- | left and right | whitespace |
+-- |---|---|
+-- | one is WHITESPACE | none |
+-- | right is SEMICOLON or COMMA | none |
+-- | left is L_ANGLE, or right is R_ANGLE | none |
+-- | left is AMP and right is LIFETIME | none |
+-- | right is GENERIC_ARG_LIST | none |
+-- | both are USE | a new line at the greater level |
+-- | right is USE | a new line at the level of left |
+-- | both are ATTR | a new line at the greater level |
+-- | left is ATTR | a new line at the level of right |
+-- | else | one space |
+--
+-- Items are CONST, ENUM, EXTERN_BLOCK, EXTERN_CRATE, FN, IMPL, MACRO_CALL, MACRO_DEF, MACRO_RULES, MODULE, STATIC,
+-- STRUCT, TRAIT, TYPE_ALIAS, UNION and USE.
 use Rattle.std.specs.Prelude.{◌<◌, ℕ, suc, ◌+◌, ◌==◌, ◌&&◌, ◌||◌, Bool, false, cond, max, nat_lt, List, [], ◌∷◌, ◌++◌, length, unwrap_or, Option}
 use Rattle.std.specs.List.{list_any}
 use Rattle.std.specs.Option.{option_map_or}

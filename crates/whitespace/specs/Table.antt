@@ -1,5 +1,5 @@
 -- Tables of lines, each with a test and a value.
---     first_fit      the value of the first line whose test holds, if there is one
+--     first_fit                     In a table of tests and values, the value of the first line whose test holds.
 use Rattle.std.specs.Prelude.{Bool, List, Option, option_map, find}
 
 abbrev pub first_fit : {X : Type 0} → List (Bool × X) → Option X
