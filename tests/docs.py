@@ -1,7 +1,7 @@
 """Compares what the docs and the spec files say with what is there.
 
-- The tables of files in docs/ARCHITECTURE.md name each source and each spec file of a library once, and no other but spec files that
-  it re-exports. The head of a spec file names what it defines for others, all of it, and nothing else.
+- Each source of a library begins with what it holds, in three lines at most but for a root. The head of a spec file names what it defines for others, all
+  of it, and nothing else; docs/DEFINITIONS.md is made of these heads (tests/api.py).
 - What docs/CALLING.md and README.md show of a caller, and docs/SCRIPTS.md of a script, is in its file, word for word.
 - docs/GUARANTEES.md names each public call once, and its contracts cite the definitions that the row names.
 - Each file that a page names is there. No line of a page is over 120 columns but in a table, README.md is one page, and it names the kit.
@@ -17,6 +17,7 @@ import subprocess
 import sys
 from pathlib import Path
 
+import api
 import believed
 import planted
 import public_calls
@@ -25,61 +26,22 @@ import signatures
 import walk
 
 ROOT = Path(__file__).resolve().parent.parent
-# Libraries whose files no table lists: they are for tests.
-UNLISTED = {"test_questions", "test_steps", "test_trees"}
 # Files that the check writes beside a proof, and no one commits.
 GENERATED = {"AnswersOffered.antt"}
 wrong = []
 
 
-def library_files(kind, ending):
-    """The files of each library, by crate, without the root file."""
-    found = {}
-    for root in sorted(ROOT.glob("crates/*/src/lib.rt")):
-        crate = root.parent.parent.name
-        if crate not in UNLISTED:
-            files = sorted((root.parent.parent / kind).rglob("*" + ending))
-            found[crate] = {file.stem for file in files} - {"lib", "Lib", "inner"}
-    return found
+def library_sources():
+    """The sources of each library."""
+    for crate in public_calls.libraries(ROOT):
+        yield from sorted((ROOT / "crates" / crate / "src").rglob("*.rt"))
 
 
-def listed_files():
-    """The names in the first column of each table of files, as (crate, kind, name)."""
-    crate, kind, listed = None, None, []
-    for line in (ROOT / "docs/ARCHITECTURE.md").read_text().splitlines():
-        section = re.match(r"## (\w+)", line)
-        header = re.match(r"\| (file|definitions)\b(?: of (\w+))?", line)
-        if section:
-            crate, kind = section.group(1), None
-        elif header:
-            kind = "src" if header.group(1) == "file" else "specs"
-            crate = header.group(2) or crate
-        elif not line.startswith("|"):
-            kind = None
-        elif kind:
-            first = line.split("|")[1]
-            named = re.match(r" (\w+): ", first)
-            crate = named.group(1) if named else crate
-            listed += [(crate, kind, name.removesuffix(".rt")) for name in re.findall(r"`([^`]+)`", first)]
-    return listed
-
-
-def exported_again(crate):
-    """The spec files of other crates that a crate re-exports, under their own names or others."""
-    text = (ROOT / "crates" / crate / "specs/Lib.antt").read_text()
-    return {line.split(".")[-1].split()[-1] for line in text.splitlines() if line.startswith("pub use ")}
-
-
-def compare_tables():
-    listed = listed_files()
-    for kind, ending in (("src", ".rt"), ("specs", ".antt")):
-        for crate, names in library_files(kind, ending).items():
-            told = [name for c, k, name in listed if c == crate and k == kind]
-            if kind == "specs":
-                told = [name for name in told if name in names or name not in exported_again(crate)]
-            for name in sorted(names | set(told)):
-                if told.count(name) != (name in names):
-                    wrong.append(f"{crate}/{kind}/{name}: {told.count(name)} times in docs/ARCHITECTURE.md")
+def compare_source_heads():
+    for file in library_sources():
+        lines = len(re.match(r"(?://!.*\n)*", file.read_text())[0].splitlines())
+        if not 1 <= lines <= (9 if file.name == "lib.rt" else 3):
+            wrong.append(f"{file.relative_to(ROOT)}: its head has {lines} lines")
 
 
 def defined_names(text):
@@ -125,31 +87,15 @@ def compare_heads():
             wrong.append(f"{file.relative_to(ROOT)}: its head does not name {name}")
 
 
-def compare_defined_names():
-    """Each name in the first column of a table of DEFINITIONS is a definition, or a law, a clause or a case of the sources."""
-    known = set()
-    for file in ROOT.glob("crates/*/specs/**/*.antt"):
-        text = file.read_text()
-        known |= defined_names(text)[0] | set(head_names(text))
-    for file in ROOT.glob("crates/*/src/**/*.rt"):
-        found = re.finditer(r"\b(?:fn|ensures) (\w+)|^    ([A-Z]\w*),$", file.read_text(), re.M)
-        known |= {each[1] or each[2] for each in found}
-    for number, line in enumerate((ROOT / "docs/DEFINITIONS.md").read_text().splitlines(), 1):
-        for name in re.findall(r"`([^`]+)`", line.split("|")[1]) if line.startswith("| `") else []:
-            if name not in known:
-                wrong.append(f"docs/DEFINITIONS.md:{number}: names {name}, which is not defined")
-
-
 def compare_reads():
     """A value that a library reads and does not use is read for the proof: the comment before it says so in one phrase."""
-    for crate in library_files("src", ".rt"):
-        for file in sorted((ROOT / "crates" / crate / "src").rglob("*.rt")):
-            before = ""
-            for number, line in enumerate(file.read_text().splitlines(), 1):
-                read = re.match(r"\s*let _(?:count|builds)? = (?!.*\.(?:unwrap|remove)\()", line)
-                if read and not before.lstrip().startswith("// For the proof: "):
-                    wrong.append(f"{file.relative_to(ROOT)}:{number}: reads a value without a comment 'For the proof: ..'")
-                before = before if read else line
+    for file in library_sources():
+        before = ""
+        for number, line in enumerate(file.read_text().splitlines(), 1):
+            read = re.match(r"\s*let _(?:count|builds)? = (?!.*\.(?:unwrap|remove)\()", line)
+            if read and not before.lstrip().startswith("// For the proof: "):
+                wrong.append(f"{file.relative_to(ROOT)}:{number}: reads a value without a comment 'For the proof: ..'")
+            before = before if read else line
 
 
 def shown_code(text):
@@ -353,9 +299,8 @@ def compare_count():
         wrong.append(f"tests/planted.txt: {len(there)} planted bugs are there and {len(gone)} are gone, of {most}")
 
 
-compare_tables()
+compare_source_heads()
 compare_heads()
-compare_defined_names()
 compare_reads()
 compare_examples()
 compare_scripts()
@@ -364,6 +309,7 @@ compare_names()
 compare_widths()
 compare_readme()
 compare_believed()
+wrong.extend(f"{page}: not what the sources say: python3 tests/api.py write" for page in api.stale())
 if signatures.wrong():
     wrong.append("docs/CALLING.md: not the signatures of the sources: python3 tests/signatures.py write")
 compare_walks()

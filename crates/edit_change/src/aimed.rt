@@ -1,3 +1,5 @@
+//! `Aimed`: a change's number with where it aims, by a path that is borrowed. Both engines work on lists of these.
+
 ghost use Rattle.std.specs.Prelude.{ℕ, ◌<◌, ◌≤◌, ◌+◌, ◌≡◌, Bool, true, false, [], ◌∷◌, suc, not};
 ghost use Rattle.edit_change.specs.Aim.{FirstIn, AfterElement, Over, aims_at_gap, starts_at, replaces};
 ghost use Rattle.edit_change.specs.inner.Aimed.{aim_in, siblings_from, formed, numbered, option_formed, seen_from, has_parent};

@@ -1,3 +1,5 @@
+//! `Change`, its five forms, and `Change::fits`: what a plan requires of its changes.
+
 ghost use Rattle.std.specs.Prelude.{◌≡◌};
 ghost use Rattle.edit_change.specs.Fits.{fits};
 

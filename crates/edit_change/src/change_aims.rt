@@ -1,3 +1,5 @@
+//! Where a change aims, and its payload, in the form in which engines take them.
+
 ghost use Rattle.std.specs.Prelude.{◌≡◌, ◌<◌, ◌-◌, ◌^◌, ◌↔◌, true, suc, [], ◌∷◌, map, IfOk, IsTrue};
 ghost use Rattle.cst_core.specs.Element.{Element, IsNode, subtree};
 ghost use Rattle.cst_core.specs.declared.element.SyntaxElement.TheVariants.{Node};

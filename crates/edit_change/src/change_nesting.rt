@@ -1,3 +1,5 @@
+//! What a change replaces, whether that is a region and keeps what aims into it, and the innermost element around the change.
+
 ghost use Rattle.std.specs.Prelude.{◌≡◌, [], cond};
 ghost use Rattle.std.specs.Option.{option_map_or};
 ghost use Rattle.cst_core.specs.Path.{above, up_to};

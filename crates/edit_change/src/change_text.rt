@@ -1,3 +1,5 @@
+//! The text that shows a change, with colours or without, written by one writer that takes memory for open nodes alone.
+
 ghost use Rattle.std.specs.Prelude.{◌≡◌, ◌++◌, ◌∷◌, [], take, drop, IfOk, string_bytes};
 ghost use Rattle.std.specs.Fmt.{WritesOnOk};
 ghost use Rattle.cst_core.specs.Green.{texts};

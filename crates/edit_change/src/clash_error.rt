@@ -1,3 +1,5 @@
+//! `ClashError`: why the changes of a list cannot be looked up by what they replace.
+
 use std::alloc::AllocError;
 use thiserror::Error;
 

@@ -1,3 +1,5 @@
+//! `Element`: any value or reference that stands for an element, which the calls that record take.
+
 ghost use Rattle.std.specs.Prelude.{◌≡◌, IfOk};
 ghost use Rattle.cst_core.specs.declared.element.SyntaxElement.TheVariants.{Node};
 

@@ -1,3 +1,5 @@
+//! `ElementList`: the elements of a payload.
+
 ghost use Rattle.std.specs.Prelude.{◌≡◌};
 
 use cst_core::SyntaxElement;

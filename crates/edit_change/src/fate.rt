@@ -1,3 +1,5 @@
+//! `Fate`: what becomes of a change in a plan.
+
 ghost use Rattle.std.specs.Prelude.{◌≡◌, List, [], ◌∷◌, ◌++◌, cond};
 ghost use Rattle.cst_core.specs.Path.{Path};
 ghost use Rattle.edit_change.specs.inner.TargetTable.{target_at, IsApart};

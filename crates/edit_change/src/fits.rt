@@ -1,3 +1,5 @@
+//! What an element, a range and the root's replacement must meet to be changed.
+
 ghost use Rattle.std.specs.Prelude.{◌≡◌, [], ◌∷◌};
 ghost use Rattle.edit_change.specs.Fits.{is_root, have_one_path, are_siblings, is_range, is_one_node};
 

@@ -1,3 +1,5 @@
+//! `Given`: what a change gives, one borrowed element or elements that are shared.
+
 ghost use Rattle.std.specs.Prelude.{◌<◌, ◌≡◌, length, get_or, IfOk};
 ghost use Rattle.green_tree.specs.Tree.{SyntaxTree};
 ghost use Rattle.green_tree.specs.GreenElement.{element_tree};

@@ -1,3 +1,5 @@
+//! Whether an element or a position is of a tree.
+
 ghost use Rattle.std.specs.Prelude.{◌≡◌};
 ghost use Rattle.cst_core.specs.declared.element.SyntaxElement.TheVariants.{Node, Token};
 ghost use Rattle.edit_change.specs.Fits.{is_native, is_native_position};

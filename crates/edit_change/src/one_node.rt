@@ -1,3 +1,5 @@
+//! The only element of a list, as a node.
+
 ghost use Rattle.std.specs.Prelude.{◌≡◌, [], ◌∷◌};
 ghost use Rattle.cst_core.specs.Green.{branch_tree};
 ghost use Rattle.cst_core.specs.GreenElement.{element_trees};

@@ -1,3 +1,5 @@
+//! `Planned`: what an engine is told of a plan.
+
 use crate::change::Change;
 use crate::fate::Fate;
 use crate::target_table::TargetTable;

@@ -1,3 +1,5 @@
+//! `Position`: a gap, which is after an element or the first one of a node.
+
 ghost use Rattle.std.specs.Prelude.{◌≡◌, IfOk, option_map};
 ghost use Rattle.edit_change.specs.PositionForm.{FirstChild};
 ghost use Rattle.edit_change.specs.Position.{anchor, first_of, after_of, after, before, last_child_of};

@@ -1,3 +1,5 @@
+//! `TargetTable`: the change that replaces what is at a path, and the first two that clash.
+
 ghost use Rattle.std.specs.Prelude.{◌≡◌, ◌+◌, ◌<◌, ◌≤◌, ◌++◌, ◌∷◌, [], length, slice_get, Some, None, OnOk, IfOk, IfErr};
 ghost use Rattle.cst_core.specs.Path.{Path, siblings};
 ghost use Rattle.path_table.specs.inner.PathTable.{cell_at, size, IsTree};

@@ -1,3 +1,5 @@
+//! What a replacement replaces: one element or a range of siblings.
+
 ghost use Rattle.std.specs.Prelude.{◌≡◌};
 ghost use Rattle.cst_core.specs.Path.{parent_path, last_slot};
 

@@ -1,3 +1,5 @@
+//! `trial_source`: the next tree numbers, for a call that may still be refused when it draws them.
+
 ghost use Rattle.std.specs.Prelude.{◌≡◌};
 
 use cst_core::TreeIds;

@@ -1,3 +1,5 @@
+//! Lists of aims: whether they concern a child, and those that lie below it.
+
 ghost use Rattle.std.specs.Prelude.{◌≡◌, [], ◌∷◌, map, length, IfOk, OnOk};
 ghost use Rattle.std.specs.List.{list_any};
 ghost use Rattle.edit_change.specs.Rewriting.{is_replaced};

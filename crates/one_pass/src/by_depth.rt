@@ -1,3 +1,5 @@
+//! The changes that own something, by their depth.
+
 ghost use Rattle.std.specs.Prelude.{ℕ, ◌≡◌, ◌<◌, ◌++◌, [], ◌∷◌, length, IfOk, OnOk};
 ghost use Rattle.edit_change.specs.inner.OwnerPlaces.{depth_of};
 ghost use Rattle.one_pass.specs.inner.OwnerTables.{owners_at, AreOwners, OwnersStay};

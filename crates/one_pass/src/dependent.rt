@@ -1,3 +1,5 @@
+//! `Dependent`: an owned change, and where it aims in its owner's payload.
+
 ghost use Rattle.std.specs.Prelude.{ℕ, ◌≡◌, ◌<◌, [], map, length, slice_get, option_and_then, All, IfOk, IfSome, OnOk};
 ghost use Rattle.cst_core.specs.Element.{Element};
 ghost use Rattle.edit_change.specs.inner.Aimed.{aims_of};

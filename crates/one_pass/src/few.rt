@@ -1,3 +1,5 @@
+//! `Few`: the aims of a group, one or several.
+
 use crate::lone::Lone;
 use edit_change::Aimed;
 

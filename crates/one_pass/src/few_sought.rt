@@ -1,3 +1,5 @@
+//! `FewSought`: sought marks, none, one or several.
+
 use crate::mark::Sought;
 
 /// Sought marks, of which only several take memory of their own.

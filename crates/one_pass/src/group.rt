@@ -1,3 +1,5 @@
+//! `Group`: at least one aim, with memory from the second on.
+
 ghost use Rattle.std.specs.Prelude.{◌≡◌, ◌++◌, [], ◌∷◌, IfOk, OnOk};
 
 use crate::few::Few;

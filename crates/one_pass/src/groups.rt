@@ -1,3 +1,5 @@
+//! `Groups`: the aims of each child, with a group only for a child that some aim concerns.
+
 ghost use Rattle.std.specs.Prelude.{◌≡◌, ◌<◌, true, [], length, get_or, IfOk, OnOk};
 ghost use Rattle.one_pass.specs.inner.Groups.{AreEmptyGroups};
 ghost use Rattle.one_pass.specs.inner.OneMore.{HasOneMore, StaysElsewhere};

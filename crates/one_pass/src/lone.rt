@@ -1,3 +1,5 @@
+//! `Lone`: a list of one aim at most.
+
 ghost use Rattle.std.specs.Prelude.{◌≡◌, List, [], ◌∷◌, length};
 ghost use Rattle.edit_change.specs.declared.aimed.Aimed.{Aimed};
 

@@ -1,3 +1,5 @@
+//! `Mark` and `Sought`: where a registered element is in the new tree and in the old one.
+
 ghost use Rattle.std.specs.Prelude.{◌<◌, ◌≡◌, length, IfOk, OnOk};
 ghost use Rattle.one_pass.specs.inner.Marked.{sought_in, Finds, found_at, IsDealt};
 ghost use Rattle.one_pass.specs.inner.OneMore.{HasOneMore, StaysElsewhere};

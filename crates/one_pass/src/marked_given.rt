@@ -1,3 +1,5 @@
+//! `MarkedGiven`: what a change gives, with its marks; `GivenTable`: that of all changes.
+
 ghost use Rattle.std.specs.Prelude.{◌≡◌, ◌++◌, map, IfOk, OnOk};
 ghost use Rattle.one_pass.specs.inner.Marked.{mark_below, marks_of, Finds};
 ghost use Rattle.one_pass.specs.inner.Pass.{own_marks, marks_at_path};

@@ -1,3 +1,5 @@
+//! `SoughtList`: sought marks, with memory from the second on.
+
 ghost use Rattle.std.specs.Prelude.{◌≡◌, ◌++◌, [], ◌∷◌, IfOk, OnOk};
 
 use crate::few_sought::FewSought;

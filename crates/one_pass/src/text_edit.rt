@@ -1,3 +1,5 @@
+//! `TextEdit`: one edit of a text.
+
 /// A text that stands in the place of a part of an old text. An insert is one of an empty part.
 #[derive(Drop)]
 pub struct TextEdit {
