@@ -138,7 +138,7 @@ def public_texts():
     for crate in public_calls.libraries(ROOT):
         for file, text in public_calls.sources(crate, ROOT):
             uses = ghost_uses(text)
-            for call in public_calls.calls_in(crate, file, text):
+            for call, _ in public_calls.items_in(crate, file, text):
                 if call.owner in names:
                     yield call.contract, uses
             for block in re.split(r"^(?=impl|pub trait)", text, flags=re.M)[1:]:

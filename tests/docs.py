@@ -3,7 +3,7 @@
 - Each source of a library begins with what it holds, in three lines at most but for a root. The head of a spec file names what it defines for others, all
   of it, and nothing else; docs/DEFINITIONS.md is made of these heads (tests/api.py).
 - What docs/CALLING.md and README.md show of a caller, and docs/SCRIPTS.md of a script, is in its file, word for word.
-- docs/GUARANTEES.md names each public call once, and its contracts cite the definitions that the row names.
+- docs/GUARANTEES.md and the signatures of docs/CALLING.md are made of the doc comments and contracts of the public calls (tests/api.py).
 - Each file that a page names is there. No line of a page is over 120 columns but in a table, README.md is one page, and it names the kit.
 - docs/ARCHITECTURE.md says how many crates, files and functions its walks have, and none has more functions than it had (tests/walk.py).
 - Each file of rows is read for one group, and is not too long (tests/rows.py).
@@ -22,7 +22,6 @@ import believed
 import planted
 import public_calls
 import rows
-import signatures
 import walk
 
 ROOT = Path(__file__).resolve().parent.parent
@@ -138,52 +137,6 @@ def compare_scripts():
     table = re.search(r"KIND_NAMES: \[&str; 65\] = \[(.*?)\];", (ROOT / "crates/green_tree/src/kind.rt").read_text(), re.S)
     if re.findall(r'"(\w+)"', table.group(1)) not in [block.split() for block in re.findall(r"```text\n(.*?)```", page, re.S)]:
         wrong.append("docs/SCRIPTS.md: does not list the names of the kinds")
-
-
-def told_calls(cell):
-    """The calls that the first cell of a row of docs/GUARANTEES.md names: types, and after each group of them its methods."""
-    types, after_type, told = [], False, []
-    for word in re.findall(r"`([^`]+)`", cell):
-        if "::" in word:
-            told.append(word)
-        elif word[0].isupper():
-            types = [*types, word] if after_type else [word]
-        else:
-            told += [f"{owner}::{word}" for owner in types]
-        after_type = "::" not in word and word[0].isupper()
-    return told
-
-
-def calls_owed():
-    """The public calls by the names that docs/GUARANTEES.md has for them."""
-    owed, names = {}, public_calls.surface_names(ROOT) | {"laws"}
-    for crate in public_calls.libraries(ROOT):
-        for call in public_calls.calls_of(crate, ROOT):
-            if call.owner == "laws":
-                # Users name `cst_core` alone, which has what `green_tree` has.
-                owed[f"{crate if crate != 'green_tree' else 'cst_core'}::{call.name}"] = call
-            elif call.owner in names:
-                # A free function goes by the crate from which a user takes it.
-                takes = [it for it in public_calls.SURFACE if call.name in public_calls.given(it, ROOT)]
-                owed[call.name if "::" in call.name else f"{takes[0]}::{call.name}"] = call
-    return owed
-
-
-def compare_guarantees():
-    page, owed, told = "docs/GUARANTEES.md", calls_owed(), []
-    for line in (ROOT / page).read_text().splitlines():
-        if not line.startswith("| `"):
-            continue
-        calls, _, contract = line.strip("|").split(" | ")
-        row = told_calls(calls)
-        told += row
-        cited = set().union(*(owed[name].cited for name in row if name in owed))
-        for word in re.findall(r"`([^`]+)`", contract):
-            if word not in cited:
-                wrong.append(f"{page}: no contract of {', '.join(row)} cites {word}")
-    for name in sorted(owed.keys() | set(told)):
-        if told.count(name) != (name in owed):
-            wrong.append(f"{page}: names {name} {told.count(name)} times")
 
 
 def pages():
@@ -304,14 +257,11 @@ compare_heads()
 compare_reads()
 compare_examples()
 compare_scripts()
-compare_guarantees()
 compare_names()
 compare_widths()
 compare_readme()
 compare_believed()
 wrong.extend(f"{page}: not what the sources say: python3 tests/api.py write" for page in api.stale())
-if signatures.wrong():
-    wrong.append("docs/CALLING.md: not the signatures of the sources: python3 tests/signatures.py write")
 compare_walks()
 compare_planted_bugs()
 compare_count()

@@ -97,8 +97,8 @@ def surface_names(root="."):
     return set().union(*(given(crate, root) for crate in SURFACE))
 
 
-def calls_in(crate, file, text):
-    """The public functions of a source. What an impl of a trait has is a call of the trait."""
+def items_in(crate, file, text):
+    """The public functions of a source, each with where it stands. What an impl of a trait has is a call of the trait."""
     owner, is_public, is_trait = None, False, False
     for item in ITEM.finditer(text):
         if item["type"] is not None:
@@ -107,15 +107,15 @@ def calls_in(crate, file, text):
             owner, is_public, is_trait = item["trait"], True, True
         elif item["method"]:
             if is_public and (item["public"] or is_trait):
-                yield Call(crate, owner, item, text)
+                yield Call(crate, owner, item, text), item
         elif item["public"]:
-            yield Call(crate, "laws" if file == "laws.rt" else item["call"], item, text)
+            yield Call(crate, "laws" if file == "laws.rt" else item["call"], item, text), item
 
 
 def calls_of(crate, root="."):
     """The public functions of a crate."""
     for file, text in sources(crate, root):
-        yield from calls_in(crate, file, text)
+        yield from (call for call, _ in items_in(crate, file, text))
 
 
 if __name__ == "__main__":
