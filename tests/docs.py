@@ -155,7 +155,7 @@ def compare_names():
         for path in re.findall(r"(?<![\w./-])(?:docs|tests|crates|examples|bindings)/[\w./*-]*[\w*/]", text):
             if not re.search(r"NAME|CRATE|FILE|my_caller|/out\b|/target\b", path) and not list(ROOT.glob(path)):
                 wrong.append(f"{page.relative_to(ROOT)}: names {path}, which is not there")
-XX
+        for name in re.findall(r"(?<![\w/.])(\w+\.(?:rt|antt|edit))\b", text):
             if name not in files and name not in GENERATED:
                 wrong.append(f"{page.relative_to(ROOT)}: names {name}, which is not there")
         for link in re.findall(r"\]\(([^)#]+)(?:#[^)]*)?\)", text):
