@@ -144,7 +144,7 @@ def compare_scripts():
 
 
 def pages():
-    return [*sorted(ROOT.glob("*.md")), *sorted(ROOT.glob("docs/**/*.md"))]
+    return [*sorted(ROOT.glob("*.md")), *sorted(ROOT.glob("docs/**/*.md")), *sorted(ROOT.glob("bench/*.md"))]
 
 
 def compare_names():
@@ -152,7 +152,7 @@ def compare_names():
     files = {file.name for file in ROOT.glob("crates/*/*/**/*")}
     for page in pages():
         text = re.sub(r"```(?:rust|python)\n.*?```", "", page.read_text(), flags=re.S)
-        for path in re.findall(r"(?<![\w./-])(?:docs|tests|crates|examples|bindings)/[\w./*-]*[\w*/]", text):
+        for path in re.findall(r"(?<![\w./-])(?:docs|tests|crates|examples|bindings|bench)/[\w./*-]*[\w*/]", text):
             if not re.search(r"NAME|CRATE|FILE|my_caller|/out\b|/target\b", path) and not list(ROOT.glob(path)):
                 wrong.append(f"{page.relative_to(ROOT)}: names {path}, which is not there")
         for name in re.findall(r"(?<![\w/.])(\w+\.(?:rt|antt|edit))\b", text):

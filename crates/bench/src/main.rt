@@ -1,4 +1,4 @@
-//! Measures edits of large trees, and walks over them. Each line of the standard input (tests/figures.py and tests/memory.py write such
+//! Measures edits of large trees, and walks over them. Each line of the standard input (bench/figures.py and bench/memory.py write such
 //! lines) is `count` or `time`, how often, and one of these. A line comes out for each figure: the same, what was read, and the count or
 //! the nanoseconds, as `time 3 order literals 512 replace 1; InDefaultOrder; 280125`.
 //!

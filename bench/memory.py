@@ -1,7 +1,7 @@
 #!/usr/bin/env python3
 """Measures what edits of the program `bench` hold; it is no test, and nothing in it can fail.
 
-A library that is built for it (tests/memory_marks.c) counts the bytes of the blocks that the program takes and frees, from one reading of
+A library that is built for it (bench/memory_marks.c) counts the bytes of the blocks that the program takes and frees, from one reading of
 the clock to the next. For each edit this prints
 
     finish, most       the most that `finish` would hold at a time beyond what was there before it: that of planning, or of carrying out,
@@ -26,7 +26,7 @@ HEADS = ("finish, most", "run, most", "run, kept", "nodes", "finish / nodes", "r
 def marked(program, room):
     """What the program prints, a line for each part, and what the library says of each. Between two parts it says a line, too."""
     library = os.path.join(room, "memory_marks.so")
-    subprocess.run([os.environ.get("CC", "cc"), "-O1", "-shared", "-fPIC", "-o", library, f"{ROOT}/tests/memory_marks.c", "-ldl"], check=True)
+    subprocess.run([os.environ.get("CC", "cc"), "-O1", "-shared", "-fPIC", "-o", library, f"{ROOT}/bench/memory_marks.c", "-ldl"], check=True)
     lines = "".join(f"time 1 {it.steps}\n" for it in EDITS)
     run = subprocess.run([program], input=lines, capture_output=True, text=True, env={"LD_PRELOAD": library}, check=True)
     return run.stdout.splitlines(), run.stderr.splitlines()[::2]

@@ -1,5 +1,5 @@
 #!/usr/bin/env python3
-"""Runs the program `bench` with times and prints the tables of docs/log/FIGURES.md; it is no test, and nothing in it can fail.
+"""Runs the program `bench` with times and prints the tables of bench/FIGURES.md; it is no test, and nothing in it can fail.
 
     figures.py [RUNS [MOST]]    so many runs in a row (1 if it is not said), with nothing beside them; trees of at most MOST parts (32,768; 2,048 or more)
 
