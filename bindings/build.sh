@@ -6,7 +6,7 @@ set -euo pipefail
 cd "$(dirname "$0")/.."
 archive=crates/syned_c/out/libsyned_c.a
 kit=$(dirname "$(rt doc)")
-needed=$(python3 tests/public_calls.py below syned_c)
+needed=$(python3 tests/api.py below syned_c)
 libraries=${needed//syned_c/}
 
 # Whether no source of these crates is newer than this file or folder.

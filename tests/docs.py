@@ -18,9 +18,7 @@ import sys
 from pathlib import Path
 
 import api
-import believed
 import planted
-import public_calls
 import rows
 import walk
 
@@ -32,7 +30,7 @@ wrong = []
 
 def library_sources():
     """The sources of each library."""
-    for crate in public_calls.libraries(ROOT):
+    for crate in api.libraries():
         yield from sorted((ROOT / "crates" / crate / "src").rglob("*.rt"))
 
 
@@ -196,17 +194,17 @@ def compare_walks():
 
 def compare_believed():
     """What a reader has to believe is short, and stands outside inner/; what stands there is that, and no more."""
-    specs = believed.Specs()
-    from_where = believed.reached(specs)
-    of_editor, of_scripts = believed.of_editor_and_scripts(from_where)
+    specs = api.Specs()
+    from_where = api.reached(specs)
+    of_editor, of_scripts = api.of_editor_and_scripts(from_where)
     said = f"{of_editor:,} lines of the editor and {of_scripts} of scripts"
     print(f"docs: public clauses reach {said}")
-    if of_editor > believed.MOST_OF_EDITOR or of_scripts > believed.MOST_OF_SCRIPTS:
-        wrong.append(f"public clauses reach {said}: at most {believed.MOST_OF_EDITOR} and {believed.MOST_OF_SCRIPTS}")
+    if of_editor > api.MOST_OF_EDITOR or of_scripts > api.MOST_OF_SCRIPTS:
+        wrong.append(f"public clauses reach {said}: at most {api.MOST_OF_EDITOR} and {api.MOST_OF_SCRIPTS}")
     if said not in (ROOT / "docs/DEFINITIONS.md").read_text().replace("\n", " "):
         wrong.append(f"docs/DEFINITIONS.md: does not say that public clauses reach {said}")
-    wrong.extend(f"{it}: a public clause reaches it, and it is in inner/" for it in believed.reached_inside(from_where))
-    wrong.extend(f"{it}: no public clause reaches it, and it is outside inner/" for it in believed.unreached_outside(specs, from_where))
+    wrong.extend(f"{it}: a public clause reaches it, and it is in inner/" for it in api.reached_inside(from_where))
+    wrong.extend(f"{it}: no public clause reaches it, and it is outside inner/" for it in api.unreached_outside(specs, from_where))
 
 
 # The crates that users of the editor name.
@@ -224,8 +222,8 @@ WITHOUT_BUG = {
 
 def compare_planted_bugs():
     """Each bug can be made. Each public function that users of the editor name has one, or calls a function of its crate that has one."""
-    names, missing = set().union(*(public_calls.given(crate, ROOT) for crate in EDITOR)), set()
-    for crate in public_calls.libraries(ROOT):
+    names, missing = set().union(*(api.given(crate) for crate in EDITOR)), set()
+    for crate in api.libraries():
         folder = ROOT / "crates" / crate
         bugs = [planted.Bug(edit, folder) for edit in planted.bugs_of(crate)]
         wrong.extend(f"{crate}/{bug.name}: {bug.why}" for bug in bugs if bug.why)
@@ -235,7 +233,7 @@ def compare_planted_bugs():
         for file in folder.glob("src/**/*.rt"):
             for it in planted.functions_of(str(file.relative_to(folder)), file.read_text()):
                 bodies.setdefault(f"{it.type}::{it.name}".removeprefix("::"), []).append(it.text.partition("{\n")[2])
-        for call in public_calls.calls_of(crate, ROOT):
+        for call in api.calls_of(crate):
             calls = set(re.findall(r"\b(\w+)(?:::<[^>]*>)?\(", " ".join(bodies.get(call.name, []))))
             has_body = any(text.strip() for text in bodies.get(call.name, []))
             if call.owner in names and call.owner != "laws" and has_body and call.name not in whole and not calls & edited:

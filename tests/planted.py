@@ -24,7 +24,7 @@ import threading
 from concurrent.futures import ThreadPoolExecutor
 from pathlib import Path
 
-from public_calls import below, uses_of
+from api import below, uses_of
 
 ROOT = Path(__file__).resolve().parent.parent
 RECORD = ROOT / "tests/planted.txt"
@@ -35,7 +35,7 @@ def bugs_of(crate):
 
 
 def crates_with_bugs():
-    return [crate for crate in uses_of(ROOT) if bugs_of(crate)]
+    return [crate for crate in uses_of() if bugs_of(crate)]
 
 
 # The record.
@@ -44,7 +44,8 @@ CLAUSE = re.compile(r"^ *(?:pub )?(?:ghost|requires|ensures)\b", re.M)
 
 
 def code(file):
-    return re.sub(r"^ *//.*\n", "", file.read_text(), flags=re.M)
+    """A source or a spec file without its comments and its empty lines."""
+    return re.sub(r"^ *(?://|--).*\n|^\n", "", file.read_text(), flags=re.M)
 
 
 def clauses(text):
@@ -61,10 +62,10 @@ def key(crate):
     crates, told = ROOT / "crates", [subprocess.run(["rt", "version"], capture_output=True, text=True, check=True).stdout]
     told += [f"{bug.name}\n{bug.read_text()}" for bug in bugs_of(crate)]
     told += [f"{file.relative_to(crates)}\n{code(file)}" for file in sorted(crates.glob(f"{crate}/src/**/*.rt"))]
-    for name in below(crate, uses_of(ROOT)):
+    for name in below(crate, uses_of()):
         told += [clause for file in sorted(crates.glob(f"{name}/src/**/*.rt")) for clause in clauses(code(file))]
-    for name in [crate, *below(crate, uses_of(ROOT))]:
-        told += [f"{file.relative_to(crates)}\n{file.read_text()}" for file in sorted(crates.glob(f"{name}/specs/**/*.antt"))]
+    for name in [crate, *below(crate, uses_of())]:
+        told += [f"{file.relative_to(crates)}\n{code(file)}" for file in sorted(crates.glob(f"{name}/specs/**/*.antt"))]
     return hashlib.sha256("\n".join(told).encode()).hexdigest()
 
 
@@ -192,7 +193,7 @@ class Lab:
     """A copy of some crates and of those below, with the libraries that they need proved."""
 
     def __init__(self, crates, lanes, in_gate):
-        self.uses, self.room, self.lanes = uses_of(ROOT), Path(tempfile.mkdtemp(prefix="planted-")), threading.Semaphore(lanes)
+        self.uses, self.room, self.lanes = uses_of(), Path(tempfile.mkdtemp(prefix="planted-")), threading.Semaphore(lanes)
         self.kit = Path(subprocess.run(["rt", "doc"], capture_output=True, text=True, check=True).stdout.strip()).parent
         needed = {name for crate in crates for name in below(crate, self.uses)}
         for crate in {*crates, *needed}:

@@ -14,7 +14,7 @@ import sys
 import tempfile
 
 import rows
-from public_calls import calls_of, given, libraries, sources, surface_names
+from api import calls_of, given, libraries, surface_names, texts
 
 # Calls that no row can show to be refused. The sharing of a tree is a count, and the path of a root is empty.
 EXCEPT = {
@@ -69,7 +69,7 @@ def owed_calls():
 
 def is_called_above(crate, name):
     word = re.compile(rf"\b{name.split('::')[-1]}\(")
-    return any(word.search(text) for other in libraries() if other != crate for _, text in sources(other))
+    return any(word.search(text) for other in libraries() if other != crate for _, text in texts(other))
 
 
 def beside(tokens):
