@@ -26,7 +26,7 @@ import walk
 
 ROOT = Path(__file__).resolve().parent.parent
 # Libraries whose files no table lists: they are for tests.
-UNLISTED = {"test_questions", "test_steps", "test_trees"}
+UNLISTED = {"test_trees"}
 # Files that the check writes beside a proof, and no one commits.
 GENERATED = {"AnswersOffered.antt"}
 wrong = []

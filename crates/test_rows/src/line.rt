@@ -1,33 +1,5 @@
 use test_trees::first_word;
 
-/// What a row asks.
-#[derive(Clone, Copy)]
-pub enum Row<'a> {
-    /// `? QUESTION`: a question about a value that stands by itself.
-    Question(&'a str),
-    /// `WORDS: STEP ; STEP ; ..`: what is asked, in words, and the steps.
-    Steps(&'a str),
-}
-
-/// What a row says of its answer, or of those of its steps that are asked about.
-#[derive(Clone, Copy)]
-pub enum Wanted<'a> {
-    /// ` = ANSWER`: it is this one.
-    Answer(&'a str),
-    /// ` != ANSWER`: it is another one. Such a row fails where all answers are taken for equal.
-    Other(&'a str),
-}
-
-impl<'a> Wanted<'a> {
-    pub fn is_met(self, answer: &str) -> bool {
-        let (named, is_the_answer) = match self {
-            Wanted::Answer(wanted) => (wanted, true),
-            Wanted::Other(unwanted) => (unwanted, false),
-        };
-        (answer == named) == is_the_answer
-    }
-}
-
 /// A line of the table.
 #[derive(Clone, Copy)]
 pub enum Line<'a> {
@@ -38,9 +10,17 @@ pub enum Line<'a> {
     /// `group NAME`: the lines of the file `NAME.rows`.
     Group(&'a str),
     /// `tree NAME TREE`: a tree that the questions after it name.
-    Tree { name: &'a str, text: &'a str },
-    /// A row and what it says of its answer.
-    Row { row: Row<'a>, wanted: Wanted<'a> },
+    Tree {
+        name: &'a str,
+        text: &'a str,
+    },
+    /// A row: `WORDS: STEP ; STEP ; ..` or `? STEP`. Its answer is this one (` = ANSWER`), or another one (` != ANSWER`), so that the row fails
+    /// where all answers are taken for equal.
+    Row {
+        steps: &'a str,
+        answer: &'a str,
+        is_it: bool,
+    },
     /// `end`: the last line of a file, so that one that is cut off is noticed.
     End,
     Malformed,
@@ -69,27 +49,17 @@ impl<'a> Line<'a> {
     }
 
     fn read_row(line: &'a str) -> Option<Line<'a>> {
-        if let Some(text) = line.strip_prefix("? ") {
-            let (question, wanted) = split_wanted(text)?;
-            return Some(Line::Row {
-                row: Row::Question(question),
-                wanted,
-            });
-        }
-        let (_, text) = line.split_once(": ")?;
-        let (steps, wanted) = split_wanted(text)?;
+        let text = match line.strip_prefix("? ") {
+            Some(step) => step,
+            None => line.split_once(": ")?.1,
+        };
+        let (asked, answer) = text.split_once("= ")?;
+        let is_it = !asked.ends_with(" !");
+        let steps = asked.strip_suffix(if is_it { " " } else { " !" })?;
         Some(Line::Row {
-            row: Row::Steps(steps),
-            wanted,
+            steps,
+            answer,
+            is_it,
         })
-    }
-}
-
-// What is asked, and what a row says of its answer.
-fn split_wanted(row: &str) -> Option<(&str, Wanted<'_>)> {
-    let (asked, answer) = row.split_once("= ")?;
-    match asked.strip_suffix(" !") {
-        Some(asked) => Some((asked, Wanted::Other(answer))),
-        None => Some((asked.strip_suffix(' ')?, Wanted::Answer(answer))),
     }
 }

@@ -5,12 +5,27 @@
 #![tactic(auto)]
 
 mod asked;
+mod calls;
+mod editors;
+mod elements;
+mod errors;
+mod greens;
+mod indents;
 mod line;
-mod part;
+mod making;
+mod mappings;
+mod plans;
+mod recording;
 mod report;
+mod roots;
 mod row;
 mod run;
-mod table;
+mod runs;
+mod session;
+mod shown;
+mod standing;
+mod texts;
+mod values;
 
 use crate::report::REFUSED;
 use crate::run::Run;

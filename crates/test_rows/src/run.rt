@@ -1,21 +1,21 @@
 //! A run of the table, line by line.
 
-use crate::line::{Line, Row, Wanted};
-use crate::part::Part;
-use crate::report::Report;
-use crate::row::take_row;
-use crate::table::Table;
+use crate::asked::Asked;
+use crate::line::Line;
+use crate::report::{Part, Report};
+use crate::row::Row;
+use crate::session::Session;
 use std::alloc::Global;
 use std::process::ExitCode;
 use std::rt::Files;
 use std::{fs, io};
-use test_steps::Session;
 
 /// What the lines of the table defined and asked about so far, and what went wrong.
 #[derive(Drop)]
 pub struct Run {
     alloc: Global,
-    table: Table,
+    session: Session,
+    asked: Asked,
     report: Report,
     // Of the table itself; each group has its own.
     part: Part,
@@ -25,7 +25,8 @@ impl Run {
     pub fn new(alloc: Global) -> Run {
         Run {
             alloc,
-            table: Table::new(alloc),
+            session: Session::new(alloc),
+            asked: Asked::new(alloc),
             report: Report::new(),
             part: Part::new(),
         }
@@ -33,7 +34,7 @@ impl Run {
 
     /// Whether a row or a tree ended because memory ran out, so that the rows after it may lack a tree.
     pub fn is_cut(&self) -> bool {
-        self.report.is_cut()
+        self.report.is_cut
     }
 
     /// Takes a line of the table, with all lines of the group that it names.
@@ -55,7 +56,7 @@ impl Run {
     /// Says what came of the whole table.
     pub fn close<R: Print>(&mut self, rt: &R) -> io::Result<ExitCode> {
         self.report.note_end_of(rt, "the table", self.part)?;
-        self.report.close(rt, &self.table.asked)
+        self.report.close(rt, &self.asked)
     }
 
     fn take_group<R: Print + Files + AllocGlobal>(
@@ -71,8 +72,9 @@ impl Run {
         }
     }
 
+    // Says that no line of a group went wrong, where that is so.
     fn take_lines<R: Print>(&mut self, rt: &R, name: &str, lines: &str) -> io::Result<()> {
-        let wrong_before = self.report.wrong();
+        let wrong_before = self.report.wrong;
         let mut part = Part::new();
         for text in lines.lines() {
             let line = Line::read(text);
@@ -82,7 +84,10 @@ impl Run {
             }
         }
         self.report.note_end_of(rt, name, part)?;
-        self.report.note_group(rt, name, wrong_before)
+        if self.report.wrong == wrong_before {
+            println!(rt; "{name}: as expected")?;
+        }
+        Ok(())
     }
 
     // Takes a line but for those of a group that it names.
@@ -94,30 +99,44 @@ impl Run {
                 Ok(())
             }
             Line::Tree { name, text: tree } => {
-                match self.table.trees.define(self.alloc, name, tree) {
+                match self.session.trees.defined.define(self.alloc, name, tree) {
                     Ok(()) => Ok(()),
                     Err(reason) => self.report.note_end(rt, text, reason),
                 }
             }
-            Line::Row { row, wanted } => self.answer_row(rt, text, row, wanted),
+            Line::Row {
+                steps,
+                answer,
+                is_it,
+            } => self.answer_row(rt, text, steps, answer, is_it),
             Line::Group(_) => self.report.note_wrong(rt, text, "a group names a group"),
             Line::Malformed => self.report.note_wrong(rt, text, "the line is malformed"),
         }
     }
 
-    // Takes a row in a session of its own. What it answers, or why there is no answer, is compared with what is wanted.
+    // Takes a row. What it answers, or why there is no answer, is compared with what is wanted.
     fn answer_row<R: Print>(
         &mut self,
         rt: &R,
         text: &str,
-        row: Row,
-        wanted: Wanted,
+        steps: &str,
+        answer: &str,
+        is_it: bool,
     ) -> io::Result<()> {
-        let mut session = Session::new(self.alloc);
-        let taken = take_row(self.alloc, &mut self.table, &mut session, row);
-        self.report.note_refusal(rt, session.refused)?;
+        let mut answers = String::new(self.alloc);
+        self.session.clear();
+        let mut row = Row {
+            session: &mut self.session,
+            asked: &mut self.asked,
+            answers: &mut answers,
+        };
+        let taken = row.take(steps);
+        if let Some(call) = self.session.refused {
+            println!(rt; "Memory: {call}")?;
+        }
         match taken {
-            Ok(()) => self.report.note(rt, text, &session.answers, wanted),
+            Ok(()) if (answers.as_str() == answer) == is_it => Ok(()),
+            Ok(()) => self.report.note_wrong(rt, text, answers),
             Err(reason) => self.report.note_end(rt, text, reason),
         }
     }

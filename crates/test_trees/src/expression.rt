@@ -1,6 +1,6 @@
 //! Tree expressions in which `[NAME]` stands for the expression of the tree of that name.
 
-use crate::row_error::RowError;
+use crate::no_answer::NoAnswer;
 use cst_core::GreenNode;
 use std::alloc::Global;
 use tree_text::read_tree;
@@ -13,15 +13,15 @@ pub(crate) struct Row {
 }
 
 /// The tree of this name.
-pub(crate) fn find_row(alloc: Global, rows: &[Row], name: &str) -> Result<GreenNode, RowError> {
+pub(crate) fn find_row(alloc: Global, rows: &[Row], name: &str) -> Result<GreenNode, NoAnswer> {
     let row = row_of(rows, name)?;
     Ok(read_tree(alloc, &row.expression)?)
 }
 
-fn row_of<'a>(rows: &'a [Row], name: &str) -> Result<&'a Row, RowError> {
+fn row_of<'a>(rows: &'a [Row], name: &str) -> Result<&'a Row, NoAnswer> {
     rows.iter()
         .find(|row| row.name == name)
-        .ok_or(RowError::UnknownRow)
+        .ok_or(NoAnswer::Row("UnknownRow"))
 }
 
 // What the next character belongs to.
@@ -35,14 +35,14 @@ enum State {
 }
 
 /// The expression with those of these rows in the places of their names.
-pub(crate) fn expand(alloc: Global, rows: &[Row], expression: &str) -> Result<String, RowError> {
+pub(crate) fn expand(alloc: Global, rows: &[Row], expression: &str) -> Result<String, NoAnswer> {
     let mut expanded = String::new(alloc);
     let mut name = String::new(alloc);
     let mut state = State::Outside;
     for c in expression.chars() {
         state = match (state, c) {
             // A name alone is no node.
-            (State::Outside, '[') if expanded.is_empty() => return Err(RowError::Malformed),
+            (State::Outside, '[') if expanded.is_empty() => return Err(NoAnswer::Row("Malformed")),
             (State::Outside, '[') => State::RowName,
             (State::RowName, ']') => {
                 expanded.push_str(&row_of(rows, &name)?.expression)?;

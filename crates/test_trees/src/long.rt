@@ -19,11 +19,6 @@ pub fn fill(alloc: Global, node: &GreenNode, bytes: u64) -> Result<GreenNode, No
 // Elements with n letters in all, of the powers of two that the number is the sum of.
 fn letters(alloc: Global, count: u64) -> Result<Vec<GreenElement>, NoAnswer> {
     let mut all = Vec::new(alloc);
-    push_letters(alloc, &mut all, count)?;
-    Ok(all)
-}
-
-fn push_letters(alloc: Global, all: &mut Vec<GreenElement>, count: u64) -> Result<(), NoAnswer> {
     let mut power = token(alloc, "a")?;
     let mut rest = count;
     for _ in 0..40 {
@@ -33,7 +28,7 @@ fn push_letters(alloc: Global, all: &mut Vec<GreenElement>, count: u64) -> Resul
         rest /= 2;
         power = double(alloc, &power)?;
     }
-    Ok(())
+    Ok(all)
 }
 
 // An element with twice the text: a token, or a node that holds the element two times.

@@ -1,18 +1,7 @@
 //! What calls gave, as tables write it.
 
-use crate::no_answer::NoAnswer;
-use std::alloc::{AllocError, Global};
+use std::alloc::AllocError;
 use tree_text::push_escaped;
-
-/// A copy of a word.
-pub fn word(alloc: Global, word: &str) -> Result<String, NoAnswer> {
-    Ok(String::from_str(alloc, word)?)
-}
-
-/// A number in decimal digits.
-pub fn number(alloc: Global, number: u64) -> Result<String, NoAnswer> {
-    Ok(number.to_string(alloc)?)
-}
 
 // So many slots that are the same are written as their number.
 const MANY: usize = 100;
@@ -66,11 +55,4 @@ pub fn push_quoted(out: &mut String, text: &str) -> Result<(), AllocError> {
     out.push('"')?;
     push_escaped(out, text)?;
     out.push('"')
-}
-
-/// The same by itself.
-pub fn quote(alloc: Global, text: &str) -> Result<String, NoAnswer> {
-    let mut quoted = String::new(alloc);
-    push_quoted(&mut quoted, text)?;
-    Ok(quoted)
 }

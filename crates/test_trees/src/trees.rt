@@ -2,11 +2,11 @@
 
 use crate::doubling::{capped_halves, p_file};
 use crate::long::{at_level, blank, fill, many};
-use crate::nested::{Nesting, nested};
+use crate::nested::nested;
 use crate::no_answer::NoAnswer;
 use crate::rows::{green, row};
 use crate::words::{Words, name_and_path, number_of, slots_of};
-use cst_core::{GreenNode, SyntaxElement, SyntaxNode, SyntaxToken, TreeIds};
+use cst_core::{GreenNode, SyntaxElement, SyntaxNode, TreeIds};
 use std::alloc::Global;
 
 /// The tree that a text says: a name or an expression, `long BYTES TREE`, `deep LEVEL TREE`, `wide COUNT TREE`,
@@ -27,7 +27,7 @@ pub fn read_tree(alloc: Global, text: &str) -> Result<GreenNode, NoAnswer> {
             many(alloc, &short_tree(alloc, words.take_rest())?, count)
         }
         "nested" => {
-            let nesting = Nesting::from_name(words.word()?)?;
+            let nesting = words.word()?;
             let depth = words.number()?;
             nested(alloc, short_tree(alloc, words.take_rest())?, nesting, depth)
         }
@@ -39,11 +39,12 @@ pub fn read_tree(alloc: Global, text: &str) -> Result<GreenNode, NoAnswer> {
 // An expression, or the name of a row tree or of one that holds P_31 often: P, of 2^32 - 1 bytes, or P_31 twice or three times.
 fn short_tree(alloc: Global, text: &str) -> Result<GreenNode, NoAnswer> {
     match text {
-        "P" => Ok(p_file(alloc)?),
-        "P31x2" => Ok(capped_halves(alloc, 2)?),
-        "P31x3" => Ok(capped_halves(alloc, 3)?),
-        _ if text.starts_with('(') => Ok(green(alloc, text)?),
-        _ => Ok(row(alloc, text)?),
+        "P" => p_file(alloc),
+        "P31x1" => capped_halves(alloc, 1),
+        "P31x2" => capped_halves(alloc, 2),
+        "P31x3" => capped_halves(alloc, 3),
+        _ if text.starts_with('(') => green(alloc, text),
+        _ => row(alloc, text),
     }
 }
 
@@ -104,20 +105,6 @@ impl Trees {
         let root = self.root(alloc, tree)?;
         element_below(alloc, &root, path)
     }
-
-    /// The node there.
-    pub fn node(&self, alloc: Global, address: &str) -> Result<SyntaxNode, NoAnswer> {
-        self.element(alloc, address)?
-            .into_node()
-            .ok_or(NoAnswer::Form)
-    }
-
-    /// The token there.
-    pub fn token(&self, alloc: Global, address: &str) -> Result<SyntaxToken, NoAnswer> {
-        self.element(alloc, address)?
-            .into_token()
-            .ok_or(NoAnswer::Form)
-    }
 }
 
 fn root_of_number(alloc: Global, number: u64, tree: GreenNode) -> Result<SyntaxNode, NoAnswer> {
@@ -132,5 +119,6 @@ pub fn element_below(
     path: &str,
 ) -> Result<SyntaxElement, NoAnswer> {
     let slots = slots_of(alloc, path)?;
-    root.element_at(alloc, &slots)?.ok_or(NoAnswer::Nowhere)
+    root.element_at(alloc, &slots)?
+        .ok_or(NoAnswer::Row("no element stands there"))
 }

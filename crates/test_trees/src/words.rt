@@ -110,9 +110,3 @@ fn push_times(slots: &mut Vec<usize>, slot: usize, times: usize) -> Result<(), A
 pub fn name_and_path(reference: &str) -> (&str, &str) {
     reference.split_once('/').unwrap_or((reference, "."))
 }
-
-/// What has this name in a table.
-pub fn find_named<'a, T>(table: &'a [(&str, T)], name: &str) -> Option<&'a T> {
-    let (_, named) = table.iter().find(|(own, _)| *own == name)?;
-    Some(named)
-}

@@ -1,18 +1,20 @@
 use crate::roots::Roots;
-use crate::standing::{Standing, editors_standing, mappings_standing, plans_standing};
-use cst_core::{SyntaxElement, SyntaxNode, TreeIds};
-use std::alloc::{AllocError, Global};
+use crate::standing::{Standing, editors_standing, lengths_standing};
+use cst_core::{SyntaxElement, TreeIds};
+use std::alloc::Global;
 use syntax_editor::{
     Change, EditPlan, SyntaxAnnotation, SyntaxEdit, SyntaxEditor, SyntaxMapping,
     SyntaxMappingBuilder,
 };
 use test_trees::NoAnswer;
 
-/// What the steps of a row work on. A step on an editor, a plan, an edit, a mapping or a builder is one on the last that was made.
+/// What the steps of a row work on, and the trees of the table. A step on an editor, a plan, an edit, a mapping or a builder is one on the
+/// last that was made.
 #[derive(Drop)]
 pub struct Session {
-    pub ids: TreeIds,
+    pub alloc: Global,
     pub trees: Roots,
+    pub ids: TreeIds,
     pub builders: Vec<SyntaxMappingBuilder>,
     pub mappings: Vec<SyntaxMapping>,
     pub editors: Vec<SyntaxEditor>,
@@ -21,8 +23,6 @@ pub struct Session {
     pub registrations: Vec<(SyntaxElement, SyntaxAnnotation)>,
     pub plans: Vec<EditPlan>,
     pub edits: Vec<SyntaxEdit>,
-    /// What the steps answer that are asked about.
-    pub answers: String,
     /// The name of the call that was refused because memory ran out.
     pub refused: Option<&'static str>,
 }
@@ -30,8 +30,9 @@ pub struct Session {
 impl Session {
     pub fn new(alloc: Global) -> Session {
         Session {
-            ids: TreeIds::new(1),
+            alloc,
             trees: Roots::new(alloc),
+            ids: TreeIds::new(1),
             builders: Vec::new(alloc),
             mappings: Vec::new(alloc),
             editors: Vec::new(alloc),
@@ -39,20 +40,36 @@ impl Session {
             registrations: Vec::new(alloc),
             plans: Vec::new(alloc),
             edits: Vec::new(alloc),
-            answers: String::new(alloc),
             refused: None,
         }
+    }
+
+    /// A new row begins: all that the steps of the last one made goes.
+    pub fn clear(&mut self) {
+        self.trees.clear();
+        self.ids = TreeIds::new(1);
+        self.builders.clear();
+        self.mappings.clear();
+        self.editors.clear();
+        self.changes.clear();
+        self.registrations.clear();
+        self.plans.clear();
+        self.edits.clear();
+        self.refused = None;
     }
 
     /// What a refusal leaves as it is.
     pub fn standing(&self) -> Standing {
         Standing {
             next: self.ids.peek(),
-            builders: self.builders.len(),
-            mappings: mappings_standing(&self.mappings),
+            to_build: (
+                self.builders.len(),
+                self.changes.len(),
+                self.registrations.len(),
+            ),
+            mappings: lengths_standing(self.mappings.iter().map(|it| it.len())),
             editors: editors_standing(&self.editors),
-            to_build: (self.changes.len(), self.registrations.len()),
-            plans: plans_standing(&self.plans),
+            plans: lengths_standing(self.plans.iter().map(|it| it.len())),
         }
     }
 
@@ -61,32 +78,24 @@ impl Session {
         self.refused = Some(call);
         let after = self.standing();
         if !before.is_kept(&after) {
-            return Err(NoAnswer::Changed);
+            return Err(CHANGED);
         }
         if before.has_lost(&after) {
-            return Err(NoAnswer::from(AllocError));
+            return Err(NoAnswer::Memory);
         }
         Ok(())
     }
-
-    /// One more answer, after those before.
-    pub fn push_answer(&mut self, answer: &str) -> Result<(), AllocError> {
-        if !self.answers.is_empty() {
-            self.answers.push_str(" ; ")?;
-        }
-        self.answers.push_str(answer)
-    }
-
-    /// A step makes a node, which goes by the name `it` from then on.
-    pub fn keep(&mut self, alloc: Global, node: &SyntaxNode) -> Result<(), NoAnswer> {
-        let copy = node.try_clone(alloc)?;
-        self.trees.add(alloc, "it", copy)
-    }
 }
 
-/// The last editor.
-pub fn last(editors: &mut Vec<SyntaxEditor>) -> Result<&mut SyntaxEditor, NoAnswer> {
-    editors
-        .last_mut()
-        .ok_or(NoAnswer::Missing("no editor was made"))
+/// A call was refused because memory ran out, and left something else than before.
+pub const CHANGED: NoAnswer = NoAnswer::Row("the refused call changed what it works on");
+
+/// The last value that was made.
+pub fn last<T>(all: &mut Vec<T>) -> Result<&mut T, NoAnswer> {
+    all.last_mut().ok_or(NoAnswer::Row("none was made"))
+}
+
+/// The last value that was made, which is taken.
+pub fn take<T>(all: &mut Vec<T>) -> Result<T, NoAnswer> {
+    all.pop().ok_or(NoAnswer::Row("none was made"))
 }

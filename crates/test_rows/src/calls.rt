@@ -1,7 +1,7 @@
-//! Which answers each call owes a row.
+//! The calls that rows ask about: each by its name in a row, with its name in the sources and the answers that it owes.
 //!
 //! No row is owed where a text of 2^32 bytes would have to be made: `GreenToken::new`, `whitespace` and `token` that are too long.
-//! `dedent` and `reset_indent` make no text longer, so they have no row that is.
+//! `dedent` and `reset_indent` make no text longer, so they have no row that is. Questions owe no answers, and name their calls beside them.
 
 /// A call as a row has it, its name in the sources, and what it can answer where memory is there: that it is done, and each refusal
 /// by its name, with a space between them.
@@ -12,8 +12,8 @@ pub struct Owed<'a> {
     pub answers: &'a str,
 }
 
-// A line for each call. One text, since each reference that a constant holds makes the proof of what reads it longer.
-const OWED: &str = r#"new_root SyntaxNode::new_root ok TooLong NoTreeNumber
+/// A line for each call. One text, since each reference that a constant holds makes the proof of what reads it longer.
+pub const OWED: &str = r#"new_root SyntaxNode::new_root ok TooLong NoTreeNumber
 clone_subtree SyntaxNode::clone_subtree ok NoTreeNumber
 green_node GreenNode::new ok TooLong
 capped GreenNode::capped ok
@@ -101,23 +101,13 @@ impl<'a> Owed<'a> {
     }
 }
 
-/// A line for each call that owes rows.
-pub fn owed_lines() -> &'static str {
-    OWED
-}
-
-// The name in the sources of a call that has one of these lines.
-fn name_in(lines: &'static str, call: &str) -> Option<&'static str> {
-    for line in lines.lines() {
+/// The name in the sources of a call that owes rows.
+pub fn name_of(call: &str) -> &'static str {
+    for line in OWED.lines() {
         match Owed::read(line) {
-            Some(owed) if owed.call == call => return Some(owed.name),
+            Some(owed) if owed.call == call => return owed.name,
             _ => (),
         }
     }
-    None
-}
-
-/// The name in the sources of a call that owes rows.
-pub fn name_of(call: &str) -> &'static str {
-    name_in(owed_lines(), call).unwrap_or("a call that owes no row")
+    "a call that owes no row"
 }

@@ -1,0 +1,267 @@
+//! Plans: of an editor, or built of changes and registered elements; and what each engine makes of them.
+ghost use Rattle.std.specs.Prelude.{◌≡◌, ◌↔◌, ◌<◌, [], length, IsTrue, IfOk, All};
+ghost use Rattle.edit_plan.specs.Fits.{Fits};
+
+use crate::editors::{deleted_paths, keep_edit};
+use crate::roots::{Roots, annotation};
+use crate::runs;
+use crate::session::{CHANGED, Session, last, take};
+use crate::shown::{Answer, Done};
+use cst_core::{GreenNode, SyntaxNode, TreeError};
+use std::alloc::Global;
+use std::mem::replace;
+use syntax_editor::{
+    Change, EditEngine, EditPlan, ElementList, EngineError, OnePassEngine, Rewritten, SpliceEngine,
+    SyntaxMapping,
+};
+use test_trees::{NoAnswer, Words, number_of};
+use tree_text::write_tree;
+
+/// Takes the step of this name, or passes on what is none of these.
+pub fn answer(s: &mut Session, name: &str, words: &mut Words, out: &mut Answer) -> Done {
+    let alloc = s.alloc;
+    match name {
+        "plan" => plan(s, out),
+        "change" => Ok(s.changes.push(next_change(&s.trees, words)?)?),
+        "register" => register(s, words),
+        "check_changes" => check_changes(s, words, out),
+        "build" => build(s, words, out),
+        "is_empty" => out.truth(last_plan(s)?.is_empty()),
+        "plan_deletions" => deleted_paths(last_plan(s)?.changes(), out),
+        "plan_text" => text(s, out),
+        "text_edits" => text_edits(s, out),
+        "is_dropped" => is_dropped(s, words, out),
+        "owner" => owner(s, words, out),
+        "default_order" => default_order(s, out),
+        "execute" => execute(s, words, out),
+        "run" => run(s, &mut OnePassEngine::new(alloc), out),
+        "run_spliced" => run(s, &mut SpliceEngine::new(alloc), out),
+        "built" => built(s, words, out),
+        _ => runs::answer(s, name, words, out),
+    }
+}
+
+fn plan(s: &mut Session, out: &mut Answer) -> Done {
+    let plan = out.asked(take(&mut s.editors)?.plan(s.alloc))?;
+    keep(s, plan, out)
+}
+
+// Keeps a plan, and answers how many changes it has.
+fn keep(s: &mut Session, plan: EditPlan, out: &mut Answer) -> Done {
+    let count = plan.len();
+    s.plans.push(plan)?;
+    out.given(count as u64)
+}
+
+// Each text edit: its offsets and its text.
+fn text_edits(s: &mut Session, out: &mut Answer) -> Done {
+    let edits = out.asked(last(&mut s.plans)?.text_edits(s.alloc))?;
+    out.word("ok")?;
+    for edit in &edits {
+        write!(out.text, " {}-{} ", edit.start, edit.end)?;
+        out.quote(&edit.text)?;
+    }
+    Ok(())
+}
+
+// One more change of the plan that is built.
+fn next_change(trees: &Roots, words: &mut Words) -> Result<Change, NoAnswer> {
+    match words.word()? {
+        "insert" => {
+            let (at, new) = trees.insertion(words)?;
+            Ok(Change::Insert(at, new))
+        }
+        "insert_all" => {
+            let (at, new) = trees.insertions(words)?;
+            Ok(Change::InsertAll(at, ElementList::from(new)))
+        }
+        name => replacement(trees, name, words),
+    }
+}
+
+fn replacement(trees: &Roots, name: &str, words: &mut Words) -> Result<Change, NoAnswer> {
+    let target = trees.element(words)?;
+    match name {
+        "delete" => Ok(Change::Replace(target, None)),
+        "replace" => Ok(Change::Replace(target, Some(trees.element(words)?))),
+        "replace_with_many" => {
+            let new = ElementList::from(trees.elements(words)?);
+            Ok(Change::ReplaceWithMany(target, new))
+        }
+        "replace_all" => {
+            let end = trees.element(words)?;
+            Ok(Change::ReplaceAll(target, end, ElementList::from(trees.elements(words)?)))
+        }
+        _ => Err(NoAnswer::Arguments),
+    }
+}
+
+// One more registered element of the plan that is built.
+fn register(s: &mut Session, words: &mut Words) -> Done {
+    let element = s.trees.element(words)?;
+    Ok(s.registrations.push((element, annotation(words)?))?)
+}
+
+// Whether each change fits the tree with this root.
+fn all_fit(root: &SyntaxNode, changes: &[Change]) -> bool
+    requires { root.now.path ≡ [] }
+    ensures { IsTrue result ↔ All (Fits root.now) changes.now }
+{
+    changes.iter().all(|change| change.fits(root))
+}
+
+// A node that is a root.
+fn root(trees: &Roots, words: &mut Words) -> Result<SyntaxNode, NoAnswer>
+    ensures { IfOk result (λ root. root.path ≡ []) }
+{
+    let root = trees.node(words)?;
+    if !root.slots().is_empty() {
+        return Err(NoAnswer::Row("no root stands there"));
+    }
+    Ok(root)
+}
+
+// Whether the changes so far make a plan, by the last mapping, or by none. All stay.
+fn check_changes(s: &mut Session, words: &mut Words, out: &mut Answer) -> Done {
+    let root = root(&s.trees, words)?;
+    if !all_fit(&root, &s.changes) {
+        return out.word("not fitting");
+    }
+    let nothing = SyntaxMapping::new(s.alloc);
+    let mapping = s.mappings.last().unwrap_or(&nothing);
+    out.asked(EditPlan::check(s.alloc, &root, &s.changes, mapping))
+}
+
+// A plan of the changes and registered elements so far, by the last mapping, or by none.
+fn build(s: &mut Session, words: &mut Words, out: &mut Answer) -> Done {
+    let alloc = s.alloc;
+    let root = root(&s.trees, words)?;
+    let changes = replace(&mut s.changes, Vec::new(alloc));
+    if !all_fit(&root, &changes) {
+        return out.word("not fitting");
+    }
+    let registrations = replace(&mut s.registrations, Vec::new(alloc));
+    let mapping = s.mappings.pop().unwrap_or(SyntaxMapping::new(alloc));
+    let plan = out.asked(EditPlan::build(alloc, root, changes, registrations, mapping))?;
+    keep(s, plan, out)
+}
+
+// A change of a plan.
+fn number(plan: &EditPlan, words: &mut Words) -> Result<usize, NoAnswer>
+    ensures { IfOk result (λ change. change < length plan.now.changes) }
+{
+    let change = words.count()?;
+    if change >= plan.len() {
+        return Err(NoAnswer::Row("no change has this number"));
+    }
+    Ok(change)
+}
+
+fn last_plan(s: &Session) -> Result<&EditPlan, NoAnswer> {
+    s.plans.last().ok_or(NoAnswer::Row("no plan was made"))
+}
+
+fn text(s: &mut Session, out: &mut Answer) -> Done {
+    let text = last_plan(s)?.to_string(s.alloc)?;
+    out.quote(&text)
+}
+
+fn is_dropped(s: &mut Session, words: &mut Words, out: &mut Answer) -> Done {
+    let plan = last_plan(s)?;
+    let change = number(plan, words)?;
+    out.truth(plan.is_dropped(change))
+}
+
+fn owner(s: &mut Session, words: &mut Words, out: &mut Answer) -> Done {
+    let plan = last_plan(s)?;
+    let change = number(plan, words)?;
+    out.given_or_none(plan.owner(change).map(|owner| owner as u64))
+}
+
+fn default_order(s: &mut Session, out: &mut Answer) -> Done {
+    let order = out.asked(last_plan(s)?.default_order(s.alloc))?;
+    out.word("ok")?;
+    for change in order.iter() {
+        write!(out.text, " {change}")?;
+    }
+    Ok(())
+}
+
+fn execute(s: &mut Session, words: &mut Words, out: &mut Answer) -> Done {
+    let order = words.counts(s.alloc)?;
+    let plan = last(&mut s.plans)?;
+    let edit = out.asked(plan.execute(s.alloc, &mut s.ids, &order))?;
+    keep_edit(s, edit, out)
+}
+
+// Carries the last plan out with this engine.
+fn run<E: EditEngine>(s: &mut Session, engine: &mut E, out: &mut Answer) -> Done {
+    let plan = last(&mut s.plans)?;
+    let edit = out.asked(plan.run_with(s.alloc, &mut s.ids, engine))?;
+    keep_edit(s, edit, out)
+}
+
+// The count of an engine that makes the last plan's tree in one pass, from the number of the next word on, if the other engine makes the same.
+fn built(s: &mut Session, words: &mut Words, out: &mut Answer) -> Done {
+    let alloc = s.alloc;
+    let mut engine = match words.next() {
+        Some(builds) => OnePassEngine::starting_at(alloc, number_of(builds)?),
+        None => OnePassEngine::new(alloc),
+    };
+    let plan = last_plan(s)?;
+    if is_same(alloc, plan, &mut engine, out)? {
+        out.given(engine.builds())
+    } else {
+        out.word("the engines differ")
+    }
+}
+
+// Whether the other engine makes the same tree and paths. A refused run must leave the engine's count as it was.
+fn is_same(
+    alloc: Global,
+    plan: &EditPlan,
+    engine: &mut OnePassEngine,
+    out: &mut Answer,
+) -> Result<bool, NoAnswer> {
+    let before = engine.builds();
+    match engine.run(alloc, plan) {
+        Ok(one) => is_spliced_as(alloc, plan, &one),
+        Err(_) if engine.builds() != before => Err(CHANGED),
+        Err(EngineError::Memory) => Err(NoAnswer::Refused("EditEngine::run")),
+        Err(EngineError::TooLong) => is_spliced_too_long(alloc, plan, out),
+    }
+}
+
+fn is_spliced_as(alloc: Global, plan: &EditPlan, one: &Rewritten) -> Result<bool, NoAnswer> {
+    match SpliceEngine::new(alloc).run(alloc, plan) {
+        Ok(other) if one.changed == other.changed && one.annotated == other.annotated => {
+            is_same_tree(alloc, &one.green, &other.green)
+        }
+        Err(EngineError::Memory) => Err(NoAnswer::Refused("EditEngine::run")),
+        _ => Ok(false),
+    }
+}
+
+// Where the other engine's tree is too long.
+fn is_spliced_too_long(alloc: Global, plan: &EditPlan, out: &mut Answer) -> Result<bool, NoAnswer> {
+    match SpliceEngine::new(alloc).run(alloc, plan) {
+        Ok(_) => Ok(false),
+        Err(EngineError::Memory) => Err(NoAnswer::Refused("EditEngine::run")),
+        Err(EngineError::TooLong) => out.asked(Err(TreeError::TooLong)),
+    }
+}
+
+// Trees with texts up to this length are compared whole, longer ones by their lengths alone.
+const COMPARED: u64 = 100_000;
+
+fn is_same_tree(alloc: Global, one: &GreenNode, other: &GreenNode) -> Result<bool, NoAnswer> {
+    if one.length() > COMPARED || other.length() > COMPARED {
+        return Ok(one.length() == other.length());
+    }
+    let written = asked_text(alloc, one)?;
+    Ok(written == asked_text(alloc, other)?)
+}
+
+fn asked_text(alloc: Global, tree: &GreenNode) -> Result<String, NoAnswer> {
+    write_tree(alloc, tree).ok().ok_or(NoAnswer::Memory)
+}

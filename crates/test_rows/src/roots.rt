@@ -1,0 +1,132 @@
+//! The trees that a row names: those that its steps made, and those that the table defined. What calls take is read from words here.
+
+use cst_core::{SyntaxElement, SyntaxKind, SyntaxNode, SyntaxToken};
+use std::alloc::{AllocError, Global};
+use syntax_editor::{Annotations, Position, SyntaxAnnotation};
+use test_trees::{NoAnswer, Trees, Words, element_below, name_and_path};
+
+#[derive(Drop)]
+struct NamedRoot {
+    name: String,
+    root: SyntaxNode,
+}
+
+/// The trees of the table, and the roots that the steps of a row made, by name.
+#[derive(Drop)]
+pub struct Roots {
+    alloc: Global,
+    pub defined: Trees,
+    made: Vec<NamedRoot>,
+}
+
+impl Roots {
+    pub fn new(alloc: Global) -> Roots {
+        Roots {
+            alloc,
+            defined: Trees::new(alloc),
+            made: Vec::new(alloc),
+        }
+    }
+
+    /// The roots that steps made go, and the trees of the table stay.
+    pub fn clear(&mut self) {
+        self.made.clear();
+    }
+
+    pub fn add(&mut self, name: &str, root: SyntaxNode) -> Result<(), NoAnswer> {
+        let name = String::from_str(self.alloc, name)?;
+        Ok(self.made.push(NamedRoot { name, root })?)
+    }
+
+    // What a reference leads to: `R/1/0` is an element below the root R that a step made, or of a tree of the table.
+    fn at(&self, reference: &str) -> Result<SyntaxElement, NoAnswer> {
+        let (name, path) = name_and_path(reference);
+        match self.made.iter().find(|tree| tree.name.as_str() == name) {
+            Some(tree) => element_below(self.alloc, &tree.root, path),
+            None => self.defined.element(self.alloc, reference),
+        }
+    }
+
+    fn node_at(&self, reference: &str) -> Result<SyntaxNode, NoAnswer> {
+        self.at(reference)?.into_node().ok_or(NoAnswer::Form)
+    }
+
+    /// The element of the next word.
+    pub fn element(&self, words: &mut Words) -> Result<SyntaxElement, NoAnswer> {
+        self.at(words.word()?)
+    }
+
+    pub fn node(&self, words: &mut Words) -> Result<SyntaxNode, NoAnswer> {
+        self.node_at(words.word()?)
+    }
+
+    pub fn token(&self, words: &mut Words) -> Result<SyntaxToken, NoAnswer> {
+        self.element(words)?.into_token().ok_or(NoAnswer::Form)
+    }
+
+    /// The elements of all words that are left.
+    pub fn elements(&self, words: &mut Words) -> Result<Vec<SyntaxElement>, NoAnswer> {
+        let mut elements = Vec::new(self.alloc);
+        for word in words.take_rest().split(' ').filter(|word| !word.is_empty()) {
+            elements.push(self.at(word)?)?;
+        }
+        Ok(elements)
+    }
+
+    /// The nodes of all words of a text.
+    pub fn nodes(&self, text: &str) -> Result<Vec<SyntaxNode>, NoAnswer> {
+        let mut nodes = Vec::new(self.alloc);
+        for word in text.split(' ') {
+            nodes.push(self.node_at(word)?)?;
+        }
+        Ok(nodes)
+    }
+
+    // The position at one side of a node or of an element.
+    fn position_at(&self, side: &str, beside: &str) -> Result<Position, NoAnswer> {
+        match side {
+            "first" => Ok(Position::first_child_of(self.alloc, &self.node_at(beside)?)?),
+            "last" => Ok(Position::last_child_of(self.alloc, &self.node_at(beside)?)?),
+            "before" => gap(Position::before(self.alloc, self.at(beside)?)),
+            "after" => gap(Position::after(self.alloc, &self.at(beside)?)),
+            _ => Err(NoAnswer::Arguments),
+        }
+    }
+
+    /// The position that two words say (`first NODE`, `last NODE`, `before REF` or `after REF`), and an element.
+    pub fn insertion(&self, words: &mut Words) -> Result<(Position, SyntaxElement), NoAnswer> {
+        let side = words.word()?;
+        let beside = words.word()?;
+        let new = self.element(words)?;
+        Ok((self.position_at(side, beside)?, new))
+    }
+
+    /// Such a position, and the elements of all words that are left.
+    pub fn insertions(
+        &self,
+        words: &mut Words,
+    ) -> Result<(Position, Vec<SyntaxElement>), NoAnswer> {
+        let side = words.word()?;
+        let at = self.position_at(side, words.word()?)?;
+        Ok((at, self.elements(words)?))
+    }
+}
+
+fn gap(called: Result<Option<Position>, AllocError>) -> Result<Position, NoAnswer> {
+    called?.ok_or(NoAnswer::Row("no gap there"))
+}
+
+/// The annotation with this number, if that is one.
+pub fn annotation_of(digits: &str) -> Option<SyntaxAnnotation> {
+    Annotations::new(digits.parse::<u32>().ok()?).next()
+}
+
+/// The annotation of the next word, or the first one.
+pub fn annotation(words: &mut Words) -> Result<SyntaxAnnotation, NoAnswer> {
+    annotation_of(words.next().unwrap_or("1")).ok_or(NoAnswer::Arguments)
+}
+
+/// The kind that the next word names.
+pub fn kind_in(words: &mut Words) -> Result<SyntaxKind, NoAnswer> {
+    SyntaxKind::from_name(words.word()?).ok_or(NoAnswer::Arguments)
+}

@@ -1,0 +1,189 @@
+//! Plans carried out one change at a time.
+ghost use Rattle.std.specs.Prelude.{◌≡◌, ◌<◌, length, IfOk};
+
+use crate::editors::keep_edit;
+use crate::indents;
+use crate::session::{CHANGED, Session};
+use crate::shown::{Answer, Done};
+use crate::standing::run_standing;
+use cst_core::GreenNode;
+use std::alloc::{AllocError, Global};
+use syntax_editor::{EditPlan, EditRun, OnePassEngine};
+use test_trees::{NoAnswer, Words};
+
+// Texts up to this length are shown.
+const SHOWN: u64 = 200;
+
+/// `stepped`, `finish_run` or `finish_counting`. Words that are numbers are changes that are carried
+/// out, and each other word is a question.
+pub fn answer(s: &mut Session, name: &str, words: &mut Words, out: &mut Answer) -> Done {
+    match name {
+        "stepped" => step_through(s, words, out),
+        "finish_run" | "finish_counting" => finish(s, name, words, out),
+        _ => indents::answer(s, name, words, out),
+    }
+}
+
+fn plan(plans: &[EditPlan]) -> Result<&EditPlan, NoAnswer> {
+    plans.last().ok_or(NoAnswer::Row("no plan was made"))
+}
+
+fn step_through(s: &mut Session, words: &mut Words, out: &mut Answer) -> Done {
+    out.word("ok")?;
+    let plan = plan(&s.plans)?;
+    let mut stepped = Stepped::new(s.alloc, plan, &mut s.refused)?;
+    stepped.take_all(words, &mut s.refused, out)
+}
+
+// The edit that a run gives where it is complete, also with the count of the walk that gives the edit its paths, from the first number on. Where there
+// is no edit the count is as it was.
+fn finish(s: &mut Session, name: &str, words: &mut Words, out: &mut Answer) -> Done {
+    let is_counted = name == "finish_counting";
+    let first = if is_counted { words.number()? } else { 0 };
+    let mut walk = OnePassEngine::starting_at(s.alloc, first);
+    let mut stepped = Stepped::new(s.alloc, plan(&s.plans)?, &mut s.refused)?;
+    stepped.take_all(words, &mut s.refused, out)?;
+    out.text.clear();
+    if !stepped.run.is_complete() {
+        return out.word("not complete");
+    }
+    let Stepped { run, .. } = stepped;
+    let called = if is_counted {
+        run.finish_counting(s.alloc, &mut s.ids, &mut walk)
+    } else {
+        run.finish(s.alloc, &mut s.ids)
+    };
+    if called.is_err() && walk.builds() != first {
+        return Err(CHANGED);
+    }
+    let edit = out.asked(called)?;
+    keep_edit(s, edit, out)?;
+    if is_counted {
+        write!(out.text, ", built {}", walk.builds())?;
+    }
+    Ok(())
+}
+
+// A run of a plan, and how many changes that has.
+#[derive(Drop)]
+struct Stepped<'a> {
+    alloc: Global,
+    run: EditRun<'a>,
+    count: usize,
+    ghost counted: { count ≡ length run.plan.changes },
+}
+
+// A new run. Where the call is refused it is made once more, and that is noted.
+fn new_run<'a>(
+    alloc: Global,
+    plan: &'a EditPlan,
+    refused: &mut Option<&'static str>,
+) -> Result<EditRun<'a>, AllocError>
+    ensures { IfOk result (λ r. r.plan ≡ plan.now) }
+{
+    match EditRun::new(alloc, plan) {
+        Ok(run) => Ok(run),
+        Err(_) => {
+            *refused = Some("EditRun::new");
+            EditRun::new(alloc, plan)
+        }
+    }
+}
+
+impl<'a> Stepped<'a> {
+    fn new(
+        alloc: Global,
+        plan: &'a EditPlan,
+        refused: &mut Option<&'static str>,
+    ) -> Result<Stepped<'a>, AllocError> {
+        let run = new_run(alloc, plan, refused)?;
+        Ok(Stepped {
+            alloc,
+            run,
+            count: plan.len(),
+        })
+    }
+
+    fn take_all(
+        &mut self,
+        words: &mut Words,
+        refused: &mut Option<&'static str>,
+        out: &mut Answer,
+    ) -> Done {
+        for word in words.take_rest().split(' ').filter(|word| !word.is_empty()) {
+            match word.parse::<usize>() {
+                Ok(change) if change < self.count => self.step(change, refused, out)?,
+                Ok(_) => return Err(NoAnswer::Arguments),
+                Err(_) => {
+                    out.word(" ")?;
+                    self.ask(word, out)?;
+                }
+            }
+        }
+        Ok(())
+    }
+
+    // Carries a change out, if it may be the next one. A refused call leaves the run as it was, and is made again.
+    fn step(&mut self, change: usize, refused: &mut Option<&'static str>, out: &mut Answer) -> Done
+        requires { change < self.old.count }
+    {
+        if !self.run.ready(change) {
+            return out.word(" not_ready");
+        }
+        let before = run_standing(&self.run, self.count);
+        if self.run.step(self.alloc, change).is_ok() {
+            return Ok(());
+        }
+        *refused = Some("EditRun::step");
+        if run_standing(&self.run, self.count) != before {
+            return Err(CHANGED);
+        }
+        Ok(self.run.step(self.alloc, change)?)
+    }
+
+    fn ask(&self, word: &str, out: &mut Answer) -> Done {
+        match word {
+            "green" => short_text(self.run.green(), out),
+            "ready" => self.ready(out),
+            "next" => out.number_or_none(self.run.next_ready().map(|change| change as u64)),
+            "builds" => out.number(self.run.builds()),
+            "complete" => out.truth(self.run.is_complete()),
+            "plan" => out.number(self.run.plan().len() as u64),
+            _ => self.payload(word, out),
+        }
+    }
+
+    // The payload of a change, as `payload/NUMBER`.
+    fn payload(&self, word: &str, out: &mut Answer) -> Done {
+        let digits = word.strip_prefix("payload/").ok_or(NoAnswer::Arguments)?;
+        match digits.parse::<usize>() {
+            Ok(change) if change < self.count => match self.run.payload(change) {
+                Some(payload) => short_text(payload, out),
+                None => out.word("none"),
+            },
+            _ => Err(NoAnswer::Arguments),
+        }
+    }
+
+    // The changes that may be the next ones, between braces.
+    fn ready(&self, out: &mut Answer) -> Done {
+        let mut space = "{";
+        for change in 0..self.count {
+            if self.run.ready(change) {
+                write!(out.text, "{space}{change}")?;
+                space = " ";
+            }
+        }
+        out.word(if space == "{" { "{}" } else { "}" })
+    }
+}
+
+// The text of a tree, or the length of a long one.
+fn short_text(tree: &GreenNode, out: &mut Answer) -> Done {
+    let length = tree.length();
+    if length > SHOWN {
+        return Ok(write!(out.text, "{length}_bytes")?);
+    }
+    let text = tree.to_string(out.alloc)?;
+    out.quote(&text)
+}

@@ -1,0 +1,196 @@
+//! Trees as text: expressions that are read and written, and lines of a tree, also with names of kinds of one's own.
+
+use crate::greens::kind_of;
+use crate::session::{CHANGED, Session};
+use crate::shown::{Answer, Done, Show, told};
+use crate::values;
+use cst_core::{GreenNode, SyntaxElement, SyntaxKind, SyntaxNode, TreeIds};
+use std::alloc::Global;
+use test_trees::{NoAnswer, Words};
+use tree_text::{
+    ExpressionError, KindNames, NameError, WriteError, dump, dump_node, read_line_tree, read_root,
+    read_tree, read_tree_with, write_tree, write_tree_with,
+};
+
+/// `read_tree EXPRESSION`, `read_line_tree EXPRESSION` or `read_root NUMBER EXPRESSION`, each
+/// expression between quotes; `write_tree TREE`; `write_named KIND NAME TREE`, of a node of this kind with the tree below it;
+/// `read_named KIND NAME EXPRESSION`; `dump ELEMENT`; `dump_named KIND NAME TREE`, of such a node and of it as an element; or
+/// `name_kind KIND NAME KIND NAME`, what the second kind's name answers. A name `-` is given to no kind.
+pub fn answer(s: &mut Session, name: &str, words: &mut Words, out: &mut Answer) -> Done {
+    let alloc = s.alloc;
+    match name {
+        "read_tree" | "read_line_tree" => read(alloc, name, words, out),
+        "read_root" => root(alloc, words, out),
+        "write_tree" => write(s, words, out),
+        "write_named" => write_named(s, words, out),
+        "read_named" => read_named(alloc, words, out),
+        "dump" => dump_of(s, words, out),
+        "dump_named" => dump_named(s, words, out),
+        "name_kind" => name_kind(alloc, words, out),
+        _ => values::answer(s, name, words, out),
+    }
+}
+
+/// What an argument between quotes stands for: `\n`, `\r`, `\t`, `\"` and `\\` are escapes.
+pub fn unquote(alloc: Global, quoted: &str) -> Result<String, NoAnswer> {
+    let inner = quoted
+        .strip_prefix('"')
+        .and_then(|inner| inner.strip_suffix('"'));
+    let mut text = String::new(alloc);
+    let mut is_escaped = false;
+    for c in inner.ok_or(NoAnswer::Arguments)?.chars() {
+        if is_escaped {
+            text.push(unescape(c)?)?;
+            is_escaped = false;
+        } else if c == '\\' {
+            is_escaped = true;
+        } else {
+            text.push(c)?;
+        }
+    }
+    Ok(text)
+}
+
+fn unescape(c: char) -> Result<char, NoAnswer> {
+    match c {
+        'n' => Ok('\n'),
+        'r' => Ok('\r'),
+        't' => Ok('\t'),
+        '"' | '\\' => Ok(c),
+        _ => Err(NoAnswer::Arguments),
+    }
+}
+
+// What an error prints, and its sentence.
+fn refused(call: &'static str, error: &ExpressionError, out: &mut Answer) -> Done {
+    if let ExpressionError::Memory = error {
+        return Err(NoAnswer::Refused(call));
+    }
+    Ok(write!(out.text, "{error}: {}", error.help())?)
+}
+
+fn read(alloc: Global, name: &str, words: &mut Words, out: &mut Answer) -> Done {
+    let expression = unquote(alloc, words.take_rest())?;
+    let is_line = name == "read_line_tree";
+    let (call, read) = if is_line {
+        ("read_line_tree", read_line_tree(alloc, &expression))
+    } else {
+        ("read_tree", read_tree(alloc, &expression))
+    };
+    match read {
+        Ok(tree) => tree.show(out),
+        Err(error) => refused(call, &error, out),
+    }
+}
+
+// Of a root its number, and of any such call the number that comes next.
+fn root(alloc: Global, words: &mut Words, out: &mut Answer) -> Done {
+    let mut ids = TreeIds::new(words.number()?);
+    let before = ids.peek();
+    let expression = unquote(alloc, words.take_rest())?;
+    match read_root(alloc, &mut ids, &expression) {
+        Ok(node) => {
+            write!(out.text, "{} ", node.tree())?;
+            node.as_green().show(out)?;
+        }
+        Err(error) if ids.peek() == before => refused("read_root", &error, out)?,
+        Err(_) => return Err(CHANGED),
+    }
+    out.word(", then ")?;
+    out.number_or_none(ids.peek())
+}
+
+// Of a call that writes a tree.
+fn written(out: &mut Answer, call: &'static str, called: Result<String, WriteError>) -> Done {
+    match called {
+        Ok(text) => out.quote(&text),
+        Err(WriteError::Memory) => Err(NoAnswer::Refused(call)),
+        Err(error) => out.print(&error),
+    }
+}
+
+fn write(s: &mut Session, words: &mut Words, out: &mut Answer) -> Done {
+    let tree = s.trees.defined.tree(s.alloc, words.take_rest())?;
+    written(out, "write_tree", write_tree(s.alloc, &tree))
+}
+
+// The kind and its name of the next words.
+fn names(alloc: Global, words: &mut Words) -> Result<(SyntaxKind, KindNames), NoAnswer> {
+    let kind = kind_of(words)?;
+    let name = words.word()?;
+    let mut names = KindNames::new(alloc);
+    if name == "-" {
+        return Ok((kind, names));
+    }
+    match names.add(alloc, kind, name) {
+        Ok(()) => Ok((kind, names)),
+        Err(NameError::Memory) => Err(NoAnswer::Refused("KindNames::add")),
+        Err(_) => Err(NoAnswer::Arguments),
+    }
+}
+
+// A node of this kind with a tree below it.
+fn above(s: &Session, kind: SyntaxKind, words: &mut Words) -> Result<GreenNode, NoAnswer> {
+    let tree = s.trees.defined.tree(s.alloc, words.take_rest())?;
+    let mut children = Vec::new(s.alloc);
+    children.push(tree.into())?;
+    Ok(GreenNode::new(s.alloc, kind, children)?)
+}
+
+fn write_named(s: &mut Session, words: &mut Words, out: &mut Answer) -> Done {
+    let (kind, names) = names(s.alloc, words)?;
+    let tree = above(s, kind, words)?;
+    written(
+        out,
+        "write_tree_with",
+        write_tree_with(s.alloc, &tree, &names),
+    )
+}
+
+fn read_named(alloc: Global, words: &mut Words, out: &mut Answer) -> Done {
+    let (_, names) = names(alloc, words)?;
+    let expression = unquote(alloc, words.take_rest())?;
+    match read_tree_with(alloc, &expression, &names) {
+        Ok(tree) => {
+            write!(out.text, "{} ", tree.kind().0)?;
+            tree.show(out)
+        }
+        Err(error) => refused("read_tree_with", &error, out),
+    }
+}
+
+fn dump_of(s: &mut Session, words: &mut Words, out: &mut Answer) -> Done {
+    let element = s.trees.element(words)?;
+    told(
+        out,
+        "dump",
+        dump(s.alloc, &element, &KindNames::new(s.alloc)),
+    )
+}
+
+fn dump_named(s: &mut Session, words: &mut Words, out: &mut Answer) -> Done {
+    let (kind, names) = names(s.alloc, words)?;
+    let tree = above(s, kind, words)?;
+    let node = SyntaxNode::new_root(s.alloc, &mut TreeIds::new(1), tree)?;
+    told(out, "dump_node", dump_node(s.alloc, &node, &names))?;
+    let mut other = Answer::new(s.alloc);
+    let element = SyntaxElement::from(node);
+    told(&mut other, "dump", dump(s.alloc, &element, &names))?;
+    out.agree(&other)
+}
+
+fn name_kind(alloc: Global, words: &mut Words, out: &mut Answer) -> Done {
+    let (_, mut names) = names(alloc, words)?;
+    let kind = kind_of(words)?;
+    let name = unquote(alloc, words.take_rest())?;
+    let before = names.kind(&name);
+    let added = names.add(alloc, kind, &name);
+    let after = names.kind(&name);
+    match added {
+        Ok(()) if after == Some(kind) && names.name(kind) == Some(name.as_str()) => out.word("ok"),
+        Ok(()) => Err(CHANGED),
+        Err(_) if after != before => Err(CHANGED),
+        Err(NameError::Memory) => Err(NoAnswer::Refused("KindNames::add")),
+        Err(error) => out.print(&error),
+    }
+}
