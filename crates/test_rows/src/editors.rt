@@ -1,14 +1,15 @@
-//! Editors: new ones, what they have recorded, merged ones, and what finishing gives.
+//! Editors: new ones, the calls that record, what they have recorded, merged ones, and what finishing gives.
 
 use crate::making::factory;
-use crate::recording;
-use crate::roots::annotation;
+use crate::plans;
+use crate::roots::{annotation, annotation_of, kind_in};
 use crate::session::{Session, last, take};
-use crate::shown::{Answer, Done};
-use cst_core::AstNode;
-use cst_core::ast::BlockExpr;
+use crate::shown::{Answer, Done, Show};
+use cst_core::ast::{BlockExpr, Fn, LetStmt};
+use cst_core::{AstNode, HasAttrs, SyntaxNode};
+use list_removal::remove_separated;
 use std::alloc::AllocError;
-use syntax_editor::{Change, SyntaxEdit, SyntaxEditor};
+use syntax_editor::{AttrsOwnerEdit, Change, SyntaxEdit, SyntaxEditor};
 use test_trees::{NoAnswer, Words};
 
 /// Takes the step of this name, or passes on what is none of these.
@@ -21,7 +22,7 @@ pub fn answer(s: &mut Session, name: &str, words: &mut Words, out: &mut Answer) 
         "merge" => merge(s, out),
         "check" => out.asked(last(&mut s.editors)?.check(s.alloc)),
         "finish" => finish(s, out),
-        "changes" => out.number(last(&mut s.editors)?.changes().len() as u64),
+        "changes" => (last(&mut s.editors)?.changes().len() as u64).show(out),
         "deleted" => is_deleted(s, words, out),
         "deletions" => deleted_paths(last(&mut s.editors)?.changes(), out),
         "inserted" => inserted(s, out),
@@ -29,7 +30,7 @@ pub fn answer(s: &mut Session, name: &str, words: &mut Words, out: &mut Answer) 
         "text" | "plain_text" => text(s, name, words, out),
         "old_text" | "new_text" | "changed" | "annotated" => of_edit(s, name, words, out),
         "find_element" => find_element(s, words, out),
-        _ => recording::answer(s, name, words, out),
+        _ => record(s, name, words, out),
     }
 }
 
@@ -54,20 +55,16 @@ pub fn block(s: &Session, words: &mut Words) -> Result<BlockExpr, NoAnswer> {
 
 // The last editor gets another factory.
 fn give_factory(s: &mut Session, words: &mut Words) -> Done {
-    let factory = factory(s.alloc, words.word()?)?;
+    let factory = factory(s.alloc, words)?;
     *last(&mut s.editors)?.make_mut() = factory;
     Ok(())
 }
 
 // The first clash that there would be if the last editor went into the one before it.
 fn clashes_with(s: &mut Session, out: &mut Answer) -> Done {
-    let (other, before) = s
-        .editors
-        .split_last()
-        .ok_or(NoAnswer::Row("no editor was made"))?;
-    let own = before
-        .last()
-        .ok_or(NoAnswer::Row("one editor alone was made"))?;
+    let [.., own, other] = s.editors.as_slice() else {
+        return Err(NoAnswer::Row("no two editors were made"));
+    };
     match out.asked(own.clashes_with(s.alloc, other))? {
         Some((first, second)) => Ok(write!(out.text, "ok {first} {second}")?),
         None => out.word("none"),
@@ -120,8 +117,7 @@ fn inserted(s: &mut Session, out: &mut Answer) -> Done {
     if let Some(Change::InsertAll(_, elements)) = last(&mut s.editors)?.changes().last() {
         for element in elements.as_slice() {
             out.word(if out.text.is_empty() { "" } else { ", " })?;
-            let text = element.text(s.alloc)?;
-            out.quote(&text)?;
+            out.quote(&element.text(s.alloc)?)?;
             write!(out.text, " of {}", element.tree())?;
         }
     }
@@ -137,25 +133,25 @@ fn fits(s: &mut Session, words: &mut Words, out: &mut Answer) -> Done {
 
 // The text that shows a change, by its number, with \e for the byte ESC; and the same without the escape sequences.
 fn text(s: &mut Session, name: &str, words: &mut Words, out: &mut Answer) -> Done {
-    let number = words.count()?;
-    let change = last(&mut s.editors)?.changes().get(number);
+    let change = last(&mut s.editors)?
+        .changes()
+        .get(words.number::<usize>()?);
     let change = change.ok_or(NoAnswer::Row("no such change"))?;
-    if name == "text" {
-        return show_text(change.text(s.alloc), out);
+    match name {
+        "text" => show_text(change.text(s.alloc), out),
+        _ => show_text(change.plain_text(s.alloc), out),
     }
-    show_text(change.plain_text(s.alloc), out)
 }
 
 fn show_text(called: Result<String, AllocError>, out: &mut Answer) -> Done {
     let text = out.asked(called)?;
-    out.quote(&text)?;
-    let shown = out.text.replace(out.alloc, '\x1b', "\\e")?;
-    out.text.clear();
-    out.word("ok ")?;
-    out.word(&shown)
+    out.given(&text)?;
+    out.text = out.text.replace(out.alloc, '\x1b', "\\e")?;
+    Ok(())
 }
 
-// The text of the old root of the last edit, that of the new one, or the paths of changed elements, or of those with an annotation.
+// The text of the old root of the last edit, that of the new one, or the paths of changed elements, or of those with an
+// annotation.
 fn of_edit(s: &mut Session, name: &str, words: &mut Words, out: &mut Answer) -> Done {
     let edit = last(&mut s.edits)?;
     match name {
@@ -173,4 +169,95 @@ fn find_element(s: &mut Session, words: &mut Words, out: &mut Answer) -> Done {
         Some(node) => out.root_at(&node),
         None => out.word("none"),
     }
+}
+
+// The calls that record.
+fn record(s: &mut Session, name: &str, words: &mut Words, out: &mut Answer) -> Done {
+    match name {
+        "insert" | "insert_with_whitespace" => insert(s, name, words, out),
+        "insert_all" | "insert_all_with_whitespace" => insert_all(s, name, words, out),
+        "delete" | "delete_all" | "replace" => replace(s, name, words, out),
+        "replace_with_many" | "replace_all" => replace_with_many(s, name, words, out),
+        "add_annotation" => add_annotation(s, words, out),
+        "add_annotation_all" => add_annotation_all(s, words, out),
+        "remove_attrs_and_docs" => remove_attrs_and_docs(s, words, out),
+        "remove_separated" => removed_with_separator(s, words, out),
+        _ => plans::answer(s, name, words, out),
+    }
+}
+
+fn insert(s: &mut Session, name: &str, words: &mut Words, out: &mut Answer) -> Done {
+    let editor = last(&mut s.editors)?;
+    let at = s.trees.position(words)?;
+    let new = s.trees.element(words)?;
+    out.asked(match name {
+        "insert" => editor.insert(s.alloc, at, new),
+        _ => editor.insert_with_whitespace(s.alloc, &mut s.ids, at, new),
+    })
+}
+
+fn insert_all(s: &mut Session, name: &str, words: &mut Words, out: &mut Answer) -> Done {
+    let editor = last(&mut s.editors)?;
+    let at = s.trees.position(words)?;
+    let new = s.trees.elements(words.take_rest())?;
+    out.asked(match name {
+        "insert_all" => editor.insert_all(s.alloc, at, new),
+        _ => editor.insert_all_with_whitespace(s.alloc, &mut s.ids, at, new),
+    })
+}
+
+fn replace(s: &mut Session, name: &str, words: &mut Words, out: &mut Answer) -> Done {
+    let editor = last(&mut s.editors)?;
+    let target = s.trees.element(words)?;
+    out.asked(match name {
+        "delete" => editor.delete(s.alloc, target),
+        "delete_all" => editor.delete_all(s.alloc, target, s.trees.element(words)?),
+        _ => editor.replace(s.alloc, target, s.trees.element(words)?),
+    })
+}
+
+fn replace_with_many(s: &mut Session, name: &str, words: &mut Words, out: &mut Answer) -> Done {
+    let editor = last(&mut s.editors)?;
+    let target = s.trees.element(words)?;
+    if name == "replace_with_many" {
+        let new = s.trees.elements(words.take_rest())?;
+        return out.asked(editor.replace_with_many(s.alloc, target, new));
+    }
+    let end = s.trees.element(words)?;
+    out.asked(editor.replace_all(s.alloc, target, end, s.trees.elements(words.take_rest())?))
+}
+
+// Registered with the annotation of the next word, or with the first one.
+fn add_annotation(s: &mut Session, words: &mut Words, out: &mut Answer) -> Done {
+    let editor = last(&mut s.editors)?;
+    let element = s.trees.element(words)?;
+    out.asked(editor.add_annotation(s.alloc, element, annotation(words)?))
+}
+
+fn add_annotation_all(s: &mut Session, words: &mut Words, out: &mut Answer) -> Done {
+    let editor = last(&mut s.editors)?;
+    let annotation = annotation_of("1")?;
+    let elements = s.trees.elements(words.take_rest())?;
+    out.asked(editor.add_annotation_all(s.alloc, elements, annotation))
+}
+
+// Of a function or a statement.
+fn remove_attrs_and_docs(s: &mut Session, words: &mut Words, out: &mut Answer) -> Done {
+    let node = s.trees.node(words)?;
+    if Fn::can_cast(node.kind()) {
+        return remove_from::<Fn>(s, node, out);
+    }
+    remove_from::<LetStmt>(s, node, out)
+}
+
+fn remove_from<N: HasAttrs>(s: &mut Session, node: SyntaxNode, out: &mut Answer) -> Done {
+    let owner = N::cast(node).ok_or(NoAnswer::Row("no function and no statement"))?;
+    out.asked(owner.remove_attrs_and_docs(s.alloc, last(&mut s.editors)?))
+}
+
+// With a separator of the kind that the next word names.
+fn removed_with_separator(s: &mut Session, words: &mut Words, out: &mut Answer) -> Done {
+    let editor = last(&mut s.editors)?;
+    let element = s.trees.element(words)?;
+    out.asked(remove_separated(s.alloc, editor, &element, kind_in(words)?))
 }

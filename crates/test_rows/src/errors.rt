@@ -20,8 +20,8 @@ macro_rules! tell {
     };
 }
 
-/// `map_error CASE`, and the same of each other type. An error that holds another one is by the name of its variant, as `execute_error Edit`.
-/// Of `row_error CASE` what it prints alone.
+/// `map_error CASE`, and the same of each other type. An error that holds another one is by the name of its variant, as
+/// `execute_error Edit`. Of `row_error CASE` what it prints alone.
 pub fn answer(name: &str, words: &mut Words, out: &mut Answer) -> Done {
     let case = words.word()?;
     match name {
@@ -47,7 +47,7 @@ macro_rules! variant {
 // Any refusal of the editor prints what the error that it holds does.
 fn error(name: &str, case: &str) -> Option<Error> {
     match (name, case) {
-        ("tree_error", "AllocError") => Some(Error::from(TreeError::from(AllocError))),
+        ("tree_error", "AllocError") => Some(TreeError::from(AllocError).into()),
         ("tree_error", _) => variant!(case, TreeError: TooLong NoTreeNumber Memory),
         ("map_error", _) =>
             variant!(case, MapError: NotAChild NotYounger OtherShape MoreInputs Memory),
@@ -55,14 +55,12 @@ fn error(name: &str, case: &str) -> Option<Error> {
         ("merge_error", _) => variant!(case, MergeError: OtherRoot Memory),
         ("wrap_error", _) =>
             variant!(case, WrapError: TooLong NoTreeNumber NotYounger Foreign Memory),
-        ("indent_error", _) => {
-            variant!(case, IndentError: LevelTooLarge TooLong NoTreeNumber NotYounger Memory)
-        }
+        ("indent_error", _) =>
+            variant!(case, IndentError: LevelTooLarge TooLong NoTreeNumber NotYounger Memory),
         ("edit_error", _) => edit_error(case),
         ("execute_error", "Edit") => Some(ExecuteError::Edit(EditError::TooLong).into()),
-        ("execute_error", _) => {
-            variant!(case, ExecuteError: NotEachOnce OwnerTooEarly GapOutOfOrder TokenTooEarly)
-        }
+        ("execute_error", _) =>
+            variant!(case, ExecuteError: NotEachOnce OwnerTooEarly GapOutOfOrder TokenTooEarly),
         ("error", _) => any_error(case),
         _ => None,
     }
@@ -73,48 +71,33 @@ fn record_error(case: &str) -> Option<Error> {
 }
 
 fn edit_error(case: &str) -> Option<Error> {
+    let (first, second, change, owner) = (0, 2, 1, 0);
     match case {
-        "Intersecting" => Some(Error::Edit(EditError::Intersecting {
-            first: 0,
-            second: 2,
-        })),
-        "MissingMapping" => Some(Error::Edit(EditError::MissingMapping {
-            change: 1,
-            owner: 0,
-        })),
+        "Intersecting" => Some(EditError::Intersecting { first, second }.into()),
+        "MissingMapping" => Some(EditError::MissingMapping { change, owner }.into()),
         _ => variant!(case, EditError: TooLong NoTreeNumber Memory),
-    }
-}
-
-fn engine_error(case: &str) -> Option<EngineError> {
-    match case {
-        "TooLong" => Some(EngineError::TooLong),
-        "Memory" => Some(EngineError::Memory),
-        _ => None,
     }
 }
 
 fn any_error(case: &str) -> Option<Error> {
     match case {
-        "Tree" => Some(Error::from(TreeError::TooLong)),
-        "Map" => Some(Error::from(MapError::NotAChild)),
-        "Record" => Some(Error::from(RecordError::BadRange)),
-        "Merge" => Some(Error::from(MergeError::OtherRoot)),
-        "Indent" => Some(Error::from(IndentError::LevelTooLarge)),
-        "Wrap" => Some(Error::from(WrapError::NotYounger)),
-        "Edit" => Some(Error::from(EditError::NoTreeNumber)),
-        "Execute" => Some(Error::from(ExecuteError::NotEachOnce)),
-        "Memory" => Some(Error::from(AllocError)),
+        "Tree" => Some(TreeError::TooLong.into()),
+        "Map" => Some(MapError::NotAChild.into()),
+        "Record" => Some(RecordError::BadRange.into()),
+        "Merge" => Some(MergeError::OtherRoot.into()),
+        "Indent" => Some(IndentError::LevelTooLarge.into()),
+        "Wrap" => Some(WrapError::NotYounger.into()),
+        "Edit" => Some(EditError::NoTreeNumber.into()),
+        "Execute" => Some(ExecuteError::NotEachOnce.into()),
+        "Memory" => Some(AllocError.into()),
         _ => None,
     }
 }
 
 fn expression_error(case: &str) -> Option<ExpressionError> {
+    let (at, expected) = (12, Expected::KindName);
     match case {
-        "Malformed" => Some(ExpressionError::Malformed {
-            at: 12,
-            expected: Expected::KindName,
-        }),
+        "Malformed" => Some(ExpressionError::Malformed { at, expected }),
         "UnknownKind" => Some(ExpressionError::UnknownKind { at: 1 }),
         "TooDeep" => Some(ExpressionError::TooDeep { at: 201 }),
         "Tree" => Some(ExpressionError::Tree(TreeError::NoTreeNumber)),
@@ -131,21 +114,19 @@ fn write_error(case: &str) -> Option<WriteError> {
     }
 }
 
+fn engine_error(case: &str) -> Option<EngineError> {
+    variant!(case, EngineError: TooLong Memory)
+}
+
 fn name_error(case: &str) -> Option<NameError> {
-    match case {
-        "Misspelled" => Some(NameError::Misspelled),
-        "Named" => Some(NameError::Named),
-        "Taken" => Some(NameError::Taken),
-        "Memory" => Some(NameError::Memory),
-        _ => None,
-    }
+    variant!(case, NameError: Misspelled Named Taken Memory)
 }
 
 // What rows answer where a tree is not read.
 fn row_error(case: &str) -> Option<NoAnswer> {
     match case {
         "UnknownRow" => Some(NoAnswer::Row("UnknownRow")),
-        "Tree(TooLong)" => Some(NoAnswer::from(TreeError::TooLong)),
-        _ => Some(NoAnswer::from(expression_error(case)?)),
+        "Tree(TooLong)" => Some(TreeError::TooLong.into()),
+        _ => Some(expression_error(case)?.into()),
     }
 }

@@ -4,7 +4,7 @@ use crate::editors::block;
 use crate::greens;
 use crate::making::factory;
 use crate::session::{CHANGED, Session};
-use crate::shown::{Answer, Done};
+use crate::shown::{Answer, Done, demand};
 use cst_core::ast::{BlockExpr, StmtList};
 use cst_core::{AstNode, SyntaxNode};
 use syntax_editor::{AstNodeEdit, IndentError, IndentLevel, SyntaxFactory, indent};
@@ -13,17 +13,17 @@ use test_trees::{NoAnswer, Words};
 /// Takes the step of this name, or passes on what is none of these.
 pub fn answer(s: &mut Session, name: &str, words: &mut Words, out: &mut Answer) -> Done {
     match name {
-        "from_element" => level(
-            IndentLevel::from_element(s.alloc, &s.trees.element(words)?),
-            out,
-        ),
+        "from_element" => {
+            let element = s.trees.element(words)?;
+            level(IndentLevel::from_element(s.alloc, &element), out)
+        }
         "from_node" => level(IndentLevel::from_node(s.alloc, &s.trees.node(words)?), out),
-        "from_token" => level(
-            IndentLevel::from_token(s.alloc, &s.trees.token(words)?),
-            out,
-        ),
+        "from_token" => {
+            let token = s.trees.token(words)?;
+            level(IndentLevel::from_token(s.alloc, &token), out)
+        }
         "indent_level" => level(block(s, words)?.indent_level(s.alloc), out),
-        "is_zero" => out.truth(IndentLevel(words.level()?).is_zero()),
+        "is_zero" => out.truth(read_level(words)?.is_zero()),
         "sum" => sum(words, out),
         "print" => print(words, out),
         "free_indent" => free_indent(s, words, out),
@@ -35,26 +35,30 @@ pub fn answer(s: &mut Session, name: &str, words: &mut Words, out: &mut Answer) 
     }
 }
 
+fn read_level(words: &mut Words) -> Result<IndentLevel, NoAnswer> {
+    Ok(IndentLevel(words.number()?))
+}
+
 fn level(called: Result<IndentLevel, IndentError>, out: &mut Answer) -> Done {
     let level = out.asked(called)?;
-    out.given(u64::from(level.0))
+    out.given(&u64::from(level.0))
 }
 
 // Whether no indentation, and first one level more, then another one, is the third level.
 fn sum(words: &mut Words, out: &mut Answer) -> Done {
-    let first = words.level()?;
-    let second = words.level()?;
+    let first = words.number::<u8>()?;
+    let second = words.number()?;
     if first.checked_add(second).is_none() {
         return out.word("none");
     }
     let mut level = IndentLevel::zero() + first;
     level += second;
-    out.truth(level == IndentLevel::from(words.level()?))
+    out.truth(level == IndentLevel::from(words.number::<u8>()?))
 }
 
 // A level as it prints: as it is, and in a width of 14, 13 and 14, at the right end, at the left end and in the middle.
 fn print(words: &mut Words, out: &mut Answer) -> Done {
-    let level = IndentLevel(words.level()?);
+    let level = read_level(words)?;
     Ok(write!(
         out.text,
         "[{level}] [{level:*>14}] [{level:*<13}] [{level:*^14}]"
@@ -63,22 +67,20 @@ fn print(words: &mut Words, out: &mut Answer) -> Done {
 
 fn free_indent(s: &mut Session, words: &mut Words, out: &mut Answer) -> Done {
     let node = s.trees.node(words)?;
-    let level = IndentLevel(words.level()?);
-    let node = out.asked(indent(s.alloc, &node, &mut s.ids, level))?;
+    let node = out.asked(indent(s.alloc, &node, &mut s.ids, read_level(words)?))?;
     out.root(&node)
 }
 
 fn typed_indent(s: &mut Session, words: &mut Words, out: &mut Answer) -> Done {
     let block = block(s, words)?;
-    let level = IndentLevel(words.level()?);
-    let block = out.asked(block.indent(s.alloc, &mut s.ids, level))?;
+    let block = out.asked(block.indent(s.alloc, &mut s.ids, read_level(words)?))?;
     out.root(block.syntax())
 }
 
 // Of a list of statements, or of a block.
 fn dedent(s: &mut Session, words: &mut Words, out: &mut Answer) -> Done {
     let node = s.trees.node(words)?;
-    let level = IndentLevel(words.level()?);
+    let level = read_level(words)?;
     if StmtList::can_cast(node.kind()) {
         return dedent_by::<StmtList>(s, node, level, out);
     }
@@ -102,18 +104,14 @@ fn reset_indent(s: &mut Session, words: &mut Words, out: &mut Answer) -> Done {
     out.root(block.syntax())
 }
 
-// By a factory, whose mapping is the last one from then on, whatever the call answers but want of memory, which leaves the mapping empty. The
-// new block goes by the name `it`.
+// By a factory, whose mapping is the last one from then on, whatever the call answers but want of memory, which leaves
+// the mapping empty. The new block goes by the name `it`.
 fn indent_with_mapping(s: &mut Session, words: &mut Words, out: &mut Answer) -> Done {
     let block = block(s, words)?;
-    let level = IndentLevel(words.level()?);
-    let mut factory = factory(s.alloc, words.word()?)?;
+    let level = read_level(words)?;
+    let mut factory = factory(s.alloc, words)?;
     let called = block.indent_with_mapping(s.alloc, &mut s.ids, level, &mut factory);
-    let is_memory = match &called {
-        Err(IndentError::Memory) => true,
-        _ => false,
-    };
-    keep_mapping(s, &mut factory, is_memory)?;
+    keep_mapping(s, &mut factory, matches!(&called, Err(IndentError::Memory)))?;
     let block = out.asked(called)?;
     s.trees.add("it", block.syntax().try_clone(s.alloc)?)?;
     out.root(block.syntax())
@@ -122,8 +120,7 @@ fn indent_with_mapping(s: &mut Session, words: &mut Words, out: &mut Answer) -> 
 fn keep_mapping(s: &mut Session, factory: &mut SyntaxFactory, is_memory: bool) -> Done {
     match factory.mappings() {
         None => Ok(()),
-        Some(mapping) if !is_memory => Ok(s.mappings.push(mapping.try_clone(s.alloc)?)?),
-        Some(mapping) if mapping.len() == 0 => Ok(()),
-        Some(_) => Err(CHANGED),
+        Some(mapping) if is_memory => demand(mapping.len() == 0, CHANGED),
+        Some(mapping) => Ok(s.mappings.push(mapping.try_clone(s.alloc)?)?),
     }
 }

@@ -1,3 +1,5 @@
+//! The lines of the table, and how far a file of it is read.
+
 use test_trees::first_word;
 
 /// A line of the table.
@@ -9,13 +11,10 @@ pub enum Line<'a> {
     Refused,
     /// `group NAME`: the lines of the file `NAME.rows`.
     Group(&'a str),
-    /// `tree NAME TREE`: a tree that the questions after it name.
-    Tree {
-        name: &'a str,
-        text: &'a str,
-    },
-    /// A row: `WORDS: STEP ; STEP ; ..` or `? STEP`. Its answer is this one (` = ANSWER`), or another one (` != ANSWER`), so that the row fails
-    /// where all answers are taken for equal.
+    /// `tree NAME TREE`, with what stands after the first word: a tree that the rows after it name.
+    Tree(&'a str),
+    /// A row: `WORDS: STEP ; STEP ; ..` or `? STEP`. Its answer is this one (` = ANSWER`), or another one
+    /// (` != ANSWER`), so that the row fails where all answers are taken for equal.
     Row {
         steps: &'a str,
         answer: &'a str,
@@ -29,23 +28,15 @@ pub enum Line<'a> {
 impl<'a> Line<'a> {
     /// What a line says. How it begins tells which form it has.
     pub fn read(line: &'a str) -> Line<'a> {
-        if line.is_empty() || line.starts_with('#') {
-            return Line::Blank;
+        match first_word(line) {
+            ("", _) => Line::Blank,
+            ("end", "") => Line::End,
+            ("growths", "are refused") => Line::Refused,
+            ("group", name) => Line::Group(name),
+            ("tree", tree) => Line::Tree(tree),
+            _ if line.starts_with('#') => Line::Blank,
+            _ => Line::read_row(line).unwrap_or(Line::Malformed),
         }
-        if line == "growths are refused" {
-            return Line::Refused;
-        }
-        if line == "end" {
-            return Line::End;
-        }
-        if let Some(name) = line.strip_prefix("group ") {
-            return Line::Group(name);
-        }
-        if let Some(tree) = line.strip_prefix("tree ") {
-            let (name, text) = first_word(tree);
-            return Line::Tree { name, text };
-        }
-        Line::read_row(line).unwrap_or(Line::Malformed)
     }
 
     fn read_row(line: &'a str) -> Option<Line<'a>> {
@@ -61,5 +52,30 @@ impl<'a> Line<'a> {
             answer,
             is_it,
         })
+    }
+}
+
+/// How far a file of the table is read: whether it had a row, a tree or a group, and whether its end was there.
+#[derive(Clone, Copy)]
+pub struct Part {
+    pub has_lines: bool,
+    pub is_ended: bool,
+}
+
+impl Part {
+    /// Notes the next line. If it may not stand there, this says why.
+    pub fn note(&mut self, line: &Line) -> Result<(), &'static str> {
+        if self.is_ended {
+            return Err("the file goes on after its end");
+        }
+        match line {
+            Line::Blank | Line::Refused => (),
+            Line::End => self.is_ended = true,
+            _ => self.has_lines = true,
+        }
+        if self.is_ended && !self.has_lines {
+            return Err("the file has no row");
+        }
+        Ok(())
     }
 }

@@ -1,10 +1,10 @@
-//! Goes through a table of rows, from standard input and from the files of its groups, and compares what each answers with what is expected.
-//! It prints a line for each row that answers otherwise, and for each answer that a call owes a row and has none.
+//! Goes through a table of rows, from standard input and from the files of its groups, and compares what each answers
+//! with what is expected. It prints a line for each row that answers otherwise, and for each answer that a call owes a
+//! row and has none.
 //!
 //! The head of the table (`stdin`, beside this folder) says how a line is written, and docs/ROWS.md how to add one.
 #![tactic(auto)]
 
-mod asked;
 mod calls;
 mod editors;
 mod elements;
@@ -13,10 +13,7 @@ mod greens;
 mod indents;
 mod line;
 mod making;
-mod mappings;
 mod plans;
-mod recording;
-mod report;
 mod roots;
 mod row;
 mod run;
@@ -27,8 +24,7 @@ mod standing;
 mod texts;
 mod values;
 
-use crate::report::REFUSED;
-use crate::run::Run;
+use crate::run::{REFUSED, Run};
 use std::io;
 use std::io::ErrorKind;
 use std::process::ExitCode;
@@ -48,7 +44,7 @@ fn main(rt: HostRuntime) -> io::Result<ExitCode> {
         if is_memory(&line) {
             return Ok(ExitCode::from(REFUSED));
         }
-        if !run.is_cut() {
+        if !run.is_cut {
             run.take_line(&rt, line?.as_str())?;
         }
     }

@@ -1,47 +1,47 @@
-//! Trees, numbers, annotations, positions, and elements made of parts.
+//! Trees, numbers, annotations, positions, elements made of parts, and mappings.
 
-use crate::mappings;
+use crate::editors;
 use crate::roots::{annotation_of, kind_in};
-use crate::session::{Session, last};
-use crate::shown::{Answer, Done};
+use crate::session::{Session, last, take};
+use crate::shown::{Answer, Done, Show};
 use cst_core::ast::{BlockExpr, Fn, LetStmt, StmtList};
-use cst_core::{
-    AstNode, GreenElement, GreenNode, SyntaxElement, SyntaxKind, SyntaxNode, SyntaxToken, TreeIds,
-};
+use cst_core::{AstNode, GreenNode, SyntaxElement, SyntaxKind, SyntaxNode, SyntaxToken, TreeIds};
 use std::alloc::{AllocError, Global};
-use syntax_editor::{Annotations, Element, Position, SyntaxAnnotation, SyntaxFactory};
+use syntax_editor::{
+    Annotations, Element, MapError, Position, SyntaxAnnotation, SyntaxFactory, SyntaxMapping,
+    SyntaxMappingBuilder,
+};
 use test_trees::{NoAnswer, Words, number_of, read_tree};
 
 /// Takes the step of this name, or passes on what is none of these.
 pub fn answer(s: &mut Session, name: &str, words: &mut Words, out: &mut Answer) -> Done {
-    let alloc = s.alloc;
     match name {
         "tree" => tree(s, words),
         "numbers" => numbers(s, words),
         "new_root" => new_root(s, words, out),
         "clone_subtree" => clone_subtree(s, words, out),
-        "green_node" | "capped" => green_node(alloc, name, words, out),
-        "splice_children" => splice_children(alloc, words, out),
-        "next" => out.given_or_none(s.ids.next()),
+        "green_node" | "capped" => green_node(s, name, words, out),
+        "splice_children" => splice_children(s, words, out),
+        "next" => out.given_or_none(&s.ids.next()),
         "peek" => peek(s, out),
         "annotations" => annotations(words, out),
         "before" | "after" => gap(s, name, words, out),
         "first" | "last" => gap_in(s, name, words, out),
-        "syntax_element" => syntax_element(s, words, out),
+        "syntax_element" => made(s.alloc, &s.trees.element(words)?, out),
         "typed_element" => typed_element(s, words, out),
         "token" => token(s, words, out),
         "node" => node(s, words, out),
         "wrap" => wrap(s, words, out),
         "whitespace" => whitespace(s, words, out),
-        _ => mappings::answer(s, name, words, out),
+        _ => answer_mapping(s, name, words, out),
     }
 }
 
 fn tree(s: &mut Session, words: &mut Words) -> Done {
     let name = words.word()?;
     let green = read_tree(s.alloc, words.take_rest())?;
-    let root = SyntaxNode::new_root(s.alloc, &mut s.ids, green)?;
-    s.trees.add(name, root)
+    s.trees
+        .add(name, SyntaxNode::new_root(s.alloc, &mut s.ids, green)?)
 }
 
 // A new source of numbers, from this number on, or a spent one.
@@ -58,7 +58,7 @@ fn peek(s: &mut Session, out: &mut Answer) -> Done {
     if s.ids.is_spent() != s.ids.peek().is_none() {
         return out.word("spent in one way and not in another");
     }
-    out.number_or_none(s.ids.peek())
+    s.ids.peek().show(out)
 }
 
 fn new_root(s: &mut Session, words: &mut Words, out: &mut Answer) -> Done {
@@ -75,44 +75,34 @@ fn clone_subtree(s: &mut Session, words: &mut Words, out: &mut Answer) -> Done {
     s.trees.add("it", copy)
 }
 
-// The trees that the words name.
-fn greens(alloc: Global, words: &mut Words) -> Result<Vec<GreenElement>, NoAnswer> {
-    let mut all = Vec::new(alloc);
-    for word in words.take_rest().split(' ').filter(|word| !word.is_empty()) {
-        all.push(GreenElement::Node(read_tree(alloc, word)?))?;
-    }
-    Ok(all)
-}
-
-// Made by `new`, or by `capped`.
-fn green_node(alloc: Global, name: &str, words: &mut Words, out: &mut Answer) -> Done {
-    let children = greens(alloc, words)?;
-    let node = if name == "capped" {
-        out.asked(GreenNode::capped(alloc, SyntaxKind::SOURCE_FILE, children))?
-    } else {
-        out.asked(GreenNode::new(alloc, SyntaxKind::SOURCE_FILE, children))?
+// Of the trees of these elements, made by `new` or by `capped`.
+fn green_node(s: &mut Session, name: &str, words: &mut Words, out: &mut Answer) -> Done {
+    let children = s.trees.greens(words.take_rest())?;
+    let node = match name {
+        "capped" => out.asked(GreenNode::capped(s.alloc, SyntaxKind::NAME, children))?,
+        _ => out.asked(GreenNode::new(s.alloc, SyntaxKind::NAME, children))?,
     };
-    out.given(node.length())
+    out.given(&node)
 }
 
-// The other trees stand before the children of the first one.
-fn splice_children(alloc: Global, words: &mut Words, out: &mut Answer) -> Done {
-    let node = read_tree(alloc, words.word()?)?;
-    let new = greens(alloc, words)?;
-    let spliced = out.asked(node.splice_children(alloc, 0, 0, new))?;
-    out.given(spliced.length())
+// The trees of these elements in the place of the children of a tree from the first slot up to the second one.
+fn splice_children(s: &mut Session, words: &mut Words, out: &mut Answer) -> Done {
+    let node = s.trees.defined.tree(s.alloc, words.word()?)?;
+    let start = words.number()?;
+    let end = words.number()?;
+    let new = s.trees.greens(words.take_rest())?;
+    if start > end || end > node.children().len() {
+        return Err(NoAnswer::Arguments);
+    }
+    let spliced = out.asked(node.splice_children(s.alloc, start, end, new))?;
+    out.given(&spliced)
 }
 
 // Whether the calls of a source that begins at the first number give the annotations of the others, each above the one before.
 fn annotations(words: &mut Words, out: &mut Answer) -> Done {
-    let first = words
-        .word()?
-        .parse::<u32>()
-        .ok()
-        .ok_or(NoAnswer::Arguments)?;
-    let mut source = Annotations::new(first);
+    let mut source = Annotations::new(words.number()?);
     let mut before = None;
-    for word in words.take_rest().split(' ') {
+    for word in words.take_rest().split_whitespace() {
         let given = source.next();
         if !is_wanted(before, given, word) {
             return out.word("none");
@@ -130,15 +120,14 @@ fn is_wanted(
     if wanted == "none" {
         return given.is_none();
     }
-    given == annotation_of(wanted) && before < given
+    given == annotation_of(wanted).ok() && before < given
 }
 
 fn gap(s: &mut Session, name: &str, words: &mut Words, out: &mut Answer) -> Done {
     let element = s.trees.element(words)?;
-    let position = if name == "before" {
-        Position::before(s.alloc, element)
-    } else {
-        Position::after(s.alloc, &element)
+    let position = match name {
+        "before" => Position::before(s.alloc, element),
+        _ => Position::after(s.alloc, &element),
     };
     let position = out.asked(position)?;
     out.word(if position.is_some() { "ok" } else { "none" })
@@ -146,56 +135,37 @@ fn gap(s: &mut Session, name: &str, words: &mut Words, out: &mut Answer) -> Done
 
 fn gap_in(s: &mut Session, name: &str, words: &mut Words, out: &mut Answer) -> Done {
     let node = s.trees.node(words)?;
-    let _ = if name == "first" {
-        out.asked(Position::first_child_of(s.alloc, &node))?
-    } else {
-        out.asked(Position::last_child_of(s.alloc, &node))?
-    };
+    let _ = out.asked(match name {
+        "first" => Position::first_child_of(s.alloc, &node),
+        _ => Position::last_child_of(s.alloc, &node),
+    })?;
     Ok(())
 }
 
-// The text of an element that a call made.
-fn made(alloc: Global, called: Result<SyntaxElement, AllocError>, out: &mut Answer) -> Done {
-    let text = out.asked(called)?.text(alloc)?;
-    out.word("ok ")?;
-    out.quote(&text)
-}
-
-fn made_of<E: Element>(alloc: Global, value: E) -> Result<SyntaxElement, AllocError> {
-    value.syntax_element(alloc)
-}
-
-// The element by a reference to it.
-fn syntax_element(s: &mut Session, words: &mut Words, out: &mut Answer) -> Done {
-    let element = s.trees.element(words)?;
-    made(s.alloc, made_of(s.alloc, &element), out)
+// The text of an element that is made of a value.
+fn made<E: Element>(alloc: Global, value: E, out: &mut Answer) -> Done {
+    let element = out.asked(value.syntax_element(alloc))?;
+    out.given(&element.text(alloc)?)
 }
 
 // The element by a reference to the typed node of its kind.
 fn typed_element(s: &mut Session, words: &mut Words, out: &mut Answer) -> Done {
     let node = s.trees.node(words)?;
-    match made_of_typed(s.alloc, node) {
-        Some(called) => made(s.alloc, called, out),
-        None => Err(NoAnswer::Row("no typed node")),
+    match node.kind() {
+        SyntaxKind::BLOCK_EXPR => made(s.alloc, &typed::<BlockExpr>(node)?, out),
+        SyntaxKind::STMT_LIST => made(s.alloc, &typed::<StmtList>(node)?, out),
+        SyntaxKind::LET_STMT => made(s.alloc, &typed::<LetStmt>(node)?, out),
+        _ => made(s.alloc, &typed::<Fn>(node)?, out),
     }
 }
 
-fn made_of_typed(alloc: Global, node: SyntaxNode) -> Option<Result<SyntaxElement, AllocError>> {
-    let kind = node.kind();
-    if kind == SyntaxKind::BLOCK_EXPR {
-        Some(made_of(alloc, &BlockExpr::cast(node)?))
-    } else if kind == SyntaxKind::STMT_LIST {
-        Some(made_of(alloc, &StmtList::cast(node)?))
-    } else if kind == SyntaxKind::LET_STMT {
-        Some(made_of(alloc, &LetStmt::cast(node)?))
-    } else {
-        Some(made_of(alloc, &Fn::cast(node)?))
-    }
+fn typed<T: AstNode>(node: SyntaxNode) -> Result<T, NoAnswer> {
+    T::cast(node).ok_or(NoAnswer::Row("no typed node"))
 }
 
 /// A factory that keeps mappings, or one that keeps none.
-pub fn factory(alloc: Global, word: &str) -> Result<SyntaxFactory, NoAnswer> {
-    match word {
+pub fn factory(alloc: Global, words: &mut Words) -> Result<SyntaxFactory, NoAnswer> {
+    match words.word()? {
         "mapped" => Ok(SyntaxFactory::with_mappings(alloc)),
         "unmapped" => Ok(SyntaxFactory::without_mappings(alloc)),
         _ => Err(NoAnswer::Arguments),
@@ -203,8 +173,8 @@ pub fn factory(alloc: Global, word: &str) -> Result<SyntaxFactory, NoAnswer> {
 }
 
 // The text of a tree, which is written as a row has it.
-fn text_of_tree(alloc: Global, text: &str) -> Result<String, NoAnswer> {
-    Ok(read_tree(alloc, text)?.to_string(alloc)?)
+fn text_of_tree(alloc: Global, words: &mut Words) -> Result<String, NoAnswer> {
+    Ok(read_tree(alloc, words.take_rest())?.to_string(alloc)?)
 }
 
 // A token's kind, its text, the number of its tree, and what it stands below.
@@ -224,7 +194,7 @@ fn show_token(alloc: Global, token: &SyntaxToken, out: &mut Answer) -> Done {
 // A token with the text of a tree.
 fn token(s: &mut Session, words: &mut Words, out: &mut Answer) -> Done {
     let kind = kind_in(words)?;
-    let text = text_of_tree(s.alloc, words.take_rest())?;
+    let text = text_of_tree(s.alloc, words)?;
     let factory = SyntaxFactory::without_mappings(s.alloc);
     let token = out.asked(factory.token(s.alloc, &mut s.ids, kind, &text))?;
     show_token(s.alloc, &token, out)
@@ -232,8 +202,8 @@ fn token(s: &mut Session, words: &mut Words, out: &mut Answer) -> Done {
 
 // The same of a factory with mappings or without.
 fn whitespace(s: &mut Session, words: &mut Words, out: &mut Answer) -> Done {
-    let factory = factory(s.alloc, words.word()?)?;
-    let text = text_of_tree(s.alloc, words.take_rest())?;
+    let factory = factory(s.alloc, words)?;
+    let text = text_of_tree(s.alloc, words)?;
     let token = out.asked(factory.whitespace(s.alloc, &mut s.ids, &text))?;
     show_token(s.alloc, &token, out)
 }
@@ -241,7 +211,7 @@ fn whitespace(s: &mut Session, words: &mut Words, out: &mut Answer) -> Done {
 // A node of the elements of all words that are left.
 fn node(s: &mut Session, words: &mut Words, out: &mut Answer) -> Done {
     let kind = kind_in(words)?;
-    let children = s.trees.elements(words)?;
+    let children = s.trees.elements(words.take_rest())?;
     let factory = SyntaxFactory::without_mappings(s.alloc);
     let node = out.asked(factory.node(s.alloc, &mut s.ids, kind, &children))?;
     out.root(&node)
@@ -256,9 +226,125 @@ fn wrap(s: &mut Session, words: &mut Words, out: &mut Answer) -> Done {
         .take_rest()
         .split_once("round")
         .ok_or(NoAnswer::Arguments)?;
-    let before = s.trees.elements(&mut Words::of(before))?;
-    let after = s.trees.elements(&mut Words::of(after))?;
-    let copy = editor.wrap(s.alloc, &mut s.ids, &node, kind, &before, &after);
-    let copy = out.asked(copy)?;
+    let before = s.trees.elements(before)?;
+    let after = s.trees.elements(after)?;
+    let copy = out.asked(editor.wrap(s.alloc, &mut s.ids, &node, kind, &before, &after))?;
     out.root_at(&copy)
+}
+
+// Builders of mappings, where their pairs go, and mappings that no editor has.
+fn answer_mapping(s: &mut Session, name: &str, words: &mut Words, out: &mut Answer) -> Done {
+    match name {
+        "builder" => builder(s, words),
+        "map_node" => map_node(s, words, out),
+        "map_children" => map_children(s, words, out),
+        "map" => map(s, words, out),
+        "map_all" | "map_editor" | "finish_builder" | "add_mapping" => finish(s, name, out),
+        "mapping" => Ok(s.mappings.push(SyntaxMapping::new(s.alloc))?),
+        "merge_mappings" => merge_mappings(s, out),
+        "clone_mapping" => clone_mapping(s, out),
+        "drop_mapping" => {
+            let _ = s.mappings.pop();
+            Ok(())
+        }
+        "place" => place(s, words, out),
+        "follow" => follow(s, words, out),
+        _ => editors::answer(s, name, words, out),
+    }
+}
+
+fn builder(s: &mut Session, words: &mut Words) -> Done {
+    let builder = SyntaxMappingBuilder::new(s.alloc, s.trees.node(words)?);
+    Ok(s.builders.push(builder)?)
+}
+
+fn map_node(s: &mut Session, words: &mut Words, out: &mut Answer) -> Done {
+    let builder = last(&mut s.builders)?;
+    let input = s.trees.node(words)?;
+    out.asked(builder.map_node(s.alloc, input, s.trees.node(words)?))
+}
+
+fn map_children(s: &mut Session, words: &mut Words, out: &mut Answer) -> Done {
+    let builder = last(&mut s.builders)?;
+    let (inputs, outputs) = words
+        .take_rest()
+        .split_once(" to ")
+        .ok_or(NoAnswer::Arguments)?;
+    let inputs = s.trees.nodes(inputs)?;
+    out.asked(builder.map_children(s.alloc, &inputs, &s.trees.nodes(outputs)?))
+}
+
+// A builder of the copy's parent, with one pair. Where memory runs out there is no such builder, so that the step can be
+// taken again.
+fn map(s: &mut Session, words: &mut Words, out: &mut Answer) -> Done {
+    let input = s.trees.node(words)?;
+    let output = s.trees.node(words)?;
+    let parent = output.parent(s.alloc)?.ok_or(NoAnswer::Row("no parent"))?;
+    let mut builder = SyntaxMappingBuilder::new(s.alloc, parent);
+    let called = builder.map_node(s.alloc, input, output);
+    if let Err(MapError::Memory) = &called {
+        return out.asked(called);
+    }
+    s.builders.push(builder)?;
+    out.asked(called)
+}
+
+// The pairs of the last builder go into the mapping of the last editor, by the editor's call or by the builder's, or
+// into the last mapping, by the builder's call or by the mapping's.
+fn finish(s: &mut Session, name: &str, out: &mut Answer) -> Done {
+    let builder = take(&mut s.builders)?;
+    match name {
+        "map_editor" => out.asked(last(&mut s.editors)?.add_mapping(s.alloc, builder)),
+        "finish_builder" => out.asked(builder.finish(s.alloc, last(&mut s.mappings)?)),
+        "add_mapping" => out.asked(last(&mut s.mappings)?.add_mapping(s.alloc, builder)),
+        _ => {
+            let mapping = last(&mut s.editors)?.make_mut().mappings();
+            out.asked(builder.finish(s.alloc, mapping.ok_or(NoAnswer::Row("no mappings"))?))
+        }
+    }
+}
+
+// The last mapping goes into the one before it.
+fn merge_mappings(s: &mut Session, out: &mut Answer) -> Done {
+    let other = take(&mut s.mappings)?;
+    out.asked(last(&mut s.mappings)?.merge(s.alloc, other))
+}
+
+// A clone stands before the last mapping.
+fn clone_mapping(s: &mut Session, out: &mut Answer) -> Done {
+    let clone = out.asked(last(&mut s.mappings)?.try_clone(s.alloc))?;
+    s.mappings.push(clone)?;
+    let end = s.mappings.len();
+    if end >= 2 {
+        s.mappings.swap(end - 2, end - 1);
+    }
+    Ok(())
+}
+
+fn place(s: &mut Session, words: &mut Words, out: &mut Answer) -> Done {
+    let mapping = last(&mut s.mappings)?;
+    let target = s.trees.node(words)?;
+    let called = mapping.place(s.alloc, &target, &s.trees.node(words)?);
+    match out.asked(called)? {
+        Some(path) => {
+            out.word("ok ")?;
+            out.path(&path)
+        }
+        None => out.word("none"),
+    }
+}
+
+// The form of the element, its text, the number of its tree and its path.
+fn follow(s: &mut Session, words: &mut Words, out: &mut Answer) -> Done {
+    let mapping = last(&mut s.mappings)?;
+    let start = s.trees.element(words)?;
+    let end = out.asked(mapping.follow(s.alloc, &start))?;
+    out.word(if end.as_node().is_some() {
+        "ok node "
+    } else {
+        "ok token "
+    })?;
+    out.quote(&end.text(s.alloc)?)?;
+    write!(out.text, " of {} at ", end.tree())?;
+    out.path(end.slots())
 }

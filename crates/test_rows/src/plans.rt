@@ -26,12 +26,11 @@ pub fn answer(s: &mut Session, name: &str, words: &mut Words, out: &mut Answer) 
         "register" => register(s, words),
         "check_changes" => check_changes(s, words, out),
         "build" => build(s, words, out),
-        "is_empty" => out.truth(last_plan(s)?.is_empty()),
-        "plan_deletions" => deleted_paths(last_plan(s)?.changes(), out),
-        "plan_text" => text(s, out),
+        "is_empty" => out.truth(last(&mut s.plans)?.is_empty()),
+        "plan_deletions" => deleted_paths(last(&mut s.plans)?.changes(), out),
+        "plan_text" => out.quote(&last(&mut s.plans)?.to_string(alloc)?),
         "text_edits" => text_edits(s, out),
-        "is_dropped" => is_dropped(s, words, out),
-        "owner" => owner(s, words, out),
+        "is_dropped" | "owner" => of_change(last(&mut s.plans)?, name, words, out),
         "default_order" => default_order(s, out),
         "execute" => execute(s, words, out),
         "run" => run(s, &mut OnePassEngine::new(alloc), out),
@@ -50,7 +49,7 @@ fn plan(s: &mut Session, out: &mut Answer) -> Done {
 fn keep(s: &mut Session, plan: EditPlan, out: &mut Answer) -> Done {
     let count = plan.len();
     s.plans.push(plan)?;
-    out.given(count as u64)
+    out.given(&(count as u64))
 }
 
 // Each text edit: its offsets and its text.
@@ -67,33 +66,27 @@ fn text_edits(s: &mut Session, out: &mut Answer) -> Done {
 // One more change of the plan that is built.
 fn next_change(trees: &Roots, words: &mut Words) -> Result<Change, NoAnswer> {
     match words.word()? {
-        "insert" => {
-            let (at, new) = trees.insertion(words)?;
-            Ok(Change::Insert(at, new))
-        }
-        "insert_all" => {
-            let (at, new) = trees.insertions(words)?;
-            Ok(Change::InsertAll(at, ElementList::from(new)))
-        }
-        name => replacement(trees, name, words),
+        "insert" => Ok(Change::Insert(trees.position(words)?, trees.element(words)?)),
+        "insert_all" => Ok(Change::InsertAll(trees.position(words)?, list(trees, words)?)),
+        "delete" => Ok(Change::Replace(trees.element(words)?, None)),
+        "replace" => Ok(Change::Replace(trees.element(words)?, Some(trees.element(words)?))),
+        "replace_with_many" => replacement(trees, words),
+        "replace_all" => range_replacement(trees, words),
+        _ => Err(NoAnswer::Arguments),
     }
 }
 
-fn replacement(trees: &Roots, name: &str, words: &mut Words) -> Result<Change, NoAnswer> {
-    let target = trees.element(words)?;
-    match name {
-        "delete" => Ok(Change::Replace(target, None)),
-        "replace" => Ok(Change::Replace(target, Some(trees.element(words)?))),
-        "replace_with_many" => {
-            let new = ElementList::from(trees.elements(words)?);
-            Ok(Change::ReplaceWithMany(target, new))
-        }
-        "replace_all" => {
-            let end = trees.element(words)?;
-            Ok(Change::ReplaceAll(target, end, ElementList::from(trees.elements(words)?)))
-        }
-        _ => Err(NoAnswer::Arguments),
-    }
+fn list(trees: &Roots, words: &mut Words) -> Result<ElementList, NoAnswer> {
+    Ok(ElementList::from(trees.elements(words.take_rest())?))
+}
+
+fn replacement(trees: &Roots, words: &mut Words) -> Result<Change, NoAnswer> {
+    Ok(Change::ReplaceWithMany(trees.element(words)?, list(trees, words)?))
+}
+
+fn range_replacement(trees: &Roots, words: &mut Words) -> Result<Change, NoAnswer> {
+    let first = trees.element(words)?;
+    Ok(Change::ReplaceAll(first, trees.element(words)?, list(trees, words)?))
 }
 
 // One more registered element of the plan that is built.
@@ -134,52 +127,31 @@ fn check_changes(s: &mut Session, words: &mut Words, out: &mut Answer) -> Done {
 
 // A plan of the changes and registered elements so far, by the last mapping, or by none.
 fn build(s: &mut Session, words: &mut Words, out: &mut Answer) -> Done {
-    let alloc = s.alloc;
     let root = root(&s.trees, words)?;
-    let changes = replace(&mut s.changes, Vec::new(alloc));
+    let changes = replace(&mut s.changes, Vec::new(s.alloc));
     if !all_fit(&root, &changes) {
         return out.word("not fitting");
     }
-    let registrations = replace(&mut s.registrations, Vec::new(alloc));
-    let mapping = s.mappings.pop().unwrap_or(SyntaxMapping::new(alloc));
-    let plan = out.asked(EditPlan::build(alloc, root, changes, registrations, mapping))?;
+    let registrations = replace(&mut s.registrations, Vec::new(s.alloc));
+    let mapping = s.mappings.pop().unwrap_or(SyntaxMapping::new(s.alloc));
+    let plan = out.asked(EditPlan::build(s.alloc, root, changes, registrations, mapping))?;
     keep(s, plan, out)
 }
 
-// A change of a plan.
-fn number(plan: &EditPlan, words: &mut Words) -> Result<usize, NoAnswer>
-    ensures { IfOk result (λ change. change < length plan.now.changes) }
-{
-    let change = words.count()?;
+// Whether a change of a plan is dropped, or the change that owns it.
+fn of_change(plan: &EditPlan, name: &str, words: &mut Words, out: &mut Answer) -> Done {
+    let change = words.number()?;
     if change >= plan.len() {
         return Err(NoAnswer::Row("no change has this number"));
     }
-    Ok(change)
-}
-
-fn last_plan(s: &Session) -> Result<&EditPlan, NoAnswer> {
-    s.plans.last().ok_or(NoAnswer::Row("no plan was made"))
-}
-
-fn text(s: &mut Session, out: &mut Answer) -> Done {
-    let text = last_plan(s)?.to_string(s.alloc)?;
-    out.quote(&text)
-}
-
-fn is_dropped(s: &mut Session, words: &mut Words, out: &mut Answer) -> Done {
-    let plan = last_plan(s)?;
-    let change = number(plan, words)?;
-    out.truth(plan.is_dropped(change))
-}
-
-fn owner(s: &mut Session, words: &mut Words, out: &mut Answer) -> Done {
-    let plan = last_plan(s)?;
-    let change = number(plan, words)?;
-    out.given_or_none(plan.owner(change).map(|owner| owner as u64))
+    match name {
+        "is_dropped" => out.truth(plan.is_dropped(change)),
+        _ => out.given_or_none(&plan.owner(change).map(|owner| owner as u64)),
+    }
 }
 
 fn default_order(s: &mut Session, out: &mut Answer) -> Done {
-    let order = out.asked(last_plan(s)?.default_order(s.alloc))?;
+    let order = out.asked(last(&mut s.plans)?.default_order(s.alloc))?;
     out.word("ok")?;
     for change in order.iter() {
         write!(out.text, " {change}")?;
@@ -188,29 +160,27 @@ fn default_order(s: &mut Session, out: &mut Answer) -> Done {
 }
 
 fn execute(s: &mut Session, words: &mut Words, out: &mut Answer) -> Done {
-    let order = words.counts(s.alloc)?;
-    let plan = last(&mut s.plans)?;
-    let edit = out.asked(plan.execute(s.alloc, &mut s.ids, &order))?;
+    let mut order = Vec::new(s.alloc);
+    for word in words.take_rest().split_whitespace() {
+        order.push(number_of(word)?)?;
+    }
+    let edit = out.asked(last(&mut s.plans)?.execute(s.alloc, &mut s.ids, &order))?;
     keep_edit(s, edit, out)
 }
 
 // Carries the last plan out with this engine.
 fn run<E: EditEngine>(s: &mut Session, engine: &mut E, out: &mut Answer) -> Done {
-    let plan = last(&mut s.plans)?;
-    let edit = out.asked(plan.run_with(s.alloc, &mut s.ids, engine))?;
+    let edit = out.asked(last(&mut s.plans)?.run_with(s.alloc, &mut s.ids, engine))?;
     keep_edit(s, edit, out)
 }
 
-// The count of an engine that makes the last plan's tree in one pass, from the number of the next word on, if the other engine makes the same.
+// The count of an engine that makes the last plan's tree in one pass, from the number of the next word on, if the other
+// engine makes the same.
 fn built(s: &mut Session, words: &mut Words, out: &mut Answer) -> Done {
-    let alloc = s.alloc;
-    let mut engine = match words.next() {
-        Some(builds) => OnePassEngine::starting_at(alloc, number_of(builds)?),
-        None => OnePassEngine::new(alloc),
-    };
-    let plan = last_plan(s)?;
-    if is_same(alloc, plan, &mut engine, out)? {
-        out.given(engine.builds())
+    let first = number_of(words.next().unwrap_or("0"))?;
+    let mut engine = OnePassEngine::starting_at(s.alloc, first);
+    if is_same(s.alloc, last(&mut s.plans)?, &mut engine, out)? {
+        out.given(&engine.builds())
     } else {
         out.word("the engines differ")
     }
@@ -258,10 +228,6 @@ fn is_same_tree(alloc: Global, one: &GreenNode, other: &GreenNode) -> Result<boo
     if one.length() > COMPARED || other.length() > COMPARED {
         return Ok(one.length() == other.length());
     }
-    let written = asked_text(alloc, one)?;
-    Ok(written == asked_text(alloc, other)?)
-}
-
-fn asked_text(alloc: Global, tree: &GreenNode) -> Result<String, NoAnswer> {
-    write_tree(alloc, tree).ok().ok_or(NoAnswer::Memory)
+    let written = write_tree(alloc, one).ok().ok_or(NoAnswer::Memory)?;
+    Ok(written == write_tree(alloc, other).ok().ok_or(NoAnswer::Memory)?)
 }

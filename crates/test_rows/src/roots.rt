@@ -1,22 +1,17 @@
-//! The trees that a row names: those that its steps made, and those that the table defined. What calls take is read from words here.
+//! The trees that a row names: those that its steps made, and those that the table defined. What calls take is read from
+//! words here.
 
-use cst_core::{SyntaxElement, SyntaxKind, SyntaxNode, SyntaxToken};
+use cst_core::{GreenElement, SyntaxElement, SyntaxKind, SyntaxNode, SyntaxToken};
 use std::alloc::{AllocError, Global};
 use syntax_editor::{Annotations, Position, SyntaxAnnotation};
-use test_trees::{NoAnswer, Trees, Words, element_below, name_and_path};
-
-#[derive(Drop)]
-struct NamedRoot {
-    name: String,
-    root: SyntaxNode,
-}
+use test_trees::{NoAnswer, Trees, Words, element_below, name_and_path, number_of};
 
 /// The trees of the table, and the roots that the steps of a row made, by name.
 #[derive(Drop)]
 pub struct Roots {
     alloc: Global,
     pub defined: Trees,
-    made: Vec<NamedRoot>,
+    pub made: Vec<(String, SyntaxNode)>,
 }
 
 impl Roots {
@@ -28,21 +23,15 @@ impl Roots {
         }
     }
 
-    /// The roots that steps made go, and the trees of the table stay.
-    pub fn clear(&mut self) {
-        self.made.clear();
-    }
-
     pub fn add(&mut self, name: &str, root: SyntaxNode) -> Result<(), NoAnswer> {
-        let name = String::from_str(self.alloc, name)?;
-        Ok(self.made.push(NamedRoot { name, root })?)
+        Ok(self.made.push((String::from_str(self.alloc, name)?, root))?)
     }
 
     // What a reference leads to: `R/1/0` is an element below the root R that a step made, or of a tree of the table.
     fn at(&self, reference: &str) -> Result<SyntaxElement, NoAnswer> {
         let (name, path) = name_and_path(reference);
-        match self.made.iter().find(|tree| tree.name.as_str() == name) {
-            Some(tree) => element_below(self.alloc, &tree.root, path),
+        match self.made.iter().find(|made| made.0.as_str() == name) {
+            Some((_, root)) => element_below(self.alloc, root, path),
             None => self.defined.element(self.alloc, reference),
         }
     }
@@ -64,22 +53,30 @@ impl Roots {
         self.element(words)?.into_token().ok_or(NoAnswer::Form)
     }
 
-    /// The elements of all words that are left.
-    pub fn elements(&self, words: &mut Words) -> Result<Vec<SyntaxElement>, NoAnswer> {
+    /// The elements of all words of a text.
+    pub fn elements(&self, text: &str) -> Result<Vec<SyntaxElement>, NoAnswer> {
         let mut elements = Vec::new(self.alloc);
-        for word in words.take_rest().split(' ').filter(|word| !word.is_empty()) {
+        for word in text.split_whitespace() {
             elements.push(self.at(word)?)?;
         }
         Ok(elements)
     }
 
-    /// The nodes of all words of a text.
     pub fn nodes(&self, text: &str) -> Result<Vec<SyntaxNode>, NoAnswer> {
         let mut nodes = Vec::new(self.alloc);
-        for word in text.split(' ') {
+        for word in text.split_whitespace() {
             nodes.push(self.node_at(word)?)?;
         }
         Ok(nodes)
+    }
+
+    /// The shared trees of these elements.
+    pub fn greens(&self, text: &str) -> Result<Vec<GreenElement>, NoAnswer> {
+        let mut greens = Vec::new(self.alloc);
+        for word in text.split_whitespace() {
+            greens.push(self.at(word)?.green(self.alloc)?)?;
+        }
+        Ok(greens)
     }
 
     // The position at one side of a node or of an element.
@@ -93,22 +90,9 @@ impl Roots {
         }
     }
 
-    /// The position that two words say (`first NODE`, `last NODE`, `before REF` or `after REF`), and an element.
-    pub fn insertion(&self, words: &mut Words) -> Result<(Position, SyntaxElement), NoAnswer> {
-        let side = words.word()?;
-        let beside = words.word()?;
-        let new = self.element(words)?;
-        Ok((self.position_at(side, beside)?, new))
-    }
-
-    /// Such a position, and the elements of all words that are left.
-    pub fn insertions(
-        &self,
-        words: &mut Words,
-    ) -> Result<(Position, Vec<SyntaxElement>), NoAnswer> {
-        let side = words.word()?;
-        let at = self.position_at(side, words.word()?)?;
-        Ok((at, self.elements(words)?))
+    /// The position that two words say: `first NODE`, `last NODE`, `before REF` or `after REF`.
+    pub fn position(&self, words: &mut Words) -> Result<Position, NoAnswer> {
+        self.position_at(words.word()?, words.word()?)
     }
 }
 
@@ -116,14 +100,16 @@ fn gap(called: Result<Option<Position>, AllocError>) -> Result<Position, NoAnswe
     called?.ok_or(NoAnswer::Row("no gap there"))
 }
 
-/// The annotation with this number, if that is one.
-pub fn annotation_of(digits: &str) -> Option<SyntaxAnnotation> {
-    Annotations::new(digits.parse::<u32>().ok()?).next()
+/// The annotation with this number.
+pub fn annotation_of(digits: &str) -> Result<SyntaxAnnotation, NoAnswer> {
+    Annotations::new(number_of(digits)?)
+        .next()
+        .ok_or(NoAnswer::Arguments)
 }
 
 /// The annotation of the next word, or the first one.
 pub fn annotation(words: &mut Words) -> Result<SyntaxAnnotation, NoAnswer> {
-    annotation_of(words.next().unwrap_or("1")).ok_or(NoAnswer::Arguments)
+    annotation_of(words.next().unwrap_or("1"))
 }
 
 /// The kind that the next word names.

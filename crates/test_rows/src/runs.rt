@@ -3,8 +3,8 @@ ghost use Rattle.std.specs.Prelude.{◌≡◌, ◌<◌, length, IfOk};
 
 use crate::editors::keep_edit;
 use crate::indents;
-use crate::session::{CHANGED, Session};
-use crate::shown::{Answer, Done};
+use crate::session::{CHANGED, Session, last};
+use crate::shown::{Answer, Done, Show, demand};
 use crate::standing::run_standing;
 use cst_core::GreenNode;
 use std::alloc::{AllocError, Global};
@@ -14,8 +14,8 @@ use test_trees::{NoAnswer, Words};
 // Texts up to this length are shown.
 const SHOWN: u64 = 200;
 
-/// `stepped`, `finish_run` or `finish_counting`. Words that are numbers are changes that are carried
-/// out, and each other word is a question.
+/// `stepped`, `finish_run` or `finish_counting`. Words that are numbers are changes that are carried out, and each other
+/// word is a question.
 pub fn answer(s: &mut Session, name: &str, words: &mut Words, out: &mut Answer) -> Done {
     match name {
         "stepped" => step_through(s, words, out),
@@ -24,24 +24,20 @@ pub fn answer(s: &mut Session, name: &str, words: &mut Words, out: &mut Answer) 
     }
 }
 
-fn plan(plans: &[EditPlan]) -> Result<&EditPlan, NoAnswer> {
-    plans.last().ok_or(NoAnswer::Row("no plan was made"))
-}
-
 fn step_through(s: &mut Session, words: &mut Words, out: &mut Answer) -> Done {
     out.word("ok")?;
-    let plan = plan(&s.plans)?;
-    let mut stepped = Stepped::new(s.alloc, plan, &mut s.refused)?;
-    stepped.take_all(words, &mut s.refused, out)
+    let plan = last(&mut s.plans)?;
+    Stepped::new(s.alloc, plan, &mut s.refused)?.take_all(words, &mut s.refused, out)
 }
 
-// The edit that a run gives where it is complete, also with the count of the walk that gives the edit its paths, from the first number on. Where there
-// is no edit the count is as it was.
+// The edit that a run gives where it is complete, also with the count of the walk that gives the edit its paths, from the
+// first number on. Where there is no edit the count is as it was.
 fn finish(s: &mut Session, name: &str, words: &mut Words, out: &mut Answer) -> Done {
     let is_counted = name == "finish_counting";
     let first = if is_counted { words.number()? } else { 0 };
     let mut walk = OnePassEngine::starting_at(s.alloc, first);
-    let mut stepped = Stepped::new(s.alloc, plan(&s.plans)?, &mut s.refused)?;
+    let plan = last(&mut s.plans)?;
+    let mut stepped = Stepped::new(s.alloc, plan, &mut s.refused)?;
     stepped.take_all(words, &mut s.refused, out)?;
     out.text.clear();
     if !stepped.run.is_complete() {
@@ -53,9 +49,7 @@ fn finish(s: &mut Session, name: &str, words: &mut Words, out: &mut Answer) -> D
     } else {
         run.finish(s.alloc, &mut s.ids)
     };
-    if called.is_err() && walk.builds() != first {
-        return Err(CHANGED);
-    }
+    demand(called.is_ok() || walk.builds() == first, CHANGED)?;
     let edit = out.asked(called)?;
     keep_edit(s, edit, out)?;
     if is_counted {
@@ -97,11 +91,8 @@ impl<'a> Stepped<'a> {
         refused: &mut Option<&'static str>,
     ) -> Result<Stepped<'a>, AllocError> {
         let run = new_run(alloc, plan, refused)?;
-        Ok(Stepped {
-            alloc,
-            run,
-            count: plan.len(),
-        })
+        let count = plan.len();
+        Ok(Stepped { alloc, run, count })
     }
 
     fn take_all(
@@ -110,14 +101,11 @@ impl<'a> Stepped<'a> {
         refused: &mut Option<&'static str>,
         out: &mut Answer,
     ) -> Done {
-        for word in words.take_rest().split(' ').filter(|word| !word.is_empty()) {
+        for word in words.take_rest().split_whitespace() {
             match word.parse::<usize>() {
                 Ok(change) if change < self.count => self.step(change, refused, out)?,
                 Ok(_) => return Err(NoAnswer::Arguments),
-                Err(_) => {
-                    out.word(" ")?;
-                    self.ask(word, out)?;
-                }
+                Err(_) => self.ask(word, out)?,
             }
         }
         Ok(())
@@ -135,20 +123,19 @@ impl<'a> Stepped<'a> {
             return Ok(());
         }
         *refused = Some("EditRun::step");
-        if run_standing(&self.run, self.count) != before {
-            return Err(CHANGED);
-        }
+        demand(run_standing(&self.run, self.count) == before, CHANGED)?;
         Ok(self.run.step(self.alloc, change)?)
     }
 
     fn ask(&self, word: &str, out: &mut Answer) -> Done {
+        out.word(" ")?;
         match word {
             "green" => short_text(self.run.green(), out),
             "ready" => self.ready(out),
-            "next" => out.number_or_none(self.run.next_ready().map(|change| change as u64)),
-            "builds" => out.number(self.run.builds()),
+            "next" => self.run.next_ready().map(|change| change as u64).show(out),
+            "builds" => self.run.builds().show(out),
             "complete" => out.truth(self.run.is_complete()),
-            "plan" => out.number(self.run.plan().len() as u64),
+            "plan" => (self.run.plan().len() as u64).show(out),
             _ => self.payload(word, out),
         }
     }
@@ -184,6 +171,5 @@ fn short_text(tree: &GreenNode, out: &mut Answer) -> Done {
     if length > SHOWN {
         return Ok(write!(out.text, "{length}_bytes")?);
     }
-    let text = tree.to_string(out.alloc)?;
-    out.quote(&text)
+    out.quote(&tree.to_string(out.alloc)?)
 }

@@ -1,4 +1,7 @@
+//! What the steps of a row work on.
+
 use crate::roots::Roots;
+use crate::shown::{Done, demand};
 use crate::standing::{Standing, editors_standing, lengths_standing};
 use cst_core::{SyntaxElement, TreeIds};
 use std::alloc::Global;
@@ -8,8 +11,8 @@ use syntax_editor::{
 };
 use test_trees::NoAnswer;
 
-/// What the steps of a row work on, and the trees of the table. A step on an editor, a plan, an edit, a mapping or a builder is one on the
-/// last that was made.
+/// What the steps of a row work on, the trees of the table, and what is answered. A step on an editor, a plan, an edit,
+/// a mapping or a builder is one on the last that was made.
 #[derive(Drop)]
 pub struct Session {
     pub alloc: Global,
@@ -25,6 +28,10 @@ pub struct Session {
     pub edits: Vec<SyntaxEdit>,
     /// The name of the call that was refused because memory ran out.
     pub refused: Option<&'static str>,
+    /// What the steps of the row answer that are asked about.
+    pub answers: String,
+    /// The calls that rows asked about, each with the first word of what it answered, as `CALL ANSWER`.
+    pub asked: Vec<String>,
 }
 
 impl Session {
@@ -41,12 +48,14 @@ impl Session {
             plans: Vec::new(alloc),
             edits: Vec::new(alloc),
             refused: None,
+            answers: String::new(alloc),
+            asked: Vec::new(alloc),
         }
     }
 
     /// A new row begins: all that the steps of the last one made goes.
     pub fn clear(&mut self) {
-        self.trees.clear();
+        self.trees.made.clear();
         self.ids = TreeIds::new(1);
         self.builders.clear();
         self.mappings.clear();
@@ -56,17 +65,16 @@ impl Session {
         self.plans.clear();
         self.edits.clear();
         self.refused = None;
+        self.answers.clear();
     }
 
     /// What a refusal leaves as it is.
     pub fn standing(&self) -> Standing {
         Standing {
             next: self.ids.peek(),
-            to_build: (
-                self.builders.len(),
-                self.changes.len(),
-                self.registrations.len(),
-            ),
+            builders: self.builders.len(),
+            changes: self.changes.len(),
+            registrations: self.registrations.len(),
             mappings: lengths_standing(self.mappings.iter().map(|it| it.len())),
             editors: editors_standing(&self.editors),
             plans: lengths_standing(self.plans.iter().map(|it| it.len())),
@@ -74,16 +82,11 @@ impl Session {
     }
 
     /// Notes that a call was refused because memory ran out, where all is as it was and is there to call it again.
-    pub fn note_refusal(&mut self, call: &'static str, before: &Standing) -> Result<(), NoAnswer> {
+    pub fn note_refusal(&mut self, call: &'static str, before: &Standing) -> Done {
         self.refused = Some(call);
         let after = self.standing();
-        if !before.is_kept(&after) {
-            return Err(CHANGED);
-        }
-        if before.has_lost(&after) {
-            return Err(NoAnswer::Memory);
-        }
-        Ok(())
+        demand(before.is_kept(&after), CHANGED)?;
+        demand(!before.has_lost(&after), NoAnswer::Memory)
     }
 }
 

@@ -4,7 +4,7 @@ use cst_core::{
     GreenElement, GreenElementRef, GreenNode, GreenToken, SyntaxElement, SyntaxKind, SyntaxNode,
     SyntaxToken, TokenAtOffset,
 };
-use std::alloc::{AllocError, Global};
+use std::alloc::Global;
 use std::fmt::Display;
 use syntax_editor::Error;
 use test_trees::{NoAnswer, push_path, push_quoted};
@@ -12,8 +12,10 @@ use test_trees::{NoAnswer, push_path, push_quoted};
 /// A step is taken, and its answer is written.
 pub type Done = Result<(), NoAnswer>;
 
-// Texts up to this length are shown.
+// Texts of nodes up to this length are shown, and those of shared trees up to the other one.
 const SHOWN: u64 = 60;
+
+const SHOWN_SHARED: u64 = 200;
 
 /// What a step answers, as far as it is written.
 #[derive(Drop)]
@@ -27,6 +29,25 @@ pub struct Answer {
 /// The name of a kind, if it has one.
 pub fn kind_name(kind: SyntaxKind) -> &'static str {
     kind.name().unwrap_or("no name")
+}
+
+/// What has to hold for a row to go on.
+pub fn demand(holds: bool, why: NoAnswer) -> Done {
+    if holds { Ok(()) } else { Err(why) }
+}
+
+/// What a call gave that may be refused because memory ran out, by its name in the sources.
+pub fn given<T, E: Drop>(call: &'static str, called: Result<T, E>) -> Result<T, NoAnswer> {
+    called.ok().ok_or(NoAnswer::Refused(call))
+}
+
+/// The same, and it is shown.
+pub fn told<T: Show + Drop, E: Drop>(
+    out: &mut Answer,
+    call: &'static str,
+    called: Result<T, E>,
+) -> Done {
+    given(call, called)?.show(out)
 }
 
 impl Answer {
@@ -55,26 +76,16 @@ impl Answer {
         Ok(self.text.push_str(word)?)
     }
 
-    pub fn number(&mut self, number: u64) -> Done {
-        Ok(write!(self.text, "{number}")?)
+    /// A call gave this.
+    pub fn given<T: Show>(&mut self, given: &T) -> Done {
+        self.word("ok ")?;
+        given.show(self)
     }
 
-    /// A call gave this number.
-    pub fn given(&mut self, number: u64) -> Done {
-        Ok(write!(self.text, "ok {number}")?)
-    }
-
-    /// A call gave this number, or none.
-    pub fn given_or_none(&mut self, number: Option<u64>) -> Done {
-        match number {
-            Some(number) => self.given(number),
-            None => self.word("none"),
-        }
-    }
-
-    pub fn number_or_none(&mut self, number: Option<u64>) -> Done {
-        match number {
-            Some(number) => self.number(number),
+    /// A call gave this, or none.
+    pub fn given_or_none<T: Show>(&mut self, given: &Option<T>) -> Done {
+        match given {
+            Some(given) => self.given(given),
             None => self.word("none"),
         }
     }
@@ -117,25 +128,21 @@ impl Answer {
 
     /// One more path, after a space.
     pub fn next_path(&mut self, element: &SyntaxElement) -> Done {
-        if !self.text.is_empty() {
-            self.word(" ")?;
-        }
+        self.word(if self.text.is_empty() { "" } else { " " })?;
         self.path(element.slots())
     }
 
     /// A list is whole, which says so where it is empty.
     pub fn none_if_empty(&mut self) -> Done {
-        if self.text.is_empty() {
-            return self.word("none");
-        }
-        Ok(())
+        self.word(if self.text.is_empty() { "none" } else { "" })
     }
 
     // Path and kind of an element, which must be of the tree of this answer.
     fn place(&mut self, tree: u64, slots: &[usize], kind: SyntaxKind) -> Done {
-        if tree != self.tree {
-            return Err(NoAnswer::Row("an element of another tree"));
-        }
+        demand(
+            tree == self.tree,
+            NoAnswer::Row("an element of another tree"),
+        )?;
         self.path(slots)?;
         self.word(" ")?;
         self.word(kind_name(kind))
@@ -164,12 +171,6 @@ impl Answer {
         let text = node.text(self.alloc)?;
         self.quote(&text)
     }
-
-    // A length in bytes and a text.
-    fn extent(&mut self, length: u64, text: &str) -> Done {
-        write!(self.text, "{length} bytes ")?;
-        self.quote(text)
-    }
 }
 
 /// What is shown in one way, wherever it stands.
@@ -177,15 +178,9 @@ pub trait Show {
     fn show(&self, out: &mut Answer) -> Done;
 }
 
-/// What a call gave that may be refused because memory ran out, by its name in the sources.
-pub fn told<T: Show + Drop>(
-    out: &mut Answer,
-    call: &'static str,
-    called: Result<T, AllocError>,
-) -> Done {
-    match called {
-        Ok(given) => given.show(out),
-        Err(_) => Err(NoAnswer::Refused(call)),
+impl Show for u64 {
+    fn show(&self, out: &mut Answer) -> Done {
+        out.print(self)
     }
 }
 
@@ -206,10 +201,7 @@ impl<T: Show> Show for Vec<T> {
             item.show(out)?;
             comma = ", ";
         }
-        if comma.is_empty() {
-            return out.word("none");
-        }
-        Ok(())
+        out.word(if comma.is_empty() { "none" } else { "" })
     }
 }
 
@@ -254,29 +246,45 @@ impl Show for TokenAtOffset {
 // Kind, how many children, length and text.
 impl Show for GreenNode {
     fn show(&self, out: &mut Answer) -> Done {
-        let count = self.children().len();
-        write!(out.text, "{} of {count}, ", kind_name(self.kind()))?;
+        let name = kind_name(self.kind());
+        write!(
+            out.text,
+            "{name} of {}, {} bytes",
+            self.children().len(),
+            self.length()
+        )?;
+        if self.length() > SHOWN_SHARED {
+            return Ok(());
+        }
         let text = self.to_string(out.alloc)?;
-        out.extent(self.length(), &text)
+        out.word(" ")?;
+        out.quote(&text)
     }
 }
 
 impl Show for GreenToken {
     fn show(&self, out: &mut Answer) -> Done {
-        write!(out.text, "{}, ", kind_name(self.kind()))?;
-        out.extent(self.length(), self.text())
+        write!(
+            out.text,
+            "{}, {} bytes ",
+            kind_name(self.kind()),
+            self.length()
+        )?;
+        out.quote(self.text())
     }
 }
 
 impl Show for GreenElement {
     fn show(&self, out: &mut Answer) -> Done {
-        show_green(out, self.as_ref())
+        self.as_ref().show(out)
     }
 }
 
-pub fn show_green(out: &mut Answer, element: GreenElementRef<'_>) -> Done {
-    match element {
-        GreenElementRef::Node(node) => node.show(out),
-        GreenElementRef::Token(token) => token.show(out),
+impl<'a> Show for GreenElementRef<'a> {
+    fn show(&self, out: &mut Answer) -> Done {
+        match self {
+            GreenElementRef::Node(node) => node.show(out),
+            GreenElementRef::Token(token) => token.show(out),
+        }
     }
 }

@@ -1,8 +1,7 @@
 //! Trees as text: expressions that are read and written, and lines of a tree, also with names of kinds of one's own.
 
-use crate::greens::kind_of;
 use crate::session::{CHANGED, Session};
-use crate::shown::{Answer, Done, Show, told};
+use crate::shown::{Answer, Done, Show, demand, told};
 use crate::values;
 use cst_core::{GreenNode, SyntaxElement, SyntaxKind, SyntaxNode, TreeIds};
 use std::alloc::Global;
@@ -12,41 +11,39 @@ use tree_text::{
     read_tree, read_tree_with, write_tree, write_tree_with,
 };
 
-/// `read_tree EXPRESSION`, `read_line_tree EXPRESSION` or `read_root NUMBER EXPRESSION`, each
-/// expression between quotes; `write_tree TREE`; `write_named KIND NAME TREE`, of a node of this kind with the tree below it;
-/// `read_named KIND NAME EXPRESSION`; `dump ELEMENT`; `dump_named KIND NAME TREE`, of such a node and of it as an element; or
-/// `name_kind KIND NAME KIND NAME`, what the second kind's name answers. A name `-` is given to no kind.
+/// `read_tree EXPRESSION`, `read_line_tree EXPRESSION` or `read_root NUMBER EXPRESSION`, each expression between quotes;
+/// `write_tree TREE`; `write_named KIND NAME TREE`, of a node of this kind with the tree below it;
+/// `read_named KIND NAME EXPRESSION`; `dump ELEMENT`; `dump_named KIND NAME TREE`, of such a node and of it as an
+/// element; or `name_kind KIND NAME KIND NAME`, what the second kind's name answers. A name `-` is given to no kind.
 pub fn answer(s: &mut Session, name: &str, words: &mut Words, out: &mut Answer) -> Done {
-    let alloc = s.alloc;
     match name {
-        "read_tree" | "read_line_tree" => read(alloc, name, words, out),
-        "read_root" => root(alloc, words, out),
+        "read_tree" | "read_line_tree" => read(s.alloc, name, words, out),
+        "read_root" => root(s.alloc, words, out),
         "write_tree" => write(s, words, out),
         "write_named" => write_named(s, words, out),
-        "read_named" => read_named(alloc, words, out),
+        "read_named" => read_named(s.alloc, words, out),
         "dump" => dump_of(s, words, out),
         "dump_named" => dump_named(s, words, out),
-        "name_kind" => name_kind(alloc, words, out),
+        "name_kind" => name_kind(s.alloc, words, out),
         _ => values::answer(s, name, words, out),
     }
 }
 
-/// What an argument between quotes stands for: `\n`, `\r`, `\t`, `\"` and `\\` are escapes.
-pub fn unquote(alloc: Global, quoted: &str) -> Result<String, NoAnswer> {
-    let inner = quoted
+/// What the text between quotes that is left stands for: `\n`, `\r`, `\t`, `\"` and `\\` are escapes.
+pub fn unquote(alloc: Global, words: &mut Words) -> Result<String, NoAnswer> {
+    let inner = words
+        .take_rest()
         .strip_prefix('"')
         .and_then(|inner| inner.strip_suffix('"'));
     let mut text = String::new(alloc);
     let mut is_escaped = false;
     for c in inner.ok_or(NoAnswer::Arguments)?.chars() {
-        if is_escaped {
-            text.push(unescape(c)?)?;
-            is_escaped = false;
-        } else if c == '\\' {
-            is_escaped = true;
-        } else {
-            text.push(c)?;
+        match c {
+            '\\' if !is_escaped => (),
+            _ if is_escaped => text.push(unescape(c)?)?,
+            _ => text.push(c)?,
         }
+        is_escaped = c == '\\' && !is_escaped;
     }
     Ok(text)
 }
@@ -69,17 +66,19 @@ fn refused(call: &'static str, error: &ExpressionError, out: &mut Answer) -> Don
     Ok(write!(out.text, "{error}: {}", error.help())?)
 }
 
-fn read(alloc: Global, name: &str, words: &mut Words, out: &mut Answer) -> Done {
-    let expression = unquote(alloc, words.take_rest())?;
-    let is_line = name == "read_line_tree";
-    let (call, read) = if is_line {
-        ("read_line_tree", read_line_tree(alloc, &expression))
-    } else {
-        ("read_tree", read_tree(alloc, &expression))
-    };
+// A tree that a call read.
+fn read_by(call: &'static str, read: Result<GreenNode, ExpressionError>, out: &mut Answer) -> Done {
     match read {
         Ok(tree) => tree.show(out),
         Err(error) => refused(call, &error, out),
+    }
+}
+
+fn read(alloc: Global, name: &str, words: &mut Words, out: &mut Answer) -> Done {
+    let expression = unquote(alloc, words)?;
+    match name {
+        "read_tree" => read_by("read_tree", read_tree(alloc, &expression), out),
+        _ => read_by("read_line_tree", read_line_tree(alloc, &expression), out),
     }
 }
 
@@ -87,7 +86,7 @@ fn read(alloc: Global, name: &str, words: &mut Words, out: &mut Answer) -> Done 
 fn root(alloc: Global, words: &mut Words, out: &mut Answer) -> Done {
     let mut ids = TreeIds::new(words.number()?);
     let before = ids.peek();
-    let expression = unquote(alloc, words.take_rest())?;
+    let expression = unquote(alloc, words)?;
     match read_root(alloc, &mut ids, &expression) {
         Ok(node) => {
             write!(out.text, "{} ", node.tree())?;
@@ -97,7 +96,7 @@ fn root(alloc: Global, words: &mut Words, out: &mut Answer) -> Done {
         Err(_) => return Err(CHANGED),
     }
     out.word(", then ")?;
-    out.number_or_none(ids.peek())
+    ids.peek().show(out)
 }
 
 // Of a call that writes a tree.
@@ -116,7 +115,7 @@ fn write(s: &mut Session, words: &mut Words, out: &mut Answer) -> Done {
 
 // The kind and its name of the next words.
 fn names(alloc: Global, words: &mut Words) -> Result<(SyntaxKind, KindNames), NoAnswer> {
-    let kind = kind_of(words)?;
+    let kind = SyntaxKind(words.number()?);
     let name = words.word()?;
     let mut names = KindNames::new(alloc);
     if name == "-" {
@@ -131,32 +130,24 @@ fn names(alloc: Global, words: &mut Words) -> Result<(SyntaxKind, KindNames), No
 
 // A node of this kind with a tree below it.
 fn above(s: &Session, kind: SyntaxKind, words: &mut Words) -> Result<GreenNode, NoAnswer> {
-    let tree = s.trees.defined.tree(s.alloc, words.take_rest())?;
     let mut children = Vec::new(s.alloc);
-    children.push(tree.into())?;
+    children.push(s.trees.defined.tree(s.alloc, words.take_rest())?.into())?;
     Ok(GreenNode::new(s.alloc, kind, children)?)
 }
 
 fn write_named(s: &mut Session, words: &mut Words, out: &mut Answer) -> Done {
     let (kind, names) = names(s.alloc, words)?;
-    let tree = above(s, kind, words)?;
-    written(
-        out,
-        "write_tree_with",
-        write_tree_with(s.alloc, &tree, &names),
-    )
+    let called = write_tree_with(s.alloc, &above(s, kind, words)?, &names);
+    written(out, "write_tree_with", called)
 }
 
 fn read_named(alloc: Global, words: &mut Words, out: &mut Answer) -> Done {
     let (_, names) = names(alloc, words)?;
-    let expression = unquote(alloc, words.take_rest())?;
-    match read_tree_with(alloc, &expression, &names) {
-        Ok(tree) => {
-            write!(out.text, "{} ", tree.kind().0)?;
-            tree.show(out)
-        }
-        Err(error) => refused("read_tree_with", &error, out),
+    let read = read_tree_with(alloc, &unquote(alloc, words)?, &names);
+    if let Ok(tree) = &read {
+        write!(out.text, "{} ", tree.kind().0)?;
     }
+    read_by("read_tree_with", read, out)
 }
 
 fn dump_of(s: &mut Session, words: &mut Words, out: &mut Answer) -> Done {
@@ -174,22 +165,32 @@ fn dump_named(s: &mut Session, words: &mut Words, out: &mut Answer) -> Done {
     let node = SyntaxNode::new_root(s.alloc, &mut TreeIds::new(1), tree)?;
     told(out, "dump_node", dump_node(s.alloc, &node, &names))?;
     let mut other = Answer::new(s.alloc);
-    let element = SyntaxElement::from(node);
-    told(&mut other, "dump", dump(s.alloc, &element, &names))?;
+    told(
+        &mut other,
+        "dump",
+        dump(s.alloc, &SyntaxElement::from(node), &names),
+    )?;
     out.agree(&other)
 }
 
 fn name_kind(alloc: Global, words: &mut Words, out: &mut Answer) -> Done {
     let (_, mut names) = names(alloc, words)?;
-    let kind = kind_of(words)?;
-    let name = unquote(alloc, words.take_rest())?;
+    let kind = SyntaxKind(words.number()?);
+    let name = unquote(alloc, words)?;
     let before = names.kind(&name);
     let added = names.add(alloc, kind, &name);
     let after = names.kind(&name);
+    let is_named = after == Some(kind) && names.name(kind) == Some(name.as_str());
+    demand(
+        if added.is_ok() {
+            is_named
+        } else {
+            after == before
+        },
+        CHANGED,
+    )?;
     match added {
-        Ok(()) if after == Some(kind) && names.name(kind) == Some(name.as_str()) => out.word("ok"),
-        Ok(()) => Err(CHANGED),
-        Err(_) if after != before => Err(CHANGED),
+        Ok(()) => out.word("ok"),
         Err(NameError::Memory) => Err(NoAnswer::Refused("KindNames::add")),
         Err(error) => out.print(&error),
     }

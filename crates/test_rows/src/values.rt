@@ -13,7 +13,8 @@ use std::alloc::{AllocError, Global};
 use std::hash::Hash;
 use test_trees::Words;
 
-/// `equal ELEMENT ELEMENT`, `form ELEMENT`, `same_shape NODE NODE` or `views NODE`; what is none of these is of an error or of an element.
+/// `equal ELEMENT ELEMENT`, `form ELEMENT`, `same_shape NODE NODE` or `views NODE`; what is none of these is of an error
+/// or of an element.
 pub fn answer(s: &mut Session, name: &str, words: &mut Words, out: &mut Answer) -> Done {
     match name {
         "equal" => equal(s, words, out),
@@ -25,93 +26,88 @@ pub fn answer(s: &mut Session, name: &str, words: &mut Words, out: &mut Answer) 
     }
 }
 
-fn equal(s: &mut Session, words: &mut Words, out: &mut Answer) -> Done {
-    let left = s.trees.element(words)?;
-    out.word(equality(&left, &s.trees.element(words)?))
+// Whether something holds in each way to ask.
+fn in_each_way(ways: &[bool]) -> &'static str {
+    if ways.iter().all(|holds| *holds) {
+        "yes"
+    } else if ways.iter().any(|holds| *holds) {
+        "in one way and not in another"
+    } else {
+        "no"
+    }
 }
 
 // By `==` both ways, and by the hash, which differs where these values do.
 fn compare<T: Hash>(left: &T, right: &T) -> &'static str {
-    match (
+    in_each_way(&[
         left == right,
         right == left,
         hash_of(left) == hash_of(right),
-    ) {
-        (true, true, true) => "yes",
-        (false, false, false) => "no",
-        _ => "in one way and not in another",
-    }
+    ])
 }
 
 // As elements, and as the nodes or tokens that they are.
-fn equality(left: &SyntaxElement, right: &SyntaxElement) -> &'static str {
-    let own = compare(left, right);
-    let by_form = match (left, right) {
+fn equal(s: &mut Session, words: &mut Words, out: &mut Answer) -> Done {
+    let left = s.trees.element(words)?;
+    let right = s.trees.element(words)?;
+    let by_form = match (&left, &right) {
         (SyntaxElement::Node(left), SyntaxElement::Node(right)) => compare(left, right),
         (SyntaxElement::Token(left), SyntaxElement::Token(right)) => compare(left, right),
         _ => "no",
     };
-    if own == by_form {
+    let own = compare(&left, &right);
+    out.word(if own == by_form {
         own
     } else {
-        "as elements and not as what they are, or the other way round"
-    }
+        "as elements, or as what they are"
+    })
 }
 
 // By the node or token that is lent, and by the one that is taken, and put back.
 fn form(s: &mut Session, words: &mut Words, out: &mut Answer) -> Done {
     let element = s.trees.element(words)?;
-    let lent = lent_form(&element);
     let copy = element.try_clone(s.alloc)?;
-    if lent != taken_form(element, copy) {
-        out.word("lent and not taken: ")?;
-    }
-    out.word(lent)
-}
-
-fn lent_form(element: &SyntaxElement) -> &'static str {
-    match (element.as_node(), element.as_token()) {
-        (Some(node), None) if hash_of(node) == hash_of(element) => "node",
-        (None, Some(token)) if hash_of(token) == hash_of(element) => "token",
-        _ => "both or none",
-    }
-}
-
-fn taken_form(element: SyntaxElement, copy: SyntaxElement) -> &'static str {
-    let before = hash_of(&element);
+    let whole = hash_of(&element);
+    let lent = form_of(
+        element.as_node().map(hash_of),
+        element.as_token().map(hash_of),
+        whole,
+    );
     let node = element
         .into_node()
-        .map(|node| hash_of(&SyntaxElement::from(node)) == before);
+        .map(|node| hash_of(&SyntaxElement::from(node)));
     let token = copy
         .into_token()
-        .map(|token| hash_of(&SyntaxElement::from(token)) == before);
+        .map(|token| hash_of(&SyntaxElement::from(token)));
+    out.word(if form_of(node, token, whole) == lent {
+        lent
+    } else {
+        "lent and not taken"
+    })
+}
+
+// The form of an element with this hash, by those of the node and of the token that it is.
+fn form_of(node: Option<u64>, token: Option<u64>, whole: u64) -> &'static str {
     match (node, token) {
-        (Some(true), None) => "node",
-        (None, Some(true)) => "token",
+        (Some(own), None) if own == whole => "node",
+        (None, Some(own)) if own == whole => "token",
         _ => "both or none",
     }
 }
 
-// Both ways.
 fn shape(s: &mut Session, words: &mut Words, out: &mut Answer) -> Done {
     let left = s.trees.node(words)?;
     let right = s.trees.node(words)?;
-    let shapes = match (same_shape(&left, &right), same_shape(&right, &left)) {
-        (true, true) => "yes",
-        (false, false) => "no",
-        _ => "one way and not the other",
-    };
-    out.word(shapes)
+    out.word(in_each_way(&[same_shape(&left, &right), same_shape(&right, &left)]))
 }
 
 // The kinds of the node's views as BlockExpr, as StmtList, as LetStmt and as Fn
 fn views(s: &mut Session, words: &mut Words, out: &mut Answer) -> Done {
     let node = s.trees.node(words)?;
-    let alloc = s.alloc;
-    view_name::<BlockExpr>(alloc, &node, out)?;
-    view_name::<StmtList>(alloc, &node, out)?;
-    attributed_name::<LetStmt>(alloc, &node, out)?;
-    attributed_name::<Fn>(alloc, &node, out)
+    view_name::<BlockExpr>(s.alloc, &node, out)?;
+    view_name::<StmtList>(s.alloc, &node, out)?;
+    attributed_name::<LetStmt>(s.alloc, &node, out)?;
+    attributed_name::<Fn>(s.alloc, &node, out)
 }
 
 // What a function over any typed node knows from the trait alone.
@@ -153,9 +149,7 @@ fn view_again<T: AstNode>(alloc: Global, view: T) -> Result<T, AllocError>
 
 // The name of the kind of the node's view, `none` where there is none, after a space.
 fn view_name<T: AstNode>(alloc: Global, node: &SyntaxNode, out: &mut Answer) -> Done {
-    if !out.text.is_empty() {
-        out.word(" ")?;
-    }
+    out.word(if out.text.is_empty() { "" } else { " " })?;
     let Some(typed) = view_if_castable::<T>(node.try_clone(alloc)?) else {
         let is_view = T::cast(node.try_clone(alloc)?).is_some();
         return out.word(if is_view {
@@ -165,11 +159,12 @@ fn view_name<T: AstNode>(alloc: Global, node: &SyntaxNode, out: &mut Answer) -> 
         });
     };
     let again = view_again(alloc, typed)?;
-    if can_cast_again(&again) && again.syntax() == node {
-        out.word(kind_name(again.syntax().kind()))
+    let is_same = can_cast_again(&again) && again.syntax() == node;
+    out.word(if is_same {
+        kind_name(node.kind())
     } else {
-        out.word("a view of another node")
-    }
+        "a view of another node"
+    })
 }
 
 fn attributed_name<T: HasAttrs>(alloc: Global, node: &SyntaxNode, out: &mut Answer) -> Done {

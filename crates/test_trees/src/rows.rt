@@ -1,6 +1,5 @@
-//! The trees that rows of tests share, by name.
+//! The trees that rows of tests share, by name, and expressions in which `[NAME]` stands for the tree of that name.
 
-use crate::expression::{Row, expand, find_row};
 use crate::no_answer::NoAnswer;
 use crate::words::first_word;
 use cst_core::GreenNode;
@@ -35,6 +34,13 @@ J (ITEM_LIST L_CURLY"{" R_CURLY"}")
 G (USE USE_KW"use")
 H (FN (ATTR POUND"#" L_BRACK"[" IDENT"a" R_BRACK"]") WHITESPACE"\n" COMMENT"// c" WHITESPACE"\n" FN_KW"fn" WHITESPACE" " (NAME IDENT"f") (PARAM_LIST L_PAREN"(" R_PAREN")") WHITESPACE" " (BLOCK_EXPR (STMT_LIST L_CURLY"{" R_CURLY"}")))"##;
 
+// A tree that has a name.
+#[derive(Drop)]
+struct Row {
+    name: &'static str,
+    expression: String,
+}
+
 /// The tree of an expression, in which every row tree may be named.
 pub fn green(alloc: Global, expression: &str) -> Result<GreenNode, NoAnswer> {
     let expanded = expand(alloc, &all_rows(alloc)?, expression)?;
@@ -43,7 +49,8 @@ pub fn green(alloc: Global, expression: &str) -> Result<GreenNode, NoAnswer> {
 
 /// The row tree of this name: L, U, X, Y, A3, V, S1, S2, S3, B, BB, BBB, D, Q, M, NM, NR, W, E, F, AR, K, J, G or H.
 pub fn row(alloc: Global, name: &str) -> Result<GreenNode, NoAnswer> {
-    find_row(alloc, &all_rows(alloc)?, name)
+    let rows = all_rows(alloc)?;
+    Ok(read_tree(alloc, row_of(&rows, name)?)?)
 }
 
 fn all_rows(alloc: Global) -> Result<Vec<Row>, NoAnswer> {
@@ -54,4 +61,52 @@ fn all_rows(alloc: Global) -> Result<Vec<Row>, NoAnswer> {
         rows.push(Row { name, expression })?;
     }
     Ok(rows)
+}
+
+fn row_of<'a>(rows: &'a [Row], name: &str) -> Result<&'a str, NoAnswer> {
+    match rows.iter().find(|row| row.name == name) {
+        Some(row) => Ok(&row.expression),
+        None => Err(NoAnswer::Row("UnknownRow")),
+    }
+}
+
+// What the next character belongs to.
+#[derive(Clone, Copy)]
+enum State {
+    Outside,
+    Text,
+    // After a backslash of a text.
+    Escape,
+    RowName,
+}
+
+// The expression with those of these rows in the places of their names. A name alone is no node.
+fn expand(alloc: Global, rows: &[Row], expression: &str) -> Result<String, NoAnswer> {
+    let mut expanded = String::new(alloc);
+    let mut name = String::new(alloc);
+    let mut state = State::Outside;
+    for c in expression.chars() {
+        match (state, c) {
+            (State::Outside, '[') if expanded.is_empty() => return Err(NoAnswer::Row("Malformed")),
+            (State::Outside, '[') => name.clear(),
+            (State::RowName, ']') => expanded.push_str(row_of(rows, &name)?)?,
+            (State::RowName, _) => name.push(c)?,
+            _ => expanded.push(c)?,
+        }
+        state = next_state(state, c);
+    }
+    Ok(expanded)
+}
+
+// Where the character after this one is.
+fn next_state(state: State, c: char) -> State {
+    match (state, c) {
+        (State::Outside, '[') => State::RowName,
+        (State::RowName, ']') => State::Outside,
+        (State::Outside, '"') => State::Text,
+        (State::Text, '"') => State::Outside,
+        (State::Text, '\\') => State::Escape,
+        (State::Escape, _) => State::Text,
+        (state, _) => state,
+    }
 }
