@@ -1,13 +1,15 @@
-//! The calls that rows ask about: each by its name in a row, with its name in the sources and the answers that it owes.
+//! The calls that rows ask about: each by its name in a row, with its name in the sources and the answers that it
+//! owes.
 //!
-//! No row is owed where a text of 2^32 bytes would have to be made: `GreenToken::new`, `whitespace` and `token` that are
-//! too long. `dedent` and `reset_indent` make no text longer, so they have no row that is. Questions owe no answers, and
-//! name their calls beside them.
+//! No row is owed where a text of 2^32 bytes would have to be made: `GreenToken::new`, `whitespace` and `token` that
+//! are too long. `dedent` and `reset_indent` make no text longer, so they have no row that is. Questions owe no
+//! answers, and name their calls beside them.
 
 use std::io;
 
-/// A line for each call: its name in a row, its name in the sources, and what it can answer where memory is there, that it
-/// is done and each refusal by its name. One text, since each reference that a constant holds makes the proof of what reads it longer.
+/// A line for each call: its name in a row, its name in the sources, and what it can answer where memory is there, that
+/// it is done and each refusal by its name. One text, since each reference that a constant holds makes the proof of
+/// what reads it longer.
 pub const OWED: &str = r#"new_root SyntaxNode::new_root ok TooLong NoTreeNumber
 clone_subtree SyntaxNode::clone_subtree ok NoTreeNumber
 green_node GreenNode::new ok TooLong
@@ -92,20 +94,15 @@ fn parts(line: &str) -> Option<(&str, &str, &str)> {
 
 /// The name in the sources of a call that owes rows.
 pub fn name_of(call: &str) -> &'static str {
-    for (own, name, _) in OWED.lines().filter_map(parts) {
-        if own == call {
-            return name;
-        }
-    }
-    "a call that owes no row"
+    let owed = OWED.lines().filter_map(parts).find(|owed| owed.0 == call);
+    owed.map_or("a call that owes no row", |owed| owed.1)
 }
 
 // Whether one of these pairs, as `CALL ANSWER`, is this one.
 fn has(pairs: &[String], call: &str, answer: &str) -> bool {
-    pairs.iter().any(|pair| match pair.strip_prefix(call) {
-        Some(rest) => rest.strip_prefix(' ') == Some(answer),
-        None => false,
-    })
+    pairs
+        .iter()
+        .any(|pair| pair.split_once(' ') == Some((call, answer)))
 }
 
 /// Prints each owed pair that has no row, and how many have one. Gives the number of those that have none.

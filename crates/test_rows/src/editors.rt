@@ -2,11 +2,11 @@
 
 use crate::making::factory;
 use crate::plans;
-use crate::roots::{annotation, annotation_of, kind_in};
+use crate::roots::{annotation, annotation_of, kind_in, typed};
 use crate::session::{Session, last, take};
 use crate::shown::{Answer, Done, Show};
+use cst_core::AstNode;
 use cst_core::ast::{BlockExpr, Fn, LetStmt};
-use cst_core::{AstNode, HasAttrs, SyntaxNode};
 use list_removal::remove_separated;
 use std::alloc::AllocError;
 use syntax_editor::{AttrsOwnerEdit, Change, SyntaxEdit, SyntaxEditor};
@@ -42,15 +42,10 @@ fn new(s: &mut Session, words: &mut Words, out: &mut Answer) -> Done {
 }
 
 fn with_ast_node(s: &mut Session, words: &mut Words, out: &mut Answer) -> Done {
-    let block = block(s, words)?;
+    let block = typed::<BlockExpr>(s.trees.node(words)?)?;
     let (editor, root) = out.asked(SyntaxEditor::with_ast_node(s.alloc, &mut s.ids, &block))?;
     s.editors.push(editor)?;
     out.root(root.syntax())
-}
-
-/// The block that the next word leads to.
-pub fn block(s: &Session, words: &mut Words) -> Result<BlockExpr, NoAnswer> {
-    BlockExpr::cast(s.trees.node(words)?).ok_or(NoAnswer::Row("no block"))
 }
 
 // The last editor gets another factory.
@@ -133,10 +128,9 @@ fn fits(s: &mut Session, words: &mut Words, out: &mut Answer) -> Done {
 
 // The text that shows a change, by its number, with \e for the byte ESC; and the same without the escape sequences.
 fn text(s: &mut Session, name: &str, words: &mut Words, out: &mut Answer) -> Done {
-    let change = last(&mut s.editors)?
-        .changes()
-        .get(words.number::<usize>()?);
-    let change = change.ok_or(NoAnswer::Row("no such change"))?;
+    let changes = last(&mut s.editors)?.changes();
+    let number = words.number::<usize>()?;
+    let change = changes.get(number).ok_or(NoAnswer::Arguments)?;
     match name {
         "text" => show_text(change.text(s.alloc), out),
         _ => show_text(change.plain_text(s.alloc), out),
@@ -150,8 +144,8 @@ fn show_text(called: Result<String, AllocError>, out: &mut Answer) -> Done {
     Ok(())
 }
 
-// The text of the old root of the last edit, that of the new one, or the paths of changed elements, or of those with an
-// annotation.
+// The text of the old root of the last edit, that of the new one, or the paths of changed elements, or of those with
+// an annotation.
 fn of_edit(s: &mut Session, name: &str, words: &mut Words, out: &mut Answer) -> Done {
     let edit = last(&mut s.edits)?;
     match name {
@@ -243,16 +237,12 @@ fn add_annotation_all(s: &mut Session, words: &mut Words, out: &mut Answer) -> D
 
 // Of a function or a statement.
 fn remove_attrs_and_docs(s: &mut Session, words: &mut Words, out: &mut Answer) -> Done {
+    let editor = last(&mut s.editors)?;
     let node = s.trees.node(words)?;
     if Fn::can_cast(node.kind()) {
-        return remove_from::<Fn>(s, node, out);
+        return out.asked(typed::<Fn>(node)?.remove_attrs_and_docs(s.alloc, editor));
     }
-    remove_from::<LetStmt>(s, node, out)
-}
-
-fn remove_from<N: HasAttrs>(s: &mut Session, node: SyntaxNode, out: &mut Answer) -> Done {
-    let owner = N::cast(node).ok_or(NoAnswer::Row("no function and no statement"))?;
-    out.asked(owner.remove_attrs_and_docs(s.alloc, last(&mut s.editors)?))
+    out.asked(typed::<LetStmt>(node)?.remove_attrs_and_docs(s.alloc, editor))
 }
 
 // With a separator of the kind that the next word names.

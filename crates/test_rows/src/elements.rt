@@ -1,5 +1,5 @@
-//! What is asked of an element: in the same words of a copy of it, and of the node or token that it is; and of a node or a
-//! token alone.
+//! What is asked of an element: in the same words of a copy of it, and of the node or token that it is; and of a node
+//! or a token alone.
 
 use crate::roots::kind_in;
 use crate::session::{CHANGED, Session};
@@ -18,9 +18,16 @@ macro_rules! tell_one {
     };
 }
 
+macro_rules! siblings {
+    ($form:literal, $alloc:ident, $out:ident, $it:ident, $to:ident) => {
+        told($out, concat!($form, "::siblings_with_tokens"), $it.siblings_with_tokens($alloc, Direction::$to))
+    };
+}
+
 // What is told of each form.
 macro_rules! fact {
-    ($form:literal, $alloc:ident, $out:ident, $name:ident, $it:ident) => {
+    ($form:literal, $debug:literal, $alloc:ident, $out:ident, $name:ident, $it:ident) => {{
+        tell_one!($form, $alloc, $out, $name, $it: parent tree_top green prev_sibling_or_token next_sibling_or_token);
         match $name {
             "kind" => $out.word(kind_name($it.kind())),
             "tree_number" => $it.tree().show($out),
@@ -30,13 +37,15 @@ macro_rules! fact {
             "text_start" => $it.text_start().show($out),
             "text_end" => $it.text_end().show($out),
             "text_len" => $it.text_len().show($out),
-            "siblings_on" => told($out, concat!($form, "::siblings_with_tokens"), $it.siblings_with_tokens($alloc, Direction::Next)),
-            "siblings_back" => told($out, concat!($form, "::siblings_with_tokens"), $it.siblings_with_tokens($alloc, Direction::Prev)),
+            "siblings_on" => siblings!($form, $alloc, $out, $it, Next),
+            "siblings_back" => siblings!($form, $alloc, $out, $it, Prev),
             "display" => told($out, concat!($form, "::to_string"), $it.to_string($alloc)),
             "debug_lines" => told($out, concat!($form, " as {:#?}"), format!(in $alloc; "{:#?}", $it)),
+            "debug" => $out.word(&given("{:?}", format!(in $alloc; $debug, $it))?),
+            "as_green" => $it.as_green().show($out),
             _ => Err(NoAnswer::Row("nothing that is asked has this name")),
         }
-    };
+    }};
 }
 
 /// `NAME ELEMENT`, `NAME NODE`, `descendants_of_kind NODE KIND`, `token_at_offset NODE OFFSET`,
@@ -46,18 +55,13 @@ pub fn answer(s: &mut Session, name: &str, words: &mut Words, out: &mut Answer) 
     let element = s.trees.element(words)?;
     out.tree = element.tree();
     let before = hash_of(&element);
-    let done = ask(s.alloc, &element, name, words, out);
+    let done = ask(&element, name, words, out);
     demand(hash_of(&element) == before, CHANGED)?;
     done
 }
 
-fn ask(
-    alloc: Global,
-    element: &SyntaxElement,
-    name: &str,
-    words: &mut Words,
-    out: &mut Answer,
-) -> Done {
+fn ask(element: &SyntaxElement, name: &str, words: &mut Words, out: &mut Answer) -> Done {
+    let alloc = out.alloc;
     match element {
         SyntaxElement::Token(it) if name == "prev_token" || name == "next_token" => {
             of_token_alone(alloc, out, name, it)
@@ -82,7 +86,8 @@ fn of_token_alone(alloc: Global, out: &mut Answer, name: &str, it: &SyntaxToken)
 }
 
 fn of_node_alone(alloc: Global, out: &mut Answer, name: &str, it: &SyntaxNode) -> Done {
-    tell_one!("SyntaxNode", alloc, out, name, it: first_child last_child next_sibling prev_sibling children descendants);
+    tell_one!("SyntaxNode", alloc, out, name, it: first_child last_child next_sibling prev_sibling);
+    tell_one!("SyntaxNode", alloc, out, name, it: children descendants);
     of_node_and_tokens(alloc, out, name, it)
 }
 
@@ -140,27 +145,22 @@ fn by_form(alloc: Global, out: &mut Answer, name: &str, element: &SyntaxElement)
 }
 
 fn of_element(alloc: Global, out: &mut Answer, name: &str, it: &SyntaxElement) -> Done {
-    tell_one!("SyntaxElement", alloc, out, name, it: parent tree_top prev_sibling_or_token next_sibling_or_token green ancestors);
+    tell_one!("SyntaxElement", alloc, out, name, it: ancestors);
     match name {
         "element_text" => told(out, "SyntaxElement::text", it.text(alloc)),
-        "debug" => out.word(&given("{:?}", format!(in alloc; "{it:?}"))?),
-        "as_green" => it.as_green().show(out),
-        _ => fact!("SyntaxElement", alloc, out, name, it),
+        _ => fact!("SyntaxElement", "{:?}", alloc, out, name, it),
     }
 }
 
 fn of_node(alloc: Global, out: &mut Answer, name: &str, it: &SyntaxNode) -> Done {
-    tell_one!("SyntaxNode", alloc, out, name, it: parent tree_top prev_sibling_or_token next_sibling_or_token green ancestors);
+    tell_one!("SyntaxNode", alloc, out, name, it: ancestors);
     match name {
         "element_text" => told(out, "SyntaxNode::text", it.text(alloc)),
-        "debug" => out.word(&given("{:?}", format!(in alloc; "Node({it:?})"))?),
-        "as_green" => it.as_green().show(out),
-        _ => fact!("SyntaxNode", alloc, out, name, it),
+        _ => fact!("SyntaxNode", "Node({:?})", alloc, out, name, it),
     }
 }
 
 fn of_token(alloc: Global, out: &mut Answer, name: &str, it: &SyntaxToken) -> Done {
-    tell_one!("SyntaxToken", alloc, out, name, it: parent tree_top prev_sibling_or_token next_sibling_or_token green);
     match name {
         "ancestors" => told(
             out,
@@ -168,8 +168,6 @@ fn of_token(alloc: Global, out: &mut Answer, name: &str, it: &SyntaxToken) -> Do
             it.parent_ancestors(alloc),
         ),
         "element_text" => out.quote(it.text()),
-        "debug" => out.word(&given("{:?}", format!(in alloc; "Token({it:?})"))?),
-        "as_green" => it.as_green().show(out),
-        _ => fact!("SyntaxToken", alloc, out, name, it),
+        _ => fact!("SyntaxToken", "Token({:?})", alloc, out, name, it),
     }
 }

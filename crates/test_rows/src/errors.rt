@@ -20,8 +20,8 @@ macro_rules! tell {
     };
 }
 
-/// `map_error CASE`, and the same of each other type. An error that holds another one is by the name of its variant, as
-/// `execute_error Edit`. Of `row_error CASE` what it prints alone.
+/// `map_error CASE`, and the same of each other type. An error that holds another one is by the name of its variant,
+/// as `execute_error Edit`. Of `row_error CASE` what it prints alone.
 pub fn answer(name: &str, words: &mut Words, out: &mut Answer) -> Done {
     let case = words.word()?;
     match name {

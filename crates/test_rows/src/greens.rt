@@ -46,11 +46,8 @@ fn checked_name(kind: SyntaxKind) -> &'static str {
     let Some(name) = kind.name() else {
         return in_table.unwrap_or("none");
     };
-    if in_table != Some(name) {
-        return "another name in the table";
-    }
-    if SyntaxKind::from_name(name) != Some(kind) {
-        return "a name that does not lead back";
+    if in_table != Some(name) || SyntaxKind::from_name(name) != Some(kind) {
+        return "another name in the table, or one that does not lead back";
     }
     if !CONSTANTS.iter().any(|own| own.0 == name && own.1 == kind) {
         return "a name that is not its constant's";

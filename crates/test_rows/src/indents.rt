@@ -1,12 +1,12 @@
 //! Levels of indentation, and trees that are indented and dedented.
 
-use crate::editors::block;
 use crate::greens;
 use crate::making::factory;
+use crate::roots::typed;
 use crate::session::{CHANGED, Session};
 use crate::shown::{Answer, Done, demand};
+use cst_core::AstNode;
 use cst_core::ast::{BlockExpr, StmtList};
-use cst_core::{AstNode, SyntaxNode};
 use syntax_editor::{AstNodeEdit, IndentError, IndentLevel, SyntaxFactory, indent};
 use test_trees::{NoAnswer, Words};
 
@@ -22,7 +22,10 @@ pub fn answer(s: &mut Session, name: &str, words: &mut Words, out: &mut Answer) 
             let token = s.trees.token(words)?;
             level(IndentLevel::from_token(s.alloc, &token), out)
         }
-        "indent_level" => level(block(s, words)?.indent_level(s.alloc), out),
+        "indent_level" => level(
+            typed::<BlockExpr>(s.trees.node(words)?)?.indent_level(s.alloc),
+            out,
+        ),
         "is_zero" => out.truth(read_level(words)?.is_zero()),
         "sum" => sum(words, out),
         "print" => print(words, out),
@@ -56,7 +59,7 @@ fn sum(words: &mut Words, out: &mut Answer) -> Done {
     out.truth(level == IndentLevel::from(words.number::<u8>()?))
 }
 
-// A level as it prints: as it is, and in a width of 14, 13 and 14, at the right end, at the left end and in the middle.
+// A level as it prints: as it is, and in a width of 14, 13 and 14, at the right end, the left end and in the middle.
 fn print(words: &mut Words, out: &mut Answer) -> Done {
     let level = read_level(words)?;
     Ok(write!(
@@ -71,10 +74,15 @@ fn free_indent(s: &mut Session, words: &mut Words, out: &mut Answer) -> Done {
     out.root(&node)
 }
 
+// A new tree with this typed node as its root.
+fn typed_root<N: AstNode>(called: Result<N, IndentError>, out: &mut Answer) -> Done {
+    let node = out.asked(called)?;
+    out.root(node.syntax())
+}
+
 fn typed_indent(s: &mut Session, words: &mut Words, out: &mut Answer) -> Done {
-    let block = block(s, words)?;
-    let block = out.asked(block.indent(s.alloc, &mut s.ids, read_level(words)?))?;
-    out.root(block.syntax())
+    let block = typed::<BlockExpr>(s.trees.node(words)?)?;
+    typed_root(block.indent(s.alloc, &mut s.ids, read_level(words)?), out)
 }
 
 // Of a list of statements, or of a block.
@@ -82,32 +90,24 @@ fn dedent(s: &mut Session, words: &mut Words, out: &mut Answer) -> Done {
     let node = s.trees.node(words)?;
     let level = read_level(words)?;
     if StmtList::can_cast(node.kind()) {
-        return dedent_by::<StmtList>(s, node, level, out);
+        let list = typed::<StmtList>(node)?;
+        return typed_root(list.dedent(s.alloc, &mut s.ids, level), out);
     }
-    dedent_by::<BlockExpr>(s, node, level, out)
-}
-
-fn dedent_by<N: AstNodeEdit>(
-    s: &mut Session,
-    node: SyntaxNode,
-    level: IndentLevel,
-    out: &mut Answer,
-) -> Done {
-    let node = N::cast(node).ok_or(NoAnswer::Row("no block and no list of statements"))?;
-    let node = out.asked(node.dedent(s.alloc, &mut s.ids, level))?;
-    out.root(node.syntax())
+    typed_root(
+        typed::<BlockExpr>(node)?.dedent(s.alloc, &mut s.ids, level),
+        out,
+    )
 }
 
 fn reset_indent(s: &mut Session, words: &mut Words, out: &mut Answer) -> Done {
-    let block = block(s, words)?;
-    let block = out.asked(block.reset_indent(s.alloc, &mut s.ids))?;
-    out.root(block.syntax())
+    let block = typed::<BlockExpr>(s.trees.node(words)?)?;
+    typed_root(block.reset_indent(s.alloc, &mut s.ids), out)
 }
 
 // By a factory, whose mapping is the last one from then on, whatever the call answers but want of memory, which leaves
 // the mapping empty. The new block goes by the name `it`.
 fn indent_with_mapping(s: &mut Session, words: &mut Words, out: &mut Answer) -> Done {
-    let block = block(s, words)?;
+    let block = typed::<BlockExpr>(s.trees.node(words)?)?;
     let level = read_level(words)?;
     let mut factory = factory(s.alloc, words)?;
     let called = block.indent_with_mapping(s.alloc, &mut s.ids, level, &mut factory);

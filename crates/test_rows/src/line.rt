@@ -13,13 +13,9 @@ pub enum Line<'a> {
     Group(&'a str),
     /// `tree NAME TREE`, with what stands after the first word: a tree that the rows after it name.
     Tree(&'a str),
-    /// A row: `WORDS: STEP ; STEP ; ..` or `? STEP`. Its answer is this one (` = ANSWER`), or another one
-    /// (` != ANSWER`), so that the row fails where all answers are taken for equal.
-    Row {
-        steps: &'a str,
-        answer: &'a str,
-        is_it: bool,
-    },
+    /// A row: the steps of `WORDS: STEP ; STEP ; ..` or `? STEP`, an answer, and whether it is theirs (` = ANSWER`), or
+    /// not (` != ANSWER`), so that the row fails where all answers are taken for equal.
+    Row(&'a str, &'a str, bool),
     /// `end`: the last line of a file, so that one that is cut off is noticed.
     End,
     Malformed,
@@ -47,16 +43,12 @@ impl<'a> Line<'a> {
         let (asked, answer) = text.split_once("= ")?;
         let is_it = !asked.ends_with(" !");
         let steps = asked.strip_suffix(if is_it { " " } else { " !" })?;
-        Some(Line::Row {
-            steps,
-            answer,
-            is_it,
-        })
+        Some(Line::Row(steps, answer, is_it))
     }
 }
 
 /// How far a file of the table is read: whether it had a row, a tree or a group, and whether its end was there.
-#[derive(Clone, Copy)]
+#[derive(Clone, Copy, Default)]
 pub struct Part {
     pub has_lines: bool,
     pub is_ended: bool,

@@ -29,19 +29,12 @@ use std::io;
 use std::io::ErrorKind;
 use std::process::ExitCode;
 
-// Whether a line of the table was not read because memory ran out.
-fn is_memory(line: &io::Result<String>) -> bool {
-    match line {
-        Ok(_) => false,
-        Err(error) => error.kind() == ErrorKind::OutOfMemory,
-    }
-}
-
 fn main(rt: HostRuntime) -> io::Result<ExitCode> {
     let alloc = rt.alloc();
     let mut run = Run::new(alloc);
     for line in rt.lines(alloc) {
-        if is_memory(&line) {
+        // The line was not read because memory ran out.
+        if matches!(&line, Err(error) if error.kind() == ErrorKind::OutOfMemory) {
             return Ok(ExitCode::from(REFUSED));
         }
         if !run.is_cut {

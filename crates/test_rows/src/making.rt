@@ -1,15 +1,14 @@
 //! Trees, numbers, annotations, positions, elements made of parts, and mappings.
 
 use crate::editors;
-use crate::roots::{annotation_of, kind_in};
+use crate::roots::{annotation_of, kind_in, typed};
 use crate::session::{Session, last, take};
 use crate::shown::{Answer, Done, Show};
 use cst_core::ast::{BlockExpr, Fn, LetStmt, StmtList};
-use cst_core::{AstNode, GreenNode, SyntaxElement, SyntaxKind, SyntaxNode, SyntaxToken, TreeIds};
-use std::alloc::{AllocError, Global};
+use cst_core::{GreenNode, SyntaxKind, SyntaxNode, SyntaxToken, TreeIds};
+use std::alloc::Global;
 use syntax_editor::{
-    Annotations, Element, MapError, Position, SyntaxAnnotation, SyntaxFactory, SyntaxMapping,
-    SyntaxMappingBuilder,
+    Annotations, Element, MapError, SyntaxFactory, SyntaxMapping, SyntaxMappingBuilder,
 };
 use test_trees::{NoAnswer, Words, number_of, read_tree};
 
@@ -25,8 +24,7 @@ pub fn answer(s: &mut Session, name: &str, words: &mut Words, out: &mut Answer) 
         "next" => out.given_or_none(&s.ids.next()),
         "peek" => peek(s, out),
         "annotations" => annotations(words, out),
-        "before" | "after" => gap(s, name, words, out),
-        "first" | "last" => gap_in(s, name, words, out),
+        "before" | "after" | "first" | "last" => gap(s, name, words, out),
         "syntax_element" => made(s.alloc, &s.trees.element(words)?, out),
         "typed_element" => typed_element(s, words, out),
         "token" => token(s, words, out),
@@ -98,13 +96,14 @@ fn splice_children(s: &mut Session, words: &mut Words, out: &mut Answer) -> Done
     out.given(&spliced)
 }
 
-// Whether the calls of a source that begins at the first number give the annotations of the others, each above the one before.
+// Whether the calls of a source that begins at the first number give the annotations of the others, each above the one
+// before; a word that is no number stands for none.
 fn annotations(words: &mut Words, out: &mut Answer) -> Done {
     let mut source = Annotations::new(words.number()?);
     let mut before = None;
     for word in words.take_rest().split_whitespace() {
         let given = source.next();
-        if !is_wanted(before, given, word) {
+        if given != annotation_of(word).ok() || (given.is_some() && given <= before) {
             return out.word("none");
         }
         before = given;
@@ -112,34 +111,10 @@ fn annotations(words: &mut Words, out: &mut Answer) -> Done {
     Ok(())
 }
 
-fn is_wanted(
-    before: Option<SyntaxAnnotation>,
-    given: Option<SyntaxAnnotation>,
-    wanted: &str,
-) -> bool {
-    if wanted == "none" {
-        return given.is_none();
-    }
-    given == annotation_of(wanted).ok() && before < given
-}
-
 fn gap(s: &mut Session, name: &str, words: &mut Words, out: &mut Answer) -> Done {
-    let element = s.trees.element(words)?;
-    let position = match name {
-        "before" => Position::before(s.alloc, element),
-        _ => Position::after(s.alloc, &element),
-    };
-    let position = out.asked(position)?;
+    let called = s.trees.gap(name, words.word()?)?;
+    let position = out.asked(called)?;
     out.word(if position.is_some() { "ok" } else { "none" })
-}
-
-fn gap_in(s: &mut Session, name: &str, words: &mut Words, out: &mut Answer) -> Done {
-    let node = s.trees.node(words)?;
-    let _ = out.asked(match name {
-        "first" => Position::first_child_of(s.alloc, &node),
-        _ => Position::last_child_of(s.alloc, &node),
-    })?;
-    Ok(())
 }
 
 // The text of an element that is made of a value.
@@ -157,10 +132,6 @@ fn typed_element(s: &mut Session, words: &mut Words, out: &mut Answer) -> Done {
         SyntaxKind::LET_STMT => made(s.alloc, &typed::<LetStmt>(node)?, out),
         _ => made(s.alloc, &typed::<Fn>(node)?, out),
     }
-}
-
-fn typed<T: AstNode>(node: SyntaxNode) -> Result<T, NoAnswer> {
-    T::cast(node).ok_or(NoAnswer::Row("no typed node"))
 }
 
 /// A factory that keeps mappings, or one that keeps none.
@@ -222,10 +193,8 @@ fn wrap(s: &mut Session, words: &mut Words, out: &mut Answer) -> Done {
     let editor = last(&mut s.editors)?;
     let node = s.trees.node(words)?;
     let kind = kind_in(words)?;
-    let (before, after) = words
-        .take_rest()
-        .split_once("round")
-        .ok_or(NoAnswer::Arguments)?;
+    let rest = words.take_rest();
+    let (before, after) = rest.split_once("round").ok_or(NoAnswer::Arguments)?;
     let before = s.trees.elements(before)?;
     let after = s.trees.elements(after)?;
     let copy = out.asked(editor.wrap(s.alloc, &mut s.ids, &node, kind, &before, &after))?;
@@ -266,16 +235,14 @@ fn map_node(s: &mut Session, words: &mut Words, out: &mut Answer) -> Done {
 
 fn map_children(s: &mut Session, words: &mut Words, out: &mut Answer) -> Done {
     let builder = last(&mut s.builders)?;
-    let (inputs, outputs) = words
-        .take_rest()
-        .split_once(" to ")
-        .ok_or(NoAnswer::Arguments)?;
+    let rest = words.take_rest();
+    let (inputs, outputs) = rest.split_once(" to ").ok_or(NoAnswer::Arguments)?;
     let inputs = s.trees.nodes(inputs)?;
     out.asked(builder.map_children(s.alloc, &inputs, &s.trees.nodes(outputs)?))
 }
 
-// A builder of the copy's parent, with one pair. Where memory runs out there is no such builder, so that the step can be
-// taken again.
+// A builder of the copy's parent, with one pair. Where memory runs out there is no such builder, so that the step can
+// be taken again.
 fn map(s: &mut Session, words: &mut Words, out: &mut Answer) -> Done {
     let input = s.trees.node(words)?;
     let output = s.trees.node(words)?;

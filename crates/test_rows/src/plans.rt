@@ -6,8 +6,8 @@ use crate::editors::{deleted_paths, keep_edit};
 use crate::roots::{Roots, annotation};
 use crate::runs;
 use crate::session::{CHANGED, Session, last, take};
-use crate::shown::{Answer, Done};
-use cst_core::{GreenNode, SyntaxNode, TreeError};
+use crate::shown::{Answer, Done, demand};
+use cst_core::{SyntaxNode, TreeError};
 use std::alloc::Global;
 use std::mem::replace;
 use syntax_editor::{
@@ -175,59 +175,46 @@ fn run<E: EditEngine>(s: &mut Session, engine: &mut E, out: &mut Answer) -> Done
 }
 
 // The count of an engine that makes the last plan's tree in one pass, from the number of the next word on, if the other
-// engine makes the same.
+// engine makes the same tree and paths. A refused run must leave the engine's count as it was.
 fn built(s: &mut Session, words: &mut Words, out: &mut Answer) -> Done {
     let first = number_of(words.next().unwrap_or("0"))?;
+    let plan = last(&mut s.plans)?;
     let mut engine = OnePassEngine::starting_at(s.alloc, first);
-    if is_same(s.alloc, last(&mut s.plans)?, &mut engine, out)? {
-        out.given(&engine.builds())
-    } else {
-        out.word("the engines differ")
+    let called = engine.run(s.alloc, plan);
+    demand(called.is_ok() || engine.builds() == first, CHANGED)?;
+    let one = rewritten(called)?;
+    let other = rewritten(SpliceEngine::new(s.alloc).run(s.alloc, plan))?;
+    match (&one, &other) {
+        (Some(one), Some(other)) if is_same(s.alloc, one, other)? => out.given(&engine.builds()),
+        (None, None) => out.asked(Err(TreeError::TooLong)),
+        _ => out.word("the engines differ"),
     }
 }
 
-// Whether the other engine makes the same tree and paths. A refused run must leave the engine's count as it was.
-fn is_same(
-    alloc: Global,
-    plan: &EditPlan,
-    engine: &mut OnePassEngine,
-    out: &mut Answer,
-) -> Result<bool, NoAnswer> {
-    let before = engine.builds();
-    match engine.run(alloc, plan) {
-        Ok(one) => is_spliced_as(alloc, plan, &one),
-        Err(_) if engine.builds() != before => Err(CHANGED),
+// What an engine makes, unless it is too long.
+fn rewritten(called: Result<Rewritten, EngineError>) -> Result<Option<Rewritten>, NoAnswer> {
+    match called {
+        Ok(given) => Ok(Some(given)),
+        Err(EngineError::TooLong) => Ok(None),
         Err(EngineError::Memory) => Err(NoAnswer::Refused("EditEngine::run")),
-        Err(EngineError::TooLong) => is_spliced_too_long(alloc, plan, out),
-    }
-}
-
-fn is_spliced_as(alloc: Global, plan: &EditPlan, one: &Rewritten) -> Result<bool, NoAnswer> {
-    match SpliceEngine::new(alloc).run(alloc, plan) {
-        Ok(other) if one.changed == other.changed && one.annotated == other.annotated => {
-            is_same_tree(alloc, &one.green, &other.green)
-        }
-        Err(EngineError::Memory) => Err(NoAnswer::Refused("EditEngine::run")),
-        _ => Ok(false),
-    }
-}
-
-// Where the other engine's tree is too long.
-fn is_spliced_too_long(alloc: Global, plan: &EditPlan, out: &mut Answer) -> Result<bool, NoAnswer> {
-    match SpliceEngine::new(alloc).run(alloc, plan) {
-        Ok(_) => Ok(false),
-        Err(EngineError::Memory) => Err(NoAnswer::Refused("EditEngine::run")),
-        Err(EngineError::TooLong) => out.asked(Err(TreeError::TooLong)),
     }
 }
 
 // Trees with texts up to this length are compared whole, longer ones by their lengths alone.
 const COMPARED: u64 = 100_000;
 
-fn is_same_tree(alloc: Global, one: &GreenNode, other: &GreenNode) -> Result<bool, NoAnswer> {
-    if one.length() > COMPARED || other.length() > COMPARED {
-        return Ok(one.length() == other.length());
+fn is_same(alloc: Global, one: &Rewritten, other: &Rewritten) -> Result<bool, NoAnswer> {
+    if one.changed != other.changed || one.annotated != other.annotated {
+        return Ok(false);
     }
-    let written = write_tree(alloc, one).ok().ok_or(NoAnswer::Memory)?;
-    Ok(written == write_tree(alloc, other).ok().ok_or(NoAnswer::Memory)?)
+    if one.green.length() > COMPARED || other.green.length() > COMPARED {
+        return Ok(one.green.length() == other.green.length());
+    }
+    let written = write_tree(alloc, &one.green).ok().ok_or(NoAnswer::Memory)?;
+    Ok(
+        written
+            == write_tree(alloc, &other.green)
+                .ok()
+                .ok_or(NoAnswer::Memory)?,
+    )
 }

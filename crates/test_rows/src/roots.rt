@@ -1,10 +1,12 @@
-//! The trees that a row names: those that its steps made, and those that the table defined. What calls take is read from
-//! words here.
+//! The trees that a row names: those that its steps made, and those that the table defined. What calls take is read
+//! from words here.
 
-use cst_core::{GreenElement, SyntaxElement, SyntaxKind, SyntaxNode, SyntaxToken};
+use cst_core::{AstNode, GreenElement, SyntaxElement, SyntaxKind, SyntaxNode, SyntaxToken};
 use std::alloc::{AllocError, Global};
 use syntax_editor::{Annotations, Position, SyntaxAnnotation};
-use test_trees::{NoAnswer, Trees, Words, element_below, name_and_path, number_of};
+use test_trees::{NoAnswer, Trees, Words, element_in, name_and_path, number_of};
+
+type Gap = Result<Option<Position>, AllocError>;
 
 /// The trees of the table, and the roots that the steps of a row made, by name.
 #[derive(Drop)]
@@ -31,7 +33,7 @@ impl Roots {
     fn at(&self, reference: &str) -> Result<SyntaxElement, NoAnswer> {
         let (name, path) = name_and_path(reference);
         match self.made.iter().find(|made| made.0.as_str() == name) {
-            Some((_, root)) => element_below(self.alloc, root, path),
+            Some((_, root)) => element_in(self.alloc, root, path),
             None => self.defined.element(self.alloc, reference),
         }
     }
@@ -79,25 +81,27 @@ impl Roots {
         Ok(greens)
     }
 
-    // The position at one side of a node or of an element.
-    fn position_at(&self, side: &str, beside: &str) -> Result<Position, NoAnswer> {
+    /// What the call gives for the gap at one side of a node or of an element.
+    pub fn gap(&self, side: &str, beside: &str) -> Result<Gap, NoAnswer> {
         match side {
-            "first" => Ok(Position::first_child_of(self.alloc, &self.node_at(beside)?)?),
-            "last" => Ok(Position::last_child_of(self.alloc, &self.node_at(beside)?)?),
-            "before" => gap(Position::before(self.alloc, self.at(beside)?)),
-            "after" => gap(Position::after(self.alloc, &self.at(beside)?)),
+            "first" => Ok(Position::first_child_of(self.alloc, &self.node_at(beside)?).map(Some)),
+            "last" => Ok(Position::last_child_of(self.alloc, &self.node_at(beside)?).map(Some)),
+            "before" => Ok(Position::before(self.alloc, self.at(beside)?)),
+            "after" => Ok(Position::after(self.alloc, &self.at(beside)?)),
             _ => Err(NoAnswer::Arguments),
         }
     }
 
     /// The position that two words say: `first NODE`, `last NODE`, `before REF` or `after REF`.
     pub fn position(&self, words: &mut Words) -> Result<Position, NoAnswer> {
-        self.position_at(words.word()?, words.word()?)
+        self.gap(words.word()?, words.word()?)??
+            .ok_or(NoAnswer::Row("no gap there"))
     }
 }
 
-fn gap(called: Result<Option<Position>, AllocError>) -> Result<Position, NoAnswer> {
-    called?.ok_or(NoAnswer::Row("no gap there"))
+/// The node as one of this type.
+pub fn typed<T: AstNode>(node: SyntaxNode) -> Result<T, NoAnswer> {
+    T::cast(node).ok_or(NoAnswer::Form)
 }
 
 /// The annotation with this number.

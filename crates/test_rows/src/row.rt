@@ -27,10 +27,7 @@ fn go_on(s: &mut Session, step: &str) -> Done {
     }
     repeated(s, step, &mut answer)?;
     let is_done = answer.text.starts_with("ok");
-    demand(
-        is_done,
-        NoAnswer::Row("a step that is not asked about is refused"),
-    )
+    demand(is_done, NoAnswer::Row("a step is refused"))
 }
 
 // A step that is not done leaves all as it was; if it does not, the answer says so.
@@ -75,7 +72,8 @@ fn repeated(s: &mut Session, step: &str, answer: &mut Answer) -> Done {
     }
 }
 
-// A call that gives nothing answers `ok`, and one that is refused the name of the refusal, unless that is for want of memory.
+// A call that gives nothing answers `ok`, and one that is refused the name of the refusal, unless that is for want of
+// memory.
 fn answer_to(s: &mut Session, step: &str, answer: &mut Answer) -> Done {
     answer.text.clear();
     let mut words = Words::of(step);

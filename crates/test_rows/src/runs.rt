@@ -14,8 +14,8 @@ use test_trees::{NoAnswer, Words};
 // Texts up to this length are shown.
 const SHOWN: u64 = 200;
 
-/// `stepped`, `finish_run` or `finish_counting`. Words that are numbers are changes that are carried out, and each other
-/// word is a question.
+/// `stepped`, `finish_run` or `finish_counting`. Words that are numbers are changes that are carried out, and each
+/// other word is a question.
 pub fn answer(s: &mut Session, name: &str, words: &mut Words, out: &mut Answer) -> Done {
     match name {
         "stepped" => step_through(s, words, out),
@@ -26,19 +26,17 @@ pub fn answer(s: &mut Session, name: &str, words: &mut Words, out: &mut Answer) 
 
 fn step_through(s: &mut Session, words: &mut Words, out: &mut Answer) -> Done {
     out.word("ok")?;
-    let plan = last(&mut s.plans)?;
-    Stepped::new(s.alloc, plan, &mut s.refused)?.take_all(words, &mut s.refused, out)
+    Stepped::new(s.alloc, last(&mut s.plans)?, &mut s.refused)?.take_all(words, out)
 }
 
-// The edit that a run gives where it is complete, also with the count of the walk that gives the edit its paths, from the
-// first number on. Where there is no edit the count is as it was.
+// The edit that a run gives where it is complete, also with the count of the walk that gives the edit its paths, from
+// the first number on. Where there is no edit the count is as it was.
 fn finish(s: &mut Session, name: &str, words: &mut Words, out: &mut Answer) -> Done {
     let is_counted = name == "finish_counting";
     let first = if is_counted { words.number()? } else { 0 };
     let mut walk = OnePassEngine::starting_at(s.alloc, first);
-    let plan = last(&mut s.plans)?;
-    let mut stepped = Stepped::new(s.alloc, plan, &mut s.refused)?;
-    stepped.take_all(words, &mut s.refused, out)?;
+    let mut stepped = Stepped::new(s.alloc, last(&mut s.plans)?, &mut s.refused)?;
+    stepped.take_all(words, out)?;
     out.text.clear();
     if !stepped.run.is_complete() {
         return out.word("not complete");
@@ -58,52 +56,36 @@ fn finish(s: &mut Session, name: &str, words: &mut Words, out: &mut Answer) -> D
     Ok(())
 }
 
-// A run of a plan, and how many changes that has.
+// A run of a plan, how many changes that has, and the call that was refused.
 #[derive(Drop)]
 struct Stepped<'a> {
-    alloc: Global,
     run: EditRun<'a>,
-    count: usize,
-    ghost counted: { count ≡ length run.plan.changes },
-}
-
-// A new run. Where the call is refused it is made once more, and that is noted.
-fn new_run<'a>(
-    alloc: Global,
-    plan: &'a EditPlan,
-    refused: &mut Option<&'static str>,
-) -> Result<EditRun<'a>, AllocError>
-    ensures { IfOk result (λ r. r.plan ≡ plan.now) }
-{
-    match EditRun::new(alloc, plan) {
-        Ok(run) => Ok(run),
-        Err(_) => {
-            *refused = Some("EditRun::new");
-            EditRun::new(alloc, plan)
-        }
-    }
+    size: usize,
+    refused: &'a mut Option<&'static str>,
+    ghost counted: { size ≡ length run.plan.changes },
 }
 
 impl<'a> Stepped<'a> {
+    // A new run. Where the call is refused it is made once more, and that is noted.
     fn new(
         alloc: Global,
         plan: &'a EditPlan,
-        refused: &mut Option<&'static str>,
+        refused: &'a mut Option<&'static str>,
     ) -> Result<Stepped<'a>, AllocError> {
-        let run = new_run(alloc, plan, refused)?;
-        let count = plan.len();
-        Ok(Stepped { alloc, run, count })
+        let mut called = EditRun::new(alloc, plan);
+        if called.is_err() {
+            *refused = Some("EditRun::new");
+            called = EditRun::new(alloc, plan);
+        }
+        let run = called?;
+        let size = plan.len();
+        Ok(Stepped { run, size, refused })
     }
 
-    fn take_all(
-        &mut self,
-        words: &mut Words,
-        refused: &mut Option<&'static str>,
-        out: &mut Answer,
-    ) -> Done {
+    fn take_all(&mut self, words: &mut Words, out: &mut Answer) -> Done {
         for word in words.take_rest().split_whitespace() {
             match word.parse::<usize>() {
-                Ok(change) if change < self.count => self.step(change, refused, out)?,
+                Ok(change) if change < self.size => self.step(change, out)?,
                 Ok(_) => return Err(NoAnswer::Arguments),
                 Err(_) => self.ask(word, out)?,
             }
@@ -112,19 +94,19 @@ impl<'a> Stepped<'a> {
     }
 
     // Carries a change out, if it may be the next one. A refused call leaves the run as it was, and is made again.
-    fn step(&mut self, change: usize, refused: &mut Option<&'static str>, out: &mut Answer) -> Done
-        requires { change < self.old.count }
+    fn step(&mut self, change: usize, out: &mut Answer) -> Done
+        requires { change < self.old.size }
     {
         if !self.run.ready(change) {
             return out.word(" not_ready");
         }
-        let before = run_standing(&self.run, self.count);
-        if self.run.step(self.alloc, change).is_ok() {
+        let before = run_standing(&self.run, self.size);
+        if self.run.step(out.alloc, change).is_ok() {
             return Ok(());
         }
-        *refused = Some("EditRun::step");
-        demand(run_standing(&self.run, self.count) == before, CHANGED)?;
-        Ok(self.run.step(self.alloc, change)?)
+        *self.refused = Some("EditRun::step");
+        demand(run_standing(&self.run, self.size) == before, CHANGED)?;
+        Ok(self.run.step(out.alloc, change)?)
     }
 
     fn ask(&self, word: &str, out: &mut Answer) -> Done {
@@ -144,7 +126,7 @@ impl<'a> Stepped<'a> {
     fn payload(&self, word: &str, out: &mut Answer) -> Done {
         let digits = word.strip_prefix("payload/").ok_or(NoAnswer::Arguments)?;
         match digits.parse::<usize>() {
-            Ok(change) if change < self.count => match self.run.payload(change) {
+            Ok(change) if change < self.size => match self.run.payload(change) {
                 Some(payload) => short_text(payload, out),
                 None => out.word("none"),
             },
@@ -155,7 +137,7 @@ impl<'a> Stepped<'a> {
     // The changes that may be the next ones, between braces.
     fn ready(&self, out: &mut Answer) -> Done {
         let mut space = "{";
-        for change in 0..self.count {
+        for change in 0..self.size {
             if self.run.ready(change) {
                 write!(out.text, "{space}{change}")?;
                 space = " ";

@@ -2,7 +2,7 @@
 
 use crate::roots::Roots;
 use crate::shown::{Done, demand};
-use crate::standing::{Standing, editors_standing, lengths_standing};
+use crate::standing::{Group, Standing, editors_standing, lengths_standing};
 use cst_core::{SyntaxElement, TreeIds};
 use std::alloc::Global;
 use syntax_editor::{
@@ -72,12 +72,14 @@ impl Session {
     pub fn standing(&self) -> Standing {
         Standing {
             next: self.ids.peek(),
-            builders: self.builders.len(),
-            changes: self.changes.len(),
-            registrations: self.registrations.len(),
-            mappings: lengths_standing(self.mappings.iter().map(|it| it.len())),
-            editors: editors_standing(&self.editors),
-            plans: lengths_standing(self.plans.iter().map(|it| it.len())),
+            groups: [
+                lengths_standing(self.mappings.iter().map(|it| it.len())),
+                editors_standing(&self.editors),
+                lengths_standing(self.plans.iter().map(|it| it.len())),
+                Group::of_count(self.builders.len()),
+                Group::of_count(self.changes.len()),
+                Group::of_count(self.registrations.len()),
+            ],
         }
     }
 

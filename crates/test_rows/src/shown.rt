@@ -139,10 +139,7 @@ impl Answer {
 
     // Path and kind of an element, which must be of the tree of this answer.
     fn place(&mut self, tree: u64, slots: &[usize], kind: SyntaxKind) -> Done {
-        demand(
-            tree == self.tree,
-            NoAnswer::Row("an element of another tree"),
-        )?;
+        demand(tree == self.tree, NoAnswer::Row("another tree"))?;
         self.path(slots)?;
         self.word(" ")?;
         self.word(kind_name(kind))

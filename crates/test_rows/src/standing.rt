@@ -6,20 +6,22 @@ use std::hash::{DefaultHasher, Hash, Hasher};
 use syntax_editor::{Change, EditRun, SyntaxEditor};
 
 /// Some values in their order: how many there are, what stands for all of them, and for all but the last.
-#[derive(Clone, Copy)]
+#[derive(Clone, Copy, Default)]
 pub struct Group {
     count: usize,
     all: u64,
     before_last: u64,
 }
 
-const NONE: Group = Group {
-    count: 0,
-    all: 0,
-    before_last: 0,
-};
-
 impl Group {
+    /// Of n values nothing but how many there are.
+    pub fn of_count(count: usize) -> Group {
+        Group {
+            count,
+            ..Group::default()
+        }
+    }
+
     // One more value, after the others.
     fn add<T: Hash>(&mut self, value: &T) {
         let mut hasher = DefaultHasher::new();
@@ -71,17 +73,12 @@ pub fn hash_of<T: Hash>(value: &T) -> u64 {
     hasher.finish()
 }
 
-/// The number that comes next, how many builders there are, and changes and registered elements for a plan that is
-/// built, the mappings, the editors and the plans.
+/// The number that comes next, the mappings, the editors and the plans, and how many builders there are, and changes
+/// and registered elements for a plan that is built.
 #[derive(Clone, Copy)]
 pub struct Standing {
     pub next: Option<u64>,
-    pub builders: usize,
-    pub changes: usize,
-    pub registrations: usize,
-    pub mappings: Group,
-    pub editors: Group,
-    pub plans: Group,
+    pub groups: [Group; 6],
 }
 
 impl Standing {
@@ -92,24 +89,24 @@ impl Standing {
 
     /// The same, whatever numbers were drawn.
     pub fn is_kept_but_numbers(&self, after: &Standing) -> bool {
-        self.mappings.is_kept(&after.mappings)
-            && self.editors.is_kept(&after.editors)
-            && self.plans.is_kept(&after.plans)
+        self.groups
+            .iter()
+            .zip(&after.groups)
+            .all(|(own, after)| own.is_kept(after))
     }
 
     /// Whether a call took something.
     pub fn has_lost(&self, after: &Standing) -> bool {
-        after.mappings.count < self.mappings.count
-            || after.editors.count < self.editors.count
-            || after.builders < self.builders
-            || after.changes < self.changes
-            || after.registrations < self.registrations
+        self.groups
+            .iter()
+            .zip(&after.groups)
+            .any(|(own, after)| after.count < own.count)
     }
 }
 
 /// Values of which each has so many parts, as a mapping has pairs, and a plan changes.
 pub fn lengths_standing<I: Iterator<Item = usize>>(lengths: I) -> Group {
-    let mut group = NONE;
+    let mut group = Group::default();
     for length in lengths {
         group.add(&length);
     }
@@ -118,9 +115,9 @@ pub fn lengths_standing<I: Iterator<Item = usize>>(lengths: I) -> Group {
 
 /// The editors, by their changes.
 pub fn editors_standing(editors: &[SyntaxEditor]) -> Group {
-    let mut group = NONE;
+    let mut group = Group::default();
     for editor in editors {
-        let mut changes = NONE;
+        let mut changes = Group::default();
         for change in editor.changes() {
             changes.add_change(change);
         }
@@ -134,7 +131,7 @@ pub fn editors_standing(editors: &[SyntaxEditor]) -> Group {
 pub fn run_standing(run: &EditRun, count: usize) -> u64
     requires { count ≤ length run.now.plan.changes }
 {
-    let mut group = NONE;
+    let mut group = Group::default();
     group.add(&run.builds());
     group.add_tree(run.green());
     for change in 0..count {

@@ -31,10 +31,8 @@ pub fn answer(s: &mut Session, name: &str, words: &mut Words, out: &mut Answer) 
 
 /// What the text between quotes that is left stands for: `\n`, `\r`, `\t`, `\"` and `\\` are escapes.
 pub fn unquote(alloc: Global, words: &mut Words) -> Result<String, NoAnswer> {
-    let inner = words
-        .take_rest()
-        .strip_prefix('"')
-        .and_then(|inner| inner.strip_suffix('"'));
+    let rest = words.take_rest().strip_prefix('"');
+    let inner = rest.and_then(|rest| rest.strip_suffix('"'));
     let mut text = String::new(alloc);
     let mut is_escaped = false;
     for c in inner.ok_or(NoAnswer::Arguments)?.chars() {
@@ -152,11 +150,8 @@ fn read_named(alloc: Global, words: &mut Words, out: &mut Answer) -> Done {
 
 fn dump_of(s: &mut Session, words: &mut Words, out: &mut Answer) -> Done {
     let element = s.trees.element(words)?;
-    told(
-        out,
-        "dump",
-        dump(s.alloc, &element, &KindNames::new(s.alloc)),
-    )
+    let lines = dump(s.alloc, &element, &KindNames::new(s.alloc));
+    told(out, "dump", lines)
 }
 
 fn dump_named(s: &mut Session, words: &mut Words, out: &mut Answer) -> Done {
@@ -165,11 +160,8 @@ fn dump_named(s: &mut Session, words: &mut Words, out: &mut Answer) -> Done {
     let node = SyntaxNode::new_root(s.alloc, &mut TreeIds::new(1), tree)?;
     told(out, "dump_node", dump_node(s.alloc, &node, &names))?;
     let mut other = Answer::new(s.alloc);
-    told(
-        &mut other,
-        "dump",
-        dump(s.alloc, &SyntaxElement::from(node), &names),
-    )?;
+    let lines = dump(s.alloc, &SyntaxElement::from(node), &names);
+    told(&mut other, "dump", lines)?;
     out.agree(&other)
 }
 
@@ -180,15 +172,11 @@ fn name_kind(alloc: Global, words: &mut Words, out: &mut Answer) -> Done {
     let before = names.kind(&name);
     let added = names.add(alloc, kind, &name);
     let after = names.kind(&name);
-    let is_named = after == Some(kind) && names.name(kind) == Some(name.as_str());
-    demand(
-        if added.is_ok() {
-            is_named
-        } else {
-            after == before
-        },
-        CHANGED,
-    )?;
+    let is_right = match added {
+        Ok(()) => after == Some(kind) && names.name(kind) == Some(name.as_str()),
+        Err(_) => after == before,
+    };
+    demand(is_right, CHANGED)?;
     match added {
         Ok(()) => out.word("ok"),
         Err(NameError::Memory) => Err(NoAnswer::Refused("KindNames::add")),

@@ -68,22 +68,19 @@ fn form(s: &mut Session, words: &mut Words, out: &mut Answer) -> Done {
     let element = s.trees.element(words)?;
     let copy = element.try_clone(s.alloc)?;
     let whole = hash_of(&element);
-    let lent = form_of(
+    let (node, token) = (
         element.as_node().map(hash_of),
         element.as_token().map(hash_of),
-        whole,
     );
+    let lent = form_of(node, token, whole);
     let node = element
         .into_node()
-        .map(|node| hash_of(&SyntaxElement::from(node)));
+        .map(|it| hash_of(&SyntaxElement::from(it)));
     let token = copy
         .into_token()
-        .map(|token| hash_of(&SyntaxElement::from(token)));
-    out.word(if form_of(node, token, whole) == lent {
-        lent
-    } else {
-        "lent and not taken"
-    })
+        .map(|it| hash_of(&SyntaxElement::from(it)));
+    let is_same = form_of(node, token, whole) == lent;
+    out.word(if is_same { lent } else { "lent and not taken" })
 }
 
 // The form of an element with this hash, by those of the node and of the token that it is.

@@ -89,16 +89,13 @@ fn double(alloc: Global, element: &GreenElement) -> Result<GreenElement, NoAnswe
 
 /// A file with whitespace of this level, and then the node.
 pub fn at_level(alloc: Global, level: u64, node: GreenNode) -> Result<GreenNode, NoAnswer> {
-    let mut children = Vec::new(alloc);
-    children.push(line_of(alloc, level, "    ")?)?;
-    children.push(GreenElement::Node(node))?;
+    let children = vec![in alloc; line_of(alloc, level, "    ")?, GreenElement::Node(node)]?;
     Ok(GreenNode::new(alloc, SyntaxKind::SOURCE_FILE, children)?)
 }
 
 /// A list of statements with one token of whitespace, a newline and n spaces.
 pub fn blank(alloc: Global, spaces: u64) -> Result<GreenNode, NoAnswer> {
-    let mut children = Vec::new(alloc);
-    children.push(line_of(alloc, spaces, " ")?)?;
+    let children = vec![in alloc; line_of(alloc, spaces, " ")?]?;
     Ok(GreenNode::new(alloc, SyntaxKind::STMT_LIST, children)?)
 }
 
@@ -113,13 +110,8 @@ fn line_of(alloc: Global, count: u64, part: &str) -> Result<GreenElement, NoAnsw
 
 /// The node in so many blocks, each in the next one. Beside it a block has no token (`bare`), one after it (`left`, as
 /// in `1}}}`), one before it (`right`), or both (`brackets`).
-pub fn nested(
-    alloc: Global,
-    nesting: &str,
-    depth: u64,
-    node: GreenNode,
-) -> Result<GreenNode, NoAnswer> {
-    let (has_before, has_after) = match nesting {
+pub fn nest(alloc: Global, form: &str, depth: u64, node: GreenNode) -> Result<GreenNode, NoAnswer> {
+    let (has_before, has_after) = match form {
         "bare" => (false, false),
         "left" => (false, true),
         "right" => (true, false),

@@ -12,5 +12,5 @@ mod words;
 pub use large::p;
 pub use no_answer::NoAnswer;
 pub use rows::{green, row};
-pub use trees::{Trees, element_below, read_tree};
+pub use trees::{Trees, element_in, read_tree};
 pub use words::{Words, first_word, name_and_path, number_of, push_path, push_quoted, slots_of};

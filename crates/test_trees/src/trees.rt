@@ -1,6 +1,6 @@
 //! The trees that rows of tests name, and the elements in them.
 
-use crate::large::{at_level, blank, capped_halves, fill, many, nested, p_file};
+use crate::large::{at_level, blank, capped_halves, fill, many, nest, p_file};
 use crate::no_answer::NoAnswer;
 use crate::rows::{green, row};
 use crate::words::{Words, name_and_path, number_of, slots_of};
@@ -10,27 +10,22 @@ use std::alloc::Global;
 /// The tree that a text says: a name or an expression, `long BYTES TREE`, `deep LEVEL TREE`, `wide COUNT TREE`,
 /// `nested NESTING DEPTH TREE` or `blank SPACES`.
 pub fn read_tree(alloc: Global, text: &str) -> Result<GreenNode, NoAnswer> {
-    let mut words = Words::of(text);
+    let words = &mut Words::of(text);
     match words.word()? {
-        "long" => fill(alloc, words.number()?, &rest_of(alloc, &mut words)?),
-        "deep" => at_level(alloc, words.number()?, rest_of(alloc, &mut words)?),
-        "wide" => many(alloc, words.number()?, rest_of(alloc, &mut words)?),
-        "nested" => nested(
-            alloc,
-            words.word()?,
-            words.number()?,
-            rest_of(alloc, &mut words)?,
-        ),
+        "long" => fill(alloc, words.number()?, &rest(alloc, words)?),
+        "deep" => at_level(alloc, words.number()?, rest(alloc, words)?),
+        "wide" => many(alloc, words.number()?, rest(alloc, words)?),
+        "nested" => nest(alloc, words.word()?, words.number()?, rest(alloc, words)?),
         "blank" => blank(alloc, words.number()?),
         _ => short_tree(alloc, text),
     }
 }
 
-fn rest_of(alloc: Global, words: &mut Words) -> Result<GreenNode, NoAnswer> {
+fn rest(alloc: Global, words: &mut Words) -> Result<GreenNode, NoAnswer> {
     short_tree(alloc, words.take_rest())
 }
 
-// An expression, or the name of a row tree or of one that holds P_31 often: P, of 2^32 - 1 bytes, or P_31 so many times.
+// An expression, or the name of a row tree or of one that holds P_31 often: P, of 2^32 - 1 bytes, or P_31 n times.
 fn short_tree(alloc: Global, text: &str) -> Result<GreenNode, NoAnswer> {
     match text {
         "P" => p_file(alloc),
@@ -78,16 +73,12 @@ impl Trees {
     /// The element of a tree, as `L/1/0`; the root is `L` alone. Each is of a tree and from a source of its own.
     pub fn element(&self, alloc: Global, address: &str) -> Result<SyntaxElement, NoAnswer> {
         let (tree, path) = name_and_path(address);
-        element_below(alloc, &self.root(alloc, tree)?, path)
+        element_in(alloc, &self.root(alloc, tree)?, path)
     }
 }
 
 /// The element that a path leads to from a root.
-pub fn element_below(
-    alloc: Global,
-    root: &SyntaxNode,
-    path: &str,
-) -> Result<SyntaxElement, NoAnswer> {
+pub fn element_in(alloc: Global, root: &SyntaxNode, path: &str) -> Result<SyntaxElement, NoAnswer> {
     root.element_at(alloc, &slots_of(alloc, path)?)?
         .ok_or(NoAnswer::Row("no element stands there"))
 }
