@@ -3,6 +3,7 @@
 use crate::no_answer::NoAnswer;
 use cst_core::{GreenElement, GreenNode, GreenToken, SyntaxKind};
 use std::alloc::{AllocError, Global};
+use tree_text::read_tree;
 
 // No token of letters is longer.
 const LONGEST: u64 = 65_536;
@@ -111,26 +112,23 @@ fn line_of(alloc: Global, count: u64, part: &str) -> Result<GreenElement, NoAnsw
 /// The node in so many blocks, each in the next one. Beside it a block has no token (`bare`), one after it (`left`, as
 /// in `1}}}`), one before it (`right`), or both (`brackets`).
 pub fn nest(alloc: Global, form: &str, depth: u64, node: GreenNode) -> Result<GreenNode, NoAnswer> {
-    let (has_before, has_after) = match form {
-        "bare" => (false, false),
-        "left" => (false, true),
-        "right" => (true, false),
-        "brackets" => (true, true),
+    let (block, slot) = match form {
+        "bare" => ("(BLOCK_EXPR)", 0),
+        "left" => (r#"(BLOCK_EXPR R_CURLY"}")"#, 0),
+        "right" => (r#"(BLOCK_EXPR L_CURLY"{")"#, 1),
+        "brackets" => (r#"(BLOCK_EXPR L_CURLY"{" R_CURLY"}")"#, 1),
         _ => return Err(NoAnswer::Arguments),
     };
-    let before = token(alloc, SyntaxKind::L_CURLY, "{")?;
-    let after = token(alloc, SyntaxKind::R_CURLY, "}")?;
+    let block = read_tree(alloc, block)?;
+    let slot = block.children().len().min(slot);
     let mut outer = node;
     for _ in 0..depth {
-        let mut children = Vec::new(alloc);
-        if has_before {
-            children.push(before.share(alloc)?)?;
-        }
-        children.push(GreenElement::Node(outer))?;
-        if has_after {
-            children.push(after.share(alloc)?)?;
-        }
-        outer = GreenNode::new(alloc, SyntaxKind::BLOCK_EXPR, children)?;
+        outer = block.splice_children(
+            alloc,
+            slot,
+            slot,
+            vec![in alloc; GreenElement::Node(outer)]?,
+        )?;
     }
     Ok(outer)
 }

@@ -36,7 +36,7 @@ H (FN (ATTR POUND"#" L_BRACK"[" IDENT"a" R_BRACK"]") WHITESPACE"\n" COMMENT"// c
 
 // A tree that has a name.
 #[derive(Drop)]
-struct Row {
+struct NamedRow {
     name: &'static str,
     expression: String,
 }
@@ -53,60 +53,59 @@ pub fn row(alloc: Global, name: &str) -> Result<GreenNode, NoAnswer> {
     Ok(read_tree(alloc, row_of(&rows, name)?)?)
 }
 
-fn all_rows(alloc: Global) -> Result<Vec<Row>, NoAnswer> {
+fn all_rows(alloc: Global) -> Result<Vec<NamedRow>, NoAnswer> {
     let mut rows = Vec::new(alloc);
     for line in ROWS.lines() {
         let (name, expression) = first_word(line);
         let expression = expand(alloc, &rows, expression)?;
-        rows.push(Row { name, expression })?;
+        rows.push(NamedRow { name, expression })?;
     }
     Ok(rows)
 }
 
-fn row_of<'a>(rows: &'a [Row], name: &str) -> Result<&'a str, NoAnswer> {
+fn row_of<'a>(rows: &'a [NamedRow], name: &str) -> Result<&'a str, NoAnswer> {
     match rows.iter().find(|row| row.name == name) {
         Some(row) => Ok(&row.expression),
         None => Err(NoAnswer::Row("UnknownRow")),
     }
 }
 
-// What the next character belongs to.
-#[derive(Clone, Copy)]
-enum State {
-    Outside,
-    Text,
-    // After a backslash of a text.
-    Escape,
-    RowName,
-}
-
-// The expression with those of these rows in the places of their names. A name alone is no node.
-fn expand(alloc: Global, rows: &[Row], expression: &str) -> Result<String, NoAnswer> {
+// The expression with those of these rows in the places of their names, which stand outside of its texts.
+fn expand(alloc: Global, rows: &[NamedRow], expression: &str) -> Result<String, NoAnswer> {
     let mut expanded = String::new(alloc);
-    let mut name = String::new(alloc);
-    let mut state = State::Outside;
-    for c in expression.chars() {
-        match (state, c) {
-            (State::Outside, '[') if expanded.is_empty() => return Err(NoAnswer::Row("Malformed")),
-            (State::Outside, '[') => name.clear(),
-            (State::RowName, ']') => expanded.push_str(row_of(rows, &name)?)?,
-            (State::RowName, _) => name.push(c)?,
-            _ => expanded.push(c)?,
+    let mut is_text = false;
+    for (number, part) in expression.split('"').enumerate() {
+        if number > 0 {
+            expanded.push('"')?;
         }
-        state = next_state(state, c);
+        if is_text {
+            expanded.push_str(part)?;
+        } else {
+            push_named(&mut expanded, rows, part)?;
+        }
+        is_text = !is_text || is_escaped(part);
     }
     Ok(expanded)
 }
 
-// Where the character after this one is.
-fn next_state(state: State, c: char) -> State {
-    match (state, c) {
-        (State::Outside, '[') => State::RowName,
-        (State::RowName, ']') => State::Outside,
-        (State::Outside, '"') => State::Text,
-        (State::Text, '"') => State::Outside,
-        (State::Text, '\\') => State::Escape,
-        (State::Escape, _) => State::Text,
-        (state, _) => state,
+// Whether the quote after this part of a text stands in the text.
+fn is_escaped(part: &str) -> bool {
+    part.bytes().rev().take_while(|byte| *byte == b'\\').count() % 2 == 1
+}
+
+// A name alone is no node.
+fn push_named(expanded: &mut String, rows: &[NamedRow], part: &str) -> Result<(), NoAnswer> {
+    for (number, piece) in part.split('[').enumerate() {
+        if number == 0 {
+            expanded.push_str(piece)?;
+            continue;
+        }
+        let (name, rest) = piece.split_once(']').ok_or(NoAnswer::Row("Malformed"))?;
+        if expanded.is_empty() {
+            return Err(NoAnswer::Row("Malformed"));
+        }
+        expanded.push_str(row_of(rows, name)?)?;
+        expanded.push_str(rest)?;
     }
+    Ok(())
 }

@@ -6,7 +6,7 @@ use std::str::FromStr;
 use tree_text::push_escaped;
 
 /// What is left of a text. Any number of spaces may stand between its words.
-#[derive(Drop)]
+#[derive(Clone, Copy)]
 pub struct Words<'a> {
     rest: &'a str,
 }
@@ -93,22 +93,26 @@ pub fn push_path(out: &mut String, path: &[usize]) -> Result<(), AllocError> {
     if path.is_empty() {
         return out.push('.');
     }
-    let mut slash = "";
-    for run in path.chunk_by(|one, next| one == next) {
-        match run {
-            [slot, ..] if run.len() >= MANY => write!(out, "{slash}{slot}x{}", run.len())?,
-            _ => push_slots(out, slash, run)?,
+    for (number, run) in path.chunk_by(|one, next| one == next).enumerate() {
+        if number > 0 {
+            out.push('/')?;
         }
-        slash = "/";
+        push_run(out, run)?;
     }
     Ok(())
 }
 
-fn push_slots(out: &mut String, before: &str, slots: &[usize]) -> Result<(), AllocError> {
-    let mut slash = before;
-    for slot in slots {
-        write!(out, "{slash}{slot}")?;
-        slash = "/";
+// Slots that are the same.
+fn push_run(out: &mut String, run: &[usize]) -> Result<(), AllocError> {
+    let Some((slot, others)) = run.split_first() else {
+        return Ok(());
+    };
+    write!(out, "{slot}")?;
+    if run.len() >= MANY {
+        return write!(out, "x{}", run.len());
+    }
+    for _ in others {
+        write!(out, "/{slot}")?;
     }
     Ok(())
 }
