@@ -111,7 +111,8 @@ pub fn deleted_paths(changes: &[Change], out: &mut Answer) -> Done {
 fn inserted(s: &mut Session, out: &mut Answer) -> Done {
     if let Some(Change::InsertAll(_, elements)) = last(&mut s.editors)?.changes().last() {
         for element in elements.as_slice() {
-            out.word(if out.text.is_empty() { "" } else { ", " })?;
+            let comma = if out.text.is_empty() { "" } else { ", " };
+            out.word(comma)?;
             out.quote(&element.text(s.alloc)?)?;
             write!(out.text, " of {}", element.tree())?;
         }
@@ -152,7 +153,10 @@ fn of_edit(s: &mut Session, name: &str, words: &mut Words, out: &mut Answer) -> 
         "old_text" => out.text_of(edit.old_root()),
         "new_text" => out.text_of(edit.new_root()),
         "changed" => out.paths(edit.changed_elements()),
-        _ => out.paths(edit.find_annotation(annotation(words)?)),
+        _ => match annotation(words) {
+            Some(annotation) => out.paths(edit.find_annotation(annotation)),
+            None => Err(NoAnswer::Arguments),
+        },
     }
 }
 
@@ -225,12 +229,17 @@ fn replace_with_many(s: &mut Session, name: &str, words: &mut Words, out: &mut A
 fn add_annotation(s: &mut Session, words: &mut Words, out: &mut Answer) -> Done {
     let editor = last(&mut s.editors)?;
     let element = s.trees.element(words)?;
-    out.asked(editor.add_annotation(s.alloc, element, annotation(words)?))
+    let Some(annotation) = annotation(words) else {
+        return Err(NoAnswer::Arguments);
+    };
+    out.asked(editor.add_annotation(s.alloc, element, annotation))
 }
 
 fn add_annotation_all(s: &mut Session, words: &mut Words, out: &mut Answer) -> Done {
     let editor = last(&mut s.editors)?;
-    let annotation = annotation_of("1")?;
+    let Some(annotation) = annotation_of("1") else {
+        return Err(NoAnswer::Arguments);
+    };
     let elements = s.trees.elements(words.take_rest())?;
     out.asked(editor.add_annotation_all(s.alloc, elements, annotation))
 }

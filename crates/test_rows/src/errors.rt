@@ -101,16 +101,14 @@ fn expression_error(case: &str) -> Option<ExpressionError> {
         "UnknownKind" => Some(ExpressionError::UnknownKind { at: 1 }),
         "TooDeep" => Some(ExpressionError::TooDeep { at: 201 }),
         "Tree" => Some(ExpressionError::Tree(TreeError::NoTreeNumber)),
-        "Memory" => Some(ExpressionError::Memory),
-        _ => None,
+        _ => variant!(case, ExpressionError: Memory),
     }
 }
 
 fn write_error(case: &str) -> Option<WriteError> {
     match case {
         "NoName" => Some(WriteError::NoName(SyntaxKind(65))),
-        "Memory" => Some(WriteError::Memory),
-        _ => None,
+        _ => variant!(case, WriteError: Memory),
     }
 }
 

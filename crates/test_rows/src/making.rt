@@ -103,7 +103,7 @@ fn annotations(words: &mut Words, out: &mut Answer) -> Done {
     let mut before = None;
     for word in words.take_rest().split_whitespace() {
         let given = source.next();
-        if given != annotation_of(word).ok() || (given.is_some() && given <= before) {
+        if given != annotation_of(word) || (given.is_some() && given <= before) {
             return out.word("none");
         }
         before = given;
@@ -306,11 +306,12 @@ fn follow(s: &mut Session, words: &mut Words, out: &mut Answer) -> Done {
     let mapping = last(&mut s.mappings)?;
     let start = s.trees.element(words)?;
     let end = out.asked(mapping.follow(s.alloc, &start))?;
-    out.word(if end.as_node().is_some() {
-        "ok node "
+    let form = if end.as_node().is_some() {
+        "node"
     } else {
-        "ok token "
-    })?;
+        "token"
+    };
+    write!(out.text, "ok {form} ")?;
     out.quote(&end.text(s.alloc)?)?;
     write!(out.text, " of {} at ", end.tree())?;
     out.path(end.slots())

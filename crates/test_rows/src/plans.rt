@@ -92,7 +92,10 @@ fn range_replacement(trees: &Roots, words: &mut Words) -> Result<Change, NoAnswe
 // One more registered element of the plan that is built.
 fn register(s: &mut Session, words: &mut Words) -> Done {
     let element = s.trees.element(words)?;
-    Ok(s.registrations.push((element, annotation(words)?))?)
+    let Some(annotation) = annotation(words) else {
+        return Err(NoAnswer::Arguments);
+    };
+    Ok(s.registrations.push((element, annotation))?)
 }
 
 // Whether each change fits the tree with this root.

@@ -104,15 +104,13 @@ pub fn typed<T: AstNode>(node: SyntaxNode) -> Result<T, NoAnswer> {
     T::cast(node).ok_or(NoAnswer::Form)
 }
 
-/// The annotation with this number.
-pub fn annotation_of(digits: &str) -> Result<SyntaxAnnotation, NoAnswer> {
-    Annotations::new(number_of(digits)?)
-        .next()
-        .ok_or(NoAnswer::Arguments)
+/// The annotation with this number, if that is one.
+pub fn annotation_of(digits: &str) -> Option<SyntaxAnnotation> {
+    Annotations::new(number_of(digits).ok()?).next()
 }
 
 /// The annotation of the next word, or the first one.
-pub fn annotation(words: &mut Words) -> Result<SyntaxAnnotation, NoAnswer> {
+pub fn annotation(words: &mut Words) -> Option<SyntaxAnnotation> {
     annotation_of(words.next().unwrap_or("1"))
 }
 

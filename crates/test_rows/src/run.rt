@@ -91,15 +91,15 @@ impl Run {
             }
             Line::Tree(tree) => {
                 let (name, tree) = first_word(tree);
-                let defined = &mut self.session.trees.defined;
-                let done = defined.define(self.session.alloc, name, tree);
+                let alloc = self.session.alloc;
+                let done = self.session.trees.defined.define(alloc, name, tree);
                 self.note_end(rt, text, done)
             }
             Line::Row(steps, answer, is_it) => {
                 let done = self.take_steps(rt, steps)?;
-                let answers = &mut self.session.answers;
-                if done.is_ok() && (answers.as_str() == answer) != is_it {
-                    let answers = replace(answers, String::new(self.session.alloc));
+                if done.is_ok() && (self.session.answers.as_str() == answer) != is_it {
+                    let nothing = String::new(self.session.alloc);
+                    let answers = replace(&mut self.session.answers, nothing);
                     return self.note_wrong(rt, text, answers);
                 }
                 self.note_end(rt, text, done)
@@ -145,7 +145,7 @@ impl Run {
         self.note_wrong(rt, file, "its last line is not `end`")
     }
 
-    /// Prints how many of the owed pairs have a row and whether all rows answered as expected; says whether both is so.
+    /// Prints how many owed pairs have a row and whether all rows answered as expected, and says whether both is so.
     pub fn close<R: Print>(&mut self, rt: &R) -> io::Result<ExitCode> {
         self.note_end_of(rt, "the table", self.part)?;
         let mut lacks = 0;

@@ -2,7 +2,7 @@
 
 use crate::roots::Roots;
 use crate::shown::{Done, demand};
-use crate::standing::{Group, Standing, editors_standing, lengths_standing};
+use crate::standing::{Group, Standing, editors_standing};
 use cst_core::{SyntaxElement, TreeIds};
 use std::alloc::Global;
 use syntax_editor::{
@@ -11,8 +11,8 @@ use syntax_editor::{
 };
 use test_trees::NoAnswer;
 
-/// What the steps of a row work on, the trees of the table, and what is answered. A step on an editor, a plan, an edit,
-/// a mapping or a builder is one on the last that was made.
+/// What the steps of a row work on, the trees of the table, and what is answered. A step on an editor, a plan, an
+/// edit, a mapping or a builder is one on the last that was made.
 #[derive(Drop)]
 pub struct Session {
     pub alloc: Global,
@@ -70,12 +70,20 @@ impl Session {
 
     /// What a refusal leaves as it is.
     pub fn standing(&self) -> Standing {
+        let mut mappings = Group::default();
+        for mapping in &self.mappings {
+            mappings.add(&mapping.len());
+        }
+        let mut plans = Group::default();
+        for plan in &self.plans {
+            plans.add(&plan.len());
+        }
         Standing {
             next: self.ids.peek(),
             groups: [
-                lengths_standing(self.mappings.iter().map(|it| it.len())),
+                mappings,
                 editors_standing(&self.editors),
-                lengths_standing(self.plans.iter().map(|it| it.len())),
+                plans,
                 Group::of_count(self.builders.len()),
                 Group::of_count(self.changes.len()),
                 Group::of_count(self.registrations.len()),

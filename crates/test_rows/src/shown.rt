@@ -128,13 +128,15 @@ impl Answer {
 
     /// One more path, after a space.
     pub fn next_path(&mut self, element: &SyntaxElement) -> Done {
-        self.word(if self.text.is_empty() { "" } else { " " })?;
+        let space = if self.text.is_empty() { "" } else { " " };
+        self.word(space)?;
         self.path(element.slots())
     }
 
     /// A list is whole, which says so where it is empty.
     pub fn none_if_empty(&mut self) -> Done {
-        self.word(if self.text.is_empty() { "none" } else { "" })
+        let none = if self.text.is_empty() { "none" } else { "" };
+        self.word(none)
     }
 
     // Path and kind of an element, which must be of the tree of this answer.

@@ -22,8 +22,8 @@ impl Group {
         }
     }
 
-    // One more value, after the others.
-    fn add<T: Hash>(&mut self, value: &T) {
+    /// One more value, after the others.
+    pub fn add<T: Hash>(&mut self, value: &T) {
         let mut hasher = DefaultHasher::new();
         hasher.write_u64(self.all);
         value.hash(&mut hasher);
@@ -55,15 +55,11 @@ impl Group {
 
     // Whether the values are the same ones, but for a last one that was taken, or came.
     fn is_kept(&self, after: &Group) -> bool {
-        if after.count < self.count {
-            return after.all == self.before_last;
+        match after.count {
+            count if count < self.count => after.all == self.before_last,
+            count if count > self.count => after.before_last == self.all,
+            _ => after.all == self.all,
         }
-        self.all
-            == if after.count > self.count {
-                after.before_last
-            } else {
-                after.all
-            }
     }
 }
 
@@ -102,15 +98,6 @@ impl Standing {
             .zip(&after.groups)
             .any(|(own, after)| after.count < own.count)
     }
-}
-
-/// Values of which each has so many parts, as a mapping has pairs, and a plan changes.
-pub fn lengths_standing<I: Iterator<Item = usize>>(lengths: I) -> Group {
-    let mut group = Group::default();
-    for length in lengths {
-        group.add(&length);
-    }
-    group
 }
 
 /// The editors, by their changes.

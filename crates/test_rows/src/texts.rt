@@ -11,8 +11,8 @@ use tree_text::{
     read_tree, read_tree_with, write_tree, write_tree_with,
 };
 
-/// `read_tree EXPRESSION`, `read_line_tree EXPRESSION` or `read_root NUMBER EXPRESSION`, each expression between quotes;
-/// `write_tree TREE`; `write_named KIND NAME TREE`, of a node of this kind with the tree below it;
+/// `read_tree EXPRESSION`, `read_line_tree EXPRESSION` or `read_root NUMBER EXPRESSION`, each expression between
+/// quotes; `write_tree TREE`; `write_named KIND NAME TREE`, of a node of this kind with the tree below it;
 /// `read_named KIND NAME EXPRESSION`; `dump ELEMENT`; `dump_named KIND NAME TREE`, of such a node and of it as an
 /// element; or `name_kind KIND NAME KIND NAME`, what the second kind's name answers. A name `-` is given to no kind.
 pub fn answer(s: &mut Session, name: &str, words: &mut Words, out: &mut Answer) -> Done {

@@ -13,8 +13,8 @@ use std::alloc::{AllocError, Global};
 use std::hash::Hash;
 use test_trees::Words;
 
-/// `equal ELEMENT ELEMENT`, `form ELEMENT`, `same_shape NODE NODE` or `views NODE`; what is none of these is of an error
-/// or of an element.
+/// `equal ELEMENT ELEMENT`, `form ELEMENT`, `same_shape NODE NODE` or `views NODE`; what is none of these is of an
+/// error or of an element.
 pub fn answer(s: &mut Session, name: &str, words: &mut Words, out: &mut Answer) -> Done {
     match name {
         "equal" => equal(s, words, out),
@@ -56,11 +56,7 @@ fn equal(s: &mut Session, words: &mut Words, out: &mut Answer) -> Done {
         _ => "no",
     };
     let own = compare(&left, &right);
-    out.word(if own == by_form {
-        own
-    } else {
-        "as elements, or as what they are"
-    })
+    out.word(if own == by_form { own } else { "in one form" })
 }
 
 // By the node or token that is lent, and by the one that is taken, and put back.
@@ -109,16 +105,9 @@ fn views(s: &mut Session, words: &mut Words, out: &mut Answer) -> Done {
 
 // What a function over any typed node knows from the trait alone.
 
-fn view<T: AstNode>(node: SyntaxNode) -> T
-    requires { IsTrue (T.is_kind (label (subtree node))) }
-    ensures { T.syntax_node result ≡ node }
-{
-    T::cast(node).unwrap()
-}
-
 fn view_if_castable<T: AstNode>(node: SyntaxNode) -> Option<T> {
     if T::can_cast(node.kind()) {
-        Some(view(node))
+        Some(T::cast(node).unwrap())
     } else {
         None
     }
@@ -130,23 +119,17 @@ fn can_cast_again<T: AstNode>(view: &T) -> bool
     T::can_cast(view.syntax().kind())
 }
 
-fn same_view<T: AstNode>(view: T, node: SyntaxNode) -> T
-    requires { node ≡ T.syntax_node view }
-    ensures { T.syntax_node result ≡ T.syntax_node view }
-{
-    T::cast(node).unwrap()
-}
-
 fn view_again<T: AstNode>(alloc: Global, view: T) -> Result<T, AllocError>
     ensures { IfOk result (λ t. T.syntax_node t ≡ T.syntax_node view) }
 {
     let node = view.syntax().try_clone(alloc)?;
-    Ok(same_view(view, node))
+    Ok(T::cast(node).unwrap())
 }
 
 // The name of the kind of the node's view, `none` where there is none, after a space.
 fn view_name<T: AstNode>(alloc: Global, node: &SyntaxNode, out: &mut Answer) -> Done {
-    out.word(if out.text.is_empty() { "" } else { " " })?;
+    let space = if out.text.is_empty() { "" } else { " " };
+    out.word(space)?;
     let Some(typed) = view_if_castable::<T>(node.try_clone(alloc)?) else {
         let is_view = T::cast(node.try_clone(alloc)?).is_some();
         return out.word(if is_view {
