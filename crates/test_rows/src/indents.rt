@@ -93,10 +93,8 @@ fn dedent(s: &mut Session, words: &mut Words, out: &mut Answer) -> Done {
         let list = typed::<StmtList>(node)?;
         return typed_root(list.dedent(s.alloc, &mut s.ids, level), out);
     }
-    typed_root(
-        typed::<BlockExpr>(node)?.dedent(s.alloc, &mut s.ids, level),
-        out,
-    )
+    let block = typed::<BlockExpr>(node)?;
+    typed_root(block.dedent(s.alloc, &mut s.ids, level), out)
 }
 
 fn reset_indent(s: &mut Session, words: &mut Words, out: &mut Answer) -> Done {

@@ -3,7 +3,7 @@
 use crate::editors;
 use crate::roots::{annotation_of, kind_in, typed};
 use crate::session::{Session, last, take};
-use crate::shown::{Answer, Done, Show};
+use crate::shown::{Answer, Done, Show, kind_name};
 use cst_core::ast::{BlockExpr, Fn, LetStmt, StmtList};
 use cst_core::{GreenNode, SyntaxKind, SyntaxNode, SyntaxToken, TreeIds};
 use std::alloc::Global;
@@ -150,16 +150,12 @@ fn text_of_tree(alloc: Global, words: &mut Words) -> Result<String, NoAnswer> {
 
 // A token's kind, its text, the number of its tree, and what it stands below.
 fn show_token(alloc: Global, token: &SyntaxToken, out: &mut Answer) -> Done {
-    write!(out.text, "ok {} ", token.kind().name().unwrap_or(""))?;
+    write!(out.text, "ok {} ", kind_name(token.kind()))?;
     out.quote(token.text())?;
     let parent = token.parent(alloc)?.ok_or(NoAnswer::Row("no parent"))?;
     let count = parent.children_with_tokens(alloc)?.len();
-    let kind = parent.kind().name().unwrap_or("");
-    Ok(write!(
-        out.text,
-        " of {}, one of {count} below {kind}",
-        token.tree()
-    )?)
+    let (kind, tree) = (kind_name(parent.kind()), token.tree());
+    Ok(write!(out.text, " of {tree}, one of {count} below {kind}")?)
 }
 
 // A token with the text of a tree.

@@ -213,11 +213,9 @@ fn is_same(alloc: Global, one: &Rewritten, other: &Rewritten) -> Result<bool, No
     if one.green.length() > COMPARED || other.green.length() > COMPARED {
         return Ok(one.green.length() == other.green.length());
     }
-    let written = write_tree(alloc, &one.green).ok().ok_or(NoAnswer::Memory)?;
-    Ok(
-        written
-            == write_tree(alloc, &other.green)
-                .ok()
-                .ok_or(NoAnswer::Memory)?,
-    )
+    let one = write_tree(alloc, &one.green).ok().ok_or(NoAnswer::Memory)?;
+    let other = write_tree(alloc, &other.green)
+        .ok()
+        .ok_or(NoAnswer::Memory)?;
+    Ok(one == other)
 }

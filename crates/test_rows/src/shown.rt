@@ -245,14 +245,13 @@ impl Show for TokenAtOffset {
 // Kind, how many children, length and text.
 impl Show for GreenNode {
     fn show(&self, out: &mut Answer) -> Done {
-        let name = kind_name(self.kind());
+        let (count, length) = (self.children().len(), self.length());
         write!(
             out.text,
-            "{name} of {}, {} bytes",
-            self.children().len(),
-            self.length()
+            "{} of {count}, {length} bytes",
+            kind_name(self.kind())
         )?;
-        if self.length() > SHOWN_SHARED {
+        if length > SHOWN_SHARED {
             return Ok(());
         }
         let text = self.to_string(out.alloc)?;
@@ -263,12 +262,8 @@ impl Show for GreenNode {
 
 impl Show for GreenToken {
     fn show(&self, out: &mut Answer) -> Done {
-        write!(
-            out.text,
-            "{}, {} bytes ",
-            kind_name(self.kind()),
-            self.length()
-        )?;
+        let (name, length) = (kind_name(self.kind()), self.length());
+        write!(out.text, "{name}, {length} bytes ")?;
         out.quote(self.text())
     }
 }

@@ -85,18 +85,14 @@ impl Standing {
 
     /// The same, whatever numbers were drawn.
     pub fn is_kept_but_numbers(&self, after: &Standing) -> bool {
-        self.groups
-            .iter()
-            .zip(&after.groups)
-            .all(|(own, after)| own.is_kept(after))
+        let mut pairs = self.groups.iter().zip(&after.groups);
+        pairs.all(|(own, after)| own.is_kept(after))
     }
 
     /// Whether a call took something.
     pub fn has_lost(&self, after: &Standing) -> bool {
-        self.groups
-            .iter()
-            .zip(&after.groups)
-            .any(|(own, after)| after.count < own.count)
+        let mut pairs = self.groups.iter().zip(&after.groups);
+        pairs.any(|(own, after)| after.count < own.count)
     }
 }
 

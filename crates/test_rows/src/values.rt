@@ -39,11 +39,8 @@ fn in_each_way(ways: &[bool]) -> &'static str {
 
 // By `==` both ways, and by the hash, which differs where these values do.
 fn compare<T: Hash>(left: &T, right: &T) -> &'static str {
-    in_each_way(&[
-        left == right,
-        right == left,
-        hash_of(left) == hash_of(right),
-    ])
+    let is_hash = hash_of(left) == hash_of(right);
+    in_each_way(&[left == right, right == left, is_hash])
 }
 
 // As elements, and as the nodes or tokens that they are.
@@ -64,10 +61,8 @@ fn form(s: &mut Session, words: &mut Words, out: &mut Answer) -> Done {
     let element = s.trees.element(words)?;
     let copy = element.try_clone(s.alloc)?;
     let whole = hash_of(&element);
-    let (node, token) = (
-        element.as_node().map(hash_of),
-        element.as_token().map(hash_of),
-    );
+    let node = element.as_node().map(hash_of);
+    let token = element.as_token().map(hash_of);
     let lent = form_of(node, token, whole);
     let node = element
         .into_node()
