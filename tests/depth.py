@@ -58,7 +58,7 @@ def questions(nesting, depth):
         f"text_start T/{leaf}": start,
         f"text_end T/{leaf}": start + 1,
         "text_len T": len(text),
-        "text T": f'"{text}"',
+        "element_text T": f'"{text}"',
         "display T": f'"{text}"',
         f"parent T/{leaf}": f"{lowest} BLOCK_EXPR",
         f"next_sibling_or_token T/{leaf}": after_leaf,
@@ -78,7 +78,7 @@ def questions(nesting, depth):
         "same_shape T U": "no",
         f"equal T/{leaf} T/{leaf}": "yes",
         f"equal T/{leaf} 8:T/{leaf}": "no",
-        f"clone_subtree T/{leaf}": '40 . LITERAL in slot 0, from 0, 1 bytes "3"',
+        f"clone_subtree T/{leaf}": 'ok "3" of 1',
     }
 
 

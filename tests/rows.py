@@ -20,7 +20,7 @@ def lines_of(group):
 
 
 def rows():
-    """Each row, with the lines of the trees that it names, if it is a question. Each group has a row or a tree."""
+    """Each row, with the lines of the trees that it names. Each group has a row or a tree."""
     trees = {}
     for group in groups():
         lines = lines_of(group)
@@ -31,7 +31,7 @@ def rows():
             if tree:
                 trees[tree.group(1)] = line
                 continue
-            words = set(re.split(r"[\s/:]+", line)) if line.startswith("? ") else set()
+            words = set(re.split(r"[\s/:]+", line))
             yield line, [trees[name] for name in sorted(words & trees.keys())]
 
 

@@ -1,32 +1,6 @@
+//! The lines of the table, and how far a file of it is read.
+
 use test_trees::first_word;
-
-/// What a row asks.
-#[derive(Clone, Copy)]
-pub enum Row<'a> {
-    /// `? QUESTION`: a question about a value that stands by itself.
-    Question(&'a str),
-    /// `WORDS: STEP ; STEP ; ..`: what is asked, in words, and the steps.
-    Steps(&'a str),
-}
-
-/// What a row says of its answer, or of those of its steps that are asked about.
-#[derive(Clone, Copy)]
-pub enum Wanted<'a> {
-    /// ` = ANSWER`: it is this one.
-    Answer(&'a str),
-    /// ` != ANSWER`: it is another one. Such a row fails where all answers are taken for equal.
-    Other(&'a str),
-}
-
-impl<'a> Wanted<'a> {
-    pub fn is_met(self, answer: &str) -> bool {
-        let (named, is_the_answer) = match self {
-            Wanted::Answer(wanted) => (wanted, true),
-            Wanted::Other(unwanted) => (unwanted, false),
-        };
-        (answer == named) == is_the_answer
-    }
-}
 
 /// A line of the table.
 #[derive(Clone, Copy)]
@@ -37,10 +11,11 @@ pub enum Line<'a> {
     Refused,
     /// `group NAME`: the lines of the file `NAME.rows`.
     Group(&'a str),
-    /// `tree NAME TREE`: a tree that the questions after it name.
-    Tree { name: &'a str, text: &'a str },
-    /// A row and what it says of its answer.
-    Row { row: Row<'a>, wanted: Wanted<'a> },
+    /// `tree NAME TREE`, with what stands after the first word: a tree that the rows after it name.
+    Tree(&'a str),
+    /// A row: the steps of `WORDS: STEP ; STEP ; ..` or `? STEP`, an answer, and whether it is theirs (` = ANSWER`), or
+    /// not (` != ANSWER`), so that the row fails where all answers are taken for equal.
+    Row(&'a str, &'a str, bool),
     /// `end`: the last line of a file, so that one that is cut off is noticed.
     End,
     Malformed,
@@ -49,47 +24,50 @@ pub enum Line<'a> {
 impl<'a> Line<'a> {
     /// What a line says. How it begins tells which form it has.
     pub fn read(line: &'a str) -> Line<'a> {
-        if line.is_empty() || line.starts_with('#') {
-            return Line::Blank;
+        match first_word(line) {
+            ("", _) => Line::Blank,
+            ("end", "") => Line::End,
+            ("growths", "are refused") => Line::Refused,
+            ("group", name) => Line::Group(name),
+            ("tree", tree) => Line::Tree(tree),
+            _ if line.starts_with('#') => Line::Blank,
+            _ => Line::read_row(line).unwrap_or(Line::Malformed),
         }
-        if line == "growths are refused" {
-            return Line::Refused;
-        }
-        if line == "end" {
-            return Line::End;
-        }
-        if let Some(name) = line.strip_prefix("group ") {
-            return Line::Group(name);
-        }
-        if let Some(tree) = line.strip_prefix("tree ") {
-            let (name, text) = first_word(tree);
-            return Line::Tree { name, text };
-        }
-        Line::read_row(line).unwrap_or(Line::Malformed)
     }
 
     fn read_row(line: &'a str) -> Option<Line<'a>> {
-        if let Some(text) = line.strip_prefix("? ") {
-            let (question, wanted) = split_wanted(text)?;
-            return Some(Line::Row {
-                row: Row::Question(question),
-                wanted,
-            });
-        }
-        let (_, text) = line.split_once(": ")?;
-        let (steps, wanted) = split_wanted(text)?;
-        Some(Line::Row {
-            row: Row::Steps(steps),
-            wanted,
-        })
+        let text = match line.strip_prefix("? ") {
+            Some(step) => step,
+            None => line.split_once(": ")?.1,
+        };
+        let (asked, answer) = text.split_once("= ")?;
+        let is_it = !asked.ends_with(" !");
+        let steps = asked.strip_suffix(if is_it { " " } else { " !" })?;
+        Some(Line::Row(steps, answer, is_it))
     }
 }
 
-// What is asked, and what a row says of its answer.
-fn split_wanted(row: &str) -> Option<(&str, Wanted<'_>)> {
-    let (asked, answer) = row.split_once("= ")?;
-    match asked.strip_suffix(" !") {
-        Some(asked) => Some((asked, Wanted::Other(answer))),
-        None => Some((asked.strip_suffix(' ')?, Wanted::Answer(answer))),
+/// How far a file of the table is read: whether it had a row, a tree or a group, and whether its end was there.
+#[derive(Clone, Copy, Default)]
+pub struct Part {
+    pub has_lines: bool,
+    pub is_ended: bool,
+}
+
+impl Part {
+    /// Notes the next line. If it may not stand there, this says why.
+    pub fn note(&mut self, line: &Line) -> Result<(), &'static str> {
+        if self.is_ended {
+            return Err("the file goes on after its end");
+        }
+        match line {
+            Line::Blank | Line::Refused => (),
+            Line::End => self.is_ended = true,
+            _ => self.has_lines = true,
+        }
+        if self.is_ended && !self.has_lines {
+            return Err("the file has no row");
+        }
+        Ok(())
     }
 }

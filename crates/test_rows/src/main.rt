@@ -1,39 +1,43 @@
-//! Goes through a table of rows, from standard input and from the files of its groups, and compares what each answers with what is expected.
-//! It prints a line for each row that answers otherwise, and for each answer that a call owes a row and has none.
+//! Goes through a table of rows, from standard input and from the files of its groups, and compares what each answers
+//! with what is expected. It prints a line for each row that answers otherwise, and for each answer that a call owes a
+//! row and has none.
 //!
 //! The head of the table (`stdin`, beside this folder) says how a line is written, and docs/ROWS.md how to add one.
 #![tactic(auto)]
 
-mod asked;
+mod calls;
+mod editors;
+mod elements;
+mod errors;
+mod greens;
+mod indents;
 mod line;
-mod part;
-mod report;
+mod making;
+mod plans;
+mod roots;
 mod row;
 mod run;
-mod table;
+mod runs;
+mod session;
+mod shown;
+mod standing;
+mod texts;
+mod values;
 
-use crate::report::REFUSED;
-use crate::run::Run;
+use crate::run::{REFUSED, Run};
 use std::io;
 use std::io::ErrorKind;
 use std::process::ExitCode;
-
-// Whether a line of the table was not read because memory ran out.
-fn is_memory(line: &io::Result<String>) -> bool {
-    match line {
-        Ok(_) => false,
-        Err(error) => error.kind() == ErrorKind::OutOfMemory,
-    }
-}
 
 fn main(rt: HostRuntime) -> io::Result<ExitCode> {
     let alloc = rt.alloc();
     let mut run = Run::new(alloc);
     for line in rt.lines(alloc) {
-        if is_memory(&line) {
+        // The line was not read because memory ran out.
+        if matches!(&line, Err(error) if error.kind() == ErrorKind::OutOfMemory) {
             return Ok(ExitCode::from(REFUSED));
         }
-        if !run.is_cut() {
+        if !run.is_cut {
             run.take_line(&rt, line?.as_str())?;
         }
     }

@@ -1,148 +1,93 @@
-//! What is asked in a row: a question, or steps in their order.
+//! A row: its steps in their order, and what those answer that are asked about. A question is a row of one step.
 
-use crate::line::Row;
-use crate::table::Table;
-use std::alloc::Global;
-use test_steps::{Session, Standing};
-use test_trees::{NoAnswer, Trees, first_word};
+use crate::calls::name_of;
+use crate::making;
+use crate::session::Session;
+use crate::shown::{Answer, Done, demand};
+use crate::standing::Standing;
+use test_trees::{NoAnswer, Words, first_word};
 
-// A question about a value that stands by itself, or a step of a session.
-#[derive(Clone, Copy)]
-enum Call<'a> {
-    Question(&'a str),
-    Step(&'a str),
-}
-
-/// Takes a row. What it answers stands in the session then.
-pub fn take_row(
-    alloc: Global,
-    table: &mut Table,
-    session: &mut Session,
-    row: Row,
-) -> Result<(), NoAnswer> {
-    match row {
-        Row::Question(question) => ask_question(alloc, table, session, question),
-        Row::Steps(steps) => take_steps(alloc, table, session, steps),
-    }
-}
-
-fn ask_question(
-    alloc: Global,
-    table: &Table,
-    session: &mut Session,
-    question: &str,
-) -> Result<(), NoAnswer> {
-    let answer = repeated_answer(alloc, &table.trees, session, Call::Question(question))?;
-    Ok(session.push_answer(&answer)?)
-}
-
-// The steps in their order. The last one and each after `?` is asked about.
-fn take_steps(
-    alloc: Global,
-    table: &mut Table,
-    session: &mut Session,
-    steps: &str,
-) -> Result<(), NoAnswer> {
+/// Takes the steps in their order. The last one and each after `?` is asked about.
+pub fn take(s: &mut Session, steps: &str) -> Done {
     let (before, last) = steps.rsplit_once(" ; ").unwrap_or(("", steps));
     for step in before.split(" ; ").filter(|step| !step.is_empty()) {
-        take(alloc, table, session, step)?;
+        match step.strip_prefix("? ") {
+            Some(step) => ask(s, step)?,
+            None => go_on(s, step)?,
+        }
     }
-    ask(
-        alloc,
-        table,
-        session,
-        last.strip_prefix("? ").unwrap_or(last),
-    )
+    ask(s, last.strip_prefix("? ").unwrap_or(last))
 }
 
-// A step that is asked about, one that may be refused, or one that must be done.
-fn take(
-    alloc: Global,
-    table: &mut Table,
-    session: &mut Session,
-    step: &str,
-) -> Result<(), NoAnswer> {
-    if let Some(step) = step.strip_prefix("? ") {
-        return ask(alloc, table, session, step);
-    }
+// A step that must be done, or one after `try `, which may be refused.
+fn go_on(s: &mut Session, step: &str) -> Done {
+    let mut answer = Answer::new(s.alloc);
     if let Some(step) = step.strip_prefix("try ") {
-        repeated_answer(alloc, &table.trees, session, Call::Step(step))?;
-        return Ok(());
+        return repeated(s, step, &mut answer);
     }
-    set_up(alloc, &table.trees, session, step)
-}
-
-fn set_up(alloc: Global, trees: &Trees, session: &mut Session, step: &str) -> Result<(), NoAnswer> {
-    if repeated_answer(alloc, trees, session, Call::Step(step))?.starts_with("ok") {
-        Ok(())
-    } else {
-        Err(NoAnswer::NotDone)
-    }
-}
-
-fn ask(
-    alloc: Global,
-    table: &mut Table,
-    session: &mut Session,
-    step: &str,
-) -> Result<(), NoAnswer> {
-    let answer = checked_answer(alloc, &table.trees, session, step)?;
-    session.push_answer(&answer)?;
-    let (call, _) = first_word(step);
-    table.asked.add(alloc, call, &answer)
+    repeated(s, step, &mut answer)?;
+    let is_done = answer.text.starts_with("ok");
+    demand(is_done, NoAnswer::Row("a step is refused"))
 }
 
 // A step that is not done leaves all as it was; if it does not, the answer says so.
-fn checked_answer(
-    alloc: Global,
-    trees: &Trees,
-    session: &mut Session,
-    step: &str,
-) -> Result<String, NoAnswer> {
-    let before = session.standing();
-    let mut answer = repeated_answer(alloc, trees, session, Call::Step(step))?;
-    if !answer.starts_with("ok") {
-        push_changed(&mut answer, &before, &session.standing())?;
+fn ask(s: &mut Session, step: &str) -> Done {
+    let before = s.standing();
+    let mut answer = Answer::new(s.alloc);
+    repeated(s, step, &mut answer)?;
+    if !answer.text.starts_with("ok") {
+        push_changed(&mut answer, &before, &s.standing())?;
     }
-    Ok(answer)
+    note(s, first_word(step).0, &answer.text)
 }
 
-fn push_changed(answer: &mut String, before: &Standing, after: &Standing) -> Result<(), NoAnswer> {
+fn push_changed(answer: &mut Answer, before: &Standing, after: &Standing) -> Done {
     if before.next != after.next {
-        answer.push_str(" and a number is drawn")?;
+        answer.word(" and a number is drawn")?;
     }
     if !before.is_kept_but_numbers(after) {
-        answer.push_str(" and something else is changed")?;
+        answer.word(" and something else is changed")?;
     }
     Ok(())
 }
 
-// Where the call is refused because memory ran out it is made once more, if all is there that it works on. So what is asked
-// after it shows that the refusal left all as it was.
-fn repeated_answer(
-    alloc: Global,
-    trees: &Trees,
-    session: &mut Session,
-    call: Call,
-) -> Result<String, NoAnswer> {
-    let before = session.standing();
-    match answer_to(alloc, trees, session, call) {
+// Notes the answer of a call that is asked about.
+fn note(s: &mut Session, call: &str, answer: &str) -> Done {
+    let before = if s.answers.is_empty() { "" } else { " ; " };
+    write!(s.answers, "{before}{answer}")?;
+    let pair = format!(in s.alloc; "{call} {}", first_word(answer).0)?;
+    Ok(s.asked.push(pair)?)
+}
+
+// Where the call is refused because memory ran out it is made once more, if all is there that it works on. So what is
+// asked after it shows that the refusal left all as it was.
+fn repeated(s: &mut Session, step: &str, answer: &mut Answer) -> Done {
+    let before = s.standing();
+    match answer_to(s, step, answer) {
         Err(NoAnswer::Refused(name)) => {
-            session.note_refusal(name, &before)?;
-            answer_to(alloc, trees, session, call)
+            s.note_refusal(name, &before)?;
+            answer_to(s, step, answer)
         }
-        answered => answered,
+        done => done,
     }
 }
 
-fn answer_to(
-    alloc: Global,
-    trees: &Trees,
-    session: &mut Session,
-    call: Call,
-) -> Result<String, NoAnswer> {
-    match call {
-        Call::Question(question) => test_questions::answer(alloc, trees, question),
-        Call::Step(step) => test_steps::answer(alloc, session, step),
+// A call that gives nothing answers `ok`, and one that is refused the name of the refusal, unless that is for want of
+// memory.
+fn answer_to(s: &mut Session, step: &str, answer: &mut Answer) -> Done {
+    answer.text.clear();
+    let mut words = Words::of(step);
+    let name = words.word()?;
+    match making::answer(s, name, &mut words, answer) {
+        Ok(()) => demand(words.is_empty(), NoAnswer::Arguments)?,
+        Err(NoAnswer::Refusal) if answer.text.as_str() == "Memory" => {
+            return Err(NoAnswer::Refused(name_of(name)));
+        }
+        Err(NoAnswer::Refusal) => return Ok(()),
+        Err(error) => return Err(error),
     }
+    if answer.text.is_empty() {
+        return answer.word("ok");
+    }
+    Ok(())
 }

@@ -1,124 +1,165 @@
-//! A run of the table, line by line.
+//! A run of the table, line by line, and what went wrong.
 
-use crate::line::{Line, Row, Wanted};
-use crate::part::Part;
-use crate::report::Report;
-use crate::row::take_row;
-use crate::table::Table;
+use crate::calls::print_missing;
+use crate::line::{Line, Part};
+use crate::row;
+use crate::session::Session;
+use crate::shown::Done;
 use std::alloc::Global;
+use std::fmt::Display;
+use std::mem::replace;
 use std::process::ExitCode;
 use std::rt::Files;
 use std::{fs, io};
-use test_steps::Session;
+use test_trees::{NoAnswer, first_word};
+
+/// The exit status where each row is answered as expected, but for one that ended because memory ran out.
+pub const REFUSED: u8 = 3;
+
+type Said = io::Result<()>;
 
 /// What the lines of the table defined and asked about so far, and what went wrong.
 #[derive(Drop)]
 pub struct Run {
-    alloc: Global,
-    table: Table,
-    report: Report,
+    session: Session,
     // Of the table itself; each group has its own.
     part: Part,
+    /// Whether a row or a tree ended because memory ran out, so that the rows after it may lack a tree.
+    pub is_cut: bool,
+    // Whether the table is a part of one, run with growths refused.
+    is_partial: bool,
+    // How many lines went wrong.
+    wrong: u32,
 }
 
 impl Run {
     pub fn new(alloc: Global) -> Run {
         Run {
-            alloc,
-            table: Table::new(alloc),
-            report: Report::new(),
-            part: Part::new(),
+            session: Session::new(alloc),
+            part: Part::default(),
+            is_cut: false,
+            is_partial: false,
+            wrong: 0,
         }
-    }
-
-    /// Whether a row or a tree ended because memory ran out, so that the rows after it may lack a tree.
-    pub fn is_cut(&self) -> bool {
-        self.report.is_cut()
     }
 
     /// Takes a line of the table, with all lines of the group that it names.
-    pub fn take_line<R: Print + Files + AllocGlobal>(
-        &mut self,
-        rt: &R,
-        text: &str,
-    ) -> io::Result<()> {
+    pub fn take_line<R: Print + Files + AllocGlobal>(&mut self, rt: &R, text: &str) -> Said {
         let line = Line::read(text);
         if let Err(why) = self.part.note(&line) {
-            return self.report.note_wrong(rt, text, why);
+            return self.note_wrong(rt, text, why);
         }
         match line {
-            Line::Group(name) => self.take_group(rt, text, name),
+            Line::Group(name) => self.load(rt, text, name),
             _ => self.take(rt, text, line),
         }
     }
 
-    /// Says what came of the whole table.
-    pub fn close<R: Print>(&mut self, rt: &R) -> io::Result<ExitCode> {
-        self.report.note_end_of(rt, "the table", self.part)?;
-        self.report.close(rt, &self.table.asked)
-    }
-
-    fn take_group<R: Print + Files + AllocGlobal>(
-        &mut self,
-        rt: &R,
-        text: &str,
-        name: &str,
-    ) -> io::Result<()> {
-        let file = format!(in self.alloc; "{name}.rows")?;
+    fn load<R: Print + Files + AllocGlobal>(&mut self, rt: &R, text: &str, name: &str) -> Said {
+        let file = format!(in self.session.alloc; "{name}.rows")?;
         match fs::read_to_string(rt, file.as_str()) {
             Ok(lines) => self.take_lines(rt, name, lines.as_str()),
-            Err(error) => self.report.note_wrong(rt, text, error),
+            Err(error) => self.note_wrong(rt, text, error),
         }
     }
 
-    fn take_lines<R: Print>(&mut self, rt: &R, name: &str, lines: &str) -> io::Result<()> {
-        let wrong_before = self.report.wrong();
-        let mut part = Part::new();
+    // Says that no line of a group went wrong, where that is so.
+    fn take_lines<R: Print>(&mut self, rt: &R, name: &str, lines: &str) -> Said {
+        let wrong_before = self.wrong;
+        let mut part = Part::default();
         for text in lines.lines() {
             let line = Line::read(text);
             match part.note(&line) {
                 Ok(()) => self.take(rt, text, line)?,
-                Err(why) => self.report.note_wrong(rt, text, why)?,
+                Err(why) => self.note_wrong(rt, text, why)?,
             }
         }
-        self.report.note_end_of(rt, name, part)?;
-        self.report.note_group(rt, name, wrong_before)
+        self.note_end_of(rt, name, part)?;
+        if self.wrong == wrong_before {
+            println!(rt; "{name}: as expected")?;
+        }
+        Ok(())
     }
 
     // Takes a line but for those of a group that it names.
-    fn take<R: Print>(&mut self, rt: &R, text: &str, line: Line) -> io::Result<()> {
+    fn take<R: Print>(&mut self, rt: &R, text: &str, line: Line) -> Said {
         match line {
             Line::Blank | Line::End => Ok(()),
             Line::Refused => {
-                self.report.is_partial = true;
+                self.is_partial = true;
                 Ok(())
             }
-            Line::Tree { name, text: tree } => {
-                match self.table.trees.define(self.alloc, name, tree) {
-                    Ok(()) => Ok(()),
-                    Err(reason) => self.report.note_end(rt, text, reason),
-                }
+            Line::Tree(tree) => {
+                let (name, tree) = first_word(tree);
+                let alloc = self.session.alloc;
+                let done = self.session.trees.defined.define(alloc, name, tree);
+                self.note_end(rt, text, done)
             }
-            Line::Row { row, wanted } => self.answer_row(rt, text, row, wanted),
-            Line::Group(_) => self.report.note_wrong(rt, text, "a group names a group"),
-            Line::Malformed => self.report.note_wrong(rt, text, "the line is malformed"),
+            Line::Row(steps, answer, is_it) => {
+                let done = self.take_steps(rt, steps)?;
+                if done.is_ok() && (self.session.answers.as_str() == answer) != is_it {
+                    let nothing = String::new(self.session.alloc);
+                    let answers = replace(&mut self.session.answers, nothing);
+                    return self.note_wrong(rt, text, answers);
+                }
+                self.note_end(rt, text, done)
+            }
+            Line::Group(_) => self.note_wrong(rt, text, "a group names a group"),
+            Line::Malformed => self.note_wrong(rt, text, "the line is malformed"),
         }
     }
 
-    // Takes a row in a session of its own. What it answers, or why there is no answer, is compared with what is wanted.
-    fn answer_row<R: Print>(
-        &mut self,
-        rt: &R,
-        text: &str,
-        row: Row,
-        wanted: Wanted,
-    ) -> io::Result<()> {
-        let mut session = Session::new(self.alloc);
-        let taken = take_row(self.alloc, &mut self.table, &mut session, row);
-        self.report.note_refusal(rt, session.refused)?;
-        match taken {
-            Ok(()) => self.report.note(rt, text, &session.answers, wanted),
-            Err(reason) => self.report.note_end(rt, text, reason),
+    // Takes the steps of a row, and says which call was refused.
+    fn take_steps<R: Print>(&mut self, rt: &R, steps: &str) -> io::Result<Done> {
+        self.session.clear();
+        let done = row::take(&mut self.session, steps);
+        if let Some(call) = self.session.refused {
+            println!(rt; "Memory: {call}")?;
         }
+        Ok(done)
+    }
+
+    // Notes a row, or a tree, that ended because memory ran out, or for another reason, which goes wrong.
+    fn note_end<R: Print>(&mut self, rt: &R, line: &str, done: Done) -> Said {
+        match done {
+            Ok(()) => Ok(()),
+            Err(NoAnswer::Memory) => {
+                self.is_cut = true;
+                Ok(())
+            }
+            Err(reason) => self.note_wrong(rt, line, reason),
+        }
+    }
+
+    // Counts a line that goes wrong, and prints it and why.
+    fn note_wrong<R: Print, D: Display + Drop>(&mut self, rt: &R, line: &str, why: D) -> Said {
+        self.wrong = self.wrong.saturating_add(1);
+        println!(rt; "{line}\n    but: {why}")
+    }
+
+    // What was read of a file goes wrong where its end is not there, unless memory ran out before it.
+    fn note_end_of<R: Print>(&mut self, rt: &R, file: &str, part: Part) -> Said {
+        if part.is_ended || self.is_cut {
+            return Ok(());
+        }
+        self.note_wrong(rt, file, "its last line is not `end`")
+    }
+
+    /// Prints how many owed pairs have a row and whether all rows answered as expected, and says whether both is so.
+    pub fn close<R: Print>(&mut self, rt: &R) -> io::Result<ExitCode> {
+        self.note_end_of(rt, "the table", self.part)?;
+        let mut lacks = 0;
+        if !self.is_partial {
+            lacks = print_missing(rt, &self.session.asked)?;
+            match self.wrong {
+                0 => println!(rt; "all rows answer as expected")?,
+                wrong => println!(rt; "{wrong} lines of the table are wrong")?,
+            }
+        }
+        Ok(match (self.wrong, lacks) {
+            (0, 0) if self.is_cut => ExitCode::from(REFUSED),
+            (0, 0) => ExitCode::SUCCESS,
+            _ => ExitCode::FAILURE,
+        })
     }
 }

@@ -1,88 +1,61 @@
-use crate::row_error::RowError;
+//! Why there is no answer.
+
 use cst_core::TreeError;
 use std::alloc::{AllocError, AllocFailed};
-use std::fmt;
+use thiserror::Error;
+use tree_text::ExpressionError;
 
-/// Why a row of a table has no answer.
-#[derive(Clone, Copy)]
+/// Why a row of a table has no answer, or which refusal is its answer.
+#[derive(Clone, Copy, Debug, Error)]
 pub enum NoAnswer {
-    /// No question and no step has this name.
-    UnknownName,
-    /// There are too few words, too many, or a word that means nothing there.
+    /// The row asks for what is not there: this.
+    #[error("{0}")]
+    Row(&'static str),
+    #[error("there are too few words, too many, or one that means nothing there")]
     Arguments,
-    /// No element stands there.
-    Nowhere,
-    /// A node or a token stands where the other was asked for.
+    #[error("a node or a token stands where the other was asked for")]
     Form,
-    /// An element is of another tree.
-    OtherTree,
-    /// What a step works on is not there: this.
-    Missing(&'static str),
-    /// A step that is not asked about was refused.
-    NotDone,
-    /// The call of this name that is asked about was refused because memory ran out.
+    /// It was refused to what asks, and to no call that is asked about.
+    #[error("Memory")]
+    Memory,
+    /// The call that is asked about is refused, and its refusal is written. If memory is there, that is the answer.
+    #[error("a call is refused")]
+    Refusal,
+    /// The call of this name is asked about.
+    #[error("{0} is refused for want of memory")]
     Refused(&'static str),
-    /// It was refused so, and left something else than before.
-    Changed,
-    /// There is no tree. Where that is for want of memory, memory was refused to what asks, and to no call that is asked about.
-    Tree(RowError),
-}
-
-impl NoAnswer {
-    /// Whether it is want of memory in what asks, and in no call that is asked about.
-    pub fn is_memory(self) -> bool {
-        match self {
-            NoAnswer::Tree(error) => error.is_memory(),
-            _ => false,
-        }
-    }
-
-    // Of a refused call its name alone.
-    fn reason(self) -> &'static str {
-        match self {
-            NoAnswer::UnknownName => "nothing that is asked has this name",
-            NoAnswer::Arguments => "other arguments are wanted",
-            NoAnswer::Nowhere => "no element stands there",
-            NoAnswer::Form => "a node or a token where the other was asked for",
-            NoAnswer::OtherTree => "an element of another tree",
-            NoAnswer::Missing(what) => what,
-            NoAnswer::NotDone => "a step that is not asked about is refused",
-            NoAnswer::Refused(call) => call,
-            NoAnswer::Changed => "the refused call changed what it works on",
-            NoAnswer::Tree(error) => error.name(),
-        }
-    }
-}
-
-impl fmt::Display for NoAnswer {
-    fn fmt<W: fmt::Write>(&self, f: &mut fmt::Formatter<W>) -> fmt::Result {
-        if let NoAnswer::Refused(call) = self {
-            return write!(f, "{call} is refused for want of memory");
-        }
-        f.write_str(self.reason())
-    }
-}
-
-impl From<RowError> for NoAnswer {
-    fn from(error: RowError) -> NoAnswer {
-        NoAnswer::Tree(error)
-    }
 }
 
 impl From<TreeError> for NoAnswer {
     fn from(error: TreeError) -> NoAnswer {
-        NoAnswer::Tree(RowError::from(error))
+        match error {
+            TreeError::TooLong => NoAnswer::Row("TooLong"),
+            TreeError::NoTreeNumber => NoAnswer::Row("NoTreeNumber"),
+            TreeError::Memory => NoAnswer::Memory,
+        }
+    }
+}
+
+impl From<ExpressionError> for NoAnswer {
+    fn from(error: ExpressionError) -> NoAnswer {
+        match error {
+            ExpressionError::Malformed { .. } => NoAnswer::Row("Malformed"),
+            ExpressionError::UnknownKind { .. } => NoAnswer::Row("UnknownKind"),
+            ExpressionError::TooDeep { .. } => NoAnswer::Row("TooDeep"),
+            ExpressionError::Tree(error) => NoAnswer::from(error),
+            ExpressionError::Memory => NoAnswer::Memory,
+        }
     }
 }
 
 impl From<AllocError> for NoAnswer {
     fn from(_: AllocError) -> NoAnswer {
-        NoAnswer::Tree(RowError::Memory)
+        NoAnswer::Memory
     }
 }
 
 impl<T: Drop> From<AllocFailed<T>> for NoAnswer {
     fn from(_: AllocFailed<T>) -> NoAnswer {
-        NoAnswer::Tree(RowError::Memory)
+        NoAnswer::Memory
     }
 }

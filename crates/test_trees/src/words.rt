@@ -1,19 +1,20 @@
-//! The words that rows of tests are written in.
+//! The words that rows of tests are written in, and how paths and texts are written in answers.
 
 use crate::no_answer::NoAnswer;
 use std::alloc::{AllocError, Global};
+use std::str::FromStr;
+use tree_text::push_escaped;
 
 /// What is left of a text. Any number of spaces may stand between its words.
-#[derive(Drop)]
+#[derive(Clone, Copy)]
 pub struct Words<'a> {
     rest: &'a str,
 }
 
 impl<'a> Words<'a> {
     pub fn of(text: &'a str) -> Words<'a> {
-        Words {
-            rest: text.trim_start_matches(' '),
-        }
+        let rest = text.trim_start_matches(' ');
+        Words { rest }
     }
 
     /// The next word, if there is one.
@@ -32,27 +33,11 @@ impl<'a> Words<'a> {
     }
 
     /// The next word as a number.
-    pub fn number(&mut self) -> Result<u64, NoAnswer> {
+    pub fn number<T: FromStr>(&mut self) -> Result<T, NoAnswer>
+    where
+        T::Err: Drop,
+    {
         number_of(self.word()?)
-    }
-
-    /// The next word as a number of elements, or as a slot.
-    pub fn count(&mut self) -> Result<usize, NoAnswer> {
-        count_of(self.word()?)
-    }
-
-    /// All words that are left as such numbers.
-    pub fn counts(&mut self, alloc: Global) -> Result<Vec<usize>, NoAnswer> {
-        let mut counts = Vec::new(alloc);
-        for word in self.take_rest().split(' ').filter(|word| !word.is_empty()) {
-            counts.push(count_of(word)?)?;
-        }
-        Ok(counts)
-    }
-
-    /// The next word as a level.
-    pub fn level(&mut self) -> Result<u8, NoAnswer> {
-        self.word()?.parse::<u8>().ok().ok_or(NoAnswer::Arguments)
     }
 
     /// All that is left, as it stands.
@@ -62,13 +47,9 @@ impl<'a> Words<'a> {
         rest
     }
 
-    /// That nothing is left.
-    pub fn end(&self) -> Result<(), NoAnswer> {
-        if self.rest.is_empty() {
-            Ok(())
-        } else {
-            Err(NoAnswer::Arguments)
-        }
+    /// Whether nothing is left.
+    pub fn is_empty(&self) -> bool {
+        self.rest.is_empty()
     }
 }
 
@@ -78,32 +59,24 @@ pub fn first_word(text: &str) -> (&str, &str) {
 }
 
 /// A number in decimal digits.
-pub fn number_of(digits: &str) -> Result<u64, NoAnswer> {
-    digits.parse::<u64>().ok().ok_or(NoAnswer::Arguments)
-}
-
-fn count_of(digits: &str) -> Result<usize, NoAnswer> {
-    digits.parse::<usize>().ok().ok_or(NoAnswer::Arguments)
+pub fn number_of<T: FromStr>(digits: &str) -> Result<T, NoAnswer>
+where
+    T::Err: Drop,
+{
+    digits.parse::<T>().ok().ok_or(NoAnswer::Arguments)
 }
 
 /// The slots of a path, as `1/0`; those of a root are `.`, and `1x5000` is slot 1 so many times.
 pub fn slots_of(alloc: Global, path: &str) -> Result<Vec<usize>, NoAnswer> {
     let mut slots = Vec::new(alloc);
-    if path == "." {
-        return Ok(slots);
-    }
-    for part in path.split('/') {
+    for part in path.split('/').filter(|part| *part != ".") {
         let (digits, times) = part.split_once('x').unwrap_or((part, "1"));
-        push_times(&mut slots, count_of(digits)?, count_of(times)?)?;
+        let slot = number_of(digits)?;
+        for _ in 0..number_of::<usize>(times)? {
+            slots.push(slot)?;
+        }
     }
     Ok(slots)
-}
-
-fn push_times(slots: &mut Vec<usize>, slot: usize, times: usize) -> Result<(), AllocError> {
-    for _ in 0..times {
-        slots.push(slot)?;
-    }
-    Ok(())
 }
 
 /// The name of a tree and the path in it, as of `L/1/0`; that of `L` is `.`.
@@ -111,8 +84,42 @@ pub fn name_and_path(reference: &str) -> (&str, &str) {
     reference.split_once('/').unwrap_or((reference, "."))
 }
 
-/// What has this name in a table.
-pub fn find_named<'a, T>(table: &'a [(&str, T)], name: &str) -> Option<&'a T> {
-    let (_, named) = table.iter().find(|(own, _)| *own == name)?;
-    Some(named)
+// So many slots that are the same are written as their number.
+const MANY: usize = 100;
+
+/// The slots of a path with `/` between them; that of a root is `.`. A slot that comes a hundred times or more is
+/// written once, with the number of times, as `1x5000`.
+pub fn push_path(out: &mut String, path: &[usize]) -> Result<(), AllocError> {
+    if path.is_empty() {
+        return out.push('.');
+    }
+    for (number, run) in path.chunk_by(|one, next| one == next).enumerate() {
+        if number > 0 {
+            out.push('/')?;
+        }
+        push_run(out, run)?;
+    }
+    Ok(())
+}
+
+// Slots that are the same.
+fn push_run(out: &mut String, run: &[usize]) -> Result<(), AllocError> {
+    let Some((slot, others)) = run.split_first() else {
+        return Ok(());
+    };
+    write!(out, "{slot}")?;
+    if run.len() >= MANY {
+        return write!(out, "x{}", run.len());
+    }
+    for _ in others {
+        write!(out, "/{slot}")?;
+    }
+    Ok(())
+}
+
+/// A text between quotes, with its escapes.
+pub fn push_quoted(out: &mut String, text: &str) -> Result<(), AllocError> {
+    out.push('"')?;
+    push_escaped(out, text)?;
+    out.push('"')
 }

@@ -1,19 +1,16 @@
-//! Which answers each call owes a row.
+//! The calls that rows ask about: each by its name in a row, with its name in the sources and the answers that it
+//! owes.
 //!
-//! No row is owed where a text of 2^32 bytes would have to be made: `GreenToken::new`, `whitespace` and `token` that are too long.
-//! `dedent` and `reset_indent` make no text longer, so they have no row that is.
+//! No row is owed where a text of 2^32 bytes would have to be made: `GreenToken::new`, `whitespace` and `token` that
+//! are too long. `dedent` and `reset_indent` make no text longer, so they have no row that is. Questions owe no
+//! answers, and name their calls beside them.
 
-/// A call as a row has it, its name in the sources, and what it can answer where memory is there: that it is done, and each refusal
-/// by its name, with a space between them.
-#[derive(Clone, Copy)]
-pub struct Owed<'a> {
-    pub call: &'a str,
-    pub name: &'a str,
-    pub answers: &'a str,
-}
+use std::io;
 
-// A line for each call. One text, since each reference that a constant holds makes the proof of what reads it longer.
-const OWED: &str = r#"new_root SyntaxNode::new_root ok TooLong NoTreeNumber
+/// A line for each call: its name in a row, its name in the sources, and what it can answer where memory is there, that
+/// it is done and each refusal by its name. One text, since each reference that a constant holds makes the proof of
+/// what reads it longer.
+pub const OWED: &str = r#"new_root SyntaxNode::new_root ok TooLong NoTreeNumber
 clone_subtree SyntaxNode::clone_subtree ok NoTreeNumber
 green_node GreenNode::new ok TooLong
 capped GreenNode::capped ok
@@ -88,36 +85,40 @@ dedent AstNodeEdit::dedent ok NoTreeNumber
 reset_indent AstNodeEdit::reset_indent ok LevelTooLarge NoTreeNumber
 indent_with_mapping AstNodeEdit::indent_with_mapping ok TooLong NoTreeNumber NotYounger"#;
 
-impl<'a> Owed<'a> {
-    /// What a line of the table says.
-    pub fn read(line: &'a str) -> Option<Owed<'a>> {
-        let (call, rest) = line.split_once(' ')?;
-        let (name, answers) = rest.split_once(' ')?;
-        Some(Owed {
-            call,
-            name,
-            answers,
-        })
-    }
-}
-
-/// A line for each call that owes rows.
-pub fn owed_lines() -> &'static str {
-    OWED
-}
-
-// The name in the sources of a call that has one of these lines.
-fn name_in(lines: &'static str, call: &str) -> Option<&'static str> {
-    for line in lines.lines() {
-        match Owed::read(line) {
-            Some(owed) if owed.call == call => return Some(owed.name),
-            _ => (),
-        }
-    }
-    None
+// The name of a call in a row, its name in the sources, and its answers.
+fn parts(line: &str) -> Option<(&str, &str, &str)> {
+    let (call, rest) = line.split_once(' ')?;
+    let (name, answers) = rest.split_once(' ')?;
+    Some((call, name, answers))
 }
 
 /// The name in the sources of a call that owes rows.
 pub fn name_of(call: &str) -> &'static str {
-    name_in(owed_lines(), call).unwrap_or("a call that owes no row")
+    let owed = OWED.lines().filter_map(parts).find(|owed| owed.0 == call);
+    owed.map_or("a call that owes no row", |owed| owed.1)
+}
+
+// Whether one of these pairs, as `CALL ANSWER`, is this one.
+fn has(pairs: &[String], call: &str, answer: &str) -> bool {
+    pairs
+        .iter()
+        .any(|pair| pair.split_once(' ') == Some((call, answer)))
+}
+
+/// Prints each owed pair that has no row, and how many have one. Gives the number of those that have none.
+pub fn print_missing<R: Print>(rt: &R, pairs: &[String]) -> io::Result<u32> {
+    let mut all = 0_u32;
+    let mut lacks = 0_u32;
+    for (call, _, answers) in OWED.lines().filter_map(parts) {
+        for answer in answers.split(' ') {
+            all = all.saturating_add(1);
+            if !has(pairs, call, answer) {
+                lacks = lacks.saturating_add(1);
+                println!(rt; "no row: {call} answers {answer}")?;
+            }
+        }
+    }
+    let have = all.saturating_sub(lacks);
+    println!(rt; "{have} of {all} owed pairs of a call and its answer have a row")?;
+    Ok(lacks)
 }

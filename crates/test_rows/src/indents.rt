@@ -1,0 +1,124 @@
+//! Levels of indentation, and trees that are indented and dedented.
+
+use crate::greens;
+use crate::making::factory;
+use crate::roots::typed;
+use crate::session::{CHANGED, Session};
+use crate::shown::{Answer, Done, demand};
+use cst_core::AstNode;
+use cst_core::ast::{BlockExpr, StmtList};
+use syntax_editor::{AstNodeEdit, IndentError, IndentLevel, SyntaxFactory, indent};
+use test_trees::{NoAnswer, Words};
+
+/// Takes the step of this name, or passes on what is none of these.
+pub fn answer(s: &mut Session, name: &str, words: &mut Words, out: &mut Answer) -> Done {
+    match name {
+        "from_element" => {
+            let element = s.trees.element(words)?;
+            level(IndentLevel::from_element(s.alloc, &element), out)
+        }
+        "from_node" => level(IndentLevel::from_node(s.alloc, &s.trees.node(words)?), out),
+        "from_token" => {
+            let token = s.trees.token(words)?;
+            level(IndentLevel::from_token(s.alloc, &token), out)
+        }
+        "indent_level" => level(
+            typed::<BlockExpr>(s.trees.node(words)?)?.indent_level(s.alloc),
+            out,
+        ),
+        "is_zero" => out.truth(read_level(words)?.is_zero()),
+        "sum" => sum(words, out),
+        "print" => print(words, out),
+        "free_indent" => free_indent(s, words, out),
+        "indent" => typed_indent(s, words, out),
+        "dedent" => dedent(s, words, out),
+        "reset_indent" => reset_indent(s, words, out),
+        "indent_with_mapping" => indent_with_mapping(s, words, out),
+        _ => greens::answer(s, name, words, out),
+    }
+}
+
+fn read_level(words: &mut Words) -> Result<IndentLevel, NoAnswer> {
+    Ok(IndentLevel(words.number()?))
+}
+
+fn level(called: Result<IndentLevel, IndentError>, out: &mut Answer) -> Done {
+    let level = out.asked(called)?;
+    out.given(&u64::from(level.0))
+}
+
+// Whether no indentation, and first one level more, then another one, is the third level.
+fn sum(words: &mut Words, out: &mut Answer) -> Done {
+    let first = words.number::<u8>()?;
+    let second = words.number()?;
+    if first.checked_add(second).is_none() {
+        return out.word("none");
+    }
+    let mut level = IndentLevel::zero() + first;
+    level += second;
+    out.truth(level == IndentLevel::from(words.number::<u8>()?))
+}
+
+// A level as it prints: as it is, and in a width of 14, 13 and 14, at the right end, the left end and in the middle.
+fn print(words: &mut Words, out: &mut Answer) -> Done {
+    let level = read_level(words)?;
+    Ok(write!(
+        out.text,
+        "[{level}] [{level:*>14}] [{level:*<13}] [{level:*^14}]"
+    )?)
+}
+
+fn free_indent(s: &mut Session, words: &mut Words, out: &mut Answer) -> Done {
+    let node = s.trees.node(words)?;
+    let node = out.asked(indent(s.alloc, &node, &mut s.ids, read_level(words)?))?;
+    out.root(&node)
+}
+
+// A new tree with this typed node as its root.
+fn typed_root<N: AstNode>(called: Result<N, IndentError>, out: &mut Answer) -> Done {
+    let node = out.asked(called)?;
+    out.root(node.syntax())
+}
+
+fn typed_indent(s: &mut Session, words: &mut Words, out: &mut Answer) -> Done {
+    let block = typed::<BlockExpr>(s.trees.node(words)?)?;
+    typed_root(block.indent(s.alloc, &mut s.ids, read_level(words)?), out)
+}
+
+// Of a list of statements, or of a block.
+fn dedent(s: &mut Session, words: &mut Words, out: &mut Answer) -> Done {
+    let node = s.trees.node(words)?;
+    let level = read_level(words)?;
+    if StmtList::can_cast(node.kind()) {
+        let list = typed::<StmtList>(node)?;
+        return typed_root(list.dedent(s.alloc, &mut s.ids, level), out);
+    }
+    let block = typed::<BlockExpr>(node)?;
+    typed_root(block.dedent(s.alloc, &mut s.ids, level), out)
+}
+
+fn reset_indent(s: &mut Session, words: &mut Words, out: &mut Answer) -> Done {
+    let block = typed::<BlockExpr>(s.trees.node(words)?)?;
+    typed_root(block.reset_indent(s.alloc, &mut s.ids), out)
+}
+
+// By a factory, whose mapping is the last one from then on, whatever the call answers but want of memory, which leaves
+// the mapping empty. The new block goes by the name `it`.
+fn indent_with_mapping(s: &mut Session, words: &mut Words, out: &mut Answer) -> Done {
+    let block = typed::<BlockExpr>(s.trees.node(words)?)?;
+    let level = read_level(words)?;
+    let mut factory = factory(s.alloc, words)?;
+    let called = block.indent_with_mapping(s.alloc, &mut s.ids, level, &mut factory);
+    keep_mapping(s, &mut factory, matches!(&called, Err(IndentError::Memory)))?;
+    let block = out.asked(called)?;
+    s.trees.add("it", block.syntax().try_clone(s.alloc)?)?;
+    out.root(block.syntax())
+}
+
+fn keep_mapping(s: &mut Session, factory: &mut SyntaxFactory, is_memory: bool) -> Done {
+    match factory.mappings() {
+        None => Ok(()),
+        Some(mapping) if is_memory => demand(mapping.len() == 0, CHANGED),
+        Some(mapping) => Ok(s.mappings.push(mapping.try_clone(s.alloc)?)?),
+    }
+}

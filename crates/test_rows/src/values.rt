@@ -1,0 +1,147 @@
+//! Equality, hash and form of element values, the shape of nodes, and typed nodes through their traits.
+ghost use Rattle.std.specs.Prelude.{◌≡◌, IsTrue, IfOk};
+ghost use Rattle.cst_core.specs.Tree.{label};
+ghost use Rattle.cst_core.specs.Element.{subtree};
+
+use crate::session::Session;
+use crate::shown::{Answer, Done, kind_name};
+use crate::standing::hash_of;
+use crate::{elements, errors};
+use cst_core::ast::{BlockExpr, Fn, LetStmt, StmtList};
+use cst_core::{AstNode, HasAttrs, SyntaxElement, SyntaxNode, same_shape};
+use std::alloc::{AllocError, Global};
+use std::hash::Hash;
+use test_trees::Words;
+
+/// `equal ELEMENT ELEMENT`, `form ELEMENT`, `same_shape NODE NODE` or `views NODE`; what is none of these is of an
+/// error or of an element.
+pub fn answer(s: &mut Session, name: &str, words: &mut Words, out: &mut Answer) -> Done {
+    match name {
+        "equal" => equal(s, words, out),
+        "form" => form(s, words, out),
+        "same_shape" => shape(s, words, out),
+        "views" => views(s, words, out),
+        _ if name.ends_with("error") => errors::answer(name, words, out),
+        _ => elements::answer(s, name, words, out),
+    }
+}
+
+// Whether something holds in each way to ask.
+fn in_each_way(ways: &[bool]) -> &'static str {
+    if ways.iter().all(|holds| *holds) {
+        "yes"
+    } else if ways.iter().any(|holds| *holds) {
+        "in one way and not in another"
+    } else {
+        "no"
+    }
+}
+
+// By `==` both ways, and by the hash, which differs where these values do.
+fn compare<T: Hash>(left: &T, right: &T) -> &'static str {
+    let is_hash = hash_of(left) == hash_of(right);
+    in_each_way(&[left == right, right == left, is_hash])
+}
+
+// As elements, and as the nodes or tokens that they are.
+fn equal(s: &mut Session, words: &mut Words, out: &mut Answer) -> Done {
+    let left = s.trees.element(words)?;
+    let right = s.trees.element(words)?;
+    let by_form = match (&left, &right) {
+        (SyntaxElement::Node(left), SyntaxElement::Node(right)) => compare(left, right),
+        (SyntaxElement::Token(left), SyntaxElement::Token(right)) => compare(left, right),
+        _ => "no",
+    };
+    let own = compare(&left, &right);
+    out.word(if own == by_form { own } else { "in one form" })
+}
+
+// By the node or token that is lent, and by the one that is taken, and put back.
+fn form(s: &mut Session, words: &mut Words, out: &mut Answer) -> Done {
+    let element = s.trees.element(words)?;
+    let copy = element.try_clone(s.alloc)?;
+    let whole = hash_of(&element);
+    let node = element.as_node().map(hash_of);
+    let token = element.as_token().map(hash_of);
+    let lent = form_of(node, token, whole);
+    let node = element
+        .into_node()
+        .map(|it| hash_of(&SyntaxElement::from(it)));
+    let token = copy
+        .into_token()
+        .map(|it| hash_of(&SyntaxElement::from(it)));
+    let is_same = form_of(node, token, whole) == lent;
+    out.word(if is_same { lent } else { "lent and not taken" })
+}
+
+// The form of an element with this hash, by those of the node and of the token that it is.
+fn form_of(node: Option<u64>, token: Option<u64>, whole: u64) -> &'static str {
+    match (node, token) {
+        (Some(own), None) if own == whole => "node",
+        (None, Some(own)) if own == whole => "token",
+        _ => "both or none",
+    }
+}
+
+fn shape(s: &mut Session, words: &mut Words, out: &mut Answer) -> Done {
+    let left = s.trees.node(words)?;
+    let right = s.trees.node(words)?;
+    out.word(in_each_way(&[same_shape(&left, &right), same_shape(&right, &left)]))
+}
+
+// The kinds of the node's views as BlockExpr, as StmtList, as LetStmt and as Fn
+fn views(s: &mut Session, words: &mut Words, out: &mut Answer) -> Done {
+    let node = s.trees.node(words)?;
+    view_name::<BlockExpr>(s.alloc, &node, out)?;
+    view_name::<StmtList>(s.alloc, &node, out)?;
+    attributed_name::<LetStmt>(s.alloc, &node, out)?;
+    attributed_name::<Fn>(s.alloc, &node, out)
+}
+
+// What a function over any typed node knows from the trait alone.
+
+fn view_if_castable<T: AstNode>(node: SyntaxNode) -> Option<T> {
+    if T::can_cast(node.kind()) {
+        Some(T::cast(node).unwrap())
+    } else {
+        None
+    }
+}
+
+fn can_cast_again<T: AstNode>(view: &T) -> bool
+    ensures { IsTrue result }
+{
+    T::can_cast(view.syntax().kind())
+}
+
+fn view_again<T: AstNode>(alloc: Global, view: T) -> Result<T, AllocError>
+    ensures { IfOk result (λ t. T.syntax_node t ≡ T.syntax_node view) }
+{
+    let node = view.syntax().try_clone(alloc)?;
+    Ok(T::cast(node).unwrap())
+}
+
+// The name of the kind of the node's view, `none` where there is none, after a space.
+fn view_name<T: AstNode>(alloc: Global, node: &SyntaxNode, out: &mut Answer) -> Done {
+    let space = if out.text.is_empty() { "" } else { " " };
+    out.word(space)?;
+    let Some(typed) = view_if_castable::<T>(node.try_clone(alloc)?) else {
+        let is_view = T::cast(node.try_clone(alloc)?).is_some();
+        return out.word(if is_view {
+            "a view of a kind that has none"
+        } else {
+            "none"
+        });
+    };
+    let again = view_again(alloc, typed)?;
+    let is_same = can_cast_again(&again) && again.syntax() == node;
+    out.word(if is_same {
+        kind_name(node.kind())
+    } else {
+        "a view of another node"
+    })
+}
+
+fn attributed_name<T: HasAttrs>(alloc: Global, node: &SyntaxNode, out: &mut Answer) -> Done {
+    view_name::<T>(alloc, node, out)
+}
