@@ -217,7 +217,7 @@ def definitions():
 
 
 def file_map():
-    for crate in crates():
+    for crate in uses_of():
         print(f"{crate}:")
         for file in source_files(crate):
             print(f"    {file.relative_to(ROOT / 'crates' / crate)}: {source_head(file)}")
