@@ -1,6 +1,7 @@
 -- What private calls cite, and the crates above for theirs: no contract that a user calls by names any of it.
 pub mod Aimed
 pub mod AimFrom
+pub mod DocumentOrder
 pub mod Targets
 pub mod TargetTable
 pub mod Fate

@@ -1,0 +1,32 @@
+-- Document order of aims: a gap before its slot, and what is inside an element after what replaces it.
+--     on_the_way                    a path, in which each slot s counts as 2s + 1
+--     site                          where an aim stands: the way to its parent, then a gap g as 2g, a run of slots as its first one; the top and the gap after it as nothing
+--     is_before                     one list of numbers is less than another one: less where they first differ, or at its end before that
+--     stands_before                 of numbered aims, by their sites, and at one site by their numbers
+--     InDocumentOrder               each stands before all that come after it
+use Rattle.std.specs.Prelude.{◌≡◌, ℕ, suc, ◌+◌, Bool, ◌&&◌, ◌||◌, true, false, nat_eq, nat_lt, ⊤, List, [], ◌∷◌, ◌++◌, map, All}
+use Rattle.green_tree.specs.Path.{Path, parent_path, last_slot, same_path}
+use Rattle.edit_change.specs.Aim.{Aim, FirstIn, AfterElement, Over}
+use Rattle.edit_change.specs.Rewriting.{NumberedAim}
+
+abbrev pub on_the_way : Path → List ℕ
+on_the_way p = map (λ s. suc (s + s)) p
+
+abbrev pub site : Aim → List ℕ
+site (FirstIn p) = on_the_way p ++ 0 ∷ []
+site (AfterElement []) = []
+site (AfterElement (i ∷ p)) = let gap = suc (last_slot (i ∷ p)) in on_the_way (parent_path (i ∷ p)) ++ (gap + gap) ∷ []
+site (Over []) = []
+site (Over (p ∷ ps)) = on_the_way p
+
+abbrev pub is_before : List ℕ → List ℕ → Bool
+is_before as [] = false
+is_before [] (b ∷ bs) = true
+is_before (a ∷ as) (b ∷ bs) = nat_lt a b || nat_eq a b && is_before as bs
+
+abbrev pub stands_before : NumberedAim → NumberedAim → Bool
+stands_before c d = is_before (site c.1) (site d.1) || same_path (site c.1) (site d.1) && nat_lt c.0 d.0
+
+abbrev pub InDocumentOrder : List NumberedAim → Type 0
+InDocumentOrder [] = ⊤
+InDocumentOrder (c ∷ cs) = All (λ d. stands_before c d ≡ true) cs × InDocumentOrder cs
