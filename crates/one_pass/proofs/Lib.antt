@@ -1,6 +1,10 @@
 mod Alike
+pub mod OneAim
+pub mod NodeAhead
+pub mod NodeSteps
+pub mod SweepStart
+pub mod Sweeping
 mod AllCounted
-mod BelowSlot
 mod EnteredByLevel
 mod FoundLater
 mod ByNumber
@@ -9,8 +13,6 @@ mod CopiesFound
 mod Counted
 pub mod Counting
 mod Dependents
-mod InGroups
-mod InSlot
 mod Levels
 mod MadeOf
 mod Marks
@@ -23,10 +25,8 @@ mod ChangesOfAims
 mod Registered
 mod Rooted
 mod Rows
-mod QuietRuns
 pub mod TextOrders
 pub mod Tops
 mod TouchedNodes
-mod Turns
 mod OpenPath
 pub mod WholeTree

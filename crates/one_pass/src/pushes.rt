@@ -1,13 +1,10 @@
 //! What is put after the children that a new node has so far.
 
-ghost use Rattle.std.specs.Prelude.{◌≡◌, ◌+◌, false, [], ◌∷◌, flat_map, OnOk};
+ghost use Rattle.std.specs.Prelude.{◌≡◌, [], ◌∷◌, flat_map, OnOk};
 ghost use Rattle.green_tree.specs.GreenElement.{element_tree};
 ghost use Rattle.edit_change.specs.inner.Given.{given_trees};
 ghost use Rattle.one_pass.specs.inner.Pass.{given_in, Puts, FindsGiven, FindsChange, FindsAll, FindsChild, changes_at};
-ghost use Rattle.one_pass.specs.inner.Pass.{PutsSlot, FindsSlot};
-ghost use Rattle.one_pass.specs.inner.OpenNodes.{opens, PutsTurn, FindsTurn};
 
-use crate::aim_list::is_replaced;
 use crate::kept::push_kept;
 use crate::mark::Sought;
 use crate::marked_given::{GivenTable, MarkedGiven};
@@ -16,17 +13,6 @@ use crate::walk::Walk;
 use edit_change::Aimed;
 use green_tree::GreenElement;
 use std::alloc::{AllocError, Global};
-
-/// A child of a node, with what concerns it.
-#[derive(Clone, Copy)]
-pub struct Child<'a> {
-    pub element: &'a GreenElement,
-    pub slot: usize,
-    /// The aims at the child, below it, or in the gap after it, as they are seen from the node.
-    pub aims: &'a [Aimed<'a>],
-    /// The marks sought in the child, as they are seen from it.
-    pub sought: &'a [Sought<'a>],
-}
 
 // What a change gives goes after the children that the node at the walk's path has so far, with its marks.
 fn push_given(
@@ -50,8 +36,8 @@ fn push_given(
     Ok(())
 }
 
-// The same of a change by its number.
-fn push_change(
+/// What a change gives, by its number.
+pub fn push_change(
     alloc: Global,
     walk: &mut Walk,
     out: &mut Vec<GreenElement>,
@@ -92,9 +78,9 @@ pub fn push_changes(
     Ok(())
 }
 
-// A child that nothing alters goes after the children that the node at the walk's path has so far, with the marks
-// sought in it. Where there are none, it is not looked into.
-fn push_child(
+/// A child that nothing alters goes after the children that the node at the walk's path has so far, with the marks
+/// sought in it. Where there are none, it is not looked into.
+pub fn push_child(
     alloc: Global,
     walk: &mut Walk,
     out: &mut Vec<GreenElement>,
@@ -113,54 +99,4 @@ fn push_child(
     }
     out.push(child.share(alloc)?)?;
     Ok(())
-}
-
-// What stands in the slot of a child that is not made anew.
-fn push_in_slot(
-    alloc: Global,
-    walk: &mut Walk,
-    out: &mut Vec<GreenElement>,
-    child: Child<'_>,
-    given: &GivenTable,
-) -> Result<(), AllocError>
-    requires { opens child.aims.now child.slot child.element.now ≡ false }
-    ensures path { OnOk result (walk.new.path.items ≡ walk.old.path.items) }
-    ensures count { OnOk result (walk.new.builds ≡ walk.old.builds) }
-    ensures trees { OnOk result (PutsSlot child.entry given.now out.old out.new) }
-    ensures marks { OnOk result (FindsSlot child.entry given.now walk.old out.old walk.new) }
-{
-    let Child {
-        element,
-        slot,
-        aims,
-        sought,
-    } = child;
-    if is_replaced(aims, slot) {
-        return push_changes(alloc, walk, out, given, aims, Place::Slot(slot));
-    }
-    push_child(alloc, walk, out, element, sought)
-}
-
-/// What stands in the slot of such a child and in the gap after it, which is before the next slot.
-pub fn push_turn(
-    alloc: Global,
-    walk: &mut Walk,
-    out: &mut Vec<GreenElement>,
-    child: Child<'_>,
-    next: usize,
-    given: &GivenTable,
-) -> Result<(), AllocError>
-    requires stays { opens child.aims.now child.slot child.element.now ≡ false }
-    requires next { next ≡ child.slot + 1 }
-    ensures path { OnOk result (walk.new.path.items ≡ walk.old.path.items) }
-    ensures count { OnOk result (walk.new.builds ≡ walk.old.builds) }
-    ensures trees { OnOk result (PutsTurn child.entry given.now out.old out.new) }
-    ensures marks { OnOk result (FindsTurn child.entry given.now walk.old out.old walk.new) }
-{
-    // No aim concerns most children that come here for their marks.
-    if child.aims.is_empty() {
-        return push_child(alloc, walk, out, child.element, child.sought);
-    }
-    push_in_slot(alloc, walk, out, child, given)?;
-    push_changes(alloc, walk, out, given, child.aims, Place::Gap(next))
 }

@@ -13,11 +13,6 @@
 --     FindsGiven, FindsChange, FindsAll          it finds those of an entry, of a change, of several
 --     FindsChild                    it finds those of an untouched element that is put next
 --     kept_marks                    an untouched element, labelled by the marks that are sought in it
---     aims_inside                   the aims at a child slot or below, as they are seen from the child
---     child_rewritten, slot_rewritten         what is made of a child; what stands in its slot
---     child_built, slot_built       how many nodes are built of a child that is kept; in a slot
---     in_slot                       what stands in the slot of a child
---     PutsSlot, FindsSlot           it is put next; a walk finds its marks
 --     TouchesAtMost, CountsBuilt, CountsBuiltWhole      how a count of built nodes rises
 --     CountsTouched                 how it rises where all that is touched is built
 --     green_rewritten, green_rewritten_whole          the tree that a pass makes; what stands in the place of an element
@@ -42,7 +37,6 @@ use Rattle.edit_change.specs.inner.Aimed.{formed, of_formed, aims_of, formed_bel
 use Rattle.one_pass.specs.inner.Marked.{MarkTree, Marking, marked, marked_from, mark_below, marks_of, sought_in, wanted, Finds}
 use Rattle.edit_change.specs.declared.aimed.Aimed.{Aimed}
 use Rattle.one_pass.specs.declared.mark.Mark.{Mark}
-use Rattle.one_pass.specs.declared.pushes.Child.{Child}
 use Rattle.one_pass.specs.declared.walk.Walk.{Walk}
 use Rattle.one_pass.specs.declared.mark.Sought.{Sought}
 use Rattle.one_pass.specs.declared.place.Place.{Place}
@@ -111,38 +105,6 @@ module _ (before : Walk) (out : Vec GreenElement Global) (after : Walk) where
 
   abbrev pub FindsChild : List Sought → GreenElement → Type 0
   FindsChild sought e = FindsNext (kept_marks sought e ∷ [])
-
--- ---- what the pass makes of the children of a node, each by the aims that concern it
-abbrev pub aims_inside : List Aimed → ℕ → List NumberedAim
-aims_inside aims i = map of_formed (formed_below i (map formed aims))
-
-module _ {L : Type 0} (label_at : Path → ℕ → L) (given : ℕ → List (Tree L)) (aims : List Aimed) where
-  abbrev pub child_rewritten : ℕ → GreenElement → Tree L
-  child_rewritten i e = rewritten label_at given (aims_inside aims i) [] (element_tree e)
-
-  abbrev pub slot_rewritten : ℕ → GreenElement → List (Tree L)
-  slot_rewritten i e = slot label_at given (aims_of aims) (i ∷ []) (child_rewritten i e)
-
-module _ (aims : List Aimed) where
-  abbrev pub child_built : ℕ → GreenElement → ℕ
-  child_built i e = nodes_built (aims_inside aims i) (element_tree e)
-
-  abbrev pub slot_built : ℕ → GreenElement → ℕ
-  slot_built i e = cond (is_replaced (aims_of aims) (i ∷ [])) 0 (child_built i e)
-
--- of one child, with the aims that concern it
-module _ (child : Child) where
-  abbrev in_slot : {L : Type 0} → (Path → ℕ → L) → (ℕ → List (Tree L)) → List (Tree L)
-  in_slot label_at given = slot_rewritten label_at given child.aims.now child.slot child.element.now
-
-  module _ (table : GivenTable) where
-    abbrev pub PutsSlot : Vec GreenElement Global → Vec GreenElement Global → Type 0
-    PutsSlot before after = Puts before after (in_slot kind_only (given_in table))
-
-    abbrev pub FindsSlot : Walk → Vec GreenElement Global → Walk → Type 0
-    FindsSlot before out after =
-        (trees : ℕ → List MarkTree) → AreMarkedIn table trees →
-        FindsNext before out after (in_slot (wanted (sought_in child.sought.now)) trees)
 
 -- ---- what the pass makes of an element
 abbrev pub TouchesAtMost : List Aimed → GreenElement → ℕ → ℕ → Type 0
