@@ -1,5 +1,8 @@
 mod Alike
 pub mod OneAim
+pub mod OpenedNode
+pub mod NextAim
+pub mod NodeFurther
 pub mod NodeAhead
 pub mod NodeSteps
 pub mod SweepStart

@@ -2,13 +2,15 @@
 --     Lists, ahead                  what is left, where what is made of a child hangs on the marks sought in it
 --     Follows, ahead-at             a node that is at the same slot; what is ahead of it
 --     ahead-gap, ahead-run, ahead-pass, ahead-below    an insert, a replacement, an aim that says nothing, one inside a child that is passed over
---     ahead-open                    a child that is opened
+--     behind_of, ahead-open, ahead-made     what is behind a child; a child that is opened, that is made
 use Rattle.std.specs.Prelude.{◌≡◌, ℕ, zero, suc, ◌+◌, ◌<◌, ◌≤◌, max, Bool, true, false, cond, ◌||◌, nat_lt, List, [], ◌∷◌, ◌++◌, map, drop, length, get_or, Vec, refl}
 use Rattle.std.specs.Global.{Global}
 use Rattle.std.specs.List.{AllByRecursion}
 use Rattle.std.proofs.Common.{ap, ap₂, sym, subst, ◌∙◌, arith}
 use Rattle.std.proofs.lemmas.Bool.{lt-ltb, le-ltb}
-use Rattle.std.proofs.lemmas.List.{at_drop_more, length-drop}
+use Rattle.std.proofs.lemmas.List.{at_drop_more, length-drop, map-append}
+use Rattle.green_tree.specs.Green.{Branch}
+use Rattle.green_tree.specs.declared.green.GreenElement.TheVariants.{Node}
 use Rattle.green_tree.specs.GreenElement.{element_tree}
 use Rattle.green_tree.specs.declared.green.GreenElement.{GreenElement}
 use Rattle.edit_change.specs.declared.aimed.Aimed.{Aimed}
@@ -18,7 +20,7 @@ use Rattle.one_pass.specs.inner.OpenNodes.{coming, IsSameNode}
 use Rattle.one_pass.specs.inner.Sweep.{lowered, seen_at, gap_test, covered, in_gap, from_slot, inside_child, in_slot, left, From, key, IsGap, IsRun, IsBelow, QuietSlot, PassesAll}
 use Rattle.one_pass.specs.declared.sought_list.SoughtList.{SoughtList}
 use Rattle.one_pass.proofs.OneAim.{below-gaps, below-slots}
-use Rattle.one_pass.proofs.Sweeping.{pass-on, pass-slot, put-gap, put-run, open-on, past-inside}
+use Rattle.one_pass.proofs.Sweeping.{pass-on, pass-slot, put-gap, put-run, open-on, from-less}
 use Rattle.one_pass.proofs.NodeSteps.{item-at}
 
 abbrev pub Lists : Type 0
@@ -92,3 +94,21 @@ module _ {X : Type 0} (given : ℕ → List X) (made : Lists → ℕ → List Fo
           let later = pass-on given (made g.lists) g.passed b xs (suc g.slot) behind (λ j m n. below-gaps g.slot b below j) (λ j m n. below-slots g.slot b below j (λ e. absurd (omega (arith, m, e)))) in
           let gap : in_gap given g.slot (b ∷ xs) ≡ in_gap given g.slot xs = ap (λ t. cond t (given a.change) [] ++ in_gap given g.slot xs) (below-gaps g.slot b below g.slot) in
           first ∙ cut g.passed (b ∷ xs) ∙ ap₂ (λ us vs. us ++ vs) gap (ap₂ (λ us vs. us ++ vs) here later) ∙ sym (cut g.passed xs) ∙ next passed
+
+  -- ---- a child is opened: these aims are inside it, and the others behind it
+  abbrev pub behind_of : OpenNode → List X
+  behind_of g = left given (made g.lists) g.passed (seen_at g.depth g.aims.now) (suc g.slot) (drop (suc g.slot) g.elements.now)
+
+  pub ahead-open : (f g : OpenNode) (run : List Aimed) (b : Branch) → Follows f g → g.passed ≡ f.passed → f.aims.now ≡ run ++ g.aims.now → f.slot < length f.elements.now → f.passed ≤ f.slot → ((d : GreenElement) → get_or f.elements.now f.slot d ≡ Node b) → AllByRecursion (IsBelow f.slot) (seen_at f.depth run) → From (suc f.slot + suc f.slot) (seen_at f.depth g.aims.now) → ahead f ≡ made f.lists f.slot (inside_child f.slot (seen_at f.depth run)) (Node b) ∷ behind_of g
+  ahead-open f g run b follows passed parts inside stays element all later =
+      let i = f.slot in
+      let es = f.elements.now in
+      let rest = seen_at f.depth g.aims.now in
+      let next : i + 1 ≡ suc i = omega arith in
+      let back : left given (made f.lists) f.passed rest (suc i) (drop (suc i) es) ≡ behind_of g = sym (ap₂ (λ ls p. left given (made ls) p (seen_at g.depth g.aims.now) (suc g.slot) (drop (suc g.slot) g.elements.now)) follows.same.lists passed ∙ ap₂ (λ d j. left given (made f.lists) f.passed (seen_at d g.aims.now) (suc j) (drop (suc j) g.elements.now)) follows.same.depth follows.slot ∙ ap (λ us. left given (made f.lists) f.passed rest (suc i) (drop (suc i) us.now)) follows.same.elements) in
+      ap (λ xs. left given (made f.lists) f.passed xs i (drop i es)) (ap (seen_at f.depth) parts ∙ map-append (lowered f.depth) run g.aims.now) ∙ at_drop_more (left given (made f.lists) f.passed (seen_at f.depth run ++ rest) i) es i (Node b) inside ∙ ap₂ (λ e us. left given (made f.lists) f.passed (seen_at f.depth run ++ rest) i (e ∷ us)) (element (Node b)) (ap (λ n. drop n es) next) ∙ open-on given (made f.lists) f.passed (seen_at f.depth run) rest i (Node b) (drop (suc i) es) stays all (from-less (suc (suc (i + i))) (suc i + suc i) rest (omega arith) later) ∙ ap (λ us. made f.lists i (inside_child i (seen_at f.depth run)) (Node b) ∷ us) back
+
+  -- and is made
+  pub ahead-made : (g k : OpenNode) → IsSameNode g k → k.passed ≡ g.passed → k.aims ≡ g.aims → k.slot ≡ suc g.slot → ahead k ≡ behind_of g
+  ahead-made g k same passed aims slot =
+      ap₂ (λ ls p. left given (made ls) p (seen_at k.depth k.aims.now) k.slot (drop k.slot k.elements.now)) same.lists passed ∙ ap₂ (λ d xs. left given (made g.lists) g.passed (seen_at d xs.now) k.slot (drop k.slot k.elements.now)) same.depth aims ∙ ap₂ (λ j us. left given (made g.lists) g.passed (seen_at g.depth g.aims.now) j (drop j us.now)) slot same.elements

@@ -5,11 +5,11 @@
 --     inside-lowered                aims inside a child, as they are seen from it, are those of a longer way down
 --     rising-inside                 they are in order
 --     behind-run                    what comes after them is behind the child
-use Rattle.std.specs.Prelude.{◌≡◌, ℕ, zero, suc, ◌+◌, ◌<◌, ◌≤◌, Bool, true, false, cond, ◌||◌, ◌&&◌, nat_eq, nat_lt, ⊤, List, [], ◌∷◌, ◌++◌, map, filter, flat_map, drop, length, sum, Option, Some, None, refl}
+use Rattle.std.specs.Prelude.{◌≡◌, ℕ, zero, suc, ◌+◌, ◌<◌, ◌≤◌, Bool, true, false, cond, ◌||◌, ◌&&◌, nat_eq, nat_lt, ⊤, List, [], ◌∷◌, ◌++◌, map, filter, flat_map, take, drop, length, get_or, sum, Option, Some, None, refl}
 use Rattle.std.specs.List.{list_any, AllByRecursion}
 use Rattle.std.proofs.Common.{ap, ap₂, sym, subst, ◌∙◌, arith}
 use Rattle.std.proofs.lemmas.Bool.{le-ltb, eq-eqb}
-use Rattle.std.proofs.lemmas.List.{append_assoc, append-nil}
+use Rattle.std.proofs.lemmas.List.{append_assoc, append-nil, map-append, take-append-drop}
 use Rattle.std.proofs.lemmas.List.Sums.{sum_by-cons}
 use Rattle.green_tree.specs.Path.{Path}
 use Rattle.green_tree.specs.Tree.{Tree, SyntaxTree, Forest, forest}
@@ -27,7 +27,7 @@ use Rattle.edit_change.proofs.SeenBelow.{Shifted, below_shifted, rewritten-shift
 use Rattle.edit_change.proofs.Untouched.{quiet_gap, quiet_slot, quiet_start}
 use Rattle.one_pass.specs.inner.OpenNodes.{child_built, nothing}
 use Rattle.one_pass.specs.inner.Built.{built, built_from, nodes_built}
-use Rattle.one_pass.specs.inner.Sweep.{key, From, IsBelow, lowered, seen_at, parted, inside_one, inside_child, gap_test, start_test, over_test, covered, in_gap, from_slot, in_slot, left, Rising}
+use Rattle.one_pass.specs.inner.Sweep.{key, From, IsBelow, BelowUpTo, EndsBelow, lowered, seen_at, parted, inside_one, inside_child, gap_test, start_test, over_test, covered, in_gap, from_slot, in_slot, left, Rising}
 use Rattle.one_pass.proofs.Counted.{built-shifted}
 use Rattle.one_pass.proofs.OneAim.{as_formed, order-key, order-inside, behind-below, below-site, below-inside}
 use Rattle.one_pass.proofs.Sweeping.{from-less}
@@ -110,21 +110,21 @@ module _ {X : Type 0} (given : ℕ → List X) where
   start-whole i [] = refl
   start-whole i (x ∷ xs) = put-one (start_test i x) (of_formed x) (filter (λ c. starts_at (i ∷ []) c.1) (map of_formed xs)) (from_slot given i xs) (start-whole i xs)
 
-module _ {L : Type 0} (label : Path → ℕ → L) (inner : ℕ → Path → ℕ → L) (labels : (i : ℕ) (p : Path) (k : ℕ) → label (i ∷ p) k ≡ inner i p k) (given : ℕ → List (Tree L)) (xs : List FormedAim) where
-  abbrev pub child_made : ℕ → List FormedAim → GreenElement → Tree L
+module _ {L : Type 0} (label : Path → ℕ → L) (inner : ℕ → Path → ℕ → L) (count : ℕ) (labels : (i : ℕ) → i < count → (p : Path) (k : ℕ) → label (i ∷ p) k ≡ inner i p k) (given : ℕ → List (Tree L)) (xs : List FormedAim) where
+  abbrev child_made : ℕ → List FormedAim → GreenElement → Tree L
   child_made i ys e = rewritten (inner i) given (map of_formed ys) [] (element_tree e)
 
-  child-whole : (i : ℕ) (e : GreenElement) → child_made i (inside_child i xs) e ≡ rewritten label given (map of_formed xs) (i ∷ []) (element_tree e)
-  child-whole i e = sym (rewritten-shifted label (inner i) given (map of_formed xs) (map of_formed (inside_child i xs)) i (labels i) (inside-shifted xs i) [] (element_tree e))
+  child-whole : (i : ℕ) (e : GreenElement) → i < count → child_made i (inside_child i xs) e ≡ rewritten label given (map of_formed xs) (i ∷ []) (element_tree e)
+  child-whole i e l = sym (rewritten-shifted label (inner i) given (map of_formed xs) (map of_formed (inside_child i xs)) i (labels i l) (inside-shifted xs i) [] (element_tree e))
 
-  slot-whole : (i : ℕ) (e : GreenElement) → in_slot given child_made 0 xs i e ≡ slot label given (map of_formed xs) (i ∷ []) (rewritten label given (map of_formed xs) (i ∷ []) (element_tree e))
-  slot-whole i e =
-      ap₂ (λ b us. cond b us (child_made i (inside_child i xs) e ∷ [])) (covered-whole i xs) (start-whole given i xs) ∙ ap (λ t. cond (is_replaced (map of_formed xs) (i ∷ [])) (flat_map given (replacements_at (map of_formed xs) (i ∷ []))) (t ∷ [])) (child-whole i e)
+  slot-whole : (i : ℕ) (e : GreenElement) → i < count → in_slot given child_made 0 xs i e ≡ slot label given (map of_formed xs) (i ∷ []) (rewritten label given (map of_formed xs) (i ∷ []) (element_tree e))
+  slot-whole i e l =
+      ap₂ (λ b us. cond b us (child_made i (inside_child i xs) e ∷ [])) (covered-whole i xs) (start-whole given i xs) ∙ ap (λ t. cond (is_replaced (map of_formed xs) (i ∷ [])) (flat_map given (replacements_at (map of_formed xs) (i ∷ []))) (t ∷ [])) (child-whole i e l)
 
-  pub all-left : (i : ℕ) (es : List GreenElement) → left given child_made 0 xs i es ≡ rewritten_from label given (map of_formed xs) [] i (forest (element_trees es))
-  all-left i [] = gap-whole given i xs
-  all-left i (e ∷ es) =
-      ap₂ (λ us vs. us ++ vs) (gap-whole given i xs) (ap₂ (λ us vs. us ++ vs) (slot-whole i e) (all-left (suc i) es)) ∙ sym (append_assoc (flat_map given (inserts_at (map of_formed xs) [] i)) (slot label given (map of_formed xs) (i ∷ []) (rewritten label given (map of_formed xs) (i ∷ []) (element_tree e))) (rewritten_from label given (map of_formed xs) [] (suc i) (forest (element_trees es))))
+  pub all-left : (i : ℕ) (es : List GreenElement) → i + length es ≤ count → left given child_made 0 xs i es ≡ rewritten_from label given (map of_formed xs) [] i (forest (element_trees es))
+  all-left i [] l = gap-whole given i xs
+  all-left i (e ∷ es) l =
+      ap₂ (λ us vs. us ++ vs) (gap-whole given i xs) (ap₂ (λ us vs. us ++ vs) (slot-whole i e (omega (arith, l))) (all-left (suc i) es (omega (arith, l)))) ∙ sym (append_assoc (flat_map given (inserts_at (map of_formed xs) [] i)) (slot label given (map of_formed xs) (i ∷ []) (rewritten label given (map of_formed xs) (i ∷ []) (element_tree e))) (rewritten_from label given (map of_formed xs) [] (suc i) (forest (element_trees es))))
 
 -- ---- how many nodes are built
 none-put : (test : FormedAim → Bool) (xs : List FormedAim) → flat_map (λ a. cond (test a) (nothing a.change) []) xs ≡ []
@@ -215,3 +215,40 @@ behind-run i a run [] below ends h = tt
 behind-run i a run (b ∷ xs) below ends h =
     let next = (all-after (λ c. is_before (site (aim_in c.path c.form)) (site (aim_in a.path a.form)) ≡ false) run (b ∷ xs) h.0).0 in
     from-less (suc (suc (i + i))) (key b) (b ∷ xs) (omega (arith, behind-below i a b below ends next)) (rising-from b xs (rising-part run (b ∷ xs) h.1).1)
+
+pub behind-all : (i : ℕ) (run xs : List FormedAim) → AllByRecursion (IsBelow i) run → 0 < length run → OthersBegin i xs → Rising (run ++ xs) → From (suc (suc (i + i))) xs
+behind-all i [] xs all some ends h = absurd (omega (arith, some))
+behind-all i (a ∷ run) xs all some ends h = behind-run i a run xs all.0 ends h
+
+-- ---- the same of aims in code
+pub below-run : (d i n : ℕ) (xs : List Aimed) → n ≤ length xs → BelowUpTo d i xs n → AllByRecursion (IsBelow i) (seen_at d (take n xs))
+below-run d i zero xs l h = tt
+below-run d i (suc n) [] l h = absurd (omega (arith, l))
+below-run d i (suc n) (x ∷ xs) l h = (h 0 x (omega arith), below-run d i n xs (omega (arith, l)) (λ k e m. h (suc k) e (omega (arith, m))))
+
+pub ends-run : (d i n : ℕ) (xs : List Aimed) → EndsBelow d i xs n → OthersBegin i (seen_at d (drop n xs))
+ends-run d i zero [] h = tt
+ends-run d i zero (x ∷ xs) h = h x (omega arith)
+ends-run d i (suc n) [] h = tt
+ends-run d i (suc n) (x ∷ xs) h = ends-run d i n xs (λ e l. h e (omega (arith, l)))
+
+-- a list of aims whose first is inside a child, cut behind those that are
+pub cut-behind : (d i n : ℕ) (xs : List Aimed) → n ≤ length xs → 0 < length xs → ((e : Aimed) → IsBelow i (lowered d (get_or xs 0 e))) → BelowUpTo d i xs n → EndsBelow d i xs n → Rising (seen_at d xs) → From (suc i + suc i) (seen_at d (drop n xs))
+cut-behind d i zero [] l some first below ends rising = tt
+cut-behind d i zero (x ∷ xs) l some first below ends rising = absurd (ends x (omega arith) (first x))
+cut-behind d i (suc n) [] l some first below ends rising = tt
+cut-behind d i (suc n) (x ∷ xs) l some first below ends rising =
+    let parts : seen_at d (x ∷ xs) ≡ seen_at d (take (suc n) (x ∷ xs)) ++ seen_at d (drop (suc n) (x ∷ xs)) = ap (seen_at d) (sym (take-append-drop (suc n) (x ∷ xs))) ∙ map-append (lowered d) (take (suc n) (x ∷ xs)) (drop (suc n) (x ∷ xs)) in
+    let behind = behind-all i (seen_at d (take (suc n) (x ∷ xs))) (seen_at d (drop (suc n) (x ∷ xs))) (below-run d i (suc n) (x ∷ xs) l below) (omega arith) (ends-run d i (suc n) (x ∷ xs) ends) (subst Rising parts rising) in
+    from-less (suc i + suc i) (suc (suc (i + i))) (seen_at d (drop (suc n) (x ∷ xs))) (omega arith) behind
+
+pub deep-path : (d : ℕ) (p q : Path) (i : ℕ) → drop d p ≡ i ∷ q → d < length p
+deep-path zero [] q i h = absurd (cc)
+deep-path zero (j ∷ p) q i h = omega arith
+deep-path (suc d) [] q i h = absurd (cc)
+deep-path (suc d) (j ∷ p) q i h = omega (arith, deep-path d p q i h)
+
+-- they alter something in it
+pub some-inside : (d i : ℕ) (x : Aimed) (xs : List Aimed) → IsBelow i (lowered d x) → list_any has_parent (map of_formed (seen_at (suc d) (x ∷ xs))) ≡ true
+some-inside d i x xs below =
+    ap (λ b. b || list_any has_parent (map of_formed (seen_at (suc d) xs))) (ap (λ p. has_parent (x.change, aim_in p x.form)) (one-further d x.path.now below.0 i below.1) ∙ below.2)

@@ -13,7 +13,7 @@ use crate::mark::{Sought, marks_by_child, push_here, sought_for};
 use crate::marked_given::GivenTable;
 use crate::open_node::OpenNode;
 use crate::pushes::{push_change, push_child};
-use crate::site::{Site, run_inside, site_of};
+use crate::site::{Site, one_deeper, run_inside, site_of};
 use crate::walk::Walk;
 use edit_change::Aimed;
 use green_tree::{GreenElement, GreenNode, SyntaxKind};
@@ -212,14 +212,13 @@ fn open_child<'e, 'a, 's, 'm>(
     ensures entered { IfOk result (Enters node.now walk.old walk.new above.old above.new) }
 {
     let aims = above.aims;
-    // For the proof: there is a number for the next depth.
-    let _slots = aims[0].path.len();
+    let depth = one_deeper(&aims[0], above.depth);
     let end = run_inside(aims, above.depth, above.slot);
     let inside = &aims[..end];
     above.aims = &aims[end..];
     walk.path.push(above.out.len())?;
     let sought = sought_for(&above.lists, above.slot);
-    open_node(alloc, walk, node, above.depth + 1, inside, sought)
+    open_node(alloc, walk, node, depth, inside, sought)
 }
 
 // The child in the slot, which was made at the walk's path, goes after what is made before it. The walk is at the node again.
@@ -241,7 +240,7 @@ pub fn rewrite_open(
     first: OpenNode,
     given: &GivenTable,
 ) -> Result<GreenElement, AllocError>
-    requires { InOrder first.entry }
+    requires { InOrder first }
     ensures path { OnOk result (walk.new.path.items ≡ walk.old.path.items) }
     ensures count { OnOk result (walk.new.builds ≡ counted walk.old.builds (suc (to_build first.entry))) }
     ensures tree { IfOk result (λ e. element_tree e ≡ whole given.now first.entry) }
@@ -249,13 +248,13 @@ pub fn rewrite_open(
 {
     let mut above = Vec::new(alloc);
     let mut top = first;
-    loop {
+    'nodes: loop {
         let open = &mut top;
         if let Some(node) = push_on(alloc, walk, open, given)? {
             let inner = open_child(alloc, walk, &mut top, node)?;
             above.push(top)?;
             top = inner;
-            continue;
+            continue 'nodes;
         }
         let made = build_node(alloc, top.kind, top.out, &mut walk.builds)?;
         let Some(next) = above.pop() else {

@@ -1,6 +1,6 @@
 //! Where an aim stands, as it is seen from a node whose children are made anew.
 
-ghost use Rattle.std.specs.Prelude.{◌≡◌, ◌≤◌, length, MatchBool};
+ghost use Rattle.std.specs.Prelude.{◌≡◌, ◌≤◌, ◌<◌, ◌+◌, length, MatchBool};
 ghost use Rattle.edit_change.specs.inner.Aimed.{formed};
 ghost use Rattle.one_pass.specs.inner.Sweep.{lowered, IsSite, IsBelow, BelowUpTo, EndsBelow};
 
@@ -66,6 +66,15 @@ fn is_inside(aim: &Aimed, depth: usize, slot: usize) -> bool
         Some(inner) => inner.has_parent(),
         None => false,
     }
+}
+
+/// The depth of a child, where an aim's path leads on from its parent.
+pub fn one_deeper(aim: &Aimed, depth: usize) -> usize
+    requires { depth < length aim.now.path.now }
+    ensures { result ≡ depth + 1 }
+{
+    let slots = aim.path.len();
+    slots.min(depth + 1)
 }
 
 /// How many aims there are inside a child before the first one that is not.

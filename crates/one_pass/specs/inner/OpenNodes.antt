@@ -196,7 +196,7 @@ pub record Enters (b : Branch) (before after : Walk) (f g inner : OpenNode) : Ty
   pub parts : f.aims.now ≡ inner.aims.now ++ g.aims.now
   pub inside : AllByRecursion (IsBelow f.slot) (seen_at f.depth inner.aims.now)
   pub behind : From (suc f.slot + suc f.slot) (seen_at f.depth g.aims.now)
-  pub opened : IsNodeOpened b (suc f.depth) inner.aims.now (sought_for f.lists.items f.slot) before after inner
+  pub opened : IsNodeOpened b (f.depth + 1) inner.aims.now (sought_for f.lists.items f.slot) before after inner
 
 pub record PutsMade (made : GreenElement) (before after : Walk) (f g : OpenNode) : Type 0 where
   pub same : IsSameNode f g

@@ -1,4 +1,4 @@
-use Rattle.std.proofs.Common.{ℕ, suc, ◌≤◌, ◌<◌, ◌+◌, length, arith, rules, ap, subst, sym, ◌∙◌}
+use Rattle.std.proofs.Common.{◌≡◌, ℕ, suc, ◌≤◌, ◌<◌, ◌+◌, length, arith, rules, ap, subst, sym, ◌∙◌}
 use Rattle.one_pass.specs.inner.Sweep.{seen_at, From}
 use Rattle.one_pass.specs.inner.OpenNodes.{coming, IsShared}
 use Rattle.one_pass.proofs.Sweeping.{from-less}
