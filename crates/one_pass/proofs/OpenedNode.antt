@@ -18,7 +18,7 @@ use Rattle.green_tree.specs.declared.green.GreenElement.TheVariants.{Node}
 use Rattle.edit_change.specs.Effort.{parents_of}
 use Rattle.edit_change.specs.Rewriting.{NumberedAim, rewritten, rewritten_from}
 use Rattle.edit_change.specs.declared.aimed.Aimed.{Aimed}
-use Rattle.edit_change.specs.inner.Aimed.{FormedAim, of_formed, has_parent}
+use Rattle.edit_change.specs.inner.Aimed.{FormedAim, formed, of_formed, aims_of, has_parent}
 use Rattle.edit_change.specs.inner.KindOnly.{kind_only}
 use Rattle.one_pass.specs.declared.marked_given.GivenTable.{GivenTable}
 use Rattle.one_pass.specs.declared.open_node.OpenNode.{OpenNode}
@@ -181,3 +181,15 @@ module _ (f : OpenNode) (order : InOrder f) (ended : IsEnded f) where
 
   pub ended-built : to_build f ≡ 0
   ended-built = ap sum (nothing-left nothing child_built)
+
+-- ---- from the top
+pub from-top : (xs : List Aimed) → map of_formed (seen_at 0 xs) ≡ aims_of xs
+from-top [] = refl
+from-top (x ∷ xs) = ap (λ cs. of_formed (formed x) ∷ cs) (from-top xs)
+
+pub ordered-top : (xs : List Aimed) → Rising (map formed xs) → Rising (seen_at 0 xs)
+ordered-top xs h = subst Rising (sym (same xs)) h
+  where
+    same : (ys : List Aimed) → seen_at 0 ys ≡ map formed ys
+    same [] = refl
+    same (y ∷ ys) = ap (λ zs. formed y ∷ zs) (same ys)
