@@ -5,6 +5,7 @@ pub mod BroughtTops
 pub mod AlteredNodes
 pub mod Clashes
 mod SlotsOfParents
+pub mod DocumentOrder
 pub mod Edits
 mod Entering
 mod FateWays

@@ -2,6 +2,12 @@ ghost use Rattle.std.specs.Prelude.{ℕ, ◌<◌, ◌≤◌, ◌+◌, ◌≡◌,
 ghost use Rattle.edit_change.specs.Aim.{FirstIn, AfterElement, Over, aims_at_gap, starts_at, replaces};
 ghost use Rattle.edit_change.specs.inner.Aimed.{aim_in, siblings_from, formed, numbered, option_formed, seen_from, has_parent};
 ghost use Rattle.edit_change.specs.inner.Aimed.{concerns};
+ghost use Rattle.std.specs.Prelude.{slice_get, ◌^◌, IfSome};
+ghost use Rattle.std.specs.Cmp.Lexicographic.{slice_cmp};
+ghost use Rattle.std.specs.Ordering.{nat_cmp, is_lt};
+ghost use Rattle.edit_change.specs.inner.DocumentOrder.{on_the_way, site, stands_before};
+
+use std::cmp::Ordering;
 
 /// Where something aims, from the element at a path.
 #[derive(Clone, Copy)]
@@ -23,6 +29,16 @@ pub struct Aimed<'a> {
     pub path: &'a [usize],
     /// Where it aims from there.
     pub form: AimForm,
+}
+
+// What stands at a depth of the way to the element at a path.
+fn on_the_way(path: &[usize], depth: usize) -> Option<u128>
+    ensures key { result ≡ slice_get (on_the_way path.now) depth }
+    ensures small { IfSome result (λ k. k < 2 ^ 66) }
+    ensures within { IfSome result (λ k. depth < 2 ^ 62) }
+{
+    let slot = path.get(depth)?;
+    Some(2 * (*slot as u128) + 1)
 }
 
 impl<'a> Aimed<'a> {
@@ -174,5 +190,66 @@ impl<'a> Aimed<'a> {
             });
         }
         None
+    }
+
+    // What stands at a depth of the site where it aims.
+    fn key(&self, depth: usize) -> Option<u128>
+        ensures key { result ≡ slice_get (site (aim_in self.now.path.now self.now.form)) depth }
+        ensures within { IfSome result (λ k. depth < 2 ^ 62) }
+    {
+        let way = on_the_way(self.path, depth);
+        match self.form {
+            AimForm::FirstIn => {
+                if depth == self.path.len() {
+                    return Some(0);
+                }
+                way
+            }
+            AimForm::AfterElement => {
+                let key = way?;
+                if self.path.len() - depth == 1 {
+                    return Some(key + 1);
+                }
+                Some(key)
+            }
+            AimForm::Over(count) => {
+                if count == 0 {
+                    return None;
+                }
+                way
+            }
+        }
+    }
+
+    // The order of the sites alone.
+    fn compare_sites(&self, other: &Aimed<'_>) -> Ordering
+        ensures { result ≡ slice_cmp nat_cmp (site (aim_in self.now.path.now self.now.form))
+            (site (aim_in other.now.path.now other.now.form)) }
+    {
+        let mut depth = 0;
+        loop {
+            let Some(one) = self.key(depth) else {
+                return match other.key(depth) {
+                    Some(_) => Ordering::Less,
+                    None => Ordering::Equal,
+                };
+            };
+            let Some(two) = other.key(depth) else {
+                return Ordering::Greater;
+            };
+            match one.cmp(&two) {
+                Ordering::Less => return Ordering::Less,
+                Ordering::Equal => depth += 1,
+                Ordering::Greater => return Ordering::Greater,
+            }
+        }
+    }
+
+    /// Document order: a gap before its slot, what is inside an element after what replaces it, and at one site by the numbers.
+    pub fn compare(&self, other: &Aimed<'_>) -> Ordering
+        ensures { is_lt result ≡ stands_before (numbered self.now) (numbered other.now) }
+    {
+        self.compare_sites(other)
+            .then(self.change.cmp(&other.change))
     }
 }

@@ -4,10 +4,15 @@
 --     is_before                     one list of numbers is less than another one: less where they first differ, or at its end before that
 --     stands_before                 of numbered aims, by their sites, and at one site by their numbers
 --     InDocumentOrder               each stands before all that come after it
-use Rattle.std.specs.Prelude.{◌≡◌, ℕ, suc, ◌+◌, Bool, ◌&&◌, ◌||◌, true, false, nat_eq, nat_lt, ⊤, List, [], ◌∷◌, ◌++◌, map, All}
-use Rattle.green_tree.specs.Path.{Path, parent_path, last_slot, same_path}
+--     aims_at                       the aims of the changes with these numbers
+--     IsDocumentOrder               an order of all changes, in which their aims are in document order
+use Rattle.std.specs.Prelude.{◌≡◌, ℕ, suc, ◌+◌, Bool, ◌&&◌, ◌||◌, true, false, nat_eq, nat_lt, ⊤, List, [], ◌∷◌, ◌++◌, length, map, filter_map, slice_get, option_map, All}
+use Rattle.std.specs.List.Sorted.{IsPermutation}
+use Rattle.green_tree.specs.Path.{Path, parent_path, last_slot, same_path, counted_from}
 use Rattle.edit_change.specs.Aim.{Aim, FirstIn, AfterElement, Over}
+use Rattle.edit_change.specs.ChangeAim.{aim}
 use Rattle.edit_change.specs.Rewriting.{NumberedAim}
+use Rattle.edit_change.specs.declared.change.Change.{Change}
 
 abbrev pub on_the_way : Path → List ℕ
 on_the_way p = map (λ s. suc (s + s)) p
@@ -20,9 +25,9 @@ site (Over []) = []
 site (Over (p ∷ ps)) = on_the_way p
 
 abbrev pub is_before : List ℕ → List ℕ → Bool
-is_before as [] = false
-is_before [] (b ∷ bs) = true
-is_before (a ∷ as) (b ∷ bs) = nat_lt a b || nat_eq a b && is_before as bs
+is_before xs [] = false
+is_before [] (y ∷ ys) = true
+is_before (x ∷ xs) (y ∷ ys) = nat_lt x y || nat_eq x y && is_before xs ys
 
 abbrev pub stands_before : NumberedAim → NumberedAim → Bool
 stands_before c d = is_before (site c.1) (site d.1) || same_path (site c.1) (site d.1) && nat_lt c.0 d.0
@@ -30,3 +35,11 @@ stands_before c d = is_before (site c.1) (site d.1) || same_path (site c.1) (sit
 abbrev pub InDocumentOrder : List NumberedAim → Type 0
 InDocumentOrder [] = ⊤
 InDocumentOrder (c ∷ cs) = All (λ d. stands_before c d ≡ true) cs × InDocumentOrder cs
+
+-- ---- of changes
+abbrev pub aims_at : List Change → List ℕ → List NumberedAim
+aims_at cs ns = filter_map (λ n. option_map (λ c. (n, aim c)) (slice_get cs n)) ns
+
+pub record IsDocumentOrder (cs : List Change) (order : List ℕ) : Type 0 where
+  pub each_once : IsPermutation (counted_from 0 (length cs)) order
+  pub in_order : InDocumentOrder (aims_at cs order)
