@@ -1,6 +1,6 @@
 -- The comparison of aims is document order, and sorted aims of changes are in it.
 --     way-in, way-past, way-within  what stands at a depth of a way, and past its end
---     first-here, first-on, over-key, over-none, after-none, after-last, after-on      what stands at a depth of a site, by its form
+--     first-here, first-on, over-key, over-none, after-top, below-top, after-none, after-last, after-on      what stands at a depth of a site, by its form
 --     ends-less, ends-greater, ends-equal, goes-on      two lists of numbers compared at a depth
 --     before-compared               lists of numbers compare as their order says
 --     stands-compared               one aim stands before another one exactly if it is less by site and number
@@ -87,9 +87,19 @@ over-none [] zero d e = refl
 over-none (i ∷ p) zero d e = refl
 over-none p (suc n) d e = absurd (omega (arith, e))
 
-pub after-none : (p : Path) (d : ℕ) → None ≡ slice_get (on_the_way p) d → None ≡ slice_get (site (AfterElement p)) d
-after-none [] d is = refl
-after-none (i ∷ p) d is =
+pub after-top : (p : Path) (d : ℕ) → d ≡ 0 → length p ≡ 0 → Some 0 ≡ slice_get (site (AfterElement p)) d
+after-top [] zero e none = refl
+after-top [] (suc d) e none = absurd (omega (arith, e))
+after-top (i ∷ p) d e none = absurd (omega (arith, none))
+
+pub below-top : (p : Path) (d : ℕ) → d ≢ 0 → length p ≡ 0 → None ≡ slice_get (site (AfterElement p)) d
+below-top [] zero e none = absurd (e refl)
+below-top [] (suc d) e none = refl
+below-top (i ∷ p) d e none = absurd (omega (arith, none))
+
+pub after-none : (p : Path) (d : ℕ) → length p ≢ 0 → None ≡ slice_get (on_the_way p) d → None ≡ slice_get (site (AfterElement p)) d
+after-none [] d some is = absurd (some refl)
+after-none (i ∷ p) d some is =
     elim (cases_eq d (length (on_the_way (parent_path (i ∷ p))))) [
       | inl e ↦ absurd (none-some _ (is ∙ ap (λ w. slice_get w d) (way-parts i p) ∙ at-end _ _ d e))
       | inr ne ↦ is ∙ ap (λ w. slice_get w d) (way-parts i p) ∙ not-end _ _ d ne ∙ sym (not-end _ _ d ne)

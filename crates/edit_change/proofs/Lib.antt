@@ -26,6 +26,7 @@ pub mod RewrittenAlike
 pub mod RootAlone
 mod RootTargets
 pub mod SeenBelow
+pub mod Sites
 pub mod GivenTrees
 mod Slots
 pub mod Untouched

@@ -7,6 +7,7 @@ pub mod TargetTable
 pub mod Fate
 pub mod FateWay
 pub mod Clash
+pub mod Open
 pub mod OwnerPlaces
 pub mod OneNode
 pub mod Given

@@ -206,6 +206,9 @@ impl<'a> Aimed<'a> {
                 way
             }
             AimForm::AfterElement => {
+                if self.path.is_empty() {
+                    return if depth == 0 { Some(0) } else { None };
+                }
                 let key = way?;
                 if self.path.len() - depth == 1 {
                     return Some(key + 1);

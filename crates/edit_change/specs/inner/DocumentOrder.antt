@@ -1,6 +1,6 @@
 -- Document order of aims: a gap before its slot, and what is inside an element after what replaces it.
 --     on_the_way                    a path, in which each slot s counts as 2s + 1
---     site                          where an aim stands: the way to its parent, then a gap g as 2g, a run of slots as its first one; the top and the gap after it as nothing
+--     site                          where an aim stands: the way to its parent, then a gap g as 2g, a run of slots as its first one; the top as nothing, and after it, where there is no gap, what stands first inside
 --     is_before                     one list of numbers is less than another one: less where they first differ, or at its end before that
 --     stands_before                 of numbered aims, by their sites, and at one site by their numbers
 --     InDocumentOrder               each stands before all that come after it
@@ -19,7 +19,7 @@ on_the_way p = map (λ s. suc (s + s)) p
 
 abbrev pub site : Aim → List ℕ
 site (FirstIn p) = on_the_way p ++ 0 ∷ []
-site (AfterElement []) = []
+site (AfterElement []) = 0 ∷ []
 site (AfterElement (i ∷ p)) = let gap = suc (last_slot (i ∷ p)) in on_the_way (parent_path (i ∷ p)) ++ (gap + gap) ∷ []
 site (Over []) = []
 site (Over (p ∷ ps)) = on_the_way p

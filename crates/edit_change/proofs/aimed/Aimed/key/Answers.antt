@@ -4,7 +4,7 @@ use Rattle.edit_change.proofs.aimed.Aimed.key.Goals as goal
 
 pub returns-in_err-key-in-AfterElement-clause-key : goal.returns-in_err-key-in-AfterElement-clause-key
 returns-in_err-key-in-AfterElement-clause-key c =
-    rw c.in-AfterElement.is (c.from_residual.ensures ∙ after-none c.args.self.now.path.now c.args.depth (sym c.in_err-key-in-AfterElement.was ∙ c.on_the_way-way.ensures.key))
+    rw c.in-AfterElement.is (c.from_residual.ensures ∙ after-none c.args.self.now.path.now c.args.depth (eqb-false (length c.args.self.now.path.now) 0 (sym c.is_empty.ensures ∙ c.if-is_empty.false)) (sym c.in_err-key-in-AfterElement.was ∙ c.on_the_way-way.ensures.key))
 
 pub overflow_sub-self : goal.overflow_sub-self
 overflow_sub-self c =
