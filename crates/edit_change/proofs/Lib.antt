@@ -15,6 +15,7 @@ pub mod Independents
 pub mod Indexed
 pub mod Lists
 pub mod MovedAims
+pub mod OpenAims
 pub mod OwnerDepth
 pub mod Owners
 pub mod OwnersKeep

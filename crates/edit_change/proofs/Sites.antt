@@ -6,6 +6,7 @@
 --     LiesIn, between               a site among those of these siblings and what is in them; so is what stands between two of them
 --     Stands, stands                where a change stands
 --     replaced-aim                  what a change replaces, by its aim
+--     way-push                      the way to one slot more
 --     TargetIn                      a change replaces one of these siblings
 --     lies-strictly, lies-back      what lies in a run stands after its first slot and no further than the gap after its last one, and the other way round
 use Rattle.std.specs.Prelude.{◌≡◌, ◌<◌, ◌≤◌, ◌+◌, ◌-◌, ◌⊎◌, ℕ, zero, suc, Bool, true, false, ◌&&◌, ◌||◌, not, nat_eq, nat_lt, nat_le, List, [], ◌∷◌, ◌++◌, map, length, refl}
@@ -265,7 +266,7 @@ after-lies p f n (i ∷ q) into =
       | inr on ↦ leads-lies p f n (parent_path (i ∷ q)) (suc l + suc l) (record { slot = into.slot; rest = on.0; is = on.1; from = into.from; below = into.below })
     ]
 
-way-push : (p : Path) (g : ℕ) → on_the_way (p ++ g ∷ []) ≡ on_the_way p ++ suc (g + g) ∷ []
+pub way-push : (p : Path) (g : ℕ) → on_the_way (p ++ g ∷ []) ≡ on_the_way p ++ suc (g + g) ∷ []
 way-push p g = map-append (λ s. suc (s + s)) p (g ∷ [])
 
 pub lies-strictly : (c : Change) → Stands c → (p : Path) (f n : ℕ) → list_any (has_path (surroundings c)) (run p f n) ≡ true → LiesThere p f n (site (aim c))

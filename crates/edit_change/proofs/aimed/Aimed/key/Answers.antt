@@ -1,4 +1,4 @@
-use Rattle.std.proofs.Common.{◌^◌, ◌<◌, refl, sym, ◌∙◌, arith}
+use Rattle.std.proofs.Common.{◌^◌, ◌<◌, length, refl, sym, ◌∙◌, arith}
 use Rattle.std.proofs.lemmas.Bool.{eqb-false}
 use Rattle.edit_change.proofs.DocumentOrder.{way-within, after-none, after-last, after-on, first-on, over-key}
 use Rattle.edit_change.proofs.aimed.Aimed.key.Goals as goal
