@@ -13,6 +13,7 @@ pub mod GapRule
 pub mod AimsHere
 pub mod Independents
 pub mod Indexed
+pub mod Innermost
 pub mod Lists
 pub mod MovedAims
 pub mod OpenAims
