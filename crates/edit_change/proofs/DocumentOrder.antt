@@ -5,7 +5,8 @@
 --     before-compared               lists of numbers compare as their order says
 --     stands-compared               one aim stands before another one exactly if it is less by site and number
 --     aims-total                    that is an order
---     sorted-in-order               the numbers of sorted aims are a document order
+--     OfChange, all-there           an aim is that of the change with its number; each of sorted aims is
+--     numbers-in-order, are-sorted  the numbers of sorted aims are a document order; aims are sorted by the comparison
 --     aims-further                  one aim more of those of all changes
 use Rattle.std.specs.Prelude.{◌≡◌, ◌≢◌, ◌<◌, ◌+◌, ◌-◌, ◌*◌, ℕ, zero, suc, Bool, true, false, ◌&&◌, ◌||◌, ◌==◌, cond, nat_eq, nat_lt, List, [], ◌∷◌, ◌++◌, map, drop, take, length, slice_get, Option, Some, None, option_map, refl}
 use Rattle.std.specs.List.{AllByRecursion, IsDistinct, cons_option, enumerate_from}
@@ -33,7 +34,7 @@ use Rattle.edit_change.specs.ChangeAim.{aim}
 use Rattle.edit_change.specs.NewTree.{change_aims}
 use Rattle.edit_change.specs.Rewriting.{NumberedAim}
 use Rattle.edit_change.specs.inner.Aimed.{siblings_from, numbered, aims_of}
-use Rattle.edit_change.specs.inner.DocumentOrder.{on_the_way, site, is_before, stands_before, InDocumentOrder, aims_at, IsDocumentOrder}
+use Rattle.edit_change.specs.inner.DocumentOrder.{on_the_way, site, is_before, stands_before, InDocumentOrder, AreSorted, aims_at, IsDocumentOrder}
 use Rattle.edit_change.specs.declared.aimed.Aimed.{Aimed}
 use Rattle.edit_change.specs.declared.change.Change.{Change}
 use Rattle.edit_change.proofs.Independents.{enumerate-push}
@@ -192,11 +193,11 @@ stands-compared c d = go (slice_cmp nat_cmp (site c.1) (site d.1)) refl
         decides (slice_cmp nat_cmp (site c.1) (site d.1)) ∙ ap₂ (λ a b. a || b && nat_lt c.0 d.0) (before-compared (site c.1) (site d.1)) (is_eq-slice_cmp (site c.1) (site d.1))
 
 -- ---- sorted aims
-abbrev OfChange : List Change → NumberedAim → Type 0
+abbrev pub OfChange : List Change → NumberedAim → Type 0
 OfChange cs a = (c : Change) × (slice_get cs a.0 ≡ Some c) × (a ≡ (a.0, aim c))
 
 -- the aims at the numbers of aims of changes are these aims
-aims-back : (cs : List Change) (as_are : List NumberedAim) → AllByRecursion (OfChange cs) as_are → aims_at cs (map (λ a. a.0) as_are) ≡ as_are
+aims-back : (cs : List Change) (xs : List NumberedAim) → AllByRecursion (OfChange cs) xs → aims_at cs (map (λ a. a.0) xs) ≡ xs
 aims-back cs [] all = refl
 aims-back cs (a ∷ rest) all =
     let here : option_map (λ c. (a.0, aim c)) (slice_get cs a.0) ≡ Some a = ap (option_map (λ c. (a.0, aim c))) all.0.1 ∙ ap Some (sym all.0.2) in
@@ -238,34 +239,38 @@ one-first a b ne not_less = go (aim_cmp a b) refl
     go Equal is = absurd (false≢true (sym ne ∙ eq-eqb a.0 b.0 (ranked a.0 b.0 Equal (sym (parts (slice_cmp nat_cmp (site a.1) (site b.1)) (nat_cmp a.0 b.0) is)))))
     go Greater is = absurd (false≢true (sym not_less ∙ ap is_lt (aims-total.antisymm b a ∙ ap ordering_reverse is)))
 
+module _ (cs : List Change) (xs : List NumberedAim) where
+  counted-once : IsPermutation (change_aims (enumerate_from 0 cs)) xs → IsPermutation (counted_from 0 (length cs)) (map (λ a. a.0) xs)
+  counted-once moved =
+      subst (λ ns. IsPermutation ns (map (λ (a : NumberedAim). a.0) xs)) (numbers-counted 0 cs) (IsPermutation-map (λ (a : NumberedAim). a.0) (change_aims (enumerate_from 0 cs)) xs moved)
+
+  pub all-there : IsPermutation (change_aims (enumerate_from 0 cs)) xs → AllByRecursion (OfChange cs) xs
+  all-there moved =
+      recursion_from_All (OfChange cs) xs (All-permutation (OfChange cs) (change_aims (enumerate_from 0 cs)) xs moved (All-from_recursion (OfChange cs) (change_aims (enumerate_from 0 cs)) (all-of-changes cs (enumerate_from 0 cs) (all_enumerated cs))))
+
+  distinct : IsPermutation (change_aims (enumerate_from 0 cs)) xs → IsDistinct nat_eq (map (λ a. a.0) xs)
+  distinct moved = IsDistinct-IsPermutation nat_eq nat_eq_equiv.symm (counted_from 0 (length cs)) (map (λ a. a.0) xs) (counted-once moved) (counted-distinct 0 (length cs))
+
+  pub numbers-in-order : (ns : List ℕ) → AreSorted cs xs → ns ≡ map (λ a. a.0) xs → IsDocumentOrder cs ns
+  numbers-in-order ns sorted is =
+      subst (IsDocumentOrder cs) (sym is) (record { each_once = counted-once sorted.each_once; in_order = subst InDocumentOrder (sym (aims-back cs xs (all-there sorted.each_once))) sorted.in_order })
+
+-- sorted aims are in document order
 module _ (cs : List Change) (aims sorted : List Aimed) (told : aims_of aims ≡ change_aims (enumerate_from 0 cs)) (moved : IsPermutation aims sorted) (up : IsSortedBy (λ x y. is_lt (aim_cmp (numbered x) (numbered y))) sorted) where
-  abbrev order : List ℕ
-  order = map (λ (a : Aimed). a.change) sorted
-
-  each-once : IsPermutation (counted_from 0 (length cs)) order
-  each-once =
-      let change : Aimed → ℕ = λ a. a.change in
-      subst (λ ns. IsPermutation ns order) (sym (map-map (λ (a : NumberedAim). a.0) numbered aims) ∙ ap (map (λ (a : NumberedAim). a.0)) told ∙ numbers-counted 0 cs) (IsPermutation-map change aims sorted moved)
-
-  all-there : AllByRecursion (OfChange cs) (aims_of sorted)
-  all-there =
-      recursion_from_All (OfChange cs) (aims_of sorted) (All-permutation (OfChange cs) (aims_of aims) (aims_of sorted) (IsPermutation-map numbered aims sorted moved) (All-from_recursion (OfChange cs) (aims_of aims) (subst (AllByRecursion (OfChange cs)) (sym told) (all-of-changes cs (enumerate_from 0 cs) (all_enumerated cs)))))
-
-  distinct : IsDistinct nat_eq order
-  distinct = IsDistinct-IsPermutation nat_eq nat_eq_equiv.symm (counted_from 0 (length cs)) order each-once (counted-distinct 0 (length cs))
+  each-once : IsPermutation (change_aims (enumerate_from 0 cs)) (aims_of sorted)
+  each-once = subst (λ xs. IsPermutation xs (aims_of sorted)) told (IsPermutation-map numbered aims sorted moved)
 
   stands : (i j : ℕ) (x y : Aimed) → i < j → slice_get sorted i ≡ Some x → slice_get sorted j ≡ Some y → stands_before (numbered x) (numbered y) ≡ true
   stands i j x y l is_x is_y =
       let j_in = slice_get_within sorted j y is_y in
-      let i_in = slice_get_within sorted i x is_x in
-      let long = length-map sorted (λ (a : Aimed). a.change) in
       let first : get_or sorted i x ≡ x = get_or_from_slice_get sorted i x x is_x in
       let second : get_or sorted j x ≡ y = get_or_from_slice_get sorted j y x is_y in
       let below : Aimed → Aimed → Bool = λ x y. is_lt (aim_cmp (numbered x) (numbered y)) in
       let far : below y x ≡ false = sym (ap₂ below second first) ∙ sorted_far below (ranks_by aims-total numbered) sorted up i j x (omega (arith, l)) j_in in
-      let at_i : get_or order i 0 ≡ x.change = get_or_from_slice_get order i x.change 0 (slice_get-map (λ (a : Aimed). a.change) sorted i ∙ ap (option_map (λ (a : Aimed). a.change)) is_x) in
-      let at_j : get_or order j 0 ≡ y.change = get_or_from_slice_get order j y.change 0 (slice_get-map (λ (a : Aimed). a.change) sorted j ∙ ap (option_map (λ (a : Aimed). a.change)) is_y) in
-      let apart : nat_eq x.change y.change ≡ false = sym (ap₂ nat_eq at_i at_j) ∙ apart_from_distinct nat_eq order i j 0 distinct l (omega (arith, j_in, long)) in
+      let numbers = map (λ (a : NumberedAim). a.0) (aims_of sorted) in
+      let long : length numbers ≡ length sorted = length-map (aims_of sorted) (λ (a : NumberedAim). a.0) ∙ length-map sorted numbered in
+      let at : (k : ℕ) (z : Aimed) → slice_get sorted k ≡ Some z → get_or numbers k 0 ≡ z.change = λ k z is. get_or_from_slice_get numbers k z.change 0 (slice_get-map (λ (a : NumberedAim). a.0) (aims_of sorted) k ∙ ap (option_map (λ (a : NumberedAim). a.0)) (slice_get-map numbered sorted k ∙ ap (option_map numbered) is)) in
+      let apart : nat_eq x.change y.change ≡ false = sym (ap₂ nat_eq (at i x is_x) (at j y is_y)) ∙ apart_from_distinct nat_eq numbers i j 0 (distinct cs (aims_of sorted) each-once) l (omega (arith, j_in, long)) in
       sym (stands-compared (numbered x) (numbered y)) ∙ one-first (numbered x) (numbered y) apart far
 
   in-order : InDocumentOrder (aims_of sorted)
@@ -282,10 +287,8 @@ module _ (cs : List Change) (aims sorted : List Aimed) (told : aims_of aims ≡ 
           go None at e = absurd (none-some a e)
           go (Some x) at e = (x, at, same_Some (numbered x) a e)
 
-  pub sorted-in-order : (ns : List ℕ) → ns ≡ order → IsDocumentOrder cs ns
-  sorted-in-order ns is =
-      let back : aims_at cs order ≡ aims_of sorted = ap (aims_at cs) (sym (map-map (λ (a : NumberedAim). a.0) numbered sorted)) ∙ aims-back cs (aims_of sorted) all-there in
-      subst (IsDocumentOrder cs) (sym is) (record { each_once = each-once; in_order = subst InDocumentOrder (sym back) in-order })
+  pub are-sorted : AreSorted cs (aims_of sorted)
+  are-sorted = record { each_once = each-once; in_order = in-order }
 
 -- one aim more of those of all changes
 pub aims-further : (cs : List Change) (n : ℕ) (c : Change) (before after : List Aimed) (a : Aimed) → n < length cs → c ≡ get_or cs n c → aims_of before ≡ change_aims (enumerate_from 0 (take n cs)) → after ≡ before ++ a ∷ [] → numbered a ≡ (n, aim c) → aims_of after ≡ change_aims (enumerate_from 0 (take (n + 1) cs))

@@ -6,6 +6,7 @@ pub mod AlteredNodes
 pub mod Clashes
 mod SlotsOfParents
 pub mod DocumentOrder
+mod Closing
 pub mod Edits
 mod Entering
 mod FateWays
@@ -31,5 +32,6 @@ pub mod SeenBelow
 pub mod Sites
 pub mod GivenTrees
 mod Slots
+pub mod Surrounding
 pub mod Untouched
 pub mod WayOfRegions

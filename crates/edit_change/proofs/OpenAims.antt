@@ -1,5 +1,4 @@
 -- Which changes lie in which, in document order, where no two clash.
---     OfChange                      an aim is that of the change with its number
 --     no-share                      no two of them share a target
 --     before-after                  what stands before another one is not after it
 --     around-between                what is around a change is around all that stands between
@@ -26,13 +25,10 @@ use Rattle.edit_change.specs.Rewriting.{NumberedAim}
 use Rattle.edit_change.specs.inner.DocumentOrder.{on_the_way, site, is_before, stands_before}
 use Rattle.edit_change.specs.inner.Open.{replaced, surrounds}
 use Rattle.edit_change.specs.declared.change.Change.{Change}
-use Rattle.edit_change.proofs.DocumentOrder.{before-compared}
+use Rattle.edit_change.proofs.DocumentOrder.{OfChange, before-compared}
 use Rattle.edit_change.proofs.Paths.{meets, same_path-true, same_path_from}
 use Rattle.edit_change.proofs.RootAlone.{unclashed}
 use Rattle.edit_change.proofs.Sites.{run, sibling-any, way-push, on-the-way, way-to, up_to-leads, between, replaced-aim, Stands, First, Behind, Whole, Run, stands, lies-strictly, lies-back}
-
-abbrev pub OfChange : List Change → NumberedAim → Type 0
-OfChange cs a = (c : Change) × (slice_get cs a.0 ≡ Some c) × (a ≡ (a.0, aim c))
 
 -- ---- one before another
 less-is : (o : Ordering) → is_lt o ≡ true → o ≡ Less

@@ -5,8 +5,12 @@ ghost use Rattle.edit_change.specs.inner.Aimed.{concerns};
 ghost use Rattle.std.specs.Prelude.{slice_get, ◌^◌, IfSome};
 ghost use Rattle.std.specs.Cmp.Lexicographic.{slice_cmp};
 ghost use Rattle.std.specs.Ordering.{nat_cmp, is_lt};
+ghost use Rattle.std.specs.Option.{option_map_or};
+ghost use Rattle.cst_core.specs.Path.{up_to};
+ghost use Rattle.edit_change.specs.inner.Open.{surrounds};
 ghost use Rattle.edit_change.specs.inner.DocumentOrder.{on_the_way, site, stands_before};
 
+use crate::targets::{parent, slot as last_slot};
 use std::cmp::Ordering;
 
 /// Where something aims, from the element at a path.
@@ -190,6 +194,33 @@ impl<'a> Aimed<'a> {
             });
         }
         None
+    }
+
+    /// Whether it replaces an element on the way to a path; none if there is no path.
+    pub fn surrounds(&self, path: Option<&[usize]>) -> bool
+        ensures { result ≡ surrounds (option_map_or (λ p. up_to p.now) path.entry [])
+            (aim_in self.now.path.now self.now.form) }
+    {
+        let AimForm::Over(count) = self.form else {
+            return false;
+        };
+        let Some(path) = path else {
+            return false;
+        };
+        if self.path.is_empty() {
+            return count > 0;
+        }
+        let Some(below) = path.strip_prefix(parent(self.path)) else {
+            return false;
+        };
+        let [slot, ..] = below else {
+            return false;
+        };
+        let first = last_slot(self.path);
+        if *slot < first {
+            return false;
+        }
+        *slot - first < count
     }
 
     // What stands at a depth of the site where it aims.
