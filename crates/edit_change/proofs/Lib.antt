@@ -33,5 +33,6 @@ pub mod Sites
 pub mod GivenTrees
 mod Slots
 pub mod Surrounding
+mod Sweeping
 pub mod Untouched
 pub mod WayOfRegions

@@ -40,7 +40,7 @@ turned : (xs ys : List ℕ) → is_before xs ys ≡ true → is_before ys xs ≡
 turned xs ys h =
     sym (before-compared ys xs) ∙ ap is_lt (nat_list_cmp_total.antisymm ys xs ∙ ap ordering_reverse (less-is (slice_cmp nat_cmp xs ys) (before-compared xs ys ∙ h)))
 
-not-self : (xs : List ℕ) → is_before xs xs ≡ false
+pub not-self : (xs : List ℕ) → is_before xs xs ≡ false
 not-self xs =
     elim (cases_Bool (is_before xs xs)) [
       | inl before ↦ absurd (true≢false (sym before ∙ turned xs xs before))
