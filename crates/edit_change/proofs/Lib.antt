@@ -9,7 +9,6 @@ pub mod DocumentOrder
 mod Closing
 pub mod Edits
 mod Entering
-mod FateWays
 pub mod GapRule
 pub mod AimsHere
 pub mod Independents

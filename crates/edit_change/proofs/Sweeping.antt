@@ -2,9 +2,11 @@
 --     Swept                         what is true before some aims are swept
 --     swept-none, swept-end          before the first one, behind the last
 --     swept-closed, swept-fate, swept-pushed, swept-passed     where what is over is taken off; the fate of the next one; what is true after it, if it is open, and if it has no region
-use Rattle.std.specs.Prelude.{◌≡◌, ◌≢◌, ◌<◌, ◌≤◌, ◌+◌, ◌⊎◌, ℕ, zero, suc, Bool, true, false, ◌&&◌, ◌||◌, cond, nat_eq, List, [], ◌∷◌, ◌++◌, map, length, slice_get, Option, Some, None, option_map, All, refl}
+--     swept-there, swept-here, swept-with, swept-without     the same over a list in code
+--     last-is, last-there           the last that is open
+use Rattle.std.specs.Prelude.{◌≡◌, ◌≢◌, ◌<◌, ◌≤◌, ◌+◌, ◌-◌, ◌⊎◌, ℕ, zero, suc, Bool, true, false, ◌&&◌, ◌||◌, cond, nat_eq, List, [], ◌∷◌, ◌++◌, map, drop, length, slice_get, Option, Some, None, option_map, IfSome, All, refl}
 use Rattle.std.specs.List.{AllByRecursion, list_any, enumerate_from}
-use Rattle.std.specs.Option.{option_map_or}
+use Rattle.std.specs.Option.{option_map_or, option_copied}
 use Rattle.std.proofs.Common.{ap, ap₂, sym, subst, ◌∙◌, arith, append_assoc, get_or}
 use Rattle.std.proofs.Math.ListN.{set, length-set}
 use Rattle.std.proofs.lemmas.Bool.{cases_Bool, cases_eq, or_cases, or_left, or_right, or_from, eqb-true, eqb-false, eq-eqb, ne_eqb, true_from_ne_false, false_from_ne_true, false≢true, true≢false}
@@ -13,6 +15,8 @@ use Rattle.std.proofs.lemmas.List.Elements.{All-from_recursion, recursion_from_A
 use Rattle.std.proofs.lemmas.List.Sorted.{list_any-IsPermutation}
 use Rattle.std.proofs.lemmas.Map.Keys.{any_passes_from_place}
 use Rattle.std.proofs.lemmas.Option.{none-some, same_Some, slice_get-map, slice_get_within, slice_get-get_or}
+use Rattle.std.proofs.lemmas.List.{map-append}
+use denote.Ref.{Bor}
 use mathlib.Core.Logic.{inl, inr}
 use Rattle.cst_core.specs.Path.{Path, has_path, last_item}
 use Rattle.cst_core.specs.Element.{Element}
@@ -23,12 +27,15 @@ use Rattle.edit_change.specs.Fits.{Fits}
 use Rattle.edit_change.specs.Nesting.{region, surroundings, is_around, first_clash}
 use Rattle.edit_change.specs.NewTree.{change_aims}
 use Rattle.edit_change.specs.Rewriting.{NumberedAim}
+use Rattle.edit_change.specs.inner.Aimed.{numbered, aims_of}
 use Rattle.edit_change.specs.inner.DocumentOrder.{site, is_before, stands_before, InDocumentOrder, AreSorted}
 use Rattle.edit_change.specs.inner.Fate.{fate}
 use Rattle.edit_change.specs.inner.Open.{replaced, surrounds, Closes, inside, inside_last}
+use Rattle.edit_change.specs.declared.aimed.Aimed.{Aimed}
 use Rattle.edit_change.specs.declared.change.Change.{Change}
 use Rattle.edit_change.specs.declared.fate.Fate.{Fate}
 use Rattle.edit_change.specs.declared.fate.Fate.TheVariants.{Independent}
+use Rattle.edit_change.proofs.Closing.{mapped-last}
 use Rattle.edit_change.proofs.DocumentOrder.{OfChange, all-there}
 use Rattle.edit_change.proofs.Innermost.{region_cases, fate-inside, fate-free}
 use Rattle.edit_change.proofs.Lists.{all-append, all_last, all_weaker, slice_get-set_same, slice_get-set_other}
@@ -324,3 +331,57 @@ module _ (cs : List Change) (root : Element) (fit : All (Fits root) cs) (apart :
             ];
         told = set-told;
       }
+
+-- ---- over a list in code
+module _ (aims : List Aimed) (k : ℕ) (d : Aimed) (l : k < length aims) where
+  next-aim : aims_of (drop k aims) ≡ numbered (get_or aims k d) ∷ aims_of (drop (k + 1) aims)
+  next-aim = go aims k l
+    where
+      go : (xs : List Aimed) (k : ℕ) → k < length xs → aims_of (drop k xs) ≡ numbered (get_or xs k d) ∷ aims_of (drop (k + 1) xs)
+      go [] k l = absurd (omega (arith, l))
+      go (x ∷ xs) zero l = let e : 0 + 1 ≡ 1 = omega arith in ap (λ n. numbered x ∷ aims_of (drop n (x ∷ xs))) (sym e)
+      go (x ∷ xs) (suc k) l = let e : suc k + 1 ≡ suc (k + 1) = omega arith in go xs k (omega (arith, l)) ∙ ap (λ n. numbered (get_or xs k d) ∷ aims_of (drop n (x ∷ xs))) (sym e)
+
+  pub swept-there : (cs : List Change) (fates : List Fate) (os : List NumberedAim) → Swept cs fates os (aims_of (drop k aims)) → (get_or aims k d).change < length cs
+  swept-there cs fates os swept =
+      let of : OfChange cs (numbered (get_or aims k d)) = (subst (AllByRecursion (OfChange cs)) next-aim swept.of_rest).0 in
+      slice_get_within cs (get_or aims k d).change of.0 of.1
+
+  module _ (cs : List Change) (root : Element) (fit : All (Fits root) cs) (apart : first_clash cs ≡ None) (fates : List Fate) (c : Change) (is_c : slice_get cs (get_or aims k d).change ≡ Some c) (before closed : List Aimed) (ps : List Path) (swept : Swept cs fates (aims_of before) (aims_of (drop k aims))) (around : ps ≡ surroundings c) (closes : Closes ps (aims_of before) (aims_of closed)) where
+    abbrev x : Aimed
+    x = get_or aims k d
+
+    abbrev rest : List NumberedAim
+    rest = aims_of (drop (k + 1) aims)
+
+    closed_here : Closes (surroundings c) (aims_of before) (aims_of closed)
+    closed_here = subst (λ qs. Closes qs (aims_of before) (aims_of closed)) around closes
+
+    pub swept-here : Swept cs fates (aims_of closed) (numbered x ∷ rest)
+    swept-here =
+        swept-closed cs root fit apart fates (numbered x) rest c is_c (aims_of before) (aims_of closed) (subst (Swept cs fates (aims_of before)) next-aim swept) closed_here
+
+    fate-here : (f : Fate) → f ≡ inside_last cs fates (last_item (aims_of closed)) → f ≡ fate cs c
+    fate-here f told = told ∙ sym (swept-fate cs root fit apart fates (numbered x) rest c is_c (aims_of closed) swept-here closed_here.last)
+
+    pub swept-with : (f : Fate) (after : List Aimed) → f ≡ inside_last cs fates (last_item (aims_of closed)) → after ≡ closed ++ x ∷ [] → region c ≡ targets c → Swept cs (set fates x.change f) (aims_of after) rest
+    swept-with f after told push whole =
+        subst (λ g. Swept cs (set fates x.change g) (aims_of after) rest) (sym (fate-here f told)) (swept-pushed cs root fit apart fates (numbered x) rest c is_c (aims_of closed) swept-here closed_here.last (aims_of after) (ap aims_of push ∙ map-append numbered closed (x ∷ [])) whole)
+
+    pub swept-without : (f : Fate) (after : List Aimed) → f ≡ inside_last cs fates (last_item (aims_of closed)) → after ≡ closed → region c ≡ [] → Swept cs (set fates x.change f) (aims_of after) rest
+    swept-without f after told same none =
+        subst (λ g. Swept cs (set fates x.change g) (aims_of after) rest) (sym (fate-here f told)) (swept-passed cs root fit apart fates (numbered x) rest c is_c (aims_of closed) swept-here closed_here.last (aims_of after) (ap aims_of same) none)
+
+-- the last that is open
+pub last-is : (xs : List Aimed) (r : Option (Bor Aimed)) → option_copied r ≡ slice_get xs (length xs - 1) → option_map (λ a. numbered a.now) r ≡ last_item (aims_of xs)
+last-is [] None is = refl
+last-is (x ∷ xs) None is =
+    let there = slice_get-get_or (x ∷ xs) (length (x ∷ xs) - 1) x (omega arith) in
+    absurd (none-some (get_or (x ∷ xs) (length (x ∷ xs) - 1) x) (is ∙ there))
+last-is xs (Some a) is = sym (mapped-last numbered xs a.now (sym is))
+
+pub last-there : (cs : List Change) (xs : List Aimed) (r : Option (Bor Aimed)) → AllByRecursion (OfRegion cs) (aims_of xs) → option_copied r ≡ slice_get xs (length xs - 1) → IfSome r (λ a. a.now.change < length cs)
+last-there cs xs None all is = tt
+last-there cs xs (Some a) all is =
+    let of = all_last (OfRegion cs) (aims_of xs) (numbered a.now) all (mapped-last numbered xs a.now (sym is)) in
+    slice_get_within cs a.now.change of.0 of.1

@@ -5,7 +5,6 @@ pub mod DocumentOrder
 pub mod Targets
 pub mod TargetTable
 pub mod Fate
-pub mod FateWay
 pub mod Clash
 pub mod Open
 pub mod OwnerPlaces
