@@ -5,15 +5,18 @@ pub mod BroughtTops
 pub mod AlteredNodes
 pub mod Clashes
 mod SlotsOfParents
+pub mod DocumentOrder
+mod Closing
 pub mod Edits
 mod Entering
-mod FateWays
 pub mod GapRule
 pub mod AimsHere
 pub mod Independents
 pub mod Indexed
+pub mod Innermost
 pub mod Lists
 pub mod MovedAims
+pub mod OpenAims
 pub mod OwnerDepth
 pub mod Owners
 pub mod OwnersKeep
@@ -25,7 +28,10 @@ pub mod RewrittenAlike
 pub mod RootAlone
 mod RootTargets
 pub mod SeenBelow
+pub mod Sites
 pub mod GivenTrees
 mod Slots
+pub mod Surrounding
+mod Sweeping
 pub mod Untouched
 pub mod WayOfRegions

@@ -1,4 +1,5 @@
 -- What becomes of a change, from the regions that are around it.
+--     region-in                     a region has targets alone
 --     region-here, region-none      the region at a path, by the change that replaces what is there
 --     fate-is                       the fate of a change is that of one which its surroundings are around
 --     owner-told                    the owner of a change, from its fate
@@ -23,7 +24,7 @@ use Rattle.edit_change.proofs.Paths.{meets}
 use Rattle.edit_change.proofs.Around.{any-swap, around-turned, any-and}
 use Rattle.edit_change.proofs.Positions.{position-cons, all-fail}
 
-region-in : (c : Change) (p : Path) → has_path (targets c) p ≡ false → has_path (region c) p ≡ false
+pub region-in : (c : Change) (p : Path) → has_path (targets c) p ≡ false → has_path (region c) p ≡ false
 region-in (Insert at e) p h = refl
 region-in (InsertAll at es) p h = refl
 region-in (Replace (Node n) e) p h = h

@@ -5,8 +5,8 @@ pub mod DocumentOrder
 pub mod Targets
 pub mod TargetTable
 pub mod Fate
-pub mod FateWay
 pub mod Clash
+pub mod Open
 pub mod OwnerPlaces
 pub mod OneNode
 pub mod Given

@@ -2,6 +2,16 @@ ghost use Rattle.std.specs.Prelude.{ℕ, ◌<◌, ◌≤◌, ◌+◌, ◌≡◌,
 ghost use Rattle.edit_change.specs.Aim.{FirstIn, AfterElement, Over, aims_at_gap, starts_at, replaces};
 ghost use Rattle.edit_change.specs.inner.Aimed.{aim_in, siblings_from, formed, numbered, option_formed, seen_from, has_parent};
 ghost use Rattle.edit_change.specs.inner.Aimed.{concerns};
+ghost use Rattle.std.specs.Prelude.{slice_get, ◌^◌, IfSome};
+ghost use Rattle.std.specs.Cmp.Lexicographic.{slice_cmp};
+ghost use Rattle.std.specs.Ordering.{nat_cmp, is_lt};
+ghost use Rattle.std.specs.Option.{option_map_or};
+ghost use Rattle.cst_core.specs.Path.{up_to};
+ghost use Rattle.edit_change.specs.inner.Open.{surrounds};
+ghost use Rattle.edit_change.specs.inner.DocumentOrder.{on_the_way, site, stands_before};
+
+use crate::targets::{parent, slot as last_slot};
+use std::cmp::Ordering;
 
 /// Where something aims, from the element at a path.
 #[derive(Clone, Copy)]
@@ -23,6 +33,16 @@ pub struct Aimed<'a> {
     pub path: &'a [usize],
     /// Where it aims from there.
     pub form: AimForm,
+}
+
+// What stands at a depth of the way to the element at a path.
+fn on_the_way(path: &[usize], depth: usize) -> Option<u128>
+    ensures key { result ≡ slice_get (on_the_way path.now) depth }
+    ensures small { IfSome result (λ k. k < 2 ^ 66) }
+    ensures within { IfSome result (λ k. depth < 2 ^ 62) }
+{
+    let slot = path.get(depth)?;
+    Some(2 * (*slot as u128) + 1)
 }
 
 impl<'a> Aimed<'a> {
@@ -174,5 +194,96 @@ impl<'a> Aimed<'a> {
             });
         }
         None
+    }
+
+    /// Whether it replaces an element on the way to a path; none if there is no path.
+    pub fn surrounds(&self, path: Option<&[usize]>) -> bool
+        ensures { result ≡ surrounds (option_map_or (λ p. up_to p.now) path.entry [])
+            (aim_in self.now.path.now self.now.form) }
+    {
+        let AimForm::Over(count) = self.form else {
+            return false;
+        };
+        let Some(path) = path else {
+            return false;
+        };
+        if self.path.is_empty() {
+            return count > 0;
+        }
+        let Some(below) = path.strip_prefix(parent(self.path)) else {
+            return false;
+        };
+        let [slot, ..] = below else {
+            return false;
+        };
+        let first = last_slot(self.path);
+        if *slot < first {
+            return false;
+        }
+        *slot - first < count
+    }
+
+    // What stands at a depth of the site where it aims.
+    fn key(&self, depth: usize) -> Option<u128>
+        ensures key { result ≡ slice_get (site (aim_in self.now.path.now self.now.form)) depth }
+        ensures within { IfSome result (λ k. depth < 2 ^ 62) }
+    {
+        let way = on_the_way(self.path, depth);
+        match self.form {
+            AimForm::FirstIn => {
+                if depth == self.path.len() {
+                    return Some(0);
+                }
+                way
+            }
+            AimForm::AfterElement => {
+                if self.path.is_empty() {
+                    return if depth == 0 { Some(0) } else { None };
+                }
+                let key = way?;
+                if self.path.len() - depth == 1 {
+                    return Some(key + 1);
+                }
+                Some(key)
+            }
+            AimForm::Over(count) => {
+                if count == 0 {
+                    return None;
+                }
+                way
+            }
+        }
+    }
+
+    // The order of the sites alone.
+    fn compare_sites(&self, other: &Aimed<'_>) -> Ordering
+        ensures { result ≡ slice_cmp nat_cmp (site (aim_in self.now.path.now self.now.form))
+            (site (aim_in other.now.path.now other.now.form)) }
+    {
+        let mut depth = 0;
+        loop {
+            let Some(one) = self.key(depth) else {
+                return match other.key(depth) {
+                    Some(_) => Ordering::Less,
+                    None => Ordering::Equal,
+                };
+            };
+            let Some(two) = other.key(depth) else {
+                return Ordering::Greater;
+            };
+            match one.cmp(&two) {
+                Ordering::Less => return Ordering::Less,
+                Ordering::Equal => depth += 1,
+                Ordering::Greater => return Ordering::Greater,
+            }
+        }
+    }
+
+    /// Document order: a gap before its slot, what is inside an element after what replaces it, and at one site by the numbers.
+    pub fn compare(&self, other: &Aimed<'_>) -> Ordering
+        ensures { is_lt result ≡ stands_before (numbered self.now) (numbered other.now) }
+    {
+        self.compare_sites(other)
+            .then(self.change.cmp(&other.change))
     }
 }

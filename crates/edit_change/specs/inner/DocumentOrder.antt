@@ -1,16 +1,19 @@
 -- Document order of aims: a gap before its slot, and what is inside an element after what replaces it.
 --     on_the_way                    a path, in which each slot s counts as 2s + 1
---     site                          where an aim stands: the way to its parent, then a gap g as 2g, a run of slots as its first one; the top and the gap after it as nothing
+--     site                          where an aim stands: the way to its parent, then a gap g as 2g, a run of slots as its first one; the top as nothing, and after it, where there is no gap, what stands first inside
 --     is_before                     one list of numbers is less than another one: less where they first differ, or at its end before that
 --     stands_before                 of numbered aims, by their sites, and at one site by their numbers
 --     InDocumentOrder               each stands before all that come after it
+--     AreSorted                     the aims of all changes of a list, in document order
 --     aims_at                       the aims of the changes with these numbers
 --     IsDocumentOrder               an order of all changes, in which their aims are in document order
 use Rattle.std.specs.Prelude.{◌≡◌, ℕ, suc, ◌+◌, Bool, ◌&&◌, ◌||◌, true, false, nat_eq, nat_lt, ⊤, List, [], ◌∷◌, ◌++◌, length, map, filter_map, slice_get, option_map, All}
+use Rattle.std.specs.List.{enumerate_from}
 use Rattle.std.specs.List.Sorted.{IsPermutation}
 use Rattle.green_tree.specs.Path.{Path, parent_path, last_slot, same_path, counted_from}
 use Rattle.edit_change.specs.Aim.{Aim, FirstIn, AfterElement, Over}
 use Rattle.edit_change.specs.ChangeAim.{aim}
+use Rattle.edit_change.specs.NewTree.{change_aims}
 use Rattle.edit_change.specs.Rewriting.{NumberedAim}
 use Rattle.edit_change.specs.declared.change.Change.{Change}
 
@@ -19,7 +22,7 @@ on_the_way p = map (λ s. suc (s + s)) p
 
 abbrev pub site : Aim → List ℕ
 site (FirstIn p) = on_the_way p ++ 0 ∷ []
-site (AfterElement []) = []
+site (AfterElement []) = 0 ∷ []
 site (AfterElement (i ∷ p)) = let gap = suc (last_slot (i ∷ p)) in on_the_way (parent_path (i ∷ p)) ++ (gap + gap) ∷ []
 site (Over []) = []
 site (Over (p ∷ ps)) = on_the_way p
@@ -37,6 +40,10 @@ InDocumentOrder [] = ⊤
 InDocumentOrder (c ∷ cs) = All (λ d. stands_before c d ≡ true) cs × InDocumentOrder cs
 
 -- ---- of changes
+pub record AreSorted (cs : List Change) (aims : List NumberedAim) : Type 0 where
+  pub each_once : IsPermutation (change_aims (enumerate_from 0 cs)) aims
+  pub in_order : InDocumentOrder aims
+
 abbrev pub aims_at : List Change → List ℕ → List NumberedAim
 aims_at cs ns = filter_map (λ n. option_map (λ c. (n, aim c)) (slice_get cs n)) ns
 
