@@ -255,8 +255,8 @@ impl<'a> Aimed<'a> {
         }
     }
 
-    // The order of the sites alone.
-    fn compare_sites(&self, other: &Aimed<'_>) -> Ordering
+    /// Document order but for the numbers: aims at one site are equal.
+    pub fn compare_sites(&self, other: &Aimed<'_>) -> Ordering
         ensures { result ≡ slice_cmp nat_cmp (site (aim_in self.now.path.now self.now.form))
             (site (aim_in other.now.path.now other.now.form)) }
     {

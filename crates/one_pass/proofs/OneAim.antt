@@ -260,7 +260,7 @@ longer x (y ∷ xs) l = order-inside x [] (y ∷ xs)
 module _ (i : ℕ) (xs : List ℕ) (some : 1 ≤ length xs) where
   behind : (c : ℕ) (p : Path) (w : AimForm) → (IsBelow i (as_formed c p w) → ⊥) → is_before (site (aim_in p w)) (suc (i + i) ∷ xs) ≡ false → suc (i + i) < key (as_formed c p w)
   behind c [] FirstIn away h = absurd (omega (arith, order-key (0 ∷ []) (suc (i + i) ∷ xs) h))
-  behind c [] AfterElement away h = absurd (cc)
+  behind c [] AfterElement away h = absurd (omega (arith, order-key (0 ∷ []) (suc (i + i) ∷ xs) h))
   behind c [] (Over zero) away h = absurd (cc)
   behind c [] (Over (suc n)) away h = absurd (cc)
   behind c (s ∷ p) FirstIn away h =

@@ -4,9 +4,8 @@ ghost use Rattle.std.specs.Prelude.{◌≡◌, IfOk, OnOk};
 ghost use Rattle.green_tree.specs.GreenElement.{element_tree, element_trees};
 ghost use Rattle.one_pass.specs.inner.Pass.{TouchesAtMost, CountsBuilt, CountsBuiltWhole, CountsTouched};
 ghost use Rattle.one_pass.specs.inner.Pass.{green_rewritten, green_rewritten_whole, FindsRewritten, FindsWhole};
-ghost use Rattle.one_pass.specs.inner.Sweep.{AreOrdered};
 
-use crate::aim_list::{alter_some, top_is_replaced};
+use crate::aim_list::{alter_some, in_order, top_is_replaced};
 use crate::kept::push_kept;
 use crate::mark::{Mark, Sought, push_here};
 use crate::marked_given::GivenTable;
@@ -18,7 +17,7 @@ use edit_change::Aimed;
 use green_tree::GreenElement;
 use std::alloc::{AllocError, Global};
 
-/// The element made anew by changes whose aims are counted from it, in document order: `given` has what each change gives, by its number.
+/// The element made anew by changes whose aims are counted from it: `given` has what each change gives, by its number.
 /// The marks of the new element go to the end of those that the walk has found, in document order, with paths that
 /// begin with the walk's: `sought` has those of the old element.
 ///
@@ -34,7 +33,6 @@ pub fn rewrite_element(
     sought: &[Sought],
     given: &GivenTable,
 ) -> Result<GreenElement, AllocError>
-    requires { AreOrdered aims.now }
     ensures path { OnOk result (walk.new.path.items ≡ walk.old.path.items) }
     ensures builds { OnOk result (TouchesAtMost aims.now element.now walk.old.builds walk.new.builds) }
     ensures count { OnOk result (CountsBuilt aims.now element.now walk.old.builds walk.new.builds) }
@@ -52,7 +50,8 @@ pub fn rewrite_element(
         push_here(alloc, &mut walk.found, &walk.path, sought)?;
         return element.share(alloc);
     };
-    let top = open_node(alloc, walk, node, 0, aims, sought)?;
+    let sorted = in_order(alloc, aims)?;
+    let top = open_node(alloc, walk, node, 0, &sorted, sought)?;
     rewrite_open(alloc, walk, top, given)
 }
 
@@ -73,7 +72,6 @@ pub fn rewrite_whole(
     given: &GivenTable,
     builds: &mut u64,
 ) -> Result<RewrittenElements, AllocError>
-    requires { AreOrdered aims.now }
     ensures builds { OnOk result (TouchesAtMost aims.now element.now builds.old builds.new) }
     ensures count { OnOk result (CountsBuiltWhole aims.now element.now builds.old builds.new) }
     ensures whole { OnOk result (CountsTouched aims.now element.now builds.old builds.new) }

@@ -10,11 +10,14 @@
 --     QuietSlot, PassesAll          it says nothing of a child; of any of n children, nor of a gap
 --     IsSite                        this is where it stands among n children
 --     BelowUpTo, EndsBelow          the first n of some aims are inside a child; the one behind them is not
-use Rattle.std.specs.Prelude.{◌≡◌, ◌≤◌, ◌<◌, ℕ, suc, Bool, true, false, cond, ◌||◌, nat_lt, ⊤, List, [], ◌∷◌, ◌++◌, map, flat_map, drop, length, get_or, Option, Some, None}
+--     IsReordered                   the same aims in another order, those of one site in theirs
+use Rattle.std.specs.Prelude.{◌≡◌, ◌≤◌, ◌<◌, ℕ, suc, Bool, true, false, cond, ◌||◌, nat_lt, ⊤, List, [], ◌∷◌, ◌++◌, map, filter, flat_map, drop, length, get_or, Option, Some, None}
 use Rattle.std.specs.List.{list_any, AllByRecursion}
-use Rattle.green_tree.specs.Path.{Path}
+use Rattle.std.specs.List.Sorted.{IsPermutation}
+use Rattle.green_tree.specs.Path.{Path, same_path}
 use Rattle.green_tree.specs.declared.green.GreenElement.{GreenElement}
 use Rattle.edit_change.specs.Aim.{aims_at_gap, starts_at, replaces}
+use Rattle.edit_change.specs.Rewriting.{NumberedAim}
 use Rattle.edit_change.specs.inner.Aimed.{FormedAim, aim_in, formed, of_formed, has_parent, seen_from}
 use Rattle.edit_change.specs.inner.DocumentOrder.{site, is_before}
 use Rattle.edit_change.specs.declared.aimed.Aimed.{Aimed}
@@ -127,3 +130,8 @@ BelowUpTo depth i xs n = (k : ℕ) (d : Aimed) → k < n → IsBelow i (lowered 
 
 abbrev pub EndsBelow : ℕ → ℕ → List Aimed → ℕ → Type 0
 EndsBelow depth i xs n = (d : Aimed) → n < length xs → IsBelow i (lowered depth (get_or xs n d)) → ⊥
+
+-- ---- the same aims in another order, those of one site in theirs
+pub record IsReordered (cs ds : List NumberedAim) : Type 0 where
+  pub each_once : IsPermutation cs ds
+  pub by_site : (s : List ℕ) → filter (λ c. same_path s (site c.1)) ds ≡ filter (λ c. same_path s (site c.1)) cs
