@@ -3,22 +3,22 @@
 --     counts-at_most                no more nodes are built than are touched
 --     counted-own, counted-none     the node itself, where some child list is altered; where none is, nothing is built
 --     count-on                      what was counted as a whole, whatever is counted after
-use Rattle.std.specs.Prelude.{◌≡◌, ℕ, suc, ◌+◌, ◌≤◌, true, false, cond, List, [], ◌∷◌, ◌++◌, map, refl}
+use Rattle.std.specs.Prelude.{◌≡◌, ℕ, suc, ◌+◌, ◌≤◌, true, false, cond, List, [], ◌∷◌, ◌++◌, refl}
 use Rattle.std.specs.List.{list_any}
-use Rattle.std.proofs.Common.{ap, ap₂, sym, ◌∙◌, arith}
+use Rattle.std.proofs.Common.{ap, ap₂, ◌∙◌, arith}
 use Rattle.green_tree.specs.Path.{Path}
 use Rattle.green_tree.specs.Tree.{SyntaxTree, Forest, Token, Node, end, more, forest, node}
 use Rattle.edit_change.specs.Rewriting.{NumberedAim, is_replaced}
 use Rattle.edit_change.specs.declared.aimed.Aimed.{Aimed}
-use Rattle.edit_change.specs.inner.Aimed.{formed, of_formed, aims_of, some_path, has_parent}
+use Rattle.edit_change.specs.inner.Aimed.{aims_of, some_path, has_parent}
 use Rattle.one_pass.specs.inner.Pass.{CountsBuilt, TouchesAtMost}
 use Rattle.green_tree.specs.GreenElement.{element_tree}
 use Rattle.green_tree.specs.declared.green.GreenElement.{GreenElement}
 use Rattle.green_tree.specs.Count.{counted}
 use Rattle.edit_change.specs.Effort.{inside, touched, touched_from, parents_of}
 use Rattle.one_pass.specs.inner.Built.{built, built_from, nodes_built}
-use Rattle.edit_change.proofs.AlteredNodes.{above-below, above-formed, some-parents}
-use Rattle.edit_change.proofs.SeenBelow.{Shifted, below_shifted, aims-formed}
+use Rattle.edit_change.proofs.AlteredNodes.{some-parents}
+use Rattle.edit_change.proofs.SeenBelow.{Shifted}
 
 -- ---- as it is seen from a child
 module _ (cs ds : List NumberedAim) (i : ℕ) (same : Shifted cs ds i) where

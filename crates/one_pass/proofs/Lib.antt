@@ -11,7 +11,6 @@ pub mod Sweeping
 mod AllCounted
 mod EnteredByLevel
 mod FoundLater
-mod ByNumber
 mod Children
 mod CopiesFound
 mod Counted

@@ -5,18 +5,18 @@
 --     take-passed, take-nowhere     one inside a child that is replaced or a token; one that puts nothing
 --     next-child                    one inside a child that stays
 --     part-rest                     the rest of a list, as a part of it
-use Rattle.std.specs.Prelude.{◌≡◌, ℕ, zero, suc, ◌+◌, ◌<◌, ◌≤◌, ◌⊎◌, max, Bool, true, false, cond, ◌||◌, nat_lt, List, [], ◌∷◌, ◌++◌, ◌-◌, map, take, drop, length, get_or, sum, refl}
+use Rattle.std.specs.Prelude.{◌≡◌, ℕ, suc, ◌+◌, ◌<◌, ◌≤◌, ◌⊎◌, max, Bool, true, false, cond, ◌||◌, nat_lt, List, [], ◌∷◌, ◌++◌, ◌-◌, map, take, drop, length, get_or, sum, refl}
 use Rattle.std.specs.Borrow.{Bor}
 use Rattle.std.proofs.Common.{ap, ap₂, sym, subst, ◌∙◌, arith}
 use Rattle.std.proofs.lemmas.Bool.{lt-ltb}
 use Rattle.std.proofs.lemmas.List.{take_all, length-drop}
 use mathlib.Core.Logic.{inl, inr}
 use Rattle.green_tree.specs.Path.{Path}
-use Rattle.green_tree.specs.Tree.{Tree, SyntaxTree}
+use Rattle.green_tree.specs.Tree.{Tree}
 use Rattle.green_tree.specs.Green.{Branch, Leaf}
 use Rattle.green_tree.specs.GreenElement.{element_tree}
 use Rattle.green_tree.specs.declared.green.GreenElement.{GreenElement}
-use Rattle.green_tree.specs.declared.green.GreenElement.TheVariants.{Node, Token}
+use Rattle.green_tree.specs.declared.green.GreenElement.TheVariants.{Token}
 use Rattle.edit_change.specs.Rewriting.{rewritten}
 use Rattle.edit_change.specs.declared.aimed.Aimed.{Aimed}
 use Rattle.edit_change.specs.declared.aimed.AimForm.TheVariants as form
@@ -25,13 +25,13 @@ use Rattle.edit_change.specs.inner.KindOnly.{kind_only}
 use Rattle.one_pass.specs.declared.marked_given.GivenTable.{GivenTable}
 use Rattle.one_pass.specs.declared.open_node.OpenNode.{OpenNode}
 use Rattle.one_pass.specs.declared.walk.Walk.{Walk}
-use Rattle.one_pass.specs.inner.Marked.{MarkTree, Marking, sought_for, wanted}
-use Rattle.one_pass.specs.inner.Sweep.{lowered, seen_at, covered, from_slot, inside_one, inside_child, in_slot, From, Rising, key, IsGap, IsRun, IsBelow, PassesAll}
-use Rattle.one_pass.specs.inner.OpenNodes.{coming, child_made, child_built, nothing, to_come, to_build, InOrder, IsSameNode, IsShared, IsFurther, PutsNext, IsPassed, IsToOpen, IsNext}
+use Rattle.one_pass.specs.inner.Marked.{Marking, sought_for, wanted}
+use Rattle.one_pass.specs.inner.Sweep.{lowered, seen_at, covered, from_slot, inside_child, in_slot, From, Rising, key, IsGap, IsRun, IsBelow, PassesAll}
+use Rattle.one_pass.specs.inner.OpenNodes.{coming, child_built, nothing, InOrder, IsSameNode, IsShared, IsFurther, PutsNext, IsPassed, IsToOpen, IsNext}
 use Rattle.one_pass.proofs.NodeAhead.{Lists, Follows, ahead, ahead-gap, ahead-run, ahead-pass, ahead-below}
 use Rattle.one_pass.proofs.NodeFurther.{no-less-ahead, first-ahead, order-next, further-both, further-shared, further-pass, further-put}
 use Rattle.one_pass.proofs.NodeSteps.{same-coming, same-both, item-at}
-use Rattle.one_pass.proofs.OneAim.{gap-key, run-key, below-key, below-starts, below-overs}
+use Rattle.one_pass.proofs.OneAim.{run-key, below-starts, below-overs}
 use Rattle.one_pass.proofs.SweepStart.{rising-from}
 use Rattle.one_pass.proofs.Sweeping.{at-any, from-less}
 

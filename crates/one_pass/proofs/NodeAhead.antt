@@ -3,24 +3,22 @@
 --     Follows, ahead-at             a node that is at the same slot; what is ahead of it
 --     ahead-gap, ahead-run, ahead-pass, ahead-below    an insert, a replacement, an aim that says nothing, one inside a child that is passed over
 --     behind_of, ahead-open, ahead-made     what is behind a child; a child that is opened, that is made
-use Rattle.std.specs.Prelude.{◌≡◌, ℕ, zero, suc, ◌+◌, ◌<◌, ◌≤◌, max, Bool, true, false, cond, ◌||◌, nat_lt, List, [], ◌∷◌, ◌++◌, map, drop, length, get_or, Vec, refl}
+use Rattle.std.specs.Prelude.{◌≡◌, ℕ, suc, ◌+◌, ◌<◌, ◌≤◌, max, cond, ◌||◌, nat_lt, List, [], ◌∷◌, ◌++◌, drop, length, get_or, Vec, refl}
 use Rattle.std.specs.Global.{Global}
 use Rattle.std.specs.List.{AllByRecursion}
-use Rattle.std.proofs.Common.{ap, ap₂, sym, subst, ◌∙◌, arith}
-use Rattle.std.proofs.lemmas.Bool.{lt-ltb, le-ltb}
+use Rattle.std.proofs.Common.{ap, ap₂, sym, ◌∙◌, arith}
 use Rattle.std.proofs.lemmas.List.{at_drop_more, length-drop, map-append}
 use Rattle.green_tree.specs.Green.{Branch}
 use Rattle.green_tree.specs.declared.green.GreenElement.TheVariants.{Node}
-use Rattle.green_tree.specs.GreenElement.{element_tree}
 use Rattle.green_tree.specs.declared.green.GreenElement.{GreenElement}
 use Rattle.edit_change.specs.declared.aimed.Aimed.{Aimed}
 use Rattle.edit_change.specs.inner.Aimed.{FormedAim}
 use Rattle.one_pass.specs.declared.open_node.OpenNode.{OpenNode}
-use Rattle.one_pass.specs.inner.OpenNodes.{coming, IsSameNode}
-use Rattle.one_pass.specs.inner.Sweep.{lowered, seen_at, gap_test, covered, in_gap, from_slot, inside_child, in_slot, left, From, key, IsGap, IsRun, IsBelow, QuietSlot, PassesAll}
+use Rattle.one_pass.specs.inner.OpenNodes.{IsSameNode}
+use Rattle.one_pass.specs.inner.Sweep.{lowered, seen_at, covered, in_gap, from_slot, inside_child, in_slot, left, From, IsGap, IsRun, IsBelow, PassesAll}
 use Rattle.one_pass.specs.declared.sought_list.SoughtList.{SoughtList}
 use Rattle.one_pass.proofs.OneAim.{below-gaps, below-slots}
-use Rattle.one_pass.proofs.Sweeping.{pass-on, pass-slot, put-gap, put-run, open-on, from-less}
+use Rattle.one_pass.proofs.Sweeping.{pass-on, put-gap, put-run, open-on, from-less}
 use Rattle.one_pass.proofs.NodeSteps.{item-at}
 
 abbrev pub Lists : Type 0

@@ -3,26 +3,24 @@
 --     further-shared, further-both  children are shared; some turns, and then others
 --     further-put                   children are shared, and then what a change gives is put
 --     further-pass                  an aim puts nothing
-use Rattle.std.specs.Prelude.{◌≡◌, ℕ, zero, suc, ◌+◌, ◌<◌, ◌≤◌, List, [], ◌∷◌, ◌++◌, map, drop, flat_map, length, get_or, sum, Vec, refl}
-use Rattle.std.specs.Global.{Global}
+use Rattle.std.specs.Prelude.{◌≡◌, ℕ, ◌+◌, ◌≤◌, List, ◌∷◌, ◌++◌, drop, length, refl}
 use Rattle.std.proofs.Common.{ap, ap₂, sym, subst, ◌∙◌, arith}
 use Rattle.std.proofs.lemmas.List.{append_assoc}
 use Rattle.green_tree.specs.Tree.{SyntaxTree, forest}
 use Rattle.green_tree.specs.inner.TreeSize.{forest_size}
-use Rattle.green_tree.specs.GreenElement.{element_tree, element_trees}
+use Rattle.green_tree.specs.GreenElement.{element_trees}
 use Rattle.edit_change.specs.declared.aimed.Aimed.{Aimed}
-use Rattle.edit_change.specs.inner.Aimed.{FormedAim}
 use Rattle.edit_change.specs.inner.KindOnly.{kind_only}
 use Rattle.one_pass.specs.declared.marked_given.GivenTable.{GivenTable}
 use Rattle.one_pass.specs.declared.open_node.OpenNode.{OpenNode}
 use Rattle.one_pass.specs.declared.walk.Walk.{Walk}
-use Rattle.one_pass.specs.inner.Marked.{MarkTree, Marking, marked_from, mark_below, marks_of, wanted}
-use Rattle.one_pass.specs.inner.Pass.{AreMarkedIn, given_in}
+use Rattle.one_pass.specs.inner.Marked.{MarkTree, marks_of, wanted}
+use Rattle.one_pass.specs.inner.Pass.{given_in}
 use Rattle.one_pass.specs.inner.Sweep.{lowered, seen_at, From, Rising, key}
 use Rattle.one_pass.specs.inner.OpenNodes.{coming, to_come, to_build, to_do, kinds_to_come, InOrder, IsSameNode, IsShared, IsFurther, PutsNext, found_with}
 use Rattle.one_pass.proofs.Marks.{shown}
 use Rattle.one_pass.proofs.MarksGiven.{width, as_many}
-use Rattle.one_pass.proofs.NodeSteps.{shown-on, same-both, same-coming}
+use Rattle.one_pass.proofs.NodeSteps.{shown-on, same-both}
 use Rattle.one_pass.proofs.SweepStart.{rising-from}
 use Rattle.one_pass.proofs.Sweeping.{from-less}
 

@@ -4,26 +4,25 @@
 --     moved                         a node that has come to a slot, with what is put
 --     shared-pass, shared-put       a child that is passed over; that is shared
 --     shared-none, shared-both      nothing is shared; some children, and then others
-use Rattle.std.specs.Prelude.{◌≡◌, ℕ, zero, suc, ◌+◌, ◌<◌, ◌≤◌, Bool, true, false, cond, nat_lt, List, [], ◌∷◌, ◌++◌, map, drop, flat_map, length, get_or, sum, Vec, refl}
+use Rattle.std.specs.Prelude.{◌≡◌, ℕ, zero, suc, ◌+◌, ◌<◌, ◌≤◌, Bool, true, false, cond, nat_lt, List, [], ◌∷◌, ◌++◌, drop, length, get_or, sum, Vec, refl}
 use Rattle.std.specs.Global.{Global}
-use Rattle.std.proofs.Common.{ap, ap₂, sym, subst, ◌∙◌, arith}
+use Rattle.std.proofs.Common.{ap, ap₂, sym, ◌∙◌, arith}
 use Rattle.std.proofs.lemmas.Bool.{lt-ltb, le-ltb}
-use Rattle.std.proofs.lemmas.List.{append_assoc, append-nil, length-append, at_drop_more, at_drop_all}
+use Rattle.std.proofs.lemmas.List.{append_assoc, at_drop_more}
 use Rattle.std.proofs.lemmas.List.Sums.{sum_by-cons}
 use Rattle.green_tree.specs.Path.{Path}
-use Rattle.green_tree.specs.Tree.{Tree, SyntaxTree, forest}
+use Rattle.green_tree.specs.Tree.{Tree, forest}
 use Rattle.green_tree.specs.inner.TreeSize.{size, forest_size}
 use Rattle.green_tree.specs.GreenElement.{element_tree, element_trees}
 use Rattle.green_tree.specs.declared.green.GreenElement.{GreenElement}
 use Rattle.edit_change.specs.Rewriting.{rewritten}
-use Rattle.edit_change.specs.inner.Aimed.{FormedAim, of_formed}
+use Rattle.edit_change.specs.inner.Aimed.{FormedAim}
 use Rattle.edit_change.specs.inner.KindOnly.{kind_only}
 use Rattle.edit_change.proofs.Untouched.{nothing_rewritten, unaimed}
 use Rattle.one_pass.specs.declared.open_node.OpenNode.{OpenNode}
 use Rattle.one_pass.specs.declared.walk.Walk.{Walk}
 use Rattle.one_pass.specs.declared.mark.Sought.{Sought}
-use Rattle.one_pass.specs.inner.Built.{nodes_built}
-use Rattle.one_pass.specs.inner.Marked.{MarkTree, Marking, marked, marked_from, mark_below, marks_of, sought_in, sought_for, wanted}
+use Rattle.one_pass.specs.inner.Marked.{MarkTree, Marking, marks_of, sought_in, sought_for, wanted}
 use Rattle.one_pass.specs.inner.Pass.{kept_marks, Puts, FindsChild}
 use Rattle.one_pass.specs.inner.Sweep.{seen_at, left, From}
 use Rattle.one_pass.specs.inner.OpenNodes.{coming, child_made, child_built, nothing, to_come, to_build, to_do, IsSameNode, IsShared, found_with}

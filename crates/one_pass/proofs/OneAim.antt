@@ -4,12 +4,12 @@
 --     below-gaps, below-slots, below-inside    of one inside a child
 --     idle-gaps, idle-slots         of one that alters nothing
 --     key-gap, key-slot             it says nothing of other gaps and of children before
-use Rattle.std.specs.Prelude.{◌≡◌, ℕ, zero, suc, ◌+◌, ◌-◌, ◌<◌, ◌≤◌, Bool, true, false, cond, ◌||◌, ◌&&◌, nat_eq, nat_lt, List, [], ◌∷◌, map, length, get_or, Some, None, refl}
+use Rattle.std.specs.Prelude.{◌≡◌, ℕ, zero, suc, ◌+◌, ◌-◌, ◌<◌, ◌≤◌, Bool, true, false, cond, ◌||◌, ◌&&◌, nat_eq, nat_lt, List, [], ◌∷◌, length, get_or, Some, None, refl}
 use Rattle.std.proofs.Common.{ap, ap₂, sym, ◌∙◌, arith}
 use Rattle.std.proofs.lemmas.Bool.{cases_eq, eq-eqb, ne_eqb, lt-ltb, le-ltb, ltb-false, or_parts}
 use mathlib.Core.Logic.{inl, inr}
 use Rattle.green_tree.specs.Path.{Path}
-use Rattle.edit_change.specs.Aim.{aims_at_gap, starts_at, replaces}
+use Rattle.edit_change.specs.Aim.{starts_at, replaces}
 use Rattle.edit_change.specs.declared.aimed.AimForm.{AimForm}
 use Rattle.edit_change.specs.declared.aimed.AimForm.TheVariants.{FirstIn, AfterElement, Over}
 use Rattle.edit_change.specs.inner.Aimed.{FormedAim, aim_in, of_formed, has_parent}

@@ -3,16 +3,16 @@
 --     come-all                      all that is to come is what they make of the children
 --     whole-opened, marks-opened, built-opened, do-opened    what it becomes; its marks; how many nodes are built for it; how many elements are left
 --     enter-order, enter-come, enter-built, enter-do, enter-some    the same where it is a child of an open node
-use Rattle.std.specs.Prelude.{◌≡◌, ℕ, zero, suc, ◌+◌, ◌<◌, ◌≤◌, Bool, true, List, [], ◌∷◌, ◌++◌, map, drop, length, get_or, sum, refl}
+use Rattle.std.specs.Prelude.{◌≡◌, ℕ, suc, ◌+◌, ◌<◌, true, List, [], ◌∷◌, ◌++◌, map, drop, length, get_or, sum, refl}
 use Rattle.std.specs.List.{list_any, AllByRecursion}
 use Rattle.std.proofs.Common.{ap, ap₂, sym, subst, ◌∙◌, arith}
 use Rattle.std.proofs.lemmas.List.{at_drop_more, at_drop_all, map-append}
 use Rattle.std.proofs.lemmas.List.Sums.{sum_by-cons}
 use Rattle.green_tree.specs.Path.{Path}
-use Rattle.green_tree.specs.Tree.{Tree, SyntaxTree, forest, node}
+use Rattle.green_tree.specs.Tree.{Tree, forest, node}
 use Rattle.green_tree.specs.Green.{Branch, branch_tree}
 use Rattle.green_tree.specs.inner.TreeSize.{forest_size, branch_size}
-use Rattle.green_tree.specs.GreenElement.{element_tree, element_trees}
+use Rattle.green_tree.specs.GreenElement.{element_trees}
 use Rattle.green_tree.specs.declared.green.GreenElement.{GreenElement}
 use Rattle.green_tree.specs.declared.green.GreenElement.TheVariants.{Node}
 use Rattle.edit_change.specs.Effort.{parents_of}
@@ -26,17 +26,16 @@ use Rattle.one_pass.specs.declared.walk.Walk.{Walk}
 use Rattle.one_pass.specs.inner.Built.{built_from, nodes_built}
 use Rattle.one_pass.specs.inner.Marked.{MarkTree, Marking, marked, mark_below, marks_of, marks_at, sought_for, sought_below, wanted}
 use Rattle.one_pass.specs.inner.Pass.{given_in}
-use Rattle.one_pass.specs.inner.Sweep.{lowered, seen_at, inside_child, left, Rising, From, IsBelow, key}
+use Rattle.one_pass.specs.inner.Sweep.{lowered, seen_at, inside_child, left, Rising, From, IsBelow}
 use Rattle.one_pass.specs.inner.OpenNodes.{coming, child_made, child_built, nothing, to_come, past, to_build, past_built, to_do, past_do, whole, InOrder, IsNext, IsEnded, IsNodeOpened, Enters, PutsMade, found_with}
 use Rattle.one_pass.proofs.Counted.{counted-own}
 use Rattle.one_pass.proofs.Marks.{shown}
 use Rattle.one_pass.proofs.MarksKept.{marks-below, node_marks}
-use Rattle.one_pass.proofs.NextAim.{no_aim, made_by, counted_by}
+use Rattle.one_pass.proofs.NextAim.{made_by, counted_by}
 use Rattle.one_pass.proofs.NodeAhead.{Follows, ahead-open, ahead-made}
 use Rattle.one_pass.proofs.OneAim.{below-key}
 use Rattle.one_pass.proofs.OpenPath.{IsWaiting}
 use Rattle.one_pass.proofs.SweepStart.{all-left, built-left, inside-lowered, rising-inside, rising-part, some-inside}
-use Rattle.one_pass.proofs.Sweeping.{from-less}
 
 from-none : (xs : List FormedAim) → From 0 xs
 from-none [] = tt

@@ -5,19 +5,19 @@
 --     inside-lowered                aims inside a child, as they are seen from it, are those of a longer way down
 --     rising-inside                 they are in order
 --     behind-run                    what comes after them is behind the child
-use Rattle.std.specs.Prelude.{◌≡◌, ℕ, zero, suc, ◌+◌, ◌<◌, ◌≤◌, Bool, true, false, cond, ◌||◌, ◌&&◌, nat_eq, nat_lt, ⊤, List, [], ◌∷◌, ◌++◌, map, filter, flat_map, take, drop, length, get_or, sum, Option, Some, None, refl}
+use Rattle.std.specs.Prelude.{◌≡◌, ℕ, zero, suc, ◌+◌, ◌<◌, ◌≤◌, Bool, true, false, cond, ◌||◌, nat_lt, ⊤, List, [], ◌∷◌, ◌++◌, map, filter, flat_map, take, drop, length, get_or, sum, Option, Some, None, refl}
 use Rattle.std.specs.List.{list_any, AllByRecursion}
 use Rattle.std.proofs.Common.{ap, ap₂, sym, subst, ◌∙◌, arith}
-use Rattle.std.proofs.lemmas.Bool.{le-ltb, eq-eqb}
-use Rattle.std.proofs.lemmas.List.{append_assoc, append-nil, map-append, take-append-drop}
+use Rattle.std.proofs.lemmas.Bool.{le-ltb}
+use Rattle.std.proofs.lemmas.List.{append_assoc, map-append, take-append-drop}
 use Rattle.std.proofs.lemmas.List.Sums.{sum_by-cons}
 use Rattle.green_tree.specs.Path.{Path}
-use Rattle.green_tree.specs.Tree.{Tree, SyntaxTree, Forest, forest}
+use Rattle.green_tree.specs.Tree.{Tree, forest}
 use Rattle.green_tree.specs.GreenElement.{element_tree, element_trees}
 use Rattle.green_tree.specs.declared.green.GreenElement.{GreenElement}
 use Rattle.edit_change.specs.Aim.{Aim, parents, aims_at_gap, starts_at, replaces}
 use Rattle.edit_change.specs.Effort.{inside, parents_of}
-use Rattle.edit_change.specs.Rewriting.{NumberedAim, numbers, inserts_at, replacements_at, is_replaced, gap_order, gap, slot, rewritten, rewritten_from}
+use Rattle.edit_change.specs.Rewriting.{NumberedAim, numbers, inserts_at, replacements_at, is_replaced, slot, rewritten, rewritten_from}
 use Rattle.edit_change.specs.declared.aimed.AimForm.{AimForm}
 use Rattle.edit_change.specs.declared.aimed.Aimed.{Aimed}
 use Rattle.edit_change.specs.inner.Aimed.{FormedAim, aim_in, of_formed, some_path, has_parent, seen_from, and_those, formed_below}
@@ -26,8 +26,8 @@ use Rattle.edit_change.proofs.AlteredNodes.{above, above-below}
 use Rattle.edit_change.proofs.SeenBelow.{Shifted, below_shifted, rewritten-shifted}
 use Rattle.edit_change.proofs.Untouched.{quiet_gap, quiet_slot, quiet_start}
 use Rattle.one_pass.specs.inner.OpenNodes.{child_built, nothing}
-use Rattle.one_pass.specs.inner.Built.{built, built_from, nodes_built}
-use Rattle.one_pass.specs.inner.Sweep.{key, From, IsBelow, BelowUpTo, EndsBelow, lowered, seen_at, parted, inside_one, inside_child, gap_test, start_test, over_test, covered, in_gap, from_slot, in_slot, left, Rising}
+use Rattle.one_pass.specs.inner.Built.{built, built_from}
+use Rattle.one_pass.specs.inner.Sweep.{key, From, IsBelow, BelowUpTo, EndsBelow, lowered, seen_at, parted, inside_child, gap_test, start_test, over_test, covered, in_gap, from_slot, in_slot, left, Rising}
 use Rattle.one_pass.proofs.Counted.{built-shifted}
 use Rattle.one_pass.proofs.OneAim.{as_formed, order-key, order-inside, behind-below, below-site, below-inside}
 use Rattle.one_pass.proofs.Sweeping.{from-less}

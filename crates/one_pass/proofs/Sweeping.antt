@@ -6,20 +6,19 @@
 --     put-gap, put-run              an insert at this gap; a replacement from this slot on
 --     open-on                       the aims inside a child, and then those behind it
 --     inside-lowered                as they are seen from the child
-use Rattle.std.specs.Prelude.{◌≡◌, ℕ, zero, suc, ◌+◌, ◌-◌, ◌<◌, ◌≤◌, max, Bool, true, false, cond, ◌||◌, ◌&&◌, nat_eq, nat_lt, ⊤, List, [], ◌∷◌, ◌++◌, map, flat_map, length, get_or, refl}
-use Rattle.std.specs.List.{list_any, AllByRecursion}
+use Rattle.std.specs.Prelude.{◌≡◌, ℕ, zero, suc, ◌+◌, ◌-◌, ◌<◌, ◌≤◌, max, Bool, true, false, cond, ◌||◌, nat_eq, nat_lt, List, [], ◌∷◌, ◌++◌, length, get_or, refl}
+use Rattle.std.specs.List.{AllByRecursion}
 use Rattle.std.proofs.Common.{ap, ap₂, sym, ◌∙◌, arith}
-use Rattle.std.proofs.lemmas.Bool.{cases_eq, cases_lt, eq-eqb, ne_eqb, lt-ltb, le-ltb}
-use Rattle.std.proofs.lemmas.List.{append_assoc, append-nil}
+use Rattle.std.proofs.lemmas.Bool.{cases_lt, eq-eqb, ne_eqb, lt-ltb, le-ltb}
+use Rattle.std.proofs.lemmas.List.{append_assoc}
 use mathlib.Core.Logic.{◌⊎◌, inl, inr}
 use Rattle.green_tree.specs.declared.green.GreenElement.{GreenElement}
 use Rattle.green_tree.specs.Path.{Path}
 use Rattle.edit_change.specs.declared.aimed.AimForm.{AimForm}
 use Rattle.edit_change.specs.declared.aimed.AimForm.TheVariants.{FirstIn, AfterElement, Over}
-use Rattle.edit_change.specs.inner.Aimed.{FormedAim, aim_in, of_formed, has_parent}
-use Rattle.edit_change.specs.inner.DocumentOrder.{site, is_before}
-use Rattle.one_pass.specs.inner.Sweep.{key, From, IsGap, IsRun, IsBelow, QuietSlot, inside_one, inside_child, gap_test, start_test, over_test, covered, in_gap, from_slot, in_slot, left, Rising}
-use Rattle.one_pass.proofs.OneAim.{key-gap, key-slot, gap-gaps, gap-slots, run-gaps, run-start, run-over, run-inside, below-gaps, below-slots, below-starts, below-overs, order-key, behind-below, below-key}
+use Rattle.edit_change.specs.inner.Aimed.{FormedAim}
+use Rattle.one_pass.specs.inner.Sweep.{From, IsGap, IsRun, IsBelow, QuietSlot, inside_one, inside_child, gap_test, covered, in_gap, from_slot, in_slot, left}
+use Rattle.one_pass.proofs.OneAim.{key-gap, key-slot, gap-gaps, gap-slots, run-gaps, run-start, run-over, run-inside, below-gaps, below-slots, below-overs}
 
 pub at-any : {X : Type 0} (xs : List X) (i : ℕ) (a d : X) → i < length xs → get_or xs i a ≡ get_or xs i d
 at-any [] i a d l = absurd (omega (arith, l))

@@ -14,7 +14,6 @@ mod marked_given;
 mod open_node;
 mod open_nodes;
 mod pass;
-mod place;
 mod pushes;
 mod rewriting;
 mod site;

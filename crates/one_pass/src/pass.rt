@@ -10,8 +10,7 @@ use crate::kept::push_kept;
 use crate::mark::{Mark, Sought, push_here};
 use crate::marked_given::GivenTable;
 use crate::open_nodes::{open_node, rewrite_open};
-use crate::place::Place;
-use crate::pushes::push_changes;
+use crate::pushes::push_tops;
 use crate::walk::Walk;
 use edit_change::Aimed;
 use green_tree::GreenElement;
@@ -82,7 +81,7 @@ pub fn rewrite_whole(
     let mut elements = Vec::new(alloc);
     let mut walk = Walk::begin(alloc, *builds);
     if top_is_replaced(aims) {
-        push_changes(alloc, &mut walk, &mut elements, given, aims, Place::Top)?;
+        push_tops(alloc, &mut walk, &mut elements, given, aims)?;
     } else {
         walk.path.push(0)?;
         elements.push(rewrite_element(alloc, &mut walk, element, aims, sought, given)?)?;

@@ -3,12 +3,13 @@
 ghost use Rattle.std.specs.Prelude.{◌≡◌, [], ◌∷◌, flat_map, OnOk};
 ghost use Rattle.green_tree.specs.GreenElement.{element_tree};
 ghost use Rattle.edit_change.specs.inner.Given.{given_trees};
-ghost use Rattle.one_pass.specs.inner.Pass.{given_in, Puts, FindsGiven, FindsChange, FindsAll, FindsChild, changes_at};
+ghost use Rattle.one_pass.specs.inner.Pass.{given_in, Puts, FindsGiven, FindsChange, FindsAll, FindsChild};
+ghost use Rattle.edit_change.specs.Rewriting.{replacements_at};
+ghost use Rattle.edit_change.specs.inner.Aimed.{aims_of};
 
 use crate::kept::push_kept;
 use crate::mark::Sought;
 use crate::marked_given::{GivenTable, MarkedGiven};
-use crate::place::Place;
 use crate::walk::Walk;
 use edit_change::Aimed;
 use green_tree::GreenElement;
@@ -56,22 +57,23 @@ pub fn push_change(
     Ok(())
 }
 
-/// What changes give at a place, in the order in which their aims are listed.
-pub fn push_changes(
+/// What the changes give that replace the top, one after another.
+pub fn push_tops(
     alloc: Global,
     walk: &mut Walk,
     out: &mut Vec<GreenElement>,
     given: &GivenTable,
     aims: &[Aimed],
-    place: Place,
 ) -> Result<(), AllocError>
     ensures path { OnOk result (walk.new.path.items ≡ walk.old.path.items) }
     ensures count { OnOk result (walk.new.builds ≡ walk.old.builds) }
-    ensures trees { OnOk result (Puts out.old out.new (flat_map (given_in given.now) (changes_at aims.now place))) }
-    ensures marks { OnOk result (FindsAll walk.old out.old walk.new given.now (changes_at aims.now place)) }
+    ensures trees { OnOk result
+        (Puts out.old out.new (flat_map (given_in given.now) (replacements_at (aims_of aims.now) []))) }
+    ensures marks { OnOk result
+        (FindsAll walk.old out.old walk.new given.now (replacements_at (aims_of aims.now) [])) }
 {
     for aim in aims {
-        if place.has(aim) {
+        if aim.replaces_top() {
             push_change(alloc, walk, out, given, aim.change())?;
         }
     }

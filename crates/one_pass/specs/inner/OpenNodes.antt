@@ -35,7 +35,7 @@ use Rattle.one_pass.specs.declared.marked_given.GivenTable.{GivenTable}
 use Rattle.one_pass.specs.declared.open_node.OpenNode.{OpenNode}
 use Rattle.one_pass.specs.declared.walk.Walk.{Walk}
 use Rattle.one_pass.specs.inner.Built.{nodes_built}
-use Rattle.one_pass.specs.inner.Marked.{MarkTree, Marking, marked, marked_from, mark_below, marks_of, sought_for, wanted, marks_at, AreDealt}
+use Rattle.one_pass.specs.inner.Marked.{MarkTree, Marking, marked_from, mark_below, marks_of, sought_for, wanted, marks_at, AreDealt}
 use Rattle.one_pass.specs.inner.Pass.{AreMarkedIn, given_in, Puts, FindsChange}
 use Rattle.one_pass.specs.inner.Sweep.{lowered, seen_at, left, Rising, From, IsBelow}
 

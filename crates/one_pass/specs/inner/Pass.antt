@@ -4,8 +4,6 @@
 --     IsMarked                      these trees are as many as the given elements, and each has the marks of its own
 --     IsMarkedIn, AreMarkedIn       the same of an entry of a table, if there is one; of all changes, by their numbers
 --     given_in                      what a change gives, from a table by its number: nothing where the table has none
---     stands_at                     what an aim's change gives stands at a place: in its gap, or where it replaces from
---     changes_at                    the changes at a place, in the order in which they stand there
 --     topped                        a tree with one mark more at its top
 --     marks_at_path                 the marks of the given element at an index, which stands at a path
 --     Puts                          trees that are put after others
@@ -20,27 +18,24 @@
 --     FindsKept                     it finds those of an untouched element
 --     FindsRewritten, FindsWhole      it finds those of a rewritten element; those of what stands in its place are found
 use Rattle.edit_change.specs.inner.KindOnly.{kind_only}
-use Rattle.std.specs.Prelude.{◌≡◌, ◌<◌, ◌≤◌, ◌+◌, ℕ, Bool, cond, List, [], ◌∷◌, ◌++◌, map, flat_map, length, get_or, slice_get, Option, Some, None, Vec}
+use Rattle.std.specs.Prelude.{◌≡◌, ◌<◌, ◌≤◌, ◌+◌, ℕ, List, [], ◌∷◌, ◌++◌, map, flat_map, length, get_or, slice_get, Option, Some, None, Vec}
 use Rattle.std.specs.Global.{Global}
 use Rattle.std.specs.Option.{option_map_or}
 use Rattle.green_tree.specs.Path.{Path}
-use Rattle.green_tree.specs.Tree.{Tree, Token, Node, SyntaxTree}
+use Rattle.green_tree.specs.Tree.{Token, Node, SyntaxTree}
 use Rattle.edit_change.specs.inner.Given.{given_trees}
 use Rattle.green_tree.specs.GreenElement.{element_tree, element_trees}
 use Rattle.green_tree.specs.declared.green.GreenElement.{GreenElement}
 use Rattle.green_tree.specs.Count.{counted}
 use Rattle.edit_change.specs.Effort.{touched, parents_of}
 use Rattle.one_pass.specs.inner.Built.{nodes_built, nodes_built_whole, AreBuilt}
-use Rattle.edit_change.specs.Aim.{Aim, aims_at_gap, starts_at}
-use Rattle.edit_change.specs.Rewriting.{NumberedAim, inserts_at, replacements_at, gap_order, is_replaced, slot, rewritten, rewritten_whole}
-use Rattle.edit_change.specs.inner.Aimed.{formed, of_formed, aims_of, formed_below}
+use Rattle.edit_change.specs.Rewriting.{rewritten, rewritten_whole}
+use Rattle.edit_change.specs.inner.Aimed.{aims_of}
 use Rattle.one_pass.specs.inner.Marked.{MarkTree, Marking, marked, marked_from, mark_below, marks_of, sought_in, wanted, Finds}
 use Rattle.edit_change.specs.declared.aimed.Aimed.{Aimed}
 use Rattle.one_pass.specs.declared.mark.Mark.{Mark}
 use Rattle.one_pass.specs.declared.walk.Walk.{Walk}
 use Rattle.one_pass.specs.declared.mark.Sought.{Sought}
-use Rattle.one_pass.specs.declared.place.Place.{Place}
-use Rattle.one_pass.specs.declared.place.Place.TheVariants.{Gap, Slot, Top}
 use Rattle.one_pass.specs.declared.marked_given.MarkedGiven.{MarkedGiven}
 use Rattle.one_pass.specs.declared.marked_given.GivenTable.{GivenTable}
 
@@ -64,16 +59,6 @@ AreMarkedIn table trees = (c : ℕ) → IsMarkedIn table.top (slice_get table.en
 
 abbrev pub given_in : GivenTable → ℕ → List SyntaxTree
 given_in table c = option_map_or (λ g. given_trees g.elements) (slice_get table.entries.items c) []
-
-abbrev pub stands_at : Place → Aim → Bool
-stands_at (Gap gap) a = aims_at_gap [] gap a
-stands_at (Slot i) a = starts_at (i ∷ []) a
-stands_at Top a = starts_at [] a
-
-abbrev pub changes_at : List Aimed → Place → List ℕ
-changes_at aims (Gap gap) = gap_order (inserts_at (aims_of aims) [] gap)
-changes_at aims (Slot i) = replacements_at (aims_of aims) (i ∷ [])
-changes_at aims Top = replacements_at (aims_of aims) []
 
 abbrev pub topped : ℕ → MarkTree → MarkTree
 topped n (Token l s) = Token (n ∷ l) s

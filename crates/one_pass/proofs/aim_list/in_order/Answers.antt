@@ -1,6 +1,5 @@
-use Rattle.std.proofs.Common.{◌≡◌, ap, ap₂, sym, subst, ◌∙◌, rules}
+use Rattle.std.proofs.Common.{◌≡◌, subst, rules}
 use Rattle.std.specs.Ordering.{is_lt}
-use Rattle.std.specs.List.Sorted.{IsPermutation, IsStableBy}
 use Rattle.std.proofs.lemmas.List.Sorted.{answers_always}
 use Rattle.edit_change.specs.inner.Aimed.{aims_of}
 use Rattle.one_pass.specs.inner.Sweep.{IsReordered}

@@ -1,4 +1,4 @@
-use Rattle.std.proofs.Common.{◌≡◌, ◌≤◌, ◌<◌, ◌+◌, ℕ, length, arith, rules, ap, sym, ◌∙◌}
+use Rattle.std.proofs.Common.{◌≡◌, ◌+◌, ℕ, length, arith, rules, ap}
 use Rattle.one_pass.proofs.NodeFurther.{further-none, further-both, further-shared}
 use Rattle.one_pass.proofs.NextAim.{none-coming, order-shared}
 use Rattle.one_pass.proofs.open_nodes.push_on.Goals as goal

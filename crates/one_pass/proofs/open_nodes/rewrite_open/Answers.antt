@@ -1,4 +1,4 @@
-use Rattle.std.proofs.Common.{◌≡◌, ◌≤◌, ℕ, suc, ◌+◌, List, [], ◌∷◌, ◌++◌, length, arith, rules, ap, ap₂, sym, subst, ◌∙◌}
+use Rattle.std.proofs.Common.{◌≡◌, ℕ, suc, ◌+◌, List, [], ◌∷◌, ◌++◌, length, arith, rules, ap, ap₂, sym, subst, ◌∙◌}
 use Rattle.std.proofs.lemmas.List.{append-nil, append_assoc, map-append, length-append}
 use Rattle.green_tree.specs.Path.{Path}
 use Rattle.green_tree.specs.Tree.{SyntaxTree, node}
@@ -6,16 +6,14 @@ use Rattle.green_tree.specs.Green.{Branch, branch_tree}
 use Rattle.green_tree.specs.GreenElement.{element_tree, element_trees}
 use Rattle.green_tree.specs.Count.{counted}
 use Rattle.edit_change.specs.Rewriting.{rewritten}
-use Rattle.edit_change.specs.inner.Aimed.{of_formed}
 use Rattle.edit_change.specs.inner.KindOnly.{kind_only}
-use Rattle.one_pass.specs.declared.open_node.OpenNode.{OpenNode}
 use Rattle.one_pass.specs.inner.Built.{nodes_built}
 use Rattle.one_pass.specs.inner.Marked.{MarkTree, Marking, marks_of, sought_for, wanted}
 use Rattle.one_pass.specs.inner.Pass.{given_in}
 use Rattle.one_pass.specs.inner.OpenNodes.{IsNext, IsEnded, to_come, to_build, past, past_built, kinds_to_come, kinds_past, whole, wholes, path_to, found_above, found_with, built_above}
 use Rattle.one_pass.proofs.Marks.{shown}
-use Rattle.one_pass.proofs.OpenPath.{wholes-push, path-push, found-push, built-push, work_above, work-push, AreWaiting, waiting-push, waiting-pop, none-left, marks-inside, marks-closed, count-opened, count-closed, count-done}
-use Rattle.one_pass.proofs.OpenedNode.{aims_inside, opened-order, whole-opened, marks-opened, built-opened, do-opened, enter-order, enter-waiting, enter-come, enter-built, enter-do, enter-some, made-order, made-come, made-built, made-do, ended-come, ended-built}
+use Rattle.one_pass.proofs.OpenPath.{wholes-push, path-push, found-push, built-push, work_above, work-push, AreWaiting, waiting-push, waiting-pop, none-left, marks-inside, count-opened, count-closed, count-done}
+use Rattle.one_pass.proofs.OpenedNode.{aims_inside, whole-opened, marks-opened, built-opened, do-opened, enter-order, enter-waiting, enter-come, enter-built, enter-do, enter-some, made-order, made-come, made-built, made-do, ended-come, ended-built}
 use Rattle.one_pass.proofs.open_nodes.rewrite_open.Goals as goal
 
 -- ---- a child is opened

@@ -1,5 +1,5 @@
-use Rattle.std.proofs.Common.{◌≡◌, ℕ, suc, ◌≤◌, ◌<◌, ◌+◌, length, arith, rules, ap, subst, sym, ◌∙◌}
-use Rattle.one_pass.specs.inner.Sweep.{seen_at, From}
+use Rattle.std.proofs.Common.{◌≡◌, length, arith, ap, subst, sym}
+use Rattle.one_pass.specs.inner.Sweep.{From}
 use Rattle.one_pass.specs.inner.OpenNodes.{coming, IsShared}
 use Rattle.one_pass.proofs.Sweeping.{from-less}
 use Rattle.one_pass.proofs.NodeSteps.{shared-none, shared-both, same-coming}

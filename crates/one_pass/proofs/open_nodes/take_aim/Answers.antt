@@ -1,8 +1,7 @@
-use Rattle.std.proofs.Common.{◌≡◌, ◌≤◌, ◌<◌, ◌+◌, ℕ, suc, min, max, nat_lt, length, drop, arith, rules, refl, ap, sym, subst, ◌∙◌}
+use Rattle.std.proofs.Common.{◌≡◌, ◌≤◌, ◌<◌, ◌+◌, ℕ, min, max, nat_lt, length, arith, sym, ◌∙◌}
 use Rattle.std.proofs.lemmas.Bool.{cases_lt, lt-ltb, le-ltb}
 use mathlib.Core.Logic.{inl, inr}
-use Rattle.one_pass.specs.inner.Sweep.{lowered, key, From}
-use Rattle.one_pass.specs.inner.OpenNodes.{coming}
+use Rattle.one_pass.specs.inner.Sweep.{key}
 use Rattle.one_pass.proofs.NextAim.{seen_first, ahead-of, slot-before, take-gap, take-run, take-passed, take-nowhere, next-child, shared-next, part-rest}
 use Rattle.one_pass.proofs.OneAim.{gap-key, run-key, below-key}
 use Rattle.one_pass.proofs.open_nodes.take_aim.Goals as goal

@@ -1,4 +1,4 @@
-use Rattle.std.proofs.Common.{◌+◌, ◌<◌, ℕ, length, get_or, arith, below_more, subst}
+use Rattle.std.proofs.Common.{◌<◌, ℕ, length, get_or, arith, below_more, subst}
 use Rattle.std.proofs.lemmas.Bool.{MatchBool-at_true}
 use Rattle.edit_change.specs.declared.aimed.Aimed.{Aimed}
 use Rattle.one_pass.specs.inner.Sweep.{lowered, IsBelow}

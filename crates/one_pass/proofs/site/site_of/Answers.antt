@@ -1,4 +1,4 @@
-use Rattle.std.proofs.Common.{◌≡◌, ◌≤◌, ◌<◌, length, get_or, true, false, arith, rules, sym, subst, ◌∙◌}
+use Rattle.std.proofs.Common.{◌≡◌, ◌≤◌, ◌<◌, length, get_or, true, false, arith, rules, subst}
 use Rattle.edit_change.specs.inner.Aimed.{FormedAim, formed, of_formed, has_parent}
 use Rattle.one_pass.specs.inner.Sweep.{IsRun, IsBelow, PassesAll}
 use Rattle.one_pass.proofs.OneAim.{idle-passes, beyond-passes, is-below, is-run}
