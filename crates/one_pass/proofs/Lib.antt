@@ -9,21 +9,21 @@ pub mod NodeSteps
 pub mod SweepStart
 pub mod Sweeping
 mod AllCounted
-mod EnteredByLevel
+pub mod ByDepth
 mod FoundLater
 mod Children
 mod CopiesFound
 mod Counted
 pub mod Counting
 mod Dependents
-mod Levels
+mod EmptyLists
 mod MadeOf
 mod Marks
 mod MarksFilled
 mod MarksGiven
 mod MarksKept
 mod MarksTold
-mod GivenByLevel
+mod GivenByDepth
 mod ChangesOfAims
 mod Registered
 mod Rooted
