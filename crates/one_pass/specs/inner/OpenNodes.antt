@@ -1,7 +1,7 @@
 -- Nodes that are made anew, each inside the one before it, as far as their children are made.
 --     coming                        the aims that are still to come, as they are seen from the node
 --     child_made, to_come, past     what is made of a child by the aims inside it; what is still to be put; what comes after the child in the slot
---     child_built, to_build, past_built     how many nodes are built for them
+--     child_built, nothing, to_build, past_built      how many nodes are built for them: a child is its own, what is given none
 --     to_do, past_do                how many elements are left; without the child in the slot
 --     kinds_to_come, kinds_past     what is still to be put, and what comes after that child, as trees of kinds alone
 --     whole                         what a node becomes
