@@ -1,7 +1,6 @@
 ghost use Rattle.std.specs.Prelude.{ℕ, ◌<◌, ◌≤◌, ◌+◌, ◌≡◌, Bool, true, false, [], ◌∷◌, suc, not};
 ghost use Rattle.edit_change.specs.Aim.{FirstIn, AfterElement, Over, aims_at_gap, starts_at, replaces};
 ghost use Rattle.edit_change.specs.inner.Aimed.{aim_in, siblings_from, formed, numbered, option_formed, seen_from, has_parent};
-ghost use Rattle.edit_change.specs.inner.Aimed.{concerns};
 ghost use Rattle.std.specs.Prelude.{slice_get, ◌^◌, IfSome};
 ghost use Rattle.std.specs.Cmp.Lexicographic.{slice_cmp};
 ghost use Rattle.std.specs.Ordering.{nat_cmp, is_lt};
@@ -107,76 +106,6 @@ impl<'a> Aimed<'a> {
             AimForm::AfterElement => false,
             AimForm::Over(count) => self.path.is_empty() && count > 0,
         }
-    }
-
-    // Whether it inserts into this gap of the top.
-    pub fn inserts_at(&self, gap: usize) -> bool
-        ensures { result ≡ aims_at_gap [] gap (aim_in self.now.path.now self.now.form) }
-    {
-        match self.form {
-            AimForm::FirstIn => self.path.is_empty() && gap == 0,
-            AimForm::AfterElement => {
-                let [slot] = self.path else {
-                    return false;
-                };
-                gap > 0 && gap - 1 == *slot
-            }
-            AimForm::Over(_) => false,
-        }
-    }
-
-    // Whether it replaces from this child of the top on.
-    pub fn starts_at(&self, slot: usize) -> bool
-        ensures { result ≡ starts_at (slot ∷ []) (aim_in self.now.path.now self.now.form) }
-    {
-        match self.form {
-            AimForm::FirstIn => false,
-            AimForm::AfterElement => false,
-            AimForm::Over(count) => {
-                let [first] = self.path else {
-                    return false;
-                };
-                slot == *first && count > 0
-            }
-        }
-    }
-
-    // Whether it replaces this child of the top.
-    pub fn replaces(&self, slot: usize) -> bool
-        ensures { result ≡ replaces (slot ∷ []) (aim_in self.now.path.now self.now.form) }
-    {
-        match self.form {
-            AimForm::FirstIn => false,
-            AimForm::AfterElement => false,
-            AimForm::Over(count) => {
-                let [first] = self.path else {
-                    return false;
-                };
-                if slot < *first {
-                    return false;
-                }
-                slot - *first < count
-            }
-        }
-    }
-
-    // The first child of the top that it matters for, and how many there are: those that it replaces, or the one that it
-    // is after or below.
-    pub fn reach(&self) -> (usize, usize)
-        ensures inside { (k : ℕ) → result.0 ≤ k → k < result.0 + result.1 → concerns k self.now ≡ true }
-        ensures before { (k : ℕ) → k < result.0 → concerns k self.now ≡ false }
-        ensures after { (k : ℕ) → result.0 + result.1 ≤ k → concerns k self.now ≡ false }
-    {
-        let [slot, ..] = self.path else {
-            return (0, 0);
-        };
-        let AimForm::Over(count) = self.form else {
-            return (*slot, 1);
-        };
-        if self.path.len() > 1 {
-            return (*slot, 1);
-        }
-        (*slot, count.max(1))
     }
 
     // The same as it is seen from this child of the top, if its path leads to the child or below.

@@ -6,7 +6,7 @@ use Rattle.std.specs.Prelude.{◌≡◌, ◌≢◌, ℕ, zero, suc, ◌+◌, ◌
 use Rattle.std.specs.Option.{option_map_or}
 use Rattle.std.proofs.Common.{ap, sym, subst, ◌∙◌, arith}
 use Rattle.std.proofs.lemmas.Bool.{cases_lt, cases_eq}
-use Rattle.std.proofs.lemmas.List.Sorted.{Contains-permutation, All-permutation, length_permutation, sum_by-IsPermutation}
+use Rattle.std.proofs.lemmas.List.Sorted.{Contains-permutation, All-permutation, sum_by-IsPermutation}
 use Rattle.std.proofs.lemmas.List.Elements.{All-get_or}
 use Rattle.std.proofs.lemmas.Option.{slice_get_within, none-some, slice_get_past}
 use mathlib.Core.Logic.{inl, inr}
@@ -19,10 +19,6 @@ use Rattle.edit_change.specs.declared.change.Change.{Change}
 use Rattle.edit_change.proofs.GivenTrees.{owns_nothing}
 use Rattle.edit_change.proofs.OwnerDepth.{owner_is_above}
 use Rattle.one_pass.specs.inner.OwnerTables.{AreByDepth}
-
-long-counted : (a n : ℕ) → length (counted_from a n) ≡ n
-long-counted a zero = refl
-long-counted a (suc n) = ap suc (long-counted (suc a) n)
 
 counted-at : (a n c d : ℕ) → a ≤ c → c < a + n → Contains (counted_from a n) c
 counted-at a zero c d low high = absurd (omega (arith, low, high))
@@ -98,9 +94,6 @@ module _ (cs : List Change) (places : ℕ → Path) where
       ]
 
 -- ---- a sum over them
-pub long-order : (cs : List Change) (order : List ℕ) → AreByDepth cs order → length order ≡ length cs
-long-order cs order are = length_permutation (counted_from 0 (length cs)) order are.each_once ∙ long-counted 0 (length cs)
-
 pub number-there : (cs : List Change) (order : List ℕ) (k : ℕ) → AreByDepth cs order → k < length order → get_or order k 0 < length cs
 number-there cs order k are l = All-get_or (λ c. c < length cs) order k 0 l (All-permutation (λ c. c < length cs) (counted_from 0 (length cs)) order are.each_once (λ i d m. omega (arith, counted-below 0 (length cs) i d m)))
   where

@@ -54,9 +54,6 @@ some-aim f l = first-of-list f.aims.now l
 same-head : (a b : Aimed) (xs ys zs : List Aimed) → zs ≡ a ∷ xs → zs ≡ b ∷ ys → a ≡ b
 same-head a b xs ys zs x y = cc
 
-same-tail : (a b : Aimed) (xs ys zs : List Aimed) → zs ≡ a ∷ xs → zs ≡ b ∷ ys → xs ≡ ys
-same-tail a b xs ys zs x y = cc
-
 abbrev pub made_by : {L : Type 0} → (List Marking → Path → ℕ → L) → (ℕ → List (Tree L)) → Lists → ℕ → List FormedAim → GreenElement → Tree L
 made_by label given ls i xs e = rewritten (label (sought_for ls.items i)) given (map of_formed xs) [] (element_tree e)
 

@@ -61,9 +61,6 @@ module _ (es : List GreenElement) (i : ℕ) (e : GreenElement) (inside : i < len
 abbrev pub moved : OpenNode → Vec GreenElement Global → ℕ → OpenNode
 moved f out slot = record { kind = f.kind; elements = f.elements; depth = f.depth; aims = f.aims; lists = f.lists; out = out; slot = slot; passed = f.passed }
 
-pub same-node : (f : OpenNode) → IsSameNode f f
-same-node f = record { kind = refl; elements = refl; depth = refl; lists = refl }
-
 pub item-at : {X : Type 0} (xs : List X) (i : ℕ) → i < length xs → (x : X) × (x ≡ get_or xs i x)
 item-at [] i l = absurd (omega (arith, l))
 item-at (x ∷ xs) zero l = (x, refl)

@@ -3,7 +3,7 @@
 --     work_above, work-push         how many steps all of them still take, at most
 --     AreWaiting, waiting-push, waiting-pop    each of them has come to a child
 --     none-left                     where there are none
---     marks-inside, marks-closed, count-opened, count-closed    what is still to be found and built, where a child is opened, and where it is made
+--     marks-inside, count-opened, count-closed    what is still to be found and built, where a child is opened, and where it is made
 use Rattle.std.specs.Prelude.{◌≡◌, ℕ, suc, ◌+◌, ◌*◌, ◌<◌, List, [], ◌∷◌, ◌++◌, map, length, refl}
 use Rattle.std.proofs.Common.{ap, ap₂, sym, ◌∙◌, arith}
 use Rattle.std.proofs.lemmas.List.{append_assoc, append-nil}
@@ -82,10 +82,6 @@ module _ (path inner : Path) (found more : List Marking) (n : ℕ) (t : MarkTree
       let here : more ++ below ≡ found ++ own = opened ∙ ap (λ p. found ++ map (mark_below p) (marked t)) is in
       let grouped : found ++ own ++ (later ++ higher) ≡ found ++ (own ++ later) ++ higher = simp append_assoc in
       ap (λ ms. ms ++ (later ++ higher)) here ∙ grouped ∙ ap (λ ms. found ++ ms ++ higher) (sym (ap (shown path n) split ∙ shown-cons path n t after)) ∙ h
-
-pub marks-closed : (found more now later higher all : List Marking) → more ++ now ≡ found ++ later → found ++ (later ++ higher) ≡ all → more ++ now ++ higher ≡ all
-marks-closed found more now later higher all made h =
-    ap (λ ms. ms ++ higher) made ∙ append_assoc found later higher ∙ h
 
 -- ---- counts
 pub count-opened : (here inner own rest above more : ℕ) → here ≡ own + rest → suc inner ≡ own → more ≡ suc rest + above → inner + (1 + more) ≡ here + (1 + above)

@@ -42,9 +42,6 @@ from-none [] = tt
 from-none (x ∷ xs) = (omega arith, from-none xs)
 
 module _ (b : Branch) (way : ℕ) (xs : List Aimed) (sought : List Marking) (before after : Walk) (f : OpenNode) (opened : IsNodeOpened b way xs sought before after f) where
-  abbrev pub aims_there : List NumberedAim
-  aims_there = map of_formed (seen_at way xs)
-
   seen : coming f ≡ seen_at way xs
   seen = ap₂ seen_at opened.depth opened.aims
 
@@ -164,9 +161,6 @@ module _ (table : GivenTable) (made : GreenElement) (before after : Walk) (g k :
 
 -- ---- a node of which nothing is left
 module _ (f : OpenNode) (order : InOrder f) (ended : IsEnded f) where
-  last-slot : f.slot ≡ length f.elements.now
-  last-slot = omega (arith, order.within, ended.slot)
-
   none : (xs : List Aimed) → length xs ≡ 0 → xs ≡ []
   none [] h = refl
   none (x ∷ xs) h = absurd (omega (arith, h))
