@@ -8,11 +8,9 @@ mod SlotsOfParents
 pub mod DocumentOrder
 mod Closing
 pub mod Edits
-mod Entering
 pub mod GapRule
 pub mod AimsHere
 pub mod Independents
-pub mod Indexed
 pub mod Innermost
 pub mod Lists
 pub mod MovedAims
@@ -27,7 +25,9 @@ pub mod Relabelled
 pub mod RewrittenAlike
 pub mod RootAlone
 mod RootTargets
+mod Scanning
 pub mod SeenBelow
+pub mod Shared
 pub mod Sites
 pub mod GivenTrees
 mod Slots

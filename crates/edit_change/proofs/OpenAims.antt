@@ -1,4 +1,5 @@
 -- Which changes lie in which, in document order, where no two clash.
+--     stands-through                one before another one, and that before a third
 --     no-share                      no two of them share a target
 --     before-after                  what stands before another one is not after it
 --     around-between                what is around a change is around all that stands between
@@ -25,7 +26,7 @@ use Rattle.edit_change.specs.Rewriting.{NumberedAim}
 use Rattle.edit_change.specs.inner.DocumentOrder.{on_the_way, site, is_before, stands_before}
 use Rattle.edit_change.specs.inner.Open.{replaced, surrounds}
 use Rattle.edit_change.specs.declared.change.Change.{Change}
-use Rattle.edit_change.proofs.DocumentOrder.{OfChange, before-compared}
+use Rattle.edit_change.proofs.DocumentOrder.{OfChange, before-compared, aim_cmp, aims-total, stands-compared}
 use Rattle.edit_change.proofs.Paths.{meets, same_path-true, same_path_from}
 use Rattle.edit_change.proofs.RootAlone.{unclashed}
 use Rattle.edit_change.proofs.Sites.{run, sibling-any, way-push, on-the-way, way-to, up_to-leads, between, replaced-aim, Stands, First, Behind, Whole, Run, stands, lies-strictly, lies-back}
@@ -64,6 +65,12 @@ never-itself a h =
           let l = ltb-true a.0 a.0 (and_parts (same_path (site a.1) (site a.1)) (nat_lt a.0 a.0) alike).1 in
           absurd (omega (arith, l))
     ]
+
+-- one before another one, and that before a third
+pub stands-through : (a b c : NumberedAim) → stands_before a b ≡ true → stands_before b c ≡ true → stands_before a c ≡ true
+stands-through a b c h k =
+    let less : (x y : NumberedAim) → stands_before x y ≡ true → aim_cmp x y ≡ Less = λ x y m. less-is (aim_cmp x y) (stands-compared x y ∙ m) in
+    sym (stands-compared a c) ∙ ap is_lt (aims-total.trans a b c (less a b h) (less b c k))
 
 module _ (cs : List Change) (root : Element) (fit : All (Fits root) cs) (apart : first_clash cs ≡ None) where
   pub stands-at : (n : ℕ) (c : Change) → slice_get cs n ≡ Some c → Stands c

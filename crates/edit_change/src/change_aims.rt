@@ -17,7 +17,7 @@ use crate::change::Change;
 use crate::fits::is_root;
 use crate::given::Given;
 use crate::position::Position;
-use crate::targets::parent;
+use crate::parent::parent;
 use cst_core::{GreenElementRef, SyntaxElement, SyntaxNode};
 use std::alloc::{AllocError, Global};
 use std::slice;

@@ -6,7 +6,7 @@ mod change;
 mod change_aims;
 mod change_nesting;
 mod change_text;
-mod clash_error;
+mod clash;
 mod element_like;
 mod element_list;
 mod fate;
@@ -16,11 +16,10 @@ mod native;
 mod one_node;
 mod open;
 mod order;
+mod parent;
 mod planned;
 mod position;
 mod staged;
-mod target_table;
-mod targets;
 mod trial;
 
 pub use aimed::{AimForm, Aimed};
@@ -29,7 +28,7 @@ pub use change_aims::{
     aim_path, depth, green_payload, node_for_root, numbered_aim, numbered_aim_from, slot_after,
 };
 pub use change_text::Style;
-pub use clash_error::ClashError;
+pub use clash::{clash_of, first_clash};
 pub use element_like::Element;
 pub use element_list::ElementList;
 pub use fate::{Fate, fates};
@@ -41,5 +40,4 @@ pub use order::{numbers, sorted_aims};
 pub use planned::Planned;
 pub use position::Position;
 pub use staged::{moved_path, owner_of, place_at, staged_path};
-pub use target_table::{TargetTable, first_clash};
 pub use trial::trial_source;

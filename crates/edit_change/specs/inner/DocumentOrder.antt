@@ -4,6 +4,7 @@
 --     is_before                     one list of numbers is less than another one: less where they first differ, or at its end before that
 --     stands_before                 of numbered aims, by their sites, and at one site by their numbers
 --     InDocumentOrder               each stands before all that come after it
+--     FitsSome                      a change fits some tree
 --     AreSorted                     the aims of all changes of a list, in document order
 --     aims_at                       the aims of the changes with these numbers
 --     IsDocumentOrder               an order of all changes, in which their aims are in document order
@@ -12,7 +13,9 @@ use Rattle.std.specs.List.{enumerate_from}
 use Rattle.std.specs.List.Sorted.{IsPermutation}
 use Rattle.green_tree.specs.Path.{Path, parent_path, last_slot, same_path, counted_from}
 use Rattle.edit_change.specs.Aim.{Aim, FirstIn, AfterElement, Over}
+use Rattle.cst_core.specs.Element.{Element}
 use Rattle.edit_change.specs.ChangeAim.{aim}
+use Rattle.edit_change.specs.Fits.{Fits}
 use Rattle.edit_change.specs.NewTree.{change_aims}
 use Rattle.edit_change.specs.Rewriting.{NumberedAim}
 use Rattle.edit_change.specs.declared.change.Change.{Change}
@@ -40,6 +43,9 @@ InDocumentOrder [] = ⊤
 InDocumentOrder (c ∷ cs) = All (λ d. stands_before c d ≡ true) cs × InDocumentOrder cs
 
 -- ---- of changes
+abbrev pub FitsSome : Change → Type 0
+FitsSome c = (root : Element) × Fits root c
+
 pub record AreSorted (cs : List Change) (aims : List NumberedAim) : Type 0 where
   pub each_once : IsPermutation (change_aims (enumerate_from 0 cs)) aims
   pub in_order : InDocumentOrder aims
