@@ -6,6 +6,7 @@ pub mod AlteredNodes
 pub mod Clashes
 mod SlotsOfParents
 pub mod DocumentOrder
+mod Bisected
 mod Closing
 pub mod Edits
 pub mod GapRule

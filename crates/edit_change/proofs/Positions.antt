@@ -2,7 +2,7 @@
 --     position-cons, position-push  with one item more, before the others and after them
 --     none-passes                   where there is none, no item passes
 --     push-of-take                  so many items of a list, and the next
-use Rattle.std.specs.Prelude.{◌≡◌, ℕ, suc, ◌+◌, ◌<◌, Bool, true, false, not, ◌||◌, cond, nat_lt, min, List, [], ◌∷◌, ◌++◌, length, take, position, Option, Some, None, option_map, refl}
+use Rattle.std.specs.Prelude.{◌≡◌, ℕ, suc, ◌+◌, ◌<◌, Bool, true, false, not, cond, nat_lt, List, [], ◌∷◌, ◌++◌, length, take, position, Option, Some, None, option_map, refl}
 use Rattle.std.specs.List.{AllByRecursion, position_or_len}
 use Rattle.std.specs.Option.{option_or}
 use Rattle.std.proofs.Common.{ap, ap₂, sym, ◌∙◌, arith, get_or}

@@ -3,12 +3,14 @@
 --     scanned-none, scanned-end     before the first one, behind the last
 --     scanned-skip                  one that replaces nothing, or has no number below that one
 --     scanned-closed, scanned-pushed, scanned-found     where what is over is taken off; what is true after it; two that share a target
-use Rattle.std.specs.Prelude.{◌≡◌, ◌≢◌, ◌<◌, ◌≤◌, ◌⊎◌, ℕ, Bool, true, false, ◌||◌, nat_eq, List, [], ◌∷◌, ◌++◌, length, slice_get, Option, Some, None, refl}
+--     skip-here, found-here, pushed-here     the same over a list in code
+use Rattle.std.specs.Prelude.{◌≡◌, ◌≢◌, ◌<◌, ◌≤◌, ◌+◌, ◌⊎◌, ℕ, Bool, true, false, nat_eq, List, [], ◌∷◌, ◌++◌, drop, length, slice_get, Option, Some, None, refl}
 use Rattle.std.specs.List.{AllByRecursion, list_any}
 use Rattle.std.specs.Option.{option_map_or}
-use Rattle.std.proofs.Common.{ap, ap₂, sym, subst, ◌∙◌, arith, append_assoc}
-use Rattle.std.proofs.lemmas.Bool.{cases_Bool, cases_eq, cases_lt, or_from, eqb-true, ne_eqb, false_from_ne_true, false≢true, true≢false}
-use Rattle.std.proofs.lemmas.Option.{none-some, same_Some, slice_get_within}
+use Rattle.std.proofs.Common.{ap, ap₂, sym, subst, ◌∙◌, arith, append_assoc, get_or}
+use Rattle.std.proofs.lemmas.Bool.{cases_Bool, cases_eq, cases_lt, or_from, ne_eqb, false_from_ne_true, false≢true, true≢false}
+use Rattle.std.proofs.lemmas.Option.{same_Some}
+use Rattle.std.proofs.lemmas.List.{map-append}
 use mathlib.Core.Logic.{inl, inr}
 use Rattle.cst_core.specs.Path.{Path, has_path, up_to, last_item}
 use Rattle.edit_change.specs.Aim.{Aim}
@@ -16,17 +18,21 @@ use Rattle.edit_change.specs.ChangeAim.{aim}
 use Rattle.edit_change.specs.Change.{shared_targets}
 use Rattle.edit_change.specs.Nesting.{clashes}
 use Rattle.edit_change.specs.Rewriting.{NumberedAim}
+use Rattle.edit_change.specs.inner.Aimed.{siblings_from, aim_in, some_path, numbered, aims_of}
 use Rattle.edit_change.specs.inner.Clash.{shares, ClashesBelow}
-use Rattle.edit_change.specs.inner.DocumentOrder.{site, is_before, stands_before, InDocumentOrder, AreSorted}
+use Rattle.edit_change.specs.inner.DocumentOrder.{stands_before, InDocumentOrder, AreSorted}
 use Rattle.edit_change.specs.inner.Open.{replaced, surrounds, Closes}
+use Rattle.edit_change.specs.declared.aimed.Aimed.{Aimed}
+use Rattle.edit_change.specs.declared.aimed.AimForm.{AimForm}
+use Rattle.edit_change.specs.declared.aimed.AimForm.TheVariants as form
 use Rattle.edit_change.specs.declared.change.Change.{Change}
 use Rattle.edit_change.proofs.Clashes.{clashes-at}
 use Rattle.edit_change.proofs.DocumentOrder.{OfChange, all-there}
 use Rattle.edit_change.proofs.Lists.{all-append, all_last, all_weaker}
 use Rattle.edit_change.proofs.OpenAims.{before-after, never-itself, stands-through}
-use Rattle.edit_change.proofs.Shared.{RunAt, shares-turned, shares-reaches, reaches-between, last-shares}
+use Rattle.edit_change.proofs.Shared.{RunAt, over-run, shares-turned, shares-reaches, reaches-between, last-shares}
 use Rattle.edit_change.proofs.Sites.{replaced-aim}
-use Rattle.edit_change.proofs.Sweeping.{all-parts, order-without, order-last, order-before, has_number, has-append, all-numbered, never-numbered, has-each, all-both, neither, none-last}
+use Rattle.edit_change.proofs.Sweeping.{all-parts, order-without, order-last, order-before, has_number, has-append, all-numbered, has-each, all-both, neither, none-last, next-aim}
 
 abbrev IsScanned : List Change → ℕ → NumberedAim → Type 0
 IsScanned cs below a = OfChange cs a × (a.0 < below) × ((q : Path) × RunAt a.1 q)
@@ -53,7 +59,7 @@ apart-numbers cs a b of_a of_b before same =
     let equal : a ≡ b = of_a.2 ∙ ap₂ {A = ℕ} {B = Change} {C = NumberedAim} (λ n c. (n, aim c)) same alike ∙ sym of_b.2 in
     never-itself a (ap (stands_before a) equal ∙ before)
 
-shares-is : (cs : List Change) (i j : ℕ) (c d : Change) → slice_get cs i ≡ Some c → slice_get cs j ≡ Some d → shares (aim c) (aim d) ≡ clashes cs i j
+pub shares-is : (cs : List Change) (i j : ℕ) (c d : Change) → slice_get cs i ≡ Some c → slice_get cs j ≡ Some d → shares (aim c) (aim d) ≡ clashes cs i j
 shares-is cs i j c d is_c is_d =
     ap₂ (λ ps qs. list_any (has_path ps) qs) (replaced-aim c) (replaced-aim d) ∙ clashes-at cs i j c d is_c is_d
 
@@ -177,11 +183,11 @@ module _ (cs : List Change) (below : ℕ) (x : NumberedAim) (rest : List Numbere
               elim found.2.1 [
                 | inl same ↦ ap (λ b. shares b x.1) (sym a-is ∙ ap (λ (b : NumberedAim). b.1) same) ∙ none
                 | inr before ↦ false_from_ne_true (shares (aim r) x.1) (λ h.
-                let shared : shares a.1 x.1 ≡ true = ap (λ b. shares b x.1) a-is ∙ h in
-                let front = orders.0.0 in
-                let reaches = shares-reaches a.1 x.1 its.0 q its.1 run (before-after a x (stands-through a o x before front)) shared in
-                let between = reaches-between a.1 o.1 x.1 its.0 mine.2.0 q its.1 mine.2.1 run (before-after a o before) (before-after o x front) reaches in
-                false≢true (sym none ∙ last-shares a.1 o.1 x.1 its.0 mine.2.0 q its.1 mine.2.1 run between (last o is) shared))
+                    let shared : shares a.1 x.1 ≡ true = ap (λ b. shares b x.1) a-is ∙ h in
+                    let front = orders.0.0 in
+                    let reaches = shares-reaches a.1 x.1 its.0 q its.1 run (before-after a x (stands-through a o x before front)) shared in
+                    let between = reaches-between a.1 o.1 x.1 its.0 mine.2.0 q its.1 mine.2.1 run (before-after a o before) (before-after o x front) reaches in
+                    false≢true (sym none ∙ last-shares a.1 o.1 x.1 its.0 mine.2.0 q its.1 mine.2.1 run between (last o is) shared))
               ]
 
       pub scanned-pushed : shared_last ≡ false → (js : List NumberedAim) → js ≡ ks ++ x ∷ [] → Scanned cs below js rest
@@ -224,3 +230,49 @@ module _ (cs : List Change) (below : ℕ) (x : NumberedAim) (rest : List Numbere
                     let less : x.0 < o.0 = omega (arith, more, other) in
                     (x.0, o.0, less, mine.1, sym (shares-is cs x.0 o.0 of_x.0 of_o.0 of_x.1 of_o.1) ∙ shares-turned (aim of_x.0) (aim of_o.0) ∙ both)
               ]
+
+-- ---- over a list in code
+over-runs : (p : Path) (w : AimForm) → some_path (replaced (aim_in p w)) ≡ true → RunAt (aim_in p w) p
+over-runs p form.FirstIn h = absurd (false≢true h)
+over-runs p form.AfterElement h = absurd (false≢true h)
+over-runs p (form.Over n) h =
+    over-run p n (λ e. false≢true (sym (ap (λ k. some_path (siblings_from p k)) e ∙ none p) ∙ h))
+  where
+    none : (p : Path) → some_path (siblings_from p 0) ≡ false
+    none [] = refl
+    none (i ∷ p) = refl
+
+no-paths-none : (ps : List Path) → some_path ps ≡ false → ps ≡ []
+no-paths-none [] h = refl
+no-paths-none (p ∷ ps) h = absurd (true≢false h)
+
+module _ (cs : List Change) (below : ℕ) (aims : List Aimed) (k : ℕ) (d : Aimed) (l : k < length aims) (before : List Aimed) (scanned : Scanned cs below (aims_of before) (aims_of (drop k aims))) where
+  abbrev next : Aimed
+  next = get_or aims k d
+
+  abbrev left : List NumberedAim
+  left = aims_of (drop (k + 1) aims)
+
+  scanned-here : Scanned cs below (aims_of before) (numbered next ∷ left)
+  scanned-here = subst (Scanned cs below (aims_of before)) (next-aim aims k d l) scanned
+
+  pub skip-here : (after : List Aimed) → after ≡ before → (below ≤ next.change) ⊎ (some_path (replaced (numbered next).1) ≡ false) → Scanned cs below (aims_of after) left
+  skip-here after same why =
+      subst (λ xs. Scanned cs below (aims_of xs) left) (sym same) (scanned-skip cs below (numbered next) left (aims_of before) scanned-here (elim why [
+        | inl past ↦ inl past
+        | inr none ↦ inr (no-paths-none (replaced (numbered next).1) none)
+      ]))
+
+  module _ (low : next.change < below) (over : some_path (replaced (numbered next).1) ≡ true) (closed : List Aimed) (closes : Closes (up_to next.path.now) (aims_of before) (aims_of closed)) where
+    runs : RunAt (numbered next).1 next.path.now
+    runs = over-runs next.path.now next.form over
+
+    closed-here : Scanned cs below (aims_of closed) (numbered next ∷ left)
+    closed-here = scanned-closed cs below (numbered next) left next.path.now runs low (aims_of before) (aims_of closed) scanned-here closes
+
+    pub found-here : option_map_or (λ (o : NumberedAim). shares o.1 (numbered next).1) (last_item (aims_of closed)) false ≡ true → ClashesBelow cs below true
+    found-here h = scanned-found cs below (numbered next) left next.path.now runs low (aims_of closed) closed-here closes.last h
+
+    pub pushed-here : (after : List Aimed) → option_map_or (λ (o : NumberedAim). shares o.1 (numbered next).1) (last_item (aims_of closed)) false ≡ false → after ≡ closed ++ next ∷ [] → Scanned cs below (aims_of after) left
+    pushed-here after h push =
+        scanned-pushed cs below (numbered next) left next.path.now runs low (aims_of closed) closed-here closes.last h (aims_of after) (ap aims_of push ∙ map-append numbered closed (next ∷ []))

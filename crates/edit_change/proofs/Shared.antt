@@ -4,22 +4,26 @@
 --     RunAt, over-run               an aim over the top or over a run of siblings, from this path on
 --     shares-reaches                what shares a target with a later one reaches it
 --     reaches-between               what reaches one reaches those between
+--     over-some, not-over, tops-share, empty-shares, top-shares-none, none-shares-top, parents-differ, slots-decide     what code tests
 --     last-shares                   what reaches an aim that is between two that share a target shares it
-use Rattle.std.specs.Prelude.{◌≡◌, ◌≢◌, ◌<◌, ◌≤◌, ◌+◌, ◌⊎◌, ℕ, zero, suc, Bool, true, false, ◌||◌, List, [], ◌∷◌, ◌++◌, length, refl}
+use Rattle.std.specs.Prelude.{◌≡◌, ◌≢◌, ◌<◌, ◌≤◌, ◌+◌, ℕ, zero, suc, Bool, true, false, ◌||◌, nat_lt, List, [], ◌∷◌, ◌++◌, length, IsTrue, refl}
 use Rattle.std.specs.List.{list_any}
 use Rattle.std.proofs.Common.{ap, ap₂, sym, subst, ◌∙◌, arith, append_assoc}
-use Rattle.std.proofs.lemmas.Bool.{cases_lt, or_left, or_cases, false≢true, true≢false}
+use Rattle.std.proofs.lemmas.Bool.{cases_lt, cases_eq, or_left, lt-ltb, false_from_ne_true, false≢true, true≢false}
 use Rattle.std.proofs.lemmas.List.{length-append}
 use mathlib.Core.Logic.{inl, inr}
 use Rattle.cst_core.specs.Path.{Path, same_path, has_path, parent_path, last_slot, up_to}
 use Rattle.cst_core.proofs.LastSlot.{parent-and-slot}
-use Rattle.edit_change.specs.Aim.{Aim, Over}
-use Rattle.edit_change.specs.inner.Aimed.{siblings_from}
+use Rattle.edit_change.specs.Aim.{Aim, FirstIn, AfterElement, Over}
+use Rattle.edit_change.specs.inner.Aimed.{siblings_from, aim_in, some_path}
 use Rattle.edit_change.specs.inner.Clash.{shares}
 use Rattle.edit_change.specs.inner.DocumentOrder.{on_the_way, site, is_before}
 use Rattle.edit_change.specs.inner.Open.{replaced, surrounds}
+use Rattle.edit_change.specs.declared.aimed.AimForm.{AimForm}
+use Rattle.edit_change.specs.declared.aimed.AimForm.TheVariants as form
 use Rattle.edit_change.proofs.Around.{around-turned}
 use Rattle.edit_change.proofs.Paths.{same_path-true, same_path_from}
+use Rattle.edit_change.proofs.Positions.{same-test}
 use Rattle.edit_change.proofs.Sites.{later, sooner, run, any-sibling, sibling-any, way-push, way-to, LeadsInto, up_to-leads, leads-up_to, LiesIn, between, split-back, ends-or-goes-on}
 
 -- ---- runs of siblings
@@ -171,3 +175,91 @@ last-shares a o x v w q (Siblings p f n is at) (Siblings u g j is_o at_o) (Sibli
           let more = ap length on.1 in
           absurd (omega (arith, long_o, same_long, more, length-append u (inner.slot ∷ on.0)))
     ]
+
+-- ---- what code tests
+pub over-some : (p : Path) (n : ℕ) → nat_lt 0 n ≡ some_path (siblings_from p n)
+over-some [] zero = refl
+over-some (i ∷ p) zero = refl
+over-some [] (suc n) = lt-ltb 0 (suc n) (omega arith)
+over-some (i ∷ p) (suc n) = lt-ltb 0 (suc n) (omega arith)
+
+no-over : (a : Aim) (b : Aim) → replaced a ≡ [] → false ≡ shares a b
+no-over a b none = sym (ap (λ ps. list_any (has_path ps) (replaced b)) none ∙ nothing (replaced b))
+  where
+    nothing : (qs : List Path) → list_any (has_path []) qs ≡ false
+    nothing [] = refl
+    nothing (q ∷ qs) = nothing qs
+
+pub not-over : (p : Path) (w : AimForm) (b : Aim) → ((n : ℕ) → w ≡ form.Over n → ⊥) → false ≡ shares (aim_in p w) b
+not-over p form.FirstIn b never = no-over (FirstIn p) b refl
+not-over p form.AfterElement b never = no-over (AfterElement p) b refl
+not-over p (form.Over n) b never = absurd (never n refl)
+
+none-over : (p : Path) (n : ℕ) → n ≡ 0 → siblings_from p n ≡ []
+none-over [] zero e = refl
+none-over (i ∷ p) zero e = refl
+none-over p (suc n) e = absurd (omega (arith, e))
+
+-- the top
+pub tops-share : (p q : Path) (n m : ℕ) → length p ≡ 0 → length q ≡ 0 → 0 < n → nat_lt 0 m ≡ shares (Over (siblings_from p n)) (Over (siblings_from q m))
+tops-share [] [] zero m e f l = absurd (omega (arith, l))
+tops-share [] [] (suc n) zero e f l = refl
+tops-share [] [] (suc n) (suc m) e f l = lt-ltb 0 (suc m) (omega arith)
+tops-share [] (j ∷ q) n m e f l = absurd (omega (arith, f))
+tops-share (i ∷ p) q n m e f l = absurd (omega (arith, e))
+
+pub empty-shares : (p : Path) (n : ℕ) (b : Aim) → n ≡ 0 → false ≡ shares (Over (siblings_from p n)) b
+empty-shares p n b e = no-over (Over (siblings_from p n)) b (none-over p n e)
+
+module _ (p q : Path) (n m : ℕ) where
+  abbrev both : Bool
+  both = shares (Over (siblings_from p n)) (Over (siblings_from q m))
+
+  pub top-shares-none : length p ≡ 0 → length q ≢ 0 → false ≡ both
+  top-shares-none e some = go p q e some
+    where
+      go : (p q : Path) → length p ≡ 0 → length q ≢ 0 → false ≡ shares (Over (siblings_from p n)) (Over (siblings_from q m))
+      go [] [] e some = absurd (some refl)
+      go (i ∷ p) q e some = absurd (omega (arith, e))
+      go [] (j ∷ q) e some =
+          elim (cases_eq n 0) [
+            | inl none ↦ empty-shares [] n (Over (siblings_from (j ∷ q) m)) none
+            | inr some_n ↦ sym (false_from_ne_true (shares (Over (siblings_from [] n)) (Over (siblings_from (j ∷ q) m))) (λ h. top-alone n some_n h))
+          ]
+        where
+          top-alone : (n : ℕ) → n ≢ 0 → shares (Over (siblings_from [] n)) (Over (siblings_from (j ∷ q) m)) ≡ true → ⊥
+          top-alone zero some h = some refl
+          top-alone (suc n) some h =
+              run-top (parent_path (j ∷ q)) (last_slot (j ∷ q)) m (shares-turned (Over (siblings_from (j ∷ q) m)) (Over ([] ∷ [])) ∙ h)
+
+  pub none-shares-top : length p ≢ 0 → length q ≡ 0 → false ≡ both
+  none-shares-top some e = go p q some e
+    where
+      go : (p q : Path) → length p ≢ 0 → length q ≡ 0 → false ≡ shares (Over (siblings_from p n)) (Over (siblings_from q m))
+      go p (j ∷ q) some e = absurd (omega (arith, e))
+      go [] [] some e = absurd (some refl)
+      go (i ∷ p) [] some e = sym (false_from_ne_true (shares (Over (siblings_from (i ∷ p) n)) (Over (siblings_from [] m))) (λ h. top-alone m h))
+        where
+          top-alone : (m : ℕ) → shares (Over (siblings_from (i ∷ p) n)) (Over (siblings_from [] m)) ≡ true → ⊥
+          top-alone zero h = false≢true h
+          top-alone (suc m) h = run-top (parent_path (i ∷ p)) (last_slot (i ∷ p)) n h
+
+  module _ (some_p : length p ≢ 0) (some_q : length q ≢ 0) where
+    as-runs : both ≡ list_any (has_path (run (parent_path p) (last_slot p) n)) (run (parent_path q) (last_slot q) m)
+    as-runs = go p q some_p some_q
+      where
+        go : (p q : Path) → length p ≢ 0 → length q ≢ 0 → shares (Over (siblings_from p n)) (Over (siblings_from q m)) ≡ list_any (has_path (run (parent_path p) (last_slot p) n)) (run (parent_path q) (last_slot q) m)
+        go [] q some other = absurd (some refl)
+        go (i ∷ p) [] some other = absurd (other refl)
+        go (i ∷ p) (j ∷ q) some other = refl
+
+    pub parents-differ : (parent_path p ≡ parent_path q → ⊥) → false ≡ both
+    parents-differ other =
+        sym (false_from_ne_true both (λ h. other (sym (shared-run (parent_path p) (last_slot p) n (parent_path q) (last_slot q) m (sym as-runs ∙ h)).0)))
+
+    pub slots-decide : (b : Bool) (f g : ℕ) → parent_path p ≡ parent_path q → f ≡ last_slot p → g ≡ last_slot q → (IsTrue b → IsShared f n g m) → (IsShared f n g m → IsTrue b) → b ≡ both
+    slots-decide b f g same is_f is_g to back =
+        same-test b (list_any (has_path (run (parent_path p) (last_slot p) n)) (run (parent_path q) (last_slot q) m)) (λ h. ap (λ r. list_any (has_path (run (parent_path p) (last_slot p) n)) (run r (last_slot q) m)) (sym same) ∙ run-shared (parent_path p) (last_slot p) n (last_slot q) m (moved f g (last_slot p) (last_slot q) is_f is_g (to h))) (λ h. back (moved (last_slot p) (last_slot q) f g (sym is_f) (sym is_g) (shared-run (parent_path p) (last_slot p) n (parent_path q) (last_slot q) m h).1)) ∙ sym as-runs
+      where
+        moved : (f g h k : ℕ) → f ≡ h → g ≡ k → IsShared f n g m → IsShared h n k m
+        moved f g h k a b is = subst (λ x. IsShared x n k m) a (subst (λ y. IsShared f n y m) b is)

@@ -7,12 +7,12 @@
 --     swept-closed, swept-fate, swept-pushed, swept-passed     where what is over is taken off; the fate of the next one; what is true after it, if it is open, and if it has no region
 --     swept-there, swept-here, swept-with, swept-without     the same over a list in code
 --     last-is, last-there           the last that is open
-use Rattle.std.specs.Prelude.{◌≡◌, ◌≢◌, ◌<◌, ◌≤◌, ◌+◌, ◌-◌, ◌⊎◌, ℕ, zero, suc, Bool, true, false, ◌&&◌, ◌||◌, cond, nat_eq, List, [], ◌∷◌, ◌++◌, map, drop, length, slice_get, Option, Some, None, option_map, IfSome, All, refl}
+use Rattle.std.specs.Prelude.{◌≡◌, ◌≢◌, ◌<◌, ◌+◌, ◌-◌, ◌⊎◌, ℕ, zero, suc, Bool, true, false, ◌||◌, nat_eq, List, [], ◌∷◌, ◌++◌, map, drop, length, slice_get, Option, Some, None, option_map, IfSome, All, refl}
 use Rattle.std.specs.List.{AllByRecursion, list_any, enumerate_from}
 use Rattle.std.specs.Option.{option_map_or, option_copied}
 use Rattle.std.proofs.Common.{ap, ap₂, sym, subst, ◌∙◌, arith, append_assoc, get_or}
 use Rattle.std.proofs.Math.ListN.{set, length-set}
-use Rattle.std.proofs.lemmas.Bool.{cases_Bool, cases_eq, or_cases, or_left, or_right, or_from, eqb-true, eqb-false, eq-eqb, ne_eqb, true_from_ne_false, false_from_ne_true, false≢true, true≢false}
+use Rattle.std.proofs.lemmas.Bool.{cases_Bool, cases_eq, or_cases, or_from, eqb-true, eq-eqb, ne_eqb, true_from_ne_false, false_from_ne_true, false≢true, true≢false}
 use Rattle.std.proofs.lemmas.List.Folds.{list_any-append}
 use Rattle.std.proofs.lemmas.List.Elements.{All-from_recursion, recursion_from_All}
 use Rattle.std.proofs.lemmas.List.Sorted.{list_any-IsPermutation}
@@ -23,7 +23,6 @@ use denote.Ref.{Bor}
 use mathlib.Core.Logic.{inl, inr}
 use Rattle.cst_core.specs.Path.{Path, has_path, last_item}
 use Rattle.cst_core.specs.Element.{Element}
-use Rattle.edit_change.specs.Aim.{Aim}
 use Rattle.edit_change.specs.Change.{targets}
 use Rattle.edit_change.specs.ChangeAim.{aim}
 use Rattle.edit_change.specs.Fits.{Fits}
@@ -33,7 +32,7 @@ use Rattle.edit_change.specs.Rewriting.{NumberedAim}
 use Rattle.edit_change.specs.inner.Aimed.{numbered, aims_of}
 use Rattle.edit_change.specs.inner.DocumentOrder.{site, is_before, stands_before, InDocumentOrder, AreSorted}
 use Rattle.edit_change.specs.inner.Fate.{fate}
-use Rattle.edit_change.specs.inner.Open.{replaced, surrounds, Closes, inside, inside_last}
+use Rattle.edit_change.specs.inner.Open.{surrounds, Closes, inside, inside_last}
 use Rattle.edit_change.specs.declared.aimed.Aimed.{Aimed}
 use Rattle.edit_change.specs.declared.change.Change.{Change}
 use Rattle.edit_change.specs.declared.fate.Fate.{Fate}

@@ -1,6 +1,6 @@
 -- The paths on the way to a child.
 --     up_to-push                    those on the way to its parent, and its own
-use Rattle.std.specs.Prelude.{◌≡◌, ℕ, List, [], ◌∷◌, ◌++◌, map, refl}
+use Rattle.std.specs.Prelude.{◌≡◌, ℕ, [], ◌∷◌, ◌++◌, map, refl}
 use Rattle.std.proofs.Common.{ap, ◌∙◌}
 use Rattle.std.proofs.lemmas.List.{map-append}
 use Rattle.cst_core.specs.Path.{Path, above, up_to}

@@ -261,8 +261,14 @@ impl<'a> Aimed<'a> {
         let AimForm::Over(other_count) = other.form else {
             return false;
         };
+        if count == 0 {
+            return false;
+        }
         if self.path.is_empty() {
-            return other.path.is_empty() && count > 0 && other_count > 0;
+            if !other.path.is_empty() {
+                return false;
+            }
+            return other_count > 0;
         }
         if other.path.is_empty() {
             return false;
@@ -270,7 +276,12 @@ impl<'a> Aimed<'a> {
         if parent(self.path) != parent(other.path) {
             return false;
         }
-        share_slot(last_slot(self.path), count, last_slot(other.path), other_count)
+        share_slot(
+            last_slot(self.path),
+            count,
+            last_slot(other.path),
+            other_count,
+        )
     }
 
     // What stands at a depth of the site where it aims.

@@ -19,10 +19,7 @@ use std::alloc::{AllocError, Global};
 // Whether two of the aims with numbers below this one share a target. If some of those that are open share one with the next aim in
 // document order, the last of them does.
 fn has_clash(alloc: Global, aims: &[Aimed<'_>], below: usize) -> Result<bool, AllocError>
-    ghost cs: { List Change }
-    requires sorted { AreSorted cs (aims_of aims.now) }
-    requires fit { All FitsSome cs }
-    ensures { IfOk result (ClashesBelow cs below) }
+    ensures { (cs : List Change) → AreSorted cs (aims_of aims.now) → IfOk result (ClashesBelow cs below) }
 {
     let mut open: Vec<Aimed<'_>> = Vec::new(alloc);
     for aim in aims {
@@ -50,11 +47,8 @@ fn shares_last(open: &[Aimed<'_>], aim: &Aimed<'_>) -> bool
 // The least number of a change that shares a target with one before it, where so many changes do. Whether there is one below a
 // number does not change back, so the number is halved in on.
 fn second_of_first(alloc: Global, aims: &[Aimed<'_>], count: usize) -> Result<usize, AllocError>
-    ghost cs: { List Change }
-    requires sorted { AreSorted cs (aims_of aims.now) }
-    requires fit { All FitsSome cs }
-    requires clash { ClashesBelow cs count true }
-    ensures { IfOk result (λ j. (j < count) × ClashesBelow cs j false × ClashesBelow cs (j + 1) true) }
+    ensures { (cs : List Change) → AreSorted cs (aims_of aims.now) → ClashesBelow cs count true
+        → IfOk result (λ j. (j < count) × ClashesBelow cs j false × ClashesBelow cs (j + 1) true) }
 {
     let mut low = 0;
     let mut high = count;

@@ -13,7 +13,11 @@ use crate::change_aims::numbered_aim;
 use std::alloc::{AllocError, Global};
 
 // The change with this number, where those of the second list are numbered on from those of the first one.
-pub(crate) fn change_in_both<'a>(own: &'a [Change], other: &'a [Change], number: usize) -> &'a Change
+pub(crate) fn change_in_both<'a>(
+    own: &'a [Change],
+    other: &'a [Change],
+    number: usize,
+) -> &'a Change
     requires { number < length own.now + length other.now }
     ensures { slice_get (own.now ++ other.now) number ≡ Some result.now }
 {

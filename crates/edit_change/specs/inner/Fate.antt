@@ -2,11 +2,8 @@
 --     by_owner                      by its owner, of a change that is not dropped
 --     fate                          among these changes
 --     owner_in, is_dropped_in, is_independent_in    what a fate says
-use Rattle.std.specs.Prelude.{ℕ, Bool, true, false, cond, not, List, filter_map, slice_get, Option, Some, None}
-use Rattle.std.specs.List.{list_any}
-use Rattle.std.specs.Option.{option_map_or}
-use Rattle.cst_core.specs.Path.{Path, last_item}
-use Rattle.edit_change.specs.Nesting.{is_keeping, is_dropped, region_at, owner}
+use Rattle.std.specs.Prelude.{ℕ, Bool, true, false, cond, List, Option, Some, None}
+use Rattle.edit_change.specs.Nesting.{is_dropped, owner}
 use Rattle.edit_change.specs.declared.change.Change.{Change}
 use Rattle.edit_change.specs.declared.fate.Fate.{Fate}
 use Rattle.edit_change.specs.declared.fate.Fate.TheVariants.{Independent, Dropped, Owned}
