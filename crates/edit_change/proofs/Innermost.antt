@@ -1,5 +1,6 @@
 -- What becomes of a change, from the innermost region around it.
 --     region_cases                  what a change replaces is its region, or it has none
+--     any-place                     an item that passes a test, by its place
 --     region-unique                 the change whose region has a path, where no two share a target
 --     dropped-told                  a fate says whether a change is dropped
 --     fate-inside                   what is inside the innermost region around it
@@ -65,7 +66,7 @@ all-has P (q ∷ ps) p all h =
       | inr there ↦ all-has P ps p all.1 there
     ]
 
-any-place : {X : Type 0} (test : X → Bool) (xs : List X) → list_any test xs ≡ true → (i : ℕ) × (x : X) × (slice_get xs i ≡ Some x) × (test x ≡ true)
+pub any-place : {X : Type 0} (test : X → Bool) (xs : List X) → list_any test xs ≡ true → (i : ℕ) × (x : X) × (slice_get xs i ≡ Some x) × (test x ≡ true)
 any-place test [] h = absurd (false≢true h)
 any-place test (x ∷ xs) h =
     elim (or_cases (test x) (list_any test xs) h) [

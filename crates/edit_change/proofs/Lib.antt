@@ -9,6 +9,7 @@ pub mod DocumentOrder
 mod Bisected
 mod Closing
 pub mod Edits
+mod Found
 pub mod GapRule
 pub mod AimsHere
 pub mod Independents

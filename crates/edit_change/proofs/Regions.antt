@@ -1,11 +1,22 @@
 -- What a region and a fate say.
 --     region-in                     a region has targets alone
+--     target-there                  the change that replaces what is at a path, where no two clash
 --     owner-told                    the owner of a change, from its fate
-use Rattle.std.specs.Prelude.{◌≡◌, ℕ, Bool, true, false, cond, filter_map, Option, Some, None, refl}
+use Rattle.std.specs.Prelude.{◌≡◌, ℕ, Bool, true, false, cond, ◌<◌, filter_map, slice_get, Option, Some, None, refl}
+use Rattle.std.proofs.Common.{ap, sym, ◌∙◌, arith, get_or}
+use Rattle.std.proofs.lemmas.Bool.{cases_eq, cases_lt, false≢true, true≢false}
+use Rattle.std.proofs.lemmas.List.Quantifiers.{position-Some}
+use Rattle.std.proofs.lemmas.Option.{slice_get-get_or}
+use mathlib.Core.Logic.{inl, inr}
 use Rattle.cst_core.specs.Path.{Path, has_path, last_item}
 use Rattle.cst_core.specs.declared.element.SyntaxElement.TheVariants.{Node, Token}
 use Rattle.edit_change.specs.Change.{targets}
-use Rattle.edit_change.specs.Nesting.{region, surroundings, is_dropped, region_at, owner}
+use Rattle.edit_change.specs.Nesting.{region, surroundings, is_dropped, region_at, owner, first_clash}
+use Rattle.edit_change.specs.inner.Targets.{target_at}
+use Rattle.edit_change.proofs.Lists.{all_at}
+use Rattle.edit_change.proofs.Paths.{meets}
+use Rattle.edit_change.proofs.Positions.{none-passes}
+use Rattle.edit_change.proofs.RootAlone.{unclashed}
 use Rattle.edit_change.specs.inner.Fate.{by_owner, owner_in, fate}
 use Rattle.edit_change.specs.declared.change.Change.{Change}
 use Rattle.edit_change.specs.declared.change.Change.TheVariants.{Insert, InsertAll, Replace, ReplaceWithMany, ReplaceAll}
@@ -28,3 +39,23 @@ owner-told cs c = go (is_dropped cs c) (last_item (filter_map (region_at cs) (su
     go true o = refl
     go false None = refl
     go false (Some d) = refl
+
+-- where no two share a target, the change that replaces what is at a path is the only one that does
+pub target-there : (cs : List Change) (p : Path) (n : ℕ) (c : Change) → first_clash cs ≡ None → slice_get cs n ≡ Some c → has_path (targets c) p ≡ true → target_at cs p ≡ Some n
+target-there cs p n c apart is h = go (target_at cs p) refl
+  where
+    go : (o : Option ℕ) → target_at cs p ≡ o → target_at cs p ≡ Some n
+    go None none = absurd (false≢true (sym (all_at (λ d. has_path (targets d) p ≡ false) cs n c (none-passes (λ d. has_path (targets d) p) cs none) is) ∙ h))
+    go (Some m) found =
+        let there = position-Some (λ d. has_path (targets d) p) cs m c found in
+        let d = get_or cs m c in
+        let is_d = slice_get-get_or cs m c there.0 in
+        elim (cases_eq n m) [
+          | inl same ↦ found ∙ ap (λ k. Some k) (sym same)
+          | inr other ↦ elim (cases_lt n m) [
+            | inl less ↦ absurd (true≢false (sym (meets (targets c) (targets d) p h there.1) ∙ unclashed cs n m c d apart less is is_d))
+            | inr more ↦
+                let less : m < n = omega (arith, more, other) in
+                absurd (true≢false (sym (meets (targets d) (targets c) p there.1 h) ∙ unclashed cs m n d c apart less is_d is))
+          ]
+        ]

@@ -317,7 +317,7 @@ impl<'a> Aimed<'a> {
     }
 
     // The order of the sites alone.
-    fn compare_sites(&self, other: &Aimed<'_>) -> Ordering
+    pub(crate) fn compare_sites(&self, other: &Aimed<'_>) -> Ordering
         ensures { result ≡ slice_cmp nat_cmp (site (aim_in self.now.path.now self.now.form))
             (site (aim_in other.now.path.now other.now.form)) }
     {

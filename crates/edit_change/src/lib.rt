@@ -36,7 +36,7 @@ pub use fits::{is_node, is_one_node, is_range, is_root};
 pub use given::Given;
 pub use native::{is_native, is_native_node};
 pub use one_node::only_node;
-pub use order::{numbers, sorted_aims};
+pub use order::{numbers, sorted_aims, starting_at};
 pub use planned::Planned;
 pub use position::Position;
 pub use staged::{moved_path, owner_of, place_at, staged_path};

@@ -4,7 +4,7 @@ ghost use Rattle.std.specs.Prelude.{◌≡◌, ◌<◌, ◌+◌, ◌++◌, List,
 ghost use Rattle.std.specs.List.{enumerate_from};
 ghost use Rattle.edit_change.specs.NewTree.{change_aims};
 ghost use Rattle.edit_change.specs.inner.Aimed.{aims_of};
-ghost use Rattle.edit_change.specs.inner.DocumentOrder.{FitsSome, AreSorted, IsDocumentOrder};
+ghost use Rattle.edit_change.specs.inner.DocumentOrder.{FitsSome, AreSorted, StartsThere, IsDocumentOrder};
 ghost use Rattle.edit_change.specs.declared.change.Change.{Change};
 
 use crate::aimed::Aimed;
@@ -60,6 +60,17 @@ pub fn sorted_aims<'a>(
     let mut aims = all_aims(alloc, own, other)?;
     aims.sort_by(|one: &Aimed<'_>, two: &Aimed<'_>| one.compare(two))?;
     Ok(aims)
+}
+
+/// The change that replaces from this path on, if there is one. `aims` has where all changes aim, in document order.
+pub fn starting_at(aims: &[Aimed<'_>], path: &[usize]) -> Option<usize>
+    ensures { (cs : List Change) → AreSorted cs (aims_of aims.now) → All FitsSome cs → StartsThere cs path.now result }
+{
+    let wanted = Aimed::over(0, path, 1);
+    match aims.binary_search_by(|aim| aim.compare_sites(&wanted)) {
+        Ok(index) => Some(aims[index].change),
+        Err(_) => None,
+    }
 }
 
 /// The numbers of the changes that aim so: of sorted aims, a document order.
