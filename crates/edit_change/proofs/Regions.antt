@@ -1,18 +1,20 @@
 -- What a region and a fate say.
 --     region-in                     a region has targets alone
 --     target-there                  the change that replaces what is at a path, where no two clash
+--     found-at, found-within, found-target      it is there, and what is at the path is one of its targets
 --     owner-told                    the owner of a change, from its fate
 use Rattle.std.specs.Prelude.{◌≡◌, ℕ, Bool, true, false, cond, ◌<◌, filter_map, slice_get, Option, Some, None, refl}
 use Rattle.std.proofs.Common.{ap, sym, ◌∙◌, arith, get_or}
 use Rattle.std.proofs.lemmas.Bool.{cases_eq, cases_lt, false≢true, true≢false}
 use Rattle.std.proofs.lemmas.List.Quantifiers.{position-Some}
-use Rattle.std.proofs.lemmas.Option.{slice_get-get_or}
+use Rattle.std.proofs.lemmas.Option.{none-some, slice_get-get_or}
 use mathlib.Core.Logic.{inl, inr}
 use Rattle.cst_core.specs.Path.{Path, has_path, last_item}
 use Rattle.cst_core.specs.declared.element.SyntaxElement.TheVariants.{Node, Token}
 use Rattle.edit_change.specs.Change.{targets}
 use Rattle.edit_change.specs.Nesting.{region, surroundings, is_dropped, region_at, owner, first_clash}
 use Rattle.edit_change.specs.inner.Targets.{target_at}
+use Rattle.edit_change.proofs.Clashes.{at-index}
 use Rattle.edit_change.proofs.Lists.{all_at}
 use Rattle.edit_change.proofs.Paths.{meets}
 use Rattle.edit_change.proofs.Positions.{none-passes}
@@ -21,7 +23,7 @@ use Rattle.edit_change.specs.inner.Fate.{by_owner, owner_in, fate}
 use Rattle.edit_change.specs.declared.change.Change.{Change}
 use Rattle.edit_change.specs.declared.change.Change.TheVariants.{Insert, InsertAll, Replace, ReplaceWithMany, ReplaceAll}
 use Rattle.edit_change.specs.declared.fate.Fate.TheVariants.{Dropped}
-use Rattle.std.specs.Prelude.{List}
+use Rattle.std.specs.Prelude.{List, [], ◌∷◌, length}
 
 pub region-in : (c : Change) (p : Path) → has_path (targets c) p ≡ false → has_path (region c) p ≡ false
 region-in (Insert at e) p h = refl
@@ -59,3 +61,16 @@ target-there cs p n c apart is h = go (target_at cs p) refl
                 absurd (true≢false (sym (meets (targets d) (targets c) p there.1 h) ∙ unclashed cs m n d c apart less is_d is))
           ]
         ]
+
+-- it is there, and what is at the path is one of its targets
+pub found-at : (cs : List Change) (p : Path) (n : ℕ) (c : Change) → target_at cs p ≡ Some n → c ≡ get_or cs n c → slice_get cs n ≡ Some c
+found-at cs p n c found is =
+    at-index cs n c (position-Some (λ r. has_path (targets r) p) cs n c found).0 is
+
+pub found-within : (cs : List Change) (p : Path) (n : ℕ) → target_at cs p ≡ Some n → n < length cs
+found-within [] p n found = absurd (none-some n found)
+found-within (c ∷ cs) p n found = (position-Some (λ r. has_path (targets r) p) (c ∷ cs) n c found).0
+
+pub found-target : (cs : List Change) (p : Path) (n : ℕ) (c : Change) → target_at cs p ≡ Some n → c ≡ get_or cs n c → has_path (targets c) p ≡ true
+found-target cs p n c found is =
+    ap (λ d. has_path (targets d) p) is ∙ (position-Some (λ r. has_path (targets r) p) cs n c found).1
