@@ -1,29 +1,28 @@
 -- What becomes of a change, from the innermost region around it.
 --     region_cases                  what a change replaces is its region, or it has none
+--     any-place                     an item that passes a test, by its place
 --     region-unique                 the change whose region has a path, where no two share a target
 --     dropped-told                  a fate says whether a change is dropped
 --     fate-inside                   what is inside the innermost region around it
 --     fate-free                     in no region
-use Rattle.std.specs.Prelude.{◌≡◌, ◌≢◌, ◌<◌, ◌≤◌, ◌+◌, ◌⊎◌, ℕ, zero, suc, Bool, true, false, ◌&&◌, ◌||◌, not, cond, nat_eq, ⊤, List, [], ◌∷◌, ◌++◌, map, length, filter_map, position, slice_get, Option, Some, None, All, refl}
+use Rattle.std.specs.Prelude.{◌≡◌, ◌<◌, ◌≤◌, ◌⊎◌, ℕ, suc, Bool, true, false, ◌&&◌, ◌||◌, not, cond, ⊤, List, [], ◌∷◌, ◌++◌, map, length, filter_map, slice_get, Option, Some, None, All, refl}
 use Rattle.std.specs.List.{AllByRecursion, cons_option, list_any}
 use Rattle.std.proofs.Common.{ap, ap₂, sym, subst, ◌∙◌, arith, get_or}
-use Rattle.std.proofs.lemmas.Bool.{cases_Bool, cases_eq, or_cases, or_left, or_right, and_parts, and_from, true_from_ne_false, false_from_ne_true, false≢true, true≢false}
+use Rattle.std.proofs.lemmas.Bool.{cases_eq, or_cases, or_left, or_right, and_parts, and_from, true_from_ne_false, false_from_ne_true, false≢true}
 use Rattle.std.proofs.lemmas.List.{length-append}
 use Rattle.std.proofs.lemmas.List.Quantifiers.{position-Some}
 use Rattle.std.proofs.lemmas.Map.Keys.{any_passes_from_place}
-use Rattle.std.proofs.lemmas.Option.{none-some, same_Some, slice_get-get_or, slice_get_within, get_or_from_slice_get}
+use Rattle.std.proofs.lemmas.Option.{none-some, same_Some, slice_get-get_or}
 use mathlib.Core.Logic.{inl, inr}
 use Rattle.cst_core.specs.Path.{Path, same_path, has_path, up_to, last_item}
 use Rattle.cst_core.specs.Element.{Element}
 use Rattle.cst_core.specs.declared.element.SyntaxElement.TheVariants.{Node, Token}
-use Rattle.edit_change.specs.Aim.{Aim, FirstIn, AfterElement, Over}
 use Rattle.edit_change.specs.Change.{targets}
-use Rattle.edit_change.specs.ChangeAim.{aim}
 use Rattle.edit_change.specs.Fits.{Fits}
 use Rattle.edit_change.specs.Nesting.{region, is_keeping, surroundings, is_around, is_dropped, region_at, owner, first_clash}
 use Rattle.edit_change.specs.inner.AimFrom.{depth}
 use Rattle.edit_change.specs.inner.Fate.{by_owner, is_dropped_in, fate}
-use Rattle.edit_change.specs.inner.Open.{replaced, surrounds, inside}
+use Rattle.edit_change.specs.inner.Open.{replaced, inside}
 use Rattle.edit_change.specs.declared.change.Change.{Change}
 use Rattle.edit_change.specs.declared.change.Change.TheVariants.{Insert, InsertAll, Replace, ReplaceWithMany, ReplaceAll}
 use Rattle.edit_change.specs.declared.fate.Fate.TheVariants.{Independent, Dropped, Owned}
@@ -67,7 +66,7 @@ all-has P (q ∷ ps) p all h =
       | inr there ↦ all-has P ps p all.1 there
     ]
 
-any-place : {X : Type 0} (test : X → Bool) (xs : List X) → list_any test xs ≡ true → (i : ℕ) × (x : X) × (slice_get xs i ≡ Some x) × (test x ≡ true)
+pub any-place : {X : Type 0} (test : X → Bool) (xs : List X) → list_any test xs ≡ true → (i : ℕ) × (x : X) × (slice_get xs i ≡ Some x) × (test x ≡ true)
 any-place test [] h = absurd (false≢true h)
 any-place test (x ∷ xs) h =
     elim (or_cases (test x) (list_any test xs) h) [

@@ -6,13 +6,13 @@ pub mod AlteredNodes
 pub mod Clashes
 mod SlotsOfParents
 pub mod DocumentOrder
+mod Bisected
 mod Closing
 pub mod Edits
-mod Entering
+mod Found
 pub mod GapRule
 pub mod AimsHere
 pub mod Independents
-pub mod Indexed
 pub mod Innermost
 pub mod Lists
 pub mod MovedAims
@@ -27,7 +27,9 @@ pub mod Relabelled
 pub mod RewrittenAlike
 pub mod RootAlone
 mod RootTargets
+mod Scanning
 pub mod SeenBelow
+pub mod Shared
 pub mod Sites
 pub mod GivenTrees
 mod Slots

@@ -1,23 +1,24 @@
 -- Which changes lie in which, in document order, where no two clash.
+--     stands-through                one before another one, and that before a third
 --     no-share                      no two of them share a target
 --     before-after                  what stands before another one is not after it
 --     around-between                what is around a change is around all that stands between
 --     around-first                  it stands before the change
 --     around-through                what is around something that is around a change is around the change
-use Rattle.std.specs.Prelude.{◌≡◌, ◌≢◌, ◌<◌, ◌≤◌, ◌+◌, ◌⊎◌, ℕ, zero, suc, Bool, true, false, ◌&&◌, ◌||◌, nat_eq, nat_lt, List, [], ◌∷◌, ◌++◌, length, slice_get, Option, Some, None, All, refl}
-use Rattle.std.specs.List.{AllByRecursion, list_any}
+use Rattle.std.specs.Prelude.{◌≡◌, ◌≢◌, ◌<◌, ◌≤◌, ◌+◌, ℕ, suc, true, false, ◌&&◌, nat_lt, List, [], ◌∷◌, ◌++◌, slice_get, Some, None, All, refl}
+use Rattle.std.specs.List.{list_any}
 use Rattle.std.specs.Cmp.Lexicographic.{slice_cmp}
 use Rattle.std.specs.Ordering.{nat_cmp, is_lt, ordering_reverse}
 use Rattle.std.specs.declared.cmp.Ordering.TheVariants.{Less, Equal, Greater}
 use Rattle.std.proofs.Common.{Ordering, ap, ap₂, sym, subst, ◌∙◌, arith, append_assoc}
-use Rattle.std.proofs.lemmas.Bool.{cases_Bool, cases_lt, or_cases, or_left, or_right, and_parts, eqb-true, eqb-false, eq-eqb, ltb-true, false≢true, true≢false}
+use Rattle.std.proofs.lemmas.Bool.{cases_Bool, cases_lt, or_cases, or_left, or_right, and_parts, ltb-true, false≢true, true≢false}
 use Rattle.std.proofs.lemmas.Cmp.{nat_list_cmp_total}
 use Rattle.std.proofs.lemmas.Option.{same_Some, slice_get_within, get_or_from_slice_get}
 use mathlib.Core.Logic.{inl, inr}
 use Rattle.cst_core.specs.Path.{Path, same_path, has_path, parent_path, last_slot, up_to}
 use Rattle.cst_core.specs.Element.{Element}
 use Rattle.edit_change.specs.Aim.{Aim, FirstIn, AfterElement, Over}
-use Rattle.edit_change.specs.Change.{targets, shared_targets}
+use Rattle.edit_change.specs.Change.{targets}
 use Rattle.edit_change.specs.ChangeAim.{aim}
 use Rattle.edit_change.specs.Fits.{Fits}
 use Rattle.edit_change.specs.Nesting.{surroundings, first_clash}
@@ -25,7 +26,7 @@ use Rattle.edit_change.specs.Rewriting.{NumberedAim}
 use Rattle.edit_change.specs.inner.DocumentOrder.{on_the_way, site, is_before, stands_before}
 use Rattle.edit_change.specs.inner.Open.{replaced, surrounds}
 use Rattle.edit_change.specs.declared.change.Change.{Change}
-use Rattle.edit_change.proofs.DocumentOrder.{OfChange, before-compared}
+use Rattle.edit_change.proofs.DocumentOrder.{OfChange, before-compared, aim_cmp, aims-total, stands-compared}
 use Rattle.edit_change.proofs.Paths.{meets, same_path-true, same_path_from}
 use Rattle.edit_change.proofs.RootAlone.{unclashed}
 use Rattle.edit_change.proofs.Sites.{run, sibling-any, way-push, on-the-way, way-to, up_to-leads, between, replaced-aim, Stands, First, Behind, Whole, Run, stands, lies-strictly, lies-back}
@@ -64,6 +65,12 @@ never-itself a h =
           let l = ltb-true a.0 a.0 (and_parts (same_path (site a.1) (site a.1)) (nat_lt a.0 a.0) alike).1 in
           absurd (omega (arith, l))
     ]
+
+-- one before another one, and that before a third
+pub stands-through : (a b c : NumberedAim) → stands_before a b ≡ true → stands_before b c ≡ true → stands_before a c ≡ true
+stands-through a b c h k =
+    let less : (x y : NumberedAim) → stands_before x y ≡ true → aim_cmp x y ≡ Less = λ x y m. less-is (aim_cmp x y) (stands-compared x y ∙ m) in
+    sym (stands-compared a c) ∙ ap is_lt (aims-total.trans a b c (less a b h) (less b c k))
 
 module _ (cs : List Change) (root : Element) (fit : All (Fits root) cs) (apart : first_clash cs ≡ None) where
   pub stands-at : (n : ℕ) (c : Change) → slice_get cs n ≡ Some c → Stands c

@@ -3,25 +3,27 @@
 --     any-sibling, sibling-any      some sibling passes a test
 --     LeadsInto                     a path leads through one of these siblings
 --     up_to-leads, leads-up_to      the paths on the way to it say so
+--     later, sooner                 which list of numbers is before another one
 --     LiesIn, between               a site among those of these siblings and what is in them; so is what stands between two of them
+--     way-split, split-back, ends-or-goes-on     the way to a path that leads through a slot
 --     Stands, stands                where a change stands
 --     replaced-aim                  what a change replaces, by its aim
 --     way-push                      the way to one slot more
 --     TargetIn                      a change replaces one of these siblings
 --     lies-strictly, lies-back      what lies in a run stands after its first slot and no further than the gap after its last one, and the other way round
-use Rattle.std.specs.Prelude.{◌≡◌, ◌<◌, ◌≤◌, ◌+◌, ◌-◌, ◌⊎◌, ℕ, zero, suc, Bool, true, false, ◌&&◌, ◌||◌, not, nat_eq, nat_lt, nat_le, List, [], ◌∷◌, ◌++◌, map, length, refl}
+use Rattle.std.specs.Prelude.{◌≡◌, ◌<◌, ◌≤◌, ◌+◌, ◌-◌, ◌⊎◌, ℕ, zero, suc, Bool, true, false, ◌&&◌, not, nat_eq, nat_le, List, [], ◌∷◌, ◌++◌, map, length, refl}
 use Rattle.std.specs.List.{list_any}
 use Rattle.std.proofs.Common.{ap, ap₂, sym, subst, ◌∙◌, arith, append_assoc}
 use Rattle.std.proofs.lemmas.Bool.{cases_lt, or_cases, or_left, or_right, and_parts, and_from, eqb-true, eq-eqb, leb-true, false≢true, true≢false}
 use Rattle.std.proofs.lemmas.Bool.Decides.{nat_tests}
-use Rattle.std.proofs.lemmas.List.{map-append, append-nil, length-append}
+use Rattle.std.proofs.lemmas.List.{map-append, length-append}
 use mathlib.Core.Logic.{inl, inr}
 use Rattle.cst_core.specs.Path.{Path, same_path, has_path, parent_path, last_slot, above, up_to, counted_from, siblings}
 use Rattle.cst_core.specs.Element.{Element}
 use Rattle.cst_core.specs.SyntaxElement.{element_of}
 use Rattle.cst_core.specs.declared.element.SyntaxElement.{SyntaxElement}
 use Rattle.cst_core.proofs.LastSlot.{parent-and-slot}
-use Rattle.edit_change.specs.Aim.{Aim, FirstIn, AfterElement, Over}
+use Rattle.edit_change.specs.Aim.{FirstIn, AfterElement, Over}
 use Rattle.edit_change.specs.Change.{targets}
 use Rattle.edit_change.specs.ChangeAim.{aim}
 use Rattle.edit_change.specs.Fits.{Fits, is_native, is_range, are_siblings}
@@ -106,10 +108,10 @@ leads-up_to p f n q into =
     sibling-any (has_path (up_to q)) p f n into.slot into.from into.below way
 
 -- ---- sites
-later : (x y : ℕ) (xs ys : List ℕ) → x ≡ y → is_before (x ∷ xs) (y ∷ ys) ≡ is_before xs ys
+pub later : (x y : ℕ) (xs ys : List ℕ) → x ≡ y → is_before (x ∷ xs) (y ∷ ys) ≡ is_before xs ys
 later x y xs ys h = grind (arith, nat_tests)
 
-sooner : (x y : ℕ) (xs ys : List ℕ) → x < y → is_before (x ∷ xs) (y ∷ ys) ≡ true
+pub sooner : (x y : ℕ) (xs ys : List ℕ) → x < y → is_before (x ∷ xs) (y ∷ ys) ≡ true
 sooner x y xs ys h = grind (arith, nat_tests)
 
 pub record LiesIn (p : Path) (low high : ℕ) (xs : List ℕ) : Type 0 where
@@ -157,14 +159,14 @@ after-first (s ∷ p) low key more l =
     later (suc (s + s)) (suc (s + s)) (on_the_way p ++ low ∷ []) (on_the_way p ++ key ∷ more) refl ∙ after-first p low key more l
 
 -- ---- the way to a path that leads through a slot, and what comes after it
-way-split : (p : Path) (s : ℕ) (rest : Path) (tail : List ℕ) → on_the_way (p ++ s ∷ rest) ++ tail ≡ on_the_way p ++ suc (s + s) ∷ (on_the_way rest ++ tail)
+pub way-split : (p : Path) (s : ℕ) (rest : Path) (tail : List ℕ) → on_the_way (p ++ s ∷ rest) ++ tail ≡ on_the_way p ++ suc (s + s) ∷ (on_the_way rest ++ tail)
 way-split [] s rest tail = refl
 way-split (i ∷ p) s rest tail = ap (λ xs. suc (i + i) ∷ xs) (way-split p s rest tail)
 
-abbrev Through : Path → Path → ℕ → Type 0
+abbrev pub Through : Path → Path → ℕ → Type 0
 Through p q key = (s : ℕ) × (rest : Path) × (q ≡ p ++ s ∷ rest) × (key ≡ suc (s + s))
 
-split-back : (q p : Path) (t key : ℕ) (more : List ℕ) → on_the_way q ++ t ∷ [] ≡ on_the_way p ++ key ∷ more → Through p q key ⊎ ((q ≡ p) × (t ≡ key))
+pub split-back : (q p : Path) (t key : ℕ) (more : List ℕ) → on_the_way q ++ t ∷ [] ≡ on_the_way p ++ key ∷ more → Through p q key ⊎ ((q ≡ p) × (t ≡ key))
 split-back [] [] t key more e = inr (refl, cc)
 split-back [] (i ∷ p) t key more e =
     let l = ap length e in

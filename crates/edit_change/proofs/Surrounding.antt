@@ -2,14 +2,14 @@
 --     top-surrounds                 the top is on the way to each path
 --     beside, ends-above            a path that parts from theirs before, that ends there
 --     leads-before, leads-test      by the slot through which it leads
-use Rattle.std.specs.Prelude.{◌≡◌, ◌≢◌, ◌<◌, ◌≤◌, ◌+◌, ◌-◌, ℕ, zero, suc, Bool, true, false, ◌||◌, nat_eq, nat_lt, List, [], ◌∷◌, ◌++◌, take, drop, length, refl}
+use Rattle.std.specs.Prelude.{◌≡◌, ◌≢◌, ◌<◌, ◌≤◌, ◌-◌, ℕ, zero, suc, true, false, nat_eq, nat_lt, List, [], ◌∷◌, ◌++◌, take, drop, length, refl}
 use Rattle.std.specs.List.{list_any}
 use Rattle.std.proofs.Common.{ap, ap₂, sym, ◌∙◌, arith, get_or}
-use Rattle.std.proofs.lemmas.Bool.{or_left, ltb-true, lt-ltb, false_from_ne_true, false≢true, true≢false}
+use Rattle.std.proofs.lemmas.Bool.{or_left, ltb-true, lt-ltb, false_from_ne_true, false≢true}
 use Rattle.std.proofs.lemmas.List.{take-append-drop}
 use Rattle.std.proofs.lemmas.List.Prefix.{front_rest}
 use lib.Pointwise.{pointwise}
-use Rattle.cst_core.specs.Path.{Path, same_path, has_path, parent_path, last_slot, up_to}
+use Rattle.cst_core.specs.Path.{Path, has_path, parent_path, last_slot, up_to}
 use Rattle.edit_change.specs.Aim.{Over}
 use Rattle.edit_change.specs.inner.Aimed.{siblings_from}
 use Rattle.edit_change.specs.inner.Open.{surrounds}

@@ -1,15 +1,18 @@
 -- A sweep over the aims of all changes in document order, with what is open before each and the fates so far.
+--     all-parts, all-both, neither  what holds of all of two lists; two facts of all; neither of two tests
+--     order-without, order-last, order-before     an order without some, its last one, those before one
+--     has_number, has-append, all-numbered, never-numbered, has-each     whether one of some aims has a number
 --     Swept                         what is true before some aims are swept
 --     swept-none, swept-end          before the first one, behind the last
 --     swept-closed, swept-fate, swept-pushed, swept-passed     where what is over is taken off; the fate of the next one; what is true after it, if it is open, and if it has no region
 --     swept-there, swept-here, swept-with, swept-without     the same over a list in code
 --     last-is, last-there           the last that is open
-use Rattle.std.specs.Prelude.{◌≡◌, ◌≢◌, ◌<◌, ◌≤◌, ◌+◌, ◌-◌, ◌⊎◌, ℕ, zero, suc, Bool, true, false, ◌&&◌, ◌||◌, cond, nat_eq, List, [], ◌∷◌, ◌++◌, map, drop, length, slice_get, Option, Some, None, option_map, IfSome, All, refl}
+use Rattle.std.specs.Prelude.{◌≡◌, ◌≢◌, ◌<◌, ◌+◌, ◌-◌, ◌⊎◌, ℕ, zero, suc, Bool, true, false, ◌||◌, nat_eq, List, [], ◌∷◌, ◌++◌, map, drop, length, slice_get, Option, Some, None, option_map, IfSome, All, refl}
 use Rattle.std.specs.List.{AllByRecursion, list_any, enumerate_from}
 use Rattle.std.specs.Option.{option_map_or, option_copied}
 use Rattle.std.proofs.Common.{ap, ap₂, sym, subst, ◌∙◌, arith, append_assoc, get_or}
 use Rattle.std.proofs.Math.ListN.{set, length-set}
-use Rattle.std.proofs.lemmas.Bool.{cases_Bool, cases_eq, or_cases, or_left, or_right, or_from, eqb-true, eqb-false, eq-eqb, ne_eqb, true_from_ne_false, false_from_ne_true, false≢true, true≢false}
+use Rattle.std.proofs.lemmas.Bool.{cases_Bool, cases_eq, or_cases, or_from, eqb-true, eq-eqb, ne_eqb, true_from_ne_false, false_from_ne_true, false≢true, true≢false}
 use Rattle.std.proofs.lemmas.List.Folds.{list_any-append}
 use Rattle.std.proofs.lemmas.List.Elements.{All-from_recursion, recursion_from_All}
 use Rattle.std.proofs.lemmas.List.Sorted.{list_any-IsPermutation}
@@ -20,7 +23,6 @@ use denote.Ref.{Bor}
 use mathlib.Core.Logic.{inl, inr}
 use Rattle.cst_core.specs.Path.{Path, has_path, last_item}
 use Rattle.cst_core.specs.Element.{Element}
-use Rattle.edit_change.specs.Aim.{Aim}
 use Rattle.edit_change.specs.Change.{targets}
 use Rattle.edit_change.specs.ChangeAim.{aim}
 use Rattle.edit_change.specs.Fits.{Fits}
@@ -30,7 +32,7 @@ use Rattle.edit_change.specs.Rewriting.{NumberedAim}
 use Rattle.edit_change.specs.inner.Aimed.{numbered, aims_of}
 use Rattle.edit_change.specs.inner.DocumentOrder.{site, is_before, stands_before, InDocumentOrder, AreSorted}
 use Rattle.edit_change.specs.inner.Fate.{fate}
-use Rattle.edit_change.specs.inner.Open.{replaced, surrounds, Closes, inside, inside_last}
+use Rattle.edit_change.specs.inner.Open.{surrounds, Closes, inside, inside_last}
 use Rattle.edit_change.specs.declared.aimed.Aimed.{Aimed}
 use Rattle.edit_change.specs.declared.change.Change.{Change}
 use Rattle.edit_change.specs.declared.fate.Fate.{Fate}
@@ -43,7 +45,7 @@ use Rattle.edit_change.proofs.OpenAims.{before-after, not-self, stands-at, numbe
 use Rattle.edit_change.proofs.Sites.{replaced-aim, Stands}
 
 -- ---- lists
-all-parts : {X : Type 0} (P : X → Type 0) (xs ys : List X) → AllByRecursion P (xs ++ ys) → AllByRecursion P xs × AllByRecursion P ys
+pub all-parts : {X : Type 0} (P : X → Type 0) (xs ys : List X) → AllByRecursion P (xs ++ ys) → AllByRecursion P xs × AllByRecursion P ys
 all-parts P [] ys a = (tt, a)
 all-parts P (x ∷ xs) ys a = let rest = all-parts P xs ys a.1 in ((a.0, rest.0), rest.1)
 
@@ -54,7 +56,7 @@ order-tail : (gone rest : List NumberedAim) → InDocumentOrder (gone ++ rest) �
 order-tail [] rest o = o
 order-tail (g ∷ gone) rest o = order-tail gone rest o.1
 
-order-without : (ks gone rest : List NumberedAim) → InDocumentOrder (ks ++ (gone ++ rest)) → InDocumentOrder (ks ++ rest)
+pub order-without : (ks gone rest : List NumberedAim) → InDocumentOrder (ks ++ (gone ++ rest)) → InDocumentOrder (ks ++ rest)
 order-without [] gone rest o = order-tail gone rest o
 order-without (k ∷ ks) gone rest o =
     let P : NumberedAim → Type 0 = λ d. stands_before k d ≡ true in
@@ -62,7 +64,7 @@ order-without (k ∷ ks) gone rest o =
     (All-from_recursion P (ks ++ rest) (all-append P ks rest both.0 (all-parts P gone rest both.1).1), order-without ks gone rest o.1)
 
 -- the last of some stands after the others, and each before what comes after them
-order-last : (ks rest : List NumberedAim) (o : NumberedAim) → InDocumentOrder (ks ++ rest) → last_item ks ≡ Some o → AllByRecursion (λ d. stands_before o d ≡ true) rest × AllByRecursion (λ a. (a ≡ o) ⊎ (stands_before a o ≡ true)) ks
+pub order-last : (ks rest : List NumberedAim) (o : NumberedAim) → InDocumentOrder (ks ++ rest) → last_item ks ≡ Some o → AllByRecursion (λ d. stands_before o d ≡ true) rest × AllByRecursion (λ a. (a ≡ o) ⊎ (stands_before a o ≡ true)) ks
 order-last [] rest o order is = absurd (none-some o is)
 order-last (k ∷ []) rest o order is =
     let same = same_Some k o is in
@@ -72,7 +74,7 @@ order-last (k ∷ j ∷ ks) rest o order is =
     let last = all_last (λ d. stands_before k d ≡ true) (j ∷ ks) o (all-parts (λ d. stands_before k d ≡ true) (j ∷ ks) rest (ahead k ((j ∷ ks) ++ rest) order.0)).0 is in
     (rec.0, (inr last, rec.1))
 
-order-before : (ks : List NumberedAim) (x : NumberedAim) (rest : List NumberedAim) → InDocumentOrder (ks ++ x ∷ rest) → AllByRecursion (λ a. stands_before a x ≡ true) ks × AllByRecursion (λ d. stands_before x d ≡ true) rest
+pub order-before : (ks : List NumberedAim) (x : NumberedAim) (rest : List NumberedAim) → InDocumentOrder (ks ++ x ∷ rest) → AllByRecursion (λ a. stands_before a x ≡ true) ks × AllByRecursion (λ d. stands_before x d ≡ true) rest
 order-before [] x rest order = (tt, ahead x rest order.0)
 order-before (k ∷ ks) x rest order =
     let both = all-parts (λ d. stands_before k d ≡ true) ks (x ∷ rest) (ahead k (ks ++ x ∷ rest) order.0) in
@@ -80,13 +82,13 @@ order-before (k ∷ ks) x rest order =
     ((both.1.0, rec.0), rec.1)
 
 -- ---- numbers
-abbrev has_number : List NumberedAim → ℕ → Bool
+abbrev pub has_number : List NumberedAim → ℕ → Bool
 has_number xs n = list_any (λ a. nat_eq n a.0) xs
 
-has-append : (xs ys : List NumberedAim) (n : ℕ) → has_number (xs ++ ys) n ≡ (has_number xs n || has_number ys n)
+pub has-append : (xs ys : List NumberedAim) (n : ℕ) → has_number (xs ++ ys) n ≡ (has_number xs n || has_number ys n)
 has-append xs ys n = list_any-append (λ a. nat_eq n a.0) xs ys
 
-all-numbered : (P : NumberedAim → Type 0) (xs : List NumberedAim) (n : ℕ) → AllByRecursion P xs → has_number xs n ≡ true → (a : NumberedAim) × (a.0 ≡ n) × P a
+pub all-numbered : (P : NumberedAim → Type 0) (xs : List NumberedAim) (n : ℕ) → AllByRecursion P xs → has_number xs n ≡ true → (a : NumberedAim) × (a.0 ≡ n) × P a
 all-numbered P [] n all h = absurd (false≢true h)
 all-numbered P (x ∷ xs) n all h =
     elim (or_cases (nat_eq n x.0) (has_number xs n) h) [
@@ -94,7 +96,7 @@ all-numbered P (x ∷ xs) n all h =
       | inr there ↦ all-numbered P xs n all.1 there
     ]
 
-never-numbered : (xs : List NumberedAim) (n : ℕ) → AllByRecursion (λ a. n ≢ a.0) xs → has_number xs n ≡ false
+pub never-numbered : (xs : List NumberedAim) (n : ℕ) → AllByRecursion (λ a. n ≢ a.0) xs → has_number xs n ≡ false
 never-numbered [] n all = refl
 never-numbered (x ∷ xs) n all = or_from (nat_eq n x.0) (has_number xs n) (ne_eqb n x.0 all.0) (never-numbered xs n all.1)
 
@@ -138,7 +140,7 @@ enumerated-at k [] n c is = absurd (none-some c is)
 enumerated-at k (d ∷ cs) zero c is = let e : k ≡ k + 0 = omega arith in ap₂ {A = ℕ} {B = Change} {C = Option (ℕ × Change)} (λ i e. Some (i, e)) e (same_Some d c is)
 enumerated-at k (d ∷ cs) (suc n) c is = let e : k + 1 + n ≡ k + suc n = omega arith in enumerated-at (k + 1) cs n c is ∙ ap (λ i. Some (i, c)) e
 
-has-each : (cs : List Change) (xs : List NumberedAim) (n : ℕ) (c : Change) → AreSorted cs xs → slice_get cs n ≡ Some c → has_number xs n ≡ true
+pub has-each : (cs : List Change) (xs : List NumberedAim) (n : ℕ) (c : Change) → AreSorted cs xs → slice_get cs n ≡ Some c → has_number xs n ≡ true
 has-each cs xs n c sorted is =
     let at : slice_get (change_aims (enumerate_from 0 cs)) n ≡ Some (0 + n, aim c) = slice_get-map (λ (d : ℕ × Change). (d.0, aim d.1)) (enumerate_from 0 cs) n ∙ ap (option_map (λ (d : ℕ × Change). (d.0, aim d.1))) (enumerated-at 0 cs n c is) in
     let first = any_passes_from_place (λ (a : NumberedAim). nat_eq n a.0) (change_aims (enumerate_from 0 cs)) n (0 + n, aim c) at (eq-eqb n (0 + n) (omega arith)) in
@@ -155,15 +157,15 @@ swept-none cs fates xs sorted long = record {
 }
 
 -- ---- more on lists
-all-both : {X : Type 0} (P Q : X → Type 0) (xs : List X) → AllByRecursion P xs → AllByRecursion Q xs → AllByRecursion (λ x. P x × Q x) xs
+pub all-both : {X : Type 0} (P Q : X → Type 0) (xs : List X) → AllByRecursion P xs → AllByRecursion Q xs → AllByRecursion (λ x. P x × Q x) xs
 all-both P Q [] a b = tt
 all-both P Q (x ∷ xs) a b = ((a.0, b.0), all-both P Q xs a.1 b.1)
 
-neither : (a b : Bool) → (a || b) ≡ false → (a ≡ false) × (b ≡ false)
+pub neither : (a b : Bool) → (a || b) ≡ false → (a ≡ false) × (b ≡ false)
 neither false b h = (refl, h)
 neither true b h = absurd (true≢false h)
 
-none-last : {X : Type 0} (xs : List X) → last_item xs ≡ None → xs ≡ []
+pub none-last : {X : Type 0} (xs : List X) → last_item xs ≡ None → xs ≡ []
 none-last [] h = refl
 none-last (x ∷ []) h = absurd (none-some x (sym h))
 none-last (x ∷ y ∷ xs) h = let rest : y ∷ xs ≡ [] = none-last (y ∷ xs) h in absurd (cc)
@@ -334,7 +336,7 @@ module _ (cs : List Change) (root : Element) (fit : All (Fits root) cs) (apart :
 
 -- ---- over a list in code
 module _ (aims : List Aimed) (k : ℕ) (d : Aimed) (l : k < length aims) where
-  next-aim : aims_of (drop k aims) ≡ numbered (get_or aims k d) ∷ aims_of (drop (k + 1) aims)
+  pub next-aim : aims_of (drop k aims) ≡ numbered (get_or aims k d) ∷ aims_of (drop (k + 1) aims)
   next-aim = go aims k l
     where
       go : (xs : List Aimed) (k : ℕ) → k < length xs → aims_of (drop k xs) ≡ numbered (get_or xs k d) ∷ aims_of (drop (k + 1) xs)

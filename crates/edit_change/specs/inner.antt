@@ -3,7 +3,6 @@ pub mod Aimed
 pub mod AimFrom
 pub mod DocumentOrder
 pub mod Targets
-pub mod TargetTable
 pub mod Fate
 pub mod Clash
 pub mod Open

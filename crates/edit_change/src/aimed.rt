@@ -1,15 +1,17 @@
 ghost use Rattle.std.specs.Prelude.{ℕ, ◌<◌, ◌≤◌, ◌+◌, ◌≡◌, Bool, true, false, [], ◌∷◌, suc, not};
 ghost use Rattle.edit_change.specs.Aim.{FirstIn, AfterElement, Over, aims_at_gap, starts_at, replaces};
 ghost use Rattle.edit_change.specs.inner.Aimed.{aim_in, siblings_from, formed, numbered, option_formed, seen_from, has_parent};
-ghost use Rattle.std.specs.Prelude.{slice_get, ◌^◌, IfSome};
+ghost use Rattle.edit_change.specs.inner.Aimed.{some_path};
+ghost use Rattle.std.specs.Prelude.{slice_get, ◌^◌, ◌↔◌, IfSome, IsTrue};
 ghost use Rattle.std.specs.Cmp.Lexicographic.{slice_cmp};
 ghost use Rattle.std.specs.Ordering.{nat_cmp, is_lt};
 ghost use Rattle.std.specs.Option.{option_map_or};
 ghost use Rattle.cst_core.specs.Path.{up_to};
-ghost use Rattle.edit_change.specs.inner.Open.{surrounds};
+ghost use Rattle.edit_change.specs.inner.Clash.{shares};
+ghost use Rattle.edit_change.specs.inner.Open.{replaced, surrounds};
 ghost use Rattle.edit_change.specs.inner.DocumentOrder.{on_the_way, site, stands_before};
 
-use crate::targets::{parent, slot as last_slot};
+use crate::parent::{parent, slot as last_slot};
 use std::cmp::Ordering;
 
 /// Where something aims, from the element at a path.
@@ -42,6 +44,22 @@ fn on_the_way(path: &[usize], depth: usize) -> Option<u128>
 {
     let slot = path.get(depth)?;
     Some(2 * (*slot as u128) + 1)
+}
+
+// Whether there is a number that is one of `count` from `first` on, and one of `other_count` from `other` on.
+fn share_slot(first: usize, count: usize, other: usize, other_count: usize) -> bool
+    ensures { IsTrue result ↔ ((s : ℕ) × (first ≤ s) × (s < first + count) × (other ≤ s) × (s < other + other_count)) }
+{
+    if count == 0 {
+        return false;
+    }
+    if other_count == 0 {
+        return false;
+    }
+    if first <= other {
+        return other - first < count;
+    }
+    first - other < other_count
 }
 
 impl<'a> Aimed<'a> {
@@ -150,6 +168,50 @@ impl<'a> Aimed<'a> {
             return false;
         }
         *slot - first < count
+    }
+
+    /// Whether it replaces some element.
+    pub fn is_over(&self) -> bool
+        ensures { result ≡ some_path (replaced (aim_in self.now.path.now self.now.form)) }
+    {
+        match self.form {
+            AimForm::FirstIn => false,
+            AimForm::AfterElement => false,
+            AimForm::Over(count) => count > 0,
+        }
+    }
+
+    /// Whether another one replaces an element that it replaces too.
+    pub fn shares(&self, other: &Aimed<'_>) -> bool
+        ensures { result ≡ shares (aim_in self.now.path.now self.now.form) (aim_in other.now.path.now other.now.form) }
+    {
+        let AimForm::Over(count) = self.form else {
+            return false;
+        };
+        let AimForm::Over(other_count) = other.form else {
+            return false;
+        };
+        if count == 0 {
+            return false;
+        }
+        if self.path.is_empty() {
+            if !other.path.is_empty() {
+                return false;
+            }
+            return other_count > 0;
+        }
+        if other.path.is_empty() {
+            return false;
+        }
+        if parent(self.path) != parent(other.path) {
+            return false;
+        }
+        share_slot(
+            last_slot(self.path),
+            count,
+            last_slot(other.path),
+            other_count,
+        )
     }
 
     // What stands at a depth of the site where it aims.

@@ -88,11 +88,7 @@ fn fate_inside(changes: &[Change], fates: &[Fate], region: Option<&Aimed<'_>>) -
 /// What becomes of each change, by its number; no two of them clash. `aims` has where they aim, in document order.
 ///
 /// Takes time near linear in the changes and the lengths of their paths: each region is opened once, and closed once.
-pub fn fates(
-    alloc: Global,
-    aims: &[Aimed<'_>],
-    changes: &[Change],
-) -> Result<Vec<Fate>, AllocError>
+pub fn fates(alloc: Global, aims: &[Aimed<'_>], changes: &[Change]) -> Result<Vec<Fate>, AllocError>
     requires fit { (root : Element) × All (Fits root) changes.now }
     requires apart { first_clash changes.now ≡ None }
     requires sorted { AreSorted changes.now (aims_of aims.now) }

@@ -1,19 +1,12 @@
 -- The refusal of an edit that stands for one of what it stands on.
---     of_clash                      for that of an index of what changes replace
 --     of_tree                       for that of its new tree
 --     of_engine                     for that of the engine that makes the tree
 use Rattle.cst_core.specs.TreeError.{TreeError}
 use Rattle.cst_core.specs.TreeError.TheVariants as tree
-use Rattle.edit_change.specs.declared.clash_error.ClashError.{ClashError}
-use Rattle.edit_change.specs.declared.clash_error.ClashError.TheVariants as clash
 use Rattle.edit_plan.specs.declared.engine_error.EngineError.{EngineError}
 use Rattle.edit_plan.specs.declared.engine_error.EngineError.TheVariants as engine
 use Rattle.edit_plan.specs.declared.edit_error.EditError.{EditError}
-use Rattle.edit_plan.specs.declared.edit_error.EditError.TheVariants.{Intersecting, TooLong, NoTreeNumber, Memory}
-
-abbrev pub of_clash : ClashError → EditError
-of_clash (clash.Intersecting first second) = Intersecting first second
-of_clash clash.Memory = Memory
+use Rattle.edit_plan.specs.declared.edit_error.EditError.TheVariants.{TooLong, NoTreeNumber, Memory}
 
 abbrev pub of_tree : TreeError → EditError
 of_tree tree.TooLong = TooLong

@@ -4,15 +4,19 @@
 --     is_before                     one list of numbers is less than another one: less where they first differ, or at its end before that
 --     stands_before                 of numbered aims, by their sites, and at one site by their numbers
 --     InDocumentOrder               each stands before all that come after it
+--     FitsSome                      a change fits some tree
 --     AreSorted                     the aims of all changes of a list, in document order
+--     StartsThere                   the change with this number replaces from a path on; no change does
 --     aims_at                       the aims of the changes with these numbers
 --     IsDocumentOrder               an order of all changes, in which their aims are in document order
-use Rattle.std.specs.Prelude.{◌≡◌, ℕ, suc, ◌+◌, Bool, ◌&&◌, ◌||◌, true, false, nat_eq, nat_lt, ⊤, List, [], ◌∷◌, ◌++◌, length, map, filter_map, slice_get, option_map, All}
+use Rattle.std.specs.Prelude.{◌≡◌, ℕ, suc, ◌+◌, Bool, ◌&&◌, ◌||◌, true, false, nat_eq, nat_lt, ⊤, List, [], ◌∷◌, ◌++◌, length, map, filter_map, slice_get, Option, Some, None, option_map, All}
 use Rattle.std.specs.List.{enumerate_from}
 use Rattle.std.specs.List.Sorted.{IsPermutation}
 use Rattle.green_tree.specs.Path.{Path, parent_path, last_slot, same_path, counted_from}
-use Rattle.edit_change.specs.Aim.{Aim, FirstIn, AfterElement, Over}
+use Rattle.edit_change.specs.Aim.{Aim, FirstIn, AfterElement, Over, starts_at}
+use Rattle.cst_core.specs.Element.{Element}
 use Rattle.edit_change.specs.ChangeAim.{aim}
+use Rattle.edit_change.specs.Fits.{Fits}
 use Rattle.edit_change.specs.NewTree.{change_aims}
 use Rattle.edit_change.specs.Rewriting.{NumberedAim}
 use Rattle.edit_change.specs.declared.change.Change.{Change}
@@ -40,9 +44,16 @@ InDocumentOrder [] = ⊤
 InDocumentOrder (c ∷ cs) = All (λ d. stands_before c d ≡ true) cs × InDocumentOrder cs
 
 -- ---- of changes
+abbrev pub FitsSome : Change → Type 0
+FitsSome c = (root : Element) × Fits root c
+
 pub record AreSorted (cs : List Change) (aims : List NumberedAim) : Type 0 where
   pub each_once : IsPermutation (change_aims (enumerate_from 0 cs)) aims
   pub in_order : InDocumentOrder aims
+
+abbrev pub StartsThere : List Change → Path → Option ℕ → Type 0
+StartsThere cs p (Some n) = (c : Change) × (slice_get cs n ≡ Some c) × (starts_at p (aim c) ≡ true)
+StartsThere cs p None = (n : ℕ) (c : Change) → slice_get cs n ≡ Some c → starts_at p (aim c) ≡ false
 
 abbrev pub aims_at : List Change → List ℕ → List NumberedAim
 aims_at cs ns = filter_map (λ n. option_map (λ c. (n, aim c)) (slice_get cs n)) ns

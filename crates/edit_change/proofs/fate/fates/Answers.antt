@@ -1,11 +1,9 @@
-use Rattle.std.proofs.Common.{◌≡◌, ◌<◌, ◌*◌, ◌^◌, ◌∷◌, [], length, Some, cond, get_or, drop, ap, ap₂, sym, subst, ◌∙◌, arith, slice_get}
-use Rattle.std.specs.Option.{option_copied}
-use Rattle.std.specs.Prelude.{◌-◌, option_map}
+use Rattle.std.proofs.Common.{◌≡◌, ◌<◌, [], length, cond, get_or, drop, ap, ap₂, sym, subst, ◌∙◌, arith, slice_get}
+use Rattle.std.specs.Prelude.{◌-◌}
 use Rattle.std.proofs.lemmas.List.{drop_all, length-replicate}
 use Rattle.cst_core.specs.Path.{last_item}
 use Rattle.edit_change.specs.Change.{targets}
-use Rattle.edit_change.specs.Nesting.{region}
-use Rattle.edit_change.specs.inner.Aimed.{numbered, aims_of}
+use Rattle.edit_change.specs.inner.Aimed.{aims_of}
 use Rattle.edit_change.specs.inner.Open.{inside_last}
 use Rattle.edit_change.specs.declared.aimed.Aimed.{Aimed}
 use Rattle.edit_change.specs.declared.aimed.AimForm.TheVariants.{FirstIn}

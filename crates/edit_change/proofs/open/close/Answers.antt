@@ -1,11 +1,10 @@
-use Rattle.std.proofs.Common.{◌≡◌, ap, ap₂, sym, ◌∙◌, ◌-◌, ◌∷◌, [], length, Some, false, slice_get, List}
+use Rattle.std.proofs.Common.{◌≡◌, ap, sym, ◌∙◌, ◌-◌, ◌∷◌, [], length, Some, slice_get}
 use Rattle.std.specs.Option.{option_map_or}
 use Rattle.std.proofs.lemmas.Option.{same_Some}
 use Rattle.cst_core.specs.Path.{up_to}
-use Rattle.edit_change.specs.inner.Aimed.{numbered, aims_of}
+use Rattle.edit_change.specs.inner.Aimed.{numbered}
 use Rattle.edit_change.specs.inner.Open.{surrounds}
 use Rattle.edit_change.specs.Rewriting.{NumberedAim}
-use Rattle.edit_change.specs.declared.aimed.Aimed.{Aimed}
 use Rattle.edit_change.proofs.Closing.{mapped-last, one-less}
 use Rattle.edit_change.proofs.open.close.Goals as goal
 
@@ -20,8 +19,8 @@ returns-then-surrounds c =
       is = i.1;
       past = i.2;
       last = λ o is.
-      let same : numbered x ≡ o = same_Some (numbered x) o (sym (mapped-last numbered xs x there) ∙ is) in
-      ap (λ (a : NumberedAim). surrounds (option_map_or (λ p. up_to p.now) c.args.path []) a.1) (sym same) ∙ sym c.surrounds.ensures ∙ c.if-surrounds.true;
+          let same : numbered x ≡ o = same_Some (numbered x) o (sym (mapped-last numbered xs x there) ∙ is) in
+          ap (λ (a : NumberedAim). surrounds (option_map_or (λ p. up_to p.now) c.args.path []) a.1) (sym same) ∙ sym c.surrounds.ensures ∙ c.if-surrounds.true;
     }
 
 pub loop-last-preserved : goal.loop-last-preserved

@@ -1,12 +1,6 @@
-use Rattle.std.proofs.Common.{[], length, sym, ◌∙◌, ap, ap₂}
-use Rattle.std.specs.Prelude.{List, Bool, false, ◌≡◌}
-use Rattle.std.specs.Option.{option_map_or}
-use Rattle.std.proofs.lemmas.Bool.{eqb-false, eqb-true}
-use Rattle.cst_core.specs.Path.{Path, up_to}
-use Rattle.edit_change.specs.Aim.{Aim}
-use Rattle.edit_change.specs.inner.Aimed.{aim_in}
-use Rattle.edit_change.specs.inner.Open.{surrounds}
-use Rattle.edit_change.proofs.Surrounding.{none-surrounds, top-surrounds, beside, ends-above, leads-before, leads-test}
+use Rattle.std.proofs.Common.{length, sym, ◌∙◌}
+use Rattle.std.proofs.lemmas.Bool.{eqb-false}
+use Rattle.edit_change.proofs.Surrounding.{none-surrounds, beside, ends-above, leads-before, leads-test}
 use Rattle.edit_change.proofs.aimed.Aimed.surrounds.Goals as goal
 
 pub returns-in_default-path : goal.returns-in_default-path

@@ -1,16 +1,9 @@
+//! The last slot of a path, and the path without it.
+
 ghost use Rattle.std.specs.Prelude.{◌≡◌};
 ghost use Rattle.cst_core.specs.Path.{parent_path, last_slot};
 
-/// Elements of one tree by their paths: one, or the siblings from the first to the last.
-#[derive(Clone, Copy)]
-pub(crate) enum Targets<'a> {
-    One(&'a [usize]),
-    Range {
-        first: &'a [usize],
-        last: &'a [usize],
-    },
-}
-
+// The path of the parent; the empty path at the top.
 pub(crate) fn parent(path: &[usize]) -> &[usize]
     ensures { result.now ≡ parent_path path.now }
 {
@@ -20,6 +13,7 @@ pub(crate) fn parent(path: &[usize]) -> &[usize]
     }
 }
 
+// The last slot; 0 at the top.
 pub(crate) fn slot(path: &[usize]) -> usize
     ensures { result ≡ last_slot path.now }
 {
