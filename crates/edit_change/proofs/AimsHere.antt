@@ -1,14 +1,13 @@
 -- What an aim says of the top and of its own children.
-use Rattle.std.specs.Prelude.{◌≡◌, ℕ, zero, suc, ◌-◌, ◌+◌, ◌<◌, ◌≤◌, Bool, true, false, ◌&&◌, ◌||◌, nat_eq, List, [], ◌∷◌, ◌++◌, map, nat_lt, refl, length, max}
-use Rattle.std.proofs.Common.{ap, sym, ◌∙◌, arith, get_or}
+use Rattle.std.specs.Prelude.{◌≡◌, ℕ, zero, suc, ◌-◌, ◌<◌, ◌≤◌, Bool, true, false, ◌&&◌, ◌||◌, nat_eq, List, [], ◌∷◌, ◌++◌, map, nat_lt, refl, length}
+use Rattle.std.proofs.Common.{ap, sym, ◌∙◌, arith}
 use Rattle.std.proofs.lemmas.Bool.{cases_eq, cases_lt, eq-eqb, ne_eqb, lt-ltb, le-ltb}
 use mathlib.Core.Logic.{inl, inr}
 use Rattle.green_tree.specs.Path.{Path, same_path, has_path, counted_from, parent_path, last_slot}
 use Rattle.edit_change.specs.Aim.{starts_at, replaces}
 use Rattle.edit_change.specs.Aim as aim
-use Rattle.edit_change.specs.declared.aimed.AimForm.{AimForm}
 use Rattle.edit_change.specs.declared.aimed.AimForm.TheVariants.{Over}
-use Rattle.edit_change.specs.inner.Aimed.{aim_in, has_parent, reaches}
+use Rattle.edit_change.specs.inner.Aimed.{aim_in, has_parent}
 
 -- ---- a range of slots
 own : (b x : Bool) → b ≡ false → ((b && true) || x) ≡ x
@@ -80,26 +79,10 @@ start_deeper (i ∷ []) n slot h = absurd (omega arith)
 start_deeper (i ∷ k ∷ q) zero slot h = refl
 start_deeper (i ∷ k ∷ q) (suc n) slot h = ap (λ b. nat_eq slot i && b) (no_top (parent_path (k ∷ q)) (last_slot (k ∷ q))) ∙ nothing (nat_eq slot i)
 
-pub start_here : (q : Path) (n slot : ℕ) → 1 ≤ length q → length q < 2 → starts_at (slot ∷ []) (aim_in q (Over n)) ≡ (nat_eq slot (get_or q 0 0) && nat_lt 0 n)
-start_here [] n slot h l = absurd (omega arith)
-start_here (i ∷ []) zero slot h l = sym (nothing (nat_eq slot i))
-start_here (i ∷ []) (suc n) slot h l = ap (λ b. nat_eq slot i && b) (sym (lt-ltb 0 (suc n) (omega arith)))
-start_here (i ∷ k ∷ q) n slot h l = absurd (omega arith)
-
 pub replaces_deeper : (q : Path) (n slot : ℕ) → 2 ≤ length q → replaces (slot ∷ []) (aim_in q (Over n)) ≡ false
 replaces_deeper [] n slot h = absurd (omega arith)
 replaces_deeper (i ∷ []) n slot h = absurd (omega arith)
 replaces_deeper (i ∷ k ∷ q) n slot h = range_deeper i (parent_path (k ∷ q)) (last_slot (k ∷ q)) n slot
-
-pub replaces_before : (q : Path) (n slot : ℕ) → 1 ≤ length q → length q < 2 → slot < get_or q 0 0 → replaces (slot ∷ []) (aim_in q (Over n)) ≡ false
-replaces_before [] n slot h l b = absurd (omega arith)
-replaces_before (i ∷ []) n slot h l b = range_before i n slot b
-replaces_before (i ∷ k ∷ q) n slot h l b = absurd (omega arith)
-
-pub replaces_here : (q : Path) (n slot : ℕ) → 1 ≤ length q → length q < 2 → get_or q 0 0 ≤ slot → replaces (slot ∷ []) (aim_in q (Over n)) ≡ nat_lt (slot - get_or q 0 0) n
-replaces_here [] n slot h l b = absurd (omega arith)
-replaces_here (i ∷ []) n slot h l b = range_here i n slot b
-replaces_here (i ∷ k ∷ q) n slot h l b = absurd (omega arith)
 
 pub over_some : (c : ℕ) (p : Path) (j : ℕ) (ps : List Path) → has_parent (c, aim.Over ((p ++ j ∷ []) ∷ ps)) ≡ true
 over_some c [] j ps = refl
@@ -117,30 +100,3 @@ first_false false x h = refl
 pub second_false : (b x : Bool) → (b || x) ≡ false → x ≡ false
 second_false true x h = absurd (cc)
 second_false false x h = h
-
-either : (b x : Bool) → x ≡ true → (b || x) ≡ true
-either true x h = refl
-either false x h = h
-
-neither : (b x : Bool) → b ≡ false → x ≡ false → (b || x) ≡ false
-neither true x h e = h
-neither false x h e = e
-
--- ---- what an aim matters for, as a range
-pub record Reach (q : Path) (w : AimForm) (first count : ℕ) : Type 0 where
-  pub inside : (k : ℕ) → first ≤ k → k < first + count → reaches k q w ≡ true
-  pub before : (k : ℕ) → k < first → reaches k q w ≡ false
-  pub after : (k : ℕ) → first + count ≤ k → reaches k q w ≡ false
-
-pub reach_over : (q : Path) (n : ℕ) → 1 ≤ length q → length q ≤ 1 → Reach q (Over n) (get_or q 0 0) (max n 1)
-reach_over [] n h l = absurd (omega arith)
-reach_over (f ∷ []) n h l = record {
-  inside = λ k a b.
-      elim (cases_eq k f) [
-        | inl same ↦ ap (λ x. x || has_path (map (λ s. s ∷ []) (counted_from f n)) (k ∷ [])) (eq-eqb k f same)
-        | inr other ↦ either (nat_eq k f) _ (range_here f n k a ∙ lt-ltb (k - f) n (omega arith))
-      ];
-  before = λ k a. neither (nat_eq k f) _ (ne_eqb k f (λ e. absurd (omega (arith, e)))) (range_before f n k a);
-  after = λ k a. neither (nat_eq k f) _ (ne_eqb k f (λ e. absurd (omega (arith, e)))) (range_here f n k (omega arith) ∙ le-ltb (k - f) n (omega arith));
-}
-reach_over (f ∷ k ∷ q) n h l = absurd (omega arith)

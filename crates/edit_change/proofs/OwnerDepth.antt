@@ -1,5 +1,7 @@
 -- An owner is less deep than what it owns, so the chain of owners ends.
 --     owner_is_above                an owner is less deep than what it owns
+--     surroundings_are_above        the paths around a change are not as long as it is deep
+--     region_is_below               those of its region are as long
 --     rank                          how many changes are deeper
 --     rank_less                     fewer are deeper than a deeper one
 use Rattle.std.specs.Prelude.{◌≡◌, ℕ, zero, suc, ◌-◌, ◌<◌, ◌≤◌, true, false, cond, nat_lt, List, [], ◌∷◌, ◌++◌, length, map, slice_get, Some}
@@ -36,7 +38,7 @@ all_up_to : (p : Path) → AllByRecursion (λ q. length q < suc (length p)) (up_
 all_up_to p =
     all-append (λ q. length q < suc (length p)) (above p) (p ∷ []) (all_weaker (λ q. length q < length p) (λ q. length q < suc (length p)) (above p) (λ q l. omega arith) (all_above p)) (omega arith, tt)
 
-surroundings_are_above : (c : Change) → AllByRecursion (λ q. length q < depth c) (surroundings c)
+pub surroundings_are_above : (c : Change) → AllByRecursion (λ q. length q < depth c) (surroundings c)
 surroundings_are_above (Insert at e) = all_up_to (anchor at).path
 surroundings_are_above (InsertAll at es) = all_up_to (anchor at).path
 surroundings_are_above (Replace t e) = all_above (element_of t).path
@@ -67,7 +69,7 @@ one_is_below (Node n) q h =
       | inr none ↦ absurd (false≢true none)
     ]
 
-region_is_below : (r : Change) (q : Path) → has_path (region r) q ≡ true → depth r ≤ length q
+pub region_is_below : (r : Change) (q : Path) → has_path (region r) q ≡ true → depth r ≤ length q
 region_is_below (Insert at e) q h = cc
 region_is_below (InsertAll at es) q h = cc
 region_is_below (Replace t e) q h = one_is_below t q h

@@ -1,10 +1,8 @@
 -- The first number at which a test passes.
 --     position-cons, position-push  with one item more, before the others and after them
---     position-or                   the first at which one of two tests passes is the lesser of both
---     lesser-some                   the lesser of two is one of them
 --     none-passes                   where there is none, no item passes
 --     push-of-take                  so many items of a list, and the next
-use Rattle.std.specs.Prelude.{◌≡◌, ℕ, suc, ◌+◌, ◌<◌, Bool, true, false, not, ◌||◌, cond, nat_lt, min, List, [], ◌∷◌, ◌++◌, length, take, position, Option, Some, None, option_map, refl}
+use Rattle.std.specs.Prelude.{◌≡◌, ℕ, suc, ◌+◌, ◌<◌, Bool, true, false, not, cond, nat_lt, List, [], ◌∷◌, ◌++◌, length, take, position, Option, Some, None, option_map, refl}
 use Rattle.std.specs.List.{AllByRecursion, position_or_len}
 use Rattle.std.specs.Option.{option_or}
 use Rattle.std.proofs.Common.{ap, ap₂, sym, ◌∙◌, arith, get_or}
@@ -12,7 +10,6 @@ use Rattle.std.proofs.lemmas.Bool.{ltb-true, lt-ltb, cases_Bool}
 use Rattle.std.proofs.lemmas.Option.{none-some}
 use Rattle.std.proofs.Math.Seq.{take-suc}
 use mathlib.Core.Logic.{inl, inr}
-use Rattle.edit_change.specs.inner.TargetTable.{lesser}
 
 -- two tests that hold in the same cases are equal
 pub same-test : (a b : Bool) → (a ≡ true → b ≡ true) → (b ≡ true → a ≡ true) → a ≡ b
@@ -45,41 +42,6 @@ position-push p (y ∷ xs) x =
     moved false (Some k) last n = refl
     moved false None true n = refl
     moved false None false n = refl
-
--- ---- the lesser of two
-pub lesser-none : (o : Option ℕ) → lesser o None ≡ o
-lesser-none None = refl
-lesser-none (Some m) = refl
-
-lesser-suc : (o q : Option ℕ) → lesser (option_map suc o) (option_map suc q) ≡ option_map suc (lesser o q)
-lesser-suc None q = refl
-lesser-suc (Some m) None = refl
-lesser-suc (Some m) (Some n) = let e : min (suc m) (suc n) ≡ suc (min m n) = omega arith in ap (λ k. Some k) e
-
-zero-lesser : (o : Option ℕ) → lesser (Some 0) o ≡ Some 0
-zero-lesser None = refl
-zero-lesser (Some n) = let e : min 0 n ≡ 0 = omega arith in ap (λ k. Some k) e
-
-lesser-zero : (o : Option ℕ) → lesser (option_map suc o) (Some 0) ≡ Some 0
-lesser-zero None = refl
-lesser-zero (Some n) = let e : min (suc n) 0 ≡ 0 = omega arith in ap (λ k. Some k) e
-
-pub lesser-assoc : (o q r : Option ℕ) → lesser (lesser o q) r ≡ lesser o (lesser q r)
-lesser-assoc None q r = refl
-lesser-assoc (Some m) None r = refl
-lesser-assoc (Some m) (Some n) None = refl
-lesser-assoc (Some m) (Some n) (Some k) = let e : min (min m n) k ≡ min m (min n k) = omega arith in ap (λ l. Some l) e
-
-pub position-or : {X : Type 0} (p q : X → Bool) (xs : List X) → position (λ x. p x || q x) xs ≡ lesser (position p xs) (position q xs)
-position-or p q [] = refl
-position-or p q (x ∷ xs) =
-    position-cons (λ y. p y || q y) x xs ∙ ap (λ o. cond (p x || q x) (Some 0) (option_map suc o)) (position-or p q xs) ∙ chosen (p x) (q x) (position p xs) (position q xs) ∙ sym (ap₂ lesser (position-cons p x xs) (position-cons q x xs))
-  where
-    chosen : (a b : Bool) (o r : Option ℕ) → cond (a || b) (Some 0) (option_map suc (lesser o r)) ≡ lesser (cond a (Some 0) (option_map suc o)) (cond b (Some 0) (option_map suc r))
-    chosen true true o r = sym (zero-lesser (Some 0))
-    chosen true false o r = sym (zero-lesser (option_map suc r))
-    chosen false true o r = sym (lesser-zero o)
-    chosen false false o r = sym (lesser-suc o r)
 
 -- ---- no item passes
 pub never-passes : {X : Type 0} (xs : List X) → position (λ x. false) xs ≡ None

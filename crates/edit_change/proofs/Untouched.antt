@@ -15,13 +15,13 @@ use Rattle.edit_change.proofs.AimsHere.{over_some, first_false, second_false}
 use Rattle.edit_change.proofs.SeenBelow.{no_end, aims-formed}
 
 -- ---- one aim
-quiet_gap : (c : ℕ) (q : Path) (w : AimForm) (p : Path) (j : ℕ) → has_parent (c, aim_in q w) ≡ false → aims_at_gap p j (aim_in q w) ≡ false
+pub quiet_gap : (c : ℕ) (q : Path) (w : AimForm) (p : Path) (j : ℕ) → has_parent (c, aim_in q w) ≡ false → aims_at_gap p j (aim_in q w) ≡ false
 quiet_gap c q FirstIn p j h = absurd (cc)
 quiet_gap c [] AfterElement p j h = refl
 quiet_gap c (i ∷ q) AfterElement p j h = absurd (cc)
 quiet_gap c q (Over n) p j h = refl
 
-quiet_slot : (c : ℕ) (q : Path) (w : AimForm) (p : Path) (j : ℕ) → has_parent (c, aim_in q w) ≡ false → replaces (p ++ j ∷ []) (aim_in q w) ≡ false
+pub quiet_slot : (c : ℕ) (q : Path) (w : AimForm) (p : Path) (j : ℕ) → has_parent (c, aim_in q w) ≡ false → replaces (p ++ j ∷ []) (aim_in q w) ≡ false
 quiet_slot c q FirstIn p j h = refl
 quiet_slot c q AfterElement p j h = refl
 quiet_slot c [] (Over zero) p j h = refl
@@ -32,7 +32,7 @@ quiet_slot c (i ∷ q) (Over (suc n)) p j h =
     let wrong : true ≡ false = sym some ∙ h in
     absurd (cc)
 
-quiet_start : (c : ℕ) (q : Path) (w : AimForm) (p : Path) (j : ℕ) → has_parent (c, aim_in q w) ≡ false → starts_at (p ++ j ∷ []) (aim_in q w) ≡ false
+pub quiet_start : (c : ℕ) (q : Path) (w : AimForm) (p : Path) (j : ℕ) → has_parent (c, aim_in q w) ≡ false → starts_at (p ++ j ∷ []) (aim_in q w) ≡ false
 quiet_start c q FirstIn p j h = refl
 quiet_start c q AfterElement p j h = refl
 quiet_start c [] (Over zero) p j h = refl

@@ -3,7 +3,18 @@
 ghost use Rattle.std.specs.Prelude.{ℕ, ◌<◌, ◌≤◌, ◌+◌, ◌≡◌, Bool, true, false, [], ◌∷◌, suc, not};
 ghost use Rattle.edit_change.specs.Aim.{FirstIn, AfterElement, Over, aims_at_gap, starts_at, replaces};
 ghost use Rattle.edit_change.specs.inner.Aimed.{aim_in, siblings_from, formed, numbered, option_formed, seen_from, has_parent};
-ghost use Rattle.edit_change.specs.inner.Aimed.{concerns};
+ghost use Rattle.edit_change.specs.inner.Aimed.{some_path};
+ghost use Rattle.std.specs.Prelude.{slice_get, ◌^◌, ◌↔◌, IfSome, IsTrue};
+ghost use Rattle.std.specs.Cmp.Lexicographic.{slice_cmp};
+ghost use Rattle.std.specs.Ordering.{nat_cmp, is_lt};
+ghost use Rattle.std.specs.Option.{option_map_or};
+ghost use Rattle.cst_core.specs.Path.{up_to};
+ghost use Rattle.edit_change.specs.inner.Clash.{shares};
+ghost use Rattle.edit_change.specs.inner.Open.{replaced, surrounds};
+ghost use Rattle.edit_change.specs.inner.DocumentOrder.{on_the_way, site, stands_before};
+
+use crate::parent::{parent, slot as last_slot};
+use std::cmp::Ordering;
 
 /// Where something aims, from the element at a path.
 #[derive(Clone, Copy)]
@@ -25,6 +36,32 @@ pub struct Aimed<'a> {
     pub path: &'a [usize],
     /// Where it aims from there.
     pub form: AimForm,
+}
+
+// What stands at a depth of the way to the element at a path.
+fn on_the_way(path: &[usize], depth: usize) -> Option<u128>
+    ensures key { result ≡ slice_get (on_the_way path.now) depth }
+    ensures small { IfSome result (λ k. k < 2 ^ 66) }
+    ensures within { IfSome result (λ k. depth < 2 ^ 62) }
+{
+    let slot = path.get(depth)?;
+    Some(2 * (*slot as u128) + 1)
+}
+
+// Whether there is a number that is one of `count` from `first` on, and one of `other_count` from `other` on.
+fn share_slot(first: usize, count: usize, other: usize, other_count: usize) -> bool
+    ensures { IsTrue result ↔ ((s : ℕ) × (first ≤ s) × (s < first + count) × (other ≤ s) × (s < other + other_count)) }
+{
+    if count == 0 {
+        return false;
+    }
+    if other_count == 0 {
+        return false;
+    }
+    if first <= other {
+        return other - first < count;
+    }
+    first - other < other_count
 }
 
 impl<'a> Aimed<'a> {
@@ -91,76 +128,6 @@ impl<'a> Aimed<'a> {
         }
     }
 
-    // Whether it inserts into this gap of the top.
-    pub fn inserts_at(&self, gap: usize) -> bool
-        ensures { result ≡ aims_at_gap [] gap (aim_in self.now.path.now self.now.form) }
-    {
-        match self.form {
-            AimForm::FirstIn => self.path.is_empty() && gap == 0,
-            AimForm::AfterElement => {
-                let [slot] = self.path else {
-                    return false;
-                };
-                gap > 0 && gap - 1 == *slot
-            }
-            AimForm::Over(_) => false,
-        }
-    }
-
-    // Whether it replaces from this child of the top on.
-    pub fn starts_at(&self, slot: usize) -> bool
-        ensures { result ≡ starts_at (slot ∷ []) (aim_in self.now.path.now self.now.form) }
-    {
-        match self.form {
-            AimForm::FirstIn => false,
-            AimForm::AfterElement => false,
-            AimForm::Over(count) => {
-                let [first] = self.path else {
-                    return false;
-                };
-                slot == *first && count > 0
-            }
-        }
-    }
-
-    // Whether it replaces this child of the top.
-    pub fn replaces(&self, slot: usize) -> bool
-        ensures { result ≡ replaces (slot ∷ []) (aim_in self.now.path.now self.now.form) }
-    {
-        match self.form {
-            AimForm::FirstIn => false,
-            AimForm::AfterElement => false,
-            AimForm::Over(count) => {
-                let [first] = self.path else {
-                    return false;
-                };
-                if slot < *first {
-                    return false;
-                }
-                slot - *first < count
-            }
-        }
-    }
-
-    // The first child of the top that it matters for, and how many there are: those that it replaces, or the one that it
-    // is after or below.
-    pub fn reach(&self) -> (usize, usize)
-        ensures inside { (k : ℕ) → result.0 ≤ k → k < result.0 + result.1 → concerns k self.now ≡ true }
-        ensures before { (k : ℕ) → k < result.0 → concerns k self.now ≡ false }
-        ensures after { (k : ℕ) → result.0 + result.1 ≤ k → concerns k self.now ≡ false }
-    {
-        let [slot, ..] = self.path else {
-            return (0, 0);
-        };
-        let AimForm::Over(count) = self.form else {
-            return (*slot, 1);
-        };
-        if self.path.len() > 1 {
-            return (*slot, 1);
-        }
-        (*slot, count.max(1))
-    }
-
     // The same as it is seen from this child of the top, if its path leads to the child or below.
     pub fn seen_from(&self, slot: usize) -> Option<Aimed<'a>>
         ensures { option_formed result ≡ seen_from slot (formed self.now) }
@@ -176,5 +143,140 @@ impl<'a> Aimed<'a> {
             });
         }
         None
+    }
+
+    /// Whether it replaces an element on the way to a path; none if there is no path.
+    pub fn surrounds(&self, path: Option<&[usize]>) -> bool
+        ensures { result ≡ surrounds (option_map_or (λ p. up_to p.now) path.entry [])
+            (aim_in self.now.path.now self.now.form) }
+    {
+        let AimForm::Over(count) = self.form else {
+            return false;
+        };
+        let Some(path) = path else {
+            return false;
+        };
+        if self.path.is_empty() {
+            return count > 0;
+        }
+        let Some(below) = path.strip_prefix(parent(self.path)) else {
+            return false;
+        };
+        let [slot, ..] = below else {
+            return false;
+        };
+        let first = last_slot(self.path);
+        if *slot < first {
+            return false;
+        }
+        *slot - first < count
+    }
+
+    /// Whether it replaces some element.
+    pub fn is_over(&self) -> bool
+        ensures { result ≡ some_path (replaced (aim_in self.now.path.now self.now.form)) }
+    {
+        match self.form {
+            AimForm::FirstIn => false,
+            AimForm::AfterElement => false,
+            AimForm::Over(count) => count > 0,
+        }
+    }
+
+    /// Whether another one replaces an element that it replaces too.
+    pub fn shares(&self, other: &Aimed<'_>) -> bool
+        ensures { result ≡ shares (aim_in self.now.path.now self.now.form) (aim_in other.now.path.now other.now.form) }
+    {
+        let AimForm::Over(count) = self.form else {
+            return false;
+        };
+        let AimForm::Over(other_count) = other.form else {
+            return false;
+        };
+        if count == 0 {
+            return false;
+        }
+        if self.path.is_empty() {
+            if !other.path.is_empty() {
+                return false;
+            }
+            return other_count > 0;
+        }
+        if other.path.is_empty() {
+            return false;
+        }
+        if parent(self.path) != parent(other.path) {
+            return false;
+        }
+        share_slot(
+            last_slot(self.path),
+            count,
+            last_slot(other.path),
+            other_count,
+        )
+    }
+
+    // What stands at a depth of the site where it aims.
+    fn key(&self, depth: usize) -> Option<u128>
+        ensures key { result ≡ slice_get (site (aim_in self.now.path.now self.now.form)) depth }
+        ensures within { IfSome result (λ k. depth < 2 ^ 62) }
+    {
+        let way = on_the_way(self.path, depth);
+        match self.form {
+            AimForm::FirstIn => {
+                if depth == self.path.len() {
+                    return Some(0);
+                }
+                way
+            }
+            AimForm::AfterElement => {
+                if self.path.is_empty() {
+                    return if depth == 0 { Some(0) } else { None };
+                }
+                let key = way?;
+                if self.path.len() - depth == 1 {
+                    return Some(key + 1);
+                }
+                Some(key)
+            }
+            AimForm::Over(count) => {
+                if count == 0 {
+                    return None;
+                }
+                way
+            }
+        }
+    }
+
+    /// Document order but for the numbers: aims at one site are equal.
+    pub fn compare_sites(&self, other: &Aimed<'_>) -> Ordering
+        ensures { result ≡ slice_cmp nat_cmp (site (aim_in self.now.path.now self.now.form))
+            (site (aim_in other.now.path.now other.now.form)) }
+    {
+        let mut depth = 0;
+        loop {
+            let Some(one) = self.key(depth) else {
+                return match other.key(depth) {
+                    Some(_) => Ordering::Less,
+                    None => Ordering::Equal,
+                };
+            };
+            let Some(two) = other.key(depth) else {
+                return Ordering::Greater;
+            };
+            match one.cmp(&two) {
+                Ordering::Less => return Ordering::Less,
+                Ordering::Equal => depth += 1,
+                Ordering::Greater => return Ordering::Greater,
+            }
+        }
+    }
+
+    /// Document order: a gap before its slot, what is inside an element after what replaces it, and at one site by the numbers.
+    pub fn compare(&self, other: &Aimed<'_>) -> Ordering
+        ensures { is_lt result ≡ stands_before (numbered self.now) (numbered other.now) }
+    {
+        self.compare_sites(other)
+            .then(self.change.cmp(&other.change))
     }
 }

@@ -5,10 +5,9 @@ ghost use Rattle.std.specs.Option.{option_map_or};
 ghost use Rattle.cst_core.specs.Path.{above, up_to};
 ghost use Rattle.edit_change.specs.Change.{targets};
 ghost use Rattle.edit_change.specs.Nesting.{region, surroundings, is_keeping};
-ghost use Rattle.edit_change.specs.inner.Targets.{paths_in};
 
 use crate::change::Change;
-use crate::targets::{Targets, parent};
+use crate::parent::parent;
 use cst_core::SyntaxElement;
 
 // The path of the parent; a root has none.
@@ -23,22 +22,6 @@ fn above(path: &[usize]) -> Option<&[usize]>
 }
 
 impl Change {
-    /// What a replacement replaces; nothing for an insert.
-    pub(crate) fn targets(&self) -> Option<Targets<'_>>
-        ensures { option_map_or paths_in result [] ≡ targets self.now }
-    {
-        match self {
-            Change::Insert(_, _) => None,
-            Change::InsertAll(_, _) => None,
-            Change::Replace(target, _) => Some(Targets::One(target.slots())),
-            Change::ReplaceWithMany(target, _) => Some(Targets::One(target.slots())),
-            Change::ReplaceAll(first, last, _) => Some(Targets::Range {
-                first: first.slots(),
-                last: last.slots(),
-            }),
-        }
-    }
-
     /// Whether what it replaces is a region, of which the insides are taken away or move along. A replaced token alone is none.
     pub(crate) fn has_region(&self) -> bool
         ensures { region self.now ≡ cond result (targets self.now) [] }

@@ -1,12 +1,17 @@
-//! `Fate`: what becomes of a change in a plan.
-
-ghost use Rattle.std.specs.Prelude.{◌≡◌, List, [], ◌∷◌, ◌++◌, cond};
-ghost use Rattle.cst_core.specs.Path.{Path};
-ghost use Rattle.edit_change.specs.inner.TargetTable.{target_at, IsApart};
+ghost use Rattle.std.specs.Prelude.{◌≡◌, ◌<◌, length, map, cond, option_map, None, All, IfOk, IfSome};
+ghost use Rattle.cst_core.specs.Element.{Element};
+ghost use Rattle.edit_change.specs.Fits.{Fits};
+ghost use Rattle.edit_change.specs.Nesting.{first_clash};
 ghost use Rattle.edit_change.specs.declared.fate.Fate.TheVariants.{Dropped, Owned};
-ghost use Rattle.edit_change.specs.inner.Fate.{owner_in, is_dropped_in, is_independent_in, fate_within};
+ghost use Rattle.edit_change.specs.inner.Aimed.{numbered, aims_of};
+ghost use Rattle.edit_change.specs.inner.DocumentOrder.{AreSorted};
+ghost use Rattle.edit_change.specs.inner.Fate.{owner_in, is_dropped_in, is_independent_in, fate};
+ghost use Rattle.edit_change.specs.inner.Open.{inside_last};
 
+use crate::aimed::Aimed;
 use crate::change::Change;
+use crate::open::close;
+use std::alloc::{AllocError, Global};
 
 /// What becomes of a change in a plan.
 #[derive(Clone, Copy)]
@@ -64,23 +69,40 @@ impl Fate {
     }
 }
 
-// The fate of what lies in an element, where what lies in the one above it has this fate. The element is replaced by the change
-// with this number, if by any.
-pub(crate) fn fate_below(changes: &[Change], fate: Fate, replaced_by: Option<usize>) -> Fate
-    requires apart { IsApart changes.now }
-    requires there { (p : Path) × (replaced_by ≡ target_at changes.now p) }
-    ensures { (ps : List Path) (p : Path) → replaced_by ≡ target_at changes.now p
-        → fate ≡ fate_within changes.now ps → result ≡ fate_within changes.now (ps ++ p ∷ []) }
+// The fate of what lies in the region of this aim's change and in no deeper one; in no region, if there is none.
+fn fate_inside(changes: &[Change], fates: &[Fate], region: Option<&Aimed<'_>>) -> Fate
+    requires there { IfSome region (λ a. a.now.change < length changes.now) }
+    requires told { length fates.now ≡ length changes.now }
+    ensures { result ≡ inside_last changes.now fates.now (option_map (λ a. numbered a.now) region.entry) }
 {
-    let Some(number) = replaced_by else {
-        return fate;
+    let Some(region) = region else {
+        return Fate::Independent;
     };
-    let change = &changes[number];
-    if !change.has_region() {
-        return fate;
-    }
-    if !change.is_keeping() {
+    let number = region.change;
+    if !changes[number].is_keeping() {
         return Fate::Dropped;
     }
-    fate.kept_by(number)
+    fates[number].kept_by(number)
+}
+
+/// What becomes of each change, by its number; no two of them clash. `aims` has where they aim, in document order.
+///
+/// Takes time near linear in the changes and the lengths of their paths: each region is opened once, and closed once.
+pub fn fates(alloc: Global, aims: &[Aimed<'_>], changes: &[Change]) -> Result<Vec<Fate>, AllocError>
+    requires fit { (root : Element) × All (Fits root) changes.now }
+    requires apart { first_clash changes.now ≡ None }
+    requires sorted { AreSorted changes.now (aims_of aims.now) }
+    ensures { IfOk result (λ v. v.items ≡ map (fate changes.now) changes.now) }
+{
+    let mut fates = vec![in alloc; Fate::Independent; changes.len()]?;
+    let mut open = Vec::new(alloc);
+    for aim in aims {
+        let change = &changes[aim.change];
+        close(&mut open, change.innermost());
+        fates[aim.change] = fate_inside(changes, &fates, open.last());
+        if change.has_region() {
+            open.push(*aim)?;
+        }
+    }
+    Ok(fates)
 }

@@ -3,7 +3,7 @@
 ghost use Rattle.std.specs.Prelude.{◌≡◌, [], ◌∷◌};
 ghost use Rattle.edit_change.specs.Fits.{is_root, have_one_path, are_siblings, is_range, is_one_node};
 
-use crate::targets::parent;
+use crate::parent::parent;
 use cst_core::SyntaxElement;
 
 /// Whether an element is the root of its tree.

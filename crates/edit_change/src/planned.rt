@@ -2,7 +2,6 @@
 
 use crate::change::Change;
 use crate::fate::Fate;
-use crate::target_table::TargetTable;
 use cst_core::SyntaxNode;
 
 /// The changes of a tree, and what is known of them before any is carried out.
@@ -11,8 +10,8 @@ pub struct Planned<'a> {
     /// The root of the old tree.
     pub root: &'a SyntaxNode,
     pub changes: &'a [Change],
-    /// Which of them replaces an element, by the element's path.
-    pub targets: &'a TargetTable,
+    /// Their numbers, in document order.
+    pub order: &'a [usize],
     /// What becomes of each change.
     pub fates: &'a [Fate],
     /// For each owner, the place of its target in its payload.

@@ -5,7 +5,6 @@ use Rattle.std.specs.Prelude.{ℕ, List, Option, Vec}
 use Rattle.std.specs.Global.{Global}
 use Rattle.cst_core.specs.declared.element.SyntaxElement.{SyntaxElement}
 use Rattle.edit_change.specs.declared.fate.Fate.{Fate}
-use Rattle.edit_change.specs.declared.target_table.TargetTable.{TargetTable}
 use Rattle.edit_plan.specs.Plan.{Plan, IsPlan, BuildRefuses}
 use Rattle.edit_plan.specs.declared.edit_error.EditError.{EditError}
 use Rattle.edit_plan.specs.declared.edit_error.EditError.TheVariants.{Intersecting, MissingMapping, TooLong, NoTreeNumber, Memory}
@@ -22,10 +21,10 @@ is-plan-with p rs is = record {
   placed = is.placed;
 }
 
-pub planned-with : (p : Plan) (rs : List (SyntaxElement × ℕ)) (targets : TargetTable) (fates : List Fate) (places : List (Option (Vec ℕ Global))) → IsPlanned p targets fates places → IsPlanned (record p { registrations = rs }) targets fates places
-planned-with p rs targets fates places is = record {
+pub planned-with : (p : Plan) (rs : List (SyntaxElement × ℕ)) (order : List ℕ) (fates : List Fate) (places : List (Option (Vec ℕ Global))) → IsPlanned p order fates places → IsPlanned (record p { registrations = rs }) order fates places
+planned-with p rs order fates places is = record {
   is_plan = is-plan-with p rs is.is_plan;
-  targets_are = is.targets_are;
+  order_is = is.order_is;
   fates_are = is.fates_are;
   long = is.long;
   placed = is.placed;

@@ -1,21 +1,15 @@
 -- The refusal of an edit that stands for one of what it stands on.
---     of_clash, of_tree, of_engine  The `EditError` for a `ClashError`; for a `TreeError`; for an `EngineError`.
+--     of_tree, of_engine            The `EditError` for a `TreeError`; for an `EngineError`.
 --
 -- A plan with two deletions of `R/1` is refused: `Intersecting` with the changes 0 and 1. Inserting `x` first in `R/1`
 -- and replacing `R/1` by a node to which nothing is mapped is refused: `MissingMapping` with the change 0 and its owner
 -- 1.
 use Rattle.cst_core.specs.TreeError.{TreeError}
 use Rattle.cst_core.specs.TreeError.TheVariants as tree
-use Rattle.edit_change.specs.declared.clash_error.ClashError.{ClashError}
-use Rattle.edit_change.specs.declared.clash_error.ClashError.TheVariants as clash
 use Rattle.edit_plan.specs.declared.engine_error.EngineError.{EngineError}
 use Rattle.edit_plan.specs.declared.engine_error.EngineError.TheVariants as engine
 use Rattle.edit_plan.specs.declared.edit_error.EditError.{EditError}
-use Rattle.edit_plan.specs.declared.edit_error.EditError.TheVariants.{Intersecting, TooLong, NoTreeNumber, Memory}
-
-abbrev pub of_clash : ClashError → EditError
-of_clash (clash.Intersecting first second) = Intersecting first second
-of_clash clash.Memory = Memory
+use Rattle.edit_plan.specs.declared.edit_error.EditError.TheVariants.{TooLong, NoTreeNumber, Memory}
 
 abbrev pub of_tree : TreeError → EditError
 of_tree tree.TooLong = TooLong

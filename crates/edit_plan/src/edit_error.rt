@@ -4,7 +4,6 @@ ghost use Rattle.std.specs.Prelude.{◌<◌, length};
 
 use crate::engine_error::EngineError;
 use cst_core::TreeError;
-use edit_change::ClashError;
 use std::alloc::{AllocError, AllocFailed};
 use std::fmt;
 use thiserror::Error;
@@ -86,20 +85,6 @@ impl<T: Drop> From<AllocFailed<T>> for EditError {
 
     fn from(_: AllocFailed<T>) -> EditError {
         EditError::Memory
-    }
-}
-
-impl From<ClashError> for EditError {
-    ghost use Rattle.std.specs.Prelude.{◌≡◌};
-    ghost use Rattle.edit_plan.specs.EditRefusal.{of_clash};
-
-    ghost from_gives = { λ c e. e ≡ of_clash c };
-
-    fn from(error: ClashError) -> EditError {
-        match error {
-            ClashError::Intersecting { first, second } => EditError::Intersecting { first, second },
-            ClashError::Memory => EditError::Memory,
-        }
     }
 }
 

@@ -47,7 +47,7 @@ impl EditPlan {
         ensures refused { IfErr result (ExecuteRefuses self.now order.now ids.old) }
         ensures err { OnErr result (ids.new ≡ ids.old) }
     {
-        check(alloc, &self.targets, &self.changes, &self.fates, order)?;
+        check(alloc, &self.changes, &self.fates, order)?;
         let run = self.carried_out(alloc, order)?;
         Ok(run.finish(alloc, ids)?)
     }

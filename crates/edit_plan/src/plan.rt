@@ -10,7 +10,7 @@ use crate::edit_error::EditError;
 use crate::prepared::{Prepared, prepare};
 use annotations::SyntaxAnnotation;
 use cst_core::{SyntaxElement, SyntaxNode};
-use edit_change::{Change, Fate, TargetTable};
+use edit_change::{Change, Fate};
 use edit_map::SyntaxMapping;
 use std::alloc::Global;
 use std::marker::Model;
@@ -23,8 +23,8 @@ pub struct EditPlan {
     // The elements that are registered with annotations, in order.
     pub(crate) registrations: Vec<(SyntaxElement, SyntaxAnnotation)>,
     pub(crate) mapping: SyntaxMapping,
-    // Which change replaces an element, by the element's path.
-    pub(crate) targets: TargetTable,
+    // The numbers of the changes, in document order.
+    pub(crate) order: Vec<usize>,
     // What becomes of each change.
     pub(crate) fates: Vec<Fate>,
     // The place of each owner's target in its payload.
@@ -42,7 +42,7 @@ impl Model for EditPlan {
 
     ghost view = { λ a. new_plan a.root a.changes a.registrations a.mapping };
 
-    ghost invariant = { λ a. IsPlanKept a.root a.changes a.registrations a.mapping a.targets a.fates a.places };
+    ghost invariant = { λ a. IsPlanKept a.root a.changes a.registrations a.mapping a.order a.fates a.places };
 }
 
 impl EditPlan {
@@ -66,7 +66,7 @@ impl EditPlan {
         ensures refused { IfErr result (BuildRefuses (new_plan root changes registrations mapping)) }
     {
         let Prepared {
-            targets,
+            order,
             fates,
             places,
         } = prepare(alloc, &root, &changes, &mapping)?;
@@ -75,7 +75,7 @@ impl EditPlan {
             changes,
             registrations,
             mapping,
-            targets,
+            order,
             fates,
             places,
         })

@@ -18,7 +18,7 @@ impl EditPlan {
         ensures none_done { IfOk result (λ s. done_in s ≡ map (λ c. false) self.now.changes) }
         ensures none_built { IfOk result (λ s. builds_of s ≡ 0) }
     {
-        Stages::new(alloc, &self.root, &self.targets, &self.changes, &self.fates)
+        Stages::new(alloc, &self.root, &self.changes, &self.fates)
     }
 
     // Any two tables of places agree on the owners of changes.

@@ -8,15 +8,15 @@ ghost use Rattle.edit_plan.specs.inner.PlanRun.{IsPlanned, unregistered};
 use crate::edit_error::EditError;
 use crate::places::places;
 use cst_core::SyntaxNode;
-use edit_change::{Change, Fate, TargetTable, fates};
+use edit_change::{Change, Fate, clash_of, fates, numbers, sorted_aims};
 use edit_map::SyntaxMapping;
 use std::alloc::Global;
 
 /// What is looked up for a plan of changes.
 #[derive(Drop)]
 pub(crate) struct Prepared {
-    // Which change replaces an element, by the element's path.
-    pub(crate) targets: TargetTable,
+    // The numbers of the changes, in document order.
+    pub(crate) order: Vec<usize>,
     // What becomes of each change.
     pub(crate) fates: Vec<Fate>,
     // The place of each owner's target in its payload.
@@ -36,17 +36,20 @@ pub(crate) fn prepare(
     requires is_root { root.now.path ≡ [] }
     requires fit { All (Fits root.now) changes.now }
     ensures planned { let plan = unregistered root.now changes.now mapping.now in
-        IfOk result (λ x. IsPlanned plan x.targets x.fates.items x.places.items) }
+        IfOk result (λ x. IsPlanned plan x.order.items x.fates.items x.places.items) }
     ensures refused { IfErr result (BuildRefuses (unregistered root.now changes.now mapping.now)) }
 {
     // For the proof: what is true of every node and of every mapping.
     let _ = root.kind();
     let _ = mapping.len();
-    let targets = TargetTable::of(alloc, changes)?;
-    let fates = fates(alloc, &targets, changes)?;
+    let aims = sorted_aims(alloc, &[], changes)?;
+    if let Some((first, second)) = clash_of(alloc, &aims, &[], changes)? {
+        return Err(EditError::Intersecting { first, second });
+    }
+    let fates = fates(alloc, &aims, changes)?;
     let places = places(alloc, changes, &fates, mapping)?;
     Ok(Prepared {
-        targets,
+        order: numbers(alloc, &aims)?,
         fates,
         places,
     })

@@ -118,12 +118,12 @@ impl EditPlan {
     fn planned(&self) -> Planned<'_>
         ensures root { result.root.now ≡ self.now.root }
         ensures changes { result.changes.now ≡ self.now.changes }
-        ensures is { IsPlanned self.now result.targets.now result.fates.now result.places.now }
+        ensures is { IsPlanned self.now result.order.now result.fates.now result.places.now }
     {
         Planned {
             root: &self.root,
             changes: &self.changes,
-            targets: &self.targets,
+            order: &self.order,
             fates: &self.fates,
             places: &self.places,
         }

@@ -1,22 +1,40 @@
 -- A number put into a table of gaps.
 --     put_at-first, put_at-after   at a gap of either form
 --     some-mapped                   an option with its value exchanged
-use Rattle.std.specs.Prelude.{◌≡◌, ℕ, true, false, cond, List, Option, Some, None, Vec, option_map, is_some, refl}
+use Rattle.std.specs.Prelude.{◌≡◌, ℕ, Bool, true, false, cond, List, Option, Some, None, Vec, option_map, is_some, refl}
 use Rattle.std.specs.Global.{Global}
 use Rattle.std.specs.Map.{lookup, KeepsOthers}
 use Rattle.std.proofs.Common.{ap, sym, ◌∙◌}
-use Rattle.std.proofs.lemmas.Bool.{false≢true, true≢false}
+use Rattle.std.proofs.lemmas.Bool.{cases_Bool, false≢true, true≢false}
+use mathlib.Core.Logic.{inl, inr}
 use Rattle.cst_core.specs.Path.{Path, same_path}
 use Rattle.edit_change.specs.Aim.{FirstIn, AfterElement, Over}
 use Rattle.edit_change.specs.ChangeAim.{position_aim}
 use Rattle.edit_change.specs.Position.{anchor, first_of}
 use Rattle.edit_change.specs.PositionForm.{FirstChild, After}
 use Rattle.edit_change.specs.declared.position.Position.{Position}
-use Rattle.edit_change.proofs.Indexed.{put}
 use Rattle.edit_change.proofs.Paths.{same_path-true, same_path_from}
 use Rattle.edit_change.proofs.Positions.{same-test}
 use Rattle.edit_steps.specs.inner.GapTable.{gap_entry, IsPut}
 use Rattle.edit_steps.specs.declared.order.gap_table.GapTable.{GapTable}
+
+-- ---- a number put at a path
+abbrev key : Path → Vec ℕ Global → Bool
+key p k = same_path p k.items
+
+same-turned : (p q r : Path) → same_path p q ≡ true → same_path p r ≡ same_path q r
+same-turned p q r h = ap (λ s. same_path s r) (same_path-true p q h)
+
+put : (old new : List (Vec ℕ Global × ℕ)) (k : Vec ℕ Global) (n : ℕ) → lookup (key k.items) new ≡ Some n → KeepsOthers (λ x y. same_path x.items y.items) (key k.items) old new → (p : Path) → lookup (key p) new ≡ cond (same_path p k.items) (Some n) (lookup (key p) old)
+unfolding KeepsOthers
+put old new k n here others p =
+    elim (cases_Bool (same_path p k.items)) [
+      | inl same ↦ ap (λ q. lookup (key q) new) (same_path-true p k.items same) ∙ here ∙ sym (ap (λ b. cond b (Some n) (lookup (key p) old)) same)
+      | inr other ↦ others (key p) (λ x y h. same-turned p x.items y.items h) (λ x h. apart x h other) ∙ sym (ap (λ b. cond b (Some n) (lookup (key p) old)) other)
+    ]
+  where
+    apart : (x : Vec ℕ Global) → key k.items x ≡ true → same_path p k.items ≡ false → key p x ≡ false
+    apart x h other = ap (same_path p) (sym (same_path-true k.items x.items h)) ∙ other
 
 turned : (p q : Path) → same_path p q ≡ same_path q p
 turned p q = same-test (same_path p q) (same_path q p) (λ h. same_path_from q p (sym (same_path-true p q h))) (λ h. same_path_from p q (sym (same_path-true q p h)))

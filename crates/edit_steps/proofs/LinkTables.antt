@@ -15,7 +15,9 @@ use Rattle.edit_change.specs.ChangeAim.{aim}
 use Rattle.edit_change.specs.Change.{targets, shared_targets}
 use Rattle.edit_change.specs.PositionForm.{FirstChild, After}
 use Rattle.edit_change.specs.Nesting.{is_dropped, owner, has_owner}
-use Rattle.edit_change.specs.inner.TargetTable.{target_at, IsApart}
+use Rattle.edit_change.specs.Nesting.{first_clash}
+use Rattle.edit_change.specs.inner.Targets.{target_at}
+use Rattle.edit_change.proofs.Regions.{target-there}
 use Rattle.edit_change.specs.declared.change.Change.{Change}
 use Rattle.edit_change.specs.declared.change.Change.TheVariants.{Insert, InsertAll, Replace, ReplaceWithMany, ReplaceAll}
 use Rattle.edit_change.proofs.Owners.{owner_cases, owner_from, owner_at}
@@ -139,22 +141,13 @@ replaces-targets p (Replace t e) = refl
 replaces-targets p (ReplaceWithMany t es) = refl
 replaces-targets p (ReplaceAll first last es) = refl
 
--- where no two share a target, the change that replaces what is at a path is the first one that does
-target-there : (cs : List Change) (p : Path) (m : ℕ) (d : Change) → IsApart cs → slice_get cs m ≡ Some d → has_path (targets d) p ≡ true → target_at cs p ≡ Some m
-target-there [] p m d apart is there = absurd (none-some d is)
-target-there (c ∷ cs) p zero d apart is there =
-    position-cons (λ e. has_path (targets e) p) c cs ∙ ap (λ b. cond b (Some 0) (option_map suc (target_at cs p))) (ap (λ e. has_path (targets e) p) (same_Some c d is) ∙ there)
-target-there (c ∷ cs) p (suc m) d apart is there =
-    let other : has_path (targets c) p ≡ false = false_from_ne_true (has_path (targets c) p) (λ here. false≢true (sym (all_at (λ e. shared_targets c e ≡ false) cs m d apart.0 is) ∙ meets (targets c) (targets d) p here there)) in
-    position-cons (λ e. has_path (targets e) p) c cs ∙ ap (λ b. cond b (Some 0) (option_map suc (target_at cs p))) other ∙ ap (λ o. option_map suc o) (target-there cs p m d apart.1 is there)
-
-target-found : (cs : List Change) (p : Path) (m : ℕ) → target_at cs p ≡ Some m → (d : Change) × (slice_get cs m ≡ Some d) × (has_path (targets d) p ≡ true)
+pub target-found : (cs : List Change) (p : Path) (m : ℕ) → target_at cs p ≡ Some m → (d : Change) × (slice_get cs m ≡ Some d) × (has_path (targets d) p ≡ true)
 target-found [] p m h = absurd (none-some m h)
 target-found (c ∷ cs) p m h =
     let found = position-Some (λ e. has_path (targets e) p) (c ∷ cs) m c h in
     (get_or (c ∷ cs) m c, slice_get-get_or (c ∷ cs) m c found.0, found.1)
 
-module _ (cs : List Change) (table : List (Option ℕ)) (apart : IsApart cs) (linked : IsLinked (token_link cs) cs table) where
+module _ (cs : List Change) (table : List (Option ℕ)) (apart : first_clash cs ≡ None) (linked : IsLinked (token_link cs) cs table) where
   token-sound : (n m : ℕ) → link table n ≡ Some m → (c : Change) × (d : Change) × (slice_get cs n ≡ Some c) × (is_dropped cs c ≡ false) × (slice_get cs m ≡ Some d) × (token_first (n, c) (m, d) ≡ true)
   token-sound n m is =
       let from = linked_some (token_link cs) cs table n m linked is in

@@ -15,7 +15,7 @@ use Rattle.std.proofs.lemmas.Option.{same_Some, slice_get_within, slice_get-map,
 use mathlib.Core.Logic.{inl, inr}
 use Rattle.edit_change.specs.Nesting.{is_dropped, owner, Numbered, undropped}
 use Rattle.edit_change.specs.inner.Fate.{fate, by_owner}
-use Rattle.edit_change.specs.inner.TargetTable.{IsApart}
+use Rattle.edit_change.specs.Nesting.{first_clash}
 use Rattle.edit_change.specs.declared.change.Change.{Change}
 use Rattle.edit_change.specs.declared.fate.Fate.{Fate}
 use Rattle.edit_change.specs.declared.fate.Fate.TheVariants as fates
@@ -215,7 +215,7 @@ new-counted f cs w table linked same long counted = record {
   closed = λ n m h never. absurd (false≢true never);
 }
 
-pub waiting-new : (cs : List Change) (fs : List Fate) (w : Waiting) → fs ≡ map (fate cs) cs → w.standings.items ≡ map standing_in fs → IsApart cs → IsCounted (owner_link cs) cs (λ n. false) w.owners → IsCounted (gap_link cs) cs (λ n. false) w.gaps → IsCounted (token_link cs) cs (λ n. false) w.tokens → IsWaiting cs (λ n. false) w
+pub waiting-new : (cs : List Change) (fs : List Fate) (w : Waiting) → fs ≡ map (fate cs) cs → w.standings.items ≡ map standing_in fs → first_clash cs ≡ None → IsCounted (owner_link cs) cs (λ n. false) w.owners → IsCounted (gap_link cs) cs (λ n. false) w.gaps → IsCounted (token_link cs) cs (λ n. false) w.tokens → IsWaiting cs (λ n. false) w
 waiting-new cs fs w are is apart owners gaps tokens =
     let all : w.standings.items ≡ map standing_in (map (fate cs) cs) = is ∙ ap (map standing_in) are in
     record {

@@ -1,8 +1,7 @@
-//! `check`: whether an order has each change once, and after all that it waits for. `EditPlan::execute` asks it first.
-
-ghost use Rattle.std.specs.Prelude.{◌≡◌, ◌≤◌, ◌↔◌, ℕ, None, map, length, IfOk, IfErr, OnOk, IsTrue};
+ghost use Rattle.std.specs.Prelude.{◌≡◌, ◌≤◌, ◌↔◌, ℕ, None, map, length, IfOk, IfErr, OnOk, IsTrue, All};
 ghost use Rattle.std.specs.List.{list_all};
-ghost use Rattle.edit_change.specs.inner.TargetTable.{IsTargetTable};
+ghost use Rattle.edit_change.specs.Nesting.{first_clash};
+ghost use Rattle.edit_change.specs.inner.DocumentOrder.{FitsSome};
 ghost use Rattle.edit_change.specs.inner.Fate.{fate, is_dropped_in};
 ghost use Rattle.edit_steps.specs.Schedule.{ListsEachOnce, IsAllowed};
 ghost use Rattle.edit_steps.specs.OrderRefusal.{OrderRefuses};
@@ -17,7 +16,7 @@ mod waits;
 
 use crate::order::followers::Followers;
 pub use document_order::default_order;
-use edit_change::{Change, Fate, TargetTable};
+use edit_change::{Change, Fate};
 pub use order_error::OrderError;
 use std::alloc::{AllocError, Global};
 pub(crate) use waiting::Waiting;
@@ -92,16 +91,16 @@ fn keeps(indices: &[usize], links: &[Option<usize>]) -> bool
 /// after a token before what replaces the token.
 ///
 /// Each refusal but `Memory`, which may come at any time, is given exactly where its clause does not hold, and all those
-/// before it do. `targets` has what the changes replace, and `fates` what becomes of each. Takes time near linear in the order and in the paths of the
+/// before it do. No two changes clash, and `fates` has what becomes of each. Takes time near linear in the order and in the paths of the
 /// changes.
 pub fn check(
     alloc: Global,
-    targets: &TargetTable,
     changes: &[Change],
     fates: &[Fate],
     order: &[usize],
 ) -> Result<(), OrderError>
-    requires targets { IsTargetTable changes.now targets.now }
+    requires fit { All FitsSome changes.now }
+    requires apart { first_clash changes.now ≡ None }
     requires fates { fates.now ≡ map (fate changes.now) changes.now }
     ensures ok { OnOk result (IsAllowed changes.now order.now) }
     ensures refused { IfErr result (OrderRefuses changes.now order.now) }
@@ -110,7 +109,7 @@ pub fn check(
         return Err(OrderError::NotEachOnce);
     }
     let indices = indices(alloc, changes.len(), order)?;
-    let followers = Followers::of(alloc, targets, changes, fates)?;
+    let followers = Followers::of(alloc, changes, fates)?;
     if !keeps(&indices, &followers.owner) {
         return Err(OrderError::OwnerTooEarly);
     }

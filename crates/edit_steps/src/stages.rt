@@ -1,13 +1,11 @@
-//! `Stages`: the tree, and the payload of each change that others move into, with some changes carried out. `EditRun` steps it.
-
-ghost use Rattle.std.specs.Prelude.{◌≡◌, ◌<◌, ◌∷◌, [], None, true, false, map, length, slice_set, IfOk, OnOk, OnErr};
+ghost use Rattle.std.specs.Prelude.{◌≡◌, ◌<◌, ◌∷◌, [], None, true, false, map, length, slice_set, IfOk, OnOk, OnErr, All};
 ghost use Rattle.green_tree.specs.Green.{branch_tree};
 ghost use Rattle.green_tree.specs.GreenElement.{element_tree, element_trees};
 ghost use Rattle.cst_core.specs.Element.{Element, subtree};
 ghost use Rattle.edit_change.specs.inner.Aimed.{numbered};
 ghost use Rattle.edit_change.specs.Fits.{Fits};
 ghost use Rattle.edit_change.specs.Nesting.{first_clash};
-ghost use Rattle.edit_change.specs.inner.TargetTable.{IsTargetTable};
+ghost use Rattle.edit_change.specs.inner.DocumentOrder.{FitsSome};
 ghost use Rattle.edit_change.specs.inner.Fate.{fate};
 ghost use Rattle.edit_change.specs.inner.OwnerPlaces.{owner_at};
 ghost use Rattle.edit_change.specs.inner.OneNode.{BringsNode, IsNodeTree, IsOneNode};
@@ -24,7 +22,7 @@ use crate::order::Waiting;
 use crate::stage::Stage;
 use crate::stages::payload::{given_elements, payload_stages};
 use cst_core::{GreenElement, GreenNode, SyntaxNode};
-use edit_change::{Aimed, Change, Fate, TargetTable, node_for_root, only_node};
+use edit_change::{Aimed, Change, Fate, node_for_root, only_node};
 use std::alloc::{AllocError, Global};
 
 /// The tree of some changes, and the payloads of those that own others, with some of the changes carried out, one at a time.
@@ -76,16 +74,15 @@ fn step_in_payload(
 }
 
 impl Stages {
-    /// The tree with this root, and the changes with these targets and fates. None of them is done yet.
+    /// The tree with this root, and the changes with these fates, of which no two clash. None of them is done yet.
     pub fn new(
         alloc: Global,
         root: &SyntaxNode,
-        targets: &TargetTable,
         changes: &[Change],
         fates: &[Fate],
     ) -> Result<Stages, AllocError>
         requires apart { first_clash changes.now ≡ None }
-        requires targets { IsTargetTable changes.now targets.now }
+        requires fit { All FitsSome changes.now }
         requires fates { fates.now ≡ map (fate changes.now) changes.now }
         ensures stages { IfOk result (Begins changes.now (subtree root.now)) }
         ensures none_done { IfOk result (λ s. done_in s ≡ map (λ c. false) changes.now) }
@@ -96,7 +93,7 @@ impl Stages {
             tree: Stage::new(alloc, green)?,
             new_root: None,
             payloads: payload_stages(alloc, changes, fates)?,
-            waiting: Waiting::new(alloc, targets, changes, fates)?,
+            waiting: Waiting::new(alloc, changes, fates)?,
             builds: 0,
         })
     }

@@ -1,25 +1,24 @@
 -- The exact count of the nodes that are built.
---     built-inside                  for a child, as it is seen from the node above
+--     built-shifted                 for a child, as it is seen from the node above
 --     counts-at_most                no more nodes are built than are touched
---     in_slot                       how many for one slot
 --     counted-own, counted-none     the node itself, where some child list is altered; where none is, nothing is built
 --     count-on                      what was counted as a whole, whatever is counted after
-use Rattle.std.specs.Prelude.{◌≡◌, ℕ, suc, ◌+◌, ◌≤◌, true, false, cond, List, [], ◌∷◌, ◌++◌, map, refl}
+use Rattle.std.specs.Prelude.{◌≡◌, ℕ, suc, ◌+◌, ◌≤◌, true, false, cond, List, [], ◌∷◌, ◌++◌, refl}
 use Rattle.std.specs.List.{list_any}
-use Rattle.std.proofs.Common.{ap, ap₂, sym, ◌∙◌, arith}
+use Rattle.std.proofs.Common.{ap, ap₂, ◌∙◌, arith}
 use Rattle.green_tree.specs.Path.{Path}
 use Rattle.green_tree.specs.Tree.{SyntaxTree, Forest, Token, Node, end, more, forest, node}
 use Rattle.edit_change.specs.Rewriting.{NumberedAim, is_replaced}
 use Rattle.edit_change.specs.declared.aimed.Aimed.{Aimed}
-use Rattle.edit_change.specs.inner.Aimed.{formed, of_formed, aims_of, some_path, has_parent}
-use Rattle.one_pass.specs.inner.Pass.{aims_inside, CountsBuilt, TouchesAtMost}
+use Rattle.edit_change.specs.inner.Aimed.{aims_of, some_path, has_parent}
+use Rattle.one_pass.specs.inner.Pass.{CountsBuilt, TouchesAtMost}
 use Rattle.green_tree.specs.GreenElement.{element_tree}
 use Rattle.green_tree.specs.declared.green.GreenElement.{GreenElement}
 use Rattle.green_tree.specs.Count.{counted}
 use Rattle.edit_change.specs.Effort.{inside, touched, touched_from, parents_of}
 use Rattle.one_pass.specs.inner.Built.{built, built_from, nodes_built}
-use Rattle.edit_change.proofs.AlteredNodes.{above-below, above-formed, some-parents}
-use Rattle.edit_change.proofs.SeenBelow.{Shifted, below_shifted, aims-formed}
+use Rattle.edit_change.proofs.AlteredNodes.{some-parents}
+use Rattle.edit_change.proofs.SeenBelow.{Shifted}
 
 -- ---- as it is seen from a child
 module _ (cs ds : List NumberedAim) (i : ℕ) (same : Shifted cs ds i) where
@@ -33,10 +32,6 @@ module _ (cs ds : List NumberedAim) (i : ℕ) (same : Shifted cs ds i) where
     built_from-shifted p j end ps = refl
     built_from-shifted p j (more t f) ps =
         ap₂ (λ m n. m + n) (ap₂ (λ b n. cond b 0 n) (same.replaced p j) (built-shifted (p ++ j ∷ []) t (inside j ps))) (built_from-shifted p (suc j) f ps)
-
-pub built-inside : (xs : List Aimed) (i : ℕ) (t : SyntaxTree) → nodes_built (aims_inside xs i) t ≡ built (aims_of xs) (i ∷ []) t (inside i (parents_of (aims_of xs)))
-built-inside xs i t =
-    sym (built-shifted (map of_formed (map formed xs)) (aims_inside xs i) i (below_shifted (map formed xs) i) [] t (parents_of (aims_inside xs i))) ∙ ap₂ (λ cs ps. built cs (i ∷ []) t ps) (aims-formed xs) (sym (above-below i (map formed xs)) ∙ ap (inside i) (above-formed xs))
 
 -- ---- no more is built than is touched
 module _ (cs : List NumberedAim) where
@@ -66,10 +61,6 @@ counts-at_most aims e before after h =
 
 -- ---- a node, and its children
 module _ (cs : List NumberedAim) where
-  -- what a slot adds
-  abbrev pub in_slot : ℕ → SyntaxTree → ℕ
-  in_slot i t = cond (is_replaced cs (i ∷ [])) 0 (built cs (i ∷ []) t (inside i (parents_of cs)))
-
   own_paths : (ps : List Path) (k : ℕ) (ts : List SyntaxTree) → some_path ps ≡ true → built cs [] (node k ts) ps ≡ 1 + built_from cs [] 0 (forest ts) ps
   own_paths [] k ts h = absurd (cc)
   own_paths (p ∷ ps) k ts h = refl

@@ -7,20 +7,15 @@
 --     deep                          what a change of this depth or more adds
 --     one-level                     A LEVEL MORE: what its owners add
 --     all-deep, none-deep           what all add, and what none does
-use Rattle.std.specs.Prelude.{◌≡◌, ℕ, suc, ◌+◌, ◌<◌, ◌≤◌, Bool, true, false, ◌&&◌, ◌==◌, not, cond, min, List, [], ◌∷◌, map, filter, get_or, length, sum_by, All, Some, Vec, refl}
-use Rattle.std.specs.Global.{Global}
+use Rattle.std.specs.Prelude.{◌≡◌, ℕ, suc, ◌+◌, ◌<◌, ◌≤◌, min, List, [], ◌∷◌, map, get_or, length, sum_by, All, Some, refl}
 use Rattle.std.specs.List.{enumerate_from}
 use Rattle.std.proofs.Common.{ap, sym, subst, ◌∙◌, arith}
-use Rattle.std.proofs.Math.Dec.{leb}
-use Rattle.std.proofs.lemmas.Bool.{le-leb, lt-leb, ne_eqb, cases_lt}
-use Rattle.std.proofs.lemmas.Bool.Decides.{leb_tells, eqb_tells}
 use Rattle.std.proofs.lemmas.List.Sums.{sum_by-cons}
 use Rattle.std.proofs.Math.ListN.{get_or-map}
 use Rattle.std.specs.Option.{option_map_or}
 use Rattle.std.proofs.lemmas.List.{length-map}
 use Rattle.std.proofs.lemmas.List.Elements.{All-get_or}
 use Rattle.std.proofs.lemmas.Option.{slice_get-get_or}
-use mathlib.Core.Logic.{inl, inr}
 use Rattle.cst_core.specs.Element.{Element, subtree}
 use Rattle.cst_core.specs.SyntaxElement.{element_of}
 use Rattle.cst_core.specs.declared.element.SyntaxElement.{SyntaxElement}
@@ -32,10 +27,6 @@ use Rattle.green_tree.specs.Count.{counted}
 use Rattle.edit_change.specs.Effort.{touched}
 use Rattle.edit_change.specs.declared.change.Change.{Change}
 use Rattle.edit_change.specs.TouchedNodes.{touched_each, Raises}
-use Rattle.edit_change.specs.inner.OwnerPlaces.{depth_of}
-use Rattle.one_pass.specs.inner.OwnerTables.{dependents_in, owns_at}
-use Rattle.one_pass.specs.declared.dependent.Dependent.{Dependent}
-use Rattle.one_pass.proofs.Levels.{empty-none}
 
 -- ---- one part after another
 pub raises-none : (premise : Type 0) (n : ℕ) → n ≤ 18446744073709551615 → Raises premise 0 n n
@@ -89,68 +80,6 @@ one-of P es i e l is all =
 
 pub payload-at : (cs : List Change) (o : ℕ) (change : Change) → o < length cs → change ≡ get_or cs o change → payload_of cs o ≡ payload change
 payload-at cs o change l is = ap (λ x. option_map_or payload x []) (slice_get-get_or cs o change l ∙ ap (λ c. Some c) (sym is))
-
--- ---- owners from the deepest up
-module _ (cs : List Change) (f : ℕ → ℕ) where
-  abbrev pub deep : ℕ → ℕ → ℕ
-  deep level c = cond (leb level (depth_of cs c)) (f c) 0
-
-  pub all-deep : (xs : List ℕ) → sum_by (deep 0) xs ≡ sum_by f xs
-  all-deep [] = refl
-  all-deep (x ∷ xs) =
-      let own : deep 0 x ≡ f x = ap (λ b. cond b (f x) 0) (le-leb 0 (depth_of cs x) (omega arith)) in
-      omega (arith, sum_by-cons (deep 0) x xs, sum_by-cons f x xs, all-deep xs, own)
-
-  pub none-deep : (level : ℕ) → ((c : ℕ) → level ≤ depth_of cs c → f c ≡ 0) → (xs : List ℕ) → sum_by (deep level) xs ≡ 0
-  none-deep level none [] = refl
-  none-deep level none (x ∷ xs) =
-      let own : deep level x ≡ 0 = elim (leb_tells level (depth_of cs x)) [ inl l ↦ ap (λ b. cond b (f x) 0) l.0 ∙ none x l.1 | inr g ↦ ap (λ b. cond b (f x) 0) g.0 ] in
-      omega (arith, sum_by-cons (deep level) x xs, none-deep level none xs, own)
-
-  module _ (owned : List (Vec Dependent Global)) (alone : (c : ℕ) → dependents_in owned c ≡ [] → f c ≡ 0) where
-    -- what one change adds, by whether it is deeper, of this depth or less deep
-    one : (level x : ℕ) → deep level x ≡ deep (suc level) x + cond (owns_at cs owned level x) (f x) 0
-    one level x = go (depth_of cs x) refl
-      where
-        none-owned : (length (dependents_in owned x) == 0) ≡ true → f x ≡ 0
-        none-owned h = alone x (empty-none (dependents_in owned x) h)
-
-        own : (b : Bool) → (length (dependents_in owned x) == 0) ≡ b → f x ≡ cond (not b) (f x) 0
-        own true h = none-owned h
-        own false h = refl
-
-        go : (d : ℕ) → depth_of cs x ≡ d → cond (leb level d) (f x) 0 ≡ cond (leb (suc level) d) (f x) 0 + cond ((d == level) && not (length (dependents_in owned x) == 0)) (f x) 0
-        go d is =
-            elim (cases_lt level d) [
-              | inl deeper ↦
-                  let low : cond (leb level d) (f x) 0 ≡ f x = ap (λ b. cond b (f x) 0) (le-leb level d (omega (arith, deeper))) in
-                  let high : cond (leb (suc level) d) (f x) 0 ≡ f x = ap (λ b. cond b (f x) 0) (le-leb (suc level) d deeper) in
-                  let other : cond ((d == level) && not (length (dependents_in owned x) == 0)) (f x) 0 ≡ 0 = ap (λ b. cond (b && not (length (dependents_in owned x) == 0)) (f x) 0) (ne_eqb d level (λ same. omega (arith, same, deeper))) in
-                  omega (arith, low, high, other)
-              | inr reached ↦ elim (eqb_tells d level) [
-                | inl same ↦
-                    let here : d ≡ level = same.1 in
-                    let low : cond (leb level d) (f x) 0 ≡ f x = ap (λ b. cond b (f x) 0) (le-leb level d (omega (arith, here))) in
-                    let high : cond (leb (suc level) d) (f x) 0 ≡ 0 = ap (λ b. cond b (f x) 0) (lt-leb (suc level) d (omega (arith, here))) in
-                    let this : cond ((d == level) && not (length (dependents_in owned x) == 0)) (f x) 0 ≡ cond (not (length (dependents_in owned x) == 0)) (f x) 0 = ap (λ b. cond (b && not (length (dependents_in owned x) == 0)) (f x) 0) same.0 in
-                    omega (arith, low, high, this, own (length (dependents_in owned x) == 0) refl)
-                | inr apart ↦
-                    let away : d ≡ level → ⊥ = apart.1 in
-                    let low : cond (leb level d) (f x) 0 ≡ 0 = ap (λ b. cond b (f x) 0) (lt-leb level d (omega (arith, away, reached))) in
-                    let high : cond (leb (suc level) d) (f x) 0 ≡ 0 = ap (λ b. cond b (f x) 0) (lt-leb (suc level) d (omega (arith, reached))) in
-                    let other : cond ((d == level) && not (length (dependents_in owned x) == 0)) (f x) 0 ≡ 0 = ap (λ b. cond (b && not (length (dependents_in owned x) == 0)) (f x) 0) apart.0 in
-                    omega (arith, low, high, other)
-              ]
-            ]
-
-    kept : (b : Bool) (x : ℕ) (ys : List ℕ) → sum_by f (cond b (x ∷ ys) ys) ≡ cond b (f x) 0 + sum_by f ys
-    kept true x ys = sum_by-cons f x ys
-    kept false x ys = omega arith
-
-    pub one-level : (level : ℕ) (xs : List ℕ) → sum_by (deep level) xs ≡ sum_by (deep (suc level)) xs + sum_by f (filter (owns_at cs owned level) xs)
-    one-level level [] = refl
-    one-level level (x ∷ xs) =
-        omega (arith, sum_by-cons (deep level) x xs, sum_by-cons (deep (suc level)) x xs, one level x, one-level level xs, kept (owns_at cs owned level x) x (filter (owns_at cs owned level) xs))
 
 -- ---- by the changes, or by their numbers
 pub by-number : {X : Type 0} (f : ℕ → ℕ) (n : ℕ) (xs : List X) → sum_by f (counted_from n (length xs)) ≡ sum_by (λ c. f c.0) (enumerate_from n xs)

@@ -1,32 +1,35 @@
 mod Alike
+pub mod OneAim
+pub mod Reordered
+pub mod OpenedNode
+pub mod NextAim
+pub mod NodeFurther
+pub mod NodeAhead
+pub mod NodeSteps
+pub mod SweepStart
+pub mod Sweeping
 mod AllCounted
-mod BelowSlot
-mod EnteredByLevel
+pub mod ByDepth
 mod FoundLater
-mod ByNumber
 mod Children
 mod CopiesFound
 mod Counted
 pub mod Counting
 mod Dependents
-mod InGroups
-mod InSlot
-mod Levels
+mod EmptyLists
 mod MadeOf
 mod Marks
 mod MarksFilled
 mod MarksGiven
 mod MarksKept
 mod MarksTold
-mod GivenByLevel
+mod GivenByDepth
 mod ChangesOfAims
 mod Registered
 mod Rooted
 mod Rows
-mod QuietRuns
 pub mod TextOrders
 pub mod Tops
 mod TouchedNodes
-mod Turns
 mod OpenPath
 pub mod WholeTree

@@ -2,9 +2,8 @@
 --     seen-from                     what is sought below an address, seen from there
 --     listed, unsought              an entry with the marks of each; one where nothing is sought
 --     entry                         an entry exchanged
---     AreLevelled                   so far as one level is entered, with all that is deeper
---     level-begins, level-ends, level-filled      before its first owner, after its last one, and one owner more
---     from-payloads, to-the-top     before the deepest level, and after the last one
+--     AreEntered                    a table has the marks of what changes give, as far as they are entered
+--     marks-begin, marks-entered, marks-passed, marks-end      before the first; one owner more; one that owns nothing; all of them
 --     IsBrought, AreBrought         an entry has the payload of a change; so have those of the first so many
 --     one-brought, all-brought      one change more; all of them
 use Rattle.std.specs.Prelude.{◌≡◌, ℕ, zero, suc, ◌+◌, ◌<◌, ◌≤◌, true, false, ◌&&◌, cond, nat_eq, List, [], ◌∷◌, ◌++◌, map, filter, length, slice_get, get_or, Option, Some, None, option_map, Vec, refl}
@@ -18,7 +17,7 @@ use Rattle.std.proofs.lemmas.List.Elements.{filter-append}
 use Rattle.std.proofs.lemmas.Option.{slice_get-get_or, slice_get-map, slice_get_past, none-some, same_Some}
 use mathlib.Core.Logic.{inl, inr}
 use mathlib.Core.Path.{fun_ext}
-use Rattle.cst_core.specs.Path.{Path, same_path, counted_from}
+use Rattle.cst_core.specs.Path.{Path, same_path}
 use Rattle.cst_core.specs.Element.{Address, Element, address, subtree}
 use Rattle.edit_change.specs.Rewriting.{NumberedAim, rewritten}
 use Rattle.one_pass.specs.inner.Marked.{MarkTree, Marking, marked, marks_of, marks_at, wanted}
@@ -31,16 +30,14 @@ use Rattle.one_pass.proofs.Marks.{marks-none}
 use Rattle.edit_change.proofs.Untouched.{untouched}
 use Rattle.edit_change.specs.Change.{payload}
 use Rattle.edit_change.specs.Nesting.{owner}
-use Rattle.edit_change.specs.inner.OwnerPlaces.{depth_of}
-use Rattle.one_pass.specs.inner.OwnerTables.{owns_at, AreDependents, AreOwners}
+use Rattle.one_pass.specs.inner.OwnerTables.{AreByDepth}
 use Rattle.edit_change.specs.NewTree.{origin, payload_of, dependents}
 use Rattle.one_pass.specs.inner.Sought.{path_below, sought_one, sought_from, sought_at, sought_at_all, registered_at}
-use Rattle.one_pass.specs.inner.Marks.{marks_given, IsTableOf, element_sought, payload_sought, with_answer, AreMarksFrom}
+use Rattle.one_pass.specs.inner.Marks.{marks_given, IsTableOf, element_sought, payload_sought, with_answer}
 use Rattle.edit_change.specs.declared.change.Change.{Change}
-use Rattle.one_pass.specs.declared.dependent.Dependent.{Dependent}
 use Rattle.one_pass.specs.declared.sought.SoughtTable.{SoughtTable}
 use Rattle.edit_change.proofs.BroughtTops.{given-labelled}
-use Rattle.one_pass.proofs.EnteredByLevel.{LevelledBy, begins, ends, entered, from-alone}
+use Rattle.one_pass.proofs.ByDepth.{EnteredBy, begins, entered, passed, ends}
 use Rattle.edit_change.proofs.Lists.{slice_get-set_same, slice_get-set_other}
 use Rattle.edit_change.proofs.GivenTrees.{all_owned, rewritten-agree}
 
@@ -146,42 +143,38 @@ module _ (rs : List Address) (cs : List Change) (places : ℕ → Path) where
   agreed c index trees holds =
       ap (λ f. map f (payload_of cs c)) (fun_ext (λ e. rewritten-agree (wanted (sought_at index (address e))) trees (marks_given rs cs places) (dependents cs places c) (all_owned cs places (has_given trees) c holds) (subtree e)))
 
-  pub record AreLevelled (level : ℕ) (owners : List ℕ) (i : ℕ) (table : GivenTable) : Type 0 where
+  pub record AreEntered (order : List ℕ) (k : ℕ) (table : GivenTable) : Type 0 where
     pub trees : ℕ → List MarkTree
     pub are : AreMarkedIn table trees
-    pub by : LevelledBy cs places (has_given trees) level owners i
+    pub by : EnteredBy cs places (has_given trees) order k
 
-  pub level-begins : (level : ℕ) (owners : List ℕ) (table : GivenTable) → AreMarksFrom rs cs places (suc level) table → AreLevelled level owners 0 table
-  level-begins level owners table a = record { trees = a.trees; are = a.are; by = begins cs places (has_given a.trees) level owners a.deep a.own_nothing }
-
-  pub level-ends : (level i : ℕ) (owned : List (Vec Dependent Global)) (owners : List ℕ) (table : GivenTable) → AreDependents cs places owned → owners ≡ filter (owns_at cs owned level) (counted_from 0 (length cs)) → length owners ≤ i → AreLevelled level owners i table → AreMarksFrom rs cs places level table
-  level-ends level i owned owners table are all long a = record { trees = a.trees; are = a.are; deep = ends cs places (has_given a.trees) level i owned owners are all long a.by; own_nothing = a.by.own_nothing }
-
-  pub level-filled : (level i o : ℕ) (owners : List ℕ) (index : SoughtTable) (table after : GivenTable) (owned : List NumberedAim) → IsTableOf rs index → AreLevelled level owners i table → slice_get owners i ≡ Some o → depth_of cs o ≡ level → owned ≡ dependents cs places o → ((trees : ℕ → List MarkTree) → AreMarkedIn table trees → AreMarkedIn after (with_answer trees o (payload_sought index trees owned (payload_of cs o)))) → AreLevelled level owners (i + 1) after
-  level-filled level i o owners index table after owned sought a stands at_level own fills =
+  pub marks-entered : (order : List ℕ) (k o : ℕ) (index : SoughtTable) (table after : GivenTable) (owned : List NumberedAim) → IsTableOf rs index → AreByDepth cs order → k < length order → get_or order k 0 ≡ o → owned ≡ dependents cs places o → AreEntered order (suc k) table → ((trees : ℕ → List MarkTree) → AreMarkedIn table trees → AreMarkedIn after (with_answer trees o (payload_sought index trees owned (payload_of cs o)))) → AreEntered order k after
+  marks-entered order k o index table after owned sought by within stands own a fills =
       let ts : List MarkTree = payload_sought index a.trees owned (payload_of cs o) in
       let now = with_answer a.trees o ts in
       record {
         trees = now;
         are = fills a.trees a.are;
-        by = entered cs places (has_given a.trees) (has_given now) level i o owners a.by stands at_level (λ all. ap (λ b. cond b ts (a.trees o)) (eq-eqb o o refl) ∙ ap (λ ds. payload_sought index a.trees ds (payload_of cs o)) own ∙ agreed o index a.trees all ∙ payload-given o index sought) (λ c differs h. ap (λ b. cond b ts (a.trees c)) (ne_eqb c o differs) ∙ h);
+        by = entered cs places (has_given a.trees) (has_given now) order k o by within stands a.by (λ all. ap (λ b. cond b ts (a.trees o)) (eq-eqb o o refl) ∙ ap (λ ds. payload_sought index a.trees ds (payload_of cs o)) own ∙ agreed o index a.trees all ∙ payload-given o index sought) (λ c differs h. ap (λ b. cond b ts (a.trees c)) (ne_eqb c o differs) ∙ h);
       }
 
-  -- ---- all levels
+  pub marks-passed : (order : List ℕ) (k o : ℕ) (table : GivenTable) → get_or order k 0 ≡ o → dependents cs places o ≡ [] → AreEntered order (suc k) table → AreEntered order k table
+  marks-passed order k o table stands none a = record { trees = a.trees; are = a.are; by = passed cs places (has_given a.trees) order k o stands none a.by }
+
+  -- ---- all of them
   alone : (c : ℕ) (index : SoughtTable) → IsTableOf rs index → dependents cs places c ≡ [] → payload_sought index (λ n. []) [] (payload_of cs c) ≡ marks_given rs cs places c
   alone c index sought none =
       ap (λ f. map f (payload_of cs c)) (fun_ext (λ e. rewritten-agree (wanted (sought_at index (address e))) (λ n. []) (marks_given rs cs places) [] tt (subtree e))) ∙ ap (λ ds. payload_sought index (marks_given rs cs places) ds (payload_of cs c)) (sym none) ∙ payload-given c index sought
 
-  pub from-payloads : (owned : List (Vec Dependent Global)) (owners : List (Vec ℕ Global)) (index : SoughtTable) (table : GivenTable) → IsTableOf rs index → AreMarkedIn table (λ c. payload_sought index (λ n. []) [] (payload_of cs c)) → AreDependents cs places owned → AreOwners cs owned owners → AreMarksFrom rs cs places (length owners) table
-  from-payloads owned owners index table sought marked_are are levels = record {
+  pub marks-begin : (order : List ℕ) (k : ℕ) (index : SoughtTable) (table : GivenTable) → length order ≤ k → IsTableOf rs index → AreMarkedIn table (λ c. payload_sought index (λ n. []) [] (payload_of cs c)) → AreEntered order k table
+  marks-begin order k index table past sought marked_are = record {
     trees = λ c. payload_sought index (λ n. []) [] (payload_of cs c);
     are = marked_are;
-    deep = from-alone cs places (has_given (λ c. payload_sought index (λ n. []) [] (payload_of cs c))) owned owners are levels (λ c none. alone c index sought none);
-    own_nothing = λ c none. alone c index sought none;
+    by = begins cs places (has_given (λ c. payload_sought index (λ n. []) [] (payload_of cs c))) order k past (λ c none. alone c index sought none);
   }
 
-  pub to-the-top : (level : ℕ) (table : GivenTable) → level ≤ 0 → AreMarksFrom rs cs places level table → AreMarkedIn table (marks_given rs cs places)
-  to-the-top level table none a c = subst (λ ts. IsMarkedIn table.top (slice_get table.entries.items c) ts) (a.deep c (omega (arith, none))) (a.are c)
+  pub marks-end : (order : List ℕ) (k : ℕ) (table : GivenTable) → AreByDepth cs order → k ≤ 0 → AreEntered order k table → AreMarkedIn table (marks_given rs cs places)
+  marks-end order k table by none a c = subst (λ ts. IsMarkedIn table.top (slice_get table.entries.items c) ts) (ends cs places (has_given a.trees) order k by none a.by c) (a.are c)
 
 -- ---- the payloads alone
 module _ (index : SoughtTable) where

@@ -1,5 +1,5 @@
 -- The trees and the marks of what changes give, one element after another.
-use Rattle.std.specs.Prelude.{◌≡◌, ℕ, ◌<◌, ◌+◌, true, false, cond, List, [], ◌∷◌, ◌++◌, map, length, drop, get_or, slice_get, flat_map, Option, Some, None, zero, suc, refl}
+use Rattle.std.specs.Prelude.{◌≡◌, ℕ, ◌<◌, ◌+◌, List, [], ◌∷◌, ◌++◌, map, length, drop, get_or, slice_get, flat_map, Option, Some, None, zero, suc, refl}
 use Rattle.std.specs.Option.{option_map_or}
 use Rattle.std.proofs.Common.{ap, ap₂, sym, subst, arith, ◌∙◌}
 use Rattle.std.proofs.lemmas.List.{append_assoc, length-append, length-map, map-append, at_drop_more}
@@ -7,10 +7,8 @@ use Rattle.green_tree.specs.Path.{Path}
 use Rattle.green_tree.specs.Tree.{SyntaxTree, Token, Node}
 use Rattle.green_tree.specs.GreenElement.{element_tree, element_trees}
 use Rattle.green_tree.specs.declared.green.GreenElement.{GreenElement}
-use Rattle.edit_change.specs.Rewriting.{NumberedAim, slot, is_replaced, replacements_at}
 use Rattle.edit_change.specs.inner.Given.{given_trees}
 use Rattle.one_pass.specs.inner.Marked.{MarkTree, Marking, marked, mark_below}
-use Rattle.edit_change.specs.inner.KindOnly.{kind_only}
 use Rattle.one_pass.specs.inner.Pass.{IsMarkedIn, AreMarkedIn, given_in, topped}
 use Rattle.one_pass.specs.declared.marked_given.MarkedGiven.{MarkedGiven}
 use Rattle.one_pass.specs.declared.marked_given.GivenTable.{GivenTable}
@@ -37,14 +35,6 @@ module _ (table : GivenTable) (trees : ℕ → List MarkTree) (are : AreMarkedIn
   all_as_many [] = refl
   all_as_many (c ∷ cs) =
       length-append (trees c) (flat_map trees cs) ∙ ap₂ (λ a b. a + b) (as_many c) (all_as_many cs) ∙ sym (length-append (given_in table c) (flat_map (given_in table) cs))
-
-  -- what stands in a slot
-  pub slot_as_many : (label_at : Path → ℕ → List ℕ) (cs : List NumberedAim) (p : Path) (t : MarkTree) (u : SyntaxTree) → length (slot label_at trees cs p t) ≡ length (slot kind_only (given_in table) cs p u)
-  slot_as_many label_at cs p t u =
-      elim (is_replaced cs p) as (λ b. length (cond b (flat_map trees (replacements_at cs p)) (t ∷ [])) ≡ length (cond b (flat_map (given_in table) (replacements_at cs p)) (u ∷ []))) [
-        | true ↦ all_as_many (replacements_at cs p)
-        | false ↦ refl
-      ]
 
 -- ---- marks
 module _ (path : Path) where

@@ -1,9 +1,9 @@
 -- Nodes that are open above one another: one more of them, at the end.
 --     wholes-push, path-push, found-push, built-push    what they become, where they are, and what they still find and build
 --     work_above, work-push         how many steps all of them still take, at most
---     AreInside, inside-push, inside-pop    each of them has come to a child
+--     AreWaiting, waiting-push, waiting-pop    each of them has come to a child
 --     none-left                     where there are none
---     marks-inside, marks-closed, count-opened, count-closed    what is still to be found and built, where a child is opened, and where it is made
+--     marks-inside, count-opened, count-closed    what is still to be found and built, where a child is opened, and where it is made
 use Rattle.std.specs.Prelude.{◌≡◌, ℕ, suc, ◌+◌, ◌*◌, ◌<◌, List, [], ◌∷◌, ◌++◌, map, length, refl}
 use Rattle.std.proofs.Common.{ap, ap₂, sym, ◌∙◌, arith}
 use Rattle.std.proofs.lemmas.List.{append_assoc, append-nil}
@@ -11,55 +11,61 @@ use Rattle.green_tree.specs.Path.{Path}
 use Rattle.green_tree.specs.Tree.{SyntaxTree, node}
 use Rattle.green_tree.specs.GreenElement.{element_trees}
 use Rattle.one_pass.specs.inner.Marked.{MarkTree, Marking, marked, mark_below, wanted}
-use Rattle.one_pass.specs.inner.OpenNodes.{kinds_past, past, to_build, to_do, wholes, path_to, found_above, built_above}
+use Rattle.one_pass.specs.inner.OpenNodes.{kinds_past, past, past_built, past_do, wholes, path_to, found_above, built_above}
+use Rattle.one_pass.specs.inner.Sweep.{seen_at, Rising, From}
 use Rattle.one_pass.specs.declared.marked_given.GivenTable.{GivenTable}
 use Rattle.one_pass.specs.declared.open_node.OpenNode.{OpenNode}
 use Rattle.green_tree.specs.Count.{counted}
 use Rattle.one_pass.proofs.Counted.{count-on}
 use Rattle.one_pass.proofs.Marks.{shown, shown-append, shown-one}
 
-pub wholes-push : (table : GivenTable) (fs : List OpenNode) (f : OpenNode) (t : SyntaxTree) → wholes table (fs ++ f ∷ []) t ≡ wholes table fs (node f.kind.0 (element_trees f.out.items ++ t ∷ kinds_past f.children table f.slot))
+pub wholes-push : (table : GivenTable) (fs : List OpenNode) (f : OpenNode) (t : SyntaxTree) → wholes table (fs ++ f ∷ []) t ≡ wholes table fs (node f.kind.0 (element_trees f.out.items ++ t ∷ kinds_past table f))
 wholes-push table [] f t = refl
 wholes-push table (g ∷ fs) f t =
-    ap (λ u. node g.kind.0 (element_trees g.out.items ++ u ∷ kinds_past g.children table g.slot)) (wholes-push table fs f t)
+    ap (λ u. node g.kind.0 (element_trees g.out.items ++ u ∷ kinds_past table g)) (wholes-push table fs f t)
 
 pub path-push : (path : Path) (fs : List OpenNode) (f : OpenNode) → path_to path (fs ++ f ∷ []) ≡ path_to path fs ++ length f.out.items ∷ []
 path-push path [] f = refl
 path-push path (g ∷ fs) f = path-push (path ++ length g.out.items ∷ []) fs f
 
-pub found-push : (trees : ℕ → List MarkTree) (path : Path) (fs : List OpenNode) (f : OpenNode) → found_above trees path (fs ++ f ∷ []) ≡ shown (path_to path fs) (suc (length f.out.items)) (past f.children wanted trees f.slot) ++ found_above trees path fs
+pub found-push : (trees : ℕ → List MarkTree) (path : Path) (fs : List OpenNode) (f : OpenNode) → found_above trees path (fs ++ f ∷ []) ≡ shown (path_to path fs) (suc (length f.out.items)) (past wanted trees f) ++ found_above trees path fs
 found-push trees path [] f = sym (append-nil _)
 found-push trees path (g ∷ fs) f =
-    let own = shown path (suc (length g.out.items)) (past g.children wanted trees g.slot) in
+    let own = shown path (suc (length g.out.items)) (past wanted trees g) in
     let below = path ++ length g.out.items ∷ [] in
-    ap (λ ms. ms ++ own) (found-push trees below fs f) ∙ append_assoc (shown (path_to below fs) (suc (length f.out.items)) (past f.children wanted trees f.slot)) (found_above trees below fs) own
+    ap (λ ms. ms ++ own) (found-push trees below fs f) ∙ append_assoc (shown (path_to below fs) (suc (length f.out.items)) (past wanted trees f)) (found_above trees below fs) own
 
-pub built-push : (fs : List OpenNode) (f : OpenNode) → built_above (fs ++ f ∷ []) ≡ suc (to_build f.children (f.slot + 1)) + built_above fs
+pub built-push : (fs : List OpenNode) (f : OpenNode) → built_above (fs ++ f ∷ []) ≡ suc (past_built f) + built_above fs
 built-push [] f = refl
 built-push (g ∷ fs) f = omega (arith, built-push fs f)
 
 -- ---- how much there is to do
 abbrev pub work_above : List OpenNode → ℕ
 work_above [] = 0
-work_above (f ∷ fs) = 2 * to_do f.children (f.slot + 1) + 1 + work_above fs
+work_above (f ∷ fs) = 2 * past_do f + 1 + work_above fs
 
-pub work-push : (fs : List OpenNode) (f : OpenNode) → work_above (fs ++ f ∷ []) ≡ 2 * to_do f.children (f.slot + 1) + 1 + work_above fs
+pub work-push : (fs : List OpenNode) (f : OpenNode) → work_above (fs ++ f ∷ []) ≡ 2 * past_do f + 1 + work_above fs
 work-push [] f = refl
 work-push (g ∷ fs) f = omega (arith, work-push fs f)
 
--- ---- each has come to a child
-abbrev pub AreInside : List OpenNode → Type 0
-AreInside [] = Unit {0}
-AreInside (f ∷ fs) = (f.slot < length f.children.elements.now) × AreInside fs
+-- ---- each has come to a child, and its aims are behind that
+pub record IsWaiting (f : OpenNode) : Type 0 where
+  pub within : f.slot < length f.elements.now
+  pub rising : Rising (seen_at f.depth f.aims.now)
+  pub behind : From (suc f.slot + suc f.slot) (seen_at f.depth f.aims.now)
 
-pub inside-push : (fs : List OpenNode) (f : OpenNode) → AreInside fs → f.slot < length f.children.elements.now → AreInside (fs ++ f ∷ [])
-inside-push [] f h l = (l, tt)
-inside-push (g ∷ fs) f h l = (h.0, inside-push fs f h.1 l)
+abbrev pub AreWaiting : List OpenNode → Type 0
+AreWaiting [] = Unit {0}
+AreWaiting (f ∷ fs) = IsWaiting f × AreWaiting fs
 
-pub inside-pop : (fs : List OpenNode) (f : OpenNode) → AreInside (fs ++ f ∷ []) → AreInside fs × (f.slot < length f.children.elements.now)
-inside-pop [] f h = (tt, h.0)
-inside-pop (g ∷ fs) f h =
-    let rest = inside-pop fs f h.1 in
+pub waiting-push : (fs : List OpenNode) (f : OpenNode) → AreWaiting fs → IsWaiting f → AreWaiting (fs ++ f ∷ [])
+waiting-push [] f h l = (l, tt)
+waiting-push (g ∷ fs) f h l = (h.0, waiting-push fs f h.1 l)
+
+pub waiting-pop : (fs : List OpenNode) (f : OpenNode) → AreWaiting (fs ++ f ∷ []) → AreWaiting fs × IsWaiting f
+waiting-pop [] f h = (tt, h.0)
+waiting-pop (g ∷ fs) f h =
+    let rest = waiting-pop fs f h.1 in
     ((h.0, rest.0), rest.1)
 
 -- ---- marks
@@ -76,10 +82,6 @@ module _ (path inner : Path) (found more : List Marking) (n : ℕ) (t : MarkTree
       let here : more ++ below ≡ found ++ own = opened ∙ ap (λ p. found ++ map (mark_below p) (marked t)) is in
       let grouped : found ++ own ++ (later ++ higher) ≡ found ++ (own ++ later) ++ higher = simp append_assoc in
       ap (λ ms. ms ++ (later ++ higher)) here ∙ grouped ∙ ap (λ ms. found ++ ms ++ higher) (sym (ap (shown path n) split ∙ shown-cons path n t after)) ∙ h
-
-pub marks-closed : (found more now later higher all : List Marking) → more ++ now ≡ found ++ later → found ++ (later ++ higher) ≡ all → more ++ now ++ higher ≡ all
-marks-closed found more now later higher all made h =
-    ap (λ ms. ms ++ higher) made ∙ append_assoc found later higher ∙ h
 
 -- ---- counts
 pub count-opened : (here inner own rest above more : ℕ) → here ≡ own + rest → suc inner ≡ own → more ≡ suc rest + above → inner + (1 + more) ≡ here + (1 + above)

@@ -29,7 +29,7 @@ use Rattle.edit_change.specs.declared.change.Change.{Change}
 use Rattle.edit_change.specs.declared.change.Change.TheVariants.{Insert, InsertAll, Replace, ReplaceWithMany, ReplaceAll}
 use Rattle.edit_change.proofs.RootAlone.{root-alone, some-starts}
 use Rattle.edit_change.proofs.Positions.{none-passes}
-use Rattle.edit_change.specs.inner.TargetTable.{target_at}
+use Rattle.edit_change.specs.inner.Targets.{target_at}
 use Rattle.edit_change.proofs.GivenTrees.{given_is}
 
 -- ---- what stands there

@@ -1,52 +1,28 @@
-//! The changes that own something, by their depth.
-
-ghost use Rattle.std.specs.Prelude.{ℕ, ◌≡◌, ◌<◌, ◌++◌, [], ◌∷◌, length, IfOk, OnOk};
+ghost use Rattle.std.specs.Prelude.{◌≡◌, IfOk};
 ghost use Rattle.edit_change.specs.inner.OwnerPlaces.{depth_of};
-ghost use Rattle.one_pass.specs.inner.OwnerTables.{owners_at, AreOwners, OwnersStay};
+ghost use Rattle.one_pass.specs.inner.OwnerTables.{AreByDepth};
 
-use crate::dependent::Dependent;
-use crate::lists::empty_lists;
 use edit_change::{Change, depth};
 use std::alloc::{AllocError, Global};
 
-// More than the depth of each change.
-pub(crate) fn levels(changes: &[Change]) -> usize
-    ensures { (c : ℕ) → c < length changes.now → depth_of changes.now c < result }
+// The depth of the change at a number.
+fn depth_at(changes: &[Change], number: usize) -> usize
+    ensures { result ≡ depth_of changes.now number }
 {
-    let mut levels = 0;
-    for change in changes {
-        levels = levels.max(depth(change) + 1);
+    match changes.get(number) {
+        Some(change) => depth(change),
+        None => 0,
     }
-    levels
 }
 
-// One more owner of a depth.
-fn push_owner(owners: &mut Vec<Vec<usize>>, level: usize, owner: usize) -> Result<(), AllocError>
-    requires { level < length owners.now.items }
-    ensures long { OnOk result (length owners.new.items ≡ length owners.old.items) }
-    ensures here { OnOk result (owners_at owners.new.items level ≡ owners_at owners.old.items level ++ owner ∷ []) }
-    ensures elsewhere { OnOk result (OwnersStay owners.old.items owners.new.items level) }
+/// The numbers of all changes, the deepest last: what a change owns is deeper, and comes after it.
+pub(crate) fn by_depth(alloc: Global, changes: &[Change]) -> Result<Vec<usize>, AllocError>
+    ensures { IfOk result (λ v. AreByDepth changes.now v.items) }
 {
-    owners[level].push(owner)?;
-    Ok(())
-}
-
-/// For each depth, the changes of that depth that own something, where a table has what each one owns.
-pub(crate) fn owners_by_depth(
-    alloc: Global,
-    changes: &[Change],
-    dependents: &[Vec<Dependent>],
-) -> Result<Vec<Vec<usize>>, AllocError>
-    requires { length dependents.now ≡ length changes.now }
-    ensures { IfOk result (λ v. AreOwners changes.now dependents.now v.items) }
-{
-    let count = levels(changes);
-    let mut owners = empty_lists(alloc, count)?;
-    for owner in 0..changes.len() {
-        let owned = dependents[owner].as_slice();
-        if !owned.is_empty() {
-            push_owner(&mut owners, depth(&changes[owner]), owner)?;
-        }
+    let mut numbers = Vec::with_capacity(alloc, changes.len())?;
+    for number in 0..changes.len() {
+        numbers.push(number)?;
     }
-    Ok(owners)
+    numbers.sort_by_key(|number| depth_at(changes, *number))?;
+    Ok(numbers)
 }

@@ -1,6 +1,6 @@
 //! What each change gives, with what it owns carried out in its payload, and where registered elements stand in it.
 
-ghost use Rattle.std.specs.Prelude.{ℕ, None, [], ◌≡◌, ◌<◌, map, length, All, IfOk, OnOk};
+ghost use Rattle.std.specs.Prelude.{ℕ, None, [], ◌≡◌, ◌<◌, map, length, IfOk, OnOk};
 ghost use Rattle.cst_core.specs.Element.{subtree};
 ghost use Rattle.cst_core.specs.SyntaxElement.{element_of};
 ghost use Rattle.cst_core.specs.GreenElement.{element_tree};
@@ -10,13 +10,13 @@ ghost use Rattle.one_pass.specs.inner.Pass.{IsMarked, given_in};
 ghost use Rattle.edit_change.specs.Change.{payload};
 ghost use Rattle.edit_change.specs.NewTree.{payload_of};
 ghost use Rattle.one_pass.specs.inner.GivenTables.{element_rewritten, each_rewritten, FindsElement, IsMarkedEach};
-ghost use Rattle.one_pass.specs.inner.GivenTables.{HasPayloadMarks, FillsMarks, FillsLevel, FillsLevelMarks};
+ghost use Rattle.one_pass.specs.inner.GivenTables.{HasPayloadMarks, FillsMarks};
 ghost use Rattle.one_pass.specs.inner.GivenTables.{TellsGiven, TellsMarks};
-ghost use Rattle.one_pass.specs.inner.GivenTables.{CountsElement, CountsEach, CountsOwner, CountsLevel, CountsPayloads};
+ghost use Rattle.one_pass.specs.inner.GivenTables.{CountsElement, CountsEach, CountsOwner, CountsPayloads};
 ghost use Rattle.one_pass.specs.inner.Marks.{payload_sought};
 ghost use Rattle.one_pass.specs.inner.OwnerTables.{moved_dependent, IsFilled};
 
-use crate::by_depth::owners_by_depth;
+use crate::by_depth::by_depth;
 use crate::dependent::{Dependent, moved_aims};
 use crate::mark::Mark;
 use crate::marked_given::{GivenTable, MarkedGiven};
@@ -158,41 +158,11 @@ fn fill(
     Ok(())
 }
 
-// Enters what the owners of one depth give, where all that is deeper has been entered.
-fn fill_level(
-    alloc: Global,
-    filling: &mut Filling,
-    changes: &[Change],
-    dependents: &[Vec<Dependent>],
-    owners: &[usize],
-    index: &SoughtTable,
-) -> Result<(), AllocError>
-    requires owned { length dependents.now ≡ length changes.now }
-    requires there { All (λ c. c < length changes.now) owners.now }
-    requires long { length filling.now.given.entries.items ≡ length changes.now }
-    requires top { filling.now.given.top ≡ None }
-    ensures long { OnOk result (length filling.new.given.entries.items ≡ length changes.now) }
-    ensures top { OnOk result (filling.new.given.top ≡ None) }
-    ensures count { OnOk result
-        (CountsLevel changes.now dependents.now owners.now filling.old.builds filling.new.builds) }
-    ensures filled { OnOk result
-        (FillsLevel changes.now dependents.now owners.now filling.old.given filling.new.given) }
-    ensures marks { OnOk result
-        (FillsLevelMarks changes.now dependents.now index.now owners.now filling.old.given filling.new.given) }
-{
-    // For the proof: the count at the start.
-    let _count = filling.builds;
-    for owner in owners {
-        fill(alloc, filling, changes, *owner, &dependents[*owner], index)?;
-    }
-    Ok(())
-}
-
 /// What each change gives, by its number, with the marks of the elements that a table has, where another one has what
 /// each change owns. `builds` counts the nodes that are built in the owners' payloads.
 ///
-/// An owner comes after all that is deeper. Takes time linear in the changes and the depth of the deepest one, and what
-/// the passes through the owners' payloads take.
+/// An owner comes after all that is deeper. Takes time linear in the changes, but for sorting them by depth, and what the
+/// passes through the owners' payloads take.
 pub(crate) fn given_table<'a>(
     alloc: Global,
     changes: &'a [Change],
@@ -206,21 +176,19 @@ pub(crate) fn given_table<'a>(
     ensures given { IfOk result (TellsGiven changes.now dependents.now) }
     ensures marks { IfOk result (TellsMarks changes.now dependents.now index.now) }
 {
-    let owners = owners_by_depth(alloc, changes, dependents)?;
+    let order = by_depth(alloc, changes)?;
     let given = payloads(alloc, changes, index)?;
     let mut filling = Filling {
         given,
         builds: *builds,
     };
-    for level in (0..owners.len()).rev() {
-        fill_level(
-            alloc,
-            &mut filling,
-            changes,
-            dependents,
-            &owners[level],
-            index,
-        )?;
+    for place in (0..order.len()).rev() {
+        let owner = order[place];
+        let owned = dependents[owner].as_slice();
+        if owned.is_empty() {
+            continue;
+        }
+        fill(alloc, &mut filling, changes, owner, owned, index)?;
     }
     *builds = filling.builds;
     Ok(filling.given)

@@ -1,32 +1,19 @@
 //! Nodes that are made anew, each inside the one before it.
 
-ghost use Rattle.std.specs.Prelude.{◌≡◌, ◌≤◌, ◌<◌, ◌+◌, ◌∷◌, [], ◌++◌, ℕ, suc, true, false, length, IfOk, OnOk, MatchOption};
-ghost use Rattle.std.specs.List.{list_any};
-ghost use Rattle.green_tree.specs.Path.{Path};
+ghost use Rattle.std.specs.Prelude.{◌≡◌, ◌≤◌, ◌<◌, ◌+◌, ◌∷◌, [], ◌++◌, suc, length, IfOk, OnOk, MatchOption};
 ghost use Rattle.green_tree.specs.Tree.{node};
-ghost use Rattle.green_tree.specs.Green.{Branch, branch_tree};
-ghost use Rattle.green_tree.specs.inner.TreeSize.{branch_size};
 ghost use Rattle.green_tree.specs.GreenElement.{element_tree, element_trees};
-ghost use Rattle.green_tree.specs.declared.green.GreenElement.TheVariants.{Node};
 ghost use Rattle.green_tree.specs.Count.{counted};
-ghost use Rattle.edit_change.specs.Rewriting.{rewritten};
-ghost use Rattle.edit_change.specs.inner.Aimed.{aims_of, has_parent, formed, alter_below};
-ghost use Rattle.edit_change.specs.inner.KindOnly.{kind_only};
-ghost use Rattle.one_pass.specs.inner.Built.{nodes_built};
-ghost use Rattle.one_pass.specs.inner.Groups.{AreGrouped};
-ghost use Rattle.one_pass.specs.inner.Marked.{sought_in, AreDealt};
-ghost use Rattle.one_pass.specs.inner.Pass.{given_in};
-ghost use Rattle.one_pass.specs.inner.OpenNodes.{opens, next_aims, next_sought, IsOpened, PutsOn, PutsMade, FindsOn, FindsMade, FindsOpened};
-ghost use Rattle.one_pass.specs.inner.OpenNodes.{FindsWholeNode, to_build, to_do, whole};
+ghost use Rattle.one_pass.specs.inner.Marked.{sought_in};
+ghost use Rattle.one_pass.specs.inner.Sweep.{seen_at, From};
+ghost use Rattle.one_pass.specs.inner.OpenNodes.{InOrder, IsNodeOpened, IsFurther, IsShared, PutsNext, IsPassed, IsToOpen, IsLeft, IsEnded, IsNext};
+ghost use Rattle.one_pass.specs.inner.OpenNodes.{Enters, PutsMade, FindsWholeNode, to_build, whole};
 
-use crate::aim_list::{aims_below, aims_by_child, alter_below, is_replaced};
 use crate::mark::{Sought, marks_by_child, push_here, sought_for};
 use crate::marked_given::GivenTable;
-use crate::node_children::NodeChildren;
 use crate::open_node::OpenNode;
-use crate::place::Place;
-use crate::pushes::{Child, push_changes, push_turn};
-use crate::runs::{is_quiet, push_run};
+use crate::pushes::{push_change, push_child};
+use crate::site::{Site, one_deeper, run_inside, site_of};
 use crate::walk::Walk;
 use edit_change::Aimed;
 use green_tree::{GreenElement, GreenNode, SyntaxKind};
@@ -46,207 +33,216 @@ fn build_node(
     Ok(GreenElement::Node(GreenNode::capped(alloc, kind, children)?))
 }
 
-// The children of a node, each with those of the aims and the sought marks that concern it.
-fn children_of<'e, 'a, 's>(
-    alloc: Global,
-    node: &'e GreenNode,
-    aims: &[Aimed<'a>],
-    sought: &[Sought<'s>],
-) -> Result<NodeChildren<'e, 'a, 's>, AllocError>
-    ensures elements { IfOk result (λ c. element_trees c.elements.now ≡ node.now.children) }
-    ensures groups { IfOk result (λ c. AreGrouped aims.now (length c.elements.now) c.groups) }
-    ensures lists { IfOk result (λ c. AreDealt (sought_in sought.now) (length c.elements.now) c.lists.items) }
-{
-    let elements = node.children();
-    let groups = aims_by_child(alloc, aims, elements.len())?;
-    let lists = marks_by_child(alloc, sought, elements.len())?;
-    Ok(NodeChildren {
-        elements,
-        groups,
-        lists,
-    })
-}
-
-/// A node whose children some aim alters, or those of a node below it, is opened, where it is made at the walk's path.
-pub fn open_node<'e, 'a, 's>(
+/// A node is opened, at a depth, where it is made at the walk's path. All aims are inside it.
+pub fn open_node<'e, 'a, 's, 'm>(
     alloc: Global,
     walk: &mut Walk,
     node: &'e GreenNode,
-    aims: &[Aimed<'a>],
-    sought: &[Sought<'s>],
-    given: &GivenTable,
-) -> Result<OpenNode<'e, 'a, 's>, AllocError>
-    requires { list_any has_parent (aims_of aims.now) ≡ true }
+    depth: usize,
+    aims: &'s [Aimed<'a>],
+    sought: &[Sought<'m>],
+) -> Result<OpenNode<'e, 'a, 's, 'm>, AllocError>
     ensures path { OnOk result (walk.new.path.items ≡ walk.old.path.items) }
     ensures count { OnOk result (walk.new.builds ≡ walk.old.builds) }
-    ensures tree { IfOk result (λ f. whole given.now f
-        ≡ rewritten kind_only (given_in given.now) (aims_of aims.now) [] (branch_tree node.now)) }
-    ensures marks { IfOk result
-        (λ f. FindsOpened given.now walk.old walk.new f (aims_of aims.now) (sought_in sought.now) node.now) }
-    ensures built { IfOk result
-        (λ f. suc (to_build f.children f.slot) ≡ nodes_built (aims_of aims.now) (branch_tree node.now)) }
-    ensures size { IfOk result (λ f. to_do f.children f.slot + 1 ≡ branch_size node.now) }
+    ensures opened { IfOk result (IsNodeOpened node.now depth aims.now (sought_in sought.now) walk.old walk.new) }
 {
     push_here(alloc, &mut walk.found, &walk.path, sought)?;
-    let children = children_of(alloc, node, aims, sought)?;
-    let mut out = Vec::with_capacity(alloc, children.elements.len())?;
-    push_changes(alloc, walk, &mut out, given, aims, Place::Gap(0))?;
+    let elements = node.children();
+    let lists = marks_by_child(alloc, sought, elements.len())?;
+    let out = Vec::with_capacity(alloc, elements.len())?;
     Ok(OpenNode {
         kind: node.kind(),
-        children,
+        elements,
+        depth,
+        aims,
+        lists,
         out,
         slot: 0,
+        passed: 0,
     })
 }
 
-// The child that the open node has come to is opened.
-fn open_child<'e, 'a, 's>(
-    alloc: Global,
-    walk: &mut Walk,
-    above: &OpenNode<'e, 'a, 's>,
-    node: &'e GreenNode,
-    given: &GivenTable,
-) -> Result<OpenNode<'e, 'a, 's>, AllocError>
-    requires { IsOpened above.now.children above.now.slot node.now }
-    ensures path { OnOk result (walk.new.path.items ≡ walk.old.path.items ++ length above.now.out.items ∷ []) }
-    ensures count { OnOk result (walk.new.builds ≡ walk.old.builds) }
-    ensures tree { IfOk result (λ f. whole given.now f
-        ≡ rewritten kind_only (given_in given.now) (next_aims above.now) [] (branch_tree node.now)) }
-    ensures marks { IfOk result (λ f. FindsOpened given.now walk.old walk.new f (next_aims above.now)
-        (next_sought above.now) node.now) }
-    ensures built { IfOk result
-        (λ f. suc (to_build f.children f.slot) ≡ nodes_built (next_aims above.now) (branch_tree node.now)) }
-    ensures size { IfOk result (λ f. to_do f.children f.slot + 1 ≡ branch_size node.now) }
-{
-    let slot = above.slot;
-    let aims = aims_below(alloc, above.children.groups.at(slot), slot)?;
-    walk.path.push(above.out.len())?;
-    open_node(
-        alloc,
-        walk,
-        node,
-        &aims,
-        sought_for(&above.children.lists, slot),
-        given,
-    )
-}
-
-// The node that a child is, if it has to be made anew.
-fn opened<'a>(element: &'a GreenElement, aims: &[Aimed], slot: usize) -> Option<&'a GreenNode>
-    ensures { MatchOption result
-        (opens aims.now slot element.now ≡ false)
-        (λ n. (element.now ≡ Node n.now) × (opens aims.now slot (Node n.now) ≡ true)) }
-{
-    match element {
-        GreenElement::Node(node) if !is_replaced(aims, slot) && alter_below(aims, slot) => {
-            Some(node)
-        }
-        _ => None,
-    }
-}
-
-// The children from a slot up to the next one that has to be made anew, if there is one, are put.
-fn push_on<'e>(
-    alloc: Global,
-    walk: &mut Walk,
-    children: &NodeChildren<'e, '_, '_>,
-    slot: &mut usize,
-    out: &mut Vec<GreenElement>,
-    given: &GivenTable,
-) -> Result<Option<&'e GreenNode>, AllocError>
-    ensures path { OnOk result (walk.new.path.items ≡ walk.old.path.items) }
-    ensures count { OnOk result (walk.new.builds ≡ walk.old.builds) }
-    ensures trees { OnOk result (PutsOn children.now given.now slot.old out.old slot.new out.new) }
-    ensures marks { OnOk result
-        (FindsOn children.now given.now walk.old.path.items walk.old walk.new slot.old out.old slot.new out.new) }
-    ensures built { OnOk result (to_build children.now slot.new ≡ to_build children.now slot.old) }
-    ensures size { OnOk result (to_do children.now slot.new ≤ to_do children.now slot.old) }
-    ensures next { IfOk result
-        (λ r. MatchOption r (length children.now.elements.now ≤ slot.new) (λ n. IsOpened children.now slot.new n.now)) }
-{
-    while *slot < children.elements.len() {
-        if is_quiet(children, *slot) {
-            push_run(alloc, children, slot, out)?;
-            continue;
-        }
-        let element = &children.elements[*slot];
-        let child = Child {
-            element,
-            slot: *slot,
-            aims: children.groups.at(*slot),
-            sought: sought_for(&children.lists, *slot),
-        };
-        if let Some(node) = opened(element, child.aims, *slot) {
-            return Ok(Some(node));
-        }
-        let next = *slot + 1;
-        push_turn(alloc, walk, out, child, next, given)?;
-        *slot = next;
-    }
-    Ok(None)
-}
-
-// The child in the slot, which was made at the walk's path, goes after those before it, with the gap after it. The walk
-// is at the node again.
-fn push_made(
-    alloc: Global,
-    walk: &mut Walk,
-    children: &NodeChildren<'_, '_, '_>,
-    slot: &mut usize,
-    out: &mut Vec<GreenElement>,
-    made: GreenElement,
-    given: &GivenTable,
-) -> Result<(), AllocError>
-    requires { slot.old < length children.now.elements.now }
-    ensures path { OnOk result
-        ((p : Path) (n : ℕ) → walk.old.path.items ≡ p ++ n ∷ [] → walk.new.path.items ≡ p) }
-    ensures count { OnOk result (walk.new.builds ≡ walk.old.builds) }
-    ensures next { OnOk result (slot.new ≡ slot.old + 1) }
-    ensures trees { OnOk result (PutsMade children.now given.now slot.old out.old made out.new) }
-    ensures marks { OnOk result
-        ((p : Path) (n : ℕ) → walk.old.path.items ≡ p ++ n ∷ [] →
-        FindsMade children.now given.now p walk.old walk.new slot.old out.old out.new) }
+// The child in the slot is shared, if it stays, where nothing aims at it or before it.
+fn share_next(alloc: Global, walk: &mut Walk, top: &mut OpenNode) -> Result<(), AllocError>
+    requires within { top.old.slot < length top.old.elements.now }
+    requires ahead { From (suc (suc (top.old.slot + top.old.slot))) (seen_at top.old.depth top.old.aims.now) }
+    ensures { OnOk result (IsShared (top.old.slot + 1) walk.old walk.new top.old top.new) }
 {
     // For the proof: there is a number for the next slot.
-    let _count = children.elements.len();
-    walk.path.pop();
-    out.push(made)?;
-    let next = *slot + 1;
-    push_changes(
-        alloc,
-        walk,
-        out,
-        given,
-        children.groups.at(*slot),
-        Place::Gap(next),
-    )?;
-    *slot = next;
+    let _count = top.elements.len();
+    let slot = top.slot;
+    top.slot = slot + 1;
+    if slot < top.passed {
+        return Ok(());
+    }
+    let elements = top.elements;
+    let sought = sought_for(&top.lists, slot);
+    push_child(alloc, walk, &mut top.out, &elements[slot], sought)?;
     Ok(())
 }
 
-// A node whose children are made.
-fn close(
+// The children before a slot that are still to come are shared, where nothing aims before it.
+fn share_until(
     alloc: Global,
-    full: OpenNode<'_, '_, '_>,
-    builds: &mut u64,
-) -> Result<GreenElement, AllocError>
-    ensures count { builds.new ≡ counted builds.old 1 }
-    ensures tree { IfOk result (λ e. element_tree e ≡ node full.entry.kind.0 (element_trees full.entry.out.items)) }
+    walk: &mut Walk,
+    top: &mut OpenNode,
+    until: usize,
+) -> Result<(), AllocError>
+    requires within { until ≤ length top.old.elements.now }
+    requires next { top.old.slot ≤ until }
+    requires ahead { From (until + until) (seen_at top.old.depth top.old.aims.now) }
+    ensures { OnOk result (IsShared until walk.old walk.new top.old top.new) }
 {
-    build_node(alloc, full.kind, full.out, builds)
+    while top.slot < until {
+        share_next(alloc, walk, top)?;
+    }
+    Ok(())
+}
+
+// The child in the slot, if it is a node that stays.
+fn child_to_open<'e>(top: &OpenNode<'e, '_, '_, '_>) -> Option<&'e GreenNode>
+    requires { top.now.slot < length top.now.elements.now }
+    ensures { MatchOption result (IsPassed top.now) (λ n. IsToOpen top.now n.now) }
+{
+    if top.slot < top.passed {
+        return None;
+    }
+    let elements = top.elements;
+    match &elements[top.slot] {
+        GreenElement::Node(node) => Some(node),
+        GreenElement::Token(_) => None,
+    }
+}
+
+// The change of the next aim is put.
+fn put_next(
+    alloc: Global,
+    walk: &mut Walk,
+    top: &mut OpenNode,
+    given: &GivenTable,
+) -> Result<(), AllocError>
+    requires { 0 < length top.old.aims.now }
+    ensures { OnOk result (PutsNext given.now walk.old walk.new top.old top.new) }
+{
+    let [aim, rest @ ..] = top.aims else {
+        unreachable!()
+    };
+    let change = aim.change;
+    top.aims = rest;
+    push_change(alloc, walk, &mut top.out, given, change)?;
+    Ok(())
+}
+
+// What is due to the next aim is put, with the children before it; or these alone, where the aim is inside a child that has
+// to be made anew.
+fn take_aim<'e>(
+    alloc: Global,
+    walk: &mut Walk,
+    top: &mut OpenNode<'e, '_, '_, '_>,
+    given: &GivenTable,
+) -> Result<Option<&'e GreenNode>, AllocError>
+    requires order { InOrder top.old }
+    requires some { 0 < length top.old.aims.now }
+    ensures further { OnOk result (IsFurther given.now walk.old walk.new top.old top.new) }
+    ensures next { IfOk result
+        (λ r. MatchOption r (IsLeft top.old top.new) (λ n. IsNext top.new n.now)) }
+{
+    let [aim, rest @ ..] = top.aims else {
+        unreachable!()
+    };
+    match site_of(aim, top.depth, top.elements.len()) {
+        Site::Gap(gap) => {
+            share_until(alloc, walk, top, gap)?;
+            put_next(alloc, walk, top, given)?;
+            Ok(None)
+        }
+        Site::Slots(first, count) => {
+            share_until(alloc, walk, top, first)?;
+            put_next(alloc, walk, top, given)?;
+            top.passed = top.passed.max(first.saturating_add(count));
+            Ok(None)
+        }
+        Site::Below(slot) => {
+            share_until(alloc, walk, top, slot)?;
+            if let Some(node) = child_to_open(top) {
+                return Ok(Some(node));
+            }
+            top.aims = rest;
+            Ok(None)
+        }
+        Site::Nowhere => {
+            top.aims = rest;
+            Ok(None)
+        }
+    }
+}
+
+// What is due to aims is put, up to the next child that has to be made anew, or to the end if there is none.
+fn push_on<'e>(
+    alloc: Global,
+    walk: &mut Walk,
+    top: &mut OpenNode<'e, '_, '_, '_>,
+    given: &GivenTable,
+) -> Result<Option<&'e GreenNode>, AllocError>
+    requires { InOrder top.old }
+    ensures further { OnOk result (IsFurther given.now walk.old walk.new top.old top.new) }
+    ensures next { IfOk result
+        (λ r. MatchOption r (IsEnded top.new) (λ n. IsNext top.new n.now)) }
+{
+    while !top.aims.is_empty() {
+        if let Some(node) = take_aim(alloc, walk, top, given)? {
+            return Ok(Some(node));
+        }
+    }
+    let count = top.elements.len();
+    share_until(alloc, walk, top, count)?;
+    Ok(None)
+}
+
+// The child that a node has come to is opened, with the aims inside it. Those after it stay.
+fn open_child<'e, 'a, 's, 'm>(
+    alloc: Global,
+    walk: &mut Walk,
+    above: &mut OpenNode<'e, 'a, 's, 'm>,
+    node: &'e GreenNode,
+) -> Result<OpenNode<'e, 'a, 's, 'm>, AllocError>
+    requires { IsNext above.old node.now }
+    ensures path { OnOk result (walk.new.path.items ≡ walk.old.path.items ++ length above.old.out.items ∷ []) }
+    ensures count { OnOk result (walk.new.builds ≡ walk.old.builds) }
+    ensures entered { IfOk result (Enters node.now walk.old walk.new above.old above.new) }
+{
+    let aims = above.aims;
+    let depth = one_deeper(&aims[0], above.depth);
+    let end = run_inside(aims, above.depth, above.slot);
+    let inside = &aims[..end];
+    above.aims = &aims[end..];
+    walk.path.push(above.out.len())?;
+    let sought = sought_for(&above.lists, above.slot);
+    open_node(alloc, walk, node, depth, inside, sought)
+}
+
+// The child in the slot, which was made at the walk's path, goes after what is made before it. The walk is at the node again.
+fn push_made(walk: &mut Walk, top: &mut OpenNode, made: GreenElement) -> Result<(), AllocError>
+    requires { top.old.slot < length top.old.elements.now }
+    ensures { OnOk result (PutsMade made walk.old walk.new top.old top.new) }
+{
+    walk.path.pop();
+    top.out.push(made)?;
+    top.slot += 1;
+    Ok(())
 }
 
 /// What an open node becomes, where it is made at the walk's path. The nodes that have to be made below it are opened
 /// and closed one after another, and those above the one that is open wait in a list, so that depth takes no stack.
-pub fn rewrite_open<'e, 'a, 's>(
+pub fn rewrite_open(
     alloc: Global,
     walk: &mut Walk,
-    first: OpenNode<'e, 'a, 's>,
+    first: OpenNode,
     given: &GivenTable,
 ) -> Result<GreenElement, AllocError>
+    requires { InOrder first }
     ensures path { OnOk result (walk.new.path.items ≡ walk.old.path.items) }
-    ensures count { OnOk result
-        (walk.new.builds ≡ counted walk.old.builds (suc (to_build first.entry.children first.entry.slot))) }
+    ensures count { OnOk result (walk.new.builds ≡ counted walk.old.builds (suc (to_build first.entry))) }
     ensures tree { IfOk result (λ e. element_tree e ≡ whole given.now first.entry) }
     ensures marks { OnOk result (FindsWholeNode given.now walk.old walk.new first.entry) }
 {
@@ -254,33 +250,17 @@ pub fn rewrite_open<'e, 'a, 's>(
     let mut top = first;
     'nodes: loop {
         let open = &mut top;
-        if let Some(node) = push_on(
-            alloc,
-            walk,
-            &open.children,
-            &mut open.slot,
-            &mut open.out,
-            given,
-        )? {
-            let inner = open_child(alloc, walk, &top, node, given)?;
+        if let Some(node) = push_on(alloc, walk, open, given)? {
+            let inner = open_child(alloc, walk, &mut top, node)?;
             above.push(top)?;
             top = inner;
             continue 'nodes;
         }
-        let made = close(alloc, top, &mut walk.builds)?;
+        let made = build_node(alloc, top.kind, top.out, &mut walk.builds)?;
         let Some(next) = above.pop() else {
             return Ok(made);
         };
         top = next;
-        let open = &mut top;
-        push_made(
-            alloc,
-            walk,
-            &open.children,
-            &mut open.slot,
-            &mut open.out,
-            made,
-            given,
-        )?;
+        push_made(walk, &mut top, made)?;
     }
 }

@@ -5,13 +5,12 @@ ghost use Rattle.green_tree.specs.GreenElement.{element_tree, element_trees};
 ghost use Rattle.one_pass.specs.inner.Pass.{TouchesAtMost, CountsBuilt, CountsBuiltWhole, CountsTouched};
 ghost use Rattle.one_pass.specs.inner.Pass.{green_rewritten, green_rewritten_whole, FindsRewritten, FindsWhole};
 
-use crate::aim_list::{alter_some, top_is_replaced};
+use crate::aim_list::{alter_some, in_order, top_is_replaced};
 use crate::kept::push_kept;
 use crate::mark::{Mark, Sought, push_here};
 use crate::marked_given::GivenTable;
 use crate::open_nodes::{open_node, rewrite_open};
-use crate::place::Place;
-use crate::pushes::push_changes;
+use crate::pushes::push_tops;
 use crate::walk::Walk;
 use edit_change::Aimed;
 use green_tree::GreenElement;
@@ -50,7 +49,8 @@ pub fn rewrite_element(
         push_here(alloc, &mut walk.found, &walk.path, sought)?;
         return element.share(alloc);
     };
-    let top = open_node(alloc, walk, node, aims, sought, given)?;
+    let sorted = in_order(alloc, aims)?;
+    let top = open_node(alloc, walk, node, 0, &sorted, sought)?;
     rewrite_open(alloc, walk, top, given)
 }
 
@@ -81,7 +81,7 @@ pub fn rewrite_whole(
     let mut elements = Vec::new(alloc);
     let mut walk = Walk::begin(alloc, *builds);
     if top_is_replaced(aims) {
-        push_changes(alloc, &mut walk, &mut elements, given, aims, Place::Top)?;
+        push_tops(alloc, &mut walk, &mut elements, given, aims)?;
     } else {
         walk.path.push(0)?;
         elements.push(rewrite_element(alloc, &mut walk, element, aims, sought, given)?)?;

@@ -1,32 +1,19 @@
 //! What is put after the children that a new node has so far.
 
-ghost use Rattle.std.specs.Prelude.{◌≡◌, ◌+◌, false, [], ◌∷◌, flat_map, OnOk};
+ghost use Rattle.std.specs.Prelude.{◌≡◌, [], ◌∷◌, flat_map, OnOk};
 ghost use Rattle.green_tree.specs.GreenElement.{element_tree};
 ghost use Rattle.edit_change.specs.inner.Given.{given_trees};
-ghost use Rattle.one_pass.specs.inner.Pass.{given_in, Puts, FindsGiven, FindsChange, FindsAll, FindsChild, changes_at};
-ghost use Rattle.one_pass.specs.inner.Pass.{PutsSlot, FindsSlot};
-ghost use Rattle.one_pass.specs.inner.OpenNodes.{opens, PutsTurn, FindsTurn};
+ghost use Rattle.one_pass.specs.inner.Pass.{given_in, Puts, FindsGiven, FindsChange, FindsAll, FindsChild};
+ghost use Rattle.edit_change.specs.Rewriting.{replacements_at};
+ghost use Rattle.edit_change.specs.inner.Aimed.{aims_of};
 
-use crate::aim_list::is_replaced;
 use crate::kept::push_kept;
 use crate::mark::Sought;
 use crate::marked_given::{GivenTable, MarkedGiven};
-use crate::place::Place;
 use crate::walk::Walk;
 use edit_change::Aimed;
 use green_tree::GreenElement;
 use std::alloc::{AllocError, Global};
-
-/// A child of a node, with what concerns it.
-#[derive(Clone, Copy)]
-pub struct Child<'a> {
-    pub element: &'a GreenElement,
-    pub slot: usize,
-    /// The aims at the child, below it, or in the gap after it, as they are seen from the node.
-    pub aims: &'a [Aimed<'a>],
-    /// The marks sought in the child, as they are seen from it.
-    pub sought: &'a [Sought<'a>],
-}
 
 // What a change gives goes after the children that the node at the walk's path has so far, with its marks.
 fn push_given(
@@ -50,8 +37,8 @@ fn push_given(
     Ok(())
 }
 
-// The same of a change by its number.
-fn push_change(
+/// What a change gives, by its number.
+pub fn push_change(
     alloc: Global,
     walk: &mut Walk,
     out: &mut Vec<GreenElement>,
@@ -70,31 +57,32 @@ fn push_change(
     Ok(())
 }
 
-/// What changes give at a place, in the order in which their aims are listed.
-pub fn push_changes(
+/// What the changes give that replace the top, one after another.
+pub fn push_tops(
     alloc: Global,
     walk: &mut Walk,
     out: &mut Vec<GreenElement>,
     given: &GivenTable,
     aims: &[Aimed],
-    place: Place,
 ) -> Result<(), AllocError>
     ensures path { OnOk result (walk.new.path.items ≡ walk.old.path.items) }
     ensures count { OnOk result (walk.new.builds ≡ walk.old.builds) }
-    ensures trees { OnOk result (Puts out.old out.new (flat_map (given_in given.now) (changes_at aims.now place))) }
-    ensures marks { OnOk result (FindsAll walk.old out.old walk.new given.now (changes_at aims.now place)) }
+    ensures trees { OnOk result
+        (Puts out.old out.new (flat_map (given_in given.now) (replacements_at (aims_of aims.now) []))) }
+    ensures marks { OnOk result
+        (FindsAll walk.old out.old walk.new given.now (replacements_at (aims_of aims.now) [])) }
 {
     for aim in aims {
-        if place.has(aim) {
+        if aim.replaces_top() {
             push_change(alloc, walk, out, given, aim.change())?;
         }
     }
     Ok(())
 }
 
-// A child that nothing alters goes after the children that the node at the walk's path has so far, with the marks
-// sought in it. Where there are none, it is not looked into.
-fn push_child(
+/// A child that nothing alters goes after the children that the node at the walk's path has so far, with the marks
+/// sought in it. Where there are none, it is not looked into.
+pub fn push_child(
     alloc: Global,
     walk: &mut Walk,
     out: &mut Vec<GreenElement>,
@@ -113,54 +101,4 @@ fn push_child(
     }
     out.push(child.share(alloc)?)?;
     Ok(())
-}
-
-// What stands in the slot of a child that is not made anew.
-fn push_in_slot(
-    alloc: Global,
-    walk: &mut Walk,
-    out: &mut Vec<GreenElement>,
-    child: Child<'_>,
-    given: &GivenTable,
-) -> Result<(), AllocError>
-    requires { opens child.aims.now child.slot child.element.now ≡ false }
-    ensures path { OnOk result (walk.new.path.items ≡ walk.old.path.items) }
-    ensures count { OnOk result (walk.new.builds ≡ walk.old.builds) }
-    ensures trees { OnOk result (PutsSlot child.entry given.now out.old out.new) }
-    ensures marks { OnOk result (FindsSlot child.entry given.now walk.old out.old walk.new) }
-{
-    let Child {
-        element,
-        slot,
-        aims,
-        sought,
-    } = child;
-    if is_replaced(aims, slot) {
-        return push_changes(alloc, walk, out, given, aims, Place::Slot(slot));
-    }
-    push_child(alloc, walk, out, element, sought)
-}
-
-/// What stands in the slot of such a child and in the gap after it, which is before the next slot.
-pub fn push_turn(
-    alloc: Global,
-    walk: &mut Walk,
-    out: &mut Vec<GreenElement>,
-    child: Child<'_>,
-    next: usize,
-    given: &GivenTable,
-) -> Result<(), AllocError>
-    requires stays { opens child.aims.now child.slot child.element.now ≡ false }
-    requires next { next ≡ child.slot + 1 }
-    ensures path { OnOk result (walk.new.path.items ≡ walk.old.path.items) }
-    ensures count { OnOk result (walk.new.builds ≡ walk.old.builds) }
-    ensures trees { OnOk result (PutsTurn child.entry given.now out.old out.new) }
-    ensures marks { OnOk result (FindsTurn child.entry given.now walk.old out.old walk.new) }
-{
-    // No aim concerns most children that come here for their marks.
-    if child.aims.is_empty() {
-        return push_child(alloc, walk, out, child.element, child.sought);
-    }
-    push_in_slot(alloc, walk, out, child, given)?;
-    push_changes(alloc, walk, out, given, child.aims, Place::Gap(next))
 }

@@ -9,7 +9,8 @@ ghost use Rattle.edit_change.specs.Nesting.{first_clash};
 ghost use Rattle.edit_change.specs.NewTree.{independents};
 ghost use Rattle.edit_change.specs.inner.Aimed.{aims_of};
 ghost use Rattle.edit_change.specs.inner.Fate.{fate};
-ghost use Rattle.edit_change.specs.inner.TargetTable.{IsTargetTable};
+ghost use Rattle.edit_change.specs.inner.DocumentOrder.{IsDocumentOrder};
+ghost use Rattle.edit_change.specs.inner.Targets.{target_at};
 ghost use Rattle.one_pass.specs.inner.Root.{CountsAllOf, IsOnePassOf, KeepsTop};
 ghost use Rattle.one_pass.specs.inner.Root.{root_rewritten, FindsInRoot, CountsRoot};
 
@@ -20,9 +21,7 @@ use crate::marked_given::GivenTable;
 use crate::pass::{RewrittenElements, rewrite_whole};
 use crate::sought::SoughtTable;
 use cst_core::{GreenNode, SyntaxElement, SyntaxNode};
-use edit_change::{
-    Aimed, Change, Fate, Planned, TargetTable, node_for_root, numbered_aim, only_node,
-};
+use edit_change::{Aimed, Change, Fate, Planned, node_for_root, numbered_aim, only_node};
 use std::alloc::{AllocError, Global};
 
 /// What one pass makes of a tree.
@@ -51,7 +50,7 @@ pub fn rewrite(
     requires node { IsNode planned.root.now }
     requires fit { All (Fits planned.root.now) planned.changes.now }
     requires apart { first_clash planned.changes.now ≡ None }
-    requires targets { IsTargetTable planned.changes.now planned.targets.now }
+    requires order { IsDocumentOrder planned.changes.now planned.order.now }
     requires fates { planned.fates.now ≡ map (fate planned.changes.now) planned.changes.now }
     requires places { length planned.places.now ≡ length planned.changes.now }
     ensures made { IfOk result (IsOnePassOf planned.entry registered.now) }
@@ -60,7 +59,7 @@ pub fn rewrite(
     let Planned {
         root,
         changes,
-        targets,
+        order: _,
         fates,
         places,
     } = planned;
@@ -72,7 +71,7 @@ pub fn rewrite(
     let RewrittenElements { elements, marks } = rewritten_root(
         alloc, root, &aims, &index, &given, builds,
     )?;
-    keep_top(root, changes, targets);
+    keep_top(root, changes);
     let paths = mark_paths(alloc, marks, registered.len())?;
     Ok(OnePass {
         green: only_node(elements),
@@ -120,17 +119,23 @@ fn rewritten_root(
     Ok(rewritten)
 }
 
+// The change that replaces the root, if one does.
+fn root_replacement(changes: &[Change]) -> Option<usize>
+    ensures { result ≡ target_at changes.now [] }
+{
+    changes.iter().position(|change| change.replaces_root())
+}
+
 // One node stands in the place of the root: the root itself, or the node that replaces it.
-fn keep_top(root: &SyntaxNode, changes: &[Change], targets: &TargetTable)
+fn keep_top(root: &SyntaxNode, changes: &[Change])
     requires node { IsNode root.now }
     requires fit { All (Fits root.now) changes.now }
     requires apart { first_clash changes.now ≡ None }
-    requires targets { IsTargetTable changes.now targets.now }
     ensures { KeepsTop root.now changes.now }
 {
-    // For the proof: the contract speaks of the root, and the code needs the table alone.
+    // For the proof: the contract speaks of the root, and the code needs the changes alone.
     let _ = root;
-    if let Some(change) = targets.get(&[]) {
+    if let Some(change) = root_replacement(changes) {
         // For the proof: it brings one node.
         let _ = node_for_root(&changes[change]);
     }

@@ -248,7 +248,7 @@ pub fn text_edits(alloc: Global, planned: Planned<'_>) -> Result<Vec<TextEdit>, 
     let Planned {
         root,
         changes,
-        targets: _,
+        order: _,
         fates,
         places,
     } = planned;

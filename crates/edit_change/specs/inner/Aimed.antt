@@ -4,16 +4,13 @@
 --     FormedAim, formed                the number of a change, a path, and the form in which it aims from there
 --     option_formed, of_formed      the same of an aim that may not be there; the numbered aim that it stands for
 --     numbered, aims_of             the numbered aim that it stands for; those of a list
---     reaches, concerns             an aim leads to this child or below, or replaces the child
 --     some_path                     there is a path among these
 --     has_parent                    it alters the children of some node
 --     seen_from, formed_below       an aim at a child slot or below, with that slot dropped; of these aims those that there are
 --     and_those                     one more of these, if it is there
---     alter_below                   some aim, as it is seen from a child slot, alters the children of a node
-use Rattle.std.specs.Prelude.{◌||◌, ℕ, zero, suc, Bool, true, false, cond, nat_eq, List, [], ◌∷◌, ◌++◌, map, Option, Some, None, option_map}
-use Rattle.green_tree.specs.Path.{has_path, Path, parent_path, last_slot, counted_from}
+use Rattle.std.specs.Prelude.{ℕ, zero, suc, Bool, true, false, cond, nat_eq, List, [], ◌∷◌, ◌++◌, map, Option, Some, None, option_map}
+use Rattle.green_tree.specs.Path.{Path, parent_path, last_slot, counted_from}
 use Rattle.edit_change.specs.Aim.{Aim, FirstIn, AfterElement, Over, parents}
-use Rattle.std.specs.List.{list_any}
 use Rattle.edit_change.specs.Rewriting.{NumberedAim}
 use Rattle.edit_change.specs.declared.aimed.AimForm.{AimForm}
 use Rattle.edit_change.specs.declared.aimed.AimForm.TheVariants as form
@@ -71,17 +68,3 @@ and_those (Some a) xs = a ∷ xs
 abbrev pub formed_below : ℕ → List FormedAim → List FormedAim
 formed_below i [] = []
 formed_below i (a ∷ xs) = and_those (seen_from i a) (formed_below i xs)
-
-abbrev pub alter_below : ℕ → List FormedAim → Bool
-alter_below i xs = list_any has_parent (map of_formed (formed_below i xs))
-
--- ---- which aims matter for a child of the top and for the gap after it
-abbrev pub reaches : ℕ → Path → AimForm → Bool
-reaches i [] w = false
-reaches i (j ∷ q) form.FirstIn = nat_eq i j
-reaches i (j ∷ q) form.AfterElement = nat_eq i j
-reaches i (j ∷ []) (form.Over n) = nat_eq i j || has_path (map (λ s. s ∷ []) (counted_from j n)) (i ∷ [])
-reaches i (j ∷ k ∷ q) (form.Over n) = nat_eq i j
-
-abbrev pub concerns : ℕ → Aimed → Bool
-concerns i a = reaches i a.path.now a.form

@@ -1,13 +1,9 @@
 -- What becomes of a change in a plan.
 --     by_owner                      by its owner, of a change that is not dropped
 --     fate                          among these changes
---     drops_at, fate_within         a dropping region has this path; the fate of a change that these paths are around
 --     owner_in, is_dropped_in, is_independent_in    what a fate says
-use Rattle.std.specs.Prelude.{ℕ, Bool, true, false, cond, not, List, filter_map, slice_get, Option, Some, None}
-use Rattle.std.specs.List.{list_any}
-use Rattle.std.specs.Option.{option_map_or}
-use Rattle.cst_core.specs.Path.{Path, last_item}
-use Rattle.edit_change.specs.Nesting.{is_keeping, is_dropped, region_at, owner}
+use Rattle.std.specs.Prelude.{ℕ, Bool, true, false, cond, List, Option, Some, None}
+use Rattle.edit_change.specs.Nesting.{is_dropped, owner}
 use Rattle.edit_change.specs.declared.change.Change.{Change}
 use Rattle.edit_change.specs.declared.fate.Fate.{Fate}
 use Rattle.edit_change.specs.declared.fate.Fate.TheVariants.{Independent, Dropped, Owned}
@@ -18,12 +14,6 @@ by_owner (Some d) = Owned d
 
 abbrev pub fate : List Change → Change → Fate
 fate cs c = cond (is_dropped cs c) Dropped (by_owner (owner cs c))
-
-abbrev pub drops_at : List Change → Path → Bool
-drops_at cs p = option_map_or (λ n. option_map_or (λ r. not (is_keeping r)) (slice_get cs n) false) (region_at cs p) false
-
-abbrev pub fate_within : List Change → List Path → Fate
-fate_within cs ps = cond (list_any (drops_at cs) ps) Dropped (by_owner (last_item (filter_map (region_at cs) ps)))
 
 abbrev pub owner_in : Fate → Option ℕ
 owner_in (Owned d) = Some d

@@ -1,10 +1,9 @@
--- The paths of the elements that a change replaces, as code holds them.
---     paths_in                      of one element, or of the siblings from the first to the last
-use Rattle.std.specs.Prelude.{List, [], ◌∷◌}
-use Rattle.cst_core.specs.Path.{Path, siblings}
-use Rattle.edit_change.specs.declared.targets.Targets.{Targets}
-use Rattle.edit_change.specs.declared.targets.Targets.TheVariants.{One, Range}
+-- What changes replace, by path.
+--     target_at                     the first change that replaces what is at a path
+use Rattle.std.specs.Prelude.{ℕ, List, position, Option}
+use Rattle.cst_core.specs.Path.{Path, has_path}
+use Rattle.edit_change.specs.Change.{targets}
+use Rattle.edit_change.specs.declared.change.Change.{Change}
 
-abbrev pub paths_in : Targets → List Path
-paths_in (One p) = p.now ∷ []
-paths_in (Range first last) = siblings first.now last.now
+abbrev pub target_at : List Change → Path → Option ℕ
+target_at cs p = position (λ c. has_path (targets c) p) cs

@@ -1,6 +1,6 @@
 -- What a plan keeps beside its changes, and what carrying it out comes to before there is a root.
 --     unregistered                  the plan of changes without registrations
---     IsPlanned, IsPlanKept         which change replaces what, what becomes of each, and the places of owners; the same of what code has
+--     IsPlanned, IsPlanKept         the document order of the changes, what becomes of each, and the places of owners; the same of what code has
 --     IsNewRoot                     a root whose text is within the limit, as that of every edit is
 --     IsOfRoot                      a refusal that may come once there is a tree whose text is within the limit
 --     TellsOf                       equal tree numbers have equal trees, as far as a registered element and the mapping go
@@ -14,8 +14,7 @@ use Rattle.cst_core.specs.declared.element.SyntaxElement.{SyntaxElement}
 use Rattle.edit_map.specs.Mapping.{Mapping, mapped_elements}
 use Rattle.edit_plan.specs.Plan.{Plan, IsPlan, new_plan}
 use Rattle.edit_change.specs.inner.Fate.{fate}
-use Rattle.edit_change.specs.inner.TargetTable.{IsTargetTable}
-use Rattle.edit_change.specs.declared.target_table.TargetTable.{TargetTable}
+use Rattle.edit_change.specs.inner.DocumentOrder.{IsDocumentOrder}
 use Rattle.edit_change.specs.inner.OwnerPlaces.{places_in}
 use Rattle.edit_change.specs.declared.change.Change.{Change}
 use Rattle.edit_change.specs.Places.{ArePlaces}
@@ -26,16 +25,16 @@ use Rattle.edit_change.specs.declared.fate.Fate.{Fate}
 abbrev pub unregistered : Element → List Change → Mapping → Plan
 unregistered root changes m = record { root = root; changes = changes; registrations = []; mapping = m }
 
-pub record IsPlanned (p : Plan) (targets : TargetTable) (fates : List Fate) (places : List (Option (Vec ℕ Global))) : Type 0 where
+pub record IsPlanned (p : Plan) (order : List ℕ) (fates : List Fate) (places : List (Option (Vec ℕ Global))) : Type 0 where
   pub is_plan : IsPlan p
-  pub targets_are : IsTargetTable p.changes targets
+  pub order_is : IsDocumentOrder p.changes order
   pub fates_are : fates ≡ map (fate p.changes) p.changes
   pub long : length places ≡ length p.changes
   pub placed : ArePlaces p.mapping p.changes (places_in places)
 
 -- the same of what code has
-abbrev pub IsPlanKept : Element → Vec Change Global → Vec (SyntaxElement × ℕ) Global → Mapping → TargetTable → Vec Fate Global → Vec (Option (Vec ℕ Global)) Global → Type 0
-IsPlanKept root changes rs m targets fates places = IsPlanned (new_plan root changes rs m) targets fates.items places.items
+abbrev pub IsPlanKept : Element → Vec Change Global → Vec (SyntaxElement × ℕ) Global → Mapping → Vec ℕ Global → Vec Fate Global → Vec (Option (Vec ℕ Global)) Global → Type 0
+IsPlanKept root changes rs m order fates places = IsPlanned (new_plan root changes rs m) order.items fates.items places.items
 
 pub record IsNewRoot (e : Element) : Type 0 where
   pub is_root : e.path ≡ []

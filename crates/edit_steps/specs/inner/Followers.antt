@@ -5,6 +5,7 @@
 --     next_in_gap                   the last one before a number that fills the gap of this aim
 --     owner_link, gap_link, token_link      the change that has to wait for this one: its owner; the insert before it in its gap;
 --                                   what replaces the token that it stands after
+--     StartsAtToken                 the change with this number replaces from a token on; none does
 --     IsLinked                      a table has such a link for each change
 --     AreFollowers                  three tables have all three
 --     AreIndices                     a table has where each number below a count stands in an order
@@ -15,7 +16,9 @@ use Rattle.std.specs.List.{enumerate_from}
 use Rattle.edit_change.specs.Aim.{Aim, same_gap}
 use Rattle.edit_change.specs.ChangeAim.{aim}
 use Rattle.edit_change.specs.Nesting.{is_dropped, owner, Numbered}
-use Rattle.edit_change.specs.inner.TargetTable.{target_at}
+use Rattle.edit_change.specs.inner.DocumentOrder.{StartsThere}
+use Rattle.edit_change.specs.inner.Targets.{target_at}
+use Rattle.cst_core.specs.Path.{Path}
 use Rattle.edit_change.specs.declared.change.Change.{Change}
 use Rattle.edit_steps.specs.Schedule.{anchor_token, index_in}
 use Rattle.edit_steps.specs.declared.order.followers.Followers.{Followers}
@@ -42,6 +45,11 @@ gap_link cs n c = cond (is_dropped cs c) None (next_in_gap cs n (aim c))
 
 abbrev pub token_link : List Change → ℕ → Change → Option ℕ
 token_link cs n c = cond (is_dropped cs c) None (option_and_then (target_at cs) (anchor_token c))
+
+-- the change with this number replaces from this token on, and none does
+abbrev pub StartsAtToken : List Change → Option Path → Option ℕ → Type 0
+StartsAtToken cs None o = o ≡ None
+StartsAtToken cs (Some p) o = StartsThere cs p o
 
 pub record IsLinked (f : ℕ → Change → Option ℕ) (cs : List Change) (table : List (Option ℕ)) : Type 0 where
   pub long : length table ≡ length cs

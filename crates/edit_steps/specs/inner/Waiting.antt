@@ -2,8 +2,8 @@
 --     IsWaiting                     what code keeps of them, where these are done
 --     HasChange                     there is a change with this number
 --     is_done, done_list            a change is done; of each change, whether it is
-use Rattle.std.specs.Prelude.{◌≡◌, ◌<◌, ℕ, Bool, true, false, List, map, length, slice_get, slice_index_or, Some}
-use Rattle.edit_change.specs.inner.TargetTable.{IsApart}
+use Rattle.std.specs.Prelude.{◌≡◌, ◌<◌, ℕ, Bool, true, false, List, map, length, slice_get, slice_index_or, Some, None}
+use Rattle.edit_change.specs.Nesting.{first_clash}
 use Rattle.edit_change.specs.declared.change.Change.{Change}
 use Rattle.edit_steps.specs.inner.Followers.{owner_link, gap_link, token_link}
 use Rattle.edit_steps.specs.inner.Waits.{IsCounted, standing_of}
@@ -15,7 +15,7 @@ use Rattle.edit_steps.specs.declared.order.waiting.Standing.TheVariants.{Dropped
 pub record IsWaiting (cs : List Change) (done : ℕ → Bool) (w : Waiting) : Type 0 where
   pub long : length w.standings.items ≡ length cs
   pub stands : (n : ℕ) (c : Change) → slice_get cs n ≡ Some c → slice_index_or w.standings.items n Dropped ≡ standing_of cs done n c
-  pub apart : IsApart cs
+  pub apart : first_clash cs ≡ None
   pub owners : IsCounted (owner_link cs) cs done w.owners
   pub gaps : IsCounted (gap_link cs) cs done w.gaps
   pub tokens : IsCounted (token_link cs) cs done w.tokens

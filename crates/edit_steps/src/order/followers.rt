@@ -1,15 +1,15 @@
-//! `Followers`: which change waits for which, at most one for each of three reasons: its owner, the insert before it in its
-//! gap, the replacement of the token that it follows.
-
-ghost use Rattle.std.specs.Prelude.{◌≡◌, ◌<◌, None, map, length, slice_get, option_map, option_and_then, IfOk, OnOk};
+ghost use Rattle.std.specs.Prelude.{◌≡◌, ◌<◌, None, List, map, length, slice_get, option_map, All, IfOk};
 ghost use Rattle.edit_change.specs.inner.Fate.{fate};
-ghost use Rattle.edit_change.specs.inner.TargetTable.{number_at, IsApart, IsTargetTable};
+ghost use Rattle.edit_change.specs.Nesting.{first_clash};
+ghost use Rattle.edit_change.specs.declared.change.Change.{Change};
+ghost use Rattle.edit_change.specs.inner.Aimed.{aims_of};
+ghost use Rattle.edit_change.specs.inner.DocumentOrder.{FitsSome, AreSorted};
 ghost use Rattle.edit_steps.specs.Schedule.{token_before, anchor_token};
-ghost use Rattle.edit_steps.specs.inner.Followers.{owner_link, gap_link, token_link, IsLinked, AreFollowers};
+ghost use Rattle.edit_steps.specs.inner.Followers.{owner_link, gap_link, token_link, StartsAtToken, IsLinked, AreFollowers};
 
 use crate::order::gap_table::GapTable;
 use cst_core::SyntaxElement;
-use edit_change::{Change, Fate, Position, TargetTable};
+use edit_change::{Aimed, Change, Fate, Position, sorted_aims, starting_at};
 use std::alloc::{AllocError, Global};
 
 /// Of each change, by its number, the changes that have to wait for it: at most one for each reason. A dropped change has
@@ -78,20 +78,27 @@ fn next_in_gaps(
     Ok(links)
 }
 
-// What replaces the token that a change stands after.
-fn replacement(targets: &TargetTable, change: &Change) -> Option<usize>
-    ensures { result ≡ option_and_then (number_at targets.now) (anchor_token change.now) }
+// What replaces from the token on that a change stands after.
+fn replacement(aims: &[Aimed<'_>], change: &Change) -> Option<usize>
+    ensures { (cs : List Change) → AreSorted cs (aims_of aims.now) → All FitsSome cs
+        → StartsAtToken cs (anchor_token change.now) result }
 {
-    targets.get(anchor_token(change)?)
+    match anchor_token(change) {
+        Some(token) => starting_at(aims, token),
+        None => None,
+    }
 }
 
+// A range that is replaced over a token drops what stands after it. So for what is left the replacement begins there.
 fn replacements(
     alloc: Global,
-    targets: &TargetTable,
+    aims: &[Aimed<'_>],
     changes: &[Change],
     fates: &[Fate],
 ) -> Result<Vec<Option<usize>>, AllocError>
-    requires targets { IsTargetTable changes.now targets.now }
+    requires fit { All FitsSome changes.now }
+    requires apart { first_clash changes.now ≡ None }
+    requires sorted { AreSorted changes.now (aims_of aims.now) }
     requires fates { fates.now ≡ map (fate changes.now) changes.now }
     ensures { IfOk result (λ v. IsLinked (token_link changes.now) changes.now v.items) }
 {
@@ -100,7 +107,7 @@ fn replacements(
         let link = if fates[number].is_dropped() {
             None
         } else {
-            replacement(targets, change)
+            replacement(aims, change)
         };
         links.push(link)?;
     }
@@ -110,19 +117,19 @@ fn replacements(
 impl Followers {
     pub(crate) fn of(
         alloc: Global,
-        targets: &TargetTable,
         changes: &[Change],
         fates: &[Fate],
     ) -> Result<Followers, AllocError>
-        requires targets { IsTargetTable changes.now targets.now }
+        requires fit { All FitsSome changes.now }
+        requires apart { first_clash changes.now ≡ None }
         requires fates { fates.now ≡ map (fate changes.now) changes.now }
-        ensures linked { IfOk result (AreFollowers changes.now) }
-        ensures apart { OnOk result (IsApart changes.now) }
+        ensures { IfOk result (AreFollowers changes.now) }
     {
+        let aims = sorted_aims(alloc, &[], changes)?;
         Ok(Followers {
             owner: owners(alloc, changes, fates)?,
             next_in_gap: next_in_gaps(alloc, changes, fates)?,
-            replacement: replacements(alloc, targets, changes, fates)?,
+            replacement: replacements(alloc, &aims, changes, fates)?,
         })
     }
 }

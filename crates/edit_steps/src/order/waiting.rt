@@ -1,8 +1,7 @@
-//! `Waiting`: which changes are done and which may come next. A step alters at most three counts.
-
-ghost use Rattle.std.specs.Prelude.{◌≡◌, ◌<◌, ℕ, None, Some, Bool, true, false, ◌&&◌, ◌||◌, nat_eq, slice_index, slice_set, List, map, length, slice_get, IfOk};
+ghost use Rattle.std.specs.Prelude.{◌≡◌, ◌<◌, ℕ, None, Some, Bool, true, false, ◌&&◌, ◌||◌, nat_eq, slice_index, slice_set, List, map, length, slice_get, All, IfOk};
 ghost use Rattle.std.specs.List.{list_all};
-ghost use Rattle.edit_change.specs.inner.TargetTable.{IsTargetTable};
+ghost use Rattle.edit_change.specs.Nesting.{first_clash};
+ghost use Rattle.edit_change.specs.inner.DocumentOrder.{FitsSome};
 ghost use Rattle.edit_change.specs.inner.Fate.{fate};
 ghost use Rattle.edit_change.specs.declared.change.Change.{Change};
 ghost use Rattle.edit_steps.specs.Schedule.{is_complete, is_ready};
@@ -11,7 +10,7 @@ ghost use Rattle.edit_steps.specs.inner.Waits.{is_settled, standing_in};
 
 use crate::order::followers::Followers;
 use crate::order::waits::Waits;
-use edit_change::{Change, Fate, TargetTable};
+use edit_change::{Change, Fate};
 use std::alloc::{AllocError, Global};
 
 /// How far a change is.
@@ -70,21 +69,21 @@ fn standing_in(fate: Fate) -> Standing
 }
 
 impl Waiting {
-    /// Of these changes none is done yet. `targets` has what they replace, and `fates` what becomes of each.
+    /// Of these changes, of which no two clash, none is done yet. `fates` has what becomes of each.
     ///
     /// Takes time near linear in the paths of the changes.
     pub fn new(
         alloc: Global,
-        targets: &TargetTable,
         changes: &[Change],
         fates: &[Fate],
     ) -> Result<Waiting, AllocError>
-        requires targets { IsTargetTable changes.now targets.now }
+        requires fit { All FitsSome changes.now }
+        requires apart { first_clash changes.now ≡ None }
         requires fates { fates.now ≡ map (fate changes.now) changes.now }
         ensures waiting { IfOk result (IsWaiting changes.now (λ n. false)) }
         ensures none { IfOk result (λ w. done_list w ≡ map (λ c. false) changes.now) }
     {
-        let followers = Followers::of(alloc, targets, changes, fates)?;
+        let followers = Followers::of(alloc, changes, fates)?;
         Ok(Waiting {
             standings: standings(alloc, fates)?,
             owners: Waits::new(alloc, followers.owner)?,

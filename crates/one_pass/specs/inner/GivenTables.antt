@@ -4,16 +4,14 @@
 --     IsMarkedEach                  an entry has the marks of rewritten elements
 --     HasPayloadMarks               a table has the marks of the payloads alone
 --     FillsMarks                    the marks of what a change gives are entered: those of its payload, rewritten by what the table had before
---     AreOwnersAt                   these are the changes of a depth that own something
---     FillsLevel, FillsLevelMarks   what the owners of one depth give is entered, with its marks, where all that is deeper has been
 --     CountsElement, CountsEach     how a count of nodes is raised by an element that is rewritten; by several
 --     CountsOwner                   how it is raised by what a change gives
 --     ArePayloadsBuilt              in each payload, each node that an owned change alters is there and stays
---     CountsLevel, CountsPayloads   how the count is raised by the payloads of some owners; of all
+--     CountsPayloads                how the count is raised by the payloads of all owners
 --     TellsGiven, TellsMarks        a table has what each change gives, and its marks, where another one has what each change owns
-use Rattle.std.specs.Prelude.{◌≡◌, ℕ, suc, List, [], map, filter, length, sum_by, All, None, Vec}
+use Rattle.std.specs.Prelude.{ℕ, List, [], map, sum_by, All, None, Vec}
 use Rattle.std.specs.Global.{Global}
-use Rattle.cst_core.specs.Path.{Path, counted_from}
+use Rattle.cst_core.specs.Path.{Path}
 use Rattle.cst_core.specs.Tree.{SyntaxTree}
 use Rattle.cst_core.specs.Element.{Element, Address, subtree}
 use Rattle.cst_core.specs.SyntaxElement.{element_of}
@@ -32,8 +30,8 @@ use Rattle.one_pass.specs.declared.marked_given.MarkedGiven.{MarkedGiven}
 use Rattle.edit_change.specs.declared.change.Change.{Change}
 use Rattle.edit_change.specs.NewTree.{payload_of, dependents}
 use Rattle.edit_change.specs.TouchedNodes.{touched_each, touched_in, Raises}
-use Rattle.one_pass.specs.inner.Marks.{IsTableOf, element_sought, payload_sought, with_answer, marks_given, AreMarksFrom}
-use Rattle.one_pass.specs.inner.OwnerTables.{moved_dependent, owns_at, AreDependents, AreGiven, AreGivenFrom}
+use Rattle.one_pass.specs.inner.Marks.{IsTableOf, element_sought, payload_sought, with_answer, marks_given}
+use Rattle.one_pass.specs.inner.OwnerTables.{moved_dependent, AreDependents, AreGiven}
 use Rattle.one_pass.specs.declared.dependent.Dependent.{Dependent}
 use Rattle.one_pass.specs.declared.sought.SoughtTable.{SoughtTable}
 use Rattle.one_pass.specs.declared.walk.Walk.{Walk}
@@ -59,28 +57,14 @@ module _ (table : GivenTable) (aims : List Aimed) where
 abbrev pub HasPayloadMarks : SoughtTable → List Change → GivenTable → Type 0
 HasPayloadMarks index changes table = AreMarkedIn table (λ c. payload_sought index (λ n. []) [] (payload_of changes c))
 
--- ---- one owner, and those of one depth
+-- ---- one owner
 module _ (index : SoughtTable) (changes : List Change) (before after : GivenTable) where
   abbrev pub FillsMarks : ℕ → List Dependent → Type 0
   FillsMarks owner owned =
       (trees : ℕ → List MarkTree) → AreMarkedIn before trees →
       AreMarkedIn after (with_answer trees owner (payload_sought index trees (map moved_dependent owned) (payload_of changes owner)))
 
-abbrev pub AreOwnersAt : List Change → List (Vec Dependent Global) → ℕ → List ℕ → Type 0
-AreOwnersAt changes owned level owners = owners ≡ filter (owns_at changes owned level) (counted_from 0 (length changes))
-
 module _ (changes : List Change) (owned : List (Vec Dependent Global)) where
-  abbrev pub FillsLevel : List ℕ → GivenTable → GivenTable → Type 0
-  FillsLevel owners before after =
-      (places : ℕ → Path) (level : ℕ) → AreDependents changes places owned → AreOwnersAt changes owned level owners →
-      AreGivenFrom changes places (suc level) before → AreGivenFrom changes places level after
-
-  abbrev pub FillsLevelMarks : SoughtTable → List ℕ → GivenTable → GivenTable → Type 0
-  FillsLevelMarks index owners before after =
-      (places : ℕ → Path) (rs : List Address) (level : ℕ) → AreDependents changes places owned → IsTableOf rs index →
-      AreOwnersAt changes owned level owners →
-      AreMarksFrom rs changes places (suc level) before → AreMarksFrom rs changes places level after
-
   -- ---- all changes
   abbrev pub TellsGiven : GivenTable → Type 0
   TellsGiven table = (places : ℕ → Path) → AreDependents changes places owned → AreGiven changes places table
@@ -108,11 +92,6 @@ ArePayloadsBuilt changes places =
     (c : ℕ) → All (λ e. AreBuilt (dependents changes places c) (subtree e)) (payload_of changes c)
 
 module _ (changes : List Change) (owned : List (Vec Dependent Global)) where
-  abbrev pub CountsLevel : List ℕ → ℕ → ℕ → Type 0
-  CountsLevel owners before after =
-      (places : ℕ → Path) → AreDependents changes places owned →
-      Raises (ArePayloadsBuilt changes places) (sum_by (touched_in changes places) owners) before after
-
   abbrev pub CountsPayloads : ℕ → ℕ → Type 0
   CountsPayloads before after =
       (places : ℕ → Path) → AreDependents changes places owned →

@@ -5,12 +5,11 @@
 --     element_sought, payload_sought      an element, rewritten, with what a table has there as marks; several
 --     with_answer                     another answer for one change
 --     paths_of_mark                 of marks in the trees that stand in a place, the paths of one mark in its tree
---     AreMarksFrom                  a table has the marks of what changes of this depth or more give, and of those that own nothing
 --     ArePathsOf                    n lists have the paths of these marks, each those of its number
 --     HasPathMore, PathsStay        a list has one path more at its end; the others are as they were
 --     IsDealtOut                    the path of one mark went to the list of its number, if there is one
 --     HasPathsMore                  a list has one path more if the mark is of this number
-use Rattle.std.specs.Prelude.{◌≡◌, ◌≢◌, ◌<◌, ℕ, ◌≤◌, cond, nat_eq, List, [], ◌∷◌, ◌++◌, map, filter, drop, length, get_or, Vec}
+use Rattle.std.specs.Prelude.{◌≡◌, ◌≢◌, ◌<◌, ℕ, cond, nat_eq, List, [], ◌∷◌, ◌++◌, map, filter, drop, length, get_or, Vec}
 use Rattle.std.specs.Global.{Global}
 use Rattle.cst_core.specs.Path.{Path}
 use Rattle.cst_core.specs.Tree.{relabelled}
@@ -18,11 +17,8 @@ use Rattle.cst_core.specs.Element.{Address, Element, address, subtree}
 use Rattle.edit_change.specs.Rewriting.{NumberedAim, rewritten}
 use Rattle.one_pass.specs.inner.Marked.{MarkTree, Marking, mark_of, wanted}
 use Rattle.one_pass.specs.declared.mark.Mark.{Mark}
-use Rattle.one_pass.specs.inner.Pass.{AreMarkedIn}
 use Rattle.edit_change.specs.Topmost.{paths_of}
-use Rattle.one_pass.specs.declared.marked_given.GivenTable.{GivenTable}
-use Rattle.edit_change.specs.inner.OwnerPlaces.{depth_of}
-use Rattle.edit_change.specs.NewTree.{OriginTree, dependents, given}
+use Rattle.edit_change.specs.NewTree.{OriginTree, given}
 use Rattle.one_pass.specs.inner.Sought.{sought_from, sought_at, registered_at}
 use Rattle.edit_change.specs.declared.change.Change.{Change}
 use Rattle.one_pass.specs.declared.sought.SoughtTable.{SoughtTable}
@@ -44,12 +40,6 @@ payload_sought index trees cs es = map (element_sought index trees cs) es
 
 abbrev pub with_answer : (ℕ → List MarkTree) → ℕ → List MarkTree → ℕ → List MarkTree
 with_answer trees c ts n = cond (nat_eq n c) ts (trees n)
-
-pub record AreMarksFrom (rs : List Address) (changes : List Change) (places : ℕ → Path) (level : ℕ) (table : GivenTable) : Type 0 where
-  pub trees : ℕ → List MarkTree
-  pub are : AreMarkedIn table trees
-  pub deep : (c : ℕ) → level ≤ depth_of changes c → trees c ≡ marks_given rs changes places c
-  pub own_nothing : (c : ℕ) → dependents changes places c ≡ [] → trees c ≡ marks_given rs changes places c
 
 -- ---- dealt out
 abbrev pub paths_of_mark : ℕ → List Marking → List Path

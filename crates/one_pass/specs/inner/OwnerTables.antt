@@ -2,16 +2,14 @@
 --     moved_dependent               a change that is owned, and where it aims in its owner's payload
 --     dependents_in                 those of an owner, from a table by its number
 --     AreDependents                 a table has for each change those that it owns
---     owns_at, owners_at            a change of this depth owns something; the changes that a table has for a depth
---     AreOwners                     a table has for each depth the changes of that depth that own something
+--     AreByDepth                    these are the numbers of all changes, the deepest last
 --     IsGiven, AreGiven             a table has what a change gives; what each change gives
 --     IsFilled                      what a change gives is entered into a table: its payload, rewritten by what the table has
---     AreGivenFrom                  it has what changes of this depth or more give, and those that own nothing
---     OwnersStay                    the changes that a table has for other depths are as they were
 --     OwnsOneMore, OthersOwnAsBefore      a change owns one more; what others own is as it was
 use Rattle.edit_change.specs.inner.OwnerPlaces.{depth_of}
-use Rattle.std.specs.Prelude.{◌≡◌, ◌≢◌, ℕ, ◌≤◌, ◌&&◌, ◌==◌, not, Bool, List, [], ◌∷◌, ◌++◌, map, filter, length, slice_get, Vec}
+use Rattle.std.specs.Prelude.{◌≡◌, ◌≢◌, ℕ, List, [], ◌∷◌, ◌++◌, map, length, slice_get, Vec}
 use Rattle.std.specs.Global.{Global}
+use Rattle.std.specs.List.Sorted.{IsPermutation, IsNonDecreasingBy}
 use Rattle.std.specs.Option.{option_map_or}
 use Rattle.cst_core.specs.Path.{Path, counted_from}
 use Rattle.cst_core.specs.Element.{subtree}
@@ -31,14 +29,10 @@ moved_dependent d = (d.number, aim_from d.path.items d.change.now)
 abbrev pub dependents_in : List (Vec Dependent Global) → ℕ → List NumberedAim
 dependents_in table c = option_map_or (λ v. map moved_dependent v.items) (slice_get table c) []
 
-abbrev pub owns_at : List Change → List (Vec Dependent Global) → ℕ → ℕ → Bool
-owns_at changes table level c = (depth_of changes c == level) && not (length (dependents_in table c) == 0)
-
-abbrev pub owners_at : List (Vec ℕ Global) → ℕ → List ℕ
-owners_at owners level = option_map_or (λ v. v.items) (slice_get owners level) []
-
-abbrev pub AreOwners : List Change → List (Vec Dependent Global) → List (Vec ℕ Global) → Type 0
-AreOwners changes table owners = (level : ℕ) → owners_at owners level ≡ filter (owns_at changes table level) (counted_from 0 (length changes))
+-- the numbers of all changes, the deepest last
+pub record AreByDepth (changes : List Change) (order : List ℕ) : Type 0 where
+  pub each_once : IsPermutation (counted_from 0 (length changes)) order
+  pub rising : IsNonDecreasingBy (depth_of changes) order
 
 module _ (changes : List Change) (places : ℕ → Path) where
   abbrev pub AreDependents : List (Vec Dependent Global) → Type 0
@@ -50,19 +44,12 @@ module _ (changes : List Change) (places : ℕ → Path) where
   abbrev pub AreGiven : GivenTable → Type 0
   AreGiven table = (c : ℕ) → IsGiven table c
 
-  pub record AreGivenFrom (level : ℕ) (table : GivenTable) : Type 0 where
-    pub deep : (c : ℕ) → level ≤ depth_of changes c → IsGiven table c
-    pub own_nothing : (c : ℕ) → dependents changes places c ≡ [] → IsGiven table c
-
 -- the entry of a change is its payload, rewritten by what the table had before; no other entry differs
 pub record IsFilled (changes : List Change) (c : ℕ) (owned : List NumberedAim) (before after : GivenTable) : Type 0 where
   pub here : given_in after c ≡ map (rewritten kind_only (given_in before) owned []) (map subtree (payload_of changes c))
   pub elsewhere : (n : ℕ) → n ≢ c → given_in after n ≡ given_in before n
 
 -- ---- tables before and after
-abbrev pub OwnersStay : List (Vec ℕ Global) → List (Vec ℕ Global) → ℕ → Type 0
-OwnersStay before after level = (l : ℕ) → l ≢ level → owners_at after l ≡ owners_at before l
-
 module _ (before after : List (Vec Dependent Global)) where
   abbrev pub OwnsOneMore : ℕ → Dependent → Type 0
   OwnsOneMore c d = dependents_in after c ≡ dependents_in before c ++ moved_dependent d ∷ []

@@ -4,8 +4,6 @@
 --     IsMarked                      these trees are as many as the given elements, and each has the marks of its own
 --     IsMarkedIn, AreMarkedIn       the same of an entry of a table, if there is one; of all changes, by their numbers
 --     given_in                      what a change gives, from a table by its number: nothing where the table has none
---     stands_at                     what an aim's change gives stands at a place: in its gap, or where it replaces from
---     changes_at                    the changes at a place, in the order in which they stand there
 --     topped                        a tree with one mark more at its top
 --     marks_at_path                 the marks of the given element at an index, which stands at a path
 --     Puts                          trees that are put after others
@@ -13,11 +11,6 @@
 --     FindsGiven, FindsChange, FindsAll          it finds those of an entry, of a change, of several
 --     FindsChild                    it finds those of an untouched element that is put next
 --     kept_marks                    an untouched element, labelled by the marks that are sought in it
---     aims_inside                   the aims at a child slot or below, as they are seen from the child
---     child_rewritten, slot_rewritten         what is made of a child; what stands in its slot
---     child_built, slot_built       how many nodes are built of a child that is kept; in a slot
---     in_slot                       what stands in the slot of a child
---     PutsSlot, FindsSlot           it is put next; a walk finds its marks
 --     TouchesAtMost, CountsBuilt, CountsBuiltWhole      how a count of built nodes rises
 --     CountsTouched                 how it rises where all that is touched is built
 --     green_rewritten, green_rewritten_whole          the tree that a pass makes; what stands in the place of an element
@@ -25,28 +18,24 @@
 --     FindsKept                     it finds those of an untouched element
 --     FindsRewritten, FindsWhole      it finds those of a rewritten element; those of what stands in its place are found
 use Rattle.edit_change.specs.inner.KindOnly.{kind_only}
-use Rattle.std.specs.Prelude.{◌≡◌, ◌<◌, ◌≤◌, ◌+◌, ℕ, Bool, cond, List, [], ◌∷◌, ◌++◌, map, flat_map, length, get_or, slice_get, Option, Some, None, Vec}
+use Rattle.std.specs.Prelude.{◌≡◌, ◌<◌, ◌≤◌, ◌+◌, ℕ, List, [], ◌∷◌, ◌++◌, map, flat_map, length, get_or, slice_get, Option, Some, None, Vec}
 use Rattle.std.specs.Global.{Global}
 use Rattle.std.specs.Option.{option_map_or}
 use Rattle.green_tree.specs.Path.{Path}
-use Rattle.green_tree.specs.Tree.{Tree, Token, Node, SyntaxTree}
+use Rattle.green_tree.specs.Tree.{Token, Node, SyntaxTree}
 use Rattle.edit_change.specs.inner.Given.{given_trees}
 use Rattle.green_tree.specs.GreenElement.{element_tree, element_trees}
 use Rattle.green_tree.specs.declared.green.GreenElement.{GreenElement}
 use Rattle.green_tree.specs.Count.{counted}
 use Rattle.edit_change.specs.Effort.{touched, parents_of}
 use Rattle.one_pass.specs.inner.Built.{nodes_built, nodes_built_whole, AreBuilt}
-use Rattle.edit_change.specs.Aim.{Aim, aims_at_gap, starts_at}
-use Rattle.edit_change.specs.Rewriting.{NumberedAim, inserts_at, replacements_at, gap_order, is_replaced, slot, rewritten, rewritten_whole}
-use Rattle.edit_change.specs.inner.Aimed.{formed, of_formed, aims_of, formed_below}
+use Rattle.edit_change.specs.Rewriting.{rewritten, rewritten_whole}
+use Rattle.edit_change.specs.inner.Aimed.{aims_of}
 use Rattle.one_pass.specs.inner.Marked.{MarkTree, Marking, marked, marked_from, mark_below, marks_of, sought_in, wanted, Finds}
 use Rattle.edit_change.specs.declared.aimed.Aimed.{Aimed}
 use Rattle.one_pass.specs.declared.mark.Mark.{Mark}
-use Rattle.one_pass.specs.declared.pushes.Child.{Child}
 use Rattle.one_pass.specs.declared.walk.Walk.{Walk}
 use Rattle.one_pass.specs.declared.mark.Sought.{Sought}
-use Rattle.one_pass.specs.declared.place.Place.{Place}
-use Rattle.one_pass.specs.declared.place.Place.TheVariants.{Gap, Slot, Top}
 use Rattle.one_pass.specs.declared.marked_given.MarkedGiven.{MarkedGiven}
 use Rattle.one_pass.specs.declared.marked_given.GivenTable.{GivenTable}
 
@@ -70,16 +59,6 @@ AreMarkedIn table trees = (c : ℕ) → IsMarkedIn table.top (slice_get table.en
 
 abbrev pub given_in : GivenTable → ℕ → List SyntaxTree
 given_in table c = option_map_or (λ g. given_trees g.elements) (slice_get table.entries.items c) []
-
-abbrev pub stands_at : Place → Aim → Bool
-stands_at (Gap gap) a = aims_at_gap [] gap a
-stands_at (Slot i) a = starts_at (i ∷ []) a
-stands_at Top a = starts_at [] a
-
-abbrev pub changes_at : List Aimed → Place → List ℕ
-changes_at aims (Gap gap) = gap_order (inserts_at (aims_of aims) [] gap)
-changes_at aims (Slot i) = replacements_at (aims_of aims) (i ∷ [])
-changes_at aims Top = replacements_at (aims_of aims) []
 
 abbrev pub topped : ℕ → MarkTree → MarkTree
 topped n (Token l s) = Token (n ∷ l) s
@@ -111,38 +90,6 @@ module _ (before : Walk) (out : Vec GreenElement Global) (after : Walk) where
 
   abbrev pub FindsChild : List Sought → GreenElement → Type 0
   FindsChild sought e = FindsNext (kept_marks sought e ∷ [])
-
--- ---- what the pass makes of the children of a node, each by the aims that concern it
-abbrev pub aims_inside : List Aimed → ℕ → List NumberedAim
-aims_inside aims i = map of_formed (formed_below i (map formed aims))
-
-module _ {L : Type 0} (label_at : Path → ℕ → L) (given : ℕ → List (Tree L)) (aims : List Aimed) where
-  abbrev pub child_rewritten : ℕ → GreenElement → Tree L
-  child_rewritten i e = rewritten label_at given (aims_inside aims i) [] (element_tree e)
-
-  abbrev pub slot_rewritten : ℕ → GreenElement → List (Tree L)
-  slot_rewritten i e = slot label_at given (aims_of aims) (i ∷ []) (child_rewritten i e)
-
-module _ (aims : List Aimed) where
-  abbrev pub child_built : ℕ → GreenElement → ℕ
-  child_built i e = nodes_built (aims_inside aims i) (element_tree e)
-
-  abbrev pub slot_built : ℕ → GreenElement → ℕ
-  slot_built i e = cond (is_replaced (aims_of aims) (i ∷ [])) 0 (child_built i e)
-
--- of one child, with the aims that concern it
-module _ (child : Child) where
-  abbrev in_slot : {L : Type 0} → (Path → ℕ → L) → (ℕ → List (Tree L)) → List (Tree L)
-  in_slot label_at given = slot_rewritten label_at given child.aims.now child.slot child.element.now
-
-  module _ (table : GivenTable) where
-    abbrev pub PutsSlot : Vec GreenElement Global → Vec GreenElement Global → Type 0
-    PutsSlot before after = Puts before after (in_slot kind_only (given_in table))
-
-    abbrev pub FindsSlot : Walk → Vec GreenElement Global → Walk → Type 0
-    FindsSlot before out after =
-        (trees : ℕ → List MarkTree) → AreMarkedIn table trees →
-        FindsNext before out after (in_slot (wanted (sought_in child.sought.now)) trees)
 
 -- ---- what the pass makes of an element
 abbrev pub TouchesAtMost : List Aimed → GreenElement → ℕ → ℕ → Type 0

@@ -9,12 +9,12 @@ returns-clause-planned c =
         is_root = c.requires.is_root;
         is_node = c.kind.ensures.form;
         fit = c.requires.fit;
-        apart = c.in_ok-targets.ensures.apart;
+        apart = ?;
         mapping_is = c.len.ensures.is_mapping;
         places = places_in c.in_ok-places.places.items;
         placed = placed;
       };
-      targets_are = c.in_ok-targets.ensures.indexed;
+      order_is = ?;
       fates_are = c.in_ok-fates.ensures;
       long = c.in_ok-places.ensures.long;
       placed = placed;

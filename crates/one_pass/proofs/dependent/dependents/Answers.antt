@@ -5,7 +5,7 @@ use Rattle.one_pass.specs.inner.OwnerTables.{moved_dependent, dependents_in}
 use Rattle.edit_change.specs.NewTree.{moved_aim}
 use Rattle.one_pass.proofs.Dependents.{dependents-to, dependents-whole, none-at, one-entered}
 use Rattle.edit_change.proofs.MovedAims.{change-at, owner-is, owned-is-inside}
-use Rattle.one_pass.proofs.Levels.{empty-at}
+use Rattle.one_pass.proofs.EmptyLists.{empty-at}
 use Rattle.one_pass.proofs.dependent.dependents.Goals as goal
 use Rattle.one_pass.proofs.dependent.dependents.Goals.{in-Some+in_ok-dependent+in_ok-push_dependent, in_default}
 

@@ -11,7 +11,7 @@ use Rattle.one_pass.specs.inner.OwnerTables.{moved_dependent}
 use Rattle.one_pass.specs.inner.Marks.{payload_sought}
 use Rattle.one_pass.specs.inner.GivenTables.{CountsEach}
 use Rattle.one_pass.proofs.Counting.{payload-at}
-use Rattle.one_pass.proofs.GivenByLevel.{filled}
+use Rattle.one_pass.proofs.GivenByDepth.{filled}
 use Rattle.one_pass.proofs.MarksFilled.{entry}
 use Rattle.one_pass.proofs.given_table.fill.Goals as goal
 

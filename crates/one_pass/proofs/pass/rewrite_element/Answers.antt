@@ -1,9 +1,12 @@
-use Rattle.std.proofs.Common.{◌≡◌, [], ◌++◌, map, rules, refl, arith, ap, ap₂, sym, ◌∙◌}
+use Rattle.std.specs.List.{list_any}
+use Rattle.std.proofs.Common.{true, ◌≡◌, [], ◌++◌, map, rules, refl, arith, ap, ap₂, sym, subst, ◌∙◌}
 use Rattle.green_tree.specs.GreenElement.{element_tree}
+use Rattle.green_tree.specs.Green.{branch_tree}
 use Rattle.green_tree.specs.Count.{counted}
 use Rattle.one_pass.specs.inner.Built.{nodes_built}
 use Rattle.edit_change.specs.Rewriting.{rewritten}
-use Rattle.edit_change.specs.inner.Aimed.{aims_of}
+use Rattle.edit_change.specs.inner.Aimed.{aims_of, has_parent}
+use Rattle.edit_change.specs.inner.KindOnly.{kind_only}
 use Rattle.one_pass.specs.inner.Marked.{marked, mark_below, marks_of, sought_in, marks_at, wanted}
 use Rattle.one_pass.specs.inner.Pass.{given_in, green_rewritten}
 use Rattle.edit_change.proofs.AlteredNodes.{on_ok, on_ok-map, if_ok-map}
@@ -11,6 +14,9 @@ use Rattle.one_pass.proofs.Counted.{counted-none, counts-at_most}
 use Rattle.one_pass.proofs.TouchedNodes.{on_ok-touched}
 use Rattle.edit_change.proofs.Untouched.{nothing_rewritten, unaimed}
 use Rattle.one_pass.proofs.MarksKept.{token_marks}
+use Rattle.one_pass.proofs.OpenedNode.{opened-order, whole-opened, built-opened, marks-opened, from-top, ordered-top}
+use Rattle.one_pass.specs.inner.Sweep.{AreOrdered, IsReordered}
+use Rattle.one_pass.proofs.Reordered.{any-moved, rewritten-reordered, built-reordered}
 use Rattle.one_pass.proofs.pass.rewrite_element.Goals as goal
 
 pub returns-then-not-alter_some-clause-path : goal.returns-then-not-alter_some-clause-path
@@ -66,18 +72,31 @@ pub returns-in_default-clause-marks : goal.returns-in_default-clause-marks
 returns-in_default-clause-marks c =
     on_ok c.share-in_default.result (λ trees are. token_marks c.args.walk.now.path.items (sought_in c.args.sought.now) trees (aims_of c.args.aims.now) (marks_of c.args.walk.now.found.items) (marks_of c.push_here.new.found.items) (element_tree c.args.element.now) c.in_default.field-0.kind c.in_default.field-0.text (ap element_tree c.in_default.is) (c.in_ok-push_here.ensures ∙ ap (λ p. marks_of c.args.walk.now.found.items ++ map (λ n. (n, p)) (marks_at (sought_in c.args.sought.now) [])) c.deref.ensures.value))
 
+-- ---- a node is opened, with the aims in order
+pub rewrite_open-requires : goal.rewrite_open-requires
+rewrite_open-requires c =
+    opened-order c.in-Node.node 0 c.deref-2.result.now (sought_in c.args.sought.now) c.args.walk.now c.open_node.new.walk c.in_ok-top.top c.in_ok-top.ensures.opened (ordered-top c.deref-2.result.now (subst AreOrdered (sym c.deref-2.ensures.value) c.in_ok-sorted.ensures.order))
+
 pub returns-clause-path : goal.returns-clause-path
 returns-clause-path c = on_ok-map c.rewrite_open.result (λ h. h ∙ c.in_ok-top.ensures.path) c.rewrite_open.ensures.path
 
 pub returns-clause-tree : goal.returns-clause-tree
 returns-clause-tree c =
-    let own = c.in_ok-top.ensures.tree ∙ ap (λ e. green_rewritten c.args.given.now c.args.aims.now e) (sym c.in-Node.is) in
-    if_ok-map _ (λ e. element_tree e ≡ green_rewritten c.args.given.now c.args.aims.now c.args.element.now) c.rewrite_open.result (λ e is. is ∙ own) c.rewrite_open.ensures.tree
+    let table = c.args.given.now in
+    let sorted = c.deref-2.result.now in
+    let same = subst (λ xs. IsReordered (aims_of c.args.aims.now) (aims_of xs)) (sym c.deref-2.ensures.value) c.in_ok-sorted.ensures.same in
+    let whole = whole-opened c.in-Node.node 0 sorted (sought_in c.args.sought.now) c.args.walk.now c.open_node.new.walk c.in_ok-top.top c.in_ok-top.ensures.opened table in
+    let own = whole ∙ ap (λ cs. rewritten kind_only (given_in table) cs [] (branch_tree c.in-Node.node)) (from-top sorted) ∙ rewritten-reordered (aims_of c.args.aims.now) (aims_of sorted) same kind_only (given_in table) [] (branch_tree c.in-Node.node) ∙ ap (λ e. green_rewritten table c.args.aims.now e) (sym c.in-Node.is) in
+    if_ok-map _ (λ e. element_tree e ≡ green_rewritten table c.args.aims.now c.args.element.now) c.rewrite_open.result (λ e is. is ∙ own) c.rewrite_open.ensures.tree
 
 pub returns-clause-count : goal.returns-clause-count
 returns-clause-count c =
     let cs = aims_of c.args.aims.now in
-    let own = c.in_ok-top.ensures.built ∙ ap (λ e. nodes_built cs (element_tree e)) (sym c.in-Node.is) in
+    let sorted = c.deref-2.result.now in
+    let same = subst (λ xs. IsReordered (aims_of c.args.aims.now) (aims_of xs)) (sym c.deref-2.ensures.value) c.in_ok-sorted.ensures.same in
+    let some : list_any has_parent cs ≡ true = sym c.alter_some.ensures ∙ c.if-not-alter_some.false in
+    let built = built-opened c.in-Node.node 0 sorted (sought_in c.args.sought.now) c.args.walk.now c.open_node.new.walk c.in_ok-top.top c.in_ok-top.ensures.opened (ap (list_any has_parent) (from-top sorted) ∙ any-moved has_parent cs (aims_of sorted) same.each_once ∙ some) in
+    let own = built ∙ ap (λ ds. nodes_built ds (branch_tree c.in-Node.node)) (from-top sorted) ∙ built-reordered cs (aims_of sorted) same (branch_tree c.in-Node.node) ∙ ap (λ e. nodes_built cs (element_tree e)) (sym c.in-Node.is) in
     on_ok-map c.rewrite_open.result (λ h. h ∙ ap₂ counted c.in_ok-top.ensures.count own) c.rewrite_open.ensures.count
 
 pub returns-clause-builds : goal.returns-clause-builds
@@ -90,4 +109,8 @@ returns-clause-whole c =
 
 pub returns-clause-marks : goal.returns-clause-marks
 returns-clause-marks c =
-    on_ok-map c.rewrite_open.result (λ h trees are. h trees are ∙ c.in_ok-top.ensures.marks trees are ∙ ap₂ (λ p e. marks_of c.args.walk.now.found.items ++ map (mark_below p) (marked (rewritten (wanted (sought_in c.args.sought.now)) trees (aims_of c.args.aims.now) [] (element_tree e)))) c.in_ok-top.ensures.path (sym c.in-Node.is)) c.rewrite_open.ensures.marks
+    let sought = sought_in c.args.sought.now in
+    let before = marks_of c.args.walk.now.found.items in
+    let sorted = c.deref-2.result.now in
+    let same = subst (λ xs. IsReordered (aims_of c.args.aims.now) (aims_of xs)) (sym c.deref-2.ensures.value) c.in_ok-sorted.ensures.same in
+    on_ok-map c.rewrite_open.result (λ h trees are. h trees are ∙ marks-opened c.in-Node.node 0 sorted sought c.args.walk.now c.open_node.new.walk c.in_ok-top.top c.in_ok-top.ensures.opened trees ∙ ap₂ (λ p cs. before ++ map (mark_below p) (marked (rewritten (wanted sought) trees cs [] (branch_tree c.in-Node.node)))) c.in_ok-top.ensures.path (from-top sorted) ∙ ap (λ t. before ++ map (mark_below c.args.walk.now.path.items) (marked t)) (rewritten-reordered (aims_of c.args.aims.now) (aims_of sorted) same (wanted sought) trees [] (branch_tree c.in-Node.node)) ∙ ap (λ e. before ++ map (mark_below c.args.walk.now.path.items) (marked (rewritten (wanted sought) trees (aims_of c.args.aims.now) [] (element_tree e)))) (sym c.in-Node.is)) c.rewrite_open.ensures.marks

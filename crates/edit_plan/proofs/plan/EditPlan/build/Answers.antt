@@ -7,14 +7,14 @@ pub invariant_of-result : goal.invariant_of-result
 invariant_of-result c =
     let root = c.args.root in
     let m = c.args.mapping in
-    let found = c.in_ok-targets.field-0 in
-    let planned = subst (λ cs. IsPlanned (unregistered root cs m) found.targets found.fates.items found.places.items) c.deref.ensures.value c.in_ok-targets.ensures.planned in
-    planned-with (unregistered root c.args.changes.items m) c.args.registrations.items found.targets found.fates.items found.places.items planned
+    let found = c.in_ok-order.field-0 in
+    let planned = subst (λ cs. IsPlanned (unregistered root cs m) found.order.items found.fates.items found.places.items) c.deref.ensures.value c.in_ok-order.ensures.planned in
+    planned-with (unregistered root c.args.changes.items m) c.args.registrations.items found.order.items found.fates.items found.places.items planned
 
 pub returns-clause-planned : goal.returns-clause-planned
 returns-clause-planned c =
     let root = c.args.root in
     let m = c.args.mapping in
-    let found = c.in_ok-targets.field-0 in
-    let planned = subst (λ cs. IsPlanned (unregistered root cs m) found.targets found.fates.items found.places.items) c.deref.ensures.value c.in_ok-targets.ensures.planned in
+    let found = c.in_ok-order.field-0 in
+    let planned = subst (λ cs. IsPlanned (unregistered root cs m) found.order.items found.fates.items found.places.items) c.deref.ensures.value c.in_ok-order.ensures.planned in
     is-plan-with (unregistered root c.args.changes.items m) c.args.registrations.items planned.is_plan

@@ -14,7 +14,7 @@ use Rattle.cst_core.specs.Element.{IsNode}
 use Rattle.edit_change.specs.Fits.{Fits}
 use Rattle.edit_change.specs.Nesting.{first_clash}
 use Rattle.edit_change.specs.inner.Fate.{fate}
-use Rattle.edit_change.specs.inner.TargetTable.{IsTargetTable}
+use Rattle.edit_change.specs.inner.DocumentOrder.{IsDocumentOrder}
 use Rattle.edit_change.specs.inner.OwnerPlaces.{places_in}
 use Rattle.one_pass.specs.inner.Root.{TellsNewTree, CountsAll}
 use Rattle.edit_plan.proofs.AllTouched.{all-touched}
@@ -31,9 +31,9 @@ rewrite-requires-clause-fit c =
 pub rewrite-requires-clause-apart : goal.rewrite-requires-clause-apart
 rewrite-requires-clause-apart c = ap first_clash c.planned.ensures.changes ∙ c.planned.ensures.is.is_plan.apart
 
-pub rewrite-requires-clause-targets : goal.rewrite-requires-clause-targets
-rewrite-requires-clause-targets c =
-    subst (λ cs. IsTargetTable cs c.planned.result.targets.now) (sym c.planned.ensures.changes) c.planned.ensures.is.targets_are
+pub rewrite-requires-clause-order : goal.rewrite-requires-clause-order
+rewrite-requires-clause-order c =
+    subst (λ cs. IsDocumentOrder cs c.planned.result.order.now) (sym c.planned.ensures.changes) c.planned.ensures.is.order_is
 
 pub rewrite-requires-clause-fates : goal.rewrite-requires-clause-fates
 rewrite-requires-clause-fates c =

@@ -1,6 +1,7 @@
-use Rattle.std.proofs.Common.{◌≡◌, ◌∙◌}
+use Rattle.std.proofs.Common.{◌≡◌, ◌∙◌, sym, subst}
 use Rattle.edit_change.proofs.Clashes.{at-index}
-use Rattle.edit_steps.specs.inner.Followers.{token_link}
+use Rattle.edit_steps.specs.Schedule.{anchor_token}
+use Rattle.edit_steps.specs.inner.Followers.{token_link, StartsAtToken}
 use Rattle.edit_steps.proofs.Links.{token-dropped, token-kept}
 use Rattle.edit_steps.proofs.Tables.{linked-more, linked-all}
 use Rattle.edit_steps.proofs.Undropped.{fate-at}
@@ -16,7 +17,7 @@ loop-number-preserved c =
     let told = c.is_dropped.ensures ∙ fate-at cs c.args.fates.now n change _ c.requires.fates at in
     let here : c.if-is_dropped.link ≡ token_link cs n change = elim c.if-is_dropped.branch [
       | then-is_dropped w ↦ token-dropped cs n change c.is_dropped.result told c.if-is_dropped.link w.if-is_dropped.true w.link-is
-      | else-is_dropped w ↦ token-kept cs n change c.is_dropped.result told c.if-is_dropped.link c.args.targets.now c.requires.targets w.if-is_dropped.false (w.link-is ∙ w.replacement-link.ensures)
+      | else-is_dropped w ↦ token-kept cs n change c.is_dropped.result told c.if-is_dropped.link c.requires.apart w.if-is_dropped.false (subst (StartsAtToken cs (anchor_token change)) (sym w.link-is) (w.replacement-link.ensures cs c.requires.sorted c.requires.fit))
     ] in
     linked-more (token_link cs) cs n change c.loop-number.links.items c.push.new.self.items c.if-is_dropped.link c.loop-number-test.true c.index-changes-number.is c.loop-number.invariant c.in_ok-push.ensures.items here
 

@@ -1,0 +1,94 @@
+//! Where an aim stands, as it is seen from a node whose children are made anew.
+
+ghost use Rattle.std.specs.Prelude.{◌≡◌, ◌≤◌, ◌<◌, ◌+◌, length, MatchBool};
+ghost use Rattle.edit_change.specs.inner.Aimed.{formed};
+ghost use Rattle.one_pass.specs.inner.Sweep.{lowered, IsSite, IsBelow, BelowUpTo, EndsBelow};
+
+use edit_change::{AimForm, Aimed};
+
+/// Where what is due to an aim stands among the children of a node.
+#[derive(Clone, Copy)]
+pub enum Site {
+    /// In a gap.
+    Gap(usize),
+    /// In the place of some children: the first of them, and how many there are.
+    Slots(usize, usize),
+    /// Inside a child.
+    Below(usize),
+    /// Nowhere: the aim alters nothing, or the node has no such child.
+    Nowhere,
+}
+
+// An aim as it is seen from a node so many slots down its path.
+fn lowered<'a>(aim: &Aimed<'a>, depth: usize) -> Aimed<'a>
+    ensures { formed result ≡ lowered depth aim.now }
+{
+    let path = match aim.path.get(depth..) {
+        Some(path) => path,
+        None => &[],
+    };
+    Aimed {
+        change: aim.change,
+        path,
+        form: aim.form,
+    }
+}
+
+/// Where an aim stands among so many children of the node at a depth.
+pub fn site_of(aim: &Aimed, depth: usize, count: usize) -> Site
+    ensures { IsSite count (lowered depth aim.now) result }
+{
+    let aim = lowered(aim, depth);
+    if !aim.has_parent() {
+        return Site::Nowhere;
+    }
+    let [slot, inner @ ..] = aim.path else {
+        return Site::Gap(0);
+    };
+    if *slot >= count {
+        return Site::Nowhere;
+    }
+    if !inner.is_empty() {
+        return Site::Below(*slot);
+    }
+    match aim.form {
+        AimForm::FirstIn => Site::Below(*slot),
+        AimForm::AfterElement => Site::Gap(*slot + 1),
+        AimForm::Over(count) => Site::Slots(*slot, count),
+    }
+}
+
+// Whether an aim alters something inside a child.
+fn is_inside(aim: &Aimed, depth: usize, slot: usize) -> bool
+    ensures { MatchBool result (IsBelow slot (lowered depth aim.now)) (IsBelow slot (lowered depth aim.now) → ⊥) }
+{
+    match lowered(aim, depth).seen_from(slot) {
+        Some(inner) => inner.has_parent(),
+        None => false,
+    }
+}
+
+/// The depth of a child, where an aim's path leads on from its parent.
+pub fn one_deeper(aim: &Aimed, depth: usize) -> usize
+    requires { depth < length aim.now.path.now }
+    ensures { result ≡ depth + 1 }
+{
+    let slots = aim.path.len();
+    slots.min(depth + 1)
+}
+
+/// How many aims there are inside a child before the first one that is not.
+pub fn run_inside(aims: &[Aimed], depth: usize, slot: usize) -> usize
+    ensures within { result ≤ length aims.now }
+    ensures inside { BelowUpTo depth slot aims.now result }
+    ensures end { EndsBelow depth slot aims.now result }
+{
+    let mut end = 0;
+    while end < aims.len() {
+        if !is_inside(&aims[end], depth, slot) {
+            return end;
+        }
+        end += 1;
+    }
+    end
+}
