@@ -1,3 +1,5 @@
+//! `Fate`: what becomes of a change in a plan.
+
 ghost use Rattle.std.specs.Prelude.{◌≡◌, ◌<◌, length, map, cond, option_map, None, All, IfOk, IfSome};
 ghost use Rattle.cst_core.specs.Element.{Element};
 ghost use Rattle.edit_change.specs.Fits.{Fits};

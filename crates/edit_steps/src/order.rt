@@ -1,3 +1,5 @@
+//! `check`: whether an order has each change once, and after all that it waits for. `EditPlan::execute` asks it first.
+
 ghost use Rattle.std.specs.Prelude.{◌≡◌, ◌≤◌, ◌↔◌, ℕ, None, map, length, IfOk, IfErr, OnOk, IsTrue, All};
 ghost use Rattle.std.specs.List.{list_all};
 ghost use Rattle.edit_change.specs.Nesting.{first_clash};

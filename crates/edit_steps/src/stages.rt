@@ -1,3 +1,5 @@
+//! `Stages`: the tree, and the payload of each change that others move into, with some changes carried out. `EditRun` steps it.
+
 ghost use Rattle.std.specs.Prelude.{◌≡◌, ◌<◌, ◌∷◌, [], None, true, false, map, length, slice_set, IfOk, OnOk, OnErr, All};
 ghost use Rattle.green_tree.specs.Green.{branch_tree};
 ghost use Rattle.green_tree.specs.GreenElement.{element_tree, element_trees};

@@ -1,3 +1,5 @@
+//! Lists of aims: whether some of them alter anything, and the same aims in document order.
+
 ghost use Rattle.std.specs.Prelude.{◌≡◌, [], IfOk};
 ghost use Rattle.std.specs.List.{list_any};
 ghost use Rattle.edit_change.specs.Rewriting.{is_replaced};

@@ -1,3 +1,5 @@
+//! The numbers of changes by their depth, so that what an owner gives is entered after all that it owns.
+
 ghost use Rattle.std.specs.Prelude.{◌≡◌, IfOk};
 ghost use Rattle.edit_change.specs.inner.OwnerPlaces.{depth_of};
 ghost use Rattle.one_pass.specs.inner.OwnerTables.{AreByDepth};

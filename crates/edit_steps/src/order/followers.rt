@@ -1,3 +1,6 @@
+//! `Followers`: which change waits for which, at most one for each of three reasons: its owner, the insert before it in its
+//! gap, the replacement of the token that it follows.
+
 ghost use Rattle.std.specs.Prelude.{◌≡◌, ◌<◌, None, List, map, length, slice_get, option_map, All, IfOk};
 ghost use Rattle.edit_change.specs.inner.Fate.{fate};
 ghost use Rattle.edit_change.specs.Nesting.{first_clash};

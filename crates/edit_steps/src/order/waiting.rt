@@ -1,3 +1,5 @@
+//! `Waiting`: which changes are done and which may come next. A step alters at most three counts.
+
 ghost use Rattle.std.specs.Prelude.{◌≡◌, ◌<◌, ℕ, None, Some, Bool, true, false, ◌&&◌, ◌||◌, nat_eq, slice_index, slice_set, List, map, length, slice_get, All, IfOk};
 ghost use Rattle.std.specs.List.{list_all};
 ghost use Rattle.edit_change.specs.Nesting.{first_clash};
