@@ -1,7 +1,14 @@
+use Rattle.std.proofs.Common.{sym, subst}
+use Rattle.std.specs.Prelude.{All}
+use Rattle.edit_change.specs.inner.DocumentOrder.{FitsSome}
 use Rattle.edit_plan.specs.ExecuteRefusal.{of_order, ExecuteRefuses}
 use Rattle.edit_plan.proofs.AllowedRuns.{order-refused}
 use Rattle.edit_plan.proofs.PromisesOfRuns.{err-gives}
 use Rattle.edit_plan.proofs.plan.EditPlan.execute.Goals as goal
+
+pub check-requires-clause-fit : goal.check-requires-clause-fit
+check-requires-clause-fit c =
+    subst (All FitsSome) (sym c.deref.ensures.value) (λ k d l. (c.self.inside.root, c.self.invariant.is_plan.fit k d l))
 
 pub returns-in_err-check-clause-refused : goal.returns-in_err-check-clause-refused
 returns-in_err-check-clause-refused c =
