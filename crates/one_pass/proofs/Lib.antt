@@ -1,5 +1,6 @@
 mod Alike
 pub mod OneAim
+pub mod QuietRuns
 pub mod Reordered
 pub mod OpenedNode
 pub mod NextAim

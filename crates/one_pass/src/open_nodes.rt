@@ -1,10 +1,11 @@
 //! Nodes that are made anew, each inside the one before it.
 
-ghost use Rattle.std.specs.Prelude.{◌≡◌, ◌≤◌, ◌<◌, ◌+◌, ◌∷◌, [], ◌++◌, suc, length, IfOk, OnOk, MatchOption};
+ghost use Rattle.std.specs.Prelude.{ℕ, ◌≡◌, ◌≤◌, ◌<◌, ◌+◌, ◌∷◌, [], ◌++◌, suc, length, IfOk, OnOk, MatchOption};
 ghost use Rattle.green_tree.specs.Tree.{node};
 ghost use Rattle.green_tree.specs.GreenElement.{element_tree, element_trees};
 ghost use Rattle.green_tree.specs.Count.{counted};
-ghost use Rattle.one_pass.specs.inner.Marked.{sought_in};
+ghost use Rattle.one_pass.specs.inner.Marked.{sought_in, sought_for};
+ghost use Rattle.one_pass.specs.declared.walk.Walk.{Walk};
 ghost use Rattle.one_pass.specs.inner.Sweep.{seen_at, From};
 ghost use Rattle.one_pass.specs.inner.OpenNodes.{InOrder, IsNodeOpened, IsFurther, IsShared, PutsNext, IsPassed, IsToOpen, IsLeft, IsEnded, IsNext};
 ghost use Rattle.one_pass.specs.inner.OpenNodes.{Enters, PutsMade, FindsWholeNode, to_build, whole};
@@ -14,9 +15,10 @@ use crate::marked_given::GivenTable;
 use crate::open_node::OpenNode;
 use crate::pushes::{push_change, push_child};
 use crate::site::{Site, one_deeper, run_inside, site_of};
+use crate::sought_list::SoughtList;
 use crate::walk::Walk;
 use edit_change::Aimed;
-use green_tree::{GreenElement, GreenNode, SyntaxKind};
+use green_tree::{GreenElement, GreenNode, SyntaxKind, share_all};
 use std::alloc::{AllocError, Global};
 
 // Nodes are made here alone, and counted. At the greatest number the count stays.
@@ -81,6 +83,40 @@ fn share_next(alloc: Global, walk: &mut Walk, top: &mut OpenNode) -> Result<(), 
     Ok(())
 }
 
+// The first slot from one on in which a mark is sought, or the last one that is asked about.
+fn quiet_end(lists: &[SoughtList], from: usize, until: usize) -> usize
+    requires { from ≤ until }
+    ensures least { from ≤ result }
+    ensures most { result ≤ until }
+    ensures quiet { (k : ℕ) → from ≤ k → k < result → sought_for lists.now k ≡ [] }
+{
+    let mut slot = from;
+    while slot < until {
+        if !sought_for(lists, slot).is_empty() {
+            return slot;
+        }
+        slot += 1;
+    }
+    slot
+}
+
+// Children in which no mark is sought are shared in one go, since most children of a wide node are such.
+fn share_quiet(alloc: Global, top: &mut OpenNode, until: usize) -> Result<(), AllocError>
+    requires within { until ≤ length top.old.elements.now }
+    requires next { top.old.slot ≤ until }
+    requires ahead { From (until + until) (seen_at top.old.depth top.old.aims.now) }
+    ensures least { OnOk result (top.old.slot ≤ top.new.slot) }
+    ensures most { OnOk result (top.new.slot ≤ until) }
+    ensures shared { OnOk result ((w : Walk) → IsShared top.new.slot w w top.old top.new) }
+{
+    let end = quiet_end(&top.lists, top.slot, until);
+    let first = top.slot.max(top.passed).min(end);
+    let elements = top.elements;
+    share_all(alloc, &mut top.out, &elements[first..end])?;
+    top.slot = end;
+    Ok(())
+}
+
 // The children before a slot that are still to come are shared, where nothing aims before it.
 fn share_until(
     alloc: Global,
@@ -93,8 +129,10 @@ fn share_until(
     requires ahead { From (until + until) (seen_at top.old.depth top.old.aims.now) }
     ensures { OnOk result (IsShared until walk.old walk.new top.old top.new) }
 {
+    share_quiet(alloc, top, until)?;
     while top.slot < until {
         share_next(alloc, walk, top)?;
+        share_quiet(alloc, top, until)?;
     }
     Ok(())
 }
