@@ -1,10 +1,10 @@
 -- Which regions are around a change.
 --     up_to-cons                    the elements on the way to one below a child
 --     up_to_parent                  the elements above one are those on the way to its parent
---     any-swap, around-turned, any-and      tests of two lists, in either order
+--     any-swap, around-turned       tests of two lists, in either order
 --     is_some-position              a test passes somewhere
 --     unowned-at                    where no change has an owner
-use Rattle.std.specs.Prelude.{◌≡◌, ℕ, suc, Bool, true, false, not, nat_lt, ◌+◌, ◌||◌, ◌&&◌, cond, List, [], ◌∷◌, length, map, position, Some, None, is_some, refl}
+use Rattle.std.specs.Prelude.{◌≡◌, ℕ, suc, Bool, true, false, not, nat_lt, ◌+◌, ◌||◌, cond, List, [], ◌∷◌, length, map, position, Some, None, is_some, refl}
 use Rattle.std.specs.List.{list_any, position_or_len}
 use Rattle.std.proofs.Common.{ap, sym, ◌∙◌, arith}
 use Rattle.std.proofs.lemmas.Bool.{lt-ltb}
@@ -53,10 +53,6 @@ same-other p q =
 pub around-turned : (ps qs : List Path) → list_any (λ q. has_path ps q) qs ≡ list_any (has_path qs) ps
 around-turned ps qs =
     any-swap (λ q x. same_path q x) qs ps ∙ ap (λ f. list_any f ps) (fun_ext (λ x. ap (λ f. list_any f qs) (fun_ext (λ q. same-other q x))))
-
-pub any-and : {X : Type 0} (b : Bool) (f : X → Bool) (xs : List X) → list_any (λ x. b && f x) xs ≡ (b && list_any f xs)
-any-and true f xs = refl
-any-and false f xs = any-never xs
 
 -- ---- the owner
 lt-position : {X : Type 0} (p : X → Bool) (xs : List X) → nat_lt (position_or_len p xs) (length xs) ≡ list_any p xs

@@ -3,7 +3,7 @@
 --     none-below, clash-there       none clash at all; the first two that do
 use Rattle.std.specs.Prelude.{◌≡◌, ℕ, zero, suc, ◌+◌, ◌<◌, ◌≤◌, Bool, true, false, cond, List, map, find, length, Some, None, refl}
 use Rattle.std.proofs.Common.{ap, sym, subst, ◌∙◌, arith}
-use Rattle.std.proofs.lemmas.Bool.{cases_eq, true≢false}
+use Rattle.std.proofs.lemmas.Bool.{cases_eq}
 use mathlib.Core.Logic.{inl, inr}
 use Rattle.cst_core.specs.Path.{counted_from}
 use Rattle.edit_change.specs.Nesting.{clashes, pairs_with, first_clash}
@@ -44,13 +44,3 @@ none-below cs n long none = sym (none-until cs (length cs) (subst (λ k. Clashes
 pub clash-there : (cs : List Change) (i j : ℕ) → j < length cs → i < j → ClashesBelow cs j false → clashes cs i j ≡ true → ((k : ℕ) → k < i → clashes cs k j ≡ false) → Some (i, j) ≡ first_clash cs
 clash-there cs i j l m none here first =
     sym (first-found (clash cs) pairs_with j (length cs) (i, j) l (none-until cs j none) (find-counted (clash cs) (λ k. (k, j)) 0 j i (omega arith) (omega (arith, m)) (λ k a h. first k h) here))
-
--- the one below which none clash
-pub last-clash : (cs : List Change) (j : ℕ) → ClashesBelow cs j false → ClashesBelow cs (j + 1) true → (i : ℕ) × (i < j) × (clashes cs i j ≡ true)
-last-clash cs j none some =
-    elim (cases_eq some.1 j) [
-      | inl same ↦ (some.0, omega (arith, some.2, same), ap (clashes cs some.0) (sym same) ∙ some.4)
-      | inr other ↦
-          let l : some.1 < j = omega (arith, some.3, other) in
-          absurd (true≢false (sym some.4 ∙ none some.0 some.1 some.2 l))
-    ]

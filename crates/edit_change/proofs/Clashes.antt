@@ -1,12 +1,11 @@
 -- The first of many lists, one after another, in which something passes a test.
 --     none-more, first-found        nothing in one more list; something in the next
---     counted-on                    one item more of those that are counted
 --     clashes-at, at-index          two changes of a list
-use Rattle.std.specs.Prelude.{◌≡◌, ℕ, zero, suc, ◌+◌, ◌-◌, ◌<◌, ◌≤◌, Bool, false, List, [], ◌∷◌, ◌++◌, length, map, flat_map, find, slice_get, Some, None}
+use Rattle.std.specs.Prelude.{◌≡◌, ℕ, zero, suc, ◌+◌, ◌-◌, ◌<◌, Bool, false, List, [], ◌∷◌, ◌++◌, length, flat_map, find, slice_get, Some, None}
 use Rattle.std.specs.Option.{option_or, option_map_or}
 use Rattle.std.proofs.Common.{ap, ap₂, sym, ◌∙◌, arith, get_or}
 use Rattle.std.proofs.lemmas.Option.{slice_get-get_or}
-use Rattle.std.proofs.lemmas.List.{append-nil, map-append}
+use Rattle.std.proofs.lemmas.List.{append-nil}
 use Rattle.std.proofs.lemmas.List.Folds.{find-append}
 use Rattle.std.proofs.lemmas.Grind.{flat_map-append}
 use Rattle.cst_core.specs.Path.{counted_from}
@@ -19,13 +18,6 @@ counted-push a zero = let e : a ≡ a + 0 = omega arith in ap (λ k. k ∷ []) e
 counted-push a (suc n) =
     let e : suc a + n ≡ a + suc n = omega arith in
     ap (λ ks. a ∷ ks) (counted-push (suc a) n ∙ ap (λ k. counted_from (suc a) n ++ k ∷ []) e)
-
--- one number more, by its place among the siblings
-pub counted-on : {Y : Type 0} (f : ℕ → Y) (a n : ℕ) (xs ys : List Y) (y : Y) → a ≤ n → xs ≡ map f (counted_from a (n - a)) → ys ≡ xs ++ y ∷ [] → y ≡ f n → ys ≡ map f (counted_from a (suc n - a))
-counted-on f a n xs ys y l before push is =
-    let more : suc n - a ≡ suc (n - a) = omega (arith, l) in
-    let here : a + (n - a) ≡ n = omega (arith, l) in
-    push ∙ ap₂ (λ zs z. zs ++ z ∷ []) before (is ∙ ap f (sym here)) ∙ sym (ap (λ k. map f (counted_from a k)) more ∙ ap (map f) (counted-push a (n - a)) ∙ map-append f (counted_from a (n - a)) ((a + (n - a)) ∷ []))
 
 module _ {Y : Type 0} (test : Y → Bool) (g : ℕ → List Y) where
   abbrev pub until : ℕ → List Y

@@ -1,6 +1,6 @@
 -- The comparison of aims is document order, and sorted aims of changes are in it.
---     way-in, way-past, way-within  what stands at a depth of a way, and past its end
---     first-here, first-on, over-key, over-none, after-top, below-top, after-none, after-last, after-on      what stands at a depth of a site, by its form
+--     way-within                    what stands on a way is not past its end
+--     first-here, first-on, over-key, after-top, below-top, after-none, after-last, after-on      what stands at a depth of a site, by its form
 --     ends-less, ends-greater, ends-equal, goes-on      two lists of numbers compared at a depth
 --     before-compared               lists of numbers compare as their order says
 --     stands-compared               one aim stands before another one exactly if it is less by site and number
@@ -8,7 +8,7 @@
 --     OfChange, all-there           an aim is that of the change with its number; each of sorted aims is
 --     numbers-in-order, are-sorted  the numbers of sorted aims are a document order; aims are sorted by the comparison
 --     aims-further                  one aim more of those of all changes
-use Rattle.std.specs.Prelude.{◌≡◌, ◌≢◌, ◌<◌, ◌+◌, ◌-◌, ◌*◌, ℕ, zero, suc, Bool, true, false, ◌&&◌, ◌||◌, ◌==◌, cond, nat_eq, nat_lt, List, [], ◌∷◌, ◌++◌, map, drop, take, length, slice_get, Option, Some, None, option_map, refl}
+use Rattle.std.specs.Prelude.{◌≡◌, ◌≢◌, ◌<◌, ◌+◌, ◌-◌, ℕ, zero, suc, Bool, true, false, ◌&&◌, ◌||◌, ◌==◌, cond, nat_eq, nat_lt, List, [], ◌∷◌, ◌++◌, map, drop, take, length, slice_get, Option, Some, None, option_map, refl}
 use Rattle.std.specs.List.{AllByRecursion, IsDistinct, cons_option, enumerate_from}
 use Rattle.std.specs.List.Sorted.{IsPermutation, IsSortedBy}
 use Rattle.std.specs.Cmp.{IsTotalOrder, nat_cmp_total, on_total, then_total}
@@ -56,14 +56,6 @@ not-end (y ∷ w) x (suc d) ne = not-end w x d (λ e. ne (ap suc e))
 long-way : (p : Path) → length (on_the_way p) ≡ length p
 long-way p = length-map p (λ s. suc (s + s))
 
-pub way-in : (p : Path) (d s k : ℕ) → slice_get p d ≡ Some s → k ≡ 2 * s + 1 → Some k ≡ slice_get (on_the_way p) d
-way-in p d s k is e =
-    let same : k ≡ suc (s + s) = omega (arith, e) in
-    ap Some same ∙ sym (slice_get-map (λ i. suc (i + i)) p d ∙ ap (option_map (λ i. suc (i + i))) is)
-
-pub way-past : (p : Path) (d : ℕ) → slice_get p d ≡ None → None ≡ slice_get (on_the_way p) d
-way-past p d is = sym (slice_get-map (λ i. suc (i + i)) p d ∙ ap (option_map (λ i. suc (i + i))) is)
-
 pub way-within : (p : Path) (d k : ℕ) → Some k ≡ slice_get (on_the_way p) d → d < length p
 way-within p d k is = let l = slice_get_within (on_the_way p) d k (sym is) in omega (arith, l, long-way p)
 
@@ -81,11 +73,6 @@ pub over-key : (p : Path) (n d : ℕ) (o : Option ℕ) → n ≢ 0 → o ≡ sli
 over-key p zero d o ne is = absurd (ne refl)
 over-key [] (suc n) d o ne is = is
 over-key (i ∷ p) (suc n) d o ne is = is ∙ ap (λ q. slice_get (on_the_way q) d) (parent-and-slot i p)
-
-pub over-none : (p : Path) (n d : ℕ) → n ≡ 0 → None ≡ slice_get (site (Over (siblings_from p n))) d
-over-none [] zero d e = refl
-over-none (i ∷ p) zero d e = refl
-over-none p (suc n) d e = absurd (omega (arith, e))
 
 pub after-top : (p : Path) (d : ℕ) → d ≡ 0 → length p ≡ 0 → Some 0 ≡ slice_get (site (AfterElement p)) d
 after-top [] zero e none = refl

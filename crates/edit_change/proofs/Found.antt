@@ -1,27 +1,25 @@
 -- The change that replaces from a path on, found in document order.
 --     place                         the site of an aim
 --     start-found, start-missing    what is at the place where it is, and where none is
-use Rattle.std.specs.Prelude.{◌≡◌, ◌<◌, ◌≤◌, ◌+◌, ℕ, zero, suc, Bool, true, false, nat_eq, List, [], ◌∷◌, ◌++◌, map, length, slice_get, Option, Some, None, option_map, All, refl}
-use Rattle.std.specs.List.{AllWithin, HoldsAt, list_any}
-use Rattle.std.specs.List.Sorted.{IsSortedBy, IsNonDecreasingBy, IsPartitionPoint, IsBinarySearchResult}
+use Rattle.std.specs.Prelude.{◌≡◌, ◌<◌, ◌+◌, ℕ, zero, suc, true, nat_eq, List, [], ◌∷◌, ◌++◌, length, slice_get, Option, Some, None, option_map, All, refl}
+use Rattle.std.specs.List.Sorted.{IsSortedBy, IsNonDecreasingBy, IsPartitionPoint}
 use Rattle.std.specs.Cmp.Lexicographic.{slice_cmp}
 use Rattle.std.specs.Ordering.{nat_cmp, is_lt, is_eq, ordering_index}
 use Rattle.std.specs.declared.cmp.Ordering.TheVariants.{Less, Equal, Greater}
-use Rattle.std.proofs.Common.{ap, ap₂, sym, subst, ◌∙◌, arith, get_or, Ordering, Ok, Err}
+use Rattle.std.proofs.Common.{ap, ap₂, sym, subst, ◌∙◌, arith, get_or, Ordering}
 use Rattle.std.proofs.lemmas.Bool.{cases_lt, eqb-true, false_from_ne_true, false≢true, true≢false}
 use Rattle.std.proofs.lemmas.Cmp.{nat_list_cmp_total}
-use Rattle.std.proofs.lemmas.List.{length-map}
 use Rattle.std.proofs.lemmas.List.Elements.{recursion_from_All}
 use Rattle.std.proofs.lemmas.List.Sorted.{searchable_from_sorted}
 use Rattle.std.proofs.lemmas.Map.Text.{is_eq-slice_cmp}
 use Rattle.std.proofs.lemmas.Option.{none-some, same_Some, slice_get-map, slice_get_within, slice_get-get_or, get_or_from_slice_get}
 use mathlib.Core.Logic.{inl, inr}
-use Rattle.cst_core.specs.Path.{Path, parent_path, last_slot, same_path}
+use Rattle.cst_core.specs.Path.{Path, parent_path, last_slot}
 use Rattle.edit_change.specs.Aim.{Aim, FirstIn, AfterElement, Over, starts_at}
 use Rattle.edit_change.specs.ChangeAim.{aim}
 use Rattle.edit_change.specs.Rewriting.{NumberedAim}
 use Rattle.edit_change.specs.inner.Aimed.{numbered, aims_of}
-use Rattle.edit_change.specs.inner.DocumentOrder.{on_the_way, site, is_before, stands_before, InDocumentOrder, FitsSome, AreSorted, StartsThere}
+use Rattle.edit_change.specs.inner.DocumentOrder.{on_the_way, site, stands_before, InDocumentOrder, FitsSome, AreSorted, StartsThere}
 use Rattle.edit_change.specs.declared.aimed.Aimed.{Aimed}
 use Rattle.edit_change.specs.declared.change.Change.{Change}
 use Rattle.edit_change.proofs.DocumentOrder.{OfChange, all-there, before-compared}
@@ -29,7 +27,7 @@ use Rattle.edit_change.proofs.Innermost.{any-place}
 use Rattle.edit_change.proofs.Lists.{all_at}
 use Rattle.edit_change.proofs.OpenAims.{before-after}
 use Rattle.edit_change.proofs.Paths.{same_path-true, same_path_from}
-use Rattle.edit_change.proofs.Sites.{run, way-push, Stands, First, Behind, Whole, Run, stands}
+use Rattle.edit_change.proofs.Sites.{Stands, First, Behind, Whole, Run, stands}
 use Rattle.edit_change.proofs.Sweeping.{has-each}
 
 in-order-at : (xs : List NumberedAim) (i j : ℕ) (a b : NumberedAim) → InDocumentOrder xs → i < j → slice_get xs i ≡ Some a → slice_get xs j ≡ Some b → stands_before a b ≡ true

@@ -1,10 +1,9 @@
 -- The first number at which a test passes.
---     position-cons, position-push  with one item more, before the others and after them
+--     position-cons                 with one item more before the others
 --     none-passes                   where there is none, no item passes
 --     push-of-take                  so many items of a list, and the next
 use Rattle.std.specs.Prelude.{◌≡◌, ℕ, suc, ◌+◌, ◌<◌, Bool, true, false, not, cond, nat_lt, List, [], ◌∷◌, ◌++◌, length, take, position, Option, Some, None, option_map, refl}
 use Rattle.std.specs.List.{AllByRecursion, position_or_len}
-use Rattle.std.specs.Option.{option_or}
 use Rattle.std.proofs.Common.{ap, ap₂, sym, ◌∙◌, arith, get_or}
 use Rattle.std.proofs.lemmas.Bool.{ltb-true, lt-ltb, cases_Bool}
 use Rattle.std.proofs.lemmas.Option.{none-some}
@@ -32,22 +31,7 @@ position-cons p x xs =
       | false ↦ let e : 1 + after ≡ suc after = omega arith in ap (λ n. cond (nat_lt n (suc (length xs))) (Some n) None) e ∙ below-length after (length xs)
     ])
 
-pub position-push : {X : Type 0} (p : X → Bool) (xs : List X) (x : X) → position p (xs ++ x ∷ []) ≡ option_or (position p xs) (cond (p x) (Some (length xs)) None)
-position-push p [] x = position-cons p x []
-position-push p (y ∷ xs) x =
-    position-cons p y (xs ++ x ∷ []) ∙ ap (λ o. cond (p y) (Some 0) (option_map suc o)) (position-push p xs x) ∙ moved (p y) (position p xs) (p x) (length xs) ∙ ap (λ o. option_or o (cond (p x) (Some (suc (length xs))) None)) (sym (position-cons p y xs))
-  where
-    moved : (here : Bool) (o : Option ℕ) (last : Bool) (n : ℕ) → cond here (Some 0) (option_map suc (option_or o (cond last (Some n) None))) ≡ option_or (cond here (Some 0) (option_map suc o)) (cond last (Some (suc n)) None)
-    moved true o last n = refl
-    moved false (Some k) last n = refl
-    moved false None true n = refl
-    moved false None false n = refl
-
 -- ---- no item passes
-pub never-passes : {X : Type 0} (xs : List X) → position (λ x. false) xs ≡ None
-never-passes [] = refl
-never-passes (x ∷ xs) = position-cons (λ y. false) x xs ∙ ap (λ o. option_map suc o) (never-passes xs)
-
 pub none-passes : {X : Type 0} (p : X → Bool) (xs : List X) → position p xs ≡ None → AllByRecursion (λ x. p x ≡ false) xs
 none-passes p [] h = tt
 none-passes p (x ∷ xs) h =

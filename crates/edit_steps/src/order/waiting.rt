@@ -74,11 +74,7 @@ impl Waiting {
     /// Of these changes, of which no two clash, none is done yet. `fates` has what becomes of each.
     ///
     /// Takes time near linear in the paths of the changes.
-    pub fn new(
-        alloc: Global,
-        changes: &[Change],
-        fates: &[Fate],
-    ) -> Result<Waiting, AllocError>
+    pub fn new(alloc: Global, changes: &[Change], fates: &[Fate]) -> Result<Waiting, AllocError>
         requires fit { All FitsSome changes.now }
         requires apart { first_clash changes.now ≡ None }
         requires fates { fates.now ≡ map (fate changes.now) changes.now }
