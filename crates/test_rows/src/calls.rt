@@ -7,7 +7,7 @@
 
 use std::io;
 
-/// A line for each call: its name in a row, its name in the sources, and what it can answer where memory is there, that
+/// A line for each call: its name in a row, that in the sources, and what it can answer where memory is there, that
 /// it is done and each refusal by its name. One text, since each reference that a constant holds makes the proof of
 /// what reads it longer.
 pub const OWED: &str = r#"new_root SyntaxNode::new_root ok TooLong NoTreeNumber

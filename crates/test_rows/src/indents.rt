@@ -5,23 +5,15 @@ use crate::making::factory;
 use crate::roots::typed;
 use crate::session::{CHANGED, Session};
 use crate::shown::{Answer, Done, demand};
-use cst_core::AstNode;
 use cst_core::ast::{BlockExpr, StmtList};
+use cst_core::{AstNode, SyntaxElement};
 use syntax_editor::{AstNodeEdit, IndentError, IndentLevel, SyntaxFactory, indent};
 use test_trees::{NoAnswer, Words};
 
 /// Takes the step of this name, or passes on what is none of these.
 pub fn answer(s: &mut Session, name: &str, words: &mut Words, out: &mut Answer) -> Done {
     match name {
-        "from_element" => {
-            let element = s.trees.element(words)?;
-            level(IndentLevel::from_element(s.alloc, &element), out)
-        }
-        "from_node" => level(IndentLevel::from_node(s.alloc, &s.trees.node(words)?), out),
-        "from_token" => {
-            let token = s.trees.token(words)?;
-            level(IndentLevel::from_token(s.alloc, &token), out)
-        }
+        "from_element" | "from_node" | "from_token" => level_at(s, name, words, out),
         "indent_level" => level(
             typed::<BlockExpr>(s.trees.node(words)?)?.indent_level(s.alloc),
             out,
@@ -45,6 +37,17 @@ fn read_level(words: &mut Words) -> Result<IndentLevel, NoAnswer> {
 fn level(called: Result<IndentLevel, IndentError>, out: &mut Answer) -> Done {
     let level = out.asked(called)?;
     out.given(&u64::from(level.0))
+}
+
+// By the call of this name.
+fn level_at(s: &mut Session, name: &str, words: &mut Words, out: &mut Answer) -> Done {
+    let element = s.trees.element(words)?;
+    match (name, &element) {
+        ("from_element", it) => level(IndentLevel::from_element(s.alloc, it), out),
+        ("from_node", SyntaxElement::Node(it)) => level(IndentLevel::from_node(s.alloc, it), out),
+        (_, SyntaxElement::Token(it)) => level(IndentLevel::from_token(s.alloc, it), out),
+        _ => Err(NoAnswer::Form),
+    }
 }
 
 // Whether no indentation, and first one level more, then another one, is the third level.

@@ -13,7 +13,7 @@ pub enum Line<'a> {
     Group(&'a str),
     /// `tree NAME TREE`, with what stands after the first word: a tree that the rows after it name.
     Tree(&'a str),
-    /// A row: the steps of `WORDS: STEP ; STEP ; ..` or `? STEP`, an answer, and whether it is theirs (` = ANSWER`), or
+    /// A row: the steps of `WORDS: STEP ; STEP ; ..` or `? STEP`, an answer, whether it is theirs (` = ANSWER`), or
     /// not (` != ANSWER`), so that the row fails where all answers are taken for equal.
     Row(&'a str, &'a str, bool),
     /// `end`: the last line of a file, so that one that is cut off is noticed.

@@ -5,7 +5,7 @@ use crate::roots::{annotation_of, kind_in, typed};
 use crate::session::{Session, last, take};
 use crate::shown::{Answer, Done, Show, kind_name};
 use cst_core::ast::{BlockExpr, Fn, LetStmt, StmtList};
-use cst_core::{GreenNode, SyntaxKind, SyntaxNode, SyntaxToken, TreeIds};
+use cst_core::{GreenNode, SyntaxElement, SyntaxKind, SyntaxNode, SyntaxToken, TreeIds};
 use std::alloc::Global;
 use syntax_editor::{
     Annotations, Element, MapError, SyntaxFactory, SyntaxMapping, SyntaxMappingBuilder,
@@ -297,18 +297,22 @@ fn place(s: &mut Session, words: &mut Words, out: &mut Answer) -> Done {
     }
 }
 
-// The form of the element, its text, the number of its tree and its path.
 fn follow(s: &mut Session, words: &mut Words, out: &mut Answer) -> Done {
     let mapping = last(&mut s.mappings)?;
     let start = s.trees.element(words)?;
     let end = out.asked(mapping.follow(s.alloc, &start))?;
+    show_end(&end, out)
+}
+
+// The form of the element, its text, the number of its tree and its path.
+fn show_end(end: &SyntaxElement, out: &mut Answer) -> Done {
     let form = if end.as_node().is_some() {
         "node"
     } else {
         "token"
     };
     write!(out.text, "ok {form} ")?;
-    out.quote(&end.text(s.alloc)?)?;
+    out.quote(&end.text(out.alloc)?)?;
     write!(out.text, " of {} at ", end.tree())?;
     out.path(end.slots())
 }

@@ -177,7 +177,7 @@ fn run<E: EditEngine>(s: &mut Session, engine: &mut E, out: &mut Answer) -> Done
     keep_edit(s, edit, out)
 }
 
-// The count of an engine that makes the last plan's tree in one pass, from the number of the next word on, if the other
+// The count of an engine that makes the last plan's tree in one pass, from the next word's number on, if the other
 // engine makes the same tree and paths. A refused run must leave the engine's count as it was.
 fn built(s: &mut Session, words: &mut Words, out: &mut Answer) -> Done {
     let first = number_of(words.next().unwrap_or("0"))?;

@@ -1,7 +1,7 @@
 //! The trees that a row names: those that its steps made, and those that the table defined. What calls take is read
 //! from words here.
 
-use cst_core::{AstNode, GreenElement, SyntaxElement, SyntaxKind, SyntaxNode, SyntaxToken};
+use cst_core::{AstNode, GreenElement, SyntaxElement, SyntaxKind, SyntaxNode};
 use std::alloc::{AllocError, Global};
 use syntax_editor::{Annotations, Position, SyntaxAnnotation};
 use test_trees::{NoAnswer, Trees, Words, element_in, name_and_path, number_of};
@@ -49,10 +49,6 @@ impl Roots {
 
     pub fn node(&self, words: &mut Words) -> Result<SyntaxNode, NoAnswer> {
         self.node_at(words.word()?)
-    }
-
-    pub fn token(&self, words: &mut Words) -> Result<SyntaxToken, NoAnswer> {
-        self.element(words)?.into_token().ok_or(NoAnswer::Form)
     }
 
     /// The elements of all words of a text.

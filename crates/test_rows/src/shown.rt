@@ -245,12 +245,9 @@ impl Show for TokenAtOffset {
 // Kind, how many children, length and text.
 impl Show for GreenNode {
     fn show(&self, out: &mut Answer) -> Done {
-        let (count, length) = (self.children().len(), self.length());
-        write!(
-            out.text,
-            "{} of {count}, {length} bytes",
-            kind_name(self.kind())
-        )?;
+        let (name, count) = (kind_name(self.kind()), self.children().len());
+        let length = self.length();
+        write!(out.text, "{name} of {count}, {length} bytes")?;
         if length > SHOWN_SHARED {
             return Ok(());
         }

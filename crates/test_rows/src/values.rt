@@ -43,17 +43,21 @@ fn compare<T: Hash>(left: &T, right: &T) -> &'static str {
     in_each_way(&[left == right, right == left, is_hash])
 }
 
-// As elements, and as the nodes or tokens that they are.
 fn equal(s: &mut Session, words: &mut Words, out: &mut Answer) -> Done {
     let left = s.trees.element(words)?;
     let right = s.trees.element(words)?;
-    let by_form = match (&left, &right) {
+    out.word(equality(&left, &right))
+}
+
+// As elements, and as the nodes or tokens that they are.
+fn equality(left: &SyntaxElement, right: &SyntaxElement) -> &'static str {
+    let by_form = match (left, right) {
         (SyntaxElement::Node(left), SyntaxElement::Node(right)) => compare(left, right),
         (SyntaxElement::Token(left), SyntaxElement::Token(right)) => compare(left, right),
         _ => "no",
     };
-    let own = compare(&left, &right);
-    out.word(if own == by_form { own } else { "in one form" })
+    let own = compare(left, right);
+    if own == by_form { own } else { "in one form" }
 }
 
 // By the node or token that is lent, and by the one that is taken, and put back.
