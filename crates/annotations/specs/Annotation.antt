@@ -1,9 +1,6 @@
 -- Annotations as their numbers, and sources of annotations, each as the number that it gives next.
 --     last_annotation, annotation_after  4,294,967,295, the greatest number of an annotation; the number after one, if it is not the last.
 --
--- Inserting `R/1` after `R/4`: the changed path is `5`, and an annotation of `R/1` is found at `1` and `5`. After an
--- insert of `x` before `R/1`, `find_element` still finds `R`, and does not find `R/4`.
---
 -- A source of annotations that begins at 4,294,967,294 returns that number and the next, and then none. One that begins
 -- at 0 returns 1 first.
 use Rattle.std.specs.Prelude.{ℕ, suc, cond, nat_eq, Option, Some, None}

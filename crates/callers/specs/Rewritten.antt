@@ -1,7 +1,7 @@
 -- What search and replacement record of the nodes of a file.
 --     is_match, is_block            A node has the kind and the text of a pattern; it is a BLOCK_EXPR.
 --     with_match, with_matches      The changes after a node was replaced if it matches; after each of some nodes was.
---     in_parentheses                the root of a tree of its own: a copy of a node between parentheses, where this is the next tree number
+--     in_parentheses                The root of a tree of its own: a copy of a node between parentheses, where this is the next tree number.
 --     with_block, with_blocks       The next tree number and the changes after a node was replaced by its wrapper if it is a block; after
 --                                   each of some nodes was.
 --     ReplacesMatches, WrapsBlocks  One editor is another after the matches among some nodes were replaced; after the blocks among them

@@ -10,9 +10,6 @@
 -- `L/4` ends at byte 5. Below `L` byte 4 is between the tokens `L/3` and `L/4/0`. Below `L/4` it touches `L/4/0` alone,
 -- and byte 3 touches none. Bytes 4 to 5 are covered last by `L/4/0`, both below `L` and below `L/4`. Bytes 3 to 5 are
 -- covered by `L`, and below `L/4` by nothing.
---
--- A loop from parent to parent ends by the first law: the length of the path is its measure. A function that calls
--- itself for each child ends by the second.
 use Rattle.std.specs.Prelude.{ℕ, ◌+◌, List, [], ◌∷◌, map, filter, Option}
 use Rattle.green_tree.specs.Path.{last_item}
 use Rattle.green_tree.specs.Tree.{text_length}

@@ -1,5 +1,5 @@
 -- Paths as numbers below 2^64, which are hashed in their place.
---     path_digest, digest_below     A path as one number below 2^64, which is hashed in its place; that of a path with one more slot.
+--     path_digest, digest_below     That number of a path; that of a path with one more slot.
 use Rattle.std.specs.Prelude.{ℕ, ◌+◌, ◌*◌, ◌%◌, ◌^◌}
 use Rattle.std.specs.List.{fold}
 use Rattle.green_tree.specs.Path.{Path}

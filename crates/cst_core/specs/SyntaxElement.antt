@@ -8,9 +8,7 @@
 --     first_token_of, last_token_of  The first token at or below an element, if there is one; the last one.
 --     token_before, token_after     The last token before an element in its tree; the first one after it, as `tokens_after` says.
 --
--- In code, `==` on element values is `same_element`, and equal values have equal hashes. Where this page says 'equal
--- numbers mean equal trees', the contract or law has `NumbersTell` as its premise. For plans, that is of
--- `elements_held`: of all element values that the plan holds.
+-- In code, `==` on element values is `same_element`, and equal values have equal hashes.
 --
 -- The child nodes of `L` are `L/1` and `L/4`; its descendants are `L`, `L/1` and `L/4`, and those of the kind LITERAL
 -- are `L/1` and `L/4`. The token before `L/4/0` is `L/3`. In `(ARG_LIST L_PAREN"(" (ATTR) R_PAREN")")` the token before

@@ -1,5 +1,4 @@
 //! Syntax trees that are shared, and values that stand for their elements.
-//!
 //! A call that looks for one element takes no memory to find that it isn't there: then it answers `Ok(None)`, or `Ok(TokenAtOffset::None)`,
 //! and never `Memory`.
 #![tactic(auto)]

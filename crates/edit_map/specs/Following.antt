@@ -1,4 +1,4 @@
--- Following of nodes and tokens.
+-- To which element a node or a token is followed.
 -- Only nodes are mapped. Where trees of one number differ, a path may lead nowhere in a copy.
 --
 --     asked_paths                   The paths of the nodes that may be mapped: those above an element, and that of a node itself.

@@ -1,5 +1,5 @@
--- What is printed of what refuses a pair.
---     map_error_text    the name of the error's case
+-- What an error prints that refuses a pair.
+--     map_error_text    The name of the error's case.
 use Rattle.std.specs.Prelude.{ℕ, List, codes}
 use Rattle.edit_map.specs.declared.map_error.MapError.{MapError}
 use Rattle.edit_map.specs.declared.map_error.MapError.TheVariants.{NotAChild, NotYounger, OtherShape, MoreInputs, Memory}

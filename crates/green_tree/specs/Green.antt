@@ -5,9 +5,6 @@
 --     texts                         The texts of several trees, one after another.
 --     length_limit, IsTooLong       4,294,967,296; a text has at least that many bytes.
 --     capped_length                 The lesser of a text's number of bytes and that limit.
---
--- The text of `L` is `(1, 2)`, of 6 bytes. `at L 1/0` is the token INT_NUMBER `1`; `at L 0/0` is nothing. `L` has the
--- shape of `(7, 8)` with the same kinds, and not that of `(7)`.
 use Rattle.std.specs.Prelude.{ℕ, ◌++◌, ◌≤◌, min, take, drop, List, length}
 use Rattle.green_tree.specs.Tree.{SyntaxTree, Token, node, forest, forest_text}
 

@@ -12,6 +12,9 @@
 --     tokens                        The label and the bytes of each token, in document order.
 --     relabelled                    The tree with a function applied to each label.
 --     without_texts, SameShape      The tree with every text empty; two trees have equal kinds and child lists, whatever their texts.
+--
+-- The text of `L` is `(1, 2)`, of 6 bytes. `at L 1/0` is the token INT_NUMBER `1`; `at L 0/0` is nothing. `L` has the
+-- shape of `(7, 8)` with the same kinds, and not that of `(7)`.
 use Rattle.std.specs.Prelude.{◌≡◌, ℕ, suc, Bool, true, false, List, [], ◌∷◌, ◌++◌, map, length, slice_get, Option, Some, option_and_then}
 use Rattle.green_tree.specs.Path.{Path}
 

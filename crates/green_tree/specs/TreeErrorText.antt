@@ -1,5 +1,5 @@
--- What is printed of what refuses a tree.
---     tree_error_text    the name of the error's case
+-- What an error prints that refuses a tree.
+--     tree_error_text    The name of the error's case.
 use Rattle.std.specs.Prelude.{ℕ, List, codes}
 use Rattle.green_tree.specs.declared.error.TreeError.{TreeError}
 use Rattle.green_tree.specs.declared.error.TreeError.TheVariants.{TooLong, NoTreeNumber, Memory}

@@ -15,7 +15,7 @@ ghost use Rattle.list_removal.specs.RemovalText.{text_without};
 
 use syntax_editor::laws::edit_text_is_filled;
 
-/// A removal is refused as the deletion of the element alone is, where equal numbers have equal trees: as `Foreign` exactly
+/// A removal is refused as the deletion of the element alone is, where equal numbers mean equal trees: as `Foreign` exactly
 /// if the element is not of the editor's tree, and else as `DeletesRoot` exactly if it is the root.
 pub fn removal_is_refused_as_a_deletion()
     ensures { (root : Element) (separator : SyntaxKind) (e : SyntaxElement)

@@ -15,6 +15,11 @@
 --                                   both ends. The expression is the rest of the line, so it may have spaces.
 --     IsLine                        A line says this. It has no other form: the fields of a command are its word and exactly those that it
 --                                   needs.
+--
+-- The line `insert before R/4/0 NEW` has the fields `insert`, `before`, `R/4/0` and `NEW`, and says: insert the root of
+-- `NEW` before the element at the path 4/0 of `R`. Between the slashes of `R/4/0` are `R`, `4` and `0`; those of `NEW`
+-- are one part, so its path is empty. `insert R/4/0 NEW` says nothing, since `R/4/0` is none of the four words, and is
+-- bad. ` # delete R/1` is blank, and so is a line of spaces.
 use Rattle.std.specs.Prelude.{◌≡◌, ◌≢◌, ℕ, ◌==◌, ◌-◌, ◌<◌, ◌≤◌, ◌^◌, Bool, true, false, not, List, [], ◌∷◌, ◌++◌, length, take, filter, nat_eq, codes, cond, Some}
 use Rattle.std.specs.List.{slice_split, ends_with, starts_with, AllByRecursion}
 use Rattle.std.specs.Str.Parse.{IsNumeral, digits_value}

@@ -16,6 +16,10 @@
 --     IsAnswerOf                    `IsAnswer`, for the script that a run took from a reader: its first bytes, by `IsFrontOf`.
 --     Answers                       A run read its script and wrote all of its answer.
 --     WritesBeginning, Fails        A run read its script and wrote a beginning of an answer; it did, or wrote nothing.
+--
+-- The script of 'syned_script: State' has the status 0 and the answer `text "(_)"` and `changed 1`: the new text is that
+-- of the new root, `1` the path of the one changed element, and no word was used. With `delete R` in its line 4 the
+-- status is 1 and the answer `refused DeletesRoot`.
 use Rattle.std.specs.Prelude.{◌≡◌, ◌⊎◌, ℕ, ◌+◌, ◌<◌, List, ◌++◌, map, length, take, Option, codes, decimal, IsUtf8}
 use Rattle.std.specs.List.{flat_map}
 use Rattle.std.specs.Io.KnownBytes.{Appends, Consumes, Keeps}

@@ -1,11 +1,7 @@
--- How much of a reader reads take.
+-- How many bytes a run takes from its reader.
 --     script_limit                  How many bytes a script has at most: 1,048,576.
 --     IsFrontOf                     These bytes are the first n of a reader, or all if it has fewer.
 --     TakesFront, TakesAtMost       A call took the first n bytes of a reader, or all if it has fewer; it took at most n from the front.
---
--- The worked script of the section before has the status 0 and the answer `text "(_)"` and `changed 1`: the new text is
--- that of the new root, `1` the path of the one changed element, and no word was used. With `delete R` in its line 4
--- the status is 1 and the answer `refused DeletesRoot`.
 --
 -- All this is said of the bytes of a reader or a writer only where they are known.
 use Rattle.std.specs.Prelude.{◌≡◌, ℕ, ◌≤◌, List, length, take, Option, IfSome}

@@ -22,6 +22,24 @@
 --     with_word, annotation_of      The words after one was used: a new one comes last; the annotation of a word, which counts from 1.
 --     note_step, order_step         What a line `note` does, what a line `order` does.
 --     Steps                         What a line does that does not end the script.
+--
+-- The script
+--
+-- ```text
+-- tree A (ARG_LIST L_PAREN"(" IDENT"a" R_PAREN")")
+-- edit R A
+-- tree U (SOURCE_FILE UNDERSCORE"_")
+-- replace R/1 U/0
+-- finish
+-- ```
+--
+-- goes through five states. Line 1 names the tree 1 `A`, and the next number is 2. Line 2 names the same root `R`,
+-- since `A` has no parent, and there is an editor. Line 3 names the tree 2 `U`. Line 4 has the call `Replacing` of two
+-- tokens, which the editor takes. Line 5 is `finish`: something is edited and nothing follows, so the script is
+-- `Edited`, and the edit is what the plan of that one change makes under the tree number 3, with no annotation words.
+-- With `replace R/3 U/0` in line 4 there is no element at `R/3`, so no call: the script is `BadLine 4`. With `delete R`
+-- there is a call, and it is refused: the script is `Refused` with `DeletesRoot`. With a line `edit S A` after `finish`
+-- it is `BadLine 6`; with a comment there it is `Edited`.
 use Rattle.std.specs.Prelude.{◌≡◌, ℕ, suc, ◌==◌, ◌&&◌, ◌||◌, cond, List, [], ◌∷◌, ◌++◌, Option, Some, None, option_map, option_and_then, is_some, nat_le, MatchOption}
 use Rattle.std.specs.Option.{option_map_or}
 use Rattle.std.specs.List.{list_any, position_or_len}

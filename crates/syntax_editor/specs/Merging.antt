@@ -4,6 +4,8 @@
 --                                   both, in which the second editor's copies win.
 --     MergeRefuses                  Why a merge is refused: `OtherRoot`, if the editors are not mergeable. `Memory` is returned only if
 --                                   they are.
+--
+-- An editor of another tree with the text of `L` cannot be merged into an editor of `R`.
 use Rattle.std.specs.Prelude.{◌≡◌, true, [], ◌++◌, Some, unwrap_or, All}
 use Rattle.cst_core.specs.Element.{same_element}
 use Rattle.edit_map.specs.Mapping.{Mapping}

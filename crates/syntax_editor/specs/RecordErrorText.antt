@@ -1,5 +1,5 @@
--- What is printed of what refuses the calls that record changes.
---     record_error_text    the name of the error's case
+-- What an error prints that refuses a call that records a change.
+--     record_error_text    The name of the error's case.
 use Rattle.std.specs.Prelude.{ℕ, List, codes}
 use Rattle.syntax_editor.specs.declared.error.RecordError.{RecordError}
 use Rattle.syntax_editor.specs.declared.error.RecordError.TheVariants.{Foreign, BadRange, DeletesRoot, RootReplacement, LevelTooLarge, NoTreeNumber, Memory}

@@ -1,4 +1,4 @@
--- Refusals of what a call that records stands on, as why nothing is recorded.
+-- Which refusal a call that records gives for one of a call below it.
 --     of_space                      The `RecordError` for a `SpaceError`.
 use Rattle.whitespace.specs.declared.space_error.SpaceError.{SpaceError}
 use Rattle.whitespace.specs.declared.space_error.SpaceError.TheVariants as space

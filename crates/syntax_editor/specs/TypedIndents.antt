@@ -2,13 +2,6 @@
 --     indented_root, dedented_root  The root of a given number that a node becomes, indented or dedented by a level.
 --     MapsChildren                  `MapsAlong` of two typed nodes: the child nodes of the first get those of the second as copies.
 --     IndentRefuses                 `MappingRefuses` of a typed node.
---
--- `next_after` is the number itself, except after `NotYounger`, which uses up one number. A node with a child node, in
--- a tree of the number 5, is indented with a mapping where 1 is the next number: `NotYounger`, the next number is 2,
--- and the mapping is as it was.
---
--- A newline, another one and four spaces, dedented by 1, are two newlines. A block after a newline and four spaces has
--- the level 1, and `{`, newline, eight spaces, `}` becomes `{`, newline, four spaces, `}` by `reset`.
 use Rattle.std.specs.Prelude.{ℕ, Option}
 use Rattle.cst_core.specs.Element.{Element, subtree}
 use Rattle.edit_map.specs.Mapping.{Mapping}

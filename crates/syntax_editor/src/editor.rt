@@ -19,7 +19,7 @@ use std::marker::Model;
 
 /// Records changes in terms of a tree that does not change, and carries them out at once.
 ///
-/// Which list of changes each call leaves: see the section 'Recording' of docs/DEFINITIONS.md. Payloads may be of
+/// Which list of changes each call leaves: see 'change_list: Recording' in docs/DEFINITIONS.md. Payloads may be of
 /// any tree; what is changed is of the editor's.
 #[derive(Drop)]
 pub struct SyntaxEditor {

@@ -14,7 +14,7 @@ use whitespace::elements_with_spaces;
 
 impl SyntaxEditor {
     /// Inserts elements at a position, in their order, with whitespace before and after them as the kinds and levels of their
-    /// neighbors ask for it: see the section 'The whitespace between two neighbors' of docs/DEFINITIONS.md. It is recorded as
+    /// neighbors ask for it: see 'whitespace: Spacing' in docs/DEFINITIONS.md. It is recorded as
     /// one insert. No elements are an insert too, without whitespace.
     ///
     /// Each whitespace token is in a tree of its own, under the next number of `ids`. `Foreign` comes first, where the position

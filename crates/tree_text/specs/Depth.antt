@@ -1,6 +1,8 @@
 -- How deep trees are.
 --     depth, forest_depth           How many nodes are inside one another at most, 0 for a token; the same of trees side by side.
 --     depth_limit                   How many may be, where a tree expression is read: 200.
+--
+-- The depth of `(LITERAL (NAME IDENT"a"))` is 2.
 use Rattle.std.specs.Prelude.{ℕ, suc, max}
 use Rattle.cst_core.specs.Tree.{Tree, Token, Node, Forest, end, more}
 

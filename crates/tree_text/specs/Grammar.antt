@@ -15,6 +15,11 @@
 --                                   its kind's name, its elements, which don't go on with that name, `)`.
 --     AreElements                   What is written for elements: each with a gap before it, and a gap after the last.
 --     IsExpression                  An expression of a tree: the tree is a node, and this is written for it. Nothing is before or after it.
+--
+-- `(ATTR IDENT"a\n" )` is an expression of the node ATTR with one token, whose text is `a` and a newline: after `(` and
+-- the name come the elements, a gap of one space, the token and a gap of one space. `(ATTRIDENT"a")` is none, since the
+-- token goes on with the node's name; `(ATTR(NAME))` is one. The newline of the text may also be written as itself, so
+-- a tree has many expressions; but a text is an expression of one tree at most.
 use Rattle.std.specs.Prelude.{◌≡◌, ◌⊎◌, ℕ, Bool, true, false, ◌||◌, ◌==◌, List, [], ◌∷◌, ◌++◌, Option, Some, codes}
 use Rattle.std.specs.List.{list_all}
 use Rattle.cst_core.specs.Tree.{SyntaxTree, Token, Node, Forest, end, more, is_token}

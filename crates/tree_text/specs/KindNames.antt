@@ -5,8 +5,6 @@
 --     IsTaken                       A kind has this name.
 --     is_name_byte, is_name         An ASCII letter, a digit or an underscore; a text of these alone, and not empty.
 --     AreNames                      Names of kinds are spelled so, and no two kinds have the same.
---
--- The lines of `(LITERAL INT_NUMBER"1")` are `LITERAL@0..1` and, after two spaces, `INT_NUMBER@0..1 "1"`.
 use Rattle.std.specs.Prelude.{◌≡◌, ℕ, Bool, true, not, ◌&&◌, ◌||◌, ◌==◌, List, Option, Some, unwrap_or, nat_eq, length}
 use Rattle.std.specs.List.{list_all}
 use Rattle.std.specs.Char.{is_ascii_alphanumeric}

@@ -3,6 +3,8 @@
 --     lines, forest_lines           The lines of a tree whose text starts at a byte: its own, and those below it, indented by two spaces
 --                                   more; the same of trees side by side. A token's line ends with its text in quotes, escaped.
 --     lines_in                      The lines of a tree, where kinds are given names.
+--
+-- The lines of `(LITERAL INT_NUMBER"1")` are `LITERAL@0..1` and, after two spaces, `INT_NUMBER@0..1 "1"`.
 use Rattle.std.specs.Prelude.{ℕ, ◌+◌, List, [], ◌++◌, length, codes, decimal}
 use Rattle.cst_core.specs.Tree.{SyntaxTree, Token, Node, Forest, end, more, text_length, forest_text}
 use Rattle.tree_text.specs.Escape.{escaped}

@@ -20,12 +20,9 @@
 --                                   (`UnknownKind`), or is too deep (`TooDeep`); or it begins only as the expressions of trees whose text
 --                                   is too long (`Tree(TooLong)`).
 --
--- `(ATTR IDENT"a\n" )` is an expression of the node ATTR with one token, whose text is `a` and a newline: after `(` and
--- the name come the elements, a gap of one space, the token and a gap of one space. `(ATTRIDENT"a")` is none, since the
--- token goes on with the node's name; `(ATTR(NAME))` is one. The newline of the text may also be written as itself, so
--- a tree has many expressions; but a text is an expression of one tree at most. `(NOPE)` and `(NOPE !)` lack a name at
--- byte 1, since `(NOPE)` and `(NOPE ` begin an expression once a kind is called `NOPE`. `(NAME !)`, `( NAME)`, `(NOPE`
--- and `(NOPE"a")` are malformed at the bytes 6, 1, 5 and 5, whatever kinds are called.
+-- `(NOPE)` and `(NOPE !)` lack a name at byte 1, since `(NOPE)` and `(NOPE ` begin an expression once a kind is called
+-- `NOPE`. `(NAME !)`, `( NAME)`, `(NOPE` and `(NOPE"a")` are malformed at the bytes 6, 1, 5 and 5, whatever kinds are
+-- called.
 use Rattle.std.specs.Prelude.{◌≡◌, ◌≢◌, ℕ, ◌≤◌, ◌<◌, Bool, false, true, List, [], ◌∷◌, ◌++◌, length, Some, None, codes}
 use Rattle.std.specs.List.{list_all}
 use Rattle.cst_core.specs.Green.{IsTooLong}

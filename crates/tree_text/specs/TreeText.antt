@@ -5,9 +5,6 @@
 --     kinds, forest_kinds           The kinds of all nodes and tokens of a tree, in document order; the same of trees side by side.
 --     unnamed_in                    The first of these kinds that has no name, if there is one.
 --     NamesUnnamed                  A call is refused with `NoName` exactly if there is such a kind, and names that one.
---
--- The text of `(LITERAL IDENT"a\"b")` is `a"b`, and its `escaped` form is `a\"b`. The depth of `(LITERAL (NAME
--- IDENT"a"))` is 2.
 use Rattle.std.specs.Prelude.{◌≡◌, ◌↔◌, ℕ, List, [], ◌∷◌, ◌++◌, Option, Some, is_none, Result, Err, codes}
 use Rattle.std.specs.List.{find}
 use Rattle.cst_core.specs.Tree.{SyntaxTree, Token, Node, Forest, end, more}

@@ -5,6 +5,10 @@
 --     ResetRefuses                  Why a node is not dedented by its level: `LevelTooLarge`, else as `RootRefuses` says.
 --     MappingRefuses, next_after    Why a node is not indented with a mapping: as `RootRefuses` says, else `NotYounger` if the copy is too
 --                                   old; the next tree number then.
+--
+-- `next_after` is the number itself, except after `NotYounger`, which uses up one number. A node with a child node, in
+-- a tree of the number 5, is indented with a mapping where 1 is the next number: `NotYounger`, the next number is 2,
+-- and the mapping is as it was.
 use Rattle.std.specs.Prelude.{◌≡◌, ◌<◌, ◌≤◌, ◌+◌, ℕ, Bool, true, false, []}
 use Rattle.cst_core.specs.Tree.{SyntaxTree, text_length}
 use Rattle.cst_core.specs.Green.{length_limit}

@@ -1,4 +1,4 @@
--- Refusals of what a call stands on, as why a node is not indented.
+-- Which refusal a call that indents gives for one of a call below it.
 --     of_tree                       The `IndentError` for a `TreeError`.
 use Rattle.cst_core.specs.TreeError.{TreeError}
 use Rattle.cst_core.specs.TreeError.TheVariants as tree

@@ -9,6 +9,9 @@
 --     indented, dedented            A tree with the texts of these tokens indented, or dedented, by a level.
 --     reset                         The tree of an element, dedented by the level of that element.
 --     mapped_children               Each child node of an element, with the child node of another element at the same index.
+--
+-- A newline, another one and four spaces, dedented by 1, are two newlines. A block after a newline and four spaces has
+-- the level 1, and `{`, newline, eight spaces, `}` becomes `{`, newline, four spaces, `}` by `reset`.
 use Rattle.std.specs.Prelude.{ℕ, ◌*◌, ◌==◌, cond, nat_eq, List, [], ◌∷◌, ◌++◌, map, drop, zip}
 use Rattle.std.specs.List.{slice_split, starts_with, join_with_byte}
 use Rattle.cst_core.specs.Tree.{Forest, Token, Node, end, more, SyntaxTree}

@@ -7,6 +7,9 @@
 --     token_level                   `level_after` of the last token in `tokens_up_to` that breaks the line; 0 if none does.
 --     level                         The level of an element's first token; 0 if it has none.
 --     is_too_deep                   A level is greater than 255.
+--
+-- After a newline and 1,023 spaces the level is 255, and after one more space 256. A comment with a newline does not
+-- count, nor does a node of the kind WHITESPACE.
 use Rattle.std.specs.Prelude.{ℕ, ◌*◌, ◌/◌, ◌==◌, ◌&&◌, Bool, nat_lt, List, [], ◌∷◌, ◌++◌, length, replicate, map, filter}
 use Rattle.std.specs.List.{list_any, after_last}
 use Rattle.std.specs.Option.{option_map_or}

@@ -3,9 +3,6 @@
 --                                   too deep.
 --     is_read_at_once, ReadsAtOnce  No token is looked for beside an element: a token breaks the line or is the first of its tree, a node
 --                                   has no token; a call returns `Memory` of no such element.
---
--- After a newline and 1,023 spaces the level is 255, and after one more space 256. A comment with a newline does not
--- count, nor does a node of the kind WHITESPACE.
 use Rattle.std.specs.Prelude.{◌≡◌, ℕ, Bool, true, false, ◌||◌, Result, Ok, Err, IsTrue}
 use Rattle.std.specs.Option.{is_none}
 use Rattle.cst_core.specs.SyntaxElement.{first_token_of, token_before}

@@ -4,7 +4,7 @@
 --                                   of a level.
 --     HasRestorableTexts            Each WHITESPACE token of a tree that holds a newline has such a text.
 --
--- `syntax_editor::laws` has these. The laws of plans, as `edit_text_is_filled`, are in `edit_plan::laws`.
+-- The law `dedent_restores` of `syntax_editor::laws` speaks of such trees.
 use Rattle.std.specs.Prelude.{◌≡◌, ℕ, ◌-◌, ◌==◌, false, nat_eq, List, drop, take, length, All, IsTrue}
 use Rattle.std.specs.List.{list_all, after_last, starts_with}
 use Rattle.cst_core.specs.Tree.{SyntaxTree, tokens}
