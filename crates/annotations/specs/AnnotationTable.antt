@@ -3,8 +3,7 @@
 --     annotated_path                The number of an annotation and a path, in code.
 --     found_for                     The elements that a list of entries has for an annotation, none if it has no entry.
 --
--- Inserting `R/1` after `R/4`: the changed path is `5`, and an annotation of `R/1` is found at `1` and `5`. After an
--- insert of `x` before `R/1`, `find_element` still finds `R`, and does not find `R/4`.
+-- Inserting `R/1` after `R/4`: the changed path is `5`, and an annotation of `R/1` is found at `1` and `5`.
 use Rattle.std.specs.Prelude.{ℕ, nat_eq, List, [], map, Vec}
 use Rattle.std.specs.Global.{Global}
 use Rattle.std.specs.Map.{lookup}

@@ -7,14 +7,6 @@
 --     same_gap                      Two aims fill one gap.
 --     starts_at, replaces           A replacement has this path as its first target; among its targets.
 --     parents                       The path of the node whose child list an aim alters. A replaced root has none.
---
--- `After e` is gap i + 1 of the parent, where e is child i, so each gap has exactly one form. Before `R/1` is `After
--- R/0`, gap 1 of `R`. Before `R/0` is `FirstChild R`, gap 0.
---
--- A contract of a call that takes an element in any form, by value or by reference, is written with the trait `Element`
--- (edit_change: `src/element_like.rt`). `E.element` is the `SyntaxElement` that a value of the type `E` is converted
--- to. `E.is_owned` says that this takes no memory: so it is for `SyntaxNode`, `SyntaxToken` and `SyntaxElement`, and
--- not for references.
 use Rattle.std.specs.Prelude.{ℕ, suc, Bool, false, ◌&&◌, nat_eq, List, [], ◌∷◌, Option, Some, None}
 use Rattle.std.specs.Option.{option_map_or}
 use Rattle.green_tree.specs.Path.{Path, same_path, has_path, parent_path, last_slot}

@@ -20,6 +20,13 @@
 --     new_tree                      The old tree, rewritten by the independent changes.
 --     stage_tree, stage_payload     `new_tree` of only those changes that are done; a payload, rewritten by only those dependents that are
 --                                   done.
+--
+-- Inserting `x` first in `R/1` and replacing `R/1` by `R`: the replacement owns the insert, the place of `R/1` in `R`
+-- is `1`, and the text is `((x1, 2), 2)`.
+--
+-- A payload is taken as it was when the plan was made: only the changes that its change owns show in it. Replacing
+-- `R/1` by `R/4` and inserting `x` first in `R/4`: `(2, x2)`. If one element is the payload of two changes, each of its
+-- copies shows only what its change owns.
 use Rattle.std.specs.Prelude.{◌≡◌, ℕ, zero, suc, Bool, false, List, [], ◌++◌, map, length, drop, filter, slice_get, unwrap_or, Option, Some, None}
 use Rattle.std.specs.List.{enumerate_from}
 use Rattle.std.specs.Option.{option_map_or}

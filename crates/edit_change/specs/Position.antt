@@ -3,6 +3,9 @@
 --     first_of, after_of            The node n, if the position is `FirstChild n`; the element e, if it is `After e`.
 --     after, before                 The position after an element; the one before it. A root has neither.
 --     last_child_of                 `After` the last child of a node; `FirstChild` of a node without children.
+--
+-- `After e` is gap i + 1 of the parent, where e is child i, so each gap has exactly one form. Before `R/1` is `After
+-- R/0`, gap 1 of `R`. Before `R/0` is `FirstChild R`, gap 0.
 use Rattle.std.specs.Prelude.{Option, Some, None, option_map}
 use Rattle.std.specs.Option.{option_map_or}
 use Rattle.cst_core.specs.Path.{last_item}

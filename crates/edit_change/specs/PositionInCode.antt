@@ -1,5 +1,5 @@
--- What the form of a position in code stands for (the model of positions cites it).
---     form_of                       the same form, as contracts see it
+-- The form of a position, as code holds it.
+--     form_of                             The form of a position in code, as contracts see it.
 use Rattle.edit_change.specs.PositionForm.{PositionForm, FirstChild, After}
 use Rattle.edit_change.specs.declared.position.Form.{Form}
 use Rattle.edit_change.specs.declared.position.Form.TheVariants as code

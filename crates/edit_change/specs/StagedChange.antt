@@ -2,13 +2,6 @@
 --     has_stage                     Other changes can be carried out in the payload of this one: it replaces a node by a node and is not
 --                                   dropped.
 --     tree_of, staged_aim           The tree in which a change is carried out, its owner's payload or the old tree; where it aims there.
---
--- Inserting `x` first in `R/1` and replacing `R/1` by `R`: the replacement owns the insert, the place of `R/1` in `R`
--- is `1`, and the text is `((x1, 2), 2)`.
---
--- A payload is taken as it was when the plan was made: only the changes that its change owns show in it. Replacing
--- `R/1` by `R/4` and inserting `x` first in `R/4`: `(2, x2)`. If one element is the payload of two changes, each of its
--- copies shows only what its change owns.
 use Rattle.std.specs.Prelude.{ℕ, Bool, false, ◌&&◌, not, List, [], map, slice_get, unwrap_or}
 use Rattle.std.specs.Option.{option_map_or}
 use Rattle.cst_core.specs.Path.{Path, first_item}

@@ -4,6 +4,9 @@
 --     touched_by                    The touched elements of a plan: those of the old tree by the independent changes, and those of every
 --                                   payload (`touched_in`).
 --     Raises                        A count rises by at most a number, and by exactly that number if a premise holds; at 2^64 - 1 it stays.
+--
+-- Replacing `R/1` touches one node, and builds it. A replaced root that owns nothing touches none. As aims in one tree,
+-- an insert into `R/1` and a replacement of `R/1` touch two nodes, and one of these is built.
 use Rattle.std.specs.Prelude.{◌≡◌, ℕ, ◌+◌, ◌≤◌, List, sum_by}
 use Rattle.std.specs.List.{enumerate_from}
 use Rattle.cst_core.specs.Path.{Path}

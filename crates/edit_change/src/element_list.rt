@@ -35,6 +35,7 @@ impl From<Vec<SyntaxElement>> for ElementList {
 }
 
 impl ElementList {
+    /// The elements, in order.
     pub fn as_slice(&self) -> &[SyntaxElement]
         ensures { result.now ≡ self.now }
     {

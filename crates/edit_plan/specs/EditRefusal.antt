@@ -1,9 +1,5 @@
--- The refusal of an edit that stands for one of what it stands on.
+-- The refusal of an edit, for that of a call below.
 --     of_tree, of_engine            The `EditError` for a `TreeError`; for an `EngineError`.
---
--- A plan with two deletions of `R/1` is refused: `Intersecting` with the changes 0 and 1. Inserting `x` first in `R/1`
--- and replacing `R/1` by a node to which nothing is mapped is refused: `MissingMapping` with the change 0 and its owner
--- 1.
 use Rattle.cst_core.specs.TreeError.{TreeError}
 use Rattle.cst_core.specs.TreeError.TheVariants as tree
 use Rattle.edit_plan.specs.declared.engine_error.EngineError.{EngineError}

@@ -12,9 +12,6 @@
 --                                   answer for `NoTreeNumber`.
 --     CountsTouched, CountsRun      One pass raises a count of built nodes by at most `touched_by`, and by exactly that where equal numbers
 --                                   mean equal trees; the same of a run, where a refused run leaves the count.
---
--- Replacing `R/1` touches one node, and builds it. A replaced root that owns nothing touches none. As aims in one tree,
--- an insert into `R/1` and a replacement of `R/1` touch two nodes, and one of these is built.
 use Rattle.std.specs.Prelude.{◌≡◌, ℕ, Bool, true, false, List, map, All, IsSome, MatchBool, Vec}
 use Rattle.std.specs.Global.{Global}
 use Rattle.cst_core.specs.Path.{Path}

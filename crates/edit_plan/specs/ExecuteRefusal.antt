@@ -2,10 +2,6 @@
 --     of_order                      The `ExecuteError` for an `OrderError`.
 --     ExecuteRefuses                Why a plan is not carried out in an order: as `OrderRefuses` says, for the four refusals of an order;
 --                                   as `RunRefuses` says, for `Edit`, and, except for `Memory`, only if the order `IsAllowed`.
---
--- `R/1` is replaced by `R`, and `x` is inserted first in `R/1`. The only allowed order is 1 0. After step 1 the tree of
--- the run is `R`, and the payload of change 0 has the text `(x1, 2)`. After step 0 the tree has the text `((x1, 2),
--- 2)`.
 use Rattle.std.specs.Prelude.{ℕ, List}
 use Rattle.edit_steps.specs.OrderRefusal.{OrderRefuses}
 use Rattle.edit_steps.specs.Schedule.{IsAllowed}

@@ -17,6 +17,12 @@
 --                                   clause.
 --     RunRefuses                    Why a plan is not carried out: `TooLong`, if the new tree is too long; `NoTreeNumber`, if it is not and
 --                                   the source is spent.
+--
+-- A plan with two deletions of `R/1` is refused: `Intersecting` with the changes 0 and 1. Inserting `x` first in `R/1`
+-- and replacing `R/1` by a node to which nothing is mapped is refused: `MissingMapping` with the change 0 and its owner
+-- 1.
+--
+-- After an insert of `x` before `R/1`, `find_element` still finds `R`, and does not find `R/4`.
 use Rattle.std.specs.Prelude.{◌≡◌, ℕ, nat_eq, Bool, false, List, [], ◌∷◌, map, Option, Some, None, option_map, All, Vec}
 use Rattle.std.specs.List.{list_any}
 use Rattle.std.specs.Global.{Global}

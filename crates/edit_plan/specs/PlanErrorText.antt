@@ -1,7 +1,7 @@
 -- What is printed of what refuses plans and edits.
---     numbers_text          two numbers, each after a space
---     edit_error_text       the name of the error's case, and the numbers of the two changes that it names
---     execute_error_text    the same, where an order is not carried out: of the edit's refusal its own text
+--     numbers_text                  Two numbers, each after a space
+--     edit_error_text               The name of the error's case, and the numbers of the two changes that it names
+--     execute_error_text            The same, where an order is not carried out: of the edit's refusal its own text
 use Rattle.std.specs.Prelude.{ℕ, List, ◌++◌, codes, decimal}
 use Rattle.edit_plan.specs.declared.edit_error.EditError.{EditError}
 use Rattle.edit_plan.specs.declared.edit_error.EditError.TheVariants.{Intersecting, MissingMapping, TooLong, NoTreeNumber, Memory}

@@ -14,6 +14,10 @@
 --     CountsWay                     A count of built nodes rises by `way_length` where equal numbers mean equal trees. Otherwise it stays
 --                                   the same if the change aims at nothing in its owner's payload.
 --     CountsStep                    A step raises the count of a run so.
+--
+-- `R/1` is replaced by `R`, and `x` is inserted first in `R/1`. The only allowed order is 1 0. After step 1 the tree of
+-- the run is `R`, and the payload of change 0 has the text `(x1, 2)`. After step 0 the tree has the text `((x1, 2),
+-- 2)`.
 use Rattle.std.specs.Prelude.{◌≡◌, ◌+◌, ℕ, Bool, true, false, List, [], ◌∷◌, map, length, sum_by, slice_get, slice_index_or, find, Option, Some, option_map, is_some, IfSome, IsSomeAnd}
 use Rattle.std.specs.List.{enumerate_from}
 use Rattle.std.specs.Borrow.{Bor}

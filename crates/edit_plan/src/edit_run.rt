@@ -23,7 +23,7 @@ use std::marker::Model;
 /// A plan that is carried out one change at a time.
 ///
 /// It keeps the tree with the changes that are done so far, and for each change that replaces a node by a node the payload with the
-/// changes in it that are done. docs/DEFINITIONS.md, 'Orders', says which change may come when.
+/// changes in it that are done. docs/DEFINITIONS.md, 'edit_steps: Schedule', says which change may come when.
 #[derive(Drop)]
 pub struct EditRun<'a> {
     plan: &'a EditPlan,

@@ -42,9 +42,9 @@ pub fn untouched_stays()
         (p : Path) (t : SyntaxTree) → IsUntouched cs p → plain (rewritten (origin from change) given cs p t) ≡ t }
 {}
 
-/// Where equal numbers have equal trees, a change has a place in its owner's payload exactly where something stands for the
+/// Where equal numbers mean equal trees, a change has a place in its owner's payload exactly where something stands for the
 /// owner's target. The exception is an insert after the target itself, which has none at the empty path. It is enough that
-/// equal numbers have equal trees among all elements of a plan.
+/// equal numbers mean equal trees among all elements of a plan.
 pub fn place_stands_for_the_target()
     ensures at_a_path { (m : Mapping) (target payload : SyntaxElement) (c : Change) (p : Path)
         → ArePairs m → IsElement (element_of target)
@@ -120,7 +120,7 @@ pub fn changes_of_one_depth_own_nothing()
 {}
 
 /// In an allowed order each change can be the next once those before it are done, and where all are done, the tree is the
-/// new one: of two allowed orders none is seen.
+/// new one, whichever allowed order it was.
 pub fn allowed_orders_agree()
     ensures next { (changes : List Change) (order : List ℕ) (i n : ℕ) (c : Change)
         → IsAllowed changes order → slice_get order i ≡ Some n → slice_get changes n ≡ Some c
@@ -141,7 +141,7 @@ pub fn neighbours_swap()
 {}
 
 /// A plan makes one tree. Any two edits that it makes under one tree number have the same new root and the same changed
-/// elements, and where equal numbers have equal trees, the same elements for each annotation.
+/// elements, and where equal numbers mean equal trees, the same elements for each annotation.
 pub fn one_plan_makes_one_tree()
     ensures root { (plan : Plan) (number : ℕ) (e f : Edit)
         → IsPlan plan → Makes plan number e → Makes plan number f → e.new_root ≡ f.new_root }

@@ -1,4 +1,4 @@
-//! The tree that a set of changes makes of a tree.
+//! Plans of changes: what is found out of a list of changes, the engines that carry it out, and the edit that comes of it.
 #![tactic(auto)]
 
 mod edit;

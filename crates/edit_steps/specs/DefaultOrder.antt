@@ -8,11 +8,7 @@
 --                                   their gap.
 --     IsDefaultOrder                An order `ListsEachOnce`, and respects `default_first`.
 --
--- The refusals of an order are, in this order, `NotEachOnce`, `OwnerTooEarly`, `GapOutOfOrder` and `TokenTooEarly`.
---
--- Of two inserts into one gap, `x` recorded before `y`, the order 1 0 is allowed and 0 1 is not. An insert after a
--- deleted comma comes before the deletion. Of an insert before `R/1` and one before `R/4`, recorded in this order, the
--- default order is 1 0.
+-- Of an insert before `R/1` and one before `R/4`, recorded in this order, the default order is 1 0.
 use Rattle.std.specs.Prelude.{ℕ, suc, Bool, true, false, not, ◌&&◌, ◌||◌, List, [], ◌∷◌, ◌++◌, IsTrue}
 use Rattle.cst_core.specs.Path.{Path, same_path, precedes, parent_path, last_slot}
 use Rattle.cst_core.specs.SyntaxElement.{element_of}

@@ -1,6 +1,8 @@
 -- Why an order is refused.
---     OrderRefuses                  Why an order is not allowed: the first of these four that does not hold, each tested over the whole
---                                   order.
+--     OrderRefuses                  Why an order is not allowed: the first clause of `IsAllowed` that does not hold, `ListsEachOnce` first, each
+--                                   tested over the whole order.
+--
+-- The refusals of an order are, in this order, `NotEachOnce`, `OwnerTooEarly`, `GapOutOfOrder` and `TokenTooEarly`.
 use Rattle.std.specs.Prelude.{◌≡◌, ℕ, false, List, IsTrue}
 use Rattle.edit_change.specs.declared.change.Change.{Change}
 use Rattle.edit_steps.specs.Schedule.{ListsEachOnce, respects, owned_first, gap_first, token_first}

@@ -17,6 +17,9 @@
 --     is_complete                   Every undropped change is done.
 --     is_ready                      A change may be the next one: it is neither dropped nor done, and every change that comes first is
 --                                   done.
+--
+-- Of two inserts into one gap, `x` recorded before `y`, the order 1 0 is allowed and 0 1 is not. An insert after a
+-- deleted comma comes before the deletion.
 use Rattle.edit_change.specs.Nesting.{Numbered, undropped, is_dropped, has_owner}
 use Rattle.std.specs.Prelude.{◌≡◌, ℕ, Bool, false, not, ◌&&◌, ◌||◌, nat_eq, nat_lt, min, max, List, [], ◌∷◌, count_by, Option, Some, None, IsTrue}
 use Rattle.std.specs.List.{list_all, position_or_len}

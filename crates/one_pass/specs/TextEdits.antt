@@ -1,6 +1,5 @@
 -- What a set of changes does to the text of the old tree, piece by piece.
--- What an editor of texts has to do, so that its text becomes that of the new tree. Offsets are in bytes of the old
--- text.
+-- An editor of texts that does so has the text of the new tree. Offsets are in bytes of the old text.
 --
 --     TextPiece, as_piece           A text that stands in the place of what is from `first` up to `stop` in the old text; a `TextEdit` of
 --                                   code as one.
