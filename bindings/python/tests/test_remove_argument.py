@@ -3,6 +3,7 @@ import ast
 import re
 import subprocess
 import sys
+import tempfile
 import unittest
 from collections import Counter
 from pathlib import Path
@@ -197,32 +198,32 @@ class RemoveArgument(unittest.TestCase):
                     ast.parse(new)
 
     def test_the_program(self):
-        path = ROOT / "tests/docs.py"
-        ran = subprocess.run(
-            [sys.executable, str(EXAMPLE), str(path), "library_files", "1"],
-            stdout=subprocess.PIPE, stderr=subprocess.PIPE, check=True,
-        )
-        text = path.read_bytes().decode()
-        for call, new in (
-            ('library_files("src", ".rt")', 'library_files("src")'),
-            ("library_files(kind, ending).", "library_files(kind)."),
-        ):
-            self.assertIn(call, text)
-            text = text.replace(call, new)
-        self.assertEqual(ran.stdout.decode(), text)
+        text = 'def f(a, b):\n    return a\n\n\nprint(f("src", ".rt"), f(\n    1, [2, 3]\n).real, g.f(4, 5))\n'
+        new = text.replace('f("src", ".rt")', 'f("src")').replace("1, [2, 3]\n", "1\n")
+        with tempfile.TemporaryDirectory() as folder:
+            path = Path(folder, "calls.py")
+            path.write_bytes(text.encode())
+            ran = subprocess.run(
+                [sys.executable, str(EXAMPLE), str(path), "f", "1"],
+                stdout=subprocess.PIPE, stderr=subprocess.PIPE, check=True,
+            )
+        self.assertEqual(ran.stdout.decode(), new)
 
     def test_what_it_says_of_mistakes(self):
-        for arguments, status, said in (
-            ([], 2, "remove_argument.py FILE FUNCTION NUMBER"),
-            (["nowhere.py", "f", "x"], 2, "remove_argument.py FILE FUNCTION NUMBER"),
-            (["nowhere.py", "f", "0"], 1, "nowhere.py: "),
-            ([str(ROOT / "README.md"), "f", "0"], 1, "has no other bracket"),
-        ):
-            ran = subprocess.run(
-                [sys.executable, str(EXAMPLE), *arguments], stdout=subprocess.PIPE, stderr=subprocess.PIPE, check=False
-            )
-            self.assertEqual((ran.returncode, ran.stdout), (status, b""))
-            self.assertIn(said, ran.stderr.decode())
+        with tempfile.TemporaryDirectory() as folder:
+            unbalanced = Path(folder, "unbalanced.py")
+            unbalanced.write_text("f(1\n")
+            for arguments, status, said in (
+                ([], 2, "remove_argument.py FILE FUNCTION NUMBER"),
+                (["nowhere.py", "f", "x"], 2, "remove_argument.py FILE FUNCTION NUMBER"),
+                (["nowhere.py", "f", "0"], 1, "nowhere.py: "),
+                ([str(unbalanced), "f", "0"], 1, "has no other bracket"),
+            ):
+                ran = subprocess.run(
+                    [sys.executable, str(EXAMPLE), *arguments], stdout=subprocess.PIPE, stderr=subprocess.PIPE, check=False
+                )
+                self.assertEqual((ran.returncode, ran.stdout), (status, b""))
+                self.assertIn(said, ran.stderr.decode())
 
     def test_brackets_that_do_not_match(self):
         for source, line in (("f(1", 1), ("f(1]", 1), ("\n)", 2), ("f(\n[)", 2)):
