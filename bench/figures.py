@@ -256,12 +256,17 @@ def show(runs):
     table(["payload", "finished", "as many paths copied", "times that"], [run.payloads() for run in runs])
 
 
+def program(name):
+    """The path of a program, which is made if it is not there or older than a source."""
+    made = [sys.executable, f"{ROOT}/tests/programs.py", name]
+    return subprocess.run(made, stdout=subprocess.PIPE, text=True, check=True).stdout.strip()
+
+
 def main():
     numbers = [int(it) for it in sys.argv[1:]]
     runs, most = numbers + [1, 32768][len(numbers) :]
-    program = subprocess.run(["bash", f"{ROOT}/tests/program.sh", "bench"], stdout=subprocess.PIPE, text=True, check=True, cwd=ROOT).stdout.strip()
-    works = Works(most)
-    show([Run(os.path.join(ROOT, program), works) for _ in range(runs)])
+    path, works = program("bench"), Works(most)
+    show([Run(path, works) for _ in range(runs)])
 
 
 if __name__ == "__main__":

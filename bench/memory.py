@@ -16,7 +16,7 @@ import os
 import subprocess
 import tempfile
 
-from figures import ROOT, nested, noted, spread
+from figures import ROOT, nested, noted, program, spread
 
 PARTS = 8192
 EDITS = [*(spread(it, PARTS, PARTS) for it in ("literals", "statements", "leaves")), nested(PARTS // 32, 16, 1), noted(PARTS)]
@@ -51,9 +51,8 @@ def row(parts):
 
 
 def main():
-    made = subprocess.run(["bash", f"{ROOT}/tests/program.sh", "bench"], stdout=subprocess.PIPE, text=True, check=True, cwd=ROOT)
     with tempfile.TemporaryDirectory() as room:
-        parts = bytes_by_part(*marked(os.path.join(ROOT, made.stdout.strip()), room))
+        parts = bytes_by_part(*marked(program("bench"), room))
     print("| edit | " + " | ".join(HEADS) + " |")
     print("|" + "---|" * (len(HEADS) + 1))
     for edit in EDITS:

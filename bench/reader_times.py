@@ -6,14 +6,13 @@
 Of each script it prints the bytes, the milliseconds, the nanoseconds for each byte, and the power by which the time grew from half the size to the
 whole: 1 where the time is linear in the script, 2 where it is quadratic. The time of an empty script is taken off."""
 import math
-import os
 import subprocess
 import time
 
+from figures import program
+
 SCRIPT_LIMIT = 1_048_576
 RUNS = 5
-
-os.chdir(os.path.join(os.path.dirname(os.path.abspath(__file__)), ".."))
 
 
 def list_of(count, edited="A"):
@@ -85,15 +84,14 @@ def shortest(program, script):
 
 
 def main():
-    made = subprocess.run(["tests/program.sh", "syned"], stdout=subprocess.PIPE, text=True, check=True)
-    program = os.path.abspath(made.stdout.strip())
-    nothing, _ = shortest(program, b"")
+    path = program("syned")
+    nothing, _ = shortest(path, b"")
     for name, make in SCRIPTS:
         times = []
         for count in (5_000, 10_000):
             script = make(count).encode()
             assert len(script) <= SCRIPT_LIMIT, (name, len(script))
-            seconds, said = shortest(program, script)
+            seconds, said = shortest(path, script)
             assert said.startswith(b'text "'), (name, said[:80])
             times.append((len(script), max(seconds - nothing, 1e-6)))
         (half_size, half), (size, whole) = times

@@ -9,46 +9,11 @@ import subprocess
 import sys
 from pathlib import Path
 
-ROOT = Path(__file__).resolve().parent.parent
-sys.path.insert(0, str(ROOT / "tests"))
-import tables
+sys.path.insert(0, str(Path(__file__).resolve().parent.parent / "tests"))
+import known
+import programs
 
 DAMAGED = 300
-
-
-OPENING = """tree A (ARG_LIST L_PAREN"(" (LITERAL INT_NUMBER"1") COMMA"," WHITESPACE" " (LITERAL INT_NUMBER"2") R_PAREN")")
-edit R A
-tree U (SOURCE_FILE UNDERSCORE"_")
-"""
-
-
-def with_lines():
-    """The scripts with one line each that tests/scripts.sh makes."""
-    forms = {
-        "bad_lines.txt": OPENING + "{}\nfinish\n",
-        "good_lines.txt": OPENING + "{}\nfinish\n",
-        "bad_first_lines.txt": "{}\nfinish\n",
-        "bad_ends.txt": OPENING + "finish\n\n{}\nno\n",
-    }
-    for name, form in forms.items():
-        for line in (ROOT / "tests/scripts" / name).read_text().splitlines():
-            yield form.replace("{}", line)
-
-
-def explained():
-    """The scripts of tests/scripts/explained.txt."""
-    for row in (ROOT / "tests/scripts/explained.txt").read_text().split("== ")[1:]:
-        yield row.split("\n", 1)[1].split("-- answer")[0]
-
-
-def scripts():
-    """The bytes of all scripts that are whole."""
-    for script, _ in tables.table_rows().values():
-        yield script.encode()
-    for script in (*with_lines(), *explained()):
-        yield script.encode()
-    for answer in sorted(ROOT.glob("tests/corpus/*/*.stdout"))[::4]:
-        yield answer.with_suffix("").read_bytes()
 
 
 def damaged(whole):
@@ -71,9 +36,9 @@ def damaged(whole):
 
 
 def main():
-    folder = Path(sys.argv[1])
-    program = ROOT / subprocess.run([ROOT / "tests/program.sh", "syned"], capture_output=True, text=True, check=True).stdout.strip()
-    whole = list(scripts())
+    folder, program = Path(sys.argv[1]), programs.program("syned")
+    cases = [*known.known("tables", "lines", "explained"), *list(known.known("corpus"))[::4]]
+    whole = [case.script for case in cases]
     every = whole + list(damaged(whole))
     for number, script in enumerate(every):
         ran = subprocess.run([program], input=script, capture_output=True, check=False)

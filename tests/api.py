@@ -9,8 +9,8 @@
     api.py believed       how many lines a reader has to believe, by crate: those of the definitions that public clauses reach
     api.py believed NAME  which definitions lead from a public clause to this one
 
-A public clause is a clause of a call that a user can name, of a law, or of a trait; so are the views of public types. What is proved of a
-type needs no belief: its invariant, its size, and the code by which it is a model's value. Imports, comments, the table of the kinds' names
+A public clause is a clause of a call that a user can name, of a law, or of a trait; the views of public types count as such. A
+type's invariant, its size, and the code by which it is a model's value need no belief: they are proved. Imports, comments, the table of the kinds' names
 and the rows of tables of what errors print (`Memory = codes "Memory"`) don't count."""
 
 import os
@@ -240,9 +240,20 @@ def doc_before(text, start):
     return " ".join(lines[: lines.index("")] if "" in lines else lines)
 
 
+def clauses(contract):
+    """The clauses of a contract, each in one line."""
+    for clause in re.finditer(r"\b(requires|ensures)\b *(\w*) *\{", contract):
+        depth, end = 1, clause.end()
+        while depth:
+            depth += {"{": 1, "}": -1}.get(contract[end], 0)
+            end += 1
+        name = " ".join(filter(None, (clause[1].removeprefix("ensures"), clause[2])))
+        yield f"{name}: `{' '.join(contract[clause.end() : end - 1].split())}`" if name else f"`{' '.join(contract[clause.end() : end - 1].split())}`"
+
+
 def promise(call, text, item):
-    cited = [name for name in dict.fromkeys(re.findall(r"\w+", call.contract)) if name in call.cited]
-    return f"| {doc_before(text, item.start())} | {', '.join(f'`{name}`' for name in cited) or '—'} |"
+    contract = "<br>".join(clauses(call.contract)).replace("|", "\\|")
+    return f"| {doc_before(text, item.start())} | {contract or '—'} |"
 
 
 def promises():
@@ -261,7 +272,7 @@ def guarantees():
     out = []
     for crate, owners in promises().items():
         rows = [row for owner in sorted(owners, key=lambda it: (it == "laws", it)) for row in owners[owner]]
-        out += [f"## {crate}", "\n".join(["| call | what it promises | definitions that its contract cites |", "|---|---|---|", *rows])]
+        out += [f"## {crate}", "\n".join(["| call | what it promises | its contract |", "|---|---|---|", *rows])]
     return "\n\n".join(out) + "\n"
 
 
@@ -574,6 +585,8 @@ def main():
         case ["write"]:
             for page in PAGES:
                 (ROOT / page).write_text(made(page))
+        case ["--help"]:
+            print(__doc__)
         case _:
             sys.exit(__doc__)
 

@@ -1,5 +1,5 @@
 #!/usr/bin/env python3
-"""Scripts for the model and the editor to be compared on. They are printed as `model.py answer` and `model.py batch` read them.
+"""Scripts for the model and the editor to be compared on. They are printed as `models.py answer` and `models.py batch` read them.
 
     generate.py random SEED COUNT     so many random scripts, the same ones for each seed: `SEED 0`, `SEED 1`, ..
     generate.py pairs                 every pair of 88 single changes of one small tree, and every pair of 75 of another one, as they are,
@@ -15,7 +15,6 @@ import random
 import sys
 
 import model
-import model_answers
 
 NODES = "ARG_LIST LITERAL TUPLE_EXPR BLOCK_EXPR STMT_LIST NAME LET_STMT".split()
 TOKENS = ['IDENT"a"', 'IDENT"b"', 'COMMA","', 'WHITESPACE" "', 'INT_NUMBER"1"', 'SEMICOLON";"', 'PLUS"+"', 'COMMA""', 'IDENT"é"',
@@ -23,6 +22,23 @@ TOKENS = ['IDENT"a"', 'IDENT"b"', 'COMMA","', 'WHITESPACE" "', 'INT_NUMBER"1"', 
 
 
 SPACES = [[], ['WHITESPACE" "'], ['WHITESPACE" "', r'WHITESPACE"\n"']]
+
+
+def spaced(numbers):
+    return "".join(" %d" % number for number in numbers)
+
+
+def ready_order(model, plan, pick):
+    """An allowed order: of the changes that may be the next one, always the least, or always the greatest."""
+    order = []
+    while len(order) < len(model.undropped(plan)):
+        order.append(pick(number for number in model.undropped(plan) if model.is_ready(plan, order, number)))
+    return order
+
+
+def bundle(name, lines):
+    """A script without orders, as a batch has it."""
+    return "".join(line + "\n" for line in ["script " + name] + ["> " + line for line in lines] + ["end"])
 
 
 class Trees:
@@ -261,14 +277,14 @@ def order_line(rng, lines):
     """An order for a script that has none: one that is allowed, one that may not be, or a list that is none."""
     plan = model.Means(text_of(lines)).plan
     if plan is None or model.BuildRefuses(plan):
-        return "order" + model_answers.spaced(rng.sample(range(4), rng.randint(0, 3)))
-    order = model_answers.ready_order(model, plan, lambda ready: rng.choice(list(ready)))
+        return "order" + spaced(rng.sample(range(4), rng.randint(0, 3)))
+    order = ready_order(model, plan, lambda ready: rng.choice(list(ready)))
     kind = rng.random()
     if kind < 0.3:
         rng.shuffle(order)
     elif kind < 0.4:
         order = order + [rng.randint(0, len(plan.changes))] if rng.random() < 0.5 else order[1:]
-    return "order" + model_answers.spaced(order)
+    return "order" + spaced(order)
 
 
 def random_script(seed, number):
@@ -380,14 +396,14 @@ def main(arguments):
         seed, count = arguments[1], int(arguments[2])
         scripts = (("%s %d" % (seed, number), random_script(seed, number)) for number in range(count))
     else:
-        print(__doc__, file=sys.stderr)
-        return 2
+        print(__doc__)
+        return 0 if arguments == ["--help"] else 2
     if arguments[0] == "counts":
         for what, count in sorted(counts(scripts).items(), key=lambda item: -item[1]):
             print("%6d  %s" % (count, what))
         return 0
     for name, lines in scripts:
-        sys.stdout.buffer.write(model_answers.bundle(name, lines).encode())
+        sys.stdout.buffer.write(bundle(name, lines).encode())
     return 0
 
 

@@ -1,16 +1,22 @@
 #!/usr/bin/env python3
-"""Runs the program `syned` on scripts that no one means: cut, endless, deep, damaged.
+"""Runs the program `syned` on scripts that no one writes on purpose, cut, endless, deep and damaged, and `test_rows` on deep trees.
 
-    hostile.py            all of it
-    hostile.py damage N   N damaged scripts alone
+    hostile.py               all of it
+    hostile.py damage N      N damaged scripts alone
+    hostile.py deep N KIB    deep trees alone, N deep, with so much stack
 
-Each run has a second of processor time, and a stack of 256 KiB beyond what a script with nodes nested 200 deep needs, which is found out
-first. There are three parts: rows with their answers; every beginning of three scripts; and good scripts that were damaged, by a fixed seed,
-so each time the same ones. Rows about deep trees, which scripts can't have, come between (tests/depth.py). In a third of these bytes were changed, cut, doubled or exchanged. In the others slots, trees, words and kinds
-were exchanged for others of the script, and lines moved, so that about half of all come to an end or a refusal. Of a damaged script no answer
-is known: the program must print what the model says (tests/model.py), with the status that goes with it. Where it comes to an end or a
-refusal, all else that the editor says of the script is compared with the model as well, as by tests/models.py."""
-import glob
+Each run of a script has a second of processor time, and a stack of 256 KiB beyond what a script with nodes nested 200 deep needs, which is
+found out first. There are four parts: rows with their answers; every beginning of three scripts; rows about deep trees; and good scripts that
+were damaged, by a fixed seed, so each time the same ones.
+
+A deep tree has N blocks, one inside another, and a literal, the leaf, in the innermost; there are four of them, by the tokens beside each block.
+Little stack is there, so a call that nests with the depth of a tree ends the program by a signal. Rows (docs/ROWS.md) are made for a depth. Those
+whose answers name each level are asked about fewer levels, since their answers are as long as the square of these.
+
+In a third of the damaged scripts bytes were changed, cut, doubled or exchanged. In the others slots, trees, words and kinds were exchanged for
+others of the script, and lines moved, so that about half of all come to an end or a refusal. No answer is known of them: the program must print
+what the model says (tests/model.py), with the status that goes with it. Where a script comes to an end or a refusal, all else that the editor
+says of it is compared with the model as well, as by tests/models.py."""
 import multiprocessing
 import os
 import random
@@ -18,30 +24,25 @@ import re
 import resource
 import subprocess
 import sys
+import tempfile
 
-import depth
+import known
 import model
 import models
-from tables import table_rows
+import programs
+from known import LIMIT, OPENING, UNCHANGED, bad
 
-SCRIPT_LIMIT = 1_048_576
 SPARE_STACK = 256
 DAMAGED = 20_000
 # After so many wrong answers the others are not asked for.
 MOST_WRONG = 20
 SEED = 20_260_101
-
-os.chdir(os.path.join(os.path.dirname(os.path.abspath(__file__)), ".."))
-
-
-# ---------------------------------------------------------------------------------------------------------------------
-# Programs and runs.
-
-
-def program(name):
-    """The path of a program."""
-    said = subprocess.run(["tests/program.sh", name], stdout=subprocess.PIPE, text=True, check=True)
-    return os.path.abspath(said.stdout.strip())
+# How deep trees are, and how many KiB of stack there are; and where answers name each level.
+DEEP = [(1_000_000, 8192), (100_000, 1024)]
+SQUARE = (500, 64)
+# Runs about deep trees at once: a tree of a million nodes takes some 200 MB.
+RUNS = 2
+SECONDS = 600
 
 
 def run(path, script, stack=None):
@@ -67,22 +68,15 @@ def status_of(answer):
     return 3 if not answer else None
 
 
-# ---------------------------------------------------------------------------------------------------------------------
 # Rows: a name, a script, and its answer.
 
-LIST = 'tree A (ARG_LIST L_PAREN"(" (LITERAL INT_NUMBER"1") COMMA"," WHITESPACE" " (LITERAL INT_NUMBER"2") R_PAREN")")\n'
-OPENING = LIST + 'edit R A\ntree U (SOURCE_FILE UNDERSCORE"_")\n'
-DONE = 'text "(1, 2)"\nchanged\n'
+LIST = known.OPENING.split("edit")[0]
 REPLACED = 'text "(_, 2)"\nchanged 1\n'
-
-
-def bad(line):
-    return f"bad script line {line}\n"
 
 
 def filled(before, piece, after=""):
     """A script of the greatest length, or a bit less: so many pieces between two texts."""
-    return before + piece * ((SCRIPT_LIMIT - len(before) - len(after)) // len(piece)) + after
+    return before + piece * ((LIMIT - len(before) - len(after)) // len(piece)) + after
 
 
 def nested(levels, inner=""):
@@ -115,12 +109,12 @@ def line_rows():
         ("spaces", filled("", " "), bad(2)),
         ("tabs", filled("", "\t"), bad(1)),
         ("carriage returns", filled("", "\r"), bad(1)),
-        ("newlines", filled("", "\n"), bad(SCRIPT_LIMIT + 1)),
-        ("newlines before the end", filled(OPENING, "\n", "finish\n"), DONE),
-        ("newlines after the end", filled(OPENING + "finish\n", "\n"), DONE),
-        ("lines with carriage returns before the end", filled(OPENING, "\r\n", "finish"), DONE),
-        ("spaces after the end", filled(OPENING + "finish", " "), DONE),
-        ("spaces before the end", filled(OPENING, " ", "finish\n"), DONE),
+        ("newlines", filled("", "\n"), bad(LIMIT + 1)),
+        ("newlines before the end", filled(OPENING, "\n", "finish\n"), UNCHANGED),
+        ("newlines after the end", filled(OPENING + "finish\n", "\n"), UNCHANGED),
+        ("lines with carriage returns before the end", filled(OPENING, "\r\n", "finish"), UNCHANGED),
+        ("spaces after the end", filled(OPENING + "finish", " "), UNCHANGED),
+        ("spaces before the end", filled(OPENING, " ", "finish\n"), UNCHANGED),
         ("spaces between fields", filled(OPENING + "replace R/1", " ", "U/0\nfinish\n"), REPLACED),
         ("spaces in a tree", filled("tree A (ARG_LIST", " ", ')\nedit R A\nfinish\n'), 'text ""\nchanged\n'),
         ("a tree's name", filled("tree ", "A", " (ARG_LIST)\n"), bad(1)),
@@ -185,12 +179,12 @@ def length_rows():
 # Bytes that are no text, no space, or no newline.
 BYTE_ROWS = [
     ("a NUL alone", b"\0", bad(1)),
-    ("NULs", b"\0" * SCRIPT_LIMIT, bad(1)),
+    ("NULs", b"\0" * LIMIT, bad(1)),
     ("a NUL in a name", b"tree A\0 (ARG_LIST)\n", bad(1)),
     ("a NUL in a kind", b"tree A (ARG_LIST\0)\n", bad(1)),
     ("a NUL at the end", OPENING.encode() + b"finish\0\n", bad(4)),
     ("a NUL after the end", OPENING.encode() + b"finish\n\0", bad(5)),
-    ("a NUL in a comment", b"# \0\n" + OPENING.encode() + b"finish\n", DONE),
+    ("a NUL in a comment", b"# \0\n" + OPENING.encode() + b"finish\n", UNCHANGED),
     ("a NUL in a text", b'tree A (ARG_LIST IDENT"a\0b")\nedit R A\nfinish\n', 'text "a\0b"\nchanged\n'),
     ("a mark of the order of bytes", b"\xef\xbb\xbf" + OPENING.encode() + b"finish\n", bad(1)),
     ("a space that is none", OPENING.encode() + "finish\u00a0\n".encode(), bad(4)),
@@ -220,20 +214,19 @@ def end_rows():
 
 def many_rows():
     """As many lines as there is room for."""
-    lines = (SCRIPT_LIMIT - len(OPENING) - 100) // len("insert first R U/0\n")
-    notes = (SCRIPT_LIMIT - len(OPENING) - 100) // len("note w R/1\n")
+    lines = (LIMIT - len(OPENING) - 100) // len("insert first R U/0\n")
+    notes = (LIMIT - len(OPENING) - 100) // len("note w R/1\n")
     return [
         ("inserts into one gap", OPENING + "insert first R U/0\n" * lines + "finish\n",
          f'text "{"_" * lines}(1, 2)"\nchanged {" ".join(map(str, range(lines)))}\n'),
         ("replacements of one element", filled(OPENING, "replace R/1 U/0\n", "finish\n"), REPLACED),
         ("deletions of one element", filled(OPENING, "delete R/1\n", "finish\n"), 'text "(, 2)"\nchanged\n'),
         ("several for one element, again and again", filled(OPENING, "replace R/1 U/0 U\n", "finish\n"), "refused Intersecting 0 1\n"),
-        ("notes of one element", OPENING + "note w R/1\n" * notes + "finish\n", f'{DONE}note w{" 1" * notes}\n'),
+        ("notes of one element", OPENING + "note w R/1\n" * notes + "finish\n", f'{UNCHANGED}note w{" 1" * notes}\n'),
         ("elements of one insert", filled(OPENING + "insert first R", " U/0", "\ndelete R/0\ndelete R/5\nrange R/1 R/4\nfinish\n"), None),
     ]
 
 
-# ---------------------------------------------------------------------------------------------------------------------
 # Every beginning of some scripts of the tables.
 
 GOOD = None
@@ -282,7 +275,7 @@ BEGINNINGS = {
 
 def beginning_rows():
     rows = []
-    tables = table_rows()
+    tables = {case.name: (case.script.decode(), case.answer.decode()) for case in known.known("tables")}
     for name, cut_lines in BEGINNINGS.items():
         script, answer = tables[name]
         for size in range(len(script) + 1):
@@ -300,20 +293,12 @@ def beginning_rows():
     return rows
 
 
-# ---------------------------------------------------------------------------------------------------------------------
 # Damaged scripts.
 
 
 def good_scripts():
     """Scripts that are not bad; a damaged bad one is bad mostly."""
-    scripts = [script.encode() for script, answer in table_rows().values() if not answer.startswith("bad")]
-    for path in sorted(glob.glob("tests/corpus/*/*.stdout")):
-        with open(path, "rb") as answer:
-            is_bad = answer.read().startswith(b"bad")
-        if not is_bad:
-            with open(path.removesuffix(".stdout"), "rb") as script:
-                scripts.append(script.read())
-    return scripts
+    return [case.script for case in known.known("tables", "corpus") if case.status < 2]
 
 
 def span(chance, script):
@@ -481,9 +466,6 @@ def try_damaged(number):
     return status, wrong and f"wrong: {wrong}\n{script.decode(errors='replace')}"
 
 
-# ---------------------------------------------------------------------------------------------------------------------
-
-
 def needed_stack():
     """How many KiB of stack the script with 200 levels needs."""
     script, wanted = deep_answer(200)
@@ -527,19 +509,229 @@ def damage(pool, count):
     return wrong
 
 
-def main():
-    Task.syned, Task.answers = program("syned"), program("plan_answers")
+# Deep trees.
+
+NESTINGS = {"bare": (0, 0), "left": (0, 1), "right": (1, 0), "brackets": (1, 1)}
+# So many slots of a path that are the same are written once, with how many they are.
+MANY = 100
+
+
+def path(*runs):
+    """A path of runs of slots, each a slot and how often it comes."""
+    slots = []
+    for slot, times in runs:
+        if slots and slots[-1][0] == slot:
+            slots[-1][1] += times
+        elif times:
+            slots.append([slot, times])
+    parts = [f"{slot}x{times}" if times >= MANY else "/".join([str(slot)] * times) for slot, times in slots]
+    return "/".join(parts) or "."
+
+
+def questions(nesting, depth):
+    """Questions about the tree T."""
+    before, after = NESTINGS[nesting]
+    slot, leaf, token = before, path((before, depth)), path((before, depth), (0, 1))
+    text = "{" * (before * depth) + "3" + "}" * (after * depth)
+    lowest = path((slot, depth - 1))
+    first, last = ("0 L_CURLY" if before else f"{token} INT_NUMBER"), (f"{before + 1} R_CURLY" if after else f"{token} INT_NUMBER")
+    after_leaf = f"{path((slot, depth - 1), (slot + 1, 1))} R_CURLY" if after else "none"
+    before_leaf = f"{path((slot, depth - 1), (0, 1))} L_CURLY" if before else "none"
+    start = before * depth
+    return {
+        f"kind T/{leaf}": "LITERAL",
+        f"slots T/{leaf}": leaf,
+        f"index T/{leaf}": slot,
+        f"text_start T/{leaf}": start,
+        f"text_end T/{leaf}": start + 1,
+        "text_len T": len(text),
+        "element_text T": f'"{text}"',
+        "display T": f'"{text}"',
+        f"parent T/{leaf}": f"{lowest} BLOCK_EXPR",
+        f"next_sibling_or_token T/{leaf}": after_leaf,
+        f"prev_sibling_or_token T/{leaf}": before_leaf,
+        f"tree_top T/{leaf}": ". BLOCK_EXPR",
+        f"element_at T {token}": f"{token} INT_NUMBER",
+        f"element_of_tree T/{leaf} {token}": f"{token} INT_NUMBER",
+        "first_child T": f"{slot} BLOCK_EXPR",
+        f"next_sibling T/{leaf}": "none",
+        "first_token T": first,
+        "last_token T": last,
+        f"next_token T/{token}": after_leaf,
+        f"prev_token T/{token}": before_leaf,
+        f"covering_element T {start} {start + 1}": f"{token} INT_NUMBER",
+        f"siblings_on T/{leaf}": f"{leaf} LITERAL" + (f", {after_leaf}" if after else ""),
+        "same_shape T T": "yes",
+        "same_shape T U": "no",
+        f"equal T/{leaf} T/{leaf}": "yes",
+        f"equal T/{leaf} 8:T/{leaf}": "no",
+        f"clone_subtree T/{leaf}": 'ok "3" of 1',
+    }
+
+
+def squares(nesting, depth):
+    """Questions whose answers name each level."""
+    before, after = NESTINGS[nesting]
+    levels = [path((before, level)) for level in range(depth + 1)]
+    blocks = [f"{at} BLOCK_EXPR" for at in levels[:-1]]
+    return {
+        f"ancestors T/{levels[-1]}": ", ".join([f"{levels[-1]} LITERAL", *reversed(blocks)]),
+        "descendants T": ", ".join([*blocks, f"{levels[-1]} LITERAL"]),
+        "descendants_of_kind T BLOCK_EXPR": ", ".join(blocks),
+        "write_tree T": written(nesting, depth),
+        "dump T": dumped(nesting, depth),
+        "debug_lines T": dumped(nesting, depth),
+    }
+
+
+def dumped(nesting, depth):
+    """A line for each element, between quotes, with the bytes of its text."""
+    before, after = NESTINGS[nesting]
+    opened, closed = [], []
+    for level in range(depth):
+        indent, end = "  " * level, before * depth + 1 + after * (depth - level)
+        opened.append(f"{indent}BLOCK_EXPR@{before * level}..{end}\\n")
+        opened += [f'{indent}  L_CURLY@{level}..{level + 1} \\"{{\\"\\n'] * before
+        closed += [f'{indent}  R_CURLY@{end - 1}..{end} \\"}}\\"\\n'] * after
+    start, indent = before * depth, "  " * depth
+    leaf = f'{indent}LITERAL@{start}..{start + 1}\\n{indent}  INT_NUMBER@{start}..{start + 1} \\"3\\"\\n'
+    return '"' + "".join(opened) + leaf + "".join(reversed(closed)) + '"'
+
+
+def written(nesting, depth):
+    """The tree as an expression, between quotes."""
+    before, after = NESTINGS[nesting]
+    opening = "(BLOCK_EXPR " + 'L_CURLY\\"{\\" ' * before
+    closing = ' R_CURLY\\"}\\"' * after + ")"
+    return '"' + opening * depth + '(LITERAL INT_NUMBER\\"3\\")' + closing * depth + '"'
+
+
+def steps(nesting, depth):
+    """Edits at the bottom of a tree, or in a payload that is as deep."""
+    before, after = NESTINGS[nesting]
+    leaf, token = path((before, depth)), path((before, depth), (0, 1))
+    start, length = before * depth, (before + after) * depth + 1
+    text = "{" * start + "3" + "}" * (after * depth)
+    tree = f"tree R nested {nesting} {depth} A3"
+    copied = f"{tree} ; tree P nested {nesting} {depth} A3"
+    replaced = f'{tree} ; tree W (LITERAL INT_NUMBER"22") ; new R ; replace R/{leaf} W'
+    longer = extent(text.replace("3", "22"))
+    same, shorter = extent(text), extent(text.replace("3", ""))
+    return {
+        f"{replaced} ; ? check ; ? finish ; changed": f"ok ; {longer} of 3 ; {leaf}",
+        f"{replaced} ; plan ; ? run ; changed": f"{longer} of 3 ; {leaf}",
+        f"{replaced} ; plan ; ? run_spliced ; changed": f"{longer} of 3 ; {leaf}",
+        f"{replaced} ; plan ; built": f"ok {depth}",
+        f"{replaced} ; plan ; ? default_order ; ? execute 0 ; changed": f"ok 0 ; {longer} of 3 ; {leaf}",
+        f"{replaced} ; plan ; stepped ready 0 builds complete": f"ok {{0}} {depth} true",
+        f"{replaced} ; plan ; ? finish_run 0 ; changed": f"{longer} of 3 ; {leaf}",
+        f"{replaced} ; plan ; text_edits": f'ok {start}-{start + 1} "22"',
+        f"{replaced} ; finish ; find_element R": f"{longer} of 3 at .",
+        f"{tree} ; tree W X ; new R ; insert first R/{leaf} W ; insert last R W ; ? finish ; changed":
+            f"{extent(text.replace('3', 'x3') + 'x')} of 3 ; {token} {before + after + 1}",
+        f"{tree} ; new R ; delete R/{leaf} ; ? deleted R/{leaf} ; ? deleted R ; finish": f"true ; false ; {shorter} of 2",
+        f"tree R L ; tree P nested {nesting} {depth} A3 ; new R ; add_annotation P/{leaf} ; insert last R P ; ? finish ; ? changed ; annotated":
+            f"{extent('(1, 2)' + text)} of 3 ; 6 ; {path((6, 1), (before, depth))}",
+        f"{copied} ; new R ; map R/{leaf} P/{leaf} ; map_all ; add_annotation R/{leaf} ; replace R P ; ? finish ; ? changed ; annotated":
+            f"{same} of 3 ; . ; {leaf}",
+        f"{tree} ; tree P nested {nesting} {depth + 1} A3 ; tree W X ; new R ; map R P/{before} ; map_all ; replace R P"
+        f" ; insert first R/{leaf} W ; ? finish ; changed":
+            f"{extent('{' * before + text.replace('3', 'x3') + '}' * after)} of 4 ; .",
+        f"{copied} ; mapping ; map R/{leaf} P/{leaf} ; finish_builder ; ? place R/{leaf} P ; ? follow R/{token} ; follow R":
+            f'ok {leaf} ; ok token "3" of 2 at {token} ; ok node {quoted(text)} of 1 at .',
+        f"{tree} ; free_indent R 1": f"{same} of 2",
+        f"{tree} ; indent R 1": f"{same} of 2",
+        f"{tree} ; dedent R 1": f"{same} of 2",
+        f"{tree} ; reset_indent R": f"{same} of 2",
+        # A level is read back to the nearest newline, one token after another, and each is found from the root.
+        f'tree R nested {nesting} {depth} (LITERAL WHITESPACE"\\n        " INT_NUMBER"3") ; ? from_node R/{leaf} ; from_token R/{path((before, depth), (1, 1))}':
+            "ok 2 ; ok 2",
+        f"{tree} ; new R ; ? wrap R/{leaf} BLOCK_EXPR round ; finish": f'ok "3" of 2 at 0 ; {same} of 3',
+        f"{tree} ; new R ; remove_separated R/{leaf} COMMA ; finish": f"{shorter} of 2",
+        f"{tree} ; new R ; delete R/{leaf} ; new R ; ? clashes_with ; ? merge ; finish": f"none ; ok ; {shorter} of 2",
+    }
+
+
+def quoted(text):
+    return f'"{text}"'
+
+
+def extent(text):
+    """What a call answers that gives a node: its text, or how long that is."""
+    return f"ok {quoted(text)}" if len(text) <= 60 else f"ok {len(text)} bytes"
+
+
+def question_lines(name, nesting, depth, asked):
+    """The lines of questions about the tree of this name, after its own."""
+    lines = [f"tree {name} nested {nesting} {depth} A3", f"tree other_{name} nested {nesting} {depth} L"]
+    for question, answer in asked.items():
+        named = re.sub(r"\bT\b", name, re.sub(r"\bU\b", f"other_{name}", question))
+        lines.append(f"? {named} = {answer}")
+    return lines
+
+
+def deep_rows(nesting, depth):
+    lines = question_lines(f"{nesting}_{depth}", nesting, depth, questions(nesting, depth))
+    return lines + [f"{nesting}: {taken} = {answer}" for taken, answer in steps(nesting, depth).items()]
+
+
+def square_rows(nesting, depth):
+    return question_lines(f"{nesting}_{depth}", nesting, depth, squares(nesting, depth))
+
+
+def try_rows(run):
+    """What goes wrong where the program reads these rows as a group of a table that is a part, to which no call owes a row."""
+    path, name, lines, stack = run
+
+    def limit():
+        resource.setrlimit(resource.RLIMIT_CPU, (SECONDS, SECONDS))
+        resource.setrlimit(resource.RLIMIT_STACK, (stack * 1024, stack * 1024))
+
+    with tempfile.TemporaryDirectory() as room:
+        with open(os.path.join(room, "deep.rows"), "w", encoding="utf-8") as rows:
+            rows.write("\n".join([*lines, "end", ""]))
+        done = subprocess.run([path], cwd=room, input="growths are refused\ngroup deep\nend\n", capture_output=True, text=True, env={},
+                              check=False, preexec_fn=limit)
+    if (done.returncode, done.stdout) == (0, "deep: as expected\n"):
+        return None
+    said = "\n".join(line[:300] for line in done.stdout.split("\n")[:40])
+    return f"wrong: {name}, with {stack} KiB of stack: status {done.returncode}, it printed\n{said}"
+
+
+def deep_wrong(deep, square=()):
+    """What goes wrong with trees of each nesting, so deep and with so much stack, and where answers name each level. It is printed, too."""
+    path = programs.program("test_rows")
+    runs = [(path, f"{nesting}, {depth} deep", deep_rows(nesting, depth), stack) for depth, stack in deep for nesting in NESTINGS]
+    runs += [(path, f"{nesting}, {depth} levels", square_rows(nesting, depth), stack) for depth, stack in square for nesting in NESTINGS]
+    with multiprocessing.get_context("fork").Pool(RUNS) as pool:
+        wrong = [said for said in pool.imap(try_rows, runs, chunksize=1) if said]
+    asked = sum(len(lines) for _, _, lines, _ in runs)
+    print(*wrong, f"hostile: {len(runs) - len(wrong)} of {len(runs)} runs of deep rows answer as expected, {asked} rows", sep="\n")
+    return wrong
+
+
+def scripts_wrong(damaged_alone):
+    """What goes wrong with scripts: so many damaged ones alone, or, if that is None, all, and deep trees before the damaged ones."""
+    Task.syned, Task.answers = programs.program("syned"), programs.program("plan_answers")
     Task.scripts = good_scripts()
     needed = needed_stack()
     Task.stack = needed + SPARE_STACK
     print(f"hostile: an edit below 200 levels needs {needed} KiB of stack; each run has {Task.stack}")
     with multiprocessing.get_context("fork").Pool(os.cpu_count()) as pool:
-        if sys.argv[1:2] == ["damage"]:
-            wrong = damage(pool, int(sys.argv[2]))
-        else:
-            wrong = rows(pool) or depth.all_wrong() or damage(pool, DAMAGED)
-    sys.exit(bool(wrong))
+        if damaged_alone is not None:
+            return damage(pool, damaged_alone)
+        return rows(pool) or deep_wrong(DEEP, [SQUARE]) or damage(pool, DAMAGED)
+
+
+def main(words):
+    numbers = [int(word) for word in words[1:] if word.isdigit()]
+    if not words or (words[0], len(words), len(numbers)) == ("damage", 2, 1):
+        return bool(scripts_wrong(*numbers or [None]))
+    if (words[0], len(words), len(numbers)) == ("deep", 3, 2):
+        return bool(deep_wrong([tuple(numbers)]))
+    print(__doc__)
+    return 0 if words == ["--help"] else 2
 
 
 if __name__ == "__main__":
-    main()
+    sys.exit(main(sys.argv[1:]))

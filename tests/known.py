@@ -1,11 +1,32 @@
-"""Scripts with known answers: those that tests/scripts.sh runs, and worked examples of docs/DEFINITIONS.md; and how the model is compared."""
-import glob
-import itertools
-import re
-from pathlib import Path
+#!/usr/bin/env python3
+"""Scripts with known answers, and whether the program `syned` gives these, each with the exit status that goes with it.
 
-import model_answers
-from tables import table_rows
+    known.py            runs them all
+    known.py PART..     those of these parts: tables examples corpus lines explained ends_of_lines beginnings limits ends
+    known.py quick      without proofs, if the gate has not built `syned`: those of tables and examples, and every 24th of the corpus
+
+tests/scripts has
+
+    *.table             scripts with their answers
+    bad_lines.txt       lines that are bad after three good ones, each in a script of its own
+    bad_first_lines.txt, bad_ends.txt    lines that are bad as the first one, and after `finish`
+    good_lines.txt      lines that change nothing
+    explained.txt       scripts with their answers and what is said on the standard error
+
+tests/corpus has scripts whose answers another program made from the definitions, each NAME with its answer NAME.stdout, and examples has
+NAME.script. A run has two seconds of processor time. The model in Python is compared with the same answers (tests/models.py)."""
+import itertools
+import multiprocessing
+import os
+import re
+import resource
+import subprocess
+import sys
+from concurrent.futures import ThreadPoolExecutor
+from pathlib import Path
+from typing import NamedTuple, Optional
+
+import programs
 
 TESTS = Path(__file__).resolve().parent
 LIMIT = 1048576
@@ -14,6 +35,10 @@ edit R A
 tree U (SOURCE_FILE UNDERSCORE"_")
 '''
 UNCHANGED = 'text "(1, 2)"\nchanged\n'
+# After so many wrong answers the other scripts are not run.
+MOST_WRONG = 20
+# Of the corpus, one script in so many is run where `syned` is not built.
+SHARE = 24
 
 
 def bad(line):
@@ -29,14 +54,32 @@ def lines_of(name):
     return read(TESTS / "scripts" / name).decode().split("\n")[:-1]
 
 
-def corpus():
-    for answer in sorted(glob.glob(str(TESTS / "corpus/*/*.stdout"))):
-        yield answer[:-len(".stdout")], read(answer[:-len(".stdout")]), read(answer)
+def rows(text):
+    """The rows of a table: each has a name, a script, and parts with names."""
+    for row in re.split(r"^== ", text, flags=re.M)[1:]:
+        name, rest = row.split("\n", 1)
+        script, *parts = re.split(r"^-- ", rest, flags=re.M)
+        yield name, script, dict(part.split("\n", 1) for part in parts)
+
+
+def tables():
+    for path in sorted((TESTS / "scripts").glob("*.table")):
+        for name, script, parts in rows(read(path).decode()):
+            yield "%s: %s" % (path.name, name), script, parts["answer"].rstrip("\n") + "\n"
+
+
+def examples():
     for script in sorted((TESTS.parent / "examples").glob("*.script")):
-        yield str(script), read(script), read(script.with_suffix(".stdout"))
+        yield "examples/" + script.name, read(script), read(script.with_suffix(".stdout"))
 
 
-def single_lines():
+def corpus():
+    for answer in sorted(TESTS.glob("corpus/*/*.stdout")):
+        script = answer.with_suffix("")
+        yield str(script.relative_to(TESTS.parent)), read(script), read(answer)
+
+
+def lines():
     for line in lines_of("bad_lines.txt"):
         yield "bad line " + line, OPENING + line + "\nfinish\n", bad(4)
     for line in lines_of("bad_first_lines.txt"):
@@ -47,26 +90,20 @@ def single_lines():
         yield "good line " + line, OPENING + line + "\nfinish\n", UNCHANGED
 
 
-def rows(text):
-    """The rows of a table: each has a name, a script, and parts with names."""
-    for row in re.split(r"^== ", text, flags=re.M)[1:]:
-        name, rest = row.split("\n", 1)
-        script, *parts = re.split(r"^-- ", rest, flags=re.M)
-        yield name, script, dict(part.split("\n", 1) for part in parts)
-
-
 def explained():
     for name, script, parts in rows(read(TESTS / "scripts/explained.txt").decode()):
-        yield name, re.sub(r"\n+", "\n", script), parts["answer"].rstrip("\n") + "\n"
+        yield name, re.sub(r"\n+", "\n", script), parts["answer"].rstrip("\n") + "\n", parts["says"].rstrip("\n")
+    yield "a text that is not UTF-8", b"\377\n", bad(0), "the script is not UTF-8"
 
 
 def ends_of_lines():
+    """Lines that end by a carriage return, a last line without its newline, and bytes that are no text."""
     for end in ("finish", "finish\r", "finish \r\n", "finish\n\r\n# end\r"):
         yield "an end of a line", OPENING + end, UNCHANGED
     yield "no byte", "", bad(1)
     yield "one newline", "\n", bad(2)
     opening = OPENING.encode()
-    for script in (b"\377\n", opening + b"finish\n\377", b"no\n\300\200\n", opening + b"delete R\n# \377\n", b"# \355\240\200\n", b"# \303"):
+    for script in (opening + b"finish\n\377", b"no\n\300\200\n", opening + b"delete R\n# \377\n", b"# \355\240\200\n", b"# \303"):
         yield "no text", script, bad(0)
 
 
@@ -76,14 +113,14 @@ def beginnings():
     whole = OPENING + "replace R/1 U/0\nfinish\n"
     less = whole.split("\n") + ["replace R/1", "replace R/1 ", "replace R/1 U"]
     for size in range(len(whole)):
-        lines = whole[:size].split("\n")
-        lines = lines if lines[-1] else lines[:-1]
-        if lines and lines[-1] == "finish":
+        cut = whole[:size].split("\n")
+        cut = cut if cut[-1] else cut[:-1]
+        if cut and cut[-1] == "finish":
             answer = 'text "(_, 2)"\nchanged 1\n'
-        elif lines and lines[-1] == "replace R":
+        elif cut and cut[-1] == "replace R":
             answer = "refused RootReplacement\n"
         else:
-            answer = bad(len(lines) + (not lines or lines[-1] in less))
+            answer = bad(len(cut) + (not cut or cut[-1] in less))
         yield "the first %d bytes" % size, whole[:size], answer
 
 
@@ -97,13 +134,14 @@ def all_replaced(text, count):
 
 
 def limits():
+    """The limits of a script, open parentheses and bytes, long answers and one that would have 2^32 bytes, and many calls."""
     empty = 'text ""\nchanged\n'
     yield "200 parentheses", nested(200), empty
     yield "201 parentheses", nested(201), bad(1)
-    yield "1000 parentheses", "tree A (ARG_LIST%s)\nedit R A\nfinish\n" % ("(ATTR)" * 1000), empty
+    yield "1000 parentheses, few of them at once", "tree A (ARG_LIST%s)\nedit R A\nfinish\n" % ("(ATTR)" * 1000), empty
     many = OPENING + "".join('tree T%d (LITERAL INT_NUMBER"1")\n' % tree for tree in range(28000)) + "replace R/1 T27999/0\nfinish\n#"
     longest = many + " " * (LIMIT - len(many))
-    yield "the greatest length", longest, 'text "(1, 2)"\nchanged 1\n'
+    yield "a script of the greatest length", longest, 'text "(1, 2)"\nchanged 1\n'
     yield "one byte more", longest + " ", bad(0)
     yield "eight times as many bytes", b"\0" * (8 * LIMIT), bad(0)
     slashes = "\\" * (LIMIT - 50)
@@ -116,88 +154,123 @@ def limits():
            + "".join("replace R/%d R\n" % slot for slot in slots) + "".join("delete R/%d\n" % slot for slot in slots), bad(24003))
 
 
-def answers():
-    """The name, the script and the answer of each, as bytes."""
-    tables = ((name, script, answer) for name, (script, answer) in table_rows().items())
-    for name, script, answer in itertools.chain(tables, explained(), single_lines(), ends_of_lines(), beginnings(), corpus(), limits()):
-        yield name, script if isinstance(script, bytes) else script.encode(), answer if isinstance(answer, bytes) else answer.encode()
+PARTS = {it.__name__: it for it in (tables, examples, corpus, lines, explained, ends_of_lines, beginnings, limits)}
+
+
+class Known(NamedTuple):
+    """A script, its answer, and the sentence on the standard error, where that is known. What is None is not looked at."""
+
+    name: str
+    script: bytes
+    answer: bytes
+    sentence: Optional[str] = None
+
+    @property
+    def status(self):
+        return status_of(self.answer)
+
+
+def known(*parts):
+    """The scripts of these parts, or of all."""
+    for part in parts or PARTS:
+        for name, *texts in PARTS[part]():
+            script, answer = (text if isinstance(text, bytes) else text.encode() for text in texts[:2])
+            yield Known(name, script, answer, *texts[2:])
 
 
 def status_of(answer):
-    """The exit status that goes with an answer."""
-    return {b"text": 0, b"refu": 1, b"bad ": 2}[answer[:4]]
+    """The exit status that goes with an answer, 3 where there is none."""
+    return {b"text": 0, b"refu": 1, b"bad ": 2}.get(answer[:4], 3)
 
 
-def examples():
-    """Scripts with lines that `model.py answer` prints of them, in this order, among others; and with lines that it doesn't print."""
-    for name, script, parts in rows(read(TESTS / "model_examples.txt").decode()):
-        yield name, script.encode(), parts["answer"].split("\n"), parts.get("not", "").split("\n")
+def limited():
+    resource.setrlimit(resource.RLIMIT_CPU, (2, 2))
 
 
-def example_difference(wanted, unwanted, said):
-    """How lines differ from an example: one is missing after those before it, or is there."""
-    rest = iter(said)
-    missing = next((line for line in wanted if line and line not in rest), None)
-    if missing:
-        return "the model lacks the line %s" % missing
-    return next(("the model has the line %s" % line for line in unwanted if line and line in said), None)
+def run(arguments, **streams):
+    """The exit status of `syned`, what it printed, and the sentences that it said."""
+    streams = {"stdout": subprocess.PIPE, "stderr": subprocess.PIPE, **streams}
+    done = subprocess.run([programs.path_of("syned"), *arguments], timeout=60, check=False, preexec_fn=limited, **streams)
+    return done.returncode, done.stdout or b"", [line for line in done.stderr.decode(errors="replace").split("\n") if line]
 
 
-def broken_law(model, plan):
-    """A law of the definitions that a plan breaks, if it breaks one."""
-    new, everything = model.new_tree(plan), model.undropped(plan)
-    pieces, default = model.text_pieces(plan), model.IsDefaultOrder(plan)
-    ends = [0] + [piece.stop for piece in pieces]
-    if any(piece.first < end or piece.stop < piece.first for piece, end in zip(pieces, ends)):
-        return "text edits are apart"
-    if model.applied(model.text(plan.root.tree), pieces) != model.text(new):
-        return "text edits make the new text"
-    if model.plain(model.stage_tree(plan, [])) != plan.root.tree or model.stage_tree(plan, everything) != new:
-        return "a run begins with the old tree and ends with the new one"
-    if any([model.stage_payload(plan, number, everything)] != model.given(plan, number)
-           for number in everything if model.has_stage(plan, number)):
-        return "a payload ends with all that is carried out in it"
-    if not all(model.IsAllowed(plan, order) for order in [default] + [model_answers.ready_order(model, plan, pick) for pick in (min, max)]):
-        return "the default order is allowed, and so is one in which each change may be the next one"
-    for number in everything:
-        if model.has_stage(plan, number):
-            paths = model.paths(model.subtree(plan.changes[number].payload[0]))
-            if sum(model.IsPlaceIn(plan, number, path) for path in paths) > 1:
-                return "a place is unique"
+def difference(case):
+    """What is wrong with what `syned` says of a script, None if nothing is: a sentence goes with no edit, and none with an edit."""
+    try:
+        status, out, said = run([], input=case.script)
+    except subprocess.TimeoutExpired:
+        return "it does not end"
+    if (status, out) != (case.status, case.answer):
+        return "status %d, and it printed %r; wanted are %d and %r" % (status, out[:300], case.status, case.answer[:300])
+    if len(said) != (status > 0) or case.sentence not in (None, *said):
+        return "it said %r; wanted is %r" % (said, case.sentence or status)
     return None
 
 
-def compared(model):
-    """For each known answer, each plan of such a script and each worked example: its name, and how the model differs, None if it doesn't."""
-    for name, script, wanted, unwanted in examples():
-        yield "worked examples", name, example_difference(wanted, unwanted, model_answers.answer_lines(model, name, script))
-    for name, script, answer in answers():
-        said = model.IsAnswer(script)
-        right = said == (status_of(answer), answer)
-        yield "known answers", name, None if right else "the model says %r; known is %r" % (said[1][:300], answer[:300])
-        plan = None if len(script) > 20000 or model.IsNoScript(script) else model_answers.plan_in(model, model.Means(script))
-        if plan:
-            law = broken_law(model, plan)
-            yield "plans by the laws of the definitions", name, law and "the law is broken that %s" % law
+def wrong_ends():
+    """What is wrong with runs that have an argument, a reader that fails at its first read, and a writer that is full."""
+    reads, writes = os.pipe()
+    os.write(writes, b"left\n")
+    os.close(writes)
+    status, out, said = run(["--help"], stdin=reads)
+    left = os.read(reads, 100)
+    if (status, out, left) != (2, b"", b"left\n") or not any("syned < SCRIPT" in line for line in said):
+        yield "an argument: status %d, it printed %r, said %r and left %r" % (status, out, said, left)
+    folder, full = os.open("/", os.O_RDONLY), os.open("/dev/full", os.O_WRONLY)
+    unread, unwritten = run([], stdin=folder), run([], input=OPENING.encode() + b"finish\n", stdout=full)
+    for found, sentence in ((unread, "the script could not be read"), (unwritten, "the answer could not be written")):
+        if found != (3, b"", [sentence]):
+            yield "%s is wanted: status %d, it printed %r and said %r" % (sentence, *found)
+    for descriptor in (reads, folder, full):
+        os.close(descriptor)
 
 
-def nameless(model):
-    """The functions and classes of the model that no row of docs/DEFINITIONS.md names."""
-    names = set(re.findall(r"`(\w+)`", (TESTS.parent / "docs/DEFINITIONS.md").read_text(encoding="utf-8")))
-    own = [name for name, value in vars(model).items() if getattr(value, "__module__", None) == model.__name__]
-    return [name for name in own if not name.startswith("_") and name != "main" and name not in names]
+def all_right(parts):
+    """Runs the scripts of these parts side by side, and says which answers are wrong."""
+    programs.program("syned")
+    cases = list(known(*(part for part in parts if part != "ends")))
+    wrong = list(wrong_ends()) if "ends" in parts or not parts else []
+    ran = len(cases) + 3 * ("ends" in parts or not parts)
+    with multiprocessing.get_context("fork").Pool(os.cpu_count()) as pool:
+        for case, found in zip(cases, pool.imap(difference, cases, chunksize=16)):
+            wrong += ["%s: %s" % (case.name, found)] if found else []
+            if len(wrong) >= MOST_WRONG:
+                sys.exit("\n".join(["wrong: " + it for it in wrong] + ["scripts: twenty wrong answers, so the others were not run"]))
+    print(*("wrong: " + it for it in wrong), "scripts: %d of %d answers as expected" % (ran - len(wrong), ran), sep="\n")
+    return ran > 0 and not wrong
 
 
-def check(model):
-    counts, wrong = {}, 0
-    for name in nameless(model):
-        wrong += 1
-        print("differs: %s is no name of docs/DEFINITIONS.md" % name)
-    for kind, name, difference in compared(model):
-        counts[kind] = counts.get(kind, 0) + (difference is None)
-        if difference is not None:
-            wrong += 1
-            print("differs: %s: %s" % (name, difference))
-    said = ", ".join("%d %s" % (count, kind) for kind, count in counts.items())
-    print("model: as expected are %s; %s" % (said, "wrong: %d" % wrong if wrong else "none is wrong"))
-    return 1 if wrong else 0
+def tried(cases):
+    """What `rt try` says of these scripts, and the names of those that end as expected."""
+    said = programs.try_cases("syned", {name: (case.script, case.answer) for name, case in cases.items()})
+    ended = re.findall(r"^case=(.*) run=ended status=(\d+) .*output=expected", said, re.M)
+    return said, {name for name, status in ended if name in cases and int(status) == cases[name].status}
+
+
+def quick():
+    """Runs a share of the scripts without proofs, in two parts side by side."""
+    if programs.is_built("syned"):
+        return all_right([])
+    chosen = [*known("tables", "examples"), *itertools.islice(known("corpus"), 0, None, SHARE)]
+    cases = {case.name.replace("/", " "): case for case in chosen}
+    names = sorted(cases)
+    with ThreadPoolExecutor(2) as pool:
+        parts = list(pool.map(tried, [{name: cases[name] for name in names[first::2]} for first in (0, 1)]))
+    good = set().union(*(names for _, names in parts))
+    for name in sorted(cases.keys() - good)[:10]:
+        print("wrong: " + name)
+    print("scripts: %d of %d scripts as expected" % (len(good), len(cases)))
+    if len(good) < len(cases):
+        print(*[line for said, _ in parts for line in said.splitlines() if "output=expected" not in line][-10:], sep="\n")
+    return bool(cases) and len(good) == len(cases)
+
+
+def main(words):
+    if not set(words) <= {*PARTS, "ends"} and words != ["quick"]:
+        print(__doc__)
+        return 0 if words == ["--help"] else 2
+    return not (quick() if words == ["quick"] else all_right(words))
+
+
+if __name__ == "__main__":
+    sys.exit(main(sys.argv[1:]))

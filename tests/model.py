@@ -1,10 +1,9 @@
 #!/usr/bin/env python3
 """What a script of `syned` means: docs/DEFINITIONS.md and docs/SCRIPTS.md once more, as a program that takes nothing from the product.
 
-    model.py check              compares the model with every known answer and worked example of tests/ and examples/ (tests/known.py)
-    model.py run <SCRIPT        what `syned` prints for a script, with its exit status
-    model.py answer FILE..      all that the model says of the scripts in these files, in the format below (tests/model_answers.py)
-    model.py batch FILE..       these scripts with the orders to try, as the program `plan_answers` reads them
+    model.py <SCRIPT    what `syned` prints for a script, with its exit status
+
+tests/models.py compares it with what is known, and the editor with it.
 
 How to read it. A function or class has the name of a row of docs/DEFINITIONS.md and says what that row says, in the order of that page:
 search for a name there to find its meaning, and here to find it as code. Names that begin with an underscore and names in capitals are
@@ -12,35 +11,6 @@ the model's own. A definition of changes takes the plan first, and a change by i
 function that returns it. Nothing is found step by step: a tree, a place, a fate or an order is what its definition says, tried on all
 there is. `_kept` keeps what was once found, and `Mapping`, `_Aims` and `_by_path` look things up in tables; neither changes a meaning.
 Paths are tuples of slots, texts are bytes, an address is a tree's number with a path.
-
-The format of `answer`, line by line. `plan_answers` prints the same for the same batch, but for the lines `place` (tests/models.py).
-
-    script NAME               begins what is said of one script
-    status N                  the exit status of `syned`
-    > LINE                    each line that it prints. No more is said of a script without a plan, or whose new text is too long
-    fate LINE                 each line of the text of the plan
-    shown N "TEXT"            each change as a plain text
-    place N PATH              for each change that has a stage: the place of its target in its payload, or `none`
-    cut FIRST STOP "TEXT"     each text edit, from left to right
-    makes "TEXT"              the text that they make of the old one
-    engine ENGINE             for each engine, first `one_pass`, then `splice`: the edit that it makes, in these lines
-    tree EXPRESSION             the new tree
-    changed PATH ..             the changed elements
-    found A PATH ..             for each annotation that something is registered with, the least first: its elements
-    built N                   how many nodes the one pass builds
-    stand PATH PATH           for each node of the old tree that is found again, in document order: its path and that of its stand-in
-    default N ..              the default order
-    try N ..: VERDICT         for each order to try: why it is refused; or `allowed`, and then the edit that it makes
-    walk N ..                 for each order to walk: the state after 0, 1, .. all of its steps, in these lines
-    at N ..: M ..               the changes that are done, the least first, and those that may be the next one
-    built N                     how many nodes the steps built
-    tree EXPRESSION             the tree
-    payload N EXPRESSION        for each change that has a stage: its payload
-    finish                    after the last step, and then the edit that the run makes
-    end                       ends the script
-
-A batch has for each script `script NAME`, its lines, each after `> `, the orders in lines `try N ..` and then `walk N ..`, and `end`. A file
-that begins with the word `script` is read as a batch, of which the orders are left out; any other file is one script.
 """
 import itertools
 import re
@@ -1149,21 +1119,10 @@ def IsAnswer(script):
 
 # The program
 
-def main(arguments):
-    command, files = (arguments or [""])[0], arguments[1:]
-    if command == "check" and not files:
-        import known
-        return known.check(sys.modules[__name__])
-    if command == "run" and not files:
-        status, answer = IsAnswer(sys.stdin.buffer.read())
-        sys.stdout.buffer.write(answer)
-        return status
-    if command in ("answer", "batch") and files:
-        import model_answers
-        return model_answers.write(sys.modules[__name__], command, files)
-    print(__doc__.split("\n\n")[1], file=sys.stderr)
-    return 2
-
-
 if __name__ == "__main__":
-    sys.exit(main(sys.argv[1:]))
+    if len(sys.argv) > 1:
+        print(__doc__)
+        sys.exit(0 if sys.argv[1:] == ["--help"] else 2)
+    STATUS, ANSWER = IsAnswer(sys.stdin.buffer.read())
+    sys.stdout.buffer.write(ANSWER)
+    sys.exit(STATUS)

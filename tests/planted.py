@@ -206,7 +206,8 @@ class Lab:
             self.prove(owed, lanes, in_gate)
 
     def prove(self, crates, lanes, in_gate):
-        """Has these crates proved. `rt ci` takes what the gate proves, and `rt check` what earlier checks kept."""
+        """Has these crates proved. In the gate `rt ci` takes what it proves there; else `rt check` takes what earlier checks kept, and leaves what the
+        checks of bugs begin with. Crates that don't wait for each other are proved side by side, with few jobs each: every job reads the crate."""
         folder = self.room / "libraries"
         for crate in crates:
             shutil.copytree(self.room / "crates" / crate, folder / "crates" / crate)
@@ -214,13 +215,27 @@ class Lab:
         lines = [line for line in (ROOT / "crates.txt").read_text().splitlines() if re.match(r"\w*", line)[0] in crates]
         (folder / "crates.txt").write_text("".join(f"{line}\n" for line in lines))
         if in_gate:
-            runs = [(["rt", "ci"], folder)]
-        else:
-            runs = [(["rt", "check", "--jobs", str(lanes)], folder / "crates" / re.match(r"\w*", line)[0]) for line in lines]
-        for words, place in runs:
-            ran = subprocess.run(words, cwd=place, env={**os.environ, "RT_JOBS": str(lanes)}, capture_output=True, text=True, check=False)
-            if ran.returncode:
-                sys.exit(f"planted: the libraries below are not proved\n{ran.stdout[-2000:]}{ran.stderr[-500:]}")
+            # Without RT_JOBS a proof that no other waits beside takes several processors.
+            self.run(["rt", "ci"], folder, {name: it for name, it in os.environ.items() if name != "RT_JOBS"})
+            return
+        proved, room = {}, threading.Semaphore(max(1, lanes // 2))
+
+        def prove_one(crate):
+            for it in below(crate, self.uses):
+                proved[it].result()
+            with room:
+                self.run(["rt", "check", "--jobs", "2"], folder / "crates" / crate)
+
+        with ThreadPoolExecutor(len(lines)) as pool:
+            for crate in (re.match(r"\w*", line)[0] for line in lines):
+                proved[crate] = pool.submit(prove_one, crate)
+            for it in proved.values():
+                it.result()
+
+    def run(self, words, place, told=None):
+        ran = subprocess.run(words, cwd=place, env=told, capture_output=True, text=True, check=False)
+        if ran.returncode:
+            sys.exit(f"planted: the libraries below are not proved\n{ran.stdout[-2000:]}{ran.stderr[-500:]}")
 
     def check(self, crate, folder, kept, only=()):
         """The status of a check of a crate in a folder, over what an earlier one kept, and what it said."""
@@ -339,6 +354,9 @@ def verdict(said, proofs):
 
 def main(words):
     options = {word for word in words if word.startswith("--")}
+    if not options <= {"--all", "--gate", "--stale"}:
+        print(__doc__)
+        return 0 if words == ["--help"] else 2
     crates = [word for word in words if word not in options] or crates_with_bugs()
     if "--all" not in options:
         crates = [crate for crate in crates if crate in stale()]

@@ -1,4 +1,4 @@
-/* Stands before the C library in a program whose growths are refused one at a time.
+/* Is loaded before the C library in a program whose growths, its calls of malloc and realloc, are refused one at a time.
 
    REFUSE_GROWTH=N    the growth with this number, counted from 1, gets no memory, and one line on standard error says so
    COUNT_GROWTHS=1    a line on standard error says at the end how many growths there were

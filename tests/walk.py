@@ -15,7 +15,7 @@ from pathlib import Path
 
 ROOT = Path(__file__).resolve().parent.parent
 # The walks, and how many functions each has at most: above the two lowest crates, and in them. These numbers only fall.
-WALKS = {"SyntaxEditor::finish": (198, 67), "EditRun::step": (81, 43)}
+WALKS = {"SyntaxEditor::finish": (173, 67), "EditRun::step": (52, 43)}
 BELOW = {"green_tree", "cst_core"}
 ENGINES = {"E": "OnePassEngine"}
 LIBRARIES = [
@@ -364,6 +364,8 @@ def counted(functions):
 
 
 def main():
+    if "--help" in sys.argv:
+        sys.exit(print(__doc__))
     sources = Sources()
     calls = [word for word in sys.argv[1:] if not word.startswith("--")]
     for call in calls or WALKS:

@@ -4,19 +4,17 @@ A `Script` is made of trees and of changes against one of them. docs/SCRIPTS.md 
 
 >>> from syned import Kind, Script, node, token
 >>> script = Script()
->>> arguments = node(
-...     Kind.ARG_LIST,
-...     token(Kind.L_PAREN, "("),
-...     node(Kind.LITERAL, token(Kind.INT_NUMBER, "1")),
-...     token(Kind.COMMA, ","),
-...     token(Kind.WHITESPACE, " "),
-...     node(Kind.LITERAL, token(Kind.INT_NUMBER, "2")),
-...     token(Kind.R_PAREN, ")"),
-... )
+>>> one, two, three = (node(Kind.LITERAL, token(Kind.INT_NUMBER, it)) for it in "123")
+>>> comma = token(Kind.COMMA, ","), token(Kind.WHITESPACE, " ")
+>>> opening, closing = token(Kind.L_PAREN, "("), token(Kind.R_PAREN, ")")
+>>> arguments = node(Kind.ARG_LIST, opening, one, *comma, two, *comma, three, closing)
 >>> root = script.edit(script.tree(arguments))
->>> script.remove(root[1], Kind.COMMA)
+>>> first, second, third = root[1], root[4], root[7]
+>>> script.replace(first, second)
+>>> script.replace(second, first)
+>>> script.remove(third, Kind.COMMA)
 >>> script.finish()
-Edit(text='(2)', changed=(), notes={})
+Edit(text='(2, 1)', changed=((1,), (4,)), notes={})
 """
 from ._edit import Edit, ElementPath, carry_out
 from ._errors import BadScript, Failed, NoLibrary, Refusal, Refused, SynedError

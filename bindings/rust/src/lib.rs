@@ -6,23 +6,21 @@
 //! ```
 //! use syned::{Kind, Script, Tree};
 //!
-//! // `(1, 2)`: the literal `1` becomes `_`.
-//! let arguments = Tree::new(Kind::ArgList)
-//!     .token(Kind::LParen, "(")
-//!     .node(Tree::new(Kind::Literal).token(Kind::IntNumber, "1"))
-//!     .token(Kind::Comma, ",")
-//!     .token(Kind::Whitespace, " ")
-//!     .node(Tree::new(Kind::Literal).token(Kind::IntNumber, "2"))
-//!     .token(Kind::RParen, ")");
+//! // The list `(1, 2, 3)`.
+//! let literal = |number: &str| Tree::new(Kind::Literal).token(Kind::IntNumber, number);
+//! let next = |list: Tree| list.token(Kind::Comma, ",").token(Kind::Whitespace, " ");
+//! let arguments = next(Tree::new(Kind::ArgList).token(Kind::LParen, "(").node(literal("1")));
+//! let arguments = next(arguments.node(literal("2"))).node(literal("3")).token(Kind::RParen, ")");
 //! let mut script = Script::new();
-//! let file = script.tree(&arguments)?;
-//! let mut editing = script.edit(&file)?;
-//! let new = editing.tree(&Tree::new(Kind::SourceFile).token(Kind::Underscore, "_"))?;
-//! let one = editing.root().child(1);
-//! editing.replace(&one, &new.child(0))?;
+//! let list = script.tree(&arguments)?;
+//! let mut editing = script.edit(&list)?;
+//! let [first, second, third] = [1, 4, 7].map(|slot| editing.root().child(slot));
+//! editing.replace(&first, &second)?;
+//! editing.replace(&second, &first)?;
+//! editing.remove(&third, Kind::Comma)?;
 //! let edit = editing.finish()?;
-//! assert_eq!(edit.text, "(_, 2)");
-//! assert_eq!(edit.changed, [[1]]);
+//! assert_eq!(edit.text, "(2, 1)");
+//! assert_eq!(edit.changed, [[1], [4]]);
 //! # Ok::<(), syned::Error>(())
 //! ```
 //!

@@ -35,10 +35,10 @@ fn has_clash(alloc: Global, aims: &[Aimed<'_>], below: usize) -> Result<bool, Al
 }
 
 // Whether the last that is open shares a target with an aim.
-fn shares_last(open: &[Aimed<'_>], aim: &Aimed<'_>) -> bool
-    ensures { result ≡ option_map_or (λ o. shares o.1 (numbered aim.now).1) (last_item (aims_of open.now)) false }
+fn shares_last(regions: &[Aimed<'_>], aim: &Aimed<'_>) -> bool
+    ensures { result ≡ option_map_or (λ o. shares o.1 (numbered aim.now).1) (last_item (aims_of regions.now)) false }
 {
-    match open.last() {
+    match regions.last() {
         Some(last) => last.shares(aim),
         None => false,
     }

@@ -9,16 +9,17 @@ ghost use Rattle.edit_change.specs.inner.Open.{Closes};
 use crate::aimed::Aimed;
 
 /// Takes off, from the last on, what surrounds no element on the way to a path; all, if there is no path.
-pub(crate) fn close(open: &mut Vec<Aimed<'_>>, path: Option<&[usize]>)
-    ensures { Closes (option_map_or (λ p. up_to p.now) path.entry []) (aims_of open.old.items) (aims_of open.new.items) }
+pub(crate) fn close(regions: &mut Vec<Aimed<'_>>, path: Option<&[usize]>)
+    ensures { Closes (option_map_or (λ p. up_to p.now) path.entry []) (aims_of regions.old.items)
+        (aims_of regions.new.items) }
 {
     loop {
-        let Some(last) = open.last() else {
+        let Some(last) = regions.last() else {
             return;
         };
         if last.surrounds(path) {
             return;
         }
-        open.pop();
+        regions.pop();
     }
 }

@@ -5,7 +5,7 @@ use Rattle.cst_core.specs.Element.{Element, address}
 use Rattle.edit_map.proofs.Rows.{R}
 use Rattle.edit_change.specs.NewTree.{plain, new_tree}
 use Rattle.edit_change.specs.Results.{annotated, paths_with, stand_in_path}
-use Rattle.one_pass.specs.inner.Sought.{sought_from}
+use Rattle.one_pass.specs.inner.Sought.{registered_at}
 use Rattle.edit_change.specs.Display.{escape, change_text}
 use Rattle.edit_change.specs.declared.change_text.Style.TheVariants.{Coloured, Plain}
 use Rattle.edit_change.specs.declared.change.Change.{Change}
@@ -31,9 +31,9 @@ note_of_an_exchanged_element = refl
 note_of_a_moved_element : notes (R (4 ∷ []) ∷ []) (replace (R (1 ∷ [])) (R (4 ∷ [])) ∷ replace (R (4 ∷ [])) X ∷ []) ≡ (1 ∷ []) ∷ []
 note_of_a_moved_element = refl
 
--- ---- registered elements, as they are sought at one of them
-sought_at_one_of_them : sought_from 0 (map address (R [] ∷ R (1 ∷ []) ∷ R (1 ∷ 0 ∷ []) ∷ [])) (address (R (1 ∷ []))) ≡ (1, []) ∷ (2, 0 ∷ []) ∷ []
-sought_at_one_of_them = refl
+-- ---- the numbers of the registered elements at one of them
+registered_there : registered_at (map address (R [] ∷ R (1 ∷ []) ∷ R (1 ∷ 0 ∷ []) ∷ R (1 ∷ []) ∷ [])) (address (R (1 ∷ []))) ≡ 1 ∷ 3 ∷ []
+registered_there = refl
 
 -- ---- a node found again in the new tree
 root_found_again : ◌≡◌ {A = List (Option Path)} (flat_map (λ t. stand_in_path (R []) (plain t) ∷ stand_in_path (R (4 ∷ [])) (plain t) ∷ []) (new_tree changes_before_both_literals no_places (R []))) (Some [] ∷ None ∷ [])

@@ -1,11 +1,13 @@
 -- Where an aim alters a tree: what is found in code, and what the rewriting says of it.
 --     parent-last                    a path from its parent and last slot
+--     child-by-last                  a child by its path without the last slot, as code takes it apart
+--     count-token                    below a token there is no node
 --     IsRange, Reaches               slots that are there of those that an aim is over; a gap or slots that an aim reaches
 --     IsLive, found-live             an aim that is found is live
 --     found-dead                     one that is not found is dead: it alters nothing
-use Rattle.std.specs.Prelude.{◌≡◌, ℕ, zero, suc, ◌+◌, ◌-◌, ◌<◌, ◌≤◌, true, false, ◌&&◌, ◌||◌, cond, not, nat_lt, min, List, [], ◌∷◌, ◌++◌, length, Option, Some, None, option_map, option_and_then, refl}
+use Rattle.std.specs.Prelude.{◌≡◌, ℕ, zero, suc, ◌+◌, ◌-◌, ◌<◌, ◌≤◌, true, false, ◌&&◌, ◌||◌, cond, not, nat_lt, min, List, [], ◌∷◌, ◌++◌, take, length, Option, Some, None, option_map, option_and_then, refl}
 use Rattle.std.specs.Option.{option_map_or, is_some}
-use Rattle.std.proofs.Common.{ap, ap₂, sym, subst, ◌∙◌, arith}
+use Rattle.std.proofs.Common.{ap, ap₂, sym, subst, ◌∙◌, arith, get_or}
 use Rattle.std.proofs.lemmas.Bool.{cases_lt, lt-ltb, le-ltb, eq-eqb}
 use Rattle.std.proofs.lemmas.List.{same_from_push}
 use Rattle.std.proofs.lemmas.Option.{same_Some, slice_get-get_or, slice_get_past}
@@ -21,9 +23,9 @@ use Rattle.edit_change.specs.declared.aimed.AimForm.TheVariants as form
 use Rattle.edit_change.specs.inner.Aimed.{aim_in}
 use Rattle.edit_change.proofs.SeenBelow.{no_end}
 use Rattle.edit_steps.specs.StepCount.{is_child, is_live}
-use Rattle.edit_steps.specs.declared.stage.done.Among.{Among}
-use Rattle.edit_steps.specs.declared.stage.done.Among.TheVariants.{Gap, Slots}
-use Rattle.edit_steps.specs.declared.stage.done.Done.{Done}
+use Rattle.edit_steps.specs.declared.stage.among.Among.{Among}
+use Rattle.edit_steps.specs.declared.stage.among.Among.TheVariants.{Gap, Slots}
+use Rattle.edit_steps.specs.inner.Widths.{Held}
 use Rattle.edit_steps.specs.inner.AimTargets.{Child, count_in, child_count, child_in, child_at, live_target, Site}
 use Rattle.edit_steps.proofs.AimSteps.{same_path_from, range, elsewhere-insert, other_gaps, slots, elsewhere-replace, gaps_over, slot_outside, same_gap, same_slot}
 use Rattle.edit_steps.proofs.Stepping.{DeadAt}
@@ -31,6 +33,30 @@ use Rattle.edit_steps.proofs.Stepping.{DeadAt}
 pub parent-last : (i : ℕ) (q : Path) → parent_path (i ∷ q) ++ last_slot (i ∷ q) ∷ [] ≡ i ∷ q
 parent-last i [] = refl
 parent-last i (j ∷ q) = ap (λ p. i ∷ p) (parent-last j q)
+
+-- ---- the last slot of a path
+front-is : (p : Path) → 1 ≤ length p → take (length p - 1) p ≡ parent_path p
+front-is [] h = absurd (omega arith)
+front-is (i ∷ []) h = refl
+front-is (i ∷ j ∷ p) h =
+    let less : length (i ∷ j ∷ p) - 1 ≡ suc (length (j ∷ p) - 1) = omega arith in
+    ap (λ n. take n (i ∷ j ∷ p)) less ∙ ap (λ q. i ∷ q) (front-is (j ∷ p) (omega arith))
+
+last-is : (p : Path) → 1 ≤ length p → get_or p (length p - 1) 0 ≡ last_slot p
+last-is [] h = absurd (omega arith)
+last-is (i ∷ []) h = refl
+last-is (i ∷ j ∷ p) h =
+    let less : length (i ∷ j ∷ p) - 1 ≡ suc (length (j ∷ p) - 1) = omega arith in
+    ap (λ n. get_or (i ∷ j ∷ p) n 0) less ∙ last-is (j ∷ p) (omega arith)
+
+pub child-by-last : (t : SyntaxTree) (p : Path) → 1 ≤ length p → child_at t p ≡ option_and_then (child_in (take (length p - 1) p) (get_or p (length p - 1) 0)) (child_count t (take (length p - 1) p))
+child-by-last t [] h = absurd (omega arith)
+child-by-last t (i ∷ q) h =
+    sym (ap₂ (λ p s. option_and_then (child_in p s) (child_count t p)) (front-is (i ∷ q) h) (last-is (i ∷ q) h))
+
+pub count-token : (k : ℕ) (s : List ℕ) (p : Path) → child_count (Token k s) p ≡ None
+count-token k s [] = refl
+count-token k s (i ∷ p) = refl
 
 -- ---- what an aim reaches
 pub record IsRange (a : Aim) (p : Path) (count i n : ℕ) : Type 0 where
@@ -213,9 +239,9 @@ found-none t [] (form.Over (suc n)) h = refl
 found-none t (i ∷ q) (form.Over (suc n)) h =
     over_live t i q (range (parent_path (i ∷ q)) (suc (last_slot (i ∷ q))) n) ∙ child-live t i q ∙ ap is_some (none-mapped (λ c. (c.parent, Slots c.slot (min (suc n) c.left))) (child_at t (i ∷ q)) h)
 
-module _ (t : SyntaxTree) (given : ℕ → List SyntaxTree) (xs : List NumberedAim) (c : NumberedAim) (ys : List NumberedAim) (done : Path → List Done) where
+module _ (t : SyntaxTree) (given : ℕ → List SyntaxTree) (xs : List NumberedAim) (c : NumberedAim) (ys : List NumberedAim) (held : Path → Held) where
   -- an aim that alters no node's children
-  quiet : ((q : Path) (j : ℕ) → aims_at_gap q j c.1 ≡ false) → ((q : Path) (j : ℕ) → (replaces (q ++ j ∷ []) c.1 ≡ false) × (starts_at (q ++ j ∷ []) c.1 ≡ false)) → DeadAt t given xs c ys done []
+  quiet : ((q : Path) (j : ℕ) → aims_at_gap q j c.1 ≡ false) → ((q : Path) (j : ℕ) → (replaces (q ++ j ∷ []) c.1 ≡ false) × (starts_at (q ++ j ∷ []) c.1 ≡ false)) → DeadAt t given xs c ys held []
   quiet g s = record {
     elsewhere = record {
       labels = refl;
@@ -229,7 +255,7 @@ module _ (t : SyntaxTree) (given : ℕ → List SyntaxTree) (xs : List NumberedA
   }
 
   -- one that aims at a gap that is not there
-  dead-gap : (p : Path) (i : ℕ) → aims_at_gap p i c.1 ≡ true → ((k : ℕ) (f : Forest ℕ) → at t p ≡ Some (Node k f) → length (trees f) < i) → DeadAt t given xs c ys done p
+  dead-gap : (p : Path) (i : ℕ) → aims_at_gap p i c.1 ≡ true → ((k : ℕ) (f : Forest ℕ) → at t p ≡ Some (Node k f) → length (trees f) < i) → DeadAt t given xs c ys held p
   dead-gap p i here past = record {
     elsewhere = elsewhere-insert given xs c ys p i here;
     agree = λ k f there. record {
@@ -239,7 +265,7 @@ module _ (t : SyntaxTree) (given : ℕ → List SyntaxTree) (xs : List NumberedA
   }
 
   -- one that is over slots that are not there
-  dead-slots : (p : Path) (i wanted : ℕ) → c.1 ≡ Over (range p i (suc wanted)) → ((k : ℕ) (f : Forest ℕ) → at t p ≡ Some (Node k f) → length (trees f) ≤ i) → DeadAt t given xs c ys done p
+  dead-slots : (p : Path) (i wanted : ℕ) → c.1 ≡ Over (range p i (suc wanted)) → ((k : ℕ) (f : Forest ℕ) → at t p ≡ Some (Node k f) → length (trees f) ≤ i) → DeadAt t given xs c ys held p
   dead-slots p i wanted here past = record {
     elsewhere = elsewhere-replace given xs c ys p i wanted here;
     agree = λ k f there. record {
@@ -251,7 +277,7 @@ module _ (t : SyntaxTree) (given : ℕ → List SyntaxTree) (xs : List NumberedA
   }
 
   abbrev Dead : Type 0
-  Dead = (p : Path) × DeadAt t given xs c ys done p
+  Dead = (p : Path) × DeadAt t given xs c ys held p
 
   no_node : (o : Option SyntaxTree) → option_and_then count_in o ≡ None → (k : ℕ) (f : Forest ℕ) → o ≡ Some (Node k f) → ⊥
   no_node o h k f there = let wrong = sym (ap (option_and_then count_in) there) ∙ h in cc

@@ -1,279 +1,210 @@
--- The changes that are done at a node, counted, and one more.
---     Told                           they tell what edits replace and put at the top
+-- What is told of the gaps and slots of a node, and of those with one change more.
+--     Told                           it is told what edits put and leave at the top
 --     told-here, counted-from        what aims say is what their edits say
---     start-gap, start-slot          where a gap and a slot begin is found from the changes
---     told-inserted, told-replaced   one change more is told by one more in the list
+--     start-gap, start-slot          where a gap and a slot begin is found from it
+--     most_width                     no place holds more than there are new children, and one
+--     gap_least, gone_none, gone_kept      a gap's part in its place; what a change takes away is there
+--     told-inserted, told-replaced   one change more is told by one more
 --     told-same                      what edits at a node say stays as long as these edits do
-use Rattle.std.specs.Prelude.{◌≡◌, ◌⊎◌, ℕ, zero, suc, ◌+◌, ◌-◌, ◌<◌, ◌≤◌, Bool, true, false, not, cond, min, nat_lt, List, [], ◌∷◌, ◌++◌, flat_map, length, Option, Some, None, refl}
-use Rattle.std.specs.Option.{is_some}
+use Rattle.std.specs.Prelude.{◌≡◌, ℕ, zero, suc, ◌+◌, ◌<◌, ◌≤◌, true, false, cond, List, [], ◌∷◌, ◌++◌, flat_map, length, Some, None, refl}
 use Rattle.std.proofs.Common.{ap, ap₂, sym, subst, ◌∙◌, arith}
-use Rattle.std.proofs.lemmas.Bool.{cases_eq, cases_lt, lt-ltb, le-ltb}
+use Rattle.std.proofs.lemmas.Bool.{cases_eq, cases_lt, eq-eqb, ne_eqb}
 use Rattle.std.proofs.lemmas.List.{append-nil, length-append}
-use Rattle.std.proofs.lemmas.List.Sums.{sum_by_push}
 use mathlib.Core.Logic.{inl, inr}
 use mathlib.Core.Path.{fun_ext}
 use Rattle.green_tree.specs.Path.{Path}
-use Rattle.green_tree.specs.Tree.{SyntaxTree}
+use Rattle.green_tree.specs.Tree.{Forest, end, more, SyntaxTree, forest, trees}
+use Rattle.green_tree.proofs.Lookup.{trees-forest}
 use Rattle.edit_change.specs.Rewriting.{NumberedAim, replacements_at, is_replaced, gap}
 use Rattle.edit_change.specs.inner.KindOnly.{kind_only}
-use Rattle.edit_steps.specs.declared.stage.done.Among.TheVariants.{Gap, Slots}
-use Rattle.edit_steps.specs.declared.stage.done.Done.{Done}
-use Rattle.edit_steps.specs.inner.Starts.{removed, added, removed_before, added_before, start}
-use Rattle.edit_steps.specs.inner.Counts.{kept_slots, put_before, Counts, in_slot, IsCounted}
-use Rattle.edit_change.proofs.Edits.{Edits, below_path, taken, edits_of}
-use Rattle.edit_steps.proofs.CurrentPaths.{width, widths, to_gap, to_slot}
-use Rattle.edit_steps.proofs.Steps.{Inserted, Replaced}
+use Rattle.edit_steps.specs.declared.stage.among.Among.TheVariants.{Gap, Slots}
+use Rattle.edit_steps.specs.inner.Widths.{total, Held, start, gone_at, come_at, IsPut}
+use Rattle.edit_steps.specs.inner.Counts.{Counts, slot_width, IsCounted}
+use Rattle.edit_change.proofs.Edits.{Edits, below_path, taken, edits_of, rewritten_by_from}
+use Rattle.edit_steps.proofs.CurrentPaths.{width, widths, to_gap, to_slot, before, after, cut}
+use Rattle.edit_steps.proofs.Steps.{Inserted, Replaced, room-inserted}
+use Rattle.edit_steps.proofs.Widths.{gone_before, gone_inside, gone_past}
 
 -- ---- what edits say of the node at the top
-abbrev replaced_in : Edits ℕ → ℕ → Bool
-replaced_in e i = is_some (e.slot [] i)
+abbrev gap_here : Edits ℕ → ℕ → ℕ
+gap_here e i = length (e.gap [] i)
 
-abbrev gap_in : Edits ℕ → ℕ → ℕ
-gap_in e i = length (e.gap [] i)
+abbrev slot_here : Edits ℕ → ℕ → ℕ
+slot_here e i = width (e.slot [] i)
 
-abbrev put_in : Option (List SyntaxTree) → ℕ
-put_in (Some ts) = length ts
-put_in None = 0
-
-abbrev slot_in : Edits ℕ → ℕ → ℕ
-slot_in e i = put_in (e.slot [] i)
-
-abbrev pub Told : Edits ℕ → ℕ → List Done → Type 0
-Told e count ds = Counts (replaced_in e) (gap_in e) (slot_in e) count ds
+abbrev pub Told : Edits ℕ → ℕ → Held → Type 0
+Told e count h = Counts (gap_here e) (slot_here e) count h
 
 -- ---- what aims say
 module _ (given : ℕ → List SyntaxTree) (cs : List NumberedAim) (p : Path) where
   abbrev here : Edits ℕ
   here = below_path p (edits_of kind_only given cs)
 
-  taken-some : (q : Path) → is_replaced cs q ≡ is_some (taken given cs q)
-  taken-some q =
-      elim (is_replaced cs q) as (λ b. b ≡ is_some (cond b (Some (flat_map given (replacements_at cs q))) None)) [ true ↦ refl | false ↦ refl ]
+  taken-width : (q : Path) → slot_width given cs q ≡ width (taken given cs q)
+  taken-width q =
+      elim (is_replaced cs q) as (λ b. cond b (length (flat_map given (replacements_at cs q))) 1 ≡ width (cond b (Some (flat_map given (replacements_at cs q))) None)) [ true ↦ refl | false ↦ refl ]
 
-  taken-put : (q : Path) → in_slot given cs q ≡ put_in (taken given cs q)
-  taken-put q =
-      elim (is_replaced cs q) as (λ b. cond b (length (flat_map given (replacements_at cs q))) 0 ≡ put_in (cond b (Some (flat_map given (replacements_at cs q))) None)) [ true ↦ refl | false ↦ refl ]
-
-  replaced-here : (λ i. is_replaced cs (p ++ i ∷ [])) ≡ replaced_in here
-  replaced-here = fun_ext (λ i. taken-some (p ++ i ∷ []) ∙ ap (λ q. is_some (taken given cs (q ++ i ∷ []))) (sym (append-nil p)))
-
-  gaps-here : (λ i. length (gap kind_only given cs p i)) ≡ gap_in here
+  gaps-here : (λ i. length (gap kind_only given cs p i)) ≡ gap_here here
   gaps-here = fun_ext (λ i. ap (λ q. length (gap kind_only given cs q i)) (sym (append-nil p)))
 
-  slots-here : (λ i. in_slot given cs (p ++ i ∷ [])) ≡ slot_in here
-  slots-here = fun_ext (λ i. taken-put (p ++ i ∷ []) ∙ ap (λ q. put_in (taken given cs (q ++ i ∷ []))) (sym (append-nil p)))
+  slots-here : (λ i. slot_width given cs (p ++ i ∷ [])) ≡ slot_here here
+  slots-here = fun_ext (λ i. taken-width (p ++ i ∷ []) ∙ ap (λ q. width (taken given cs (q ++ i ∷ []))) (sym (append-nil p)))
 
-  counts-are : (count : ℕ) (ds : List Done) → IsCounted given cs p count ds ≡ Told here count ds
-  counts-are count ds = λ j. Counts (replaced-here j) (gaps-here j) (slots-here j) count ds
+  counts-are : (count : ℕ) (h : Held) → IsCounted given cs p count h ≡ Told here count h
+  counts-are count h = λ j. Counts (gaps-here j) (slots-here j) count h
 
-  pub told-here : (count : ℕ) (ds : List Done) → IsCounted given cs p count ds → Told here count ds
-  told-here count ds h = let P : Type 0 → Type 0 = λ A. A in subst P (counts-are count ds) h
+  pub told-here : (count : ℕ) (h : Held) → IsCounted given cs p count h → Told here count h
+  told-here count h t = let P : Type 0 → Type 0 = λ A. A in subst P (counts-are count h) t
 
-  pub counted-from : (count : ℕ) (ds : List Done) → Told here count ds → IsCounted given cs p count ds
-  counted-from count ds h = let P : Type 0 → Type 0 = λ A. A in subst P (sym (counts-are count ds)) h
+  pub counted-from : (count : ℕ) (h : Held) → Told here count h → IsCounted given cs p count h
+  counted-from count h t = let P : Type 0 → Type 0 = λ A. A in subst P (sym (counts-are count h)) t
 
 -- ---- where a gap and a slot begin
 module _ (e : Edits ℕ) where
-  width-parts : (o : Option (List SyntaxTree)) → width o ≡ put_in o + cond (is_some o) 0 1
-  width-parts None = refl
-  width-parts (Some ts) = omega arith
-
-  widths-push : (k n i : ℕ) → k + n ≡ i → widths e k (suc n) ≡ widths e k n + (gap_in e i + width (e.slot [] i))
+  widths-push : (k n i : ℕ) → k + n ≡ i → widths e k (suc n) ≡ widths e k n + (gap_here e i + slot_here e i)
   widths-push k zero i s =
       let same : k ≡ i = omega arith in
-      let here : gap_in e k + width (e.slot [] k) ≡ gap_in e i + width (e.slot [] i) = ap (λ j. gap_in e j + width (e.slot [] j)) same in
+      let here : gap_here e k + slot_here e k ≡ gap_here e i + slot_here e i = ap (λ j. gap_here e j + slot_here e j) same in
       omega arith
   widths-push k (suc n) i s = let rest = widths-push (suc k) n i (omega arith) in omega arith
 
-  widths-parts : (i : ℕ) → widths e 0 i ≡ put_before (gap_in e) (slot_in e) i + kept_slots (replaced_in e) i
-  widths-parts zero = refl
-  widths-parts (suc i) =
-      let before = widths-parts i in
-      let this = widths-push 0 i i (omega arith) in
-      let parts = width-parts (e.slot [] i) in
-      omega arith
+  module _ (count : ℕ) (h : Held) (t : Told e count h) where
+    total-widths : (i : ℕ) → i ≤ count → total h.widths i ≡ to_gap e i
+    total-widths zero l = refl
+    total-widths (suc i) l =
+        let before = total-widths i (omega arith) in
+        let this = widths-push 0 i i (omega arith) in
+        omega (arith, t.widths i (omega arith))
 
-  module _ (count : ℕ) (ds : List Done) (h : Told e count ds) (i : ℕ) (l : i ≤ count) where
-    pub start-gap : start ds (Gap i) ≡ to_gap e i
-    start-gap = omega (arith, h.taken i l, h.to_gap i l, widths-parts i)
+    pub start-gap : (i : ℕ) → i ≤ count → start h (Gap i) ≡ to_gap e i
+    start-gap i l = total-widths i l
 
-    pub start-slot : (n : ℕ) → start ds (Slots i n) ≡ to_slot e i
-    start-slot n = omega (arith, h.taken i l, h.to_slot i n l, widths-parts i)
+    pub start-slot : (i n : ℕ) → i ≤ count → start h (Slots i n) ≡ to_slot e i
+    start-slot i n l = omega (arith, total-widths i l, t.gaps i l)
 
-    pub removed-most : removed ds i ≤ i
-    removed-most = omega (arith, h.taken i l)
+    pub gap_least : (i : ℕ) → i ≤ count → h.gaps i ≤ h.widths i
+    gap_least i l =
+        elim (cases_lt i count) [
+          | inl less ↦ omega (arith, t.gaps i l, t.widths i less)
+          | inr most ↦
+              let same : i ≡ count = omega arith in
+              let last : h.widths i ≡ gap_here e i + 1 = subst (λ k. h.widths k ≡ gap_here e k + 1) (sym same) t.last in
+              omega (arith, t.gaps i l)
+        ]
 
--- ---- one change more in the list
-one-more : (ds : List Done) (d : Done) (i : ℕ) → removed (ds ++ d ∷ []) i ≡ removed ds i + removed_before i d
-one-more ds d i = sum_by_push (removed_before i) ds d
+after-all : (f : Forest ℕ) → after f (length (trees f)) ≡ end
+after-all end = refl
+after-all (more t f) = after-all f
 
-module _ (d e : Edits ℕ) (count : ℕ) where
-  kept-same : (i : ℕ) → i ≤ count → ((j : ℕ) → j < count → d.slot [] j ≡ e.slot [] j) → kept_slots (replaced_in e) i ≡ kept_slots (replaced_in d) i
-  kept-same zero l s = refl
-  kept-same (suc i) l s =
-      ap₂ (λ n o. n + cond (is_some o) 0 1) (kept-same i (omega arith) s) (sym (s i (omega arith)))
+pub most_width : (e : Edits ℕ) (f : Forest ℕ) (h : Held) → Told e (length (trees f)) h → (i : ℕ) → i ≤ length (trees f) → h.widths i ≤ length (trees (forest (rewritten_by_from e 0 f))) + 1
+most_width e f h t i l =
+    elim (cases_lt i (length (trees f))) [
+      | inl less ↦
+          let next = widths-push e 0 i i (omega arith) in
+          omega (arith, t.widths i less, room-inserted e f (suc i) less)
+      | inr most ↦
+          let count = length (trees f) in
+          let same : i ≡ count = omega arith in
+          let last : h.widths i ≡ gap_here e count + 1 = ap h.widths same ∙ t.last in
+          let whole = ap length (trees-forest (rewritten_by_from e 0 f) ∙ cut e 0 f count count (omega arith) (omega arith)) in
+          let parts = length-append (before e 0 f count) (rewritten_by_from e count (after f count)) in
+          let rest : length (rewritten_by_from e count (after f count)) ≡ gap_here e count = ap (λ g. length (rewritten_by_from e count g)) (after-all f) in
+          omega arith
+    ]
 
-  put-same : (i : ℕ) → i ≤ count → ((j : ℕ) → j < i → d.gap [] j ≡ e.gap [] j) → ((j : ℕ) → j < i → d.slot [] j ≡ e.slot [] j) → put_before (gap_in e) (slot_in e) i ≡ put_before (gap_in d) (slot_in d) i
-  put-same zero l g s = refl
-  put-same (suc i) l g s =
-      ap₂ (λ m n. m + n) (ap₂ (λ m x. m + length x) (put-same i (omega arith) (λ j a. g j (omega arith)) (λ j a. s j (omega arith))) (sym (g i (omega arith)))) (ap put_in (sym (s i (omega arith))))
+-- ---- what a change takes away, and what it puts
+pub gone_none : (first i : ℕ) → gone_at first 0 i ≡ 0
+gone_none first i =
+    elim (cases_lt i first) [
+      | inl less ↦ gone_before first (first + 0) i less
+      | inr from ↦ gone_past first (first + 0) i from (omega arith)
+    ]
 
-  pub told-same : (ds : List Done) → ((j : ℕ) → j ≤ count → d.gap [] j ≡ e.gap [] j) → ((j : ℕ) → j < count → d.slot [] j ≡ e.slot [] j) → Told d count ds → Told e count ds
-  told-same ds g s h = record {
-    taken = λ i l. ap (λ n. removed ds i + n) (kept-same i l s) ∙ h.taken i l;
-    to_gap = λ i l. h.to_gap i l ∙ sym (put-same i l (λ j a. g j (omega arith)) (λ j a. s j (omega arith)));
-    to_slot = λ i n l. h.to_slot i n l ∙ sym (ap₂ (λ m x. m + length x) (put-same i l (λ j a. g j (omega arith)) (λ j a. s j (omega arith))) (sym (g i l)));
-  }
+come-here : (first w i : ℕ) → i ≡ first → come_at first w i ≡ w
+come-here first w i same = ap (λ b. cond b w 0) (eq-eqb i first same)
+
+come-other : (first w i : ℕ) → (i ≡ first → ⊥) → come_at first w i ≡ 0
+come-other first w i other = ap (λ b. cond b w 0) (ne_eqb i first other)
+
+-- ---- one change more
+pub told-same : (d e : Edits ℕ) (count : ℕ) (h : Held) → ((j : ℕ) → j ≤ count → d.gap [] j ≡ e.gap [] j) → ((j : ℕ) → j < count → d.slot [] j ≡ e.slot [] j) → Told d count h → Told e count h
+told-same d e count h g s t = record {
+  widths = λ i l. t.widths i l ∙ ap₂ (λ a b. a + b) (ap length (g i (omega arith))) (ap width (s i l));
+  last = t.last ∙ ap (λ xs. length xs + 1) (g count (omega arith));
+  gaps = λ i l. t.gaps i l ∙ ap length (g i l);
+}
 
 -- an insert
-module _ (d e : Edits ℕ) (g : ℕ) (ts : List SyntaxTree) (h : Inserted d e g ts) (count : ℕ) where
-  abbrev inserted : Done
-  inserted = record { at = Gap g; width = length ts }
-
-  gap-inserted : gap_in e g ≡ length ts + gap_in d g
-  gap-inserted = ap length h.first ∙ length-append ts (d.gap [] g)
-
-  gap-other : (j : ℕ) → (j ≡ g → ⊥) → gap_in e j ≡ gap_in d j
-  gap-other j n = ap length (sym (h.gaps j n))
-
-  put-inserted : (i : ℕ) → put_before (gap_in e) (slot_in e) i ≡ put_before (gap_in d) (slot_in d) i + cond (nat_lt g i) (length ts) 0
-  put-inserted zero = ap (λ b. 0 + cond b (length ts) 0) (sym (le-ltb g 0 (omega arith)))
-  put-inserted (suc i) =
-      let before = put-inserted i in
-      let slot : slot_in e i ≡ slot_in d i = ap put_in (ap (λ o. o i) (sym h.slots)) in
+module _ (d e : Edits ℕ) (g : ℕ) (ts : List SyntaxTree) (h : Inserted d e g ts) (x y : Held) (put : IsPut x y (Gap g) (length ts)) where
+  gap-more : (i : ℕ) → gap_here e i ≡ gap_here d i + come_at g (length ts) i
+  gap-more i =
       elim (cases_eq i g) [
         | inl same ↦
-            let here : gap_in e i ≡ length ts + gap_in d i = subst (λ j. gap_in e j ≡ length ts + gap_in d j) (sym same) gap-inserted in
-            let not_yet : cond (nat_lt g i) (length ts) 0 ≡ 0 = ap (λ b. cond b (length ts) 0) (le-ltb g i (omega arith)) in
-            let now : cond (nat_lt g (suc i)) (length ts) 0 ≡ length ts = ap (λ b. cond b (length ts) 0) (lt-ltb g (suc i) (omega arith)) in
-            omega arith
+            let here : gap_here e g ≡ length ts + gap_here d g = ap length h.first ∙ length-append ts (d.gap [] g) in
+            let there : gap_here e i ≡ length ts + gap_here d i = subst (λ j. gap_here e j ≡ length ts + gap_here d j) (sym same) here in
+            omega (arith, come-here g (length ts) i same)
         | inr other ↦
-            let here = gap-other i other in
-            let stays : cond (nat_lt g (suc i)) (length ts) 0 ≡ cond (nat_lt g i) (length ts) 0 = elim (cases_lt g i) [
-              | inl less ↦ ap (λ b. cond b (length ts) 0) (lt-ltb g (suc i) (omega arith) ∙ sym (lt-ltb g i less))
-              | inr most ↦ ap (λ b. cond b (length ts) 0) (le-ltb g (suc i) (omega arith) ∙ sym (le-ltb g i most))
-            ] in
-            omega arith
+            let here : gap_here e i ≡ gap_here d i = ap length (sym (h.gaps i other)) in
+            omega (arith, come-other g (length ts) i other)
       ]
 
-  to-slot : (i n : ℕ) → added_before (Slots i n) inserted + gap_in d i ≡ cond (nat_lt g i) (length ts) 0 + gap_in e i
-  to-slot i n =
-      elim (cases_eq i g) [
-        | inl same ↦
-            let here : gap_in e i ≡ length ts + gap_in d i = subst (λ j. gap_in e j ≡ length ts + gap_in d j) (sym same) gap-inserted in
-            let in_it : added_before (Slots i n) inserted ≡ length ts = ap (λ b. cond (not b) (length ts) 0) (le-ltb i g (omega arith)) in
-            let before : cond (nat_lt g i) (length ts) 0 ≡ 0 = ap (λ b. cond b (length ts) 0) (le-ltb g i (omega arith)) in
-            omega arith
-        | inr other ↦
-            let here = gap-other i other in
-            let alike : added_before (Slots i n) inserted ≡ cond (nat_lt g i) (length ts) 0 = elim (cases_lt g i) [
-              | inl less ↦ ap₂ (λ a b. cond (not a) (length ts) b) (le-ltb i g (omega arith)) refl ∙ ap (λ b. cond b (length ts) 0) (sym (lt-ltb g i less))
-              | inr most ↦ ap (λ a. cond (not a) (length ts) 0) (lt-ltb i g (omega arith)) ∙ ap (λ b. cond b (length ts) 0) (sym (le-ltb g i most))
-            ] in
-            omega arith
-      ]
-
-  pub told-inserted : (ds : List Done) → Told d count ds → Told e count (ds ++ inserted ∷ [])
-  told-inserted ds t = record {
-    taken = λ i l. let more = one-more ds inserted i in
-        let kept = kept-same d e count i l (λ j _. ap (λ o. o j) h.slots) in
-        omega (arith, t.taken i l);
-    to_gap = λ i l. sum_by_push (added_before (Gap i)) ds inserted ∙ ap (λ n. n + added_before (Gap i) inserted) (t.to_gap i l) ∙ sym (put-inserted i);
-    to_slot = λ i n l. let more : added (ds ++ inserted ∷ []) (Slots i n) ≡ added ds (Slots i n) + added_before (Slots i n) inserted = sum_by_push (added_before (Slots i n)) ds inserted in
-        let put = put-inserted i in
-        let both = to-slot i n in
-        omega (arith, t.to_slot i n l);
+  pub told-inserted : (count : ℕ) → Told d count x → Told e count y
+  told-inserted count t = record {
+    widths = λ i l. let slot : slot_here e i ≡ slot_here d i = ap width (ap (λ o. o i) (sym h.slots)) in
+        omega (arith, put.widths i, gone_none g i, gap-more i, t.widths i l);
+    last = omega (arith, put.widths count, gone_none g count, gap-more count, t.last);
+    gaps = λ i l. omega (arith, put.gaps i, gap-more i, t.gaps i l);
   }
 
 -- a replacement
-module _ (d e : Edits ℕ) (count a m : ℕ) (ts : List SyntaxTree) (h : Replaced d e count a m ts) (room : a + m < count) where
-  abbrev replacing : Done
-  replacing = record { at = Slots a (suc m); width = length ts }
+module _ (d e : Edits ℕ) (count a m : ℕ) (ts : List SyntaxTree) (h : Replaced d e count a m ts) (room : a + m < count) (x : Held) (t : Told d count x) where
+  kept-width : (i : ℕ) → a ≤ i → i ≤ a + m → x.widths i ≡ gap_here d i + 1
+  kept-width i from to = t.widths i (omega arith) ∙ ap (λ o. gap_here d i + width o) (h.kept i from to)
 
-  slot-outside : (j : ℕ) → j < count → (j < a) ⊎ (a + m < j) → e.slot [] j ≡ d.slot [] j
-  slot-outside j l (inl less) = sym (h.below_it j less)
-  slot-outside j l (inr more) = sym (h.above_it j more l)
-
-  kept-replaced : (i : ℕ) → i ≤ count → kept_slots (replaced_in e) i + min (suc m) (i - a) ≡ kept_slots (replaced_in d) i
-  kept-replaced zero l = omega arith
-  kept-replaced (suc i) l =
-      let before = kept-replaced i (omega arith) in
-      elim (where_is i) [
-        | inl outside ↦
-            let same : ◌≡◌ {A = ℕ} (cond (replaced_in e i) 0 1) (cond (replaced_in d i) 0 1) = ap (λ o. cond {A = ℕ} (is_some o) 0 1) (slot-outside i (omega arith) outside) in
-            let still : min (suc m) (suc i - a) ≡ min (suc m) (i - a) = elim outside [ inl less ↦ omega arith | inr more ↦ omega arith ] in
-            omega arith
-        | inr inside ↦
-            let was : ◌≡◌ {A = ℕ} (cond (replaced_in d i) 0 1) 1 = ap (λ o. cond {A = ℕ} (is_some o) 0 1) (h.kept i inside.0 inside.1) in
-            let now : ◌≡◌ {A = ℕ} (cond (replaced_in e i) 0 1) 0 = taken-now i inside.0 inside.1 in
-            let one : min (suc m) (suc i - a) ≡ suc (min (suc m) (i - a)) = let lower = inside.0 in let upper = inside.1 in omega arith in
-            omega arith
+  pub gone_kept : (i : ℕ) → gone_at a (suc m) i ≤ x.widths i
+  gone_kept i =
+      elim (cases_lt i a) [
+        | inl less ↦ omega (arith, gone_before a (a + suc m) i less)
+        | inr from ↦ elim (cases_lt i (a + suc m)) [
+          | inl to ↦ omega (arith, gone_inside a (a + suc m) i from to, kept-width i from (omega arith))
+          | inr past ↦ omega (arith, gone_past a (a + suc m) i from past)
+        ]
       ]
-    where
-      where_is : (j : ℕ) → ((j < a) ⊎ (a + m < j)) ⊎ ((a ≤ j) × (j ≤ a + m))
-      where_is j =
-          elim (cases_lt j a) [
-            | inl less ↦ inl (inl less)
-            | inr most ↦ elim (cases_lt (a + m) j) [ inl more ↦ inl (inr more) | inr least ↦ inr (most, least) ]
-          ]
 
-      taken-now : (j : ℕ) → a ≤ j → j ≤ a + m → ◌≡◌ {A = ℕ} (cond (replaced_in e j) 0 1) 0
-      taken-now j l u =
-          elim (cases_eq j a) [
-            | inl same ↦ ap (λ k. cond {A = ℕ} (replaced_in e k) 0 1) same ∙ ap (λ o. cond {A = ℕ} (is_some o) 0 1) h.first
-            | inr other ↦ ap (λ o. cond {A = ℕ} (is_some o) 0 1) (h.later j (omega arith) u)
-          ]
+  module _ (y : Held) (put : IsPut x y (Slots a (suc m)) (length ts)) where
+    gap-same : (i : ℕ) → gap_here e i ≡ gap_here d i
+    gap-same i = ap (λ g. length (g i)) (sym h.gaps)
 
-  put-replaced : (i : ℕ) → i ≤ count → put_before (gap_in e) (slot_in e) i ≡ put_before (gap_in d) (slot_in d) i + cond (nat_lt a i) (length ts) 0
-  put-replaced zero l = ap (λ b. 0 + cond b (length ts) 0) (sym (le-ltb a 0 (omega arith)))
-  put-replaced (suc i) l =
-      let before = put-replaced i (omega arith) in
-      let same_gap : gap_in e i ≡ gap_in d i = ap (λ g. length (g i)) (sym h.gaps) in
-      let slot = held i (omega arith) in
-      elim (cases_lt a i) [
-        | inl less ↦
-            let was : cond (nat_lt a i) (length ts) 0 ≡ length ts = ap (λ b. cond b (length ts) 0) (lt-ltb a i less) in
-            let now : cond (nat_lt a (suc i)) (length ts) 0 ≡ length ts = ap (λ b. cond b (length ts) 0) (lt-ltb a (suc i) (omega arith)) in
-            let stays : slot_in e i ≡ slot_in d i = slot.1 (λ x. absurd (omega arith)) in
-            omega arith
-        | inr most ↦
-            let was : cond (nat_lt a i) (length ts) 0 ≡ 0 = ap (λ b. cond b (length ts) 0) (le-ltb a i most) in
-            elim (cases_eq i a) [
-              | inl same ↦
-                  let now : cond (nat_lt a (suc i)) (length ts) 0 ≡ length ts = ap (λ b. cond b (length ts) 0) (lt-ltb a (suc i) (omega arith)) in
-                  let puts : slot_in e i ≡ slot_in d i + length ts = slot.0 same in
-                  omega arith
-              | inr other ↦
-                  let now : cond (nat_lt a (suc i)) (length ts) 0 ≡ 0 = ap (λ b. cond b (length ts) 0) (le-ltb a (suc i) (omega arith)) in
-                  let stays : slot_in e i ≡ slot_in d i = slot.1 other in
-                  omega arith
-            ]
-      ]
-    where
-      -- what a slot holds: the elements at the first one, and else what it held
-      held : (j : ℕ) → j < count → (j ≡ a → slot_in e j ≡ slot_in d j + length ts) × ((j ≡ a → ⊥) → slot_in e j ≡ slot_in d j)
-      held j l = (
-        (λ same.
-            let now : slot_in e j ≡ length ts = ap (λ k. slot_in e k) same ∙ ap put_in h.first in
-            let was : slot_in d j ≡ 0 = ap put_in (h.kept j (omega arith) (omega arith)) in
-            omega arith),
-        (λ other. elim (cases_lt j a) [
-          | inl less ↦ ap put_in (sym (h.below_it j less))
-          | inr most ↦ elim (cases_lt (a + m) j) [
-            | inl more ↦ ap put_in (sym (h.above_it j more l))
-            | inr least ↦ ap put_in (h.later j (omega arith) least) ∙ sym (ap put_in (h.kept j most least))
-          ]
-        ]),
-      )
+    outside : (i : ℕ) → gone_at a (suc m) i ≡ 0 → (i ≡ a → ⊥) → y.widths i ≡ x.widths i
+    outside i none other = omega (arith, put.widths i, come-other a (length ts) i other)
 
-  pub told-replaced : (ds : List Done) → Told d count ds → Told e count (ds ++ replacing ∷ [])
-  told-replaced ds t = record {
-    taken = λ i l. let more = one-more ds replacing i in
-        let kept = kept-replaced i l in
-        omega (arith, t.taken i l);
-    to_gap = λ i l. sum_by_push (added_before (Gap i)) ds replacing ∙ ap (λ n. n + added_before (Gap i) replacing) (t.to_gap i l) ∙ sym (put-replaced i l);
-    to_slot = λ i n l. let more : added (ds ++ replacing ∷ []) (Slots i n) ≡ added ds (Slots i n) + added_before (Slots i n) replacing = sum_by_push (added_before (Slots i n)) ds replacing in
-        let put = put-replaced i l in
-        let same_gap : gap_in e i ≡ gap_in d i = ap (λ g. length (g i)) (sym h.gaps) in
-        omega (arith, t.to_slot i n l);
-  }
+    widths-replaced : (i : ℕ) → i < count → y.widths i ≡ gap_here e i + slot_here e i
+    widths-replaced i l =
+        elim (cases_lt i a) [
+          | inl less ↦
+              let slot : slot_here e i ≡ slot_here d i = ap width (sym (h.below_it i less)) in
+              omega (arith, outside i (gone_before a (a + suc m) i less) (λ s. absurd (omega arith)), gap-same i, t.widths i l)
+          | inr from ↦ elim (cases_lt i (a + suc m)) [
+            | inl to ↦
+                let gone = gone_inside a (a + suc m) i from to in
+                let was = kept-width i from (omega arith) in
+                elim (cases_eq i a) [
+                  | inl same ↦
+                      let slot : slot_here e i ≡ length ts = ap (slot_here e) same ∙ ap width h.first in
+                      omega (arith, put.widths i, come-here a (length ts) i same, gap-same i)
+                  | inr other ↦
+                      let slot : slot_here e i ≡ 0 = ap width (h.later i (omega arith) (omega arith)) in
+                      omega (arith, put.widths i, come-other a (length ts) i other, gap-same i)
+                ]
+            | inr past ↦
+                let slot : slot_here e i ≡ slot_here d i = ap width (sym (h.above_it i (omega arith) l)) in
+                omega (arith, outside i (gone_past a (a + suc m) i from past) (λ s. absurd (omega arith)), gap-same i, t.widths i l)
+          ]
+        ]
+
+    pub told-replaced : Told e count y
+    told-replaced = record {
+      widths = widths-replaced;
+      last = omega (arith, outside count (gone_past a (a + suc m) count (omega arith) (omega arith)) (λ s. absurd (omega arith)), gap-same count, t.last);
+      gaps = λ i l. omega (arith, put.gaps i, gap-same i, t.gaps i l);
+    }

@@ -57,10 +57,6 @@ pub keeps_from : (e : Edits ℕ) (p : Path) → ((q : Path) (i : ℕ) (r : Path)
 keeps_from e [] h = tt
 keeps_from e (i ∷ p) h = (h [] i p refl, keeps_from (below i e) p (λ q j r same. h (i ∷ q) j r (ap (λ x. i ∷ x) same)))
 
-pub length-new_path : (e : Edits ℕ) (p : Path) → length (new_path e p) ≡ length p
-length-new_path e [] = refl
-length-new_path e (i ∷ p) = ap suc (length-new_path (below i e) p)
-
 pub length-filled : (o : Option (List SyntaxTree)) (t : SyntaxTree) → length (filled o t) ≡ width o
 length-filled (Some ts) t = refl
 length-filled None t = refl

@@ -17,7 +17,6 @@ mod GapTables
 mod Gaps
 mod NextInGroup
 pub mod Groups
-mod DoneByPath
 mod Links
 pub mod LiveAims
 mod NextAims
@@ -32,7 +31,7 @@ pub mod SomeReady
 mod ReplacedRoot
 mod Rows
 pub mod Splits
-mod Starts
+mod Visiting
 mod Stepping
 mod Steps
 mod Tables
@@ -44,3 +43,4 @@ mod TurnsSorted
 pub mod Undropped
 mod WaitCounts
 mod Ways
+mod Widths

@@ -1,18 +1,18 @@
 -- The three tables of links say what the three tests say.
 --     owners-carry, gaps-carry, tokens-carry      each of them
 --     replaces-targets              what an aim replaces are the targets of its change
-use Rattle.std.specs.Prelude.{◌≡◌, ◌<◌, ◌≤◌, ◌+◌, ℕ, zero, suc, true, false, cond, nat_eq, List, [], ◌∷◌, length, slice_get, Option, Some, None, option_map, option_and_then, refl}
+use Rattle.std.specs.Prelude.{◌≡◌, ◌<◌, ◌≤◌, ◌+◌, ℕ, zero, suc, true, false, cond, nat_eq, List, [], ◌∷◌, length, slice_get, Option, Some, None, option_and_then, refl}
 use Rattle.std.specs.Option.{option_map_or}
 use Rattle.std.specs.List.{AllByRecursion}
 use Rattle.std.proofs.Common.{ap, sym, subst, ◌∙◌, arith, get_or}
-use Rattle.std.proofs.lemmas.Bool.{cases_Bool, cases_eq, false≢true, false_from_ne_true, eq-eqb}
+use Rattle.std.proofs.lemmas.Bool.{cases_Bool, cases_eq, false≢true, eq-eqb}
 use Rattle.std.proofs.lemmas.List.Quantifiers.{position-Some}
 use Rattle.std.proofs.lemmas.Option.{none-some, same_Some, slice_get_within, slice_get-get_or}
 use mathlib.Core.Logic.{inl, inr}
 use Rattle.cst_core.specs.Path.{Path, has_path}
 use Rattle.edit_change.specs.Aim.{Aim, same_gap, replaces}
 use Rattle.edit_change.specs.ChangeAim.{aim}
-use Rattle.edit_change.specs.Change.{targets, shared_targets}
+use Rattle.edit_change.specs.Change.{targets}
 use Rattle.edit_change.specs.PositionForm.{FirstChild, After}
 use Rattle.edit_change.specs.Nesting.{is_dropped, owner, has_owner}
 use Rattle.edit_change.specs.Nesting.{first_clash}
@@ -21,8 +21,6 @@ use Rattle.edit_change.proofs.Regions.{target-there}
 use Rattle.edit_change.specs.declared.change.Change.{Change}
 use Rattle.edit_change.specs.declared.change.Change.TheVariants.{Insert, InsertAll, Replace, ReplaceWithMany, ReplaceAll}
 use Rattle.edit_change.proofs.Owners.{owner_cases, owner_from, owner_at}
-use Rattle.edit_change.proofs.Paths.{meets}
-use Rattle.edit_change.proofs.Positions.{position-cons}
 use Rattle.edit_steps.specs.Schedule.{owned_first, gap_first, token_first, anchor_token}
 use Rattle.edit_steps.specs.inner.Followers.{link, next_in_gap, owner_link, gap_link, token_link, IsLinked}
 use Rattle.edit_steps.proofs.Gaps.{gap_first-later, gap_first_from, same_gap-sym, same_gap-trans, next-here, next-past}

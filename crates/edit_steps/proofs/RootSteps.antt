@@ -15,7 +15,7 @@ use Rattle.edit_change.specs.declared.aimed.Aimed.{Aimed}
 use Rattle.edit_change.specs.declared.aimed.AimForm.{AimForm}
 use Rattle.edit_change.specs.declared.aimed.AimForm.TheVariants.{FirstIn, AfterElement, Over}
 use Rattle.edit_steps.specs.inner.AimTargets.{live_target}
-use Rattle.edit_steps.specs.inner.CurrentPaths.{done_at}
+use Rattle.edit_steps.specs.inner.Visited.{held_at}
 use Rattle.edit_steps.specs.inner.Stage.{old_tree, StageTakesStep, StageCountsStep}
 use Rattle.edit_steps.specs.inner.Splicing.{Splices, CountsSplice}
 use Rattle.edit_steps.specs.declared.stage.Stage.{Stage}
@@ -41,11 +41,11 @@ module _ (a : Aimed) (top : replaces [] (numbered a).1 ≡ true) where
   pub still-takes : (s : Stage) (ts : List SyntaxTree) → StageTakesStep s s (numbered a) ts
   still-takes s ts = λ given xs ys stage next gives.
       let none = top-none (old_tree s) a.path.now a.form top in
-      let dead = found-dead (old_tree s) given xs (numbered a) ys (done_at s.done) a.path.now a.form refl none in
+      let dead = found-dead (old_tree s) given xs (numbered a) ys (held_at s.visited) a.path.now a.form refl none in
       record {
-        tree = stage.tree ∙ dead-tree (old_tree s) given xs (numbered a) ys (done_at s.done) dead.0 dead.1;
-        counted = dead-counted (old_tree s) given xs (numbered a) ys (done_at s.done) dead.0 dead.1 stage.counted;
-        table = stage.table;
+        tree = stage.tree ∙ dead-tree (old_tree s) given xs (numbered a) ys (held_at s.visited) dead.0 dead.1;
+        counted = dead-counted (old_tree s) given xs (numbered a) ys (held_at s.visited) dead.0 dead.1 stage.counted;
+        visited = stage.visited;
       }
 
   pub still-counts : (s : Stage) (builds : ℕ) → builds < 2 ^ 64 → StageCountsStep s (numbered a) builds builds

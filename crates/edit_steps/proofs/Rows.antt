@@ -1,14 +1,13 @@
 -- The examples of docs/DEFINITIONS.md, computed.
-use Rattle.std.specs.Prelude.{◌≡◌, cond, List, [], ◌∷◌, Some, None, refl}
+use Rattle.std.specs.Prelude.{◌≡◌, cond, [], ◌∷◌, Some, None, refl}
 use Rattle.green_tree.specs.Path.{Path, same_path}
 use Rattle.green_tree.specs.Tree.{SyntaxTree, Token, node}
 use Rattle.edit_change.specs.Aim.{AfterElement}
 use Rattle.edit_change.specs.declared.aimed.AimForm.TheVariants as form
 use Rattle.edit_steps.specs.StepCount.{step_builds}
-use Rattle.edit_steps.specs.declared.stage.done.Among.TheVariants.{Gap, Slots}
-use Rattle.edit_steps.specs.declared.stage.done.Done.{Done}
-use Rattle.edit_steps.specs.inner.Starts.{start}
-use Rattle.edit_steps.specs.inner.CurrentPaths.{current_path}
+use Rattle.edit_steps.specs.declared.stage.among.Among.TheVariants.{Gap, Slots}
+use Rattle.edit_steps.specs.inner.Widths.{width_in, gap_in, Held, nothing_put, start}
+use Rattle.edit_steps.specs.inner.Putting.{current_path}
 use Rattle.edit_steps.specs.inner.AimTargets.{live_target}
 
 -- the tree `L`, its kinds numbered in the order in which they come
@@ -22,11 +21,11 @@ none_built : step_builds l (AfterElement (2 ∷ 0 ∷ [])) ≡ 0
 none_built = refl
 
 -- L/2 is deleted, and two elements are put into gap 1
-abbrev at_top : List Done
-at_top = record { at = Slots 2 1; width = 0 } ∷ record { at = Gap 1; width = 2 } ∷ []
+abbrev at_top : Held
+at_top = record { widths = width_in (1 ∷ 3 ∷ 0 ∷ []); gaps = gap_in (0 ∷ 2 ∷ []) }
 
-abbrev done : Path → List Done
-done p = cond (same_path p []) at_top []
+abbrev held : Path → Held
+held p = cond (same_path p []) at_top nothing_put
 
 first_literal : start at_top (Slots 1 1) ≡ 3
 first_literal = refl
@@ -37,7 +36,7 @@ second_literal = refl
 same_gap : start at_top (Gap 1) ≡ 1
 same_gap = refl
 
-moved : current_path done (4 ∷ 0 ∷ []) ≡ 5 ∷ 0 ∷ []
+moved : current_path held (4 ∷ 0 ∷ []) ≡ 5 ∷ 0 ∷ []
 moved = refl
 
 -- three siblings from L/4 on

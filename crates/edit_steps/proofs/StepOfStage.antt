@@ -2,7 +2,7 @@
 --     made-live                      what a live aim makes
 --     none_done                      where nothing is done, that is told
 --     builds-live, builds-dead       a step of a live aim builds the nodes on the way, and one of a dead aim none
-use Rattle.std.specs.Prelude.{◌≡◌, ℕ, zero, suc, ◌+◌, true, false, cond, List, [], ◌∷◌, ◌++◌, length, sum_by, refl}
+use Rattle.std.specs.Prelude.{◌≡◌, ℕ, ◌+◌, true, false, cond, List, [], ◌∷◌, ◌++◌, length, sum_by, refl}
 use Rattle.std.proofs.Common.{ap, ap₂, sym, subst, ◌∙◌, arith}
 use Rattle.green_tree.specs.Path.{Path}
 use Rattle.green_tree.specs.Tree.{SyntaxTree}
@@ -10,35 +10,23 @@ use Rattle.edit_change.specs.Aim.{Aim, parents}
 use Rattle.edit_change.specs.Rewriting.{NumberedAim}
 use Rattle.edit_steps.specs.inner.Stage.{IsNext}
 use Rattle.edit_steps.specs.StepCount.{is_live, step_builds}
-use Rattle.edit_steps.specs.declared.stage.done.Among.{Among}
-use Rattle.edit_steps.specs.declared.stage.done.Among.TheVariants.{Gap, Slots}
-use Rattle.edit_steps.specs.declared.stage.done.Done.{Done}
-use Rattle.edit_steps.specs.inner.Counts.{kept_slots, put_before, IsCounted}
+use Rattle.edit_steps.specs.declared.stage.among.Among.{Among}
+use Rattle.edit_steps.specs.declared.stage.among.Among.TheVariants.{Gap, Slots}
+use Rattle.edit_steps.specs.inner.Widths.{Held, nothing_put}
+use Rattle.edit_steps.specs.inner.Counts.{IsCounted}
 use Rattle.edit_steps.proofs.Aims.{IsLive}
 use Rattle.edit_steps.proofs.Stepping.{AllCounted, StepMade, insert-made, replace-made}
 
-pub made-live : (t : SyntaxTree) (given : ℕ → List SyntaxTree) (xs : List NumberedAim) (c : NumberedAim) (ys : List NumberedAim) (done : Path → List Done) (p : Path) (a : Among) → AllCounted t given (xs ++ ys) done → IsLive t c.1 p a → IsNext xs c ys → StepMade t given xs c ys done p a
-made-live t given xs c ys done p (Gap g) counted h next =
-    insert-made t given xs c ys done counted p h.kind h.children h.there next h.parent g h.reaches.1 h.reaches.0
-made-live t given xs c ys done p (Slots i n) counted h next =
+pub made-live : (t : SyntaxTree) (given : ℕ → List SyntaxTree) (xs : List NumberedAim) (c : NumberedAim) (ys : List NumberedAim) (held : Path → Held) (p : Path) (a : Among) → AllCounted t given (xs ++ ys) held → IsLive t c.1 p a → IsNext xs c ys → StepMade t given xs c ys held p a
+made-live t given xs c ys held p (Gap g) counted h next =
+    insert-made t given xs c ys held counted p h.kind h.children h.there next h.parent g h.reaches.1 h.reaches.0
+made-live t given xs c ys held p (Slots i n) counted h next =
     let r = h.reaches in
-    subst (λ m. StepMade t given xs c ys done p (Slots i m)) (sym r.so_many) (replace-made t given xs c ys done counted p h.kind h.children h.there next h.parent i r.more r.wanted r.within r.most r.all r.over)
+    subst (λ m. StepMade t given xs c ys held p (Slots i m)) (sym r.so_many) (replace-made t given xs c ys held counted p h.kind h.children h.there next h.parent i r.more r.wanted r.within r.most r.all r.over)
 
 -- ---- nothing done
-all_kept : (i : ℕ) → kept_slots (λ j. false) i ≡ i
-all_kept zero = refl
-all_kept (suc i) = let rest = all_kept i in omega arith
-
-nothing_put : (i : ℕ) → put_before (λ j. 0) (λ j. 0) i ≡ 0
-nothing_put zero = refl
-nothing_put (suc i) = let rest = nothing_put i in omega arith
-
-pub none_done : (given : ℕ → List SyntaxTree) (p : Path) (count : ℕ) → IsCounted given [] p count []
-none_done given p count = record {
-  taken = λ i l. let kept = all_kept i in omega arith;
-  to_gap = λ i l. sym (nothing_put i);
-  to_slot = λ i n l. let none = nothing_put i in omega arith;
-}
+pub none_done : (given : ℕ → List SyntaxTree) (p : Path) (count : ℕ) → IsCounted given [] p count nothing_put
+none_done given p count = record { widths = λ i l. refl; last = refl; gaps = λ i l. refl }
 
 -- ---- how many nodes
 pub builds-live : (t : SyntaxTree) (a : Aim) (p : Path) → is_live t a ≡ true → parents a ≡ p ∷ [] → step_builds t a ≡ length p + 1

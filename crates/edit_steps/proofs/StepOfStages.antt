@@ -44,7 +44,7 @@ use Rattle.edit_steps.specs.declared.stage.Stage.{Stage}
 use Rattle.edit_change.specs.NewTree.{targets_of, payload_of, moved_aim, independents, dependents, only}
 use Rattle.edit_change.specs.inner.OneNode.{IsNodeTree, IsOneNode, BringsNode}
 use Rattle.edit_steps.specs.inner.Payload.{payload_trees}
-use Rattle.edit_steps.specs.inner.Splicing.{payload_at, CanSplice, Splices, SpliceStays, CountsSplice, RestStays, AimsAtTop, PutsRoot}
+use Rattle.edit_steps.specs.inner.Splicing.{payload_at, CanSplice, Splices, SpliceStays, CountsSplice, AimsAtTop, PutsRoot}
 use Rattle.edit_steps.specs.inner.Stages.{GivesTrees, IsPayload, IsPayloadStage, HasNewRoot, HasTrees, IsStages, builds_of, Taking, EachTaking, Takes, StaysAs}
 use Rattle.edit_change.specs.StagedChange.{staged_aim, has_stage, tree_of}
 use Rattle.edit_steps.specs.declared.stages.Stages.{Stages}
@@ -253,14 +253,14 @@ module _ (cs : List Change) (root : Element) (fit : All (Fits root) cs) (places 
           count p.0 p.1 ∙ ap (λ u. counted (builds_of s) (step_builds u here)) (sym same)
 
 -- ---- where it was refused
-pub kept : (s t : Stages) (o : Option ℕ) (a : NumberedAim) → CanSplice s o a → SpliceStays s t o → RestStays s t → (cs : List Change) (places : ℕ → Path) (g : ℕ → List SyntaxTree) (done : ℕ → Bool) (root : SyntaxTree) → IsStages cs places g done root s → IsStages cs places g done root t
-kept s t o a can stays rest cs places g done root is =
+pub kept : (s t : Stages) (o : Option ℕ) (a : NumberedAim) → CanSplice s o a → SpliceStays s t o → t.new_root ≡ s.new_root → t.waiting ≡ s.waiting → (cs : List Change) (places : ℕ → Path) (g : ℕ → List SyntaxTree) (done : ℕ → Bool) (root : SyntaxTree) → IsStages cs places g done root s → IsStages cs places g done root t
+kept s t o a can stays root_stays waits cs places g done root is =
     record {
       apart = is.apart;
-      waiting = subst (IsWaiting cs done) (sym rest.waiting) is.waiting;
+      waiting = subst (IsWaiting cs done) (sym waits) is.waiting;
       root_node = is.root_node;
       trees = go o can stays;
-      new_root = subst (HasNewRoot cs places g done) (sym rest.new_root) is.new_root;
+      new_root = subst (HasNewRoot cs places g done) (sym root_stays) is.new_root;
     }
   where
     go : (x : Option ℕ) → CanSplice s x a → SpliceStays s t x → HasTrees cs places g done root t
@@ -375,7 +375,7 @@ splice-top cs n a s places g done root c d o way is read = λ top.
     (told-owner cs n c o way.there is ∙ free, ap (λ b. replaces [] b.1) way.aims ∙ ap (replaces []) own ∙ replaces-targets [] c ∙ here)
 
 pub splice-kept : {T E : Type 0} (r : Result T E) (s t : Stages) (o : Option ℕ) (a : NumberedAim) → CanSplice s o a → SpliceStays s t o → t.new_root ≡ s.new_root → t.waiting ≡ s.waiting → OnErr r (StaysAs s t)
-splice-kept r s t o a can stays root waiting = on_err-given r (StaysAs s t) (λ cs places g done top gives is. kept s t o a can stays (record { new_root = root; waiting = waiting }) cs places g done top is)
+splice-kept r s t o a can stays root waiting = on_err-given r (StaysAs s t) (λ cs places g done top gives is. kept s t o a can stays root waiting cs places g done top is)
 
 pub waits-there : (cs : List Change) (n : ℕ) (a : NumberedAim) (s t : Stages) (places : ℕ → Path) (g : ℕ → List SyntaxTree) (done : ℕ → Bool) (root : Element) (c : Change) → Taking cs n a s places g done root c → t.waiting ≡ s.waiting → HasChange t.waiting n
 waits-there cs n a s t places g done root c way still =

@@ -4,8 +4,8 @@ pub mod GapTable
 pub mod Turns
 pub mod Waits
 pub mod Waiting
-pub mod Starts
-pub mod CurrentPaths
+pub mod Widths
+pub mod Visited
 pub mod AimTargets
 pub mod Counts
 pub mod Putting

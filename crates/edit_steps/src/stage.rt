@@ -7,28 +7,26 @@ ghost use Rattle.edit_change.specs.inner.Aimed.{numbered};
 ghost use Rattle.edit_steps.specs.inner.Stage.{old_tree, present_tree, IsStage, StageCanStep, StageTakesStep, StageStaysAs, StageCountsStep};
 
 mod aim_target;
-mod done;
-mod done_list;
-mod done_table;
+mod among;
 mod place;
+mod visited;
 
 use crate::stage::aim_target::AimTarget;
-use crate::stage::done::Done;
-use crate::stage::done_table::DoneTable;
-use crate::stage::place::{Splice, place_of};
+use crate::stage::place::place_of;
+use crate::stage::visited::VisitedNodes;
 use edit_change::Aimed;
 use green_tree::{GreenElement, splice_at};
 use std::alloc::{AllocError, Global};
 
 /// An element with some changes carried out, one at a time.
 ///
-/// It keeps the old element, the element as it stands now, and of each change that is done where it aimed and how many elements it gave. So
-/// a later step finds where it goes from the changes that are done at the nodes on its way, in whatever order they came.
+/// It keeps the old element, the element as it stands now, and of the nodes of the old one to which steps came how much stands in the places
+/// of their children. So a later step finds where it goes by one look at each node on its way, in whatever order the steps came.
 #[derive(Drop)]
 pub struct Stage {
     original: GreenElement,
     current: GreenElement,
-    done: DoneTable,
+    visited: VisitedNodes,
 }
 
 impl Stage {
@@ -40,7 +38,7 @@ impl Stage {
         Ok(Stage {
             original: element.share(alloc)?,
             current: element,
-            done: DoneTable::new(alloc),
+            visited: VisitedNodes::new(alloc)?,
         })
     }
 
@@ -76,17 +74,9 @@ impl Stage {
         let Some(target) = AimTarget::of(&self.original, aim) else {
             return Ok(());
         };
-        let done = Done {
-            at: target.at,
-            width: given.len(),
-        };
-        let splice = Splice {
-            alloc,
-            done: &self.done,
-            target: &target,
-        };
-        let place = place_of(&splice, &self.current)?;
-        let list = self.done.reserve(alloc, target.parent)?;
+        let width = given.len();
+        let place = place_of(alloc, &mut self.visited, &self.current, &target)?;
+        self.visited.reserve(place.node, target.at)?;
         let GreenElement::Node(top) = &mut self.current else {
             unreachable!()
         };
@@ -95,11 +85,11 @@ impl Stage {
             top,
             &place.path,
             place.first,
-            place.count,
+            target.at.count(),
             given,
             builds,
         )?;
-        self.done.add_reserved(list, done);
+        self.visited.put(place.node, target.at, width);
         Ok(())
     }
 }

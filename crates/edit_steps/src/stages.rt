@@ -12,7 +12,7 @@ ghost use Rattle.edit_change.specs.inner.Fate.{fate};
 ghost use Rattle.edit_change.specs.inner.OwnerPlaces.{owner_at};
 ghost use Rattle.edit_change.specs.inner.OneNode.{BringsNode, IsNodeTree, IsOneNode};
 ghost use Rattle.edit_steps.specs.inner.Splicing.{CanStepIn, StepsIn, StaysIn, CountsStepIn, OthersStay};
-ghost use Rattle.edit_steps.specs.inner.Splicing.{CanSplice, Splices, SpliceStays, CountsSplice, RestStays};
+ghost use Rattle.edit_steps.specs.inner.Splicing.{CanSplice, Splices, SpliceStays, CountsSplice};
 ghost use Rattle.edit_steps.specs.inner.Splicing.{AimsAtTop, PutsRoot};
 ghost use Rattle.edit_steps.specs.inner.Stages.{Begins, SomeWay, StaysAs, CanTake, Takes, CountsTaken};
 ghost use Rattle.edit_steps.specs.inner.Stages.{builds_of, done_in, HasNumber, TellsReady, TellsComplete};
@@ -171,7 +171,8 @@ impl Stages {
         Ok(())
     }
 
-    // Puts what a change gives in the place of the root, if it replaces that, and else where it aims.
+    // Puts what a change gives in the place of the root, if it replaces that, and else where it aims, in the payload of this owner or in the
+    // tree.
     fn put(
         &mut self,
         alloc: Global,
@@ -201,24 +202,6 @@ impl Stages {
             self.new_root = Some(only_node(given));
             return Ok(());
         }
-        self.splice(alloc, owner, aim, given)
-    }
-
-    // Puts what a change gives where it aims, in the payload of this owner or in the tree.
-    fn splice(
-        &mut self,
-        alloc: Global,
-        owner: Option<usize>,
-        aim: &Aimed,
-        given: Vec<GreenElement>,
-    ) -> Result<(), AllocError>
-        requires { CanSplice self.old owner (numbered aim.now) }
-        ensures done { OnOk result (Splices self.old self.new owner (numbered aim.now) (element_trees given.items)) }
-        ensures count { OnOk result (CountsSplice self.old self.new owner (numbered aim.now)) }
-        ensures refused { OnErr result (SpliceStays self.old self.new owner) }
-        ensures refused_count { OnErr result (builds_of self.new ≡ builds_of self.old) }
-        ensures rest { RestStays self.old self.new }
-    {
         match owner {
             Some(owner) => {
                 let payloads = &mut self.payloads;

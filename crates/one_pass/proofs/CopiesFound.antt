@@ -3,39 +3,38 @@
 --     put, not_put                  one path more in the list of its number; none more in the others
 --     copies-marked                 the paths of a mark are those of the copies of its element
 --     all-copies                    so they are for each registered element
-use Rattle.std.specs.Prelude.{◌≡◌, ◌≢◌, ℕ, zero, suc, ◌+◌, ◌<◌, Bool, true, false, ◌&&◌, cond, nat_eq, List, [], ◌∷◌, ◌++◌, map, filter, flat_map, drop, length, slice_get, get_or, Option, Some, None, option_map, Vec, refl}
+use Rattle.std.specs.Prelude.{◌≡◌, ◌≢◌, ℕ, zero, suc, ◌+◌, ◌<◌, Bool, true, false, cond, nat_eq, List, [], ◌∷◌, ◌++◌, map, filter, flat_map, drop, length, slice_get, get_or, Option, Some, None, option_map, Vec, refl}
 use Rattle.std.specs.Global.{Global}
+use Rattle.std.specs.List.{enumerate_from}
 use Rattle.std.specs.Option.{option_map_or}
 use Rattle.std.proofs.Common.{ap, ap₂, sym, ◌∙◌, arith}
-use Rattle.std.proofs.lemmas.Bool.{cases_eq, cases_Bool, eq-eqb, ne_eqb, true≢false}
+use Rattle.std.proofs.lemmas.Bool.{cases_eq, eq-eqb, ne_eqb}
 use Rattle.std.proofs.lemmas.List.{append-nil, map-append}
 use Rattle.std.proofs.lemmas.List.Elements.{filter-append}
 use Rattle.std.proofs.lemmas.Option.{slice_get-get_or, slice_get-map, slice_get_past, none-some, same_Some}
 use mathlib.Core.Logic.{inl, inr}
 use mathlib.Core.Path.{fun_ext}
-use Rattle.cst_core.specs.Path.{Path, same_path}
+use Rattle.cst_core.specs.Path.{Path}
 use Rattle.cst_core.specs.Tree.{label, at, paths, relabelled}
 use Rattle.cst_core.specs.Element.{Address, Element, address, same_address, subtree}
 use Rattle.cst_core.specs.SyntaxElement.{element_of}
 use Rattle.cst_core.specs.declared.element.SyntaxElement.{SyntaxElement}
 use Rattle.edit_change.specs.Rewriting.{rewritten_whole}
 use Rattle.edit_change.specs.Topmost.{holds_at, paths_of}
-use Rattle.one_pass.specs.inner.Marked.{Marking, marks_on, marked, marked_from, mark_below, marks_at, wanted}
+use Rattle.one_pass.specs.inner.Marked.{Marking, marks_on, marked, marked_from, mark_below, wanted}
 use Rattle.edit_change.specs.Results.{copies_of}
 use Rattle.edit_change.specs.NewTree.{OriginTree, origin, given, independents, new_tree}
-use Rattle.one_pass.specs.inner.Sought.{path_below, sought_one, sought_from, sought_at, registered_at, addresses}
-use Rattle.one_pass.specs.inner.Marks.{with_marks, marks_given, IsTableOf, paths_of_mark}
+use Rattle.one_pass.specs.inner.Sought.{sought_at, registered_at, addresses, IsTableOf}
+use Rattle.one_pass.specs.inner.Marks.{with_marks, marks_given, paths_of_mark}
 use Rattle.edit_change.specs.inner.PathLists.{path_lists}
 use Rattle.edit_change.specs.declared.change.Change.{Change}
-use Rattle.one_pass.specs.declared.sought.SoughtTable.{SoughtTable}
-use Rattle.one_pass.proofs.MarksFilled.{seen-from, exact, found, at-append}
-use Rattle.edit_change.proofs.Paths.{same_path-true, same_path_from}
+use Rattle.one_pass.specs.declared.sought.Registered.{Registered}
 use Rattle.edit_change.proofs.Relabelled.{map-rewritten_whole, paths-relabelled, at-relabelled, label-relabelled}
 
 -- ---- the new tree
-pub tree-marked : (rs : List Address) (cs : List Change) (places : ℕ → Path) (index : SoughtTable) (root : Element) → IsTableOf rs index → rewritten_whole (wanted (sought_at index (address root))) (marks_given rs cs places) (independents cs) (subtree root) ≡ map (with_marks rs) (new_tree cs places root)
+pub tree-marked : (rs : List Address) (cs : List Change) (places : ℕ → Path) (index : List Registered) (root : Element) → IsTableOf rs index → rewritten_whole (wanted (sought_at index (address root))) (marks_given rs cs places) (independents cs) (subtree root) ≡ map (with_marks rs) (new_tree cs places root)
 tree-marked rs cs places index root sought =
-    let labels : wanted (sought_at index (address root)) ≡ (λ q k. registered_at rs (origin (address root) None q k).address) = fun_ext (λ q. fun_ext (λ k. ap (λ ms. marks_at ms q) (sought (address root)) ∙ seen-from 0 rs (address root) q)) in
+    let labels : wanted (sought_at index (address root)) ≡ (λ q k. registered_at rs (origin (address root) None q k).address) = fun_ext (λ q. fun_ext (λ k. sought (address root) q)) in
     ap (λ l. rewritten_whole l (marks_given rs cs places) (independents cs) (subtree root)) labels ∙ sym (map-rewritten_whole (λ o. registered_at rs o.address) (origin (address root) None) (given cs places) (independents cs) (subtree root))
 
 -- ---- one path more
@@ -50,23 +49,9 @@ put old new v k n p here elsewhere is =
 pub not_put : (ps : List Path) (k n : ℕ) (p : Path) → k ≢ n → ps ≡ ps ++ paths_of_mark k ((n, p) ∷ [])
 not_put ps k n p differs = sym (append-nil ps) ∙ ap (λ b. ps ++ map (λ (m : Marking). drop 1 m.1) (cond b ((n, p) ∷ []) [])) (sym (ne_eqb k n differs))
 
--- ---- the numbers of the registered elements at an address
-same-turned : (p q : Path) → same_path p q ≡ same_path q p
-same-turned p q =
-    elim (cases_Bool (same_path p q)) [
-      | inl same ↦ same ∙ sym (same_path_from q p (sym (same_path-true p q same)))
-      | inr differs ↦ differs ∙ (elim (cases_Bool (same_path q p)) [
-        | inl same ↦ absurd (true≢false (sym (same_path_from p q (sym (same_path-true q p same))) ∙ differs))
-        | inr neither ↦ sym neither
-      ])
-    ]
-
-one-at : (n : ℕ) (r x : Address) → marks_at (sought_one x n r) [] ≡ cond (same_address r x) (n ∷ []) []
-one-at n r x =
-    elim (nat_eq r.number x.number) as (λ b. marks_at (cond b (found n (path_below x.path r.path)) []) [] ≡ cond (b && same_path r.path x.path) (n ∷ []) []) [
-      | true ↦ sym (exact n x.path r.path) ∙ ap (λ b. map (λ (m : Marking). m.0) (cond b ((n, r.path) ∷ []) [])) (same-turned x.path r.path) ∙ elim (same_path r.path x.path) as (λ b. map (λ (m : Marking). m.0) (cond b ((n, r.path) ∷ []) []) ≡ cond b (n ∷ []) []) [ true ↦ refl | false ↦ refl ]
-      | false ↦ refl
-    ]
+-- ---- the numbers of the registered elements at an address, numbered from here on
+abbrev pub registered_from : ℕ → List Address → Address → List ℕ
+registered_from n rs a = map (λ (r : ℕ × Address). r.0) (filter (λ (r : ℕ × Address). same_address r.1 a) (enumerate_from n rs))
 
 -- of a number in front of the list, and of any other one
 own-number : (n k : ℕ) (b : Bool) → n ≡ k → filter (nat_eq k) (cond b (n ∷ []) []) ≡ cond b (k ∷ []) []
@@ -77,20 +62,24 @@ pub other-number : (n k : ℕ) (b : Bool) → k ≢ n → filter (nat_eq k) (con
 other-number n k true differs = ap (λ c. cond c (n ∷ []) []) (ne_eqb k n differs)
 other-number n k false differs = refl
 
-pub in-turn : (n k : ℕ) (r : Address) (rs : List Address) (x : Address) → filter (nat_eq k) (marks_at (sought_from n (r ∷ rs) x) []) ≡ filter (nat_eq k) (cond (same_address r x) (n ∷ []) []) ++ filter (nat_eq k) (marks_at (sought_from (suc n) rs x) [])
+pub in-turn : (n k : ℕ) (r : Address) (rs : List Address) (x : Address) → filter (nat_eq k) (registered_from n (r ∷ rs) x) ≡ filter (nat_eq k) (cond (same_address r x) (n ∷ []) []) ++ filter (nat_eq k) (registered_from (n + 1) rs x)
 in-turn n k r rs x =
-    ap (filter (nat_eq k)) (at-append (sought_one x n r) (sought_from (suc n) rs x) [] ∙ ap (λ ns. ns ++ marks_at (sought_from (suc n) rs x) []) (one-at n r x)) ∙ filter-append (nat_eq k) (cond (same_address r x) (n ∷ []) []) (marks_at (sought_from (suc n) rs x) [])
+    go (same_address r x) ∙ filter-append (nat_eq k) (cond (same_address r x) (n ∷ []) []) (registered_from (n + 1) rs x)
+  where
+    go : (b : Bool) → filter (nat_eq k) (map (λ (e : ℕ × Address). e.0) (cond b ((n, r) ∷ filter (λ (e : ℕ × Address). same_address e.1 x) (enumerate_from (n + 1) rs)) (filter (λ (e : ℕ × Address). same_address e.1 x) (enumerate_from (n + 1) rs)))) ≡ filter (nat_eq k) (cond b (n ∷ []) [] ++ registered_from (n + 1) rs x)
+    go true = refl
+    go false = refl
 
-less-number : (n k : ℕ) (rs : List Address) (x : Address) → k < n → filter (nat_eq k) (marks_at (sought_from n rs x) []) ≡ []
+less-number : (n k : ℕ) (rs : List Address) (x : Address) → k < n → filter (nat_eq k) (registered_from n rs x) ≡ []
 less-number n k [] x l = refl
-less-number n k (r ∷ rs) x l = in-turn n k r rs x ∙ ap₂ (λ ms ns. ms ++ ns) (other-number n k (same_address r x) (λ e. absurd (omega (arith, e, l)))) (less-number (suc n) k rs x (omega (arith, l)))
+less-number n k (r ∷ rs) x l = in-turn n k r rs x ∙ ap₂ (λ ms ns. ms ++ ns) (other-number n k (same_address r x) (λ e. absurd (omega (arith, e, l)))) (less-number (n + 1) k rs x (omega (arith, l)))
 
-numbered : (n i k : ℕ) (rs : List Address) (x a : Address) → slice_get rs i ≡ Some a → k ≡ n + i → filter (nat_eq k) (marks_at (sought_from n rs x) []) ≡ cond (same_address a x) (k ∷ []) []
+numbered : (n i k : ℕ) (rs : List Address) (x a : Address) → slice_get rs i ≡ Some a → k ≡ n + i → filter (nat_eq k) (registered_from n rs x) ≡ cond (same_address a x) (k ∷ []) []
 numbered n i k [] x a there e = absurd (none-some a (sym (slice_get_past [] i (omega arith)) ∙ there))
 numbered n zero k (r ∷ rs) x a there e =
-    in-turn n k r rs x ∙ ap₂ (λ ms ns. ms ++ ns) (own-number n k (same_address r x) (omega (arith, e))) (less-number (suc n) k rs x (omega (arith, e))) ∙ append-nil (cond (same_address r x) (k ∷ []) []) ∙ ap (λ b. cond (same_address b x) (k ∷ []) []) (same_Some r a there)
+    in-turn n k r rs x ∙ ap₂ (λ ms ns. ms ++ ns) (own-number n k (same_address r x) (omega (arith, e))) (less-number (n + 1) k rs x (omega (arith, e))) ∙ append-nil (cond (same_address r x) (k ∷ []) []) ∙ ap (λ b. cond (same_address b x) (k ∷ []) []) (same_Some r a there)
 numbered n (suc i) k (r ∷ rs) x a there e =
-    in-turn n k r rs x ∙ ap₂ (λ ms ns. ms ++ ns) (other-number n k (same_address r x) (λ same. absurd (omega (arith, e, same)))) (numbered (suc n) i k rs x a there (omega (arith, e)))
+    in-turn n k r rs x ∙ ap₂ (λ ms ns. ms ++ ns) (other-number n k (same_address r x) (λ same. absurd (omega (arith, e, same)))) (numbered (n + 1) i k rs x a there (omega (arith, e)))
 
 -- ---- the paths of a mark
 pub all-of : (k : ℕ) (p : Path) (ns : List ℕ) → map (λ (m : Marking). m.1) (filter (λ (m : Marking). nat_eq k m.0) (map (λ n. (n, p)) ns)) ≡ map (λ n. p) (filter (nat_eq k) ns)

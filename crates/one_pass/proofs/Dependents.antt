@@ -29,12 +29,6 @@ use Rattle.edit_change.proofs.Lists.{slice_get-set_same, slice_get-set_other}
 use Rattle.edit_change.proofs.OwnersKeep.{owner-keeps, target-is}
 
 -- ---- tables of what is owned
-pub one-more-empty : (table : List (Vec Dependent Global)) (v : Vec Dependent Global) → v.items ≡ [] → ((c : ℕ) → dependents_in table c ≡ []) → (c : ℕ) → dependents_in (table ++ v ∷ []) c ≡ []
-one-more-empty [] v none before zero = ap (map moved_dependent) none
-one-more-empty [] v none before (suc c) = refl
-one-more-empty (w ∷ table) v none before zero = before zero
-one-more-empty (w ∷ table) v none before (suc c) = one-more-empty table v none (λ n. before (suc n)) c
-
 pub entered-here : (table : List (Vec Dependent Global)) (o : ℕ) (v w : Vec Dependent Global) (d : Dependent) → o < length table → v ≡ get_or table o v → w.items ≡ v.items ++ d ∷ [] → dependents_in (set table o w) o ≡ dependents_in table o ++ moved_dependent d ∷ []
 entered-here table o v w d there is more =
     ap (λ x. option_map_or (λ u. map moved_dependent u.items) x []) (slice_get-set_same table o w there) ∙ ap (map moved_dependent) more ∙ map-append moved_dependent v.items (d ∷ []) ∙ ap (λ x. option_map_or (λ u. map moved_dependent u.items) x [] ++ moved_dependent d ∷ []) (sym (slice_get-get_or table o v there ∙ ap (λ u. Some u) (sym is)))

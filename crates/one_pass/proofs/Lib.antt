@@ -1,6 +1,7 @@
 mod Alike
+mod Ascending
 pub mod OneAim
-pub mod QuietRuns
+pub mod SharedRuns
 pub mod Reordered
 pub mod OpenedNode
 pub mod NextAim
@@ -11,7 +12,7 @@ pub mod SweepStart
 pub mod Sweeping
 mod AllCounted
 pub mod ByDepth
-mod FoundLater
+mod MarksInOrder
 mod Children
 mod CopiesFound
 mod Counted

@@ -23,18 +23,18 @@ use Rattle.one_pass.proofs.MarksGiven.{all-topped}
 use Rattle.edit_change.specs.NewTree.{OriginTree, plain, given, independents, new_tree}
 use Rattle.edit_change.specs.declared.change.Change.{Change}
 use Rattle.one_pass.specs.inner.OwnerTables.{AreGiven}
-use Rattle.one_pass.specs.inner.Marks.{IsTableOf, marks_given, with_marks, paths_of_mark}
+use Rattle.one_pass.specs.inner.Marks.{marks_given, with_marks, paths_of_mark}
 use Rattle.edit_change.specs.inner.PathLists.{path_lists}
 use Rattle.one_pass.specs.inner.Root.{KeepsTop, TellsNewTree}
 use Rattle.edit_change.specs.inner.OneNode.{IsOneNode}
-use Rattle.one_pass.specs.inner.Sought.{addresses, sought_at}
-use Rattle.one_pass.specs.declared.sought.SoughtTable.{SoughtTable}
+use Rattle.one_pass.specs.inner.Sought.{addresses, sought_at, IsTableOf}
+use Rattle.one_pass.specs.declared.sought.Registered.{Registered}
 use Rattle.one_pass.proofs.CopiesFound.{all-copies}
 use Rattle.one_pass.proofs.MarksTold.{with_tops, marks_told, copies-told, changed-told}
 use Rattle.one_pass.proofs.WholeTree.{plain-whole, one-made}
 
 pub record PassTold (root : Element) (changes : List Change) (places : ℕ → Path) (es : List SyntaxElement) (trees : List SyntaxTree) (marks : List Marking) : Type 0 where
-  pub index : SoughtTable
+  pub index : List Registered
   pub sought : IsTableOf (addresses es) index
   pub given : GivenTable
   pub without_top : given.top ≡ None

@@ -1,26 +1,24 @@
 -- The marks of what changes give, entered into a table from the deepest changes up.
---     seen-from                     what is sought below an address, seen from there
 --     listed, unsought              an entry with the marks of each; one where nothing is sought
 --     entry                         an entry exchanged
 --     AreEntered                    a table has the marks of what changes give, as far as they are entered
 --     marks-begin, marks-entered, marks-passed, marks-end      before the first; one owner more; one that owns nothing; all of them
 --     IsBrought, AreBrought         an entry has the payload of a change; so have those of the first so many
 --     one-brought, all-brought      one change more; all of them
-use Rattle.std.specs.Prelude.{◌≡◌, ℕ, zero, suc, ◌+◌, ◌<◌, ◌≤◌, true, false, ◌&&◌, cond, nat_eq, List, [], ◌∷◌, ◌++◌, map, filter, length, slice_get, get_or, Option, Some, None, option_map, Vec, refl}
+use Rattle.std.specs.Prelude.{◌≡◌, ℕ, zero, suc, ◌+◌, ◌<◌, ◌≤◌, cond, List, [], ◌∷◌, ◌++◌, map, length, slice_get, get_or, Option, Some, None, option_map, Vec, refl}
 use Rattle.std.specs.Global.{Global}
 use Rattle.std.specs.Option.{option_map_or}
-use Rattle.std.proofs.Common.{ap, ap₂, sym, subst, ◌∙◌, arith}
+use Rattle.std.proofs.Common.{ap, sym, subst, ◌∙◌, arith}
 use Rattle.std.proofs.Math.ListN.{get_or-append, set}
 use Rattle.std.proofs.lemmas.Bool.{cases_eq, cases_lt, eq-eqb, ne_eqb}
-use Rattle.std.proofs.lemmas.List.{map-append, length-map, length-append, get_or_push}
-use Rattle.std.proofs.lemmas.List.Elements.{filter-append}
+use Rattle.std.proofs.lemmas.List.{length-map, length-append, get_or_push}
 use Rattle.std.proofs.lemmas.Option.{slice_get-get_or, slice_get-map, slice_get_past, none-some, same_Some}
 use mathlib.Core.Logic.{inl, inr}
 use mathlib.Core.Path.{fun_ext}
-use Rattle.cst_core.specs.Path.{Path, same_path}
+use Rattle.cst_core.specs.Path.{Path}
 use Rattle.cst_core.specs.Element.{Address, Element, address, subtree}
 use Rattle.edit_change.specs.Rewriting.{NumberedAim, rewritten}
-use Rattle.one_pass.specs.inner.Marked.{MarkTree, Marking, marked, marks_of, marks_at, wanted}
+use Rattle.one_pass.specs.inner.Marked.{MarkTree, Marking, marked, marks_of, wanted}
 use Rattle.edit_change.specs.inner.Given.{given_trees}
 use Rattle.one_pass.specs.inner.Pass.{IsMarked, IsMarkedIn, AreMarkedIn}
 use Rattle.one_pass.specs.declared.mark.Mark.{Mark}
@@ -32,61 +30,14 @@ use Rattle.edit_change.specs.Change.{payload}
 use Rattle.edit_change.specs.Nesting.{owner}
 use Rattle.one_pass.specs.inner.OwnerTables.{AreByDepth}
 use Rattle.edit_change.specs.NewTree.{origin, payload_of, dependents}
-use Rattle.one_pass.specs.inner.Sought.{path_below, sought_one, sought_from, sought_at, sought_at_all, registered_at}
-use Rattle.one_pass.specs.inner.Marks.{marks_given, IsTableOf, element_sought, payload_sought, with_answer}
+use Rattle.one_pass.specs.inner.Sought.{sought_at, sought_at_all, registered_at, IsTableOf}
+use Rattle.one_pass.specs.inner.Marks.{marks_given, element_sought, payload_sought, with_answer}
 use Rattle.edit_change.specs.declared.change.Change.{Change}
-use Rattle.one_pass.specs.declared.sought.SoughtTable.{SoughtTable}
+use Rattle.one_pass.specs.declared.sought.Registered.{Registered}
 use Rattle.edit_change.proofs.BroughtTops.{given-labelled}
 use Rattle.one_pass.proofs.ByDepth.{EnteredBy, begins, entered, passed, ends}
 use Rattle.edit_change.proofs.Lists.{slice_get-set_same, slice_get-set_other}
 use Rattle.edit_change.proofs.GivenTrees.{all_owned, rewritten-agree}
-
--- ---- what is sought, seen from an address
-pub at-append : (ms ns : List Marking) (p : Path) → marks_at (ms ++ ns) p ≡ marks_at ms p ++ marks_at ns p
-at-append ms ns p = ap (map (λ m. m.0)) (filter-append (λ m. same_path p m.1) ms ns) ∙ map-append (λ m. m.0) (filter (λ m. same_path p m.1) ms) (filter (λ m. same_path p m.1) ns)
-
-turned : (i j : ℕ) → nat_eq i j ≡ nat_eq j i
-turned i j =
-    elim (cases_eq i j) [
-      | inl same ↦ eq-eqb i j same ∙ sym (eq-eqb j i (sym same))
-      | inr differs ↦ ne_eqb i j differs ∙ sym (ne_eqb j i (λ e. differs (sym e)))
-    ]
-
-module _ (n : ℕ) where
-  abbrev pub found : Option Path → List Marking
-  found o = option_map_or (λ p. (n, p) ∷ []) o []
-
-  pub exact : (p s : Path) → marks_at ((n, s) ∷ []) p ≡ marks_at (found (path_below p s)) []
-  exact [] [] = refl
-  exact [] (j ∷ s) = refl
-  exact (i ∷ p) [] = refl
-  exact (i ∷ p) (j ∷ s) =
-      ap (λ b. map (λ (m : Marking). m.0) (cond (b && same_path p s) ((n, j ∷ s) ∷ []) [])) (turned i j) ∙ elim (nat_eq j i) as (λ b. map (λ (m : Marking). m.0) (cond (b && same_path p s) ((n, j ∷ s) ∷ []) []) ≡ marks_at (found (cond b (path_below p s) None)) []) [
-        | true ↦ (elim (same_path p s) as (λ b. map (λ (m : Marking). m.0) (cond b ((n, j ∷ s) ∷ []) []) ≡ map (λ (m : Marking). m.0) (cond b ((n, s) ∷ []) [])) [ true ↦ refl | false ↦ refl ]) ∙ exact p s
-        | false ↦ refl
-      ]
-
-  seen-path : (q p s : Path) → marks_at (found (path_below q s)) p ≡ marks_at (found (path_below (q ++ p) s)) []
-  seen-path [] p s = exact p s
-  seen-path (i ∷ q) p [] = refl
-  seen-path (i ∷ q) p (j ∷ s) =
-      elim (nat_eq j i) as (λ b. marks_at (found (cond b (path_below q s) None)) p ≡ marks_at (found (cond b (path_below (q ++ p) s) None)) []) [
-        | true ↦ seen-path q p s
-        | false ↦ refl
-      ]
-
-  seen-one : (a r : Address) (p : Path) → marks_at (sought_one a n r) p ≡ marks_at (sought_one (record { number = a.number; path = a.path ++ p }) n r) []
-  seen-one a r p =
-      elim (nat_eq r.number a.number) as (λ b. marks_at (cond b (found (path_below a.path r.path)) []) p ≡ marks_at (cond b (found (path_below (a.path ++ p) r.path)) []) []) [
-        | true ↦ seen-path a.path p r.path
-        | false ↦ refl
-      ]
-
-pub seen-from : (n : ℕ) (rs : List Address) (a : Address) (p : Path) → marks_at (sought_from n rs a) p ≡ marks_at (sought_from n rs (record { number = a.number; path = a.path ++ p })) []
-seen-from n [] a p = refl
-seen-from n (r ∷ rs) a p =
-    let b : Address = record { number = a.number; path = a.path ++ p } in
-    at-append (sought_one a n r) (sought_from (suc n) rs a) p ∙ ap₂ (λ ms ns. ms ++ ns) (seen-one n a r p) (seen-from (suc n) rs a p) ∙ sym (at-append (sought_one b n r) (sought_from (suc n) rs b) [])
 
 -- ---- one entry
 value : (o : Option (Vec Mark Global)) (x : List Marking) → option_map (λ v. marks_of v.items) o ≡ Some x → x ≡ option_map_or (λ v. marks_of v.items) o []
@@ -105,18 +56,18 @@ no-items : {A : Type 0} (xs ys : List A) → xs ++ ys ≡ [] → (xs ≡ []) × 
 no-items [] ys none = (refl, none)
 no-items (x ∷ xs) ys none = absurd (omega (arith, ap length none))
 
-unsought-at : (index : SoughtTable) (es : List Element) → sought_at_all index es ≡ [] → (i : ℕ) (d : MarkTree) → i < length (payload_sought index (λ n. []) [] es) → marked (get_or (payload_sought index (λ n. []) [] es) i d) ≡ []
+unsought-at : (index : List Registered) (es : List Element) → sought_at_all index es ≡ [] → (i : ℕ) (d : MarkTree) → i < length (payload_sought index (λ n. []) [] es) → marked (get_or (payload_sought index (λ n. []) [] es) i d) ≡ []
 unsought-at index [] none i d l = absurd (omega (arith, l))
 unsought-at index (e ∷ es) none zero d l = ap (λ ms. marked (rewritten (wanted ms) (λ c. []) [] [] (subtree e))) (no-items (sought_at index (address e)) (sought_at_all index es) none).0 ∙ ap marked (untouched (λ k. []) (λ c. []) [] refl [] (subtree e)) ∙ marks-none (subtree e)
 unsought-at index (e ∷ es) none (suc i) d l = unsought-at index es (no-items (sought_at index (address e)) (sought_at_all index es) none).1 i d (omega (arith, l))
 
-pub unsought : (index : SoughtTable) (g : MarkedGiven) (es : List Element) → sought_at_all index es ≡ [] → g.marks.items ≡ [] → given_trees g.elements ≡ map subtree es → IsMarked None g (payload_sought index (λ n. []) [] es)
+pub unsought : (index : List Registered) (g : MarkedGiven) (es : List Element) → sought_at_all index es ≡ [] → g.marks.items ≡ [] → given_trees g.elements ≡ map subtree es → IsMarked None g (payload_sought index (λ n. []) [] es)
 unsought index g es none empty are = record {
   count = length-map es (element_sought index (λ n. []) []) ∙ sym (ap length are ∙ length-map es subtree);
   each = λ i d l. unsought-at index es none i d l ∙ sym (ap (λ vs. option_map_or (λ v. marks_of v.items) (slice_get vs i) []) empty);
 }
 
-pub entry : (cs : List Change) (c : ℕ) (change : Change) (index : SoughtTable) (owned : List NumberedAim) (table : GivenTable) (g : MarkedGiven) → c < length cs → c < length table.entries.items → change ≡ get_or cs c change → table.top ≡ None → (trees : ℕ → List MarkTree) → AreMarkedIn table trees → IsMarked None g (payload_sought index trees owned (payload change)) → (n : ℕ) → IsMarkedIn table.top (slice_get (set table.entries.items c g) n) (with_answer trees c (payload_sought index trees owned (payload_of cs c)) n)
+pub entry : (cs : List Change) (c : ℕ) (change : Change) (index : List Registered) (owned : List NumberedAim) (table : GivenTable) (g : MarkedGiven) → c < length cs → c < length table.entries.items → change ≡ get_or cs c change → table.top ≡ None → (trees : ℕ → List MarkTree) → AreMarkedIn table trees → IsMarked None g (payload_sought index trees owned (payload change)) → (n : ℕ) → IsMarkedIn table.top (slice_get (set table.entries.items c g) n) (with_answer trees c (payload_sought index trees owned (payload_of cs c)) n)
 entry cs c change index owned table g there long is none trees are marks n =
     let es = table.entries.items in
     let top = table.top in
@@ -134,12 +85,12 @@ module _ (rs : List Address) (cs : List Change) (places : ℕ → Path) where
   has_given trees c = trees c ≡ marks_given rs cs places c
 
   -- the payload of a change, rewritten by what those that it owns give
-  payload-given : (c : ℕ) (index : SoughtTable) → IsTableOf rs index → payload_sought index (marks_given rs cs places) (dependents cs places c) (payload_of cs c) ≡ marks_given rs cs places c
+  payload-given : (c : ℕ) (index : List Registered) → IsTableOf rs index → payload_sought index (marks_given rs cs places) (dependents cs places c) (payload_of cs c) ≡ marks_given rs cs places c
   payload-given c index table =
-      let labels : (e : Element) → wanted (sought_at index (address e)) ≡ (λ q k. registered_at rs (origin (address e) (Some c) q k).address) = λ e. fun_ext (λ q. fun_ext (λ k. ap (λ ms. marks_at ms q) (table (address e)) ∙ seen-from 0 rs (address e) q)) in
+      let labels : (e : Element) → wanted (sought_at index (address e)) ≡ (λ q k. registered_at rs (origin (address e) (Some c) q k).address) = λ e. fun_ext (λ q. fun_ext (λ k. table (address e) q)) in
       ap (λ f. map f (payload_of cs c)) (fun_ext (λ e. ap (λ l. rewritten l (marks_given rs cs places) (dependents cs places c) [] (subtree e)) (labels e))) ∙ sym (given-labelled cs places (λ o. registered_at rs o.address) c)
 
-  agreed : (c : ℕ) (index : SoughtTable) (trees : ℕ → List MarkTree) → ((n : ℕ) (d : Change) → slice_get cs n ≡ Some d → owner cs d ≡ Some c → has_given trees n) → payload_sought index trees (dependents cs places c) (payload_of cs c) ≡ payload_sought index (marks_given rs cs places) (dependents cs places c) (payload_of cs c)
+  agreed : (c : ℕ) (index : List Registered) (trees : ℕ → List MarkTree) → ((n : ℕ) (d : Change) → slice_get cs n ≡ Some d → owner cs d ≡ Some c → has_given trees n) → payload_sought index trees (dependents cs places c) (payload_of cs c) ≡ payload_sought index (marks_given rs cs places) (dependents cs places c) (payload_of cs c)
   agreed c index trees holds =
       ap (λ f. map f (payload_of cs c)) (fun_ext (λ e. rewritten-agree (wanted (sought_at index (address e))) trees (marks_given rs cs places) (dependents cs places c) (all_owned cs places (has_given trees) c holds) (subtree e)))
 
@@ -148,7 +99,7 @@ module _ (rs : List Address) (cs : List Change) (places : ℕ → Path) where
     pub are : AreMarkedIn table trees
     pub by : EnteredBy cs places (has_given trees) order k
 
-  pub marks-entered : (order : List ℕ) (k o : ℕ) (index : SoughtTable) (table after : GivenTable) (owned : List NumberedAim) → IsTableOf rs index → AreByDepth cs order → k < length order → get_or order k 0 ≡ o → owned ≡ dependents cs places o → AreEntered order (suc k) table → ((trees : ℕ → List MarkTree) → AreMarkedIn table trees → AreMarkedIn after (with_answer trees o (payload_sought index trees owned (payload_of cs o)))) → AreEntered order k after
+  pub marks-entered : (order : List ℕ) (k o : ℕ) (index : List Registered) (table after : GivenTable) (owned : List NumberedAim) → IsTableOf rs index → AreByDepth cs order → k < length order → get_or order k 0 ≡ o → owned ≡ dependents cs places o → AreEntered order (suc k) table → ((trees : ℕ → List MarkTree) → AreMarkedIn table trees → AreMarkedIn after (with_answer trees o (payload_sought index trees owned (payload_of cs o)))) → AreEntered order k after
   marks-entered order k o index table after owned sought by within stands own a fills =
       let ts : List MarkTree = payload_sought index a.trees owned (payload_of cs o) in
       let now = with_answer a.trees o ts in
@@ -162,11 +113,11 @@ module _ (rs : List Address) (cs : List Change) (places : ℕ → Path) where
   marks-passed order k o table stands none a = record { trees = a.trees; are = a.are; by = passed cs places (has_given a.trees) order k o stands none a.by }
 
   -- ---- all of them
-  alone : (c : ℕ) (index : SoughtTable) → IsTableOf rs index → dependents cs places c ≡ [] → payload_sought index (λ n. []) [] (payload_of cs c) ≡ marks_given rs cs places c
+  alone : (c : ℕ) (index : List Registered) → IsTableOf rs index → dependents cs places c ≡ [] → payload_sought index (λ n. []) [] (payload_of cs c) ≡ marks_given rs cs places c
   alone c index sought none =
       ap (λ f. map f (payload_of cs c)) (fun_ext (λ e. rewritten-agree (wanted (sought_at index (address e))) (λ n. []) (marks_given rs cs places) [] tt (subtree e))) ∙ ap (λ ds. payload_sought index (marks_given rs cs places) ds (payload_of cs c)) (sym none) ∙ payload-given c index sought
 
-  pub marks-begin : (order : List ℕ) (k : ℕ) (index : SoughtTable) (table : GivenTable) → length order ≤ k → IsTableOf rs index → AreMarkedIn table (λ c. payload_sought index (λ n. []) [] (payload_of cs c)) → AreEntered order k table
+  pub marks-begin : (order : List ℕ) (k : ℕ) (index : List Registered) (table : GivenTable) → length order ≤ k → IsTableOf rs index → AreMarkedIn table (λ c. payload_sought index (λ n. []) [] (payload_of cs c)) → AreEntered order k table
   marks-begin order k index table past sought marked_are = record {
     trees = λ c. payload_sought index (λ n. []) [] (payload_of cs c);
     are = marked_are;
@@ -177,7 +128,7 @@ module _ (rs : List Address) (cs : List Change) (places : ℕ → Path) where
   marks-end order k table by none a c = subst (λ ts. IsMarkedIn table.top (slice_get table.entries.items c) ts) (ends cs places (has_given a.trees) order k by none a.by c) (a.are c)
 
 -- ---- the payloads alone
-module _ (index : SoughtTable) where
+module _ (index : List Registered) where
   -- an entry has the payload of a change
   pub record IsBrought (o : Option MarkedGiven) (es : List Element) : Type 0 where
     pub trees : option_map_or (λ g. given_trees g.elements) o [] ≡ map subtree es

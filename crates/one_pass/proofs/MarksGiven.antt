@@ -31,11 +31,6 @@ module _ (table : GivenTable) (trees : ℕ → List MarkTree) (are : AreMarkedIn
   pub as_many : (c : ℕ) → length (trees c) ≡ length (given_in table c)
   as_many c = as_many_in table.top _ (trees c) (are c)
 
-  pub all_as_many : (cs : List ℕ) → length (flat_map trees cs) ≡ length (flat_map (given_in table) cs)
-  all_as_many [] = refl
-  all_as_many (c ∷ cs) =
-      length-append (trees c) (flat_map trees cs) ∙ ap₂ (λ a b. a + b) (as_many c) (all_as_many cs) ∙ sym (length-append (given_in table c) (flat_map (given_in table) cs))
-
 -- ---- marks
 module _ (path : Path) where
   -- those of a top, and then the others

@@ -16,7 +16,7 @@ use Rattle.cst_core.specs.Tree.{Tree, Forest, Token, Node, end, more, trees, rel
 use Rattle.cst_core.specs.Element.{Address, Element, address, subtree}
 use Rattle.edit_change.specs.Rewriting.{rewritten_whole}
 use Rattle.edit_change.specs.Topmost.{topmost}
-use Rattle.one_pass.specs.inner.Marked.{MarkTree, Marking, marked, marked_from, marks_at, wanted}
+use Rattle.one_pass.specs.inner.Marked.{MarkTree, Marking, marked, marked_from, wanted}
 use Rattle.one_pass.specs.inner.Pass.{topped}
 use Rattle.one_pass.proofs.Alike.{IsSeen, sides, with_number, own_number, number-append, number-from, number-seen, topmost-seen, alike-whole}
 use Rattle.one_pass.proofs.Marks.{marks-node, marks-token}
@@ -24,13 +24,12 @@ use Rattle.one_pass.proofs.MarksGiven.{marked-topped}
 use Rattle.edit_change.specs.declared.change.Change.{Change}
 use Rattle.edit_change.specs.NewTree.{OriginTree, Origin, origin, given, independents, is_free, new_tree}
 use Rattle.edit_change.specs.Results.{changed}
-use Rattle.one_pass.specs.inner.Sought.{sought_from, sought_at, registered_at}
-use Rattle.one_pass.specs.inner.Marks.{with_marks, marks_given, IsTableOf, paths_of_mark}
-use Rattle.one_pass.specs.declared.sought.SoughtTable.{SoughtTable}
+use Rattle.one_pass.specs.inner.Sought.{sought_at, registered_at, IsTableOf}
+use Rattle.one_pass.specs.inner.Marks.{with_marks, marks_given, paths_of_mark}
+use Rattle.one_pass.specs.declared.sought.Registered.{Registered}
 use Rattle.edit_change.proofs.BroughtTops.{shown, alone}
 use Rattle.edit_change.proofs.BroughtTops as brought
-use Rattle.one_pass.proofs.CopiesFound.{tree-marked, in-turn, other-number, all-of}
-use Rattle.one_pass.proofs.MarksFilled.{seen-from}
+use Rattle.one_pass.proofs.CopiesFound.{tree-marked, registered_from, in-turn, other-number, all-of}
 use Rattle.one_pass.proofs.WholeTree.{not_given, changed-whole}
 
 -- ---- trees that stand in a place
@@ -75,16 +74,16 @@ module _ {L : Type 0} (n : ℕ) (h : L → List ℕ) (none : (l : L) → own_num
     seen-none_each end = tt
     seen-none_each (more t f) = (seen-none t, seen-none_each f)
 
-pub past-number : (n k : ℕ) (rs : List Address) (x : Address) → n + length rs ≤ k → filter (nat_eq k) (marks_at (sought_from n rs x) []) ≡ []
+pub past-number : (n k : ℕ) (rs : List Address) (x : Address) → n + length rs ≤ k → filter (nat_eq k) (registered_from n rs x) ≡ []
 past-number n k [] x l = refl
 past-number n k (r ∷ rs) x l =
-    in-turn n k r rs x ∙ ap₂ (λ ms ns. ms ++ ns) (other-number n k _ (λ e. absurd (omega (arith, e, l)))) (past-number (suc n) k rs x (omega (arith, l)))
+    in-turn n k r rs x ∙ ap₂ (λ ms ns. ms ++ ns) (other-number n k _ (λ e. absurd (omega (arith, e, l)))) (past-number (n + 1) k rs x (omega (arith, l)))
 
 own-past : (rs : List Address) (x : Address) → own_number (length rs) (registered_at rs x) ≡ []
 own-past rs x = all-of (length rs) [] (registered_at rs x) ∙ ap (map (λ (m : ℕ). [])) (past-number 0 (length rs) rs x (omega arith))
 
 -- ---- the new tree
-module _ (rs : List Address) (cs : List Change) (places : ℕ → Path) (index : SoughtTable) (root : Element) (table : IsTableOf rs index) where
+module _ (rs : List Address) (cs : List Change) (places : ℕ → Path) (index : List Registered) (root : Element) (table : IsTableOf rs index) where
   abbrev label_at : Path → ℕ → List ℕ
   label_at = wanted (sought_at index (address root))
 
@@ -107,7 +106,7 @@ module _ (rs : List Address) (cs : List Change) (places : ℕ → Path) (index :
   -- no kept element has the mark of the tops
   kept-none : (p : Path) (j : ℕ) → own_number number (label_at p j) ≡ []
   kept-none p j =
-      ap (λ ms. own_number number (marks_at ms p)) (table (address root)) ∙ ap (own_number number) (seen-from 0 rs (address root) p) ∙ own-past rs (origin (address root) None p j).address
+      ap (own_number number) (table (address root) p) ∙ own-past rs (origin (address root) None p j).address
 
   kept-seen : IsSeen (seen number) label_at (λ p k. [])
   kept-seen = record {

@@ -25,12 +25,12 @@ use Rattle.edit_change.specs.inner.KindOnly.{kind_only}
 use Rattle.one_pass.specs.declared.marked_given.GivenTable.{GivenTable}
 use Rattle.one_pass.specs.declared.open_node.OpenNode.{OpenNode}
 use Rattle.one_pass.specs.declared.walk.Walk.{Walk}
-use Rattle.one_pass.specs.inner.Marked.{Marking, sought_for, wanted}
+use Rattle.one_pass.specs.inner.Marked.{Marking, sought_below, wanted, InPathOrder, FromChild}
 use Rattle.one_pass.specs.inner.Sweep.{lowered, seen_at, covered, from_slot, inside_child, in_slot, From, Rising, key, IsGap, IsRun, IsBelow, PassesAll}
-use Rattle.one_pass.specs.inner.OpenNodes.{coming, child_built, nothing, InOrder, IsSameNode, IsShared, IsFurther, PutsNext, IsPassed, IsToOpen, IsNext}
-use Rattle.one_pass.proofs.NodeAhead.{Lists, Follows, ahead, ahead-gap, ahead-run, ahead-pass, ahead-below}
+use Rattle.one_pass.specs.inner.OpenNodes.{coming, sought_in, child_built, nothing, InOrder, IsSameNode, IsShared, IsFurther, PutsNext, IsPassed, IsToOpen, IsNext}
+use Rattle.one_pass.proofs.NodeAhead.{Follows, ahead-gap, ahead-run, ahead-pass, ahead-below}
 use Rattle.one_pass.proofs.NodeFurther.{no-less-ahead, first-ahead, order-next, further-both, further-shared, further-pass, further-put}
-use Rattle.one_pass.proofs.NodeSteps.{same-coming, same-both, item-at}
+use Rattle.one_pass.proofs.NodeSteps.{same-coming, same-both, same-sought, item-at}
 use Rattle.one_pass.proofs.OneAim.{run-key, below-starts, below-overs}
 use Rattle.one_pass.proofs.SweepStart.{rising-from}
 use Rattle.one_pass.proofs.Sweeping.{at-any, from-less}
@@ -54,11 +54,11 @@ some-aim f l = first-of-list f.aims.now l
 same-head : (a b : Aimed) (xs ys zs : List Aimed) → zs ≡ a ∷ xs → zs ≡ b ∷ ys → a ≡ b
 same-head a b xs ys zs x y = cc
 
-abbrev pub made_by : {L : Type 0} → (List Marking → Path → ℕ → L) → (ℕ → List (Tree L)) → Lists → ℕ → List FormedAim → GreenElement → Tree L
-made_by label given ls i xs e = rewritten (label (sought_for ls.items i)) given (map of_formed xs) [] (element_tree e)
+abbrev pub made_by : {L : Type 0} → (List Marking → Path → ℕ → L) → (ℕ → List (Tree L)) → List Marking → ℕ → List FormedAim → GreenElement → Tree L
+made_by label given ms i xs e = rewritten (label (sought_below i ms)) given (map of_formed xs) [] (element_tree e)
 
-abbrev pub counted_by : Lists → ℕ → List FormedAim → GreenElement → ℕ
-counted_by ls i xs e = child_built i xs e
+abbrev pub counted_by : List Marking → ℕ → List FormedAim → GreenElement → ℕ
+counted_by ms i xs e = child_built i xs e
 
 -- ---- a child from which nothing comes of the aims inside it
 abbrev Quiet : {X : Type 0} → (ℕ → List FormedAim → GreenElement → X) → ℕ → ℕ → GreenElement → Type 0
@@ -83,16 +83,16 @@ quiet-below {X} given made p b xs i e below quiet =
 
 -- ---- a node of which one field is another one
 abbrev pub passing : OpenNode → ℕ → OpenNode
-passing f passed = record { kind = f.kind; elements = f.elements; depth = f.depth; aims = f.aims; lists = f.lists; out = f.out; slot = f.slot; passed = passed }
+passing f passed = record { kind = f.kind; elements = f.elements; depth = f.depth; aims = f.aims; sought = f.sought; out = f.out; slot = f.slot; passed = passed }
 
 abbrev pub having : OpenNode → Bor (List Aimed) → OpenNode
-having f aims = record { kind = f.kind; elements = f.elements; depth = f.depth; aims = aims; lists = f.lists; out = f.out; slot = f.slot; passed = f.passed }
+having f aims = record { kind = f.kind; elements = f.elements; depth = f.depth; aims = aims; sought = f.sought; out = f.out; slot = f.slot; passed = f.passed }
 
 same-passing : (f : OpenNode) (p : ℕ) → IsSameNode f (passing f p)
-same-passing f p = record { kind = refl; elements = refl; depth = refl; lists = refl }
+same-passing f p = record { kind = refl; elements = refl; depth = refl }
 
 same-having : (f : OpenNode) (xs : Bor (List Aimed)) → IsSameNode f (having f xs)
-same-having f xs = record { kind = refl; elements = refl; depth = refl; lists = refl }
+same-having f xs = record { kind = refl; elements = refl; depth = refl }
 
 -- ---- up to a slot
 pub ahead-of : (f : OpenNode) (n : ℕ) → InOrder f → 0 < length f.aims.now → n ≤ key (seen_first f) → From n (coming f)
@@ -108,6 +108,8 @@ order-shared i start after f g order within ahead x =
       within = omega (arith, within, x.slot, ap (λ es. length es.now) x.same.elements);
       rising = subst Rising (sym same) order.rising;
       begins = subst (λ n. From (n + n) (coming g)) (sym x.slot) (subst (From (i + i)) (sym same) ahead);
+      ascending = x.ascending;
+      from = subst (λ n. FromChild n (sought_in g)) (sym x.slot) x.from;
     }
 
 module _ (table : GivenTable) (start middle after : Walk) (f g : OpenNode) (order : InOrder f) (some : 0 < length f.aims.now) where
@@ -119,9 +121,9 @@ module _ (table : GivenTable) (start middle after : Walk) (f g : OpenNode) (orde
     same-aims : f.aims.now ≡ g.aims.now
     same-aims = ap (λ xs. xs.now) (sym shared.aims)
 
-    rest-order : (k : OpenNode) → IsSameNode g k → g.aims.now ≡ first_aim f ∷ k.aims.now → k.slot ≡ i → InOrder k
-    rest-order k same aims slot =
-        order-next f g k (first_aim f) order (same-both f g k shared.same same) (same-aims ∙ aims) (omega (arith, within, slot)) (omega (arith, least, slot))
+    rest-order : (k : OpenNode) → IsSameNode g k → sought_in k ≡ sought_in g → g.aims.now ≡ first_aim f ∷ k.aims.now → k.slot ≡ i → InOrder k
+    rest-order k same sought aims slot =
+        order-next f g k (first_aim f) order (same-both f g k shared.same same) (same-aims ∙ aims) (omega (arith, within, slot)) (omega (arith, least, slot)) (subst InPathOrder (sym sought) there.ascending) (subst (λ n. FromChild n (sought_in k)) (shared.slot ∙ sym slot) (subst (FromChild g.slot) (sym sought) there.from))
 
     lowered-same : (a : Aimed) → a ≡ first_aim f → lowered g.depth a ≡ seen_first f
     lowered-same a is = ap₂ lowered shared.same.depth is
@@ -136,18 +138,20 @@ module _ (table : GivenTable) (start middle after : Walk) (f g : OpenNode) (orde
       pub take-gap : IsGap i (seen_first f).path (seen_first f).form → IsFurther table start after f h
       take-gap is =
           let here : IsGap g.slot (lowered g.depth put.aim).path put.aim.form = subst (λ n. IsGap n (lowered g.depth put.aim).path put.aim.form) (sym shared.slot) (subst (λ (b : FormedAim). IsGap i b.path b.form) (sym (lowered-same put.aim aim-is)) is) in
-          let follows : Follows g h = record { same = put.same; slot = put.slot } in
-          let next = rest-order h put.same aims-are (put.slot ∙ shared.slot) in
+          let sought = same-sought g h put.same put.sought in
+          let follows : Follows g h = record { same = put.same; sought = sought; slot = put.slot } in
+          let next = rest-order h put.same sought aims-are (put.slot ∙ shared.slot) in
           further-both table start middle after f g h (further-shared table i start middle f g shared there) (further-put table middle after g h h put put.same put.slot refl next (λ given. ahead-gap given (made_by (λ ms. kind_only) given) g h put.aim follows put.aims put.passed here) (λ trees. ahead-gap trees (made_by wanted trees) g h put.aim follows put.aims put.passed here) (ap sum (ahead-gap nothing counted_by g h put.aim follows put.aims put.passed here)))
 
-      run-taken : (n : ℕ) (k : OpenNode) → i < length f.elements.now → IsRun i n (seen_first f).path (seen_first f).form → IsSameNode h k → k.slot ≡ h.slot → k.out ≡ h.out → k.aims ≡ h.aims → ((j : ℕ) → j < length f.elements.now → nat_lt j (max h.passed (i + n)) ≡ nat_lt j k.passed) → IsFurther table start after f k
-      run-taken n k inside is same slot out aims alike =
+      run-taken : (n : ℕ) (k : OpenNode) → i < length f.elements.now → IsRun i n (seen_first f).path (seen_first f).form → IsSameNode h k → sought_in k ≡ sought_in h → k.slot ≡ h.slot → k.out ≡ h.out → k.aims ≡ h.aims → ((j : ℕ) → j < length f.elements.now → nat_lt j (max h.passed (i + n)) ≡ nat_lt j k.passed) → IsFurther table start after f k
+      run-taken n k inside is same kept slot out aims alike =
           let seen = lowered-same put.aim aim-is in
           let here : IsRun g.slot n (lowered g.depth put.aim).path put.aim.form = subst (λ m. IsRun m n (lowered g.depth put.aim).path put.aim.form) (sym shared.slot) (subst (λ (b : FormedAim). IsRun i n b.path b.form) (sym seen) is) in
           let all = same-both g h k put.same same in
-          let follows : Follows g k = record { same = all; slot = slot ∙ put.slot } in
+          let sought = kept ∙ same-sought g h put.same put.sought in
+          let follows : Follows g k = record { same = all; sought = sought; slot = slot ∙ put.slot } in
           let own : g.aims.now ≡ put.aim ∷ k.aims.now = put.aims ∙ ap (λ xs. put.aim ∷ xs.now) (sym aims) in
-          let next = rest-order k all (aims-are ∙ ap (λ xs. first_aim f ∷ xs.now) (sym aims)) (slot ∙ put.slot ∙ shared.slot) in
+          let next = rest-order k all sought (aims-are ∙ ap (λ xs. first_aim f ∷ xs.now) (sym aims)) (slot ∙ put.slot ∙ shared.slot) in
           let long : length g.elements.now ≡ length f.elements.now = ap (λ es. length es.now) shared.same.elements in
           let room : g.slot < length g.elements.now = omega (arith, inside, long, shared.slot) in
           let alike_there : (j : ℕ) → j < length g.elements.now → nat_lt j (max g.passed (g.slot + n)) ≡ nat_lt j k.passed = λ j l. ap₂ (λ p s. nat_lt j (max p (s + n))) (sym put.passed) shared.slot ∙ alike j (omega (arith, l, long)) in
@@ -156,7 +160,7 @@ module _ (table : GivenTable) (start middle after : Walk) (f g : OpenNode) (orde
           further-both table start middle after f g k (further-shared table i start middle f g shared there) (further-put table middle after g h k put all (slot ∙ put.slot) out next (λ given. ahead-run given (made_by (λ ms. kind_only) given) g k put.aim follows own room n alike_there here later) (λ trees. ahead-run trees (made_by wanted trees) g k put.aim follows own room n alike_there here later) (ap sum (ahead-run nothing counted_by g k put.aim follows own room n alike_there here later)))
 
       pub take-run : (n p : ℕ) → i < length f.elements.now → IsRun i n (seen_first f).path (seen_first f).form → ((j : ℕ) → j < length f.elements.now → nat_lt j (max h.passed (i + n)) ≡ nat_lt j p) → IsFurther table start after f (passing h p)
-      take-run n p inside is alike = run-taken n (passing h p) inside is (same-passing h p) refl refl refl alike
+      take-run n p inside is alike = run-taken n (passing h p) inside is (same-passing h p) refl refl refl refl alike
 
     -- ---- inside a child
     pub shared-next : IsFurther table start middle f g
@@ -172,30 +176,30 @@ module _ (table : GivenTable) (start middle after : Walk) (f g : OpenNode) (orde
       inside = λ d. subst (λ n. IsBelow n (lowered g.depth (get_or g.aims.now 0 d))) (sym shared.slot) (subst (IsBelow i) (sym (ap₂ (λ w xs. lowered w (get_or xs 0 d)) shared.same.depth (sym same-aims) ∙ ap (lowered f.depth) (at-any f.aims.now 0 d no_aim some))) below);
     }
 
-    passed-taken : (k : OpenNode) → i < length f.elements.now → IsBelow i (seen_first f) → IsPassed g → IsSameNode g k → k.slot ≡ g.slot → k.passed ≡ g.passed → k.out ≡ g.out → k.aims.now ≡ drop 1 f.aims.now → IsFurther table start middle f k
-    passed-taken k inside below goes same slot passed out aims =
+    passed-taken : (k : OpenNode) → i < length f.elements.now → IsBelow i (seen_first f) → IsPassed g → IsSameNode g k → sought_in k ≡ sought_in g → k.slot ≡ g.slot → k.passed ≡ g.passed → k.out ≡ g.out → k.aims.now ≡ drop 1 f.aims.now → IsFurther table start middle f k
+    passed-taken k inside below goes same sought slot passed out aims =
         let own : g.aims.now ≡ first_aim f ∷ k.aims.now = sym same-aims ∙ some-aim f some ∙ ap (λ xs. first_aim f ∷ xs) (sym aims) in
         let room : g.slot < length g.elements.now = omega (arith, inside, shared.slot, ap (λ es. length es.now) shared.same.elements) in
         let here : IsBelow g.slot (lowered g.depth (first_aim f)) = subst (λ n. IsBelow n (lowered g.depth (first_aim f))) (sym shared.slot) (subst (IsBelow i) (sym (lowered-same (first_aim f) refl)) below) in
         let e = item-at g.elements.now g.slot room in
-        let follows : Follows g k = record { same = same; slot = slot } in
-        let next = rest-order k same own (slot ∙ shared.slot) in
+        let follows : Follows g k = record { same = same; sought = sought; slot = slot } in
+        let next = rest-order k same sought own (slot ∙ shared.slot) in
         let xs = seen_at g.depth k.aims.now in
-        further-both table start middle middle f g k shared-next (further-pass table middle g k same slot out next (λ given. ahead-below given (made_by (λ ms. kind_only) given) g k (first_aim f) follows own room passed here (quiet-below given (made_by (λ ms. kind_only) given g.lists) g.passed (lowered g.depth (first_aim f)) xs g.slot e.0 here (passes (made_by (λ ms. kind_only) given g.lists) g e.0 (λ l ys zs. refl) e.1 goes))) (λ trees. ahead-below trees (made_by wanted trees) g k (first_aim f) follows own room passed here (quiet-below trees (made_by wanted trees g.lists) g.passed (lowered g.depth (first_aim f)) xs g.slot e.0 here (passes (made_by wanted trees g.lists) g e.0 (λ l ys zs. refl) e.1 goes))) (ap sum (ahead-below nothing counted_by g k (first_aim f) follows own room passed here (quiet-below nothing (counted_by g.lists) g.passed (lowered g.depth (first_aim f)) xs g.slot e.0 here (passes (counted_by g.lists) g e.0 (λ l ys zs. refl) e.1 goes)))))
+        further-both table start middle middle f g k shared-next (further-pass table middle g k same slot out next (λ given. ahead-below given (made_by (λ ms. kind_only) given) g k (first_aim f) follows own room passed here (quiet-below given (made_by (λ ms. kind_only) given (sought_in g)) g.passed (lowered g.depth (first_aim f)) xs g.slot e.0 here (passes (made_by (λ ms. kind_only) given (sought_in g)) g e.0 (λ l ys zs. refl) e.1 goes))) (λ trees. ahead-below trees (made_by wanted trees) g k (first_aim f) follows own room passed here (quiet-below trees (made_by wanted trees (sought_in g)) g.passed (lowered g.depth (first_aim f)) xs g.slot e.0 here (passes (made_by wanted trees (sought_in g)) g e.0 (λ l ys zs. refl) e.1 goes))) (ap sum (ahead-below nothing counted_by g k (first_aim f) follows own room passed here (quiet-below nothing (counted_by (sought_in g)) g.passed (lowered g.depth (first_aim f)) xs g.slot e.0 here (passes (counted_by (sought_in g)) g e.0 (λ l ys zs. refl) e.1 goes)))))
 
     pub take-passed : (xs : Bor (List Aimed)) → i < length f.elements.now → IsBelow i (seen_first f) → IsPassed g → xs.now ≡ drop 1 f.aims.now → IsFurther table start middle f (having g xs)
-    take-passed xs inside below goes aims = passed-taken (having g xs) inside below goes (same-having g xs) refl refl refl aims
+    take-passed xs inside below goes aims = passed-taken (having g xs) inside below goes (same-having g xs) refl refl refl refl aims
 
   -- ---- nothing is due
-  nowhere-taken : (k : OpenNode) → PassesAll (length f.elements.now) (seen_first f) → IsSameNode f k → k.slot ≡ f.slot → k.passed ≡ f.passed → k.out ≡ f.out → k.aims.now ≡ drop 1 f.aims.now → IsFurther table start start f k
-  nowhere-taken k says same slot passed out aims =
+  nowhere-taken : (k : OpenNode) → PassesAll (length f.elements.now) (seen_first f) → IsSameNode f k → sought_in k ≡ sought_in f → k.slot ≡ f.slot → k.passed ≡ f.passed → k.out ≡ f.out → k.aims.now ≡ drop 1 f.aims.now → IsFurther table start start f k
+  nowhere-taken k says same sought slot passed out aims =
       let own : f.aims.now ≡ first_aim f ∷ k.aims.now = some-aim f some ∙ ap (λ xs. first_aim f ∷ xs) (sym aims) in
-      let follows : Follows f k = record { same = same; slot = slot } in
-      let next = order-next f f k (first_aim f) order same own (omega (arith, order.within, slot)) (omega (arith, slot-before f order some, slot)) in
+      let follows : Follows f k = record { same = same; sought = sought; slot = slot } in
+      let next = order-next f f k (first_aim f) order same own (omega (arith, order.within, slot)) (omega (arith, slot-before f order some, slot)) (subst InPathOrder (sym sought) order.ascending) (subst (λ n. FromChild n (sought_in k)) (sym slot) (subst (FromChild f.slot) (sym sought) order.from)) in
       further-pass table start f k same slot out next (λ given. ahead-pass given (made_by (λ ms. kind_only) given) f k (first_aim f) follows own passed order.within says) (λ trees. ahead-pass trees (made_by wanted trees) f k (first_aim f) follows own passed order.within says) (ap sum (ahead-pass nothing counted_by f k (first_aim f) follows own passed order.within says))
 
   pub take-nowhere : (xs : Bor (List Aimed)) → PassesAll (length f.elements.now) (seen_first f) → xs.now ≡ drop 1 f.aims.now → IsFurther table start start f (having f xs)
-  take-nowhere xs says aims = nowhere-taken (having f xs) says (same-having f xs) refl refl refl aims
+  take-nowhere xs says aims = nowhere-taken (having f xs) says (same-having f xs) refl refl refl refl aims
 
 -- ---- the rest of a list, as a part of it
 pub part-rest : {X : Type 0} (xs : List X) (n : ℕ) → take (length xs - n) (drop n xs) ≡ drop n xs

@@ -14,10 +14,10 @@ use Rattle.edit_change.specs.inner.KindOnly.{kind_only}
 use Rattle.one_pass.specs.declared.marked_given.GivenTable.{GivenTable}
 use Rattle.one_pass.specs.declared.open_node.OpenNode.{OpenNode}
 use Rattle.one_pass.specs.declared.walk.Walk.{Walk}
-use Rattle.one_pass.specs.inner.Marked.{MarkTree, marks_of, wanted}
+use Rattle.one_pass.specs.inner.Marked.{MarkTree, marks_of, wanted, InPathOrder, FromChild}
 use Rattle.one_pass.specs.inner.Pass.{given_in}
 use Rattle.one_pass.specs.inner.Sweep.{lowered, seen_at, From, Rising, key}
-use Rattle.one_pass.specs.inner.OpenNodes.{coming, to_come, to_build, to_do, kinds_to_come, InOrder, IsSameNode, IsShared, IsFurther, PutsNext, found_with}
+use Rattle.one_pass.specs.inner.OpenNodes.{coming, sought_in, to_come, to_build, to_do, kinds_to_come, InOrder, IsSameNode, IsShared, IsFurther, PutsNext, found_with}
 use Rattle.one_pass.proofs.Marks.{shown}
 use Rattle.one_pass.proofs.MarksGiven.{width, as_many}
 use Rattle.one_pass.proofs.NodeSteps.{shown-on, same-both}
@@ -37,20 +37,22 @@ pub first-ahead : (f : OpenNode) (a : Aimed) (xs : List Aimed) → InOrder f →
 first-ahead f a xs order aims = (subst (λ ys. From (f.slot + f.slot) (seen_at f.depth ys)) aims order.begins).0
 
 -- one aim less is to come, and the slot is no further than the aim
-pub order-next : (f g k : OpenNode) (a : Aimed) → InOrder f → IsSameNode f k → f.aims.now ≡ a ∷ k.aims.now → k.slot ≤ length f.elements.now → k.slot + k.slot ≤ key (lowered f.depth a) → InOrder k
-order-next f g k a order same aims within least =
+pub order-next : (f g k : OpenNode) (a : Aimed) → InOrder f → IsSameNode f k → f.aims.now ≡ a ∷ k.aims.now → k.slot ≤ length f.elements.now → k.slot + k.slot ≤ key (lowered f.depth a) → InPathOrder (sought_in k) → FromChild k.slot (sought_in k) → InOrder k
+order-next f g k a order same aims within least ascending from =
     let all = subst (λ ys. Rising (seen_at f.depth ys)) aims order.rising in
     let later = rising-from (lowered f.depth a) (seen_at f.depth k.aims.now) all in
     record {
       within = omega (arith, within, ap (λ es. length es.now) same.elements);
       rising = subst (λ d. Rising (seen_at d k.aims.now)) (sym same.depth) all.1;
       begins = subst (λ d. From (k.slot + k.slot) (seen_at d k.aims.now)) (sym same.depth) (from-less (k.slot + k.slot) (key (lowered f.depth a)) (seen_at f.depth k.aims.now) least later.1);
+      ascending = ascending;
+      from = from;
     }
 
 -- ---- one after another
 pub further-none : (table : GivenTable) (w : Walk) (f : OpenNode) → InOrder f → IsFurther table w w f f
 further-none table w f order = record {
-  same = record { kind = refl; elements = refl; depth = refl; lists = refl };
+  same = record { kind = refl; elements = refl; depth = refl };
   path = refl;
   count = refl;
   order = order;

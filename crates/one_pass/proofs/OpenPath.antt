@@ -10,8 +10,8 @@ use Rattle.std.proofs.lemmas.List.{append_assoc, append-nil}
 use Rattle.green_tree.specs.Path.{Path}
 use Rattle.green_tree.specs.Tree.{SyntaxTree, node}
 use Rattle.green_tree.specs.GreenElement.{element_trees}
-use Rattle.one_pass.specs.inner.Marked.{MarkTree, Marking, marked, mark_below, wanted}
-use Rattle.one_pass.specs.inner.OpenNodes.{kinds_past, past, past_built, past_do, wholes, path_to, found_above, built_above}
+use Rattle.one_pass.specs.inner.Marked.{MarkTree, Marking, marked, mark_below, wanted, InPathOrder, FromChild}
+use Rattle.one_pass.specs.inner.OpenNodes.{sought_in, kinds_past, past, past_built, past_do, wholes, path_to, found_above, built_above}
 use Rattle.one_pass.specs.inner.Sweep.{seen_at, Rising, From}
 use Rattle.one_pass.specs.declared.marked_given.GivenTable.{GivenTable}
 use Rattle.one_pass.specs.declared.open_node.OpenNode.{OpenNode}
@@ -48,11 +48,13 @@ pub work-push : (fs : List OpenNode) (f : OpenNode) → work_above (fs ++ f ∷ 
 work-push [] f = refl
 work-push (g ∷ fs) f = omega (arith, work-push fs f)
 
--- ---- each has come to a child, and its aims are behind that
+-- ---- each has come to a child, and its aims and marks are behind that
 pub record IsWaiting (f : OpenNode) : Type 0 where
   pub within : f.slot < length f.elements.now
   pub rising : Rising (seen_at f.depth f.aims.now)
   pub behind : From (suc f.slot + suc f.slot) (seen_at f.depth f.aims.now)
+  pub ascending : InPathOrder (sought_in f)
+  pub from : FromChild (suc f.slot) (sought_in f)
 
 abbrev pub AreWaiting : List OpenNode → Type 0
 AreWaiting [] = Unit {0}

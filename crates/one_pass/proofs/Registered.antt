@@ -1,190 +1,213 @@
--- The table of registered elements.
---     pushed-nothing, pushed-list, pushed-one    an empty list at the end; a list of one mark there; one mark more in a list
---     found-same                    cells that are added have no list
---     leads-further                 the path of the cell below another one
---     entered, entered-unused       one mark more there; what has no cell has no list
---     all-ancestors                 what is put in at each ancestor, all together
---     sought-more                   one registered element more
---     none-anywhere                 where nothing is registered, nothing is at any elements
-use Rattle.std.specs.Prelude.{◌≡◌, ◌≢◌, ℕ, zero, suc, ◌+◌, ◌<◌, ◌≤◌, Bool, true, false, ◌&&◌, cond, nat_eq, length, flat_map, List, [], ◌∷◌, ◌++◌, take, drop, get_or, option_and_then, Option, Some, None, refl}
-use Rattle.std.specs.Option.{option_map_or}
-use Rattle.std.proofs.lemmas.List.{append-nil, append_assoc, map-append}
-use Rattle.std.proofs.lemmas.Option.{none-some, same_Some, slice_get_past, slice_get-get_or}
-use Rattle.std.proofs.lemmas.Bool.{cases_Bool, cases_eq, cases_lt, eq-eqb, ne_eqb, true≢false}
-use Rattle.std.proofs.Common.{ap, ap₂, sym, ◌∙◌, arith}
+-- Registered elements in document order.
+--     same-turned                   two paths are equal from either side
+--     starts-later, goes-on         what is before a path does not begin with it; no gap in those that do
+--     before-on                     what is no later than one before a path is before it
+--     earlier-parted, inside-parted, within-run      those at an address or below it are one after another
+--     sought-none                   where there are none
+--     sought-order                  their marks are in order
+--     cut-same                      a path that begins with another one, and then goes on with a third
+--     table-of                      sorted, they have what is registered
+use Rattle.std.specs.Prelude.{◌≡◌, ℕ, ◌≤◌, Bool, true, false, cond, ◌&&◌, ◌||◌, nat_eq, List, [], ◌∷◌, ◌++◌, map, filter, take, drop, length, get_or, refl}
+use Rattle.std.specs.List.{AllByRecursion, enumerate_from}
+use Rattle.std.specs.List.Sorted.{IsStableBy, IsPartitionedBy, IsPartitionPoint}
+use Rattle.std.specs.Cmp.Lexicographic.{slice_cmp}
+use Rattle.std.specs.Ordering.{nat_cmp, is_lt}
+use Rattle.std.proofs.Common.{ap, ap₂, sym, subst, ◌∙◌, arith}
+use Rattle.std.proofs.lemmas.Bool.{cases_Bool, cases_eq, cases_lt, eq-eqb, ne_eqb, eqb-true, lt-ltb, le-ltb, and_parts, and_from, true≢false}
+use Rattle.std.proofs.lemmas.List.{take-append-drop}
+use Rattle.std.proofs.lemmas.List.Elements.{All-from_recursion}
+use mathlib.Core.List.{map-map}
 use mathlib.Core.Logic.{inl, inr}
-use Rattle.one_pass.specs.declared.mark.Sought.{Sought}
-use Rattle.one_pass.specs.inner.Marked.{Marking, sought_as, sought_in, sought_for}
-use Rattle.one_pass.specs.inner.OneMore.{HasOneMore, StaysElsewhere}
-use Rattle.cst_core.specs.Path.{Path, same_path, counted_from}
-use Rattle.cst_core.specs.Element.{Address, Element, address, same_address}
-use Rattle.path_table.specs.inner.PathTable.{cell_below, cell_at, size, IsGrown}
-use Rattle.one_pass.specs.declared.sought.SoughtTable.{SoughtTable}
-use Rattle.path_table.specs.declared.table.PathTable.{PathTable}
-use Rattle.path_table.proofs.PathTables.{cell-push, path-is}
-use Rattle.one_pass.specs.inner.Sought.{path_below, sought_one, sought_from, sought_at, sought_at_all}
+use Rattle.cst_core.specs.Path.{Path, same_path}
+use Rattle.cst_core.specs.Element.{Address, same_address}
+use Rattle.cst_core.specs.inner.InTree.{address_path}
+use Rattle.green_tree.proofs.Parts.{filter-map}
+use Rattle.edit_change.specs.inner.DocumentOrder.{is_before}
 use Rattle.edit_change.proofs.Paths.{same_path-true, same_path_from}
+use Rattle.one_pass.specs.declared.sought.Registered.{Registered}
+use Rattle.one_pass.specs.inner.Marked.{Marking, marks_at, InPathOrder}
+use Rattle.one_pass.specs.inner.Sought.{as_registered, place_of, begins_with, within, sought_at, below, AreInOrder, IsTableOf}
+use Rattle.edit_change.proofs.DocumentOrder.{before-compared}
+use Rattle.edit_change.proofs.Lists.{all_weaker}
+use Rattle.one_pass.proofs.Ascending.{all-taken, all-dropped, filter-between, ascending-far, ascending-part, less_by, stable-at}
+use Rattle.one_pass.proofs.OneAim.{order-key, order-inside}
 
--- ---- lists by cell
-pub pushed-nothing : (ls : List (List Sought)) (v : List Sought) → v ≡ [] → (k : ℕ) → sought_for (ls ++ v ∷ []) k ≡ sought_for ls k
-pushed-nothing [] v empty zero = ap sought_in empty
-pushed-nothing [] v empty (suc k) = refl
-pushed-nothing (l ∷ ls) v empty zero = refl
-pushed-nothing (l ∷ ls) v empty (suc k) = pushed-nothing ls v empty k
+pub same-turned : (p q : Path) → same_path p q ≡ same_path q p
+same-turned p q =
+    elim (cases_Bool (same_path p q)) [
+      | inl same ↦ same ∙ sym (same_path_from q p (sym (same_path-true p q same)))
+      | inr differs ↦ differs ∙ (elim (cases_Bool (same_path q p)) [
+        | inl same ↦ absurd (true≢false (sym (same_path_from p q (sym (same_path-true q p same))) ∙ differs))
+        | inr neither ↦ sym neither
+      ])
+    ]
 
-eq_suc : (a b : ℕ) → nat_eq (suc a) (suc b) ≡ nat_eq a b
-eq_suc a b = elim (cases_eq a b) [ inl same ↦ eq-eqb (suc a) (suc b) (ap suc same) ∙ sym (eq-eqb a b same) | inr other ↦ ne_eqb (suc a) (suc b) (omega (arith, other)) ∙ sym (ne_eqb a b other) ]
+turned : (i j : ℕ) → nat_eq j i ≡ nat_eq i j
+turned i j =
+    elim (cases_eq j i) [
+      | inl same ↦ eq-eqb j i same ∙ sym (eq-eqb i j (sym same))
+      | inr other ↦ ne_eqb j i other ∙ sym (ne_eqb i j (λ e. other (sym e)))
+    ]
 
-pub pushed-list : (ls : List (List Sought)) (v : List Sought) (s : Sought) → v ≡ s ∷ [] → (k : ℕ) → sought_for (ls ++ v ∷ []) k ≡ sought_for ls k ++ cond (nat_eq (length ls) k) (sought_as s ∷ []) []
-pushed-list [] v s one zero = ap sought_in one
-pushed-list [] v s one (suc k) = ap (λ b. cond b (sought_as s ∷ []) []) (sym (ne_eqb 0 (suc k) (omega arith)))
-pushed-list (l ∷ ls) v s one zero = sym (append-nil (sought_in l)) ∙ ap (λ b. sought_in l ++ cond b (sought_as s ∷ []) []) (sym (ne_eqb (suc (length ls)) 0 (omega arith)))
-pushed-list (l ∷ ls) v s one (suc k) = pushed-list ls v s one k ∙ ap (λ b. sought_for ls k ++ cond b (sought_as s ∷ []) []) (sym (eq_suc (length ls) k))
+not-both : (b : Bool) → (b && false) ≡ false
+not-both true = refl
+not-both false = refl
 
--- one of a list that is not empty
-some-of : {X : Type 0} (xs : List X) (i : ℕ) → i < length xs → X
-some-of [] i within = absurd (omega (arith, within))
-some-of (x ∷ xs) i within = x
+-- ---- one after another
+pub starts-later : (q p : Path) → is_before p q ≡ true → begins_with q p ≡ false
+starts-later [] p h = absurd (cc)
+starts-later (i ∷ q) [] h = refl
+starts-later (i ∷ q) (j ∷ p) h =
+    elim (cases_eq j i) [
+      | inl same ↦ ap (λ b. nat_eq j i && b) (starts-later q p (sym (order-inside i p q) ∙ ap (λ k. is_before (k ∷ p) (i ∷ q)) (sym same) ∙ h)) ∙ not-both (nat_eq j i)
+      | inr other ↦ ap (λ b. b && begins_with q p) (ne_eqb j i other)
+    ]
 
-module _ (old new : List (List Sought)) (cell : ℕ) (s : Sought) (size-same : length new ≡ length old) (within : cell < length old) (here : HasOneMore (λ l. l) old new cell s) (elsewhere : StaysElsewhere (λ l. l) old new cell) where
-  abbrev d : List Sought
-  d = some-of old cell within
+pub goes-on : (q x y : Path) → is_before x q ≡ false → is_before y x ≡ false → begins_with q y ≡ true → begins_with q x ≡ true
+goes-on [] x y h k b = refl
+goes-on (i ∷ q) [] y h k b = absurd (cc)
+goes-on (i ∷ q) (j ∷ x) [] h k b = absurd (cc)
+goes-on (i ∷ q) (j ∷ x) (l ∷ y) h k b =
+    let both = and_parts (nat_eq l i) (begins_with q y) b in
+    let at : l ≡ i = eqb-true l i both.0 in
+    let low = order-key (j ∷ x) (i ∷ q) h in
+    let high = order-key (l ∷ y) (j ∷ x) k in
+    let here : j ≡ i = omega (arith, at, low, high) in
+    let same : l ≡ j = omega (arith, at, here) in
+    let first : is_before x q ≡ false = sym (order-inside i x q) ∙ ap (λ m. is_before (m ∷ x) (i ∷ q)) (sym here) ∙ h in
+    let next : is_before y x ≡ false = sym (order-inside j y x) ∙ ap (λ m. is_before (m ∷ y) (j ∷ x)) (sym same) ∙ k in
+    and_from (nat_eq j i) (begins_with q x) (eq-eqb j i here) (goes-on q x y first next both.1)
 
-  listed : (ls : List (List Sought)) (k : ℕ) → k < length ls → sought_for ls k ≡ sought_in (get_or ls k d)
-  listed ls k l = ap (λ o. option_map_or sought_in o []) (slice_get-get_or ls k d l)
+before-on : (x y t : Path) → is_before y x ≡ false → is_before y t ≡ true → is_before x t ≡ true
+before-on x y [] h k = absurd (cc)
+before-on [] y (l ∷ t) h k = refl
+before-on (i ∷ x) [] (l ∷ t) h k = absurd (cc)
+before-on (i ∷ x) (j ∷ y) (l ∷ t) h k =
+    let low = order-key (j ∷ y) (i ∷ x) h in
+    elim (cases_lt i l) [
+      | inl less ↦ ap (λ b. b || (nat_eq i l && is_before x t)) (lt-ltb i l less)
+      | inr past ↦
+          let far = no-later j l y t k in
+          let same : i ≡ j = omega (arith, low, far, past) in
+          let there : j ≡ l = omega (arith, same, far, past) in
+          let first : is_before y x ≡ false = sym (order-inside i y x) ∙ ap (λ m. is_before (m ∷ y) (i ∷ x)) same ∙ h in
+          let next : is_before y t ≡ true = sym (order-inside l y t) ∙ ap (λ m. is_before (m ∷ y) (l ∷ t)) (sym there) ∙ k in
+          ap (λ m. is_before (m ∷ x) (l ∷ t)) (same ∙ there) ∙ order-inside l x t ∙ before-on x y t first next
+    ]
+  where
+    no-later : (j l : ℕ) (y t : Path) → is_before (j ∷ y) (l ∷ t) ≡ true → j ≤ l
+    no-later j l y t k =
+        elim (cases_lt l j) [
+          | inl over ↦
+              let wrong = ap₂ (λ a b. a || (b && is_before y t)) (le-ltb j l (omega (arith, over))) (ne_eqb j l (λ e. absurd (omega (arith, e, over)))) in
+              let no : true ≡ false = sym k ∙ wrong in
+              absurd (true≢false no)
+          | inr under ↦ under
+        ]
 
-  unlisted : (ls : List (List Sought)) (k : ℕ) → length ls ≤ k → sought_for ls k ≡ []
-  unlisted ls k l = ap (λ o. option_map_or sought_in o []) (slice_get_past ls k l)
+module _ (xs : List Registered) (order : AreInOrder xs) (t : Path) where
+  abbrev pub is_earlier : Registered → Bool
+  is_earlier r = is_lt (slice_cmp nat_cmp (place_of r) t)
 
-  pub pushed-one : (k : ℕ) → sought_for new k ≡ sought_for old k ++ cond (nat_eq cell k) (sought_as s ∷ []) []
-  pushed-one k =
-      elim (cases_eq k cell) [
-        | inl same ↦
-            let l : k < length old = omega (arith, same, within) in
-            let m : k < length new = omega (arith, l, size-same) in
-            listed new k m ∙ ap (λ i. sought_in (get_or new i d)) same ∙ ap sought_in (here d) ∙ map-append sought_as (get_or old cell d) (s ∷ []) ∙ ap (λ i. sought_in (get_or old i d) ++ sought_as s ∷ []) (sym same) ∙ ap (λ ms. ms ++ sought_as s ∷ []) (sym (listed old k l)) ∙ ap (λ b. sought_for old k ++ cond b (sought_as s ∷ []) []) (sym (eq-eqb cell k (sym same)))
-        | inr other ↦ unchanged other ∙ sym (append-nil (sought_for old k)) ∙ ap (λ b. sought_for old k ++ cond b (sought_as s ∷ []) []) (sym (ne_eqb cell k (λ e. other (sym e))))
-      ]
+  abbrev pub is_inside : Registered → Bool
+  is_inside r = begins_with t (place_of r)
+
+  pub earlier-parted : IsPartitionedBy is_earlier xs
+  earlier-parted i j d l k h =
+      before-compared (place_of (get_or xs i d)) t ∙ before-on (place_of (get_or xs i d)) (place_of (get_or xs j d)) t (ascending-far place_of xs order i j d l k) (sym (before-compared (place_of (get_or xs j d)) t) ∙ h)
+
+  module _ (start : ℕ) (l : start ≤ length xs) (point : IsPartitionPoint (λ r. is_earlier r ≡ true) (λ r. is_earlier r ≡ false) xs start) where
+    later : AreInOrder (drop start xs)
+    later = (ascending-part place_of (take start xs) (drop start xs) (subst AreInOrder (sym (take-append-drop start xs)) order)).1
+
+    pub inside-parted : IsPartitionedBy is_inside (drop start xs)
+    inside-parted i j d m k h =
+        let rest = drop start xs in
+        let no_less = All-from_recursion (λ r. is_earlier r ≡ false) rest (all-dropped (λ r. is_earlier r ≡ false) start xs point.1) i d (omega (arith, m, k)) in
+        goes-on t (place_of (get_or rest i d)) (place_of (get_or rest j d)) (sym (before-compared (place_of (get_or rest i d)) t) ∙ no_less) (ascending-far place_of rest later i j d m k) h
+
+    pub within-run : (end : ℕ) → end ≤ length (drop start xs) → IsPartitionPoint (λ r. is_inside r ≡ true) (λ r. is_inside r ≡ false) (drop start xs) end → filter is_inside xs ≡ take end (drop start xs)
+    within-run end m inner =
+        filter-between is_inside xs start end (all_weaker (λ r. is_earlier r ≡ true) (λ r. is_inside r ≡ false) (take start xs) (λ r h. starts-later t (place_of r) (sym (before-compared (place_of r) t) ∙ h)) (all-taken (λ r. is_earlier r ≡ true) start xs l point.0)) (all-taken (λ r. is_inside r ≡ true) end (drop start xs) m inner.0) (all-dropped (λ r. is_inside r ≡ false) end (drop start xs) inner.1)
+
+pub sought-none : (xs : List Registered) (a : Address) → length (within xs a) ≡ 0 → sought_at xs a ≡ []
+sought-none xs a none = go (within xs a) none
+  where
+    go : (ys : List Registered) → length ys ≡ 0 → map {B = Marking} (λ (r : Registered). (r.mark.number, drop (length a.path) r.mark.path.now)) ys ≡ []
+    go [] h = refl
+    go (y ∷ ys) h = absurd (omega (arith, h))
+
+-- ---- the order of what is left of their paths
+cut-order : (q x y : Path) → begins_with q x ≡ true → begins_with q y ≡ true → is_before (drop (length q) y) (drop (length q) x) ≡ is_before y x
+cut-order [] x y a b = refl
+cut-order (i ∷ q) [] y a b = absurd (cc)
+cut-order (i ∷ q) (j ∷ x) [] a b = absurd (cc)
+cut-order (i ∷ q) (j ∷ x) (l ∷ y) a b =
+    let first = and_parts (nat_eq j i) (begins_with q x) a in
+    let second = and_parts (nat_eq l i) (begins_with q y) b in
+    let same : j ≡ l = eqb-true j i first.0 ∙ sym (eqb-true l i second.0) in
+    cut-order q x y first.1 second.1 ∙ sym (order-inside j y x) ∙ ap (λ k. is_before (k ∷ y) (j ∷ x)) same
+
+module _ (a : Address) where
+  abbrev passes : Registered → Bool
+  passes r = begins_with (address_path a) (place_of r)
+
+  abbrev from_there : Registered → Marking
+  from_there r = (r.mark.number, drop (length a.path) r.mark.path.now)
+
+  abbrev Later : Registered → List Marking → Type 0
+  Later r ms = AllByRecursion (λ (m : Marking). is_before m.1 (drop (length a.path) r.mark.path.now) ≡ false) ms
+
+  later-one : (r s : Registered) (ys : List Registered) (b : Bool) → passes r ≡ true → passes s ≡ b → is_before (place_of s) (place_of r) ≡ false → Later r (map from_there ys) → Later r (map from_there (cond b (s ∷ ys) ys))
+  later-one r s ys true here is h rest = (cut-order (address_path a) (place_of r) (place_of s) here is ∙ h, rest)
+  later-one r s ys false here is h rest = rest
+
+  each-later : (r : Registered) (xs : List Registered) → passes r ≡ true → AllByRecursion (λ s. is_before (place_of s) (place_of r) ≡ false) xs → Later r (map from_there (filter passes xs))
+  each-later r [] here h = tt
+  each-later r (s ∷ xs) here h = later-one r s (filter passes xs) (passes s) here refl h.0 (each-later r xs here h.1)
+
+  order-one : (r : Registered) (ys : List Registered) (b : Bool) → passes r ≡ b → (passes r ≡ true → Later r (map from_there ys)) → InPathOrder (map from_there ys) → InPathOrder (map from_there (cond b (r ∷ ys) ys))
+  order-one r ys true is later rest = (later is, rest)
+  order-one r ys false is later rest = rest
+
+  pub sought-order : (xs : List Registered) → AreInOrder xs → InPathOrder (sought_at xs a)
+  sought-order [] h = tt
+  sought-order (r ∷ xs) h = order-one r (filter passes xs) (passes r) refl (λ here. each-later r xs here h.0) (sought-order xs h.1)
+
+-- ---- what is registered
+cut-same : (q p x : Path) → (begins_with q x && same_path p (drop (length q) x)) ≡ same_path (q ++ p) x
+cut-same [] p x = refl
+cut-same (i ∷ q) p [] = refl
+cut-same (i ∷ q) p (j ∷ x) =
+    joined (nat_eq j i) (begins_with q x) (same_path p (drop (length q) x)) ∙ ap₂ (λ b c. b && c) (turned i j) (cut-same q p x)
+  where
+    joined : (b c d : Bool) → ((b && c) && d) ≡ (b && (c && d))
+    joined true c d = refl
+    joined false c d = refl
+
+module _ (a : Address) (p : Path) where
+  abbrev stands : Registered → Bool
+  stands r = same_path (address_path (below a p)) (place_of r)
+
+  -- one of them, at the address or below it, and then there
+  exact-one : (r : Registered) (b : Bool) (ms : List Marking) → marks_at (map (from_there a) (cond b (r ∷ []) []) ++ ms) p ≡ map (λ r. r.mark.number) (cond (b && same_path p (drop (length a.path) r.mark.path.now)) (r ∷ []) []) ++ marks_at ms p
+  exact-one r false ms = refl
+  exact-one r true ms = elim (same_path p (drop (length a.path) r.mark.path.now)) as (λ d. map (λ (m : Marking). m.0) (cond d (from_there a r ∷ filter (λ (m : Marking). same_path p m.1) ms) (filter (λ (m : Marking). same_path p m.1) ms)) ≡ map (λ (s : Registered). s.mark.number) (cond d (r ∷ []) []) ++ marks_at ms p) [ true ↦ refl | false ↦ refl ]
+
+  exact : (xs : List Registered) → marks_at (sought_at xs a) p ≡ map (λ r. r.mark.number) (filter stands xs)
+  exact [] = refl
+  exact (r ∷ xs) =
+      ap (λ ms. marks_at ms p) (cut (passes a r)) ∙ exact-one r (passes a r) (sought_at xs a) ∙ ap₂ (λ b ns. map (λ (s : Registered). s.mark.number) (cond b (r ∷ []) []) ++ ns) (cut-same (address_path a) p (place_of r)) (exact xs) ∙ back (stands r)
     where
-      unchanged : k ≢ cell → sought_for new k ≡ sought_for old k
-      unchanged other =
-          elim (cases_lt k (length old)) [
-            | inl is ↦ listed new k (omega (arith, is, size-same)) ∙ ap sought_in (elsewhere k d other) ∙ sym (listed old k (omega (arith, is)))
-            | inr is ↦ unlisted new k (omega (arith, is, size-same)) ∙ sym (unlisted old k (omega (arith, is)))
-          ]
+      cut : (b : Bool) → map (from_there a) (cond b (r ∷ filter (passes a) xs) (filter (passes a) xs)) ≡ map (from_there a) (cond b (r ∷ []) []) ++ sought_at xs a
+      cut true = refl
+      cut false = refl
 
--- ---- one mark more at the cell below another one
-pub leads-further : (t u : PathTable) → IsGrown t u → (p : Path) (cell slot next : ℕ) → cell_at t p ≡ Some cell → cell_below u cell slot ≡ Some next → cell_at u (p ++ slot ∷ []) ≡ Some next
-leads-further t u grown p cell slot next at leads = cell-push u (Some 0) p slot ∙ ap (λ o. option_and_then (λ n. cell_below u n slot) o) (grown.stay p cell at) ∙ leads
+      back : (b : Bool) → map (λ (s : Registered). s.mark.number) (cond b (r ∷ []) []) ++ map (λ (s : Registered). s.mark.number) (filter stands xs) ≡ map (λ (s : Registered). s.mark.number) (cond b (r ∷ filter stands xs) (filter stands xs))
+      back true = refl
+      back false = refl
 
-module _ (t u : PathTable) (old new : ℕ → List Marking) (grown : IsGrown t u) (unused : (k : ℕ) → size t < k → old k ≡ []) where
-  found-same : (q : Path) → option_map_or old (cell_at u q) [] ≡ option_map_or old (cell_at t q) []
-  found-same q = go (cell_at u q) (cell_at t q) refl refl
-    where
-      go : (o w : Option ℕ) → cell_at u q ≡ o → cell_at t q ≡ w → option_map_or old o [] ≡ option_map_or old w []
-      go None None now was = refl
-      go None (Some k) now was = absurd (none-some k (sym now ∙ grown.stay q k was))
-      go (Some m) (Some k) now was = ap old (same_Some m k (sym now ∙ grown.stay q k was))
-      go (Some m) None now was =
-          elim (cases_lt (size t) m) [
-            | inl later ↦ unused m (omega (arith, later))
-            | inr older ↦ absurd (none-some m (sym was ∙ grown.older q m now (omega (arith, older))))
-          ]
-
-  module _ (cell slot next : ℕ) (m : Marking) (leads : cell_below u cell slot ≡ Some next) (more : (k : ℕ) → new k ≡ old k ++ cond (nat_eq next k) (m ∷ []) []) where
-    pub entered-unused : (k : ℕ) → size u < k → new k ≡ []
-    entered-unused k later =
-        let there : next ≤ size u = (grown.tree.steps cell slot next leads).1 in
-        let apart : next ≢ k = omega (arith, later, there) in
-        more k ∙ ap₂ (λ ms b. ms ++ cond b (m ∷ []) []) (unused k (omega (arith, later, grown.longer))) (ne_eqb next k apart)
-
-    module _ (p : Path) (at : cell_at t p ≡ Some cell) where
-      entered-leads : cell_at u (p ++ slot ∷ []) ≡ Some next
-      entered-leads = leads-further t u grown p cell slot next at leads
-
-      pub entered : (q : Path) → option_map_or new (cell_at u q) [] ≡ option_map_or old (cell_at t q) [] ++ cond (same_path (p ++ slot ∷ []) q) (m ∷ []) []
-      entered q =
-          elim (cases_Bool (same_path (p ++ slot ∷ []) q)) [
-            | inl same ↦
-                let there : cell_at u q ≡ Some next = ap (cell_at u) (sym (same_path-true (p ++ slot ∷ []) q same)) ∙ entered-leads in
-                let before : old next ≡ option_map_or old (cell_at t q) [] = ap (λ o. option_map_or old o []) (sym there) ∙ found-same q in
-                ap (λ o. option_map_or new o []) there ∙ more next ∙ ap₂ (λ ms b. ms ++ cond b (m ∷ []) []) before (eq-eqb next next refl ∙ sym same)
-            | inr other ↦ go other (cell_at u q) refl ∙ found-same q ∙ sym (append-nil (option_map_or old (cell_at t q) [])) ∙ ap (λ b. option_map_or old (cell_at t q) [] ++ cond b (m ∷ []) []) (sym other)
-          ]
-        where
-          go : same_path (p ++ slot ∷ []) q ≡ false → (o : Option ℕ) → cell_at u q ≡ o → option_map_or new (cell_at u q) [] ≡ option_map_or old (cell_at u q) []
-          go other None is = ap (λ o. option_map_or new o []) is ∙ sym (ap (λ o. option_map_or old o []) is)
-          go other (Some k) is =
-              let same-path : next ≡ k → p ++ slot ∷ [] ≡ q = λ e. sym (path-is u grown.tree (p ++ slot ∷ []) next entered-leads) ∙ ap grown.tree.paths.0 e ∙ path-is u grown.tree q k is in
-              let apart : next ≢ k = λ e. true≢false (sym (same_path_from (p ++ slot ∷ []) q (same-path e)) ∙ other) in
-              ap (λ o. option_map_or new o []) is ∙ more k ∙ ap (λ b. old k ++ cond b (m ∷ []) []) (ne_eqb next k apart) ∙ append-nil (old k) ∙ sym (ap (λ o. option_map_or old o []) is)
-
--- ---- a registered element, put in at each element above it
--- what is put in at the ancestor whose path has this length
-abbrev pub one_at : Address → ℕ → Address → ℕ → List Marking
-one_at a n r k = cond (same_address (record { number = r.number; path = take k r.path }) a) ((n, drop k r.path) ∷ []) []
-
-skipped : (f : ℕ → List Marking) (i m : ℕ) → flat_map f (counted_from (suc i) m) ≡ flat_map (λ k. f (suc k)) (counted_from i m)
-skipped f i zero = refl
-skipped f i (suc m) = ap (λ ms. f (suc i) ++ ms) (skipped f (suc i) m)
-
-pub one-more : (f : ℕ → List Marking) (i m : ℕ) → flat_map f (counted_from i (suc m)) ≡ flat_map f (counted_from i m) ++ f (i + m)
-one-more f i zero =
-    let same : i ≡ i + 0 = omega arith in
-    append-nil (f i) ∙ ap f same
-one-more f i (suc m) =
-    let rest = flat_map f (counted_from (suc i) m) in
-    let same : suc i + m ≡ i + suc m = omega arith in
-    ap (λ ms. f i ++ ms) (one-more f (suc i) m) ∙ sym (append_assoc (f i) rest (f (suc i + m))) ∙ ap (λ k. f i ++ rest ++ f k) same
-
-no_items : (ks : List ℕ) → flat_map {A = Marking} (λ k. []) ks ≡ []
-no_items [] = refl
-no_items (k ∷ ks) = no_items ks
-
-module _ (n : ℕ) where
-  abbrev where_same : Bool → Path → Path → ℕ → List Marking
-  where_same b q p k = cond (b && same_path (take k p) q) ((n, drop k p) ∷ []) []
-
-  abbrev found_below : Path → Path → List Marking
-  found_below q p = option_map_or (λ s. (n, s) ∷ []) (path_below q p) []
-
-  at_top : (p : Path) → flat_map (where_same true [] p) (counted_from 0 (suc (length p))) ≡ (n, p) ∷ []
-  at_top [] = refl
-  at_top (i ∷ p) = ap (λ ms. (n, i ∷ p) ∷ ms) (skipped (where_same true [] (i ∷ p)) 0 (length (i ∷ p)) ∙ no_items (counted_from 0 (length (i ∷ p))))
-
-  along : (q p : Path) → flat_map (where_same true q p) (counted_from 0 (suc (length p))) ≡ found_below q p
-  along [] p = at_top p
-  along (j ∷ q) [] = refl
-  along (j ∷ q) (i ∷ p) =
-      skipped (where_same true (j ∷ q) (i ∷ p)) 0 (suc (length p)) ∙ elim (nat_eq i j) as (λ b. flat_map (where_same b q p) (counted_from 0 (suc (length p))) ≡ option_map_or (λ s. (n, s) ∷ []) (cond b (path_below q p) None) []) [
-        | true ↦ along q p
-        | false ↦ no_items (counted_from 0 (suc (length p)))
-      ]
-
-  pub all-ancestors : (a r : Address) → flat_map (one_at a n r) (counted_from 0 (suc (length r.path))) ≡ sought_one a n r
-  all-ancestors a r =
-      elim (nat_eq r.number a.number) as (λ b. flat_map (where_same b a.path r.path) (counted_from 0 (suc (length r.path))) ≡ cond b (found_below a.path r.path) []) [
-        | true ↦ along a.path r.path
-        | false ↦ no_items (counted_from 0 (suc (length r.path)))
-      ]
-
-pub one-deeper : (a r : Address) (n d number : ℕ) (front back : Path) (start now new : List Marking) → number ≡ r.number → front ≡ take d r.path → back ≡ drop d r.path → new ≡ now ++ cond (same_address (record { number = number; path = front }) a) ((n, back) ∷ []) [] → now ≡ start ++ flat_map (one_at a n r) (counted_from 0 d) → new ≡ start ++ flat_map (one_at a n r) (counted_from 0 (d + 1))
-one-deeper a r n d number front back start now new is f b put h =
-    let more : suc d ≡ d + 1 = omega arith in
-    let at : 0 + d ≡ d = omega arith in
-    let done = flat_map (one_at a n r) (counted_from 0 d) in
-    let own : cond (same_address (record { number = number; path = front }) a) ((n, back) ∷ []) [] ≡ one_at a n r d = ap₂ (λ m p. cond (same_address (record { number = m; path = p }) a) ((n, back) ∷ []) []) is f ∙ ap (λ p. cond (same_address (record { number = r.number; path = take d r.path }) a) ((n, p) ∷ []) []) b in
-    put ∙ ap₂ (λ ms ns. ms ++ ns) h own ∙ append_assoc start done (one_at a n r d) ∙ ap (λ ms. start ++ ms) (ap (λ k. done ++ one_at a n r k) (sym at) ∙ sym (one-more (one_at a n r) 0 d)) ∙ ap (λ k. start ++ flat_map (one_at a n r) (counted_from 0 k)) more
-
-pub sought-more : (n : ℕ) (rs : List Address) (r a : Address) → sought_from n (rs ++ r ∷ []) a ≡ sought_from n rs a ++ sought_one a (n + length rs) r
-sought-more n [] r a =
-    let same : n ≡ n + 0 = omega arith in
-    append-nil (sought_one a n r) ∙ ap (λ k. sought_one a k r) same
-sought-more n (s ∷ rs) r a =
-    let same : suc n + length rs ≡ n + suc (length rs) = omega arith in
-    ap (λ ms. sought_one a n s ++ ms) (sought-more (suc n) rs r a) ∙ sym (append_assoc (sought_one a n s) (sought_from (suc n) rs a) (sought_one a (suc n + length rs) r)) ∙ ap (λ k. sought_one a n s ++ sought_from (suc n) rs a ++ sought_one a k r) same
-
--- ---- nothing registered
-pub none-anywhere : (index : SoughtTable) → ((a : Address) → sought_at index a ≡ []) → (es : List Element) → sought_at_all index es ≡ []
-none-anywhere index none [] = refl
-none-anywhere index none (e ∷ es) = ap₂ (λ xs ys. xs ++ ys) (none (address e)) (none-anywhere index none es)
+pub table-of : (rs : List Address) (ys xs : List Registered) → map as_registered ys ≡ enumerate_from 0 rs → IsStableBy (less_by place_of) ys xs → IsTableOf rs xs
+table-of rs ys xs told stable a p =
+    let s = address_path (below a p) in
+    exact a p xs ∙ ap (map (λ r. r.mark.number)) (stable-at place_of ys xs stable s) ∙ sym (ap (λ es. map (λ (e : ℕ × Address). e.0) (filter (λ (e : ℕ × Address). same_address e.1 (below a p)) es)) (sym told) ∙ ap (map (λ (e : ℕ × Address). e.0)) (filter-map (λ (e : ℕ × Address). same_address e.1 (below a p)) (stands a p) as_registered ys (λ r. same-turned (place_of r) s)) ∙ map-map (λ (e : ℕ × Address). e.0) as_registered (filter (stands a p) ys))

@@ -4,32 +4,29 @@
 --     rewritten-reordered           the tree that they make
 --     SamePaths, inside-path        lists of the same paths; those inside a child
 --     built-reordered               how many nodes are built
---     site_at, less_far, sites-ordered      the site of an aim in code; aims are compared by theirs
+--     site_at                       the site of an aim in code
 --     are-ordered, are-reordered    aims that are sorted so are in order; they are the same
-use Rattle.std.specs.Prelude.{◌≡◌, ℕ, suc, ◌+◌, ◌<◌, ◌≤◌, not, Bool, true, false, cond, ◌&&◌, ◌||◌, nat_eq, nat_lt, List, [], ◌∷◌, ◌++◌, map, filter, flat_map, length, get_or, sum_by, refl}
-use Rattle.std.specs.List.{list_any, AllByRecursion}
-use Rattle.std.specs.List.Sorted.{IsPermutation, IsSortedBy, IsStableBy, ties}
-use Rattle.std.specs.Cmp.{IsStrictWeakOrder}
-use Rattle.std.specs.Cmp.Lexicographic.{slice_cmp}
-use Rattle.std.specs.Ordering.{nat_cmp, is_lt}
-use Rattle.std.proofs.lemmas.Cmp.{nat_list_cmp_total}
+use Rattle.std.specs.Prelude.{◌≡◌, ℕ, suc, ◌+◌, Bool, true, false, cond, ◌&&◌, ◌||◌, nat_eq, nat_lt, List, [], ◌∷◌, ◌++◌, map, filter, flat_map, sum_by, refl}
+use Rattle.std.specs.List.{list_any}
+use Rattle.std.specs.List.Sorted.{IsPermutation, IsSortedBy, IsStableBy}
 use Rattle.std.proofs.Common.{ap, ap₂, sym, ◌∙◌, arith}
-use Rattle.std.proofs.lemmas.Bool.{cases_eq, cases_order, eq-eqb, ne_eqb, lt-ltb, le-ltb, eqb-true, and_parts}
-use Rattle.std.proofs.lemmas.List.Sorted.{sum_by-IsPermutation, ranks_by, sorted_far, IsPermutation-map}
+use Rattle.std.proofs.lemmas.Bool.{cases_eq, eq-eqb, ne_eqb, lt-ltb, le-ltb, eqb-true, and_parts}
+use Rattle.std.proofs.lemmas.List.Sorted.{sum_by-IsPermutation, IsPermutation-map}
 use Rattle.std.proofs.lemmas.List.Sums.{sum_by-cons}
 use mathlib.Core.Logic.{inl, inr}
 use Rattle.green_tree.specs.Path.{Path, same_path, has_path, parent_path, last_slot}
+use Rattle.green_tree.proofs.Parts.{filter-map}
 use Rattle.green_tree.specs.Tree.{Tree, Forest, Token, Node, end, more, SyntaxTree, forest}
 use Rattle.edit_change.specs.Aim.{Aim, FirstIn, AfterElement, Over, aims_at_gap, starts_at, replaces, parents}
 use Rattle.edit_change.specs.Effort.{inside, parents_of}
 use Rattle.edit_change.specs.Rewriting.{NumberedAim, numbers, inserts_at, replacements_at, is_replaced, gap_order, gap, rewritten, rewritten_from}
-use Rattle.edit_change.specs.inner.DocumentOrder.{on_the_way, site, is_before}
+use Rattle.edit_change.specs.inner.DocumentOrder.{on_the_way, site}
 use Rattle.edit_change.specs.inner.Aimed.{aim_in, formed, numbered, aims_of}
 use Rattle.edit_change.specs.declared.aimed.Aimed.{Aimed}
-use Rattle.edit_change.proofs.DocumentOrder.{before-compared}
 use Rattle.edit_change.proofs.Paths.{same_path-true, same_path_from}
 use Rattle.one_pass.specs.inner.Built.{built, built_from, nodes_built}
-use Rattle.one_pass.specs.inner.Sweep.{Rising, AreOrdered, IsReordered}
+use Rattle.one_pass.specs.inner.Sweep.{AreOrdered, IsReordered}
+use Rattle.one_pass.proofs.Ascending.{less_by, ascending-map, ascending-sorted, stable-at}
 
 -- ---- one test
 within : {X : Type 0} (f g : X → Bool) → ((x : X) → f x ≡ true → g x ≡ true) → (xs : List X) → filter f xs ≡ filter f (filter g xs)
@@ -179,83 +176,14 @@ built-reordered cs ds again t =
 abbrev pub site_at : Aimed → List ℕ
 site_at a = site (aim_in a.path.now a.form)
 
-abbrev pub less_far : Aimed → Aimed → Bool
-less_far a b = is_lt (slice_cmp nat_cmp (site_at a) (site_at b))
-
-pub sites-ordered : IsStrictWeakOrder less_far
-sites-ordered = ranks_by nat_list_cmp_total site_at
-
-each-of : (s : List ℕ) (ys : List Aimed) → ((k : ℕ) (d : Aimed) → k < length ys → is_before (site_at (get_or ys k d)) s ≡ false) → AllByRecursion (λ b. is_before (site (aim_in b.path b.form)) s ≡ false) (map formed ys)
-each-of s [] h = tt
-each-of s (y ∷ ys) h = (h 0 y (omega arith), each-of s ys (λ k d l. h (suc k) d (omega (arith, l))))
-
-rising-pairs : (xs : List Aimed) → ((i j : ℕ) (d : Aimed) → i ≤ j → j < length xs → is_before (site_at (get_or xs j d)) (site_at (get_or xs i d)) ≡ false) → Rising (map formed xs)
-rising-pairs [] h = tt
-rising-pairs (x ∷ xs) h =
-    (each-of (site_at x) xs (λ k d l. h 0 (suc k) d (omega arith) (omega (arith, l))), rising-pairs xs (λ i j d l m. h (suc i) (suc j) d (omega (arith, l)) (omega (arith, m))))
-
-pub are-ordered : (xs : List Aimed) → IsSortedBy less_far xs → AreOrdered xs
-are-ordered xs up =
-    rising-pairs xs (λ i j d l m. sym (before-compared (site_at (get_or xs j d)) (site_at (get_or xs i d))) ∙ sorted_far less_far sites-ordered xs up i j d l m)
-
--- two sites of which neither is before the other are one
-tie : (s t : List ℕ) → (not (is_before s t) && not (is_before t s)) ≡ same_path s t
-tie [] [] = refl
-tie [] (y ∷ t) = refl
-tie (x ∷ s) [] = refl
-tie (x ∷ s) (y ∷ t) =
-    elim (cases_order x y) [
-      | inl same ↦ ap₂ (λ a b. not (a || (nat_eq x y && is_before s t)) && not (b || (nat_eq y x && is_before t s))) (le-ltb x y (omega (arith, same))) (le-ltb y x (omega (arith, same))) ∙ ap₂ (λ a b. not (a && is_before s t) && not (b && is_before t s)) (eq-eqb x y same) (eq-eqb y x (sym same)) ∙ tie s t ∙ ap (λ b. b && same_path s t) (sym (eq-eqb x y same))
-      | inr other ↦ elim other [
-        | inl less ↦ ap (λ a. not (a || (nat_eq x y && is_before s t)) && not (is_before (y ∷ t) (x ∷ s))) (lt-ltb x y less) ∙ ap (λ b. b && same_path s t) (sym (ne_eqb x y (λ e. absurd (omega (arith, e, less)))))
-        | inr over ↦ ap (λ b. not (is_before (x ∷ s) (y ∷ t)) && not (b || (nat_eq y x && is_before t s))) (lt-ltb y x over) ∙ none (not (is_before (x ∷ s) (y ∷ t))) ∙ ap (λ b. b && same_path s t) (sym (ne_eqb x y (λ e. absurd (omega (arith, e, over)))))
-      ]
-    ]
-  where
-    none : (b : Bool) → (b && false) ≡ false
-    none true = refl
-    none false = refl
-
-filter-alike : {X : Type 0} (p q : X → Bool) → ((x : X) → p x ≡ q x) → (xs : List X) → filter p xs ≡ filter q xs
-filter-alike p q same [] = refl
-filter-alike p q same (x ∷ xs) = ap₂ (λ b ys. cond b (x ∷ ys) ys) (same x) (filter-alike p q same xs)
+pub are-ordered : (xs : List Aimed) → IsSortedBy (less_by site_at) xs → AreOrdered xs
+are-ordered xs up = ascending-map (λ a. site (aim_in a.path a.form)) formed xs (ascending-sorted site_at xs up)
 
 filter-numbered : (p : NumberedAim → Bool) (xs : List Aimed) → filter p (aims_of xs) ≡ map numbered (filter (λ a. p (numbered a)) xs)
-filter-numbered p [] = refl
-filter-numbered p (x ∷ xs) =
-    ap (λ ys. cond (p (numbered x)) (numbered x ∷ ys) ys) (filter-numbered p xs) ∙ elim (p (numbered x)) as (λ b. cond b (numbered x ∷ map numbered (filter (λ a. p (numbered a)) xs)) (map numbered (filter (λ a. p (numbered a)) xs)) ≡ map numbered (cond b (x ∷ filter (λ a. p (numbered a)) xs) (filter (λ a. p (numbered a)) xs))) [
-      | true ↦ refl
-      | false ↦ refl
-    ]
+filter-numbered p xs = filter-map p (λ a. p (numbered a)) numbered xs (λ a. refl)
 
-passes-first : {X : Type 0} (p : X → Bool) (zs : List X) (x : X) (us : List X) → filter p zs ≡ x ∷ us → p x ≡ true
-passes-first p [] x us is = absurd (cc)
-passes-first {X} p (z ∷ zs) x us is = go (p z) refl is (passes-first p zs x us)
-  where
-    go : (b : Bool) → p z ≡ b → cond (p z) (z ∷ filter p zs) (filter p zs) ≡ x ∷ us → (filter p zs ≡ x ∷ us → p x ≡ true) → p x ≡ true
-    go true h e further =
-        let whole : z ∷ filter p zs ≡ x ∷ us = sym (ap (λ b. cond b (z ∷ filter p zs) (filter p zs)) h) ∙ e in
-        let same : z ≡ x = cc in
-        ap p (sym same) ∙ h
-    go false h e further = further (sym (ap (λ b. cond b (z ∷ filter p zs) (filter p zs)) h) ∙ e)
-
-module _ (xs ys : List Aimed) (stable : IsStableBy less_far xs ys) (s : List ℕ) where
-  by-one : (x : Aimed) → same_path s (site_at x) ≡ true → filter (λ a. same_path s (site_at a)) ys ≡ filter (λ a. same_path s (site_at a)) xs
-  by-one x is =
-      let same : s ≡ site_at x = same_path-true s (site_at x) is in
-      let ties_here : (a : Aimed) → same_path s (site_at a) ≡ ties less_far x a = λ a. ap (λ t. same_path t (site_at a)) same ∙ sym (tie (site_at x) (site_at a)) ∙ sym (ap₂ (λ b d. not b && not d) (before-compared (site_at x) (site_at a)) (before-compared (site_at a) (site_at x))) in
-      filter-alike (λ a. same_path s (site_at a)) (ties less_far x) ties_here ys ∙ stable x ∙ sym (filter-alike (λ a. same_path s (site_at a)) (ties less_far x) ties_here xs)
-
-  pub at-site : filter (λ a. same_path s (site_at a)) ys ≡ filter (λ a. same_path s (site_at a)) xs
-  at-site = go (filter (λ a. same_path s (site_at a)) ys) refl (filter (λ a. same_path s (site_at a)) xs) refl
-    where
-      go : (us : List Aimed) → filter (λ a. same_path s (site_at a)) ys ≡ us → (vs : List Aimed) → filter (λ a. same_path s (site_at a)) xs ≡ vs → filter (λ a. same_path s (site_at a)) ys ≡ filter (λ a. same_path s (site_at a)) xs
-      go (u ∷ us) is vs e = by-one u (passes-first (λ a. same_path s (site_at a)) ys u us is)
-      go [] is (v ∷ vs) e = by-one v (passes-first (λ a. same_path s (site_at a)) xs v vs e)
-      go [] is [] e = is ∙ sym e
-
-pub are-reordered : (xs ys : List Aimed) → IsPermutation xs ys → IsStableBy less_far xs ys → IsReordered (aims_of xs) (aims_of ys)
+pub are-reordered : (xs ys : List Aimed) → IsPermutation xs ys → IsStableBy (less_by site_at) xs ys → IsReordered (aims_of xs) (aims_of ys)
 are-reordered xs ys moved stable = record {
   each_once = IsPermutation-map numbered xs ys moved;
-  by_site = λ s. filter-numbered (λ c. same_path s (site c.1)) ys ∙ ap (map numbered) (at-site xs ys stable s) ∙ sym (filter-numbered (λ c. same_path s (site c.1)) xs);
+  by_site = λ s. filter-numbered (λ c. same_path s (site c.1)) ys ∙ ap (map numbered) (stable-at site_at xs ys stable s) ∙ sym (filter-numbered (λ c. same_path s (site c.1)) xs);
 }

@@ -30,6 +30,7 @@ use Rattle.one_pass.specs.inner.Built.{built, built_from}
 use Rattle.one_pass.specs.inner.Sweep.{key, From, IsBelow, BelowUpTo, EndsBelow, lowered, seen_at, parted, inside_child, gap_test, start_test, over_test, covered, in_gap, from_slot, in_slot, left, Rising}
 use Rattle.one_pass.proofs.Counted.{built-shifted}
 use Rattle.one_pass.proofs.OneAim.{as_formed, order-key, order-inside, behind-below, below-site, below-inside}
+use Rattle.one_pass.proofs.Ascending.{ascending-part}
 use Rattle.one_pass.proofs.Sweeping.{from-less}
 
 -- ---- the order
@@ -197,14 +198,7 @@ OthersBegin i [] = ⊤
 OthersBegin i (b ∷ xs) = IsBelow i b → ⊥
 
 pub rising-part : (run xs : List FormedAim) → Rising (run ++ xs) → Rising run × Rising xs
-rising-part [] xs h = (tt, h)
-rising-part (a ∷ run) xs h =
-    let later = rising-part run xs h.1 in
-    ((first run h.0, later.0), later.1)
-  where
-    first : (ys : List FormedAim) → AllByRecursion (λ b. is_before (site (aim_in b.path b.form)) (site (aim_in a.path a.form)) ≡ false) (ys ++ xs) → AllByRecursion (λ b. is_before (site (aim_in b.path b.form)) (site (aim_in a.path a.form)) ≡ false) ys
-    first [] k = tt
-    first (y ∷ ys) k = (k.0, first ys k.1)
+rising-part run xs h = ascending-part (λ a. site (aim_in a.path a.form)) run xs h
 
 all-after : (P : FormedAim → Type 0) (run xs : List FormedAim) → AllByRecursion P (run ++ xs) → AllByRecursion P xs
 all-after P [] xs h = h

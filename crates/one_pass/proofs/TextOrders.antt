@@ -1,6 +1,6 @@
 -- The order in which changes stand in a text, and what they take away.
 --     syntax-there                  an element that a path leads to
---     offset-after, offset-start    where an insert after an element is; where any other change starts
+--     offset-start                  where a change starts that is no insert after an element
 --     native-there, fits-there      what a change aims at is there
 --     range-next, range-none        a sibling more of a range; none is left
 --     pushed-each, both-there       a fact of each item of a list; items of two lists of one length
@@ -51,15 +51,6 @@ syntax-from (Some t) x s h = ap element_of (sym (same_Some _ s h)) ∙ element-a
 
 pub syntax-there : (e : Element) (p : Path) (s : SyntaxElement) → syntax_at e p ≡ Some s → element_of s ≡ element_at e p
 syntax-there e p s h = syntax-from (at e.root p) (element_at e p) s h
-
-pub offset-after : (root : Element) (c : Change) → aim c ≡ AfterElement (aim_path c) → offset root c ≡ end_of (element_at root (aim_path c))
-offset-after root (Insert (After e) x) h = refl
-offset-after root (InsertAll (After e) x) h = refl
-offset-after root (Insert (FirstChild n) x) h = absurd (cc)
-offset-after root (InsertAll (FirstChild n) x) h = absurd (cc)
-offset-after root (Replace t e) h = absurd (cc)
-offset-after root (ReplaceWithMany t es) h = absurd (cc)
-offset-after root (ReplaceAll first last es) h = absurd (cc)
 
 pub offset-start : (root : Element) (c : Change) → (aim c ≡ AfterElement (aim_path c) → ⊥) → offset root c ≡ start root.root (aim_path c)
 offset-start root (Insert (After e) x) h = absurd (h refl)

@@ -16,16 +16,6 @@ module _ {L : Type 0} (test : L → Bool) where
   tops i [] = []
   tops i (t ∷ ts) = map (λ p. i ∷ p) (topmost test t) ++ tops (suc i) ts
 
-  pub tops-append : (i : ℕ) (xs ys : List (Tree L)) → tops i (xs ++ ys) ≡ tops i xs ++ tops (i + length xs) ys
-  tops-append i [] ys =
-      let same : i ≡ i + 0 = omega arith in
-      ap (λ j. tops j ys) same
-  tops-append i (x ∷ xs) ys =
-      let own = map (λ p. i ∷ p) (topmost test x) in
-      let same : suc i + length xs ≡ i + suc (length xs) = omega arith in
-      let grouped : own ++ (tops (suc i) xs ++ tops (suc i + length xs) ys) ≡ own ++ tops (suc i) xs ++ tops (suc i + length xs) ys = simp append_assoc in
-      ap (λ ps. own ++ ps) (tops-append (suc i) xs ys) ∙ grouped ∙ ap (λ j. own ++ tops (suc i) xs ++ tops j ys) same
-
   -- ---- a node that does not pass
   abbrev passes : Tree L → Path → Bool
   passes t p = holds_at test t p && not (parent_holds test t p)

@@ -1,10 +1,7 @@
 -- What private calls cite, and the crates above for theirs: no contract that a user calls by names any of it.
-pub mod OneMore
-pub mod FewSought
 pub mod Sweep
 pub mod Pass
 pub mod OpenNodes
-pub mod Waiting
 pub mod Marked
 pub mod Built
 pub mod Lists

@@ -14,6 +14,7 @@ ghost use Rattle.one_pass.specs.inner.GivenTables.{HasPayloadMarks, FillsMarks};
 ghost use Rattle.one_pass.specs.inner.GivenTables.{TellsGiven, TellsMarks};
 ghost use Rattle.one_pass.specs.inner.GivenTables.{CountsElement, CountsEach, CountsOwner, CountsPayloads};
 ghost use Rattle.one_pass.specs.inner.Marks.{payload_sought};
+ghost use Rattle.one_pass.specs.inner.Sought.{AreInOrder};
 ghost use Rattle.one_pass.specs.inner.OwnerTables.{moved_dependent, IsFilled};
 
 use crate::by_depth::by_depth;
@@ -21,7 +22,7 @@ use crate::dependent::{Dependent, moved_aims};
 use crate::mark::Mark;
 use crate::marked_given::{GivenTable, MarkedGiven};
 use crate::pass::rewrite_element;
-use crate::sought::SoughtTable;
+use crate::sought::{Registered, has_none, sought_at};
 use crate::walk::Walk;
 use cst_core::{GreenElement, SyntaxElement};
 use edit_change::{Aimed, Change, Given, green_payload};
@@ -33,15 +34,17 @@ fn rewritten_element(
     walk: &mut Walk,
     element: &SyntaxElement,
     aims: &[Aimed],
-    index: &SoughtTable,
+    registered: &[Registered],
     given: &GivenTable,
 ) -> Result<GreenElement, AllocError>
+    requires { AreInOrder registered.now }
     ensures count { OnOk result (CountsElement aims.now element.now walk.old.builds walk.new.builds) }
     ensures tree { IfOk result (λ e. element_tree e ≡ element_rewritten given.now aims.now element.now) }
-    ensures marks { OnOk result (FindsElement given.now aims.now index.now element.now walk.old walk.new) }
+    ensures marks { OnOk result (FindsElement given.now aims.now registered.now element.now walk.old walk.new) }
 {
     let old = element.green(alloc)?;
-    let new = rewrite_element(alloc, walk, &old, aims, index.at(element), given)?;
+    let sought = sought_at(alloc, registered, element)?;
+    let new = rewrite_element(alloc, walk, &old, aims, &sought, given)?;
     Ok(new)
 }
 
@@ -50,13 +53,14 @@ fn rewritten_each<'a>(
     alloc: Global,
     elements: &[SyntaxElement],
     aims: &[Aimed],
-    index: &SoughtTable,
+    registered: &[Registered],
     given: &GivenTable,
     builds: &mut u64,
 ) -> Result<MarkedGiven<'a>, AllocError>
+    requires { AreInOrder registered.now }
     ensures count { OnOk result (CountsEach (aims_of aims.now) (map element_of elements.now) builds.old builds.new) }
     ensures trees { IfOk result (λ g. given_trees g.elements ≡ each_rewritten given.now aims.now elements.now) }
-    ensures marks { IfOk result (IsMarkedEach given.now aims.now index.now elements.now) }
+    ensures marks { IfOk result (IsMarkedEach given.now aims.now registered.now elements.now) }
 {
     // For the proof: the count at the start.
     let _count = *builds;
@@ -64,7 +68,7 @@ fn rewritten_each<'a>(
     let mut marks = Vec::new(alloc);
     for element in elements {
         let mut walk = Walk::begin(alloc, *builds);
-        let green = rewritten_element(alloc, &mut walk, element, aims, index, given)?;
+        let green = rewritten_element(alloc, &mut walk, element, aims, registered, given)?;
         *builds = walk.builds;
         greens.push(green)?;
         marks.push(walk.found)?;
@@ -79,12 +83,13 @@ fn rewritten_each<'a>(
 fn marked_payload<'a>(
     alloc: Global,
     change: &'a Change,
-    index: &SoughtTable,
+    registered: &[Registered],
 ) -> Result<MarkedGiven<'a>, AllocError>
+    requires { AreInOrder registered.now }
     ensures trees { IfOk result (λ g. given_trees g.elements ≡ map subtree (payload change.now)) }
-    ensures marks { IfOk result (λ g. IsMarked None g (payload_sought index.now (λ n. []) [] (payload change.now))) }
+    ensures marks { IfOk result (λ g. IsMarked None g (payload_sought registered.now (λ n. []) [] (payload change.now))) }
 {
-    if index.has_none(change.payload()) {
+    if has_none(registered, change.payload()) {
         return Ok(MarkedGiven {
             elements: green_payload(alloc, change)?,
             marks: Vec::new(alloc),
@@ -96,23 +101,31 @@ fn marked_payload<'a>(
     };
     // Nothing aims into it, so nothing is built.
     let mut builds = 0;
-    rewritten_each(alloc, change.payload(), &[], index, &nothing, &mut builds)
+    rewritten_each(
+        alloc,
+        change.payload(),
+        &[],
+        registered,
+        &nothing,
+        &mut builds,
+    )
 }
 
 // The payload of each change, by its number.
 fn payloads<'a>(
     alloc: Global,
     changes: &'a [Change],
-    index: &SoughtTable,
+    registered: &[Registered],
 ) -> Result<GivenTable<'a>, AllocError>
+    requires { AreInOrder registered.now }
     ensures top { IfOk result (λ t. t.top ≡ None) }
     ensures long { IfOk result (λ t. length t.entries.items ≡ length changes.now) }
     ensures payloads { IfOk result (λ t. (c : ℕ) → given_in t c ≡ map subtree (payload_of changes.now c)) }
-    ensures marks { IfOk result (HasPayloadMarks index.now changes.now) }
+    ensures marks { IfOk result (HasPayloadMarks registered.now changes.now) }
 {
     let mut entries = Vec::with_capacity(alloc, changes.len())?;
     for change in changes {
-        entries.push(marked_payload(alloc, change, index)?)?;
+        entries.push(marked_payload(alloc, change, registered)?)?;
     }
     Ok(GivenTable { entries, top: None })
 }
@@ -131,8 +144,9 @@ fn fill(
     changes: &[Change],
     owner: usize,
     dependents: &[Dependent],
-    index: &SoughtTable,
+    registered: &[Registered],
 ) -> Result<(), AllocError>
+    requires order { AreInOrder registered.now }
     requires there { owner < length changes.now }
     requires long { length filling.now.given.entries.items ≡ length changes.now }
     requires top { filling.now.given.top ≡ None }
@@ -142,7 +156,7 @@ fn fill(
     ensures filled { OnOk result
         (IsFilled changes.now owner (map moved_dependent dependents.now) filling.old.given filling.new.given) }
     ensures marks { OnOk result
-        (FillsMarks index.now changes.now filling.old.given filling.new.given owner dependents.now) }
+        (FillsMarks registered.now changes.now filling.old.given filling.new.given owner dependents.now) }
 {
     let aims = moved_aims(alloc, dependents)?;
     let payload = changes[owner].payload();
@@ -150,7 +164,7 @@ fn fill(
         alloc,
         payload,
         &aims,
-        index,
+        registered,
         &filling.given,
         &mut filling.builds,
     )?;
@@ -158,7 +172,7 @@ fn fill(
     Ok(())
 }
 
-/// What each change gives, by its number, with the marks of the elements that a table has, where another one has what
+/// What each change gives, by its number, with the marks of registered elements, where a table has what
 /// each change owns. `builds` counts the nodes that are built in the owners' payloads.
 ///
 /// An owner comes after all that is deeper. Takes time linear in the changes, but for sorting them by depth, and what the
@@ -167,17 +181,18 @@ pub(crate) fn given_table<'a>(
     alloc: Global,
     changes: &'a [Change],
     dependents: &[Vec<Dependent>],
-    index: &SoughtTable,
+    registered: &[Registered],
     builds: &mut u64,
 ) -> Result<GivenTable<'a>, AllocError>
-    requires { length dependents.now ≡ length changes.now }
+    requires order { AreInOrder registered.now }
+    requires long { length dependents.now ≡ length changes.now }
     ensures count { OnOk result (CountsPayloads changes.now dependents.now builds.old builds.new) }
     ensures top { IfOk result (λ t. t.top ≡ None) }
     ensures given { IfOk result (TellsGiven changes.now dependents.now) }
-    ensures marks { IfOk result (TellsMarks changes.now dependents.now index.now) }
+    ensures marks { IfOk result (TellsMarks changes.now dependents.now registered.now) }
 {
     let order = by_depth(alloc, changes)?;
-    let given = payloads(alloc, changes, index)?;
+    let given = payloads(alloc, changes, registered)?;
     let mut filling = Filling {
         given,
         builds: *builds,
@@ -188,7 +203,7 @@ pub(crate) fn given_table<'a>(
         if owned.is_empty() {
             continue;
         }
-        fill(alloc, &mut filling, changes, owner, owned, index)?;
+        fill(alloc, &mut filling, changes, owner, owned, registered)?;
     }
     *builds = filling.builds;
     Ok(filling.given)

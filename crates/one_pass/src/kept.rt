@@ -1,104 +1,41 @@
-//! The marks that are sought in an element in which nothing is changed.
+//! The marks that are sought in what is kept.
 
-ghost use Rattle.std.specs.Prelude.{◌≡◌, ◌<◌, length, OnOk};
-ghost use Rattle.one_pass.specs.inner.Pass.{FindsKept};
-ghost use Rattle.one_pass.specs.inner.Waiting.{WaitsFor, EntersKept, StaysRising, TakesAtMost, TakesLess};
+ghost use Rattle.std.specs.Prelude.{◌≡◌, map, OnOk};
+ghost use Rattle.green_tree.specs.GreenElement.{element_tree};
+ghost use Rattle.one_pass.specs.inner.Marked.{leads, kept_in, mark_below, marks_seen, Finds};
 
-use crate::mark::{Sought, marks_by_child, push_here};
-use crate::sought_list::SoughtList;
-use crate::walk::Walk;
-use green_tree::{GreenElement, GreenNode};
+use crate::mark::{Mark, Sought, push_mark};
+use green_tree::GreenElement;
 use std::alloc::{AllocError, Global};
 
-/// An element with marks sought in it, which waits until those before it are found.
-#[derive(Drop)]
-pub struct Waiting<'e, 's> {
-    pub element: &'e GreenElement,
-    /// As they are seen from the element.
-    pub sought: SoughtList<'s>,
-    /// How many slots the path of the node above has.
-    pub depth: usize,
-    pub slot: usize,
-}
-
-// The children of a node in which some mark is sought wait, the first of them last. The node's path has so many slots.
-fn push_waiting<'e, 's>(
-    alloc: Global,
-    waiting: &mut Vec<Waiting<'e, 's>>,
-    node: &'e GreenNode,
-    sought: &[Sought<'s>],
-    depth: usize,
-) -> Result<(), AllocError>
-    requires { 0 < length sought.now }
-    ensures marks { OnOk result (WaitsFor node.now sought.now depth waiting.old waiting.new) }
-    ensures order { OnOk result (StaysRising waiting.old waiting.new depth) }
-    ensures size { OnOk result (TakesAtMost waiting.old waiting.new node.now) }
+/// Whether a path leads from an element to a part of it.
+pub fn leads(element: &GreenElement, path: &[usize]) -> bool
+    ensures { result ≡ leads (element_tree element.now) path.now }
 {
-    let children = node.children();
-    let mut lists = marks_by_child(alloc, sought, children.len())?;
-    while let Some(inner) = lists.pop() {
-        let slot = lists.len();
-        if !inner.as_slice().is_empty() {
-            waiting.push(Waiting {
-                element: &children[slot],
-                sought: inner,
-                depth,
-                slot,
-            })?;
-        }
+    match element {
+        GreenElement::Node(node) => node.get(path).is_some(),
+        GreenElement::Token(_) => path.is_empty(),
     }
-    Ok(())
 }
 
-// The marks sought at an element, which is made at the walk's path. Those sought below it wait.
-fn enter<'e, 's>(
-    alloc: Global,
-    walk: &mut Walk,
-    waiting: &mut Vec<Waiting<'e, 's>>,
-    element: &'e GreenElement,
-    sought: &[Sought<'s>],
-) -> Result<(), AllocError>
-    ensures path { OnOk result (walk.new.path.items ≡ walk.old.path.items) }
-    ensures count { OnOk result (walk.new.builds ≡ walk.old.builds) }
-    ensures marks { OnOk result (EntersKept sought.now element.now walk.old waiting.old walk.new waiting.new) }
-    ensures order { OnOk result (StaysRising waiting.old waiting.new (length walk.old.path.items)) }
-    ensures size { OnOk result (TakesLess waiting.old waiting.new element.now) }
-{
-    if sought.is_empty() {
-        return Ok(());
-    }
-    push_here(alloc, &mut walk.found, &walk.path, sought)?;
-    let GreenElement::Node(node) = element else {
-        return Ok(());
-    };
-    push_waiting(alloc, waiting, node, sought, walk.path.len())
-}
-
-/// The marks sought in an element that nothing aims into, which is made at the walk's path.
+/// The marks sought in an element in which nothing is changed, which is made at a path: those whose paths lead somewhere. They
+/// are seen from the element, so many slots down their paths.
 pub fn push_kept(
     alloc: Global,
-    walk: &mut Walk,
+    found: &mut Vec<Mark>,
+    path: &[usize],
     element: &GreenElement,
+    depth: usize,
     sought: &[Sought],
 ) -> Result<(), AllocError>
-    ensures path { OnOk result (walk.new.path.items ≡ walk.old.path.items) }
-    ensures count { OnOk result (walk.new.builds ≡ walk.old.builds) }
-    ensures marks { OnOk result (FindsKept sought.now element.now walk.old walk.new) }
+    ensures { OnOk result (Finds found.old found.new
+        (map (mark_below path.now) (kept_in (element_tree element.now) (marks_seen depth sought.now)))) }
 {
-    let depth = walk.path.len();
-    let mut waiting = Vec::new(alloc);
-    enter(alloc, walk, &mut waiting, element, sought)?;
-    while let Some(next) = waiting.pop() {
-        walk.path.truncate(next.depth);
-        walk.path.push(next.slot)?;
-        enter(
-            alloc,
-            walk,
-            &mut waiting,
-            next.element,
-            next.sought.as_slice(),
-        )?;
+    for mark in sought {
+        let below = mark.path_from(depth);
+        if leads(element, below) {
+            push_mark(alloc, found, mark.number, path, below)?;
+        }
     }
-    walk.path.truncate(depth);
     Ok(())
 }

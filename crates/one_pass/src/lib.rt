@@ -4,7 +4,6 @@
 mod aim_list;
 mod by_depth;
 mod dependent;
-mod few_sought;
 mod given_table;
 mod kept;
 mod lists;
@@ -18,7 +17,6 @@ mod pushes;
 mod rewriting;
 mod site;
 mod sought;
-mod sought_list;
 mod text_changes;
 mod text_edit;
 mod walk;

@@ -16,15 +16,3 @@ pub fn empty_lists<T: Drop>(alloc: Global, count: usize) -> Result<Vec<Vec<T>>, 
     }
     Ok(lists)
 }
-
-/// An empty list for each of these numbers, with room for so many items.
-pub fn lists_with_room<T: Drop>(alloc: Global, rooms: &[usize]) -> Result<Vec<Vec<T>>, AllocError>
-    ensures size { IfOk result (λ v. length v.items ≡ length rooms.now) }
-    ensures empty { IfOk result (λ v. AreEmpty v.items) }
-{
-    let mut lists = Vec::with_capacity(alloc, rooms.len())?;
-    for room in rooms {
-        lists.push(Vec::with_capacity(alloc, *room)?)?;
-    }
-    Ok(lists)
-}

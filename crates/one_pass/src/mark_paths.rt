@@ -5,7 +5,7 @@ ghost use Rattle.one_pass.specs.inner.Marked.{marks_of};
 ghost use Rattle.edit_change.specs.Topmost.{paths_of};
 ghost use Rattle.one_pass.specs.inner.Marks.{paths_of_mark, ArePathsOf, HasPathMore, PathsStay, IsDealtOut, HasPathsMore};
 
-use crate::lists::lists_with_room;
+use crate::lists::empty_lists;
 use crate::mark::Mark;
 use std::alloc::{AllocError, Global};
 
@@ -55,19 +55,6 @@ fn deal(
     Ok(())
 }
 
-// How many marks there are of each number below this one: the room that their lists need.
-fn rooms(alloc: Global, marks: &[Mark], count: usize) -> Result<Vec<usize>, AllocError>
-    ensures { IfOk result (λ v. length v.items ≡ count) }
-{
-    let mut rooms: Vec<usize> = vec![in alloc; 0; count]?;
-    for mark in marks {
-        if let Some(room) = rooms.get_mut(mark.number) {
-            *room = room.saturating_add(1);
-        }
-    }
-    Ok(rooms)
-}
-
 /// Paths of marks in the new tree, by their numbers.
 #[derive(Drop)]
 pub(crate) struct MarkPaths {
@@ -87,7 +74,7 @@ pub(crate) fn mark_paths(
     ensures lists { IfOk result (λ p. ArePathsOf (marks_of marks.items) count p.lists.items) }
     ensures others { IfOk result (λ p. paths_of p.others.items ≡ paths_of_mark count (marks_of marks.items)) }
 {
-    let mut lists = lists_with_room(alloc, &rooms(alloc, &marks, count)?)?;
+    let mut lists = empty_lists(alloc, count)?;
     let mut others = Vec::new(alloc);
     for mark in marks {
         deal(&mut lists, &mut others, mark)?;

@@ -1,10 +1,10 @@
 //! `MarkedGiven`: what a change gives, with its marks; `GivenTable`: that of all changes.
 
-ghost use Rattle.std.specs.Prelude.{◌≡◌, ◌++◌, map, IfOk, OnOk};
-ghost use Rattle.one_pass.specs.inner.Marked.{mark_below, marks_of, Finds};
-ghost use Rattle.one_pass.specs.inner.Pass.{own_marks, marks_at_path};
+ghost use Rattle.std.specs.Prelude.{OnOk};
+ghost use Rattle.one_pass.specs.inner.Marked.{Finds};
+ghost use Rattle.one_pass.specs.inner.Pass.{marks_at_path};
 
-use crate::mark::Mark;
+use crate::mark::{Mark, push_mark};
 use edit_change::Given;
 use std::alloc::{AllocError, Global};
 
@@ -27,52 +27,6 @@ pub struct GivenTable<'a> {
     pub top: Option<usize>,
 }
 
-// The mark of the top of an element, which stands at this path, if it has one.
-fn push_top(
-    alloc: Global,
-    found: &mut Vec<Mark>,
-    path: &[usize],
-    top: Option<usize>,
-) -> Result<(), AllocError>
-    ensures { OnOk result (Finds found.old found.new (map (mark_below path.now) (own_marks top))) }
-{
-    let Some(number) = top else {
-        return Ok(());
-    };
-    let path = Vec::from_slice(alloc, path)?;
-    found.push(Mark { number, path })?;
-    Ok(())
-}
-
-// A path, and then a path from there on, in one list of their length.
-fn joined(alloc: Global, above: &[usize], below: &[usize]) -> Result<Vec<usize>, AllocError>
-    ensures { IfOk result (λ v. v.items ≡ above.now ++ below.now) }
-{
-    let mut all = Vec::with_capacity(alloc, above.len() + below.len())?;
-    all.extend_from_slice(above)?;
-    all.extend_from_slice(below)?;
-    Ok(all)
-}
-
-// These marks of an element, which stands at this path.
-fn push_below(
-    alloc: Global,
-    found: &mut Vec<Mark>,
-    path: &[usize],
-    marks: &[Mark],
-) -> Result<(), AllocError>
-    ensures { OnOk result (Finds found.old found.new (map (mark_below path.now) (marks_of marks.now))) }
-{
-    for mark in marks {
-        let path = joined(alloc, path, &mark.path)?;
-        found.push(Mark {
-            number: mark.number,
-            path,
-        })?;
-    }
-    Ok(())
-}
-
 impl<'a> MarkedGiven<'a> {
     // The marks of the element at this index, which stands at this path, with that of its top.
     pub(crate) fn push_marks_of(
@@ -85,9 +39,14 @@ impl<'a> MarkedGiven<'a> {
     ) -> Result<(), AllocError>
         ensures { OnOk result (Finds found.old found.new (marks_at_path path.now top self.now index)) }
     {
-        push_top(alloc, found, path, top)?;
-        if let Some(marks) = self.marks.get(index) {
-            push_below(alloc, found, path, marks)?;
+        if let Some(number) = top {
+            push_mark(alloc, found, number, path, &[])?;
+        }
+        let Some(marks) = self.marks.get(index) else {
+            return Ok(());
+        };
+        for mark in marks {
+            push_mark(alloc, found, mark.number, path, &mark.path)?;
         }
         Ok(())
     }

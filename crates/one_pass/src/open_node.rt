@@ -1,6 +1,6 @@
 //! A node that is made anew, as far as its children are made.
 
-use crate::sought_list::SoughtList;
+use crate::mark::Sought;
 use edit_change::Aimed;
 use green_tree::{GreenElement, SyntaxKind};
 
@@ -13,8 +13,8 @@ pub struct OpenNode<'e, 'a, 's, 'm> {
     pub depth: usize,
     /// The aims inside the node that are still to come, in document order.
     pub aims: &'s [Aimed<'a>],
-    /// The marks sought in each child, as they are seen from it.
-    pub lists: Vec<SoughtList<'m>>,
+    /// The marks sought inside the node that are still to come, in document order.
+    pub sought: &'s [Sought<'m>],
     /// What is made of the children before a slot, with what changes give up to there.
     pub out: Vec<GreenElement>,
     pub slot: usize,

@@ -1,21 +1,20 @@
 //! Nodes that are made anew, each inside the one before it.
 
-ghost use Rattle.std.specs.Prelude.{ℕ, ◌≡◌, ◌≤◌, ◌<◌, ◌+◌, ◌∷◌, [], ◌++◌, suc, length, IfOk, OnOk, MatchOption};
+ghost use Rattle.std.specs.Prelude.{◌≡◌, ◌≤◌, ◌<◌, ◌+◌, ◌∷◌, [], ◌++◌, suc, length, IfOk, OnOk, MatchOption};
 ghost use Rattle.green_tree.specs.Tree.{node};
 ghost use Rattle.green_tree.specs.GreenElement.{element_tree, element_trees};
 ghost use Rattle.green_tree.specs.Count.{counted};
-ghost use Rattle.one_pass.specs.inner.Marked.{sought_in, sought_for};
-ghost use Rattle.one_pass.specs.declared.walk.Walk.{Walk};
+ghost use Rattle.one_pass.specs.inner.Marked.{mark_seen, marks_seen, InPathOrder};
 ghost use Rattle.one_pass.specs.inner.Sweep.{seen_at, From};
 ghost use Rattle.one_pass.specs.inner.OpenNodes.{InOrder, IsNodeOpened, IsFurther, IsShared, PutsNext, IsPassed, IsToOpen, IsLeft, IsEnded, IsNext};
-ghost use Rattle.one_pass.specs.inner.OpenNodes.{Enters, PutsMade, FindsWholeNode, to_build, whole};
+ghost use Rattle.one_pass.specs.inner.OpenNodes.{FindsShared, Enters, PutsMade, FindsWholeNode, to_build, whole};
 
-use crate::mark::{Sought, marks_by_child, push_here, sought_for};
+use crate::kept::leads;
+use crate::mark::{Sought, marks_before, push_mark};
 use crate::marked_given::GivenTable;
 use crate::open_node::OpenNode;
-use crate::pushes::{push_change, push_child};
+use crate::pushes::push_change;
 use crate::site::{Site, one_deeper, run_inside, site_of};
-use crate::sought_list::SoughtList;
 use crate::walk::Walk;
 use edit_change::Aimed;
 use green_tree::{GreenElement, GreenNode, SyntaxKind, share_all};
@@ -35,105 +34,91 @@ fn build_node(
     Ok(GreenElement::Node(GreenNode::capped(alloc, kind, children)?))
 }
 
-/// A node is opened, at a depth, where it is made at the walk's path. All aims are inside it.
+/// A node is opened, at a depth, where it is made at the walk's path. All aims are inside it, and all marks in it.
 pub fn open_node<'e, 'a, 's, 'm>(
     alloc: Global,
     walk: &mut Walk,
     node: &'e GreenNode,
     depth: usize,
     aims: &'s [Aimed<'a>],
-    sought: &[Sought<'m>],
+    sought: &'s [Sought<'m>],
 ) -> Result<OpenNode<'e, 'a, 's, 'm>, AllocError>
+    requires { InPathOrder (marks_seen depth sought.now) }
     ensures path { OnOk result (walk.new.path.items ≡ walk.old.path.items) }
     ensures count { OnOk result (walk.new.builds ≡ walk.old.builds) }
-    ensures opened { IfOk result (IsNodeOpened node.now depth aims.now (sought_in sought.now) walk.old walk.new) }
+    ensures opened { IfOk result (IsNodeOpened node.now depth aims.now (marks_seen depth sought.now) walk.old walk.new) }
 {
-    push_here(alloc, &mut walk.found, &walk.path, sought)?;
+    let here = marks_before(sought, depth, 0);
+    for mark in &sought[..here] {
+        push_mark(alloc, &mut walk.found, mark.number, &walk.path, &[])?;
+    }
     let elements = node.children();
-    let lists = marks_by_child(alloc, sought, elements.len())?;
     let out = Vec::with_capacity(alloc, elements.len())?;
     Ok(OpenNode {
         kind: node.kind(),
         elements,
         depth,
         aims,
-        lists,
+        sought: &sought[here..],
         out,
         slot: 0,
         passed: 0,
     })
 }
 
-// The child in the slot is shared, if it stays, where nothing aims at it or before it.
-fn share_next(alloc: Global, walk: &mut Walk, top: &mut OpenNode) -> Result<(), AllocError>
-    requires within { top.old.slot < length top.old.elements.now }
-    requires ahead { From (suc (suc (top.old.slot + top.old.slot))) (seen_at top.old.depth top.old.aims.now) }
-    ensures { OnOk result (IsShared (top.old.slot + 1) walk.old walk.new top.old top.new) }
+// A mark sought inside a child is found, where the children from a slot on are shared. If it leads nowhere, it is not.
+fn push_shared(
+    alloc: Global,
+    walk: &mut Walk,
+    top: &OpenNode,
+    first: usize,
+    mark: &Sought,
+) -> Result<(), AllocError>
+    ensures path { OnOk result (walk.new.path.items ≡ walk.old.path.items) }
+    ensures count { OnOk result (walk.new.builds ≡ walk.old.builds) }
+    ensures marks { OnOk result (FindsShared walk.old walk.new top.now first (mark_seen top.now.depth mark.now)) }
 {
-    // For the proof: there is a number for the next slot.
-    let _count = top.elements.len();
-    let slot = top.slot;
-    top.slot = slot + 1;
-    if slot < top.passed {
+    let [slot, below @ ..] = mark.path_from(top.depth) else {
+        return Ok(());
+    };
+    if *slot < first {
         return Ok(());
     }
-    let elements = top.elements;
-    let sought = sought_for(&top.lists, slot);
-    push_child(alloc, walk, &mut top.out, &elements[slot], sought)?;
-    Ok(())
-}
-
-// The first slot from one on in which a mark is sought, or the last one that is asked about.
-fn quiet_end(lists: &[SoughtList], from: usize, until: usize) -> usize
-    requires { from ≤ until }
-    ensures least { from ≤ result }
-    ensures most { result ≤ until }
-    ensures quiet { (k : ℕ) → from ≤ k → k < result → sought_for lists.now k ≡ [] }
-{
-    let mut slot = from;
-    while slot < until {
-        if !sought_for(lists, slot).is_empty() {
-            return slot;
-        }
-        slot += 1;
+    let Some(child) = top.elements.get(*slot) else {
+        return Ok(());
+    };
+    if !leads(child, below) {
+        return Ok(());
     }
-    slot
-}
-
-// Children in which no mark is sought are shared in one go, since most children of a wide node are such.
-fn share_quiet(alloc: Global, top: &mut OpenNode, until: usize) -> Result<(), AllocError>
-    requires within { until ≤ length top.old.elements.now }
-    requires next { top.old.slot ≤ until }
-    requires ahead { From (until + until) (seen_at top.old.depth top.old.aims.now) }
-    ensures least { OnOk result (top.old.slot ≤ top.new.slot) }
-    ensures most { OnOk result (top.new.slot ≤ until) }
-    ensures shared { OnOk result ((w : Walk) → IsShared top.new.slot w w top.old top.new) }
-{
-    let end = quiet_end(&top.lists, top.slot, until);
-    let first = top.slot.max(top.passed).min(end);
-    let elements = top.elements;
-    share_all(alloc, &mut top.out, &elements[first..end])?;
-    top.slot = end;
+    walk.path.push(top.out.len() + (*slot - first))?;
+    push_mark(alloc, &mut walk.found, mark.number, &walk.path, below)?;
+    walk.path.pop();
     Ok(())
 }
 
-// The children before a slot that are still to come are shared, where nothing aims before it.
+// The children before a slot that are still to come are shared at once, where nothing aims before it, with the marks in them.
 fn share_until(
     alloc: Global,
     walk: &mut Walk,
     top: &mut OpenNode,
     until: usize,
 ) -> Result<(), AllocError>
+    requires order { InOrder top.old }
     requires within { until ≤ length top.old.elements.now }
     requires next { top.old.slot ≤ until }
     requires ahead { From (until + until) (seen_at top.old.depth top.old.aims.now) }
     ensures { OnOk result (IsShared until walk.old walk.new top.old top.new) }
 {
-    share_quiet(alloc, top, until)?;
-    while top.slot < until {
-        share_next(alloc, walk, top)?;
-        share_quiet(alloc, top, until)?;
+    let first = top.slot.max(top.passed).min(until);
+    let sought = top.sought;
+    let end = marks_before(sought, top.depth, until);
+    for mark in &sought[..end] {
+        push_shared(alloc, walk, top, first, mark)?;
     }
+    top.sought = &sought[end..];
+    let elements = top.elements;
+    share_all(alloc, &mut top.out, &elements[first..until])?;
+    top.slot = until;
     Ok(())
 }
 
@@ -237,7 +222,7 @@ fn push_on<'e>(
     Ok(None)
 }
 
-// The child that a node has come to is opened, with the aims inside it. Those after it stay.
+// The child that a node has come to is opened, with the aims and the marks inside it. Those after it stay.
 fn open_child<'e, 'a, 's, 'm>(
     alloc: Global,
     walk: &mut Walk,
@@ -249,14 +234,18 @@ fn open_child<'e, 'a, 's, 'm>(
     ensures count { OnOk result (walk.new.builds ≡ walk.old.builds) }
     ensures entered { IfOk result (Enters node.now walk.old walk.new above.old above.new) }
 {
+    // For the proof: there is a number for the next slot.
+    let _count = above.elements.len();
     let aims = above.aims;
+    let sought = above.sought;
     let depth = one_deeper(&aims[0], above.depth);
     let end = run_inside(aims, above.depth, above.slot);
+    let last = marks_before(sought, above.depth, above.slot + 1);
     let inside = &aims[..end];
     above.aims = &aims[end..];
+    above.sought = &sought[last..];
     walk.path.push(above.out.len())?;
-    let sought = sought_for(&above.lists, above.slot);
-    open_node(alloc, walk, node, depth, inside, sought)
+    open_node(alloc, walk, node, depth, inside, &sought[..last])
 }
 
 // The child in the slot, which was made at the walk's path, goes after what is made before it. The walk is at the node again.

@@ -2,12 +2,13 @@
 
 ghost use Rattle.std.specs.Prelude.{◌≡◌, IfOk, OnOk};
 ghost use Rattle.green_tree.specs.GreenElement.{element_tree, element_trees};
+ghost use Rattle.one_pass.specs.inner.Marked.{marks_seen, InPathOrder};
 ghost use Rattle.one_pass.specs.inner.Pass.{TouchesAtMost, CountsBuilt, CountsBuiltWhole, CountsTouched};
 ghost use Rattle.one_pass.specs.inner.Pass.{green_rewritten, green_rewritten_whole, FindsRewritten, FindsWhole};
 
 use crate::aim_list::{alter_some, in_order, top_is_replaced};
 use crate::kept::push_kept;
-use crate::mark::{Mark, Sought, push_here};
+use crate::mark::{Mark, Sought};
 use crate::marked_given::GivenTable;
 use crate::open_nodes::{open_node, rewrite_open};
 use crate::pushes::push_tops;
@@ -18,12 +19,12 @@ use std::alloc::{AllocError, Global};
 
 /// The element made anew by changes whose aims are counted from it: `given` has what each change gives, by its number.
 /// The marks of the new element go to the end of those that the walk has found, in document order, with paths that
-/// begin with the walk's: `sought` has those of the old element.
+/// begin with the walk's: `sought` has those of the old element, in document order too.
 ///
 /// Only the nodes above an aim are built, and what no aim is in or below is shared; the walk counts the nodes, exactly,
 /// up to its greatest number. An aim over the top itself is passed over: see `rewrite_whole`. Takes time linear in the
-/// aims times their depth, the children of the nodes that are built or above a sought mark, the children that are
-/// replaced, and the lengths of the marks' paths.
+/// aims times their depth, the children of the nodes that are built, the children that are replaced, and the lengths of
+/// the marks' paths.
 pub fn rewrite_element(
     alloc: Global,
     walk: &mut Walk,
@@ -32,6 +33,7 @@ pub fn rewrite_element(
     sought: &[Sought],
     given: &GivenTable,
 ) -> Result<GreenElement, AllocError>
+    requires { InPathOrder (marks_seen 0 sought.now) }
     ensures path { OnOk result (walk.new.path.items ≡ walk.old.path.items) }
     ensures builds { OnOk result (TouchesAtMost aims.now element.now walk.old.builds walk.new.builds) }
     ensures count { OnOk result (CountsBuilt aims.now element.now walk.old.builds walk.new.builds) }
@@ -42,11 +44,11 @@ pub fn rewrite_element(
     // For the proof: the count at the start.
     let _count = walk.builds;
     if !alter_some(aims) {
-        push_kept(alloc, walk, element, sought)?;
+        push_kept(alloc, &mut walk.found, &walk.path, element, 0, sought)?;
         return element.share(alloc);
     }
     let GreenElement::Node(node) = element else {
-        push_here(alloc, &mut walk.found, &walk.path, sought)?;
+        push_kept(alloc, &mut walk.found, &walk.path, element, 0, sought)?;
         return element.share(alloc);
     };
     let sorted = in_order(alloc, aims)?;
@@ -71,6 +73,7 @@ pub fn rewrite_whole(
     given: &GivenTable,
     builds: &mut u64,
 ) -> Result<RewrittenElements, AllocError>
+    requires { InPathOrder (marks_seen 0 sought.now) }
     ensures builds { OnOk result (TouchesAtMost aims.now element.now builds.old builds.new) }
     ensures count { OnOk result (CountsBuiltWhole aims.now element.now builds.old builds.new) }
     ensures whole { OnOk result (CountsTouched aims.now element.now builds.old builds.new) }

@@ -1,14 +1,11 @@
 //! What is put after the children that a new node has so far.
 
-ghost use Rattle.std.specs.Prelude.{◌≡◌, [], ◌∷◌, flat_map, OnOk};
-ghost use Rattle.green_tree.specs.GreenElement.{element_tree};
+ghost use Rattle.std.specs.Prelude.{◌≡◌, [], flat_map, OnOk};
 ghost use Rattle.edit_change.specs.inner.Given.{given_trees};
-ghost use Rattle.one_pass.specs.inner.Pass.{given_in, Puts, FindsGiven, FindsChange, FindsAll, FindsChild};
+ghost use Rattle.one_pass.specs.inner.Pass.{given_in, Puts, FindsGiven, FindsChange, FindsAll};
 ghost use Rattle.edit_change.specs.Rewriting.{replacements_at};
 ghost use Rattle.edit_change.specs.inner.Aimed.{aims_of};
 
-use crate::kept::push_kept;
-use crate::mark::Sought;
 use crate::marked_given::{GivenTable, MarkedGiven};
 use crate::walk::Walk;
 use edit_change::Aimed;
@@ -77,28 +74,5 @@ pub fn push_tops(
             push_change(alloc, walk, out, given, aim.change())?;
         }
     }
-    Ok(())
-}
-
-/// A child that nothing alters goes after the children that the node at the walk's path has so far, with the marks
-/// sought in it. Where there are none, it is not looked into.
-pub fn push_child(
-    alloc: Global,
-    walk: &mut Walk,
-    out: &mut Vec<GreenElement>,
-    child: &GreenElement,
-    sought: &[Sought],
-) -> Result<(), AllocError>
-    ensures path { OnOk result (walk.new.path.items ≡ walk.old.path.items) }
-    ensures count { OnOk result (walk.new.builds ≡ walk.old.builds) }
-    ensures trees { OnOk result (Puts out.old out.new (element_tree child.now ∷ [])) }
-    ensures marks { OnOk result (FindsChild walk.old out.old walk.new sought.now child.now) }
-{
-    if !sought.is_empty() {
-        walk.path.push(out.len())?;
-        push_kept(alloc, walk, child, sought)?;
-        walk.path.pop();
-    }
-    out.push(child.share(alloc)?)?;
     Ok(())
 }

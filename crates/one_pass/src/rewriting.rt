@@ -13,13 +13,14 @@ ghost use Rattle.edit_change.specs.inner.DocumentOrder.{IsDocumentOrder};
 ghost use Rattle.edit_change.specs.inner.Targets.{target_at};
 ghost use Rattle.one_pass.specs.inner.Root.{CountsAllOf, IsOnePassOf, KeepsTop};
 ghost use Rattle.one_pass.specs.inner.Root.{root_rewritten, FindsInRoot, CountsRoot};
+ghost use Rattle.one_pass.specs.inner.Sought.{AreInOrder};
 
 use crate::dependent::dependents;
 use crate::given_table::given_table;
 use crate::mark_paths::mark_paths;
 use crate::marked_given::GivenTable;
 use crate::pass::{RewrittenElements, rewrite_whole};
-use crate::sought::SoughtTable;
+use crate::sought::{Registered, in_document_order, sought_at};
 use cst_core::{GreenNode, SyntaxElement, SyntaxNode};
 use edit_change::{Aimed, Change, Fate, Planned, node_for_root, numbered_aim, only_node};
 use std::alloc::{AllocError, Global};
@@ -65,11 +66,11 @@ pub fn rewrite(
     } = planned;
     let aims = independent_aims(alloc, changes, fates)?;
     let dependents = dependents(alloc, changes, fates, places)?;
-    let index = SoughtTable::of(alloc, registered)?;
-    let mut given = given_table(alloc, changes, &dependents, &index, builds)?;
+    let sought = in_document_order(alloc, registered)?;
+    let mut given = given_table(alloc, changes, &dependents, &sought, builds)?;
     given.top = Some(registered.len());
     let RewrittenElements { elements, marks } = rewritten_root(
-        alloc, root, &aims, &index, &given, builds,
+        alloc, root, &aims, &sought, &given, builds,
     )?;
     keep_top(root, changes);
     let paths = mark_paths(alloc, marks, registered.len())?;
@@ -99,23 +100,24 @@ pub(crate) fn independent_aims<'a>(
     Ok(aims)
 }
 
-// What stands in the place of the root, with the marks of it: those of a table, and those of what changes give.
+// What stands in the place of the root, with the marks of it: those of registered elements, and those of what changes give.
 fn rewritten_root(
     alloc: Global,
     root: &SyntaxNode,
     aims: &[Aimed],
-    index: &SoughtTable,
+    registered: &[Registered],
     given: &GivenTable,
     builds: &mut u64,
 ) -> Result<RewrittenElements, AllocError>
+    requires { AreInOrder registered.now }
     ensures count { OnOk result (CountsRoot root.now aims.now builds.old builds.new) }
     ensures trees { IfOk result (λ r. element_trees r.elements.items ≡ root_rewritten root.now aims.now given.now) }
-    ensures marks { IfOk result (λ r. FindsInRoot root.now aims.now given.now index.now r.marks) }
+    ensures marks { IfOk result (λ r. FindsInRoot root.now aims.now given.now registered.now r.marks) }
 {
     let root = SyntaxElement::Node(root.try_clone(alloc)?);
     let old = root.green(alloc)?;
-    let sought = index.at(&root);
-    let rewritten = rewrite_whole(alloc, &old, aims, sought, given, builds)?;
+    let sought = sought_at(alloc, registered, &root)?;
+    let rewritten = rewrite_whole(alloc, &old, aims, &sought, given, builds)?;
     Ok(rewritten)
 }
 

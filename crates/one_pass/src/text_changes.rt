@@ -20,7 +20,6 @@ use crate::mark::Mark;
 use crate::marked_given::{GivenTable, MarkedGiven};
 use crate::pass::rewrite_whole;
 use crate::rewriting::independent_aims;
-use crate::sought::SoughtTable;
 use crate::text_edit::TextEdit;
 use cst_core::{GreenElement, GreenElementRef, GreenNode, SyntaxElement, SyntaxNode};
 use edit_change::{Aimed, Change, Given, Planned, aim_path, slot_after};
@@ -254,9 +253,8 @@ pub fn text_edits(alloc: Global, planned: Planned<'_>) -> Result<Vec<TextEdit>, 
     } = planned;
     let aims = independent_aims(alloc, changes, fates)?;
     let dependents = dependents(alloc, changes, fates, places)?;
-    let index = SoughtTable::of(alloc, &[])?;
     let mut builds = 0;
-    let given = given_table(alloc, changes, &dependents, &index, &mut builds)?;
+    let given = given_table(alloc, changes, &dependents, &[], &mut builds)?;
     let order = in_text_order(alloc, root, changes, &aims)?;
     edits_in_order(alloc, root, changes, &given, &order)
 }

@@ -1,4 +1,4 @@
-//! Prints all that the editor says of scripts, in the format of tests/model.py: the answer of `syned`, and of a plan its text, its text edits,
+//! Prints all that the editor says of scripts, in the format of tests/models.py: the answer of `syned`, and of a plan its text, its text edits,
 //! the edit by each engine, in each order to try, and the tree after each step of each order to walk. The standard input is a batch of scripts.
 //! A script with the line `ends` is also run over readers and writers that fail, one with the line `endless` over a reader without end.
 #![tactic(auto)]

@@ -9,8 +9,8 @@ use Rattle.green_tree.specs.Path.{Path, parent_path, last_slot}
 use Rattle.green_tree.specs.Tree.{Token, Node, SyntaxTree, trees, at}
 use Rattle.edit_change.specs.declared.aimed.AimForm.{AimForm}
 use Rattle.edit_change.specs.declared.aimed.AimForm.TheVariants.{FirstIn, AfterElement, Over}
-use Rattle.edit_steps.specs.declared.stage.done.Among.{Among}
-use Rattle.edit_steps.specs.declared.stage.done.Among.TheVariants.{Gap, Slots}
+use Rattle.edit_steps.specs.declared.stage.among.Among.{Among}
+use Rattle.edit_steps.specs.declared.stage.among.Among.TheVariants.{Gap, Slots}
 use Rattle.edit_steps.specs.declared.stage.aim_target.OldChild.{OldChild}
 use Rattle.edit_steps.specs.declared.stage.aim_target.AimTarget.{AimTarget}
 

@@ -1,35 +1,22 @@
--- What the changes done at a node say of its gaps and slots.
---     kept_slots                     how many slots before one are not replaced
---     put_before                     how much the gaps and the slots before one hold
---     Counts                         changes tell, for each gap and slot of a node, how many children were replaced before it, and how much was put there
---     in_slot                        how much aims put into a slot: nothing where it is not replaced
---     IsCounted                      changes tell so of what aims replace and put there
-use Rattle.std.specs.Prelude.{◌≡◌, ◌≤◌, ◌+◌, ℕ, zero, suc, Bool, cond, List, [], ◌∷◌, ◌++◌, flat_map, length}
+-- What is told of a node's gaps and slots.
+--     Counts                         it is told how much each gap and each slot of a node holds; past the last child there is a gap alone
+--     slot_width                     how much aims leave in a slot: its child, or what replaces it
+--     IsCounted                      so it is told what aims leave there
+use Rattle.std.specs.Prelude.{◌≡◌, ◌≤◌, ◌<◌, ◌+◌, ℕ, cond, List, [], ◌∷◌, ◌++◌, flat_map, length}
 use Rattle.green_tree.specs.Path.{Path}
 use Rattle.green_tree.specs.Tree.{SyntaxTree}
 use Rattle.edit_change.specs.Rewriting.{NumberedAim, replacements_at, is_replaced, gap}
 use Rattle.edit_change.specs.inner.KindOnly.{kind_only}
-use Rattle.edit_steps.specs.declared.stage.done.Among.TheVariants.{Gap, Slots}
-use Rattle.edit_steps.specs.declared.stage.done.Done.{Done}
-use Rattle.edit_steps.specs.inner.Starts.{removed, added}
+use Rattle.edit_steps.specs.inner.Widths.{Held}
 
--- of a node's slots it is told whether they are replaced, and of its gaps and slots how much they hold
-abbrev pub kept_slots : (ℕ → Bool) → ℕ → ℕ
-kept_slots replaced zero = 0
-kept_slots replaced (suc i) = kept_slots replaced i + cond (replaced i) 0 1
+pub record Counts (in_gap in_slot : ℕ → ℕ) (count : ℕ) (h : Held) : Type 0 where
+  pub widths : (i : ℕ) → i < count → h.widths i ≡ in_gap i + in_slot i
+  pub last : h.widths count ≡ in_gap count + 1
+  pub gaps : (i : ℕ) → i ≤ count → h.gaps i ≡ in_gap i
 
-abbrev pub put_before : (ℕ → ℕ) → (ℕ → ℕ) → ℕ → ℕ
-put_before gaps slots zero = 0
-put_before gaps slots (suc i) = put_before gaps slots i + gaps i + slots i
+abbrev pub slot_width : (ℕ → List SyntaxTree) → List NumberedAim → Path → ℕ
+slot_width given cs p = cond (is_replaced cs p) (length (flat_map given (replacements_at cs p))) 1
 
-pub record Counts (replaced : ℕ → Bool) (gaps slots : ℕ → ℕ) (count : ℕ) (ds : List Done) : Type 0 where
-  pub taken : (i : ℕ) → i ≤ count → removed ds i + kept_slots replaced i ≡ i
-  pub to_gap : (i : ℕ) → i ≤ count → added ds (Gap i) ≡ put_before gaps slots i
-  pub to_slot : (i n : ℕ) → i ≤ count → added ds (Slots i n) ≡ put_before gaps slots i + gaps i
-
-abbrev pub in_slot : (ℕ → List SyntaxTree) → List NumberedAim → Path → ℕ
-in_slot given cs p = cond (is_replaced cs p) (length (flat_map given (replacements_at cs p))) 0
-
-abbrev pub IsCounted : (ℕ → List SyntaxTree) → List NumberedAim → Path → ℕ → List Done → Type 0
-IsCounted given cs p count ds =
-    Counts (λ i. is_replaced cs (p ++ i ∷ [])) (λ i. length (gap kind_only given cs p i)) (λ i. in_slot given cs (p ++ i ∷ [])) count ds
+abbrev pub IsCounted : (ℕ → List SyntaxTree) → List NumberedAim → Path → ℕ → Held → Type 0
+IsCounted given cs p count h =
+    Counts (λ i. length (gap kind_only given cs p i)) (λ i. slot_width given cs (p ++ i ∷ [])) count h

@@ -1,36 +1,37 @@
 -- Elements put where a change aims in the old tree, in the tree as it stands after these changes.
---     CanPut                         what it aims at is there, and no more was replaced before it than there was
+--     current_path                   the path in the new element of what has a path in the old one, where nothing on the way is replaced
+--     CanPut                         what it aims at is there, and so many children are
 --     put                            the tree with these put there
---     CanPutIn                       these can be put in an element, in code
---     IsPlaceOf                      where they go there: so many children of the node at a path, from a slot on
-use Rattle.std.specs.Prelude.{◌≡◌, ◌≤◌, ℕ, List, ◌∷◌, ◌++◌}
+--     IsPlaceOf                      where they go in an element, in code: among the children of the node at a path, from a slot on
+use Rattle.std.specs.Prelude.{◌≡◌, ◌≤◌, ◌+◌, ◌^◌, List, [], ◌∷◌, length, Some}
 use Rattle.green_tree.specs.Path.{Path}
-use Rattle.green_tree.specs.Tree.{SyntaxTree}
-use Rattle.green_tree.specs.GreenElement.{element_tree}
-use Rattle.green_tree.specs.declared.green.GreenElement.{GreenElement}
-use Rattle.edit_steps.specs.declared.stage.done.Among.{Among}
-use Rattle.edit_steps.specs.declared.stage.done.Done.{Done}
-use Rattle.edit_steps.specs.declared.stage.place.Splice.{Splice}
+use Rattle.green_tree.specs.Tree.{SyntaxTree, trees}
+use Rattle.edit_steps.specs.declared.stage.among.Among.{Among}
+use Rattle.edit_steps.specs.declared.stage.among.Among.TheVariants.{Slots}
+use Rattle.edit_steps.specs.declared.stage.aim_target.AimTarget.{AimTarget}
 use Rattle.edit_steps.specs.declared.stage.place.Place.{Place}
-use Rattle.edit_steps.specs.inner.Starts.{index_of, count_of, removed, start}
-use Rattle.edit_steps.specs.inner.CurrentPaths.{current_path, done_at}
+use Rattle.edit_steps.specs.declared.stage.visited.VisitedNodes.{VisitedNodes}
+use Rattle.edit_steps.specs.inner.Widths.{Held, index_of, count_of, start}
+use Rattle.edit_steps.specs.inner.Visited.{number_at}
 use Rattle.green_tree.specs.inner.Splices.{spliced, updated_at, CanSplice}
 
+-- by what each node holds, from the top down
+abbrev pub current_path : (Path → Held) → Path → Path
+current_path held [] = []
+current_path held (i ∷ p) = start (held []) (Slots i 1) ∷ current_path (λ q. held (i ∷ q)) p
+
 -- below the node at a path of the old tree, among its children
-module _ (t : SyntaxTree) (done : Path → List Done) (p : Path) (at : Among) where
+module _ (t : SyntaxTree) (held : Path → Held) (p : Path) (at : Among) where
   pub record CanPut : Type 0 where
-    pub on_the_way : (q : Path) (i : ℕ) (r : Path) → q ++ i ∷ r ≡ p → removed (done q) i ≤ i
-    pub at_its_end : removed (done p) (index_of at) ≤ index_of at
-    pub there : CanSplice t (current_path done p) (start (done p) at) (count_of at)
+    pub there : CanSplice t (current_path held p) (start (held p) at) (count_of at)
+    pub wide : (held p).widths (index_of at) ≤ length (trees there.below) + 1
 
   abbrev pub put : List SyntaxTree → SyntaxTree
-  put ts = updated_at t (current_path done p) (spliced (start (done p) at) (count_of at) ts)
+  put ts = updated_at t (current_path held p) (spliced (start (held p) at) (count_of at) ts)
 
 -- ---- in code
-abbrev pub CanPutIn : GreenElement → Splice → Type 0
-CanPutIn e s = CanPut (element_tree e) (done_at s.done.now) s.target.now.parent.now s.target.now.at
-
-pub record IsPlaceOf (s : Splice) (place : Place) : Type 0 where
-  pub path : place.path.items ≡ current_path (done_at s.done.now) s.target.now.parent.now
-  pub first : place.first ≡ start (done_at s.done.now s.target.now.parent.now) s.target.now.at
-  pub count : place.count ≡ count_of s.target.now.at
+pub record IsPlaceOf (held : Path → Held) (target : AimTarget) (v : VisitedNodes) (place : Place) : Type 0 where
+  pub path : place.path.items ≡ current_path held target.parent.now
+  pub first : place.first ≡ start (held target.parent.now) target.at
+  pub node : number_at v target.parent.now ≡ Some place.node
+  pub wide : (held target.parent.now).widths (index_of target.at) ≤ 2 ^ 63

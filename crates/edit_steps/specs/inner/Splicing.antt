@@ -5,7 +5,6 @@
 --     CountsStepIn                   how a count rises by the nodes that this builds
 --     OthersStay                     the other payloads are as they were
 --     CanSplice, Splices, SpliceStays, CountsSplice      the same in the payload of this owner, or in the tree
---     RestStays                      all that is not a tree is as it was
 --     AimsAtTop                      if a change replaces the root, it has no owner, and aims at the top
 --     PutsRoot                       what a change gives is the new root, if it replaces the root
 use Rattle.std.specs.Prelude.{◌≡◌, ◌≢◌, ◌<◌, ℕ, true, List, ◌∷◌, [], length, slice_index_or, Option, Some, None, IsSomeAnd, MatchBool}
@@ -65,10 +64,6 @@ module _ (before after : Stages) where
   abbrev pub CountsSplice : Option ℕ → NumberedAim → Type 0
   CountsSplice None a = StageCountsStep before.tree a before.builds after.builds
   CountsSplice (Some o) a = CountsStepIn before.payloads.items o a before.builds after.builds
-
-  pub record RestStays : Type 0 where
-    pub new_root : after.new_root ≡ before.new_root
-    pub waiting : after.waiting ≡ before.waiting
 
 -- ---- a change that replaces the root
 abbrev pub AimsAtTop : Change → Option ℕ → NumberedAim → Type 0

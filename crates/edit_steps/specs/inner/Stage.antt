@@ -16,7 +16,7 @@ use Rattle.edit_change.specs.Rewriting.{NumberedAim, inserts_at, is_replaced, ga
 use Rattle.edit_change.specs.inner.KindOnly.{kind_only}
 use Rattle.edit_steps.specs.StepCount.{step_builds}
 use Rattle.edit_steps.specs.declared.stage.Stage.{Stage}
-use Rattle.edit_steps.specs.inner.CurrentPaths.{done_at, IsDoneTable}
+use Rattle.edit_steps.specs.inner.Visited.{held_at, IsVisited}
 use Rattle.edit_steps.specs.inner.Counts.{IsCounted}
 
 abbrev pub old_tree : Stage → SyntaxTree
@@ -27,8 +27,8 @@ present_tree s = element_tree s.current
 
 pub record IsStage (given : ℕ → List SyntaxTree) (cs : List NumberedAim) (s : Stage) : Type 0 where
   pub tree : present_tree s ≡ rewritten kind_only given cs [] (old_tree s)
-  pub counted : (p : Path) (k : ℕ) (f : Forest ℕ) → at (old_tree s) p ≡ Some (Node k f) → IsCounted given cs p (length (trees f)) (done_at s.done p)
-  pub table : IsDoneTable s.done
+  pub counted : (p : Path) (k : ℕ) (f : Forest ℕ) → at (old_tree s) p ≡ Some (Node k f) → IsCounted given cs p (length (trees f)) (held_at s.visited p)
+  pub visited : IsVisited s.visited
 
 -- ---- what can be done next
 pub record IsNext (xs : List NumberedAim) (c : NumberedAim) (ys : List NumberedAim) : Type 0 where

@@ -2,9 +2,10 @@
 
 ghost use Rattle.std.specs.Prelude.{◌≡◌, ◌<◌, ◌+◌, ◌^◌, option_map, IfSome};
 ghost use Rattle.green_tree.specs.GreenElement.{element_tree};
+ghost use Rattle.edit_steps.specs.inner.Widths.{index_of, count_of};
 ghost use Rattle.edit_steps.specs.inner.AimTargets.{child_count, child_at, child_of, live_target, site_of};
 
-use crate::stage::done::Among;
+use crate::stage::among::Among;
 use edit_change::{AimForm, Aimed};
 use green_tree::{GreenElement, GreenElementRef};
 
@@ -39,7 +40,8 @@ fn child_count(element: &GreenElement, path: &[usize]) -> Option<usize>
 // The child at this path. The top is none.
 fn child_at<'a>(element: &GreenElement, path: &'a [usize]) -> Option<OldChild<'a>>
     ensures child { option_map child_of result ≡ child_at (element_tree element.now) path.now }
-    ensures fits { IfSome result (λ c. c.slot + 1 < 2 ^ 64) }
+    ensures some { IfSome result (λ c. 0 < c.left) }
+    ensures fits { IfSome result (λ c. c.slot + c.left < 2 ^ 64) }
 {
     let [parent @ .., slot] = path else {
         return None;
@@ -59,7 +61,8 @@ impl<'a> AimTarget<'a> {
     // Where an aim alters the element. `None` where its node, its gap or its first slot is not there. Of a range the slots
     // count that are there.
     pub(crate) fn of(element: &GreenElement, aim: &Aimed<'a>) -> Option<AimTarget<'a>>
-        ensures { option_map site_of result ≡ live_target (element_tree element.now) aim.now.path.now aim.now.form }
+        ensures site { option_map site_of result ≡ live_target (element_tree element.now) aim.now.path.now aim.now.form }
+        ensures fits { IfSome result (λ t. index_of t.at + count_of t.at < 2 ^ 64) }
     {
         match aim.form {
             AimForm::FirstIn => {

@@ -3,7 +3,6 @@
 ghost use Rattle.std.specs.Prelude.{◌≡◌, [], ◌∷◌, map, IfOk};
 ghost use Rattle.green_tree.specs.Green.{branch_tree};
 ghost use Rattle.green_tree.specs.GreenElement.{element_tree, element_trees};
-ghost use Rattle.edit_change.specs.inner.Given.{given_trees};
 ghost use Rattle.edit_change.specs.inner.Fate.{fate};
 ghost use Rattle.edit_steps.specs.inner.Payload.{BeginsPayload, BeginPayloads, payload_trees};
 ghost use Rattle.edit_change.specs.inner.OneNode.{IsOneNode};
@@ -55,16 +54,6 @@ fn one(alloc: Global, element: GreenElement) -> Result<Vec<GreenElement>, AllocE
     Ok(only)
 }
 
-// What a change gives, as elements of its own.
-fn own_elements(alloc: Global, given: Given) -> Result<Vec<GreenElement>, AllocError>
-    ensures { IfOk result (λ v. element_trees v.items ≡ given_trees given.entry) }
-{
-    match given {
-        Given::Borrowed(element) => one(alloc, element.share(alloc)?),
-        Given::Shared(elements) => Ok(elements),
-    }
-}
-
 /// What a change gives: its payload as it stands now, or, where no change can be carried out in that, as it was recorded.
 pub(crate) fn given_elements(
     alloc: Global,
@@ -75,6 +64,9 @@ pub(crate) fn given_elements(
 {
     match payload {
         Some(stage) => one(alloc, stage.element().share(alloc)?),
-        None => own_elements(alloc, green_payload(alloc, change)?),
+        None => match green_payload(alloc, change)? {
+            Given::Borrowed(element) => one(alloc, element.share(alloc)?),
+            Given::Shared(elements) => Ok(elements),
+        },
     }
 }

@@ -30,10 +30,11 @@ use Rattle.one_pass.specs.declared.marked_given.MarkedGiven.{MarkedGiven}
 use Rattle.edit_change.specs.declared.change.Change.{Change}
 use Rattle.edit_change.specs.NewTree.{payload_of, dependents}
 use Rattle.edit_change.specs.TouchedNodes.{touched_each, touched_in, Raises}
-use Rattle.one_pass.specs.inner.Marks.{IsTableOf, element_sought, payload_sought, with_answer, marks_given}
+use Rattle.one_pass.specs.inner.Sought.{IsTableOf}
+use Rattle.one_pass.specs.inner.Marks.{element_sought, payload_sought, with_answer, marks_given}
 use Rattle.one_pass.specs.inner.OwnerTables.{moved_dependent, AreDependents, AreGiven}
 use Rattle.one_pass.specs.declared.dependent.Dependent.{Dependent}
-use Rattle.one_pass.specs.declared.sought.SoughtTable.{SoughtTable}
+use Rattle.one_pass.specs.declared.sought.Registered.{Registered}
 use Rattle.one_pass.specs.declared.walk.Walk.{Walk}
 
 -- ---- elements, rewritten by what a table has
@@ -44,21 +45,21 @@ module _ (table : GivenTable) (aims : List Aimed) where
   abbrev pub each_rewritten : List SyntaxElement → List SyntaxTree
   each_rewritten es = map (rewritten kind_only (given_in table) (aims_of aims) []) (map subtree (map element_of es))
 
-  abbrev pub FindsElement : SoughtTable → SyntaxElement → Walk → Walk → Type 0
+  abbrev pub FindsElement : List Registered → SyntaxElement → Walk → Walk → Type 0
   FindsElement index e before after =
       (trees : ℕ → List MarkTree) → AreMarkedIn table trees →
       FindsHere before after (marked (element_sought index trees (aims_of aims) (element_of e)))
 
-  abbrev pub IsMarkedEach : SoughtTable → List SyntaxElement → MarkedGiven → Type 0
+  abbrev pub IsMarkedEach : List Registered → List SyntaxElement → MarkedGiven → Type 0
   IsMarkedEach index es g =
       (trees : ℕ → List MarkTree) → AreMarkedIn table trees →
       IsMarked None g (payload_sought index trees (aims_of aims) (map element_of es))
 
-abbrev pub HasPayloadMarks : SoughtTable → List Change → GivenTable → Type 0
+abbrev pub HasPayloadMarks : List Registered → List Change → GivenTable → Type 0
 HasPayloadMarks index changes table = AreMarkedIn table (λ c. payload_sought index (λ n. []) [] (payload_of changes c))
 
 -- ---- one owner
-module _ (index : SoughtTable) (changes : List Change) (before after : GivenTable) where
+module _ (index : List Registered) (changes : List Change) (before after : GivenTable) where
   abbrev pub FillsMarks : ℕ → List Dependent → Type 0
   FillsMarks owner owned =
       (trees : ℕ → List MarkTree) → AreMarkedIn before trees →
@@ -69,7 +70,7 @@ module _ (changes : List Change) (owned : List (Vec Dependent Global)) where
   abbrev pub TellsGiven : GivenTable → Type 0
   TellsGiven table = (places : ℕ → Path) → AreDependents changes places owned → AreGiven changes places table
 
-  abbrev pub TellsMarks : SoughtTable → GivenTable → Type 0
+  abbrev pub TellsMarks : List Registered → GivenTable → Type 0
   TellsMarks index table =
       (places : ℕ → Path) (rs : List Address) → AreDependents changes places owned → IsTableOf rs index →
       AreMarkedIn table (marks_given rs changes places)

@@ -1,8 +1,7 @@
 -- Where registered elements stand in what changes give and in the new tree, as marks.
 --     with_marks                    a tree labelled by the numbers of the registered elements that its elements were copied from
 --     marks_given                   what a change gives, so labelled
---     IsTableOf                     a table of registered elements has at each address what it should
---     element_sought, payload_sought      an element, rewritten, with what a table has there as marks; several
+--     element_sought, payload_sought      an element, rewritten, with the marks of registered elements; several
 --     with_answer                     another answer for one change
 --     paths_of_mark                 of marks in the trees that stand in a place, the paths of one mark in its tree
 --     ArePathsOf                    n lists have the paths of these marks, each those of its number
@@ -19,9 +18,9 @@ use Rattle.one_pass.specs.inner.Marked.{MarkTree, Marking, mark_of, wanted}
 use Rattle.one_pass.specs.declared.mark.Mark.{Mark}
 use Rattle.edit_change.specs.Topmost.{paths_of}
 use Rattle.edit_change.specs.NewTree.{OriginTree, given}
-use Rattle.one_pass.specs.inner.Sought.{sought_from, sought_at, registered_at}
+use Rattle.one_pass.specs.inner.Sought.{sought_at, registered_at}
 use Rattle.edit_change.specs.declared.change.Change.{Change}
-use Rattle.one_pass.specs.declared.sought.SoughtTable.{SoughtTable}
+use Rattle.one_pass.specs.declared.sought.Registered.{Registered}
 
 abbrev pub with_marks : List Address → OriginTree → MarkTree
 with_marks rs t = relabelled (λ o. registered_at rs o.address) t
@@ -29,13 +28,10 @@ with_marks rs t = relabelled (λ o. registered_at rs o.address) t
 abbrev pub marks_given : List Address → List Change → (ℕ → Path) → ℕ → List MarkTree
 marks_given rs changes places c = map (with_marks rs) (given changes places c)
 
-abbrev pub IsTableOf : List Address → SoughtTable → Type 0
-IsTableOf rs index = (a : Address) → sought_at index a ≡ sought_from 0 rs a
-
-abbrev pub element_sought : SoughtTable → (ℕ → List MarkTree) → List NumberedAim → Element → MarkTree
+abbrev pub element_sought : List Registered → (ℕ → List MarkTree) → List NumberedAim → Element → MarkTree
 element_sought index trees cs e = rewritten (wanted (sought_at index (address e))) trees cs [] (subtree e)
 
-abbrev pub payload_sought : SoughtTable → (ℕ → List MarkTree) → List NumberedAim → List Element → List MarkTree
+abbrev pub payload_sought : List Registered → (ℕ → List MarkTree) → List NumberedAim → List Element → List MarkTree
 payload_sought index trees cs es = map (element_sought index trees cs) es
 
 abbrev pub with_answer : (ℕ → List MarkTree) → ℕ → List MarkTree → ℕ → List MarkTree

@@ -1,5 +1,5 @@
 -- Nodes that are made anew, each inside the one before it, as far as their children are made.
---     coming                        the aims that are still to come, as they are seen from the node
+--     coming, sought_in             the aims that are still to come, and the sought marks, as they are seen from the node
 --     child_made, to_come, past     what is made of a child by the aims inside it; what is still to be put; what comes after the child in the slot
 --     child_built, nothing, to_build, past_built      how many nodes are built for them: a child is its own, what is given none
 --     to_do, past_do                how many elements are left; without the child in the slot
@@ -8,8 +8,9 @@
 --     wholes, path_to               what the first of several becomes around this tree; the path of the node inside them
 --     found_above, built_above      the marks that all of them still find; how many nodes are built for them
 --     InOrder                       the aims that are to come are ahead, in document order
---     IsSameNode                    a node, and the marks sought in its children, stay
+--     IsSameNode                    a node stays
 --     found_with, IsFurther         what is due is put, and its marks are found, or it is still to come
+--     carried_to, FindsShared       where a sought mark goes, if the children from a slot on are shared from a place on; it is found there
 --     IsShared                      the children before a slot are shared
 --     PutsNext                      what the next aim's change gives is put
 --     IsPassed, IsToOpen            the child in the slot is replaced, or a token; it is this node, and stays
@@ -18,7 +19,8 @@
 --     IsNodeOpened, Enters          a node is opened with its aims; a child with those inside it
 --     PutsMade                      a child that was made is put
 --     FindsWholeNode                the marks that are to come are found
-use Rattle.std.specs.Prelude.{◌≡◌, ◌<◌, ◌≤◌, ◌⊎◌, ℕ, suc, ◌+◌, List, [], ◌∷◌, ◌++◌, map, drop, length, get_or, sum}
+use Rattle.std.specs.Prelude.{◌≡◌, ◌<◌, ◌≤◌, ◌⊎◌, ℕ, suc, ◌+◌, ◌-◌, cond, nat_lt, List, [], ◌∷◌, ◌++◌, map, drop, length, get_or, slice_get, sum}
+use Rattle.std.specs.Option.{option_map_or}
 use Rattle.std.specs.List.{AllByRecursion}
 use Rattle.green_tree.specs.Path.{Path}
 use Rattle.green_tree.specs.Tree.{Tree, SyntaxTree, forest, node}
@@ -35,17 +37,20 @@ use Rattle.one_pass.specs.declared.marked_given.GivenTable.{GivenTable}
 use Rattle.one_pass.specs.declared.open_node.OpenNode.{OpenNode}
 use Rattle.one_pass.specs.declared.walk.Walk.{Walk}
 use Rattle.one_pass.specs.inner.Built.{nodes_built}
-use Rattle.one_pass.specs.inner.Marked.{MarkTree, Marking, marked_from, mark_below, marks_of, sought_for, wanted, marks_at, AreDealt}
+use Rattle.one_pass.specs.inner.Marked.{MarkTree, Marking, marked_from, mark_below, marks_of, marks_seen, leads, sought_below, wanted, marks_at, InPathOrder, FromChild, Finds}
 use Rattle.one_pass.specs.inner.Pass.{AreMarkedIn, given_in, Puts, FindsChange}
 use Rattle.one_pass.specs.inner.Sweep.{lowered, seen_at, left, Rising, From, IsBelow}
 
 abbrev pub coming : OpenNode → List FormedAim
 coming f = seen_at f.depth f.aims.now
 
+abbrev pub sought_in : OpenNode → List Marking
+sought_in f = marks_seen f.depth f.sought.now
+
 -- ---- what is still to be put
 module _ {L : Type 0} (label : List Marking → Path → ℕ → L) (given : ℕ → List (Tree L)) (f : OpenNode) where
   abbrev pub child_made : ℕ → List FormedAim → GreenElement → Tree L
-  child_made i xs e = rewritten (label (sought_for f.lists.items i)) given (map of_formed xs) [] (element_tree e)
+  child_made i xs e = rewritten (label (sought_below i (marks_seen f.depth f.sought.now))) given (map of_formed xs) [] (element_tree e)
 
   abbrev pub to_come : List (Tree L)
   to_come = left given child_made f.passed (seen_at f.depth f.aims.now) f.slot (drop f.slot f.elements.now)
@@ -104,12 +109,13 @@ pub record InOrder (f : OpenNode) : Type 0 where
   pub within : f.slot ≤ length f.elements.now
   pub rising : Rising (seen_at f.depth f.aims.now)
   pub begins : From (f.slot + f.slot) (seen_at f.depth f.aims.now)
+  pub ascending : InPathOrder (marks_seen f.depth f.sought.now)
+  pub from : FromChild f.slot (marks_seen f.depth f.sought.now)
 
 pub record IsSameNode (f g : OpenNode) : Type 0 where
   pub kind : g.kind ≡ f.kind
   pub elements : g.elements ≡ f.elements
   pub depth : g.depth ≡ f.depth
-  pub lists : g.lists ≡ f.lists
 
 -- the marks found so far, and those that are to come
 abbrev pub found_with : (ℕ → List MarkTree) → Walk → Path → OpenNode → List Marking
@@ -127,12 +133,23 @@ module _ (table : GivenTable) (before after : Walk) (f g : OpenNode) where
     pub built : to_build g ≡ to_build f
     pub size : to_do g ≤ to_do f
 
+abbrev pub carried_to : ℕ → ℕ → List GreenElement → ℕ → Path → List Marking
+carried_to place first es n [] = []
+carried_to place first es n (i ∷ p) =
+    cond (nat_lt i first) [] (option_map_or (λ e. cond (leads (element_tree e) p) ((n, (place + (i - first)) ∷ p) ∷ []) []) (slice_get es i) [])
+
+abbrev pub FindsShared : Walk → Walk → OpenNode → ℕ → Marking → Type 0
+FindsShared before after f first m =
+    Finds before.found after.found (map (mark_below before.path.items) (carried_to (length f.out.items) first f.elements.now m.0 m.1))
+
 module _ (until : ℕ) (before after : Walk) (f g : OpenNode) where
   pub record IsShared : Type 0 where
     pub same : IsSameNode f g
     pub aims : g.aims ≡ f.aims
     pub passed : g.passed ≡ f.passed
     pub slot : g.slot ≡ until
+    pub ascending : InPathOrder (marks_seen g.depth g.sought.now)
+    pub from : FromChild until (marks_seen g.depth g.sought.now)
     pub path : after.path.items ≡ before.path.items
     pub count : after.builds ≡ before.builds
     pub trees : (given : ℕ → List SyntaxTree) → element_trees g.out.items ++ to_come (λ ms. kind_only) given g ≡ element_trees f.out.items ++ to_come (λ ms. kind_only) given f
@@ -145,6 +162,7 @@ module _ (table : GivenTable) (before after : Walk) (f g : OpenNode) where
     pub aim : Aimed
     pub aims : f.aims.now ≡ aim ∷ g.aims.now
     pub same : IsSameNode f g
+    pub sought : g.sought ≡ f.sought
     pub slot : g.slot ≡ f.slot
     pub passed : g.passed ≡ f.passed
     pub path : after.path.items ≡ before.path.items
@@ -181,13 +199,15 @@ pub record IsNodeOpened (b : Branch) (way : ℕ) (xs : List Aimed) (sought : Lis
   pub elements : element_trees f.elements.now ≡ b.children
   pub depth : f.depth ≡ way
   pub aims : f.aims.now ≡ xs
-  pub lists : AreDealt sought (length f.elements.now) f.lists.items
+  pub ascending : InPathOrder (marks_seen way f.sought.now)
+  pub from : FromChild 0 (marks_seen way f.sought.now)
+  pub sought_are : (i : ℕ) → sought_below i (marks_seen way f.sought.now) ≡ sought_below i sought
   pub out : f.out.items ≡ []
   pub slot : f.slot ≡ 0
   pub passed : f.passed ≡ 0
   pub found : marks_of after.found.items ≡ marks_of before.found.items ++ map (λ n. (n, after.path.items)) (marks_at sought [])
 
--- the aims of a node are those inside the child that is opened, and those behind it
+-- the aims of a node are those inside the child that is opened, and those behind it, and so are the marks
 pub record Enters (b : Branch) (before after : Walk) (f g inner : OpenNode) : Type 0 where
   pub same : IsSameNode f g
   pub slot : g.slot ≡ f.slot
@@ -196,10 +216,14 @@ pub record Enters (b : Branch) (before after : Walk) (f g inner : OpenNode) : Ty
   pub parts : f.aims.now ≡ inner.aims.now ++ g.aims.now
   pub inside : AllByRecursion (IsBelow f.slot) (seen_at f.depth inner.aims.now)
   pub behind : From (suc f.slot + suc f.slot) (seen_at f.depth g.aims.now)
-  pub opened : IsNodeOpened b (f.depth + 1) inner.aims.now (sought_for f.lists.items f.slot) before after inner
+  pub ascending : InPathOrder (marks_seen f.depth g.sought.now)
+  pub from : FromChild (suc f.slot) (marks_seen f.depth g.sought.now)
+  pub sought_are : (i : ℕ) → suc f.slot ≤ i → sought_below i (marks_seen f.depth g.sought.now) ≡ sought_below i (marks_seen f.depth f.sought.now)
+  pub opened : IsNodeOpened b (f.depth + 1) inner.aims.now (sought_below f.slot (marks_seen f.depth f.sought.now)) before after inner
 
 pub record PutsMade (made : GreenElement) (before after : Walk) (f g : OpenNode) : Type 0 where
   pub same : IsSameNode f g
+  pub sought : g.sought ≡ f.sought
   pub aims : g.aims ≡ f.aims
   pub passed : g.passed ≡ f.passed
   pub slot : g.slot ≡ suc f.slot

@@ -9,13 +9,10 @@
 --     Puts                          trees that are put after others
 --     FindsNext                     a walk finds the marks of trees that are put next
 --     FindsGiven, FindsChange, FindsAll          it finds those of an entry, of a change, of several
---     FindsChild                    it finds those of an untouched element that is put next
---     kept_marks                    an untouched element, labelled by the marks that are sought in it
 --     TouchesAtMost, CountsBuilt, CountsBuiltWhole      how a count of built nodes rises
 --     CountsTouched                 how it rises where all that is touched is built
 --     green_rewritten, green_rewritten_whole          the tree that a pass makes; what stands in the place of an element
 --     FindsHere                     a walk finds marks, whose paths are counted from its own
---     FindsKept                     it finds those of an untouched element
 --     FindsRewritten, FindsWhole      it finds those of a rewritten element; those of what stands in its place are found
 use Rattle.edit_change.specs.inner.KindOnly.{kind_only}
 use Rattle.std.specs.Prelude.{◌≡◌, ◌<◌, ◌≤◌, ◌+◌, ℕ, List, [], ◌∷◌, ◌++◌, map, flat_map, length, get_or, slice_get, Option, Some, None, Vec}
@@ -31,7 +28,7 @@ use Rattle.edit_change.specs.Effort.{touched, parents_of}
 use Rattle.one_pass.specs.inner.Built.{nodes_built, nodes_built_whole, AreBuilt}
 use Rattle.edit_change.specs.Rewriting.{rewritten, rewritten_whole}
 use Rattle.edit_change.specs.inner.Aimed.{aims_of}
-use Rattle.one_pass.specs.inner.Marked.{MarkTree, Marking, marked, marked_from, mark_below, marks_of, sought_in, wanted, Finds}
+use Rattle.one_pass.specs.inner.Marked.{MarkTree, Marking, marked, marked_from, mark_below, marks_of, marks_seen, wanted, Finds}
 use Rattle.edit_change.specs.declared.aimed.Aimed.{Aimed}
 use Rattle.one_pass.specs.declared.mark.Mark.{Mark}
 use Rattle.one_pass.specs.declared.walk.Walk.{Walk}
@@ -71,9 +68,6 @@ marks_at_path path top g i = map (mark_below path) (marks_there top g i)
 abbrev pub Puts : Vec GreenElement Global → Vec GreenElement Global → List SyntaxTree → Type 0
 Puts before after ts = element_trees after.items ≡ element_trees before.items ++ ts
 
-abbrev pub kept_marks : List Sought → GreenElement → MarkTree
-kept_marks sought e = rewritten (wanted (sought_in sought)) (λ c. []) [] [] (element_tree e)
-
 -- below the node at the path of a walk, which has these children so far
 module _ (before : Walk) (out : Vec GreenElement Global) (after : Walk) where
   abbrev pub FindsNext : List MarkTree → Type 0
@@ -87,9 +81,6 @@ module _ (before : Walk) (out : Vec GreenElement Global) (after : Walk) where
 
   abbrev pub FindsAll : GivenTable → List ℕ → Type 0
   FindsAll table cs = (trees : ℕ → List MarkTree) → AreMarkedIn table trees → FindsNext (flat_map trees cs)
-
-  abbrev pub FindsChild : List Sought → GreenElement → Type 0
-  FindsChild sought e = FindsNext (kept_marks sought e ∷ [])
 
 -- ---- what the pass makes of an element
 abbrev pub TouchesAtMost : List Aimed → GreenElement → ℕ → ℕ → Type 0
@@ -116,17 +107,14 @@ green_rewritten_whole table aims e = rewritten_whole kind_only (given_in table) 
 abbrev pub FindsHere : Walk → Walk → List Marking → Type 0
 FindsHere before after ms = Finds before.found after.found (map (mark_below before.path.items) ms)
 
-abbrev pub FindsKept : List Sought → GreenElement → Walk → Walk → Type 0
-FindsKept sought e before after = FindsHere before after (marked (kept_marks sought e))
-
 module _ (table : GivenTable) (aims : List Aimed) (sought : List Sought) where
   abbrev pub FindsRewritten : GreenElement → Walk → Walk → Type 0
   FindsRewritten e before after =
       (trees : ℕ → List MarkTree) → AreMarkedIn table trees →
-      FindsHere before after (marked (rewritten (wanted (sought_in sought)) trees (aims_of aims) [] (element_tree e)))
+      FindsHere before after (marked (rewritten (wanted (marks_seen 0 sought)) trees (aims_of aims) [] (element_tree e)))
 
   abbrev pub FindsWhole : GreenElement → Vec Mark Global → Type 0
   FindsWhole e found =
       (trees : ℕ → List MarkTree) → AreMarkedIn table trees →
       marks_of found.items ≡
-      marked_from 0 (rewritten_whole (wanted (sought_in sought)) trees (aims_of aims) (element_tree e))
+      marked_from 0 (rewritten_whole (wanted (marks_seen 0 sought)) trees (aims_of aims) (element_tree e))

@@ -35,7 +35,7 @@ use Rattle.edit_change.specs.TouchedNodes.{Raises, touched_by}
 use Rattle.edit_change.specs.declared.change.Change.{Change}
 use Rattle.edit_change.specs.declared.planned.Planned.{Planned}
 use Rattle.edit_change.specs.inner.OwnerPlaces.{places_in}
-use Rattle.one_pass.specs.declared.sought.SoughtTable.{SoughtTable}
+use Rattle.one_pass.specs.declared.sought.Registered.{Registered}
 use Rattle.one_pass.specs.inner.GivenTables.{ArePayloadsBuilt}
 use Rattle.one_pass.specs.declared.rewriting.OnePass.{OnePass}
 
@@ -73,7 +73,7 @@ module _ (root : Element) (aims : List Aimed) where
   abbrev pub root_rewritten : GivenTable → List SyntaxTree
   root_rewritten table = rewritten_whole kind_only (given_in table) (aims_of aims) (subtree root)
 
-  abbrev pub FindsInRoot : GivenTable → SoughtTable → Vec Mark Global → Type 0
+  abbrev pub FindsInRoot : GivenTable → List Registered → Vec Mark Global → Type 0
   FindsInRoot table index found =
       (trees : ℕ → List MarkTree) → AreMarkedIn table trees →
       marks_of found.items ≡ marked_from 0 (rewritten_whole (wanted (sought_at index (address root))) trees (aims_of aims) (subtree root))

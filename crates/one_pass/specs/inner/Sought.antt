@@ -1,75 +1,52 @@
--- Registered elements, as they are sought in the trees that are rewritten. The mark of a registration is its number.
---     path_below                    what is left of a path after another one, if it begins with that
---     sought_one                    a registered element, if it is at an address or below it, with the path from there
---     sought_from                   of these registered elements, numbered from here on, all that are
---     addresses                     the addresses of elements in code
---     listed_at, sought_at, sought_at_all          what a table lists for a cell; what it has at an address; at these elements, one after another
---     registered_at                 the numbers of the registered elements that are at an address
---     IsSoughtTable                 such a table, which lists nothing for cells that there are not
---     HasSameLists                  it lists the same for each cell
---     HasListedMore                 one mark more in the list of a cell
---     HasMarkMore                   one mark more at the address with this path
---     IsMarkEntered                 one mark more at the cell below another one, at a slot
---     HasRegisteredMore             one registered element more, at itself and at all that is above it
-use Rattle.std.specs.Prelude.{◌≡◌, ◌<◌, ℕ, suc, nat_eq, cond, List, [], ◌∷◌, ◌++◌, map, flat_map, Option, Some, None}
-use Rattle.std.specs.Option.{option_map_or}
+-- Registered elements in document order, as they are sought in the trees that are rewritten. The mark of one is its number.
+--     addresses, registered_at      the addresses of elements; the numbers of the registered elements that are at an address
+--     as_registered                 one in code, by its number and its address
+--     place_of, AreInOrder          the number of its tree, and then its path; these are one after another
+--     begins_with, within           a path begins with another one; those at an address or below it
+--     sought_at, sought_at_all      their marks, with the paths from there; at these elements, one after another
+--     below                         the address at a path below another one
+--     IsTableOf                     those in code have below each address what is registered there
+use Rattle.std.specs.Prelude.{◌≡◌, ℕ, Bool, List, ◌∷◌, ◌++◌, map, filter, flat_map, take, drop, length}
+use Rattle.std.specs.List.{enumerate_from}
 use Rattle.cst_core.specs.Path.{Path, same_path}
-use Rattle.cst_core.specs.Element.{Address, Element, address}
+use Rattle.cst_core.specs.Element.{Address, Element, address, same_address}
 use Rattle.cst_core.specs.inner.InTree.{address_path}
 use Rattle.cst_core.specs.SyntaxElement.{element_of}
 use Rattle.cst_core.specs.declared.element.SyntaxElement.{SyntaxElement}
-use Rattle.path_table.specs.inner.PathTable.{cell_below, cell_at, size, IsTree, IsGrown}
-use Rattle.one_pass.specs.inner.Marked.{Marking, sought_for, marks_at}
-use Rattle.one_pass.specs.declared.sought.SoughtTable.{SoughtTable}
-
-abbrev pub path_below : Path → Path → Option Path
-path_below [] p = Some p
-path_below (i ∷ q) [] = None
-path_below (i ∷ q) (j ∷ p) = cond (nat_eq j i) (path_below q p) None
-
-abbrev pub sought_one : Address → ℕ → Address → List Marking
-sought_one a n r = cond (nat_eq r.number a.number) (option_map_or (λ p. (n, p) ∷ []) (path_below a.path r.path) []) []
-
-abbrev pub sought_from : ℕ → List Address → Address → List Marking
-sought_from n [] a = []
-sought_from n (r ∷ rs) a = sought_one a n r ++ sought_from (suc n) rs a
+use Rattle.one_pass.specs.inner.Marked.{Marking, marks_at}
+use Rattle.one_pass.specs.inner.Sweep.{Ascending}
+use Rattle.one_pass.specs.declared.sought.Registered.{Registered}
 
 abbrev pub addresses : List SyntaxElement → List Address
 addresses es = map (λ e. address (element_of e)) es
 
-abbrev pub listed_at : SoughtTable → ℕ → List Marking
-listed_at index cell = sought_for index.lists.items cell
-
-abbrev pub sought_at : SoughtTable → Address → List Marking
-sought_at index a = option_map_or (listed_at index) (cell_at index.cells (address_path a)) []
-
-abbrev pub sought_at_all : SoughtTable → List Element → List Marking
-sought_at_all index es = flat_map (λ e. sought_at index (address e)) es
-
 abbrev pub registered_at : List Address → Address → List ℕ
-registered_at rs a = marks_at (sought_from 0 rs a) []
+registered_at rs a = map (λ r. r.0) (filter (λ r. same_address r.1 a) (enumerate_from 0 rs))
 
-pub record IsSoughtTable (index : SoughtTable) : Type 0 where
-  pub tree : IsTree index.cells
-  pub unused : (k : ℕ) → size index.cells < k → listed_at index k ≡ []
+-- ---- in code
+abbrev pub as_registered : Registered → ℕ × Address
+as_registered r = (r.mark.number, record { number = r.tree; path = r.mark.path.now })
 
--- ---- a table before and after
-module _ (before after : SoughtTable) where
-  abbrev pub HasSameLists : Type 0
-  HasSameLists = (k : ℕ) → listed_at after k ≡ listed_at before k
+abbrev pub place_of : Registered → Path
+place_of r = r.tree ∷ r.mark.path.now
 
-  abbrev pub HasListedMore : ℕ → Marking → Type 0
-  HasListedMore cell m = (k : ℕ) → listed_at after k ≡ listed_at before k ++ cond (nat_eq cell k) (m ∷ []) []
+abbrev pub AreInOrder : List Registered → Type 0
+AreInOrder xs = Ascending place_of xs
 
-  abbrev pub HasMarkMore : Path → Marking → Type 0
-  HasMarkMore p m =
-      (a : Address) → sought_at after a ≡ sought_at before a ++ cond (same_path p (address_path a)) (m ∷ []) []
+abbrev pub begins_with : Path → Path → Bool
+begins_with q p = same_path (take (length q) p) q
 
-  pub record IsMarkEntered (cell slot : ℕ) (m : Marking) (next : ℕ) : Type 0 where
-    pub index : IsSoughtTable after
-    pub grown : IsGrown before.cells after.cells
-    pub leads : cell_below after.cells cell slot ≡ Some next
-    pub more : (p : Path) → cell_at before.cells p ≡ Some cell → HasMarkMore (p ++ slot ∷ []) m
+abbrev pub within : List Registered → Address → List Registered
+within xs a = filter (λ r. begins_with (address_path a) (place_of r)) xs
 
-  abbrev pub HasRegisteredMore : ℕ → Address → Type 0
-  HasRegisteredMore n r = (a : Address) → sought_at after a ≡ sought_at before a ++ sought_one a n r
+abbrev pub sought_at : List Registered → Address → List Marking
+sought_at xs a = map (λ r. (r.mark.number, drop (length a.path) r.mark.path.now)) (within xs a)
+
+abbrev pub sought_at_all : List Registered → List Element → List Marking
+sought_at_all xs es = flat_map (λ e. sought_at xs (address e)) es
+
+abbrev pub below : Address → Path → Address
+below a p = record { number = a.number; path = a.path ++ p }
+
+abbrev pub IsTableOf : List Address → List Registered → Type 0
+IsTableOf rs xs = (a : Address) (p : Path) → marks_at (sought_at xs a) p ≡ registered_at rs (below a p)

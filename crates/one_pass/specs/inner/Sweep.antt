@@ -4,6 +4,7 @@
 --     gap_test, start_test, over_test       an aim inserts into a gap; it replaces from a child on; it replaces a child
 --     in_gap, from_slot, covered    what aims put into a gap, in the place of the child in a slot; that child is replaced
 --     in_slot, left                 what stands in a slot, where the slots before one are passed over; from a slot on, gap by gap
+--     Ascending                     none has a lesser key than one that comes earlier; keys are compared as lists
 --     Rising, AreOrdered            none stands before one that comes earlier; the same of aims in code
 --     first_of, key, From           the first number of a site; how far on an aim is: a gap counts twice, a slot twice and one; all aims are this far on
 --     IsGap, IsRun, IsBelow         an aim inserts into a gap; it replaces so many children from one on; it alters something inside a child
@@ -73,9 +74,12 @@ module _ {X : Type 0} (given : ℕ → List X) where
     left xs i (e ∷ es) = in_gap i xs ++ (in_slot xs i e ++ left xs (suc i) es)
 
 -- ---- their order
+abbrev pub Ascending : {X : Type 0} → (X → List ℕ) → List X → Type 0
+Ascending key [] = ⊤
+Ascending key (x ∷ xs) = AllByRecursion (λ y. is_before (key y) (key x) ≡ false) xs × Ascending key xs
+
 abbrev pub Rising : List FormedAim → Type 0
-Rising [] = ⊤
-Rising (a ∷ xs) = AllByRecursion (λ b. is_before (site (aim_in b.path b.form)) (site (aim_in a.path a.form)) ≡ false) xs × Rising xs
+Rising xs = Ascending (λ a. site (aim_in a.path a.form)) xs
 
 abbrev pub AreOrdered : List Aimed → Type 0
 AreOrdered xs = Rising (map formed xs)

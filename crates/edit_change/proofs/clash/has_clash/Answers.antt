@@ -23,14 +23,14 @@ loop-aim-init c = λ cs sorted.
 pub returns-then-shares_last : goal.returns-then-shares_last
 returns-then-shares_last c = λ cs sorted.
     let next = get_or c.args.aims.now c.loop-aim.aim-index none in
-    found-here cs c.args.below c.args.aims.now c.loop-aim.aim-index none c.loop-aim-test.true c.loop-aim.open.items (c.loop-aim.invariant cs sorted) c.if-aim-below.true (sym c.is_over.ensures ∙ c.if-is_over.true) c.close.new.open.items c.close.ensures (sym (c.shares_last.ensures ∙ ap (λ xs. option_map_or (λ (o : NumberedAim). shares o.1 (numbered next).1) (last_item (aims_of xs)) false) c.deref.ensures.value) ∙ c.if-shares_last.true)
+    found-here cs c.args.below c.args.aims.now c.loop-aim.aim-index none c.loop-aim-test.true c.loop-aim.open.items (c.loop-aim.invariant cs sorted) c.if-aim-below.true (sym c.is_over.ensures ∙ c.if-is_over.true) c.close.new.regions.items c.close.ensures (sym (c.shares_last.ensures ∙ ap (λ xs. option_map_or (λ (o : NumberedAim). shares o.1 (numbered next).1) (last_item (aims_of xs)) false) c.deref.ensures.value) ∙ c.if-shares_last.true)
 
 pub loop-aim-preserved : goal.loop-aim-preserved
 loop-aim-preserved c = λ cs sorted.
     let next = get_or c.args.aims.now c.loop-aim.aim-index none in
     elim c.if-aim-below.branch [
       | then-aim-below+then-is_over+else-shares_last+in_ok-push w ↦
-          pushed-here cs c.args.below c.args.aims.now c.loop-aim.aim-index none c.loop-aim-test.true c.loop-aim.open.items (c.loop-aim.invariant cs sorted) w.if-aim-below.true (sym w.is_over.ensures ∙ w.if-is_over.true) w.close.new.open.items w.close.ensures c.if-aim-below.open.items (sym (w.shares_last.ensures ∙ ap (λ xs. option_map_or (λ (o : NumberedAim). shares o.1 (numbered next).1) (last_item (aims_of xs)) false) w.deref.ensures.value) ∙ w.if-shares_last.false) (ap (λ v. v.items) w.open-is ∙ w.in_ok-push.ensures.items)
+          pushed-here cs c.args.below c.args.aims.now c.loop-aim.aim-index none c.loop-aim-test.true c.loop-aim.open.items (c.loop-aim.invariant cs sorted) w.if-aim-below.true (sym w.is_over.ensures ∙ w.if-is_over.true) w.close.new.regions.items w.close.ensures c.if-aim-below.open.items (sym (w.shares_last.ensures ∙ ap (λ xs. option_map_or (λ (o : NumberedAim). shares o.1 (numbered next).1) (last_item (aims_of xs)) false) w.deref.ensures.value) ∙ w.if-shares_last.false) (ap (λ v. v.items) w.open-is ∙ w.in_ok-push.ensures.items)
       | else-aim-below w ↦ elim w.else-aim-below.branch [
         | else-aim-below-via-then-aim-below+else-is_over v ↦ skip-here cs c.args.below c.args.aims.now c.loop-aim.aim-index none c.loop-aim-test.true c.loop-aim.open.items (c.loop-aim.invariant cs sorted) c.if-aim-below.open.items (ap (λ v. v.items) w.open-is) (inr (sym v.is_over.ensures ∙ v.if-is_over.false))
         | else-aim-below-via-else-aim-below v ↦ skip-here cs c.args.below c.args.aims.now c.loop-aim.aim-index none c.loop-aim-test.true c.loop-aim.open.items (c.loop-aim.invariant cs sorted) c.if-aim-below.open.items (ap (λ v. v.items) w.open-is) (inl v.if-aim-below.false)

@@ -32,8 +32,8 @@ pub fate_inside-requires-clause-there : goal.fate_inside-requires-clause-there
 fate_inside-requires-clause-there c =
     let cs = c.args.changes.now in
     let is_c = at-index cs (get_or c.args.aims.now c.loop-aim.aim-index none).change c.index-changes-aim.result (bounds-there c) c.index-changes-aim.is in
-    let here = swept-here c.args.aims.now c.loop-aim.aim-index none c.loop-aim-test.true cs c.requires.fit.0 c.requires.fit.1 c.requires.apart c.loop-aim.fates.items c.index-changes-aim.result is_c c.loop-aim.open.items c.close.new.open.items _ c.loop-aim.invariant c.innermost.ensures c.close.ensures in
-    last-there cs c.close.new.open.items c.last.result here.of_open (c.last.ensures.value ∙ ap (λ xs. slice_get xs (length xs - 1)) c.deref-in-loop-aim.ensures.value)
+    let here = swept-here c.args.aims.now c.loop-aim.aim-index none c.loop-aim-test.true cs c.requires.fit.0 c.requires.fit.1 c.requires.apart c.loop-aim.fates.items c.index-changes-aim.result is_c c.loop-aim.open.items c.close.new.regions.items _ c.loop-aim.invariant c.innermost.ensures c.close.ensures in
+    last-there cs c.close.new.regions.items c.last.result here.of_open (c.last.ensures.value ∙ ap (λ xs. slice_get xs (length xs - 1)) c.deref-in-loop-aim.ensures.value)
   where
     bounds-there : (c : goal.After-last) → (get_or c.args.aims.now c.loop-aim.aim-index none).change < length c.args.changes.now
     bounds-there c = swept-there c.args.aims.now c.loop-aim.aim-index none c.loop-aim-test.true c.args.changes.now c.loop-aim.fates.items (aims_of c.loop-aim.open.items) c.loop-aim.invariant
@@ -52,7 +52,7 @@ loop-aim-preserved c =
     let k = c.loop-aim.aim-index in
     let change = c.index-changes-aim.result in
     let fates = c.loop-aim.fates.items in
-    let closed = c.close.new.open.items in
+    let closed = c.close.new.regions.items in
     let l = swept-there aims k none c.loop-aim-test.true cs fates (aims_of c.loop-aim.open.items) c.loop-aim.invariant in
     let is_c = at-index cs (get_or aims k none).change change l c.index-changes-aim.is in
     let told : c.fate_inside.result ≡ inside_last cs fates (last_item (aims_of closed)) = c.fate_inside.ensures ∙ ap₂ (inside_last cs) c.deref.ensures.value (last-is closed c.last.result (c.last.ensures.value ∙ ap (λ xs. slice_get xs (length xs - 1)) c.deref-in-loop-aim.ensures.value)) in

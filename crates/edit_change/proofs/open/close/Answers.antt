@@ -11,7 +11,7 @@ use Rattle.edit_change.proofs.open.close.Goals as goal
 pub returns-then-surrounds : goal.returns-then-surrounds
 returns-then-surrounds c =
     let i = c.loop-last.invariant in
-    let xs = c.loop-last.open.items in
+    let xs = c.loop-last.regions.items in
     let x = c.in-Some.last.now in
     let there : slice_get xs (length xs - 1) ≡ Some x = ap (λ ys. slice_get ys (length ys - 1)) (sym c.deref.ensures.value) ∙ sym c.in-Some.ensures.value in
     record {
@@ -26,7 +26,7 @@ returns-then-surrounds c =
 pub loop-last-preserved : goal.loop-last-preserved
 loop-last-preserved c =
     let i = c.loop-last.invariant in
-    let xs = c.loop-last.open.items in
+    let xs = c.loop-last.regions.items in
     let x = c.in-Some.last.now in
     let there : slice_get xs (length xs - 1) ≡ Some x = ap (λ ys. slice_get ys (length ys - 1)) (sym c.deref.ensures.value) ∙ sym c.in-Some.ensures.value in
     (numbered x ∷ i.0, one-less numbered xs x there _ i.0 c.pop.new.self.items _ (sym c.deref.ensures.len ∙ ap length c.deref.ensures.value) c.pop.ensures.rest i.1, (sym c.surrounds.ensures ∙ c.if-surrounds.false, i.2))

@@ -9,7 +9,7 @@ use Rattle.edit_change.proofs.open.close.Given as goal
 
 abbrev pub invariant-loop-last : goal.invariant-loop-last
 invariant-loop-last l =
-    (gone : List NumberedAim) × (aims_of l.initial.open.items ≡ aims_of l.open.items ++ gone) × AllByRecursion (λ g. surrounds (option_map_or (λ p. up_to p.now) l.path []) g.1 ≡ false) gone
+    (gone : List NumberedAim) × (aims_of l.initial.regions.items ≡ aims_of l.regions.items ++ gone) × AllByRecursion (λ g. surrounds (option_map_or (λ p. up_to p.now) l.path []) g.1 ≡ false) gone
 
 abbrev pub decreases-loop-last : goal.decreases-loop-last
-decreases-loop-last l = length l.open.items
+decreases-loop-last l = length l.regions.items

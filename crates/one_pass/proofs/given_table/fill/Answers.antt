@@ -35,7 +35,7 @@ pub returns-clause-marks : goal.returns-clause-marks
 returns-clause-marks c = λ trees are.
     let table = c.args.filling.now.given in
     let change = c.index-changes-owner.result in
-    let index = c.args.index.now in
+    let index = c.args.registered.now in
     let owned = map moved_dependent c.args.dependents.now in
     let aims = ap aims_of c.deref.ensures.value ∙ c.in_ok-aims.ensures in
     let marks : IsMarked None c.in_ok-rewritten.rewritten (payload_sought index trees owned (payload change)) = subst (λ ds. IsMarked None c.in_ok-rewritten.rewritten (payload_sought index trees ds (payload change))) aims (subst (λ es. IsMarked None c.in_ok-rewritten.rewritten (payload_sought index trees (aims_of c.deref.result.now) es)) c.payload-payload.ensures (c.in_ok-rewritten.ensures.marks trees are)) in

@@ -40,13 +40,13 @@ pub bounds-dependents-owner : goal.bounds-dependents-owner
 bounds-dependents-owner c =
     let order = c.in_ok-order.order.items in
     let within : c.loop-place.place - 1 < length order = omega (arith, c.loop-place-test.true, c.loop-place.auto.place, c.len-place.ensures, c.in_ok-order.order.ok.0) in
-    omega (arith, there c.args.changes.now order (c.loop-place.place - 1) c.index-owner.result.now c.in_ok-order.ensures within c.index-owner.ensures, c.requires)
+    omega (arith, there c.args.changes.now order (c.loop-place.place - 1) c.index-owner.result.now c.in_ok-order.ensures within c.index-owner.ensures, c.requires.long)
 
 pub offset_bounds-dependents-owner : goal.offset_bounds-dependents-owner
 offset_bounds-dependents-owner c =
     let order = c.in_ok-order.order.items in
     let within : c.loop-place.place - 1 < length order = omega (arith, c.loop-place-test.true, c.loop-place.auto.place, c.len-place.ensures, c.in_ok-order.order.ok.0) in
-    omega (arith, there c.args.changes.now order (c.loop-place.place - 1) c.index-owner.result.now c.in_ok-order.ensures within c.index-owner.ensures, c.requires)
+    omega (arith, there c.args.changes.now order (c.loop-place.place - 1) c.index-owner.result.now c.in_ok-order.ensures within c.index-owner.ensures, c.requires.long)
 
 pub fill-requires-clause-there : goal.fill-requires-clause-there
 fill-requires-clause-there c =
@@ -65,7 +65,7 @@ loop-place-init c =
       top = c.in_ok-given.ensures.top;
       count = λ places are. raises-same (ArePayloadsBuilt cs places) 0 _ _ _ (sym (at_drop_all (sum_by (touched_in cs places)) order n past)) (raises-none (ArePayloadsBuilt cs places) c.args.builds.now (omega arith));
       filled = λ places are. begins cs places (IsGiven cs places c.in_ok-given.given) order n past (λ k none. alone-is-given cs places k c.in_ok-given.given (c.in_ok-given.ensures.payloads k) none);
-      marks = λ places rs are sought. marks-begin rs cs places order n c.args.index.now c.in_ok-given.given past sought c.in_ok-given.ensures.marks;
+      marks = λ places rs are sought. marks-begin rs cs places order n c.args.registered.now c.in_ok-given.given past sought c.in_ok-given.ensures.marks;
     }
 
 pub loop-place-preserved-then-is_empty : goal.loop-place-preserved-then-is_empty
@@ -85,16 +85,16 @@ loop-place-preserved-then-is_empty c =
       top = c.loop-place.invariant.top;
       count = λ places are.
           let f : ℕ → ℕ = touched_in cs places in
-          let none = sym (owned-there cs places c.args.dependents.now o c.index-dependents-owner.result c.as_slice-owned.result.now c.requires are inside c.index-dependents-owner.is c.as_slice-owned.ensures.value) ∙ ap (map moved_dependent) empty in
+          let none = sym (owned-there cs places c.args.dependents.now o c.index-dependents-owner.result c.as_slice-owned.result.now c.requires.long are inside c.index-dependents-owner.is c.as_slice-owned.ensures.value) ∙ ap (map moved_dependent) empty in
           let own = ap f here ∙ owns-none cs places o none in
           let one : c.loop-place.place ≡ k + 1 = omega (arith, next) in
           let same : sum_by f (drop c.loop-place.place order) ≡ sum_by f (drop k order) = omega (arith, sum_by-drop_more f order k 0 within, own, ap (λ i. sum_by f (drop i order)) one) in
           raises-same (ArePayloadsBuilt cs places) _ _ _ _ same (c.loop-place.invariant.count places are);
       filled = λ places are.
-          let none = sym (owned-there cs places c.args.dependents.now o c.index-dependents-owner.result c.as_slice-owned.result.now c.requires are inside c.index-dependents-owner.is c.as_slice-owned.ensures.value) ∙ ap (map moved_dependent) empty in
+          let none = sym (owned-there cs places c.args.dependents.now o c.index-dependents-owner.result c.as_slice-owned.result.now c.requires.long are inside c.index-dependents-owner.is c.as_slice-owned.ensures.value) ∙ ap (map moved_dependent) empty in
           passed cs places (IsGiven cs places table) order k o here none (subst (EnteredBy cs places (IsGiven cs places table) order) next (c.loop-place.invariant.filled places are));
       marks = λ places rs are sought.
-          let none = sym (owned-there cs places c.args.dependents.now o c.index-dependents-owner.result c.as_slice-owned.result.now c.requires are inside c.index-dependents-owner.is c.as_slice-owned.ensures.value) ∙ ap (map moved_dependent) empty in
+          let none = sym (owned-there cs places c.args.dependents.now o c.index-dependents-owner.result c.as_slice-owned.result.now c.requires.long are inside c.index-dependents-owner.is c.as_slice-owned.ensures.value) ∙ ap (map moved_dependent) empty in
           marks-passed rs cs places order k o table here none (subst (λ i. AreEntered rs cs places order i table) next (c.loop-place.invariant.marks places rs are sought));
     }
 
@@ -117,18 +117,18 @@ loop-place-preserved c =
       count = λ places are.
           let f : ℕ → ℕ = touched_in cs places in
           let W = ArePayloadsBuilt cs places in
-          let is = owned-there cs places c.args.dependents.now o c.index-dependents-owner.result owned c.requires are inside c.index-dependents-owner.is c.as_slice-owned.ensures.value in
+          let is = owned-there cs places c.args.dependents.now o c.index-dependents-owner.result owned c.requires.long are inside c.index-dependents-owner.is c.as_slice-owned.ensures.value in
           let own = subst (λ ds. CountsEach ds (payload_of cs o) c.loop-place.filling.builds c.fill.new.filling.builds) is c.in_ok-fill.ensures.count in
           let one : c.loop-place.place ≡ k + 1 = omega (arith, next) in
           let before : ℕ = sum_by f (drop c.loop-place.place order) in
           let same : before + f o ≡ sum_by f (drop k order) = omega (arith, sum_by-drop_more f order k 0 within, ap f here, ap (λ i. sum_by f (drop i order)) one) in
           raises-same W (before + f o) _ _ _ same (raises-both W before (f o) _ c.loop-place.filling.builds _ (c.loop-place.invariant.count places are) (raises-weaker (All (λ e. AreBuilt (dependents cs places o) (subtree e)) (payload_of cs o)) W (f o) _ _ (λ w. w o) own));
       filled = λ places are.
-          let is = owned-there cs places c.args.dependents.now o c.index-dependents-owner.result owned c.requires are inside c.index-dependents-owner.is c.as_slice-owned.ensures.value in
+          let is = owned-there cs places c.args.dependents.now o c.index-dependents-owner.result owned c.requires.long are inside c.index-dependents-owner.is c.as_slice-owned.ensures.value in
           given-entered cs places order k o table after (map moved_dependent owned) c.in_ok-order.ensures within here is (subst (EnteredBy cs places (IsGiven cs places table) order) next (c.loop-place.invariant.filled places are)) c.in_ok-fill.ensures.filled;
       marks = λ places rs are sought.
-          let is = owned-there cs places c.args.dependents.now o c.index-dependents-owner.result owned c.requires are inside c.index-dependents-owner.is c.as_slice-owned.ensures.value in
-          marks-entered rs cs places order k o c.args.index.now table after (map moved_dependent owned) sought c.in_ok-order.ensures within here is (subst (λ i. AreEntered rs cs places order i table) next (c.loop-place.invariant.marks places rs are sought)) c.in_ok-fill.ensures.marks;
+          let is = owned-there cs places c.args.dependents.now o c.index-dependents-owner.result owned c.requires.long are inside c.index-dependents-owner.is c.as_slice-owned.ensures.value in
+          marks-entered rs cs places order k o c.args.registered.now table after (map moved_dependent owned) sought c.in_ok-order.ensures within here is (subst (λ i. AreEntered rs cs places order i table) next (c.loop-place.invariant.marks places rs are sought)) c.in_ok-fill.ensures.marks;
     }
 
 pub returns-clause-count : goal.returns-clause-count

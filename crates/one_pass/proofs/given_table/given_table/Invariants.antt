@@ -3,7 +3,7 @@ use Rattle.std.specs.Prelude.{sum_by}
 use Rattle.cst_core.specs.Path.{Path}
 use Rattle.cst_core.specs.Element.{Address}
 use Rattle.one_pass.specs.inner.OwnerTables.{AreDependents, IsGiven}
-use Rattle.one_pass.specs.inner.Marks.{IsTableOf}
+use Rattle.one_pass.specs.inner.Sought.{IsTableOf}
 use Rattle.edit_change.specs.TouchedNodes.{touched_in, Raises}
 use Rattle.one_pass.specs.inner.GivenTables.{ArePayloadsBuilt}
 use Rattle.one_pass.proofs.ByDepth.{EnteredBy}
@@ -16,5 +16,5 @@ invariant-loop-place l = record {
   top : l.filling.given.top ≡ None;
   count : (places : ℕ → Path) → AreDependents l.changes places l.dependents → Raises (ArePayloadsBuilt l.changes places) (sum_by (touched_in l.changes places) (drop l.place l.order.items)) l.fn.builds l.filling.builds;
   filled : (places : ℕ → Path) → AreDependents l.changes places l.dependents → EnteredBy l.changes places (IsGiven l.changes places l.filling.given) l.order.items l.place;
-  marks : (places : ℕ → Path) (rs : List Address) → AreDependents l.changes places l.dependents → IsTableOf rs l.index → AreEntered rs l.changes places l.order.items l.place l.filling.given;
+  marks : (places : ℕ → Path) (rs : List Address) → AreDependents l.changes places l.dependents → IsTableOf rs l.registered → AreEntered rs l.changes places l.order.items l.place l.filling.given;
 }

@@ -20,7 +20,7 @@ use Rattle.one_pass.proofs.given_table.marked_payload.Goals as goal
 
 pub returns-then-has_none-clause-marks : goal.returns-then-has_none-clause-marks
 returns-then-has_none-clause-marks c =
-    let index = c.args.index.now in
+    let index = c.args.registered.now in
     let none = ap (sought_at_all index) (sym c.payload.ensures) ∙ c.has_none.ensures c.if-has_none.true in
     unsought index (record { elements = c.in_ok-green_payload.field-0; marks = c.new.result }) (payload c.args.change.now) none c.new.ensures.items c.in_ok-green_payload.ensures
 
@@ -34,6 +34,6 @@ returns-clause-trees c =
 pub returns-clause-marks : goal.returns-clause-marks
 returns-clause-marks c =
     let nothing : GivenTable = record { entries = c.new-2.result; top = None } in
-    let index = c.args.index.now in
+    let index = c.args.registered.now in
     let es = c.payload-2.result.now in
     if-ok-weaker (λ g. (trees : ℕ → List MarkTree) → AreMarkedIn nothing trees → IsMarked None g (payload_sought index trees [] (map element_of es))) (λ g. IsMarked None g (payload_sought index (λ n. []) [] (payload c.args.change.now))) (λ g h. subst (λ xs. IsMarked None g (payload_sought index (λ n. []) [] xs)) c.payload-2.ensures (h (λ n. []) (none-marked nothing c.new-2.ensures.items))) c.rewritten_each.result c.rewritten_each.ensures.marks

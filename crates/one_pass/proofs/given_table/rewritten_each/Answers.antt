@@ -33,7 +33,7 @@ loop-element-preserved c =
     let es = c.args.elements.now in
     let i : ℕ = c.loop-element.element-index in
     let e = c.element-item.result in
-    let index = c.args.index.now in
+    let index = c.args.registered.now in
     let cs = aims_of c.args.aims.now in
     let f = rewritten kind_only (given_in c.args.given.now) cs [] in
     let more = push-of-take i es e c.loop-element-test.true c.element-item.is in
@@ -69,6 +69,6 @@ returns-clause-marks c = λ trees are.
     let whole = take-whole c.loop-element.element-index c.args.elements.now c.loop-element-test.false in
     let es = map element_of c.args.elements.now in
     let f = rewritten kind_only (given_in c.args.given.now) (aims_of c.args.aims.now) [] in
-    let g = element_sought c.args.index.now trees (aims_of c.args.aims.now) in
+    let g = element_sought c.args.registered.now trees (aims_of c.args.aims.now) in
     let made : element_trees c.loop-element.greens.items ≡ map f (map subtree es) = c.loop-element.invariant.trees ∙ ap (λ xs. map f (map subtree (map element_of xs))) whole in
-    listed _ (payload_sought c.args.index.now trees (aims_of c.args.aims.now) es) (length-map es g ∙ sym (ap length made ∙ length-map (map subtree es) f ∙ length-map es subtree)) (c.loop-element.invariant.marks trees are ∙ ap (λ xs. map marked (map g (map element_of xs))) whole)
+    listed _ (payload_sought c.args.registered.now trees (aims_of c.args.aims.now) es) (length-map es g ∙ sym (ap length made ∙ length-map (map subtree es) f ∙ length-map es subtree)) (c.loop-element.invariant.marks trees are ∙ ap (λ xs. map marked (map g (map element_of xs))) whole)

@@ -17,5 +17,5 @@ abbrev pub invariant-loop-element : goal.invariant-loop-element
 invariant-loop-element l = record {
   count : Raises (All (λ e. AreBuilt (aims_of l.aims) (subtree e)) (map element_of l.elements)) (touched_each (aims_of l.aims) (map element_of (take l.element-index l.elements))) l.fn.builds l.builds;
   trees : element_trees l.greens.items ≡ map (rewritten kind_only (given_in l.given) (aims_of l.aims) []) (map subtree (map element_of (take l.element-index l.elements)));
-  marks : (trees : ℕ → List MarkTree) → AreMarkedIn l.given trees → map (λ v. marks_of v.items) l.marks.items ≡ map marked (payload_sought l.index trees (aims_of l.aims) (map element_of (take l.element-index l.elements)));
+  marks : (trees : ℕ → List MarkTree) → AreMarkedIn l.given trees → map (λ v. marks_of v.items) l.marks.items ≡ map marked (payload_sought l.registered trees (aims_of l.aims) (map element_of (take l.element-index l.elements)));
 }

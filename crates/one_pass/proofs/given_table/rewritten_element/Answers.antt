@@ -1,14 +1,17 @@
-use Rattle.std.proofs.Common.{[], ◌++◌, map, ap, ap₂, subst, ◌∙◌}
+use Rattle.std.proofs.Common.{[], ◌++◌, map, ap, ap₂, sym, subst, ◌∙◌}
+use Rattle.cst_core.specs.Element.{address}
+use Rattle.cst_core.specs.SyntaxElement.{element_of}
 use Rattle.cst_core.specs.GreenElement.{element_tree}
 use Rattle.edit_change.specs.Rewriting.{rewritten}
 use Rattle.edit_change.specs.Effort.{touched, parents_of}
 use Rattle.one_pass.specs.inner.Built.{nodes_built, AreBuilt}
 use Rattle.edit_change.specs.inner.Aimed.{aims_of}
-use Rattle.one_pass.specs.inner.Marked.{marked, mark_below, marks_of, wanted}
+use Rattle.one_pass.specs.inner.Marked.{marks_seen, InPathOrder, marked, mark_below, marks_of, wanted}
 use Rattle.edit_change.specs.inner.KindOnly.{kind_only}
 use Rattle.one_pass.specs.inner.Pass.{given_in}
 use Rattle.edit_change.specs.TouchedNodes.{Raises}
 use Rattle.one_pass.proofs.Counting.{raises-built}
+use Rattle.one_pass.proofs.Registered.{sought-order}
 use Rattle.one_pass.proofs.given_table.rewritten_element.Goals as goal
 
 pub returns-clause-tree : goal.returns-clause-tree
@@ -16,7 +19,7 @@ returns-clause-tree c = c.in_ok-new.ensures.tree ∙ ap (rewritten kind_only (gi
 
 pub returns-clause-marks : goal.returns-clause-marks
 returns-clause-marks c = λ trees are.
-    let same = ap₂ (λ ms t. marked (rewritten (wanted ms) trees (aims_of c.args.aims.now) [] t)) c.at.ensures c.in_ok-old.ensures in
+    let same = ap₂ (λ ms t. marked (rewritten (wanted ms) trees (aims_of c.args.aims.now) [] t)) (ap (marks_seen 0) c.deref.ensures.value ∙ c.in_ok-sought.ensures) c.in_ok-old.ensures in
     c.in_ok-new.ensures.marks trees are ∙ ap (λ ms. marks_of c.args.walk.now.found.items ++ map (mark_below c.args.walk.now.path.items) ms) same
 
 pub returns-clause-count : goal.returns-clause-count
@@ -26,3 +29,7 @@ returns-clause-count c =
     let after = c.rewrite_element.new.walk.builds in
     let own = element_tree c.in_ok-old.old in
     subst (λ t. Raises (AreBuilt aims t) (touched t (parents_of aims)) before after) c.in_ok-old.ensures (raises-built (AreBuilt aims own) (touched own (parents_of aims)) (nodes_built aims own) before after c.in_ok-new.ensures.builds c.in_ok-new.ensures.count c.in_ok-new.ensures.whole)
+
+pub rewrite_element-requires : goal.rewrite_element-requires
+rewrite_element-requires c =
+    subst InPathOrder (sym (ap (marks_seen 0) c.deref.ensures.value ∙ c.in_ok-sought.ensures)) (sought-order (address (element_of c.args.element.now)) c.args.registered.now c.requires)

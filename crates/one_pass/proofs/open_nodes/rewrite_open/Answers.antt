@@ -8,9 +8,9 @@ use Rattle.green_tree.specs.Count.{counted}
 use Rattle.edit_change.specs.Rewriting.{rewritten}
 use Rattle.edit_change.specs.inner.KindOnly.{kind_only}
 use Rattle.one_pass.specs.inner.Built.{nodes_built}
-use Rattle.one_pass.specs.inner.Marked.{MarkTree, Marking, marks_of, sought_for, wanted}
+use Rattle.one_pass.specs.inner.Marked.{MarkTree, Marking, marks_of, sought_below, wanted}
 use Rattle.one_pass.specs.inner.Pass.{given_in}
-use Rattle.one_pass.specs.inner.OpenNodes.{IsNext, IsEnded, to_come, to_build, past, past_built, kinds_to_come, kinds_past, whole, wholes, path_to, found_above, found_with, built_above}
+use Rattle.one_pass.specs.inner.OpenNodes.{sought_in, IsNext, IsEnded, to_come, to_build, past, past_built, kinds_to_come, kinds_past, whole, wholes, path_to, found_above, found_with, built_above}
 use Rattle.one_pass.proofs.Marks.{shown}
 use Rattle.one_pass.proofs.OpenPath.{wholes-push, path-push, found-push, built-push, work_above, work-push, AreWaiting, waiting-push, waiting-pop, none-left, marks-inside, count-opened, count-closed, count-done}
 use Rattle.one_pass.proofs.OpenedNode.{aims_inside, whole-opened, marks-opened, built-opened, do-opened, enter-order, enter-waiting, enter-come, enter-built, enter-do, enter-some, made-order, made-come, made-built, made-do, ended-come, ended-built}
@@ -27,7 +27,7 @@ nodes-smaller-in-Some c =
     let enters = c.in_ok-inner.ensures.entered in
     let before = c.push_on.new.walk in
     let after = c.open_child.new.walk in
-    omega (arith, enter-do b before after f g inner next enters, do-opened b (f.depth + 1) inner.aims.now (sought_for f.lists.items f.slot) before after inner enters.opened, c.in_ok-node.ensures.further.size, ap work_above c.in_ok-push.ensures.items, work-push c.nodes.above.items g)
+    omega (arith, enter-do b before after f g inner next enters, do-opened b (f.depth + 1) inner.aims.now (sought_below f.slot (sought_in f)) before after inner enters.opened, c.in_ok-node.ensures.further.size, ap work_above c.in_ok-push.ensures.items, work-push c.nodes.above.items g)
 
 pub nodes-preserved-in-Some : goal.nodes-preserved-in-Some
 nodes-preserved-in-Some c =
@@ -46,7 +46,7 @@ nodes-preserved-in-Some c =
     let out = f.out.items in
     let same : length g.out.items ≡ length f.out.items = ap (λ o. length o.items) enters.out in
     let more : c.push.new.self.items ≡ above ++ g ∷ [] = c.in_ok-push.ensures.items in
-    let sought = sought_for f.lists.items f.slot in
+    let sought = sought_below f.slot (sought_in f) in
     let own = aims_inside b before after f g inner next enters in
     let opened = enters.opened in
     let here : Path = c.nodes.walk.path.items in

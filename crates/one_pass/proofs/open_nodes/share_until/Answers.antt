@@ -1,42 +1,35 @@
-use Rattle.std.proofs.Common.{◌≡◌, length, arith, ap, subst, sym, ◌∙◌}
-use Rattle.one_pass.specs.inner.Sweep.{From}
-use Rattle.one_pass.specs.inner.OpenNodes.{coming, IsShared}
-use Rattle.one_pass.proofs.Sweeping.{from-less}
-use Rattle.one_pass.proofs.NodeSteps.{shared-both, same-coming}
+use Rattle.std.proofs.Common.{◌≡◌, ◌++◌, ℕ, map, flat_map, min, max, take, drop, length, rules, ap, sym, ◌∙◌}
+use Rattle.std.specs.List.{slice_range}
+use Rattle.std.proofs.lemmas.List.{append-nil, at_drop_all}
+use Rattle.one_pass.specs.declared.mark.Sought.{Sought}
+use Rattle.one_pass.specs.inner.Marked.{Marking, mark_below, marks_of, mark_seen, marks_seen}
+use Rattle.one_pass.specs.inner.OpenNodes.{carried_to}
+use Rattle.one_pass.proofs.NextAim.{part-rest}
+use Rattle.one_pass.proofs.NodeSteps.{one-found}
+use Rattle.one_pass.proofs.SharedRuns.{shared-run}
+use Rattle.one_pass.proofs.TextOrders.{flat_map-map}
 use Rattle.one_pass.proofs.open_nodes.share_until.Goals as goal
 
-pub loop-top-init : goal.loop-top-init
-loop-top-init c = record { shared = c.in_ok-share_quiet.ensures.shared c.args.walk.now; most = c.in_ok-share_quiet.ensures.most }
-
-pub share_next-requires-clause-within : goal.share_next-requires-clause-within
-share_next-requires-clause-within c =
-    omega (arith, c.loop-top-test.true, c.requires.within, ap (λ es. length es.now) c.loop-top.invariant.shared.same.elements)
-
-pub share_next-requires-clause-ahead : goal.share_next-requires-clause-ahead
-share_next-requires-clause-ahead c =
-    subst (From _) (sym (same-coming _ _ _ _ _ c.loop-top.invariant.shared)) (from-less _ _ (coming c.args.top.now) (omega (arith, c.loop-top-test.true)) c.requires.ahead)
-
-pub share_quiet-requires-in-loop-top-clause-within : goal.share_quiet-requires-in-loop-top-clause-within
-share_quiet-requires-in-loop-top-clause-within c =
-    omega (arith, c.requires.within, ap (λ es. length es.now) c.loop-top.invariant.shared.same.elements, ap (λ es. length es.now) c.in_ok-share_next.ensures.same.elements)
-
-pub share_quiet-requires-in-loop-top-clause-next : goal.share_quiet-requires-in-loop-top-clause-next
-share_quiet-requires-in-loop-top-clause-next c = omega (arith, c.in_ok-share_next.ensures.slot, c.loop-top-test.true)
-
-pub share_quiet-requires-in-loop-top-clause-ahead : goal.share_quiet-requires-in-loop-top-clause-ahead
-share_quiet-requires-in-loop-top-clause-ahead c =
-    subst (From _) (sym (same-coming _ _ _ _ _ c.in_ok-share_next.ensures ∙ same-coming _ _ _ _ _ c.loop-top.invariant.shared)) c.requires.ahead
-
-pub loop-top-preserved : goal.loop-top-preserved
-loop-top-preserved c =
-    let one = shared-both _ _ _ _ _ c.args.top.now c.loop-top.top c.share_next.new.top c.loop-top.invariant.shared c.in_ok-share_next.ensures in
-    let last = c.in_ok-share_quiet-2.ensures in
-    record { shared = shared-both _ _ _ _ _ c.args.top.now c.share_next.new.top c.share_quiet-in-loop-top.new.top one (last.shared c.share_next.new.walk); most = last.most }
-
-pub loop-top-smaller : goal.loop-top-smaller
-loop-top-smaller c = omega (arith, c.in_ok-share_next.ensures.slot, c.in_ok-share_quiet-2.ensures.least, c.loop-top-test.true)
+pub loop-mark-preserved : goal.loop-mark-preserved
+loop-mark-preserved c =
+    let top = c.args.top.now in
+    let g = λ (s : Sought). carried_to (length top.out.items) c.min-first.result top.elements.now s.number (drop top.depth s.path.now) in
+    let xs = take c.marks_before-end.result top.sought.now in
+    let said = c.in_ok-push_shared.ensures in
+    record {
+      path = said.path ∙ c.loop-mark.invariant.path;
+      count = said.count ∙ c.loop-mark.invariant.count;
+      marks = one-found g c.args.walk.now.path.items c.loop-mark.walk.path.items xs c.loop-mark.mark-index _ (marks_of c.loop-mark.walk.found.items) (marks_of c.push_shared.new.walk.found.items) _ c.loop-mark-test.true c.loop-mark.invariant.path said.marks c.loop-mark.invariant.marks;
+    }
 
 pub returns : goal.returns
 returns c =
-    let reached : c.loop-top.top.slot ≡ c.args.until = omega (arith, c.loop-top.invariant.most, c.loop-top-test.false) in
-    subst (λ n. IsShared n c.args.walk.now c.loop-top.walk c.args.top.now c.loop-top.top) reached c.loop-top.invariant.shared
+    let f = c.args.top.now in
+    let n : ℕ = c.marks_before-end.result in
+    let xs = take n f.sought.now in
+    let first : ℕ = c.min-first.result in
+    let is : first ≡ min (max f.slot f.passed) c.args.until = search rules in
+    let g = λ (s : Sought). carried_to (length f.out.items) first f.elements.now s.number (drop f.depth s.path.now) in
+    let before = marks_of c.args.walk.now.found.items in
+    let found = sym (append-nil (marks_of c.loop-mark.walk.found.items)) ∙ sym (at_drop_all (λ ys. marks_of c.loop-mark.walk.found.items ++ map (mark_below c.args.walk.now.path.items) (flat_map g ys)) xs c.loop-mark.mark-index c.loop-mark-test.false) ∙ c.loop-mark.invariant.marks ∙ ap (λ ms. before ++ map (mark_below c.args.walk.now.path.items) ms) (sym (flat_map-map (λ (x : Marking). carried_to (length f.out.items) first f.elements.now x.0 x.1) (mark_seen f.depth) xs)) in
+    shared-run f c.args.until n c.share_all.new.out _ c.args.walk.now c.loop-mark.walk c.requires.order c.requires.within c.requires.next c.requires.ahead (part-rest f.sought.now n) c.marks_before-end.ensures.before c.marks_before-end.ensures.behind (c.in_ok-share_all.ensures ∙ ap (λ k. f.out.items ++ slice_range f.elements.now k c.args.until) is) c.loop-mark.invariant.path c.loop-mark.invariant.count (found ∙ ap (λ k. before ++ map (mark_below c.args.walk.now.path.items) (flat_map (λ (x : Marking). carried_to (length f.out.items) k f.elements.now x.0 x.1) (marks_seen f.depth xs))) is)

@@ -1,12 +1,12 @@
-use Rattle.std.proofs.Common.{◌≤◌, ◌-◌}
-use Rattle.one_pass.specs.inner.OpenNodes.{IsShared}
+use Rattle.std.proofs.Common.{◌≡◌, ◌++◌, map, flat_map, take, drop, length}
+use Rattle.one_pass.specs.declared.mark.Sought.{Sought}
+use Rattle.one_pass.specs.inner.Marked.{mark_below, marks_of}
+use Rattle.one_pass.specs.inner.OpenNodes.{carried_to}
 use Rattle.one_pass.proofs.open_nodes.share_until.Given as goal
 
-abbrev pub decreases-loop-top : goal.decreases-loop-top
-decreases-loop-top l = l.until - l.top.slot
-
-abbrev pub invariant-loop-top : goal.invariant-loop-top
-invariant-loop-top l = record {
-  shared : IsShared l.top.slot l.fn.walk l.walk l.fn.top l.top;
-  most : l.top.slot ≤ l.until;
+abbrev pub invariant-loop-mark : goal.invariant-loop-mark
+invariant-loop-mark l = record {
+  path : l.walk.path.items ≡ l.fn.walk.path.items;
+  count : l.walk.builds ≡ l.fn.walk.builds;
+  marks : marks_of l.walk.found.items ++ map (mark_below l.fn.walk.path.items) (flat_map (λ (s : Sought). carried_to (length l.top.out.items) l.first l.top.elements.now s.number (drop l.top.depth s.path.now)) (drop l.mark-index (take l.end l.sought))) ≡ marks_of l.fn.walk.found.items ++ map (mark_below l.fn.walk.path.items) (flat_map (λ (s : Sought). carried_to (length l.top.out.items) l.first l.top.elements.now s.number (drop l.top.depth s.path.now)) (take l.end l.sought));
 }

@@ -7,20 +7,20 @@ use Rattle.one_pass.specs.inner.Built.{nodes_built}
 use Rattle.edit_change.specs.Rewriting.{rewritten}
 use Rattle.edit_change.specs.inner.Aimed.{aims_of, has_parent}
 use Rattle.edit_change.specs.inner.KindOnly.{kind_only}
-use Rattle.one_pass.specs.inner.Marked.{marked, mark_below, marks_of, sought_in, marks_at, wanted}
+use Rattle.one_pass.specs.inner.Marked.{marked, mark_below, marks_of, marks_seen, wanted}
 use Rattle.one_pass.specs.inner.Pass.{given_in, green_rewritten}
 use Rattle.edit_change.proofs.AlteredNodes.{on_ok, on_ok-map, if_ok-map}
 use Rattle.one_pass.proofs.Counted.{counted-none, counts-at_most}
 use Rattle.one_pass.proofs.TouchedNodes.{on_ok-touched}
 use Rattle.edit_change.proofs.Untouched.{nothing_rewritten, unaimed}
-use Rattle.one_pass.proofs.MarksKept.{token_marks}
+use Rattle.one_pass.proofs.MarksInOrder.{kept, kept-found}
 use Rattle.one_pass.proofs.OpenedNode.{opened-order, whole-opened, built-opened, marks-opened, from-top, ordered-top}
 use Rattle.one_pass.specs.inner.Sweep.{AreOrdered, IsReordered}
 use Rattle.one_pass.proofs.Reordered.{any-moved, rewritten-reordered, built-reordered}
 use Rattle.one_pass.proofs.pass.rewrite_element.Goals as goal
 
 pub returns-then-not-alter_some-clause-path : goal.returns-then-not-alter_some-clause-path
-returns-then-not-alter_some-clause-path c = on_ok c.share.result c.in_ok-push_kept.ensures.path
+returns-then-not-alter_some-clause-path c = on_ok c.share.result refl
 
 pub returns-in_default-clause-path : goal.returns-in_default-clause-path
 returns-in_default-clause-path c = on_ok c.share-in_default.result refl
@@ -39,20 +39,21 @@ returns-then-not-alter_some-clause-tree c =
 pub returns-then-not-alter_some-clause-count : goal.returns-then-not-alter_some-clause-count
 returns-then-not-alter_some-clause-count c =
     let none = sym c.alter_some.ensures ∙ c.if-not-alter_some.true in
-    rw (counted-none (aims_of c.args.aims.now) (element_tree c.args.element.now) none) (on_ok c.share.result (omega (arith, c.in_ok-push_kept.ensures.count)))
+    rw (counted-none (aims_of c.args.aims.now) (element_tree c.args.element.now) none) (on_ok c.share.result (omega arith))
 
 pub returns-then-not-alter_some-clause-builds : goal.returns-then-not-alter_some-clause-builds
 returns-then-not-alter_some-clause-builds c =
-    on_ok-map c.share.result (counts-at_most c.args.aims.now c.args.element.now c.args.walk.now.builds c.push_kept.new.walk.builds) (returns-then-not-alter_some-clause-count c)
+    on_ok-map c.share.result (counts-at_most c.args.aims.now c.args.element.now c.args.walk.now.builds c.args.walk.now.builds) (returns-then-not-alter_some-clause-count c)
 
 pub returns-then-not-alter_some-clause-whole : goal.returns-then-not-alter_some-clause-whole
 returns-then-not-alter_some-clause-whole c =
-    on_ok-touched c.share.result c.args.aims.now c.args.element.now c.args.walk.now.builds c.push_kept.new.walk.builds (returns-then-not-alter_some-clause-count c)
+    on_ok-touched c.share.result c.args.aims.now c.args.element.now c.args.walk.now.builds c.args.walk.now.builds (returns-then-not-alter_some-clause-count c)
 
 pub returns-then-not-alter_some-clause-marks : goal.returns-then-not-alter_some-clause-marks
 returns-then-not-alter_some-clause-marks c =
     let none = sym c.alter_some.ensures ∙ c.if-not-alter_some.true in
-    on_ok c.share.result (λ trees are. c.in_ok-push_kept.ensures.marks ∙ ap (λ u. marks_of c.args.walk.now.found.items ++ map (mark_below c.args.walk.now.path.items) (marked u)) (sym (unaimed (wanted (sought_in c.args.sought.now)) trees c.args.aims.now none [] (element_tree c.args.element.now))))
+    let kept = kept-found (element_tree c.args.element.now) (marks_seen 0 c.args.sought.now) c.requires in
+    on_ok c.share.result (λ trees are. c.in_ok-push_kept.ensures ∙ ap₂ (λ p ms. marks_of c.args.walk.now.found.items ++ map (mark_below p) ms) c.deref.ensures.value (sym kept) ∙ ap (λ u. marks_of c.args.walk.now.found.items ++ map (mark_below c.args.walk.now.path.items) (marked u)) (sym (unaimed (wanted (marks_seen 0 c.args.sought.now)) trees c.args.aims.now none [] (element_tree c.args.element.now))))
 
 -- a token is not built
 pub returns-in_default-clause-count : goal.returns-in_default-clause-count
@@ -70,12 +71,15 @@ returns-in_default-clause-whole c =
 
 pub returns-in_default-clause-marks : goal.returns-in_default-clause-marks
 returns-in_default-clause-marks c =
-    on_ok c.share-in_default.result (λ trees are. token_marks c.args.walk.now.path.items (sought_in c.args.sought.now) trees (aims_of c.args.aims.now) (marks_of c.args.walk.now.found.items) (marks_of c.push_here.new.found.items) (element_tree c.args.element.now) c.in_default.field-0.kind c.in_default.field-0.text (ap element_tree c.in_default.is) (c.in_ok-push_here.ensures ∙ ap (λ p. marks_of c.args.walk.now.found.items ++ map (λ n. (n, p)) (marks_at (sought_in c.args.sought.now) [])) c.deref.ensures.value))
+    let found = marks_of c.args.walk.now.found.items in
+    let path = c.args.walk.now.path.items in
+    let ms = marks_seen 0 c.args.sought.now in
+    on_ok c.share-in_default.result (λ trees are. c.in_ok-push_kept-2.ensures ∙ ap₂ (λ p ns. found ++ map (mark_below p) ns) c.deref-in_default.ensures.value (sym (kept-found (element_tree c.args.element.now) ms c.requires)) ∙ ap (λ e. found ++ map (mark_below path) (marked (kept ms (element_tree e)))) c.in_default.is ∙ ap (λ e. found ++ map (mark_below path) (marked (rewritten (wanted ms) trees (aims_of c.args.aims.now) [] (element_tree e)))) (sym c.in_default.is))
 
 -- ---- a node is opened, with the aims in order
 pub rewrite_open-requires : goal.rewrite_open-requires
 rewrite_open-requires c =
-    opened-order c.in-Node.node 0 c.deref-2.result.now (sought_in c.args.sought.now) c.args.walk.now c.open_node.new.walk c.in_ok-top.top c.in_ok-top.ensures.opened (ordered-top c.deref-2.result.now (subst AreOrdered (sym c.deref-2.ensures.value) c.in_ok-sorted.ensures.order))
+    opened-order c.in-Node.node 0 c.deref-2.result.now (marks_seen 0 c.args.sought.now) c.args.walk.now c.open_node.new.walk c.in_ok-top.top c.in_ok-top.ensures.opened (ordered-top c.deref-2.result.now (subst AreOrdered (sym c.deref-2.ensures.value) c.in_ok-sorted.ensures.order))
 
 pub returns-clause-path : goal.returns-clause-path
 returns-clause-path c = on_ok-map c.rewrite_open.result (λ h. h ∙ c.in_ok-top.ensures.path) c.rewrite_open.ensures.path
@@ -85,7 +89,7 @@ returns-clause-tree c =
     let table = c.args.given.now in
     let sorted = c.deref-2.result.now in
     let same = subst (λ xs. IsReordered (aims_of c.args.aims.now) (aims_of xs)) (sym c.deref-2.ensures.value) c.in_ok-sorted.ensures.same in
-    let whole = whole-opened c.in-Node.node 0 sorted (sought_in c.args.sought.now) c.args.walk.now c.open_node.new.walk c.in_ok-top.top c.in_ok-top.ensures.opened table in
+    let whole = whole-opened c.in-Node.node 0 sorted (marks_seen 0 c.args.sought.now) c.args.walk.now c.open_node.new.walk c.in_ok-top.top c.in_ok-top.ensures.opened table in
     let own = whole ∙ ap (λ cs. rewritten kind_only (given_in table) cs [] (branch_tree c.in-Node.node)) (from-top sorted) ∙ rewritten-reordered (aims_of c.args.aims.now) (aims_of sorted) same kind_only (given_in table) [] (branch_tree c.in-Node.node) ∙ ap (λ e. green_rewritten table c.args.aims.now e) (sym c.in-Node.is) in
     if_ok-map _ (λ e. element_tree e ≡ green_rewritten table c.args.aims.now c.args.element.now) c.rewrite_open.result (λ e is. is ∙ own) c.rewrite_open.ensures.tree
 
@@ -95,7 +99,7 @@ returns-clause-count c =
     let sorted = c.deref-2.result.now in
     let same = subst (λ xs. IsReordered (aims_of c.args.aims.now) (aims_of xs)) (sym c.deref-2.ensures.value) c.in_ok-sorted.ensures.same in
     let some : list_any has_parent cs ≡ true = sym c.alter_some.ensures ∙ c.if-not-alter_some.false in
-    let built = built-opened c.in-Node.node 0 sorted (sought_in c.args.sought.now) c.args.walk.now c.open_node.new.walk c.in_ok-top.top c.in_ok-top.ensures.opened (ap (list_any has_parent) (from-top sorted) ∙ any-moved has_parent cs (aims_of sorted) same.each_once ∙ some) in
+    let built = built-opened c.in-Node.node 0 sorted (marks_seen 0 c.args.sought.now) c.args.walk.now c.open_node.new.walk c.in_ok-top.top c.in_ok-top.ensures.opened (ap (list_any has_parent) (from-top sorted) ∙ any-moved has_parent cs (aims_of sorted) same.each_once ∙ some) in
     let own = built ∙ ap (λ ds. nodes_built ds (branch_tree c.in-Node.node)) (from-top sorted) ∙ built-reordered cs (aims_of sorted) same (branch_tree c.in-Node.node) ∙ ap (λ e. nodes_built cs (element_tree e)) (sym c.in-Node.is) in
     on_ok-map c.rewrite_open.result (λ h. h ∙ ap₂ counted c.in_ok-top.ensures.count own) c.rewrite_open.ensures.count
 
@@ -109,7 +113,7 @@ returns-clause-whole c =
 
 pub returns-clause-marks : goal.returns-clause-marks
 returns-clause-marks c =
-    let sought = sought_in c.args.sought.now in
+    let sought = marks_seen 0 c.args.sought.now in
     let before = marks_of c.args.walk.now.found.items in
     let sorted = c.deref-2.result.now in
     let same = subst (λ xs. IsReordered (aims_of c.args.aims.now) (aims_of xs)) (sym c.deref-2.ensures.value) c.in_ok-sorted.ensures.same in

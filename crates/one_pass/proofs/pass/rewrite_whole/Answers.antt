@@ -6,7 +6,7 @@ use Rattle.green_tree.specs.Count.{counted}
 use Rattle.one_pass.specs.inner.Built.{nodes_built}
 use Rattle.edit_change.specs.Rewriting.{rewritten, replacements_at}
 use Rattle.edit_change.specs.inner.Aimed.{aims_of}
-use Rattle.one_pass.specs.inner.Marked.{MarkTree, Marking, marked, marked_from, mark_below, marks_of, sought_in, wanted}
+use Rattle.one_pass.specs.inner.Marked.{MarkTree, Marking, marked, marked_from, mark_below, marks_of, marks_seen, wanted}
 use Rattle.edit_change.specs.inner.KindOnly.{kind_only}
 use Rattle.one_pass.specs.inner.Pass.{given_in}
 use Rattle.one_pass.proofs.Children.{slot-replaced, slot-kept}
@@ -44,7 +44,7 @@ returns-clause-trees c =
 pub returns-clause-marks : goal.returns-clause-marks
 returns-clause-marks c = λ trees are.
     let cs = aims_of c.args.aims.now in
-    let sought = sought_in c.args.sought.now in
+    let sought = marks_seen 0 c.args.sought.now in
     let kept : MarkTree = rewritten (wanted sought) trees cs [] (element_tree c.args.element.now) in
     elim c.if-top_is_replaced.branch [
       | then-top_is_replaced+in_ok-push_tops w ↦

@@ -1,16 +1,17 @@
-use Rattle.std.proofs.Common.{ap, ap₂, subst, ◌∙◌}
+use Rattle.std.proofs.Common.{ap, ap₂, sym, subst, ◌∙◌}
 use Rattle.cst_core.specs.Element.{address, subtree}
 use Rattle.cst_core.specs.GreenElement.{element_tree}
 use Rattle.edit_change.specs.Effort.{touched, parents_of}
 use Rattle.one_pass.specs.inner.Built.{nodes_built_whole, AreBuilt}
 use Rattle.edit_change.specs.inner.Aimed.{aims_of}
-use Rattle.one_pass.specs.inner.Marked.{marked_from, wanted}
+use Rattle.one_pass.specs.inner.Marked.{marks_seen, InPathOrder, marked_from, wanted}
 use Rattle.edit_change.specs.inner.KindOnly.{kind_only}
 use Rattle.one_pass.specs.inner.Pass.{given_in}
 use Rattle.edit_change.specs.Rewriting.{rewritten_whole}
 use Rattle.one_pass.specs.inner.Sought.{sought_at}
 use Rattle.edit_change.specs.TouchedNodes.{Raises}
 use Rattle.one_pass.proofs.Counting.{raises-built}
+use Rattle.one_pass.proofs.Registered.{sought-order}
 use Rattle.one_pass.proofs.rewriting.rewritten_root.Goals as goal
 
 pub returns-clause-count : goal.returns-clause-count
@@ -31,5 +32,9 @@ returns-clause-trees c =
 pub returns-clause-marks : goal.returns-clause-marks
 returns-clause-marks c = λ trees are.
     let same = c.in_ok-try_clone.ensures in
-    let there = c.at-sought.ensures ∙ ap (λ e. sought_at c.args.index.now (address e)) same in
+    let there = ap (marks_seen 0) c.deref.ensures.value ∙ c.in_ok-sought.ensures ∙ ap (λ e. sought_at c.args.registered.now (address e)) same in
     c.in_ok-rewritten.ensures.marks trees are ∙ ap₂ (λ ms t. marked_from 0 (rewritten_whole (wanted ms) trees (aims_of c.args.aims.now) t)) there (c.in_ok-old.ensures ∙ ap subtree same)
+
+pub rewrite_whole-requires : goal.rewrite_whole-requires
+rewrite_whole-requires c =
+    subst InPathOrder (sym (ap (marks_seen 0) c.deref.ensures.value ∙ c.in_ok-sought.ensures)) (sought-order (address c.in_ok-try_clone.field-0) c.args.registered.now c.requires)

@@ -11,6 +11,6 @@ returns-clause-stage c = λ given.
     let old = element_tree c.in_ok-share.field-0 in
     record {
       tree = ap element_tree (sym c.in_ok-share.ensures) ∙ sym (nothing_rewritten given [] old refl);
-      counted = λ p k f there. subst (λ ds. IsCounted given [] p (length (trees f)) ds) (sym (c.new.ensures.empty p)) (none_done given p (length (trees f)));
-      table = c.new.ensures.table;
+      counted = λ p k f there. subst (IsCounted given [] p (length (trees f))) (sym (c.in_ok-new.ensures.held p)) (none_done given p (length (trees f)));
+      visited = c.in_ok-new.ensures.visited;
     }

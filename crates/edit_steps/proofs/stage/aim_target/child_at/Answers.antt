@@ -3,7 +3,7 @@ use Rattle.std.specs.Prelude.{Some, None, option_map, option_and_then}
 use Rattle.std.proofs.lemmas.Bool.{lt-ltb, le-ltb}
 use Rattle.green_tree.specs.GreenElement.{element_tree}
 use Rattle.edit_steps.specs.inner.AimTargets.{Child, child_in, child_of}
-use Rattle.edit_steps.proofs.DoneByPath.{child-by-last}
+use Rattle.edit_steps.proofs.Aims.{child-by-last}
 use Rattle.edit_steps.proofs.stage.aim_target.child_at.Goals as goal
 
 pub returns-in_err-count-clause-child : goal.returns-in_err-count-clause-child

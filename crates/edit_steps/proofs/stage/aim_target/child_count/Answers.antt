@@ -5,7 +5,7 @@ use Rattle.green_tree.specs.GreenElement.{element_tree}
 use Rattle.green_tree.specs.GreenElementRef.{ref_tree}
 use Rattle.green_tree.proofs.Lookup.{trees-forest}
 use Rattle.edit_steps.specs.inner.AimTargets.{count_in, child_count}
-use Rattle.edit_steps.proofs.DoneByPath.{count-token}
+use Rattle.edit_steps.proofs.Aims.{count-token}
 use Rattle.edit_steps.proofs.stage.aim_target.child_count.Goals as goal
 
 pub returns-in_default : goal.returns-in_default
