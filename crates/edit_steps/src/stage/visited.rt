@@ -48,6 +48,7 @@ fn lengthen(list: &mut Vec<usize>, last: usize, rest: usize) -> Result<(), Alloc
     ensures same { (i : ℕ) → slice_index_or list.new.items i rest ≡ slice_index_or list.old.items i rest }
     ensures room { OnOk result (last < length list.new.items) }
 {
+    list.reserve(last.saturating_add(1).saturating_sub(list.len()))?;
     'longer: while list.len() <= last {
         list.push(rest)?;
     }
@@ -89,6 +90,8 @@ impl Visited {
         ensures err_held { OnErr result (held_of self.new ≡ held_of self.old) }
         ensures err_below { OnErr result ((i : ℕ) → below_at self.new.below i ≡ below_at self.old.below i) }
     {
+        self.below
+            .reserve(slot.saturating_add(1).saturating_sub(self.below.len()))?;
         'longer: while self.below.len() <= slot {
             self.below.push(None)?;
         }
