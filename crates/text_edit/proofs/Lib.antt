@@ -1,0 +1,4 @@
+pub mod Pieces
+pub mod Ordered
+pub mod Applied
+pub mod Fitting

@@ -1,0 +1,28 @@
+-- Pieces in order and apart.
+use Rattle.std.proofs.Common.{◌≡◌, ◌+◌, ◌<◌, ◌≤◌, ℕ, List, [], ◌∷◌, ◌++◌, length, take, get_or, ap, sym, subst, arith, add-one}
+use Rattle.text_edit.specs.TextPiece.{TextPiece, AreApart}
+use Rattle.text_edit.specs.OrderRefusal.{nothing, piece_at, piece_before, IsFirstAt, OrderRefuses}
+use Rattle.text_edit.specs.inner.Following.{FollowRefuses}
+use Rattle.text_edit.specs.declared.order_error.OrderError.{OrderError}
+use Rattle.text_edit.specs.declared.order_error.OrderError.TheVariants.{StartAfterEnd, PastEnd, OutOfOrder, Overlapping}
+
+pub AreApart-push : (from : ℕ) (es : List TextPiece) (to : ℕ) (e : TextPiece) → AreApart from es to → to ≤ e.first → e.first ≤ e.stop → AreApart from (es ++ e ∷ []) e.stop
+AreApart-push from [] to e apart after own = (omega arith, own, omega arith)
+AreApart-push from (d ∷ es) to e apart after own = (apart.0, apart.1, AreApart-push d.stop es to e apart.2 after own)
+
+pub AreApart-further : (from : ℕ) (es : List TextPiece) (to further : ℕ) → AreApart from es to → to ≤ further → AreApart from es further
+AreApart-further from [] to further apart more = omega arith
+AreApart-further from (d ∷ es) to further apart more = (apart.0, apart.1, AreApart-further d.stop es to further apart.2 more)
+
+pub refuses-at : (len : ℕ) (es : List TextPiece) (i : ℕ) (d e : TextPiece) → i < length es → AreApart 0 (take i es) len → piece_before es i ≡ d → piece_at es i ≡ e → (x : OrderError) → FollowRefuses len d.first d.stop i e x → OrderRefuses len es x
+refuses-at len es i d e inside apart before at (StartAfterEnd n) f =
+    (let P : ℕ → Type 0 = λ k. IsFirstAt len es (λ d e. e.stop < e.first) k in subst P (sym f.0) (inside, apart, rw at f.1))
+refuses-at len es i d e inside apart before at (PastEnd n) f =
+    (let P : ℕ → Type 0 = λ k. IsFirstAt len es (λ d e. (e.first ≤ e.stop) × (len < e.stop)) k in subst P (sym f.0) (inside, apart, rw at (f.1, f.2)))
+refuses-at len es i d e inside apart before at (OutOfOrder n) f =
+    (let P : ℕ → Type 0 = λ k. IsFirstAt len es (λ d e. (e.first ≤ e.stop) × (e.stop ≤ len) × (e.first < d.first)) k in subst P (sym f.0) (inside, apart, rw (at, before) (f.1, f.2, f.3)))
+refuses-at len es i d e inside apart before at (Overlapping n) f =
+    (let P : ℕ → Type 0 = λ k. IsFirstAt len es (λ d e. (e.first ≤ e.stop) × (e.stop ≤ len) × (d.first ≤ e.first) × (e.first < d.stop)) k in subst P (sym f.0) (inside, apart, rw (at, before) (f.1, f.2, f.3, f.4)))
+
+pub piece_before-next : (es : List TextPiece) (i : ℕ) → piece_before es (i + 1) ≡ piece_at es i
+piece_before-next es i = ap (λ n. get_or (nothing ∷ es) n nothing) (add-one i)

@@ -1,0 +1,4 @@
+pub mod TextPiece
+pub mod OrderRefusal
+pub mod ApplyRefusal
+pub mod inner

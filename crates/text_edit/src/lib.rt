@@ -1,0 +1,13 @@
+//! Edits of texts, which know no trees: lists of edits applied, composed, inverted and trimmed.
+#![tactic(auto)]
+
+mod apply;
+mod apply_error;
+mod order_error;
+mod text_edit;
+mod text_edits;
+
+pub use apply_error::ApplyError;
+pub use order_error::OrderError;
+pub use text_edit::TextEdit;
+pub use text_edits::TextEdits;

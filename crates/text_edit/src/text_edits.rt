@@ -1,0 +1,116 @@
+//! `TextEdits`: edits of one text, in order and apart.
+
+ghost use Rattle.std.specs.Prelude.{◌≡◌, ◌==◌, ◌↔◌, ◌+◌, ◌<◌, ◌≤◌, ◌^◌, [], length, IsTrue, IfOk, OnOk, IfErr, string_bytes};
+ghost use Rattle.text_edit.specs.TextPiece.{as_piece, pieces, AreApart, FitText, applied};
+ghost use Rattle.text_edit.specs.OrderRefusal.{nothing, piece_before, piece_at, OrderRefuses};
+ghost use Rattle.text_edit.specs.ApplyRefusal.{ApplyRefuses};
+ghost use Rattle.text_edit.specs.inner.Following.{FollowRefuses};
+
+use crate::apply::{applied, tested};
+use crate::apply_error::ApplyError;
+use crate::order_error::OrderError;
+use crate::text_edit::TextEdit;
+use std::alloc::Global;
+use std::marker::Model;
+
+/// Edits of one text, from left to right: none starts before the one before it ends. All offsets are in bytes of the old
+/// text, whatever the edits before put in.
+///
+/// Two edits may touch. Of inserts at one offset the one that stands first in the list is put first. An insert at the
+/// end of a deletion stands after it, and one at its start before it.
+#[derive(Drop)]
+pub struct TextEdits {
+    edits: Vec<TextEdit>,
+}
+
+impl Model for TextEdits {
+    ghost use Rattle.std.specs.Prelude.{List, ◌^◌};
+    ghost use Rattle.text_edit.specs.TextPiece.{TextPiece, pieces, AreApart};
+
+    ghost Value = { List TextPiece };
+
+    ghost view = { λ a. pieces a.edits.items };
+
+    ghost invariant = { λ a. AreApart 0 (pieces a.edits.items) (2 ^ 64) };
+}
+
+// Tests the edit at an index that follows an edit with this start and end.
+fn follows(edit: &TextEdit, index: usize, start: u64, end: u64, len: u64) -> Result<(), OrderError>
+    ensures ok { OnOk result ((start ≤ edit.now.start) × (end ≤ edit.now.start)
+        × (edit.now.start ≤ edit.now.end) × (edit.now.end ≤ len)) }
+    ensures refused { IfErr result (FollowRefuses len start end index (as_piece edit.now)) }
+{
+    if edit.end < edit.start {
+        return Err(OrderError::StartAfterEnd { index });
+    }
+    if len < edit.end {
+        return Err(OrderError::PastEnd { index });
+    }
+    if edit.start < start {
+        return Err(OrderError::OutOfOrder { index });
+    }
+    if edit.start < end {
+        return Err(OrderError::Overlapping { index });
+    }
+    Ok(())
+}
+
+// Tests that edits are in order and apart in a text of this length.
+fn ordered(edits: &[TextEdit], len: u64) -> Result<(), OrderError>
+    ensures ok { OnOk result (AreApart 0 (pieces edits.now) len) }
+    ensures refused { IfErr result (OrderRefuses len (pieces edits.now)) }
+{
+    let mut start = 0;
+    let mut end = 0;
+    for (index, edit) in edits.iter().enumerate() {
+        follows(edit, index, start, end, len)?;
+        start = edit.start;
+        end = edit.end;
+    }
+    Ok(())
+}
+
+impl TextEdits {
+    /// These edits as one list, for a text of this length in bytes. Where the first edit that breaks the order breaks it
+    /// in more than one way, the error names the first way in the order of `OrderError`.
+    pub fn new(edits: Vec<TextEdit>, len: u64) -> Result<TextEdits, OrderError>
+        ensures ok { IfOk result (λ r. r ≡ pieces edits.items) }
+        ensures apart { OnOk result (AreApart 0 (pieces edits.items) len) }
+        ensures refused { IfErr result (OrderRefuses len (pieces edits.items)) }
+    {
+        ordered(&edits, len)?;
+        Ok(TextEdits { edits })
+    }
+
+    /// How many edits there are.
+    pub fn len(&self) -> usize
+        ensures { result ≡ length self.now }
+    {
+        self.edits.len()
+    }
+
+    /// Whether there is none.
+    pub fn is_empty(&self) -> bool
+        ensures { IsTrue result ↔ (self.now ≡ []) }
+    {
+        self.edits.is_empty()
+    }
+
+    /// The edits, from left to right.
+    pub fn as_slice(&self) -> &[TextEdit]
+        ensures edits { pieces result.now ≡ self.now }
+        ensures apart { AreApart 0 self.now (2 ^ 64) }
+    {
+        &self.edits
+    }
+
+    /// The text that the edits make of this one. Takes time linear in the two texts and the number of edits.
+    pub fn apply(&self, alloc: Global, text: &str) -> Result<String, ApplyError>
+        ensures ok { IfOk result (λ t. string_bytes t ≡ applied self.now text.now) }
+        ensures fit { OnOk result (FitText text.now self.now) }
+        ensures refused { IfErr result (ApplyRefuses text.now self.now) }
+    {
+        tested(&self.edits, text)?;
+        Ok(applied(alloc, &self.edits, text)?)
+    }
+}
