@@ -2,3 +2,8 @@ pub mod Pieces
 pub mod Ordered
 pub mod Applied
 pub mod Fitting
+pub mod AppliedParts
+pub mod Putting
+pub mod Passing
+pub mod Carrying
+pub mod Inverting

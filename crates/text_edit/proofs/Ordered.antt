@@ -26,3 +26,12 @@ refuses-at len es i d e inside apart before at (Overlapping n) f =
 
 pub piece_before-next : (es : List TextPiece) (i : ℕ) → piece_before es (i + 1) ≡ piece_at es i
 piece_before-next es i = ap (λ n. get_or (nothing ∷ es) n nothing) (add-one i)
+
+pub AreApart-le : (from : ℕ) (es : List TextPiece) (to : ℕ) → AreApart from es to → from ≤ to
+AreApart-le from [] to apart = apart
+AreApart-le from (e ∷ es) to apart = let behind : e.stop ≤ to = AreApart-le e.stop es to apart.2 in omega arith
+
+-- up to the start of the last piece
+pub AreApart-before_last : (from : ℕ) (es : List TextPiece) (e : TextPiece) (to : ℕ) → AreApart from (es ++ e ∷ []) to → AreApart from es e.first × (e.first ≤ e.stop) × (e.stop ≤ to)
+AreApart-before_last from [] e to apart = (apart.0, apart.1, apart.2)
+AreApart-before_last from (d ∷ es) e to apart = let rest = AreApart-before_last d.stop es e to apart.2 in ((apart.0, apart.1, rest.0), rest.1, rest.2)

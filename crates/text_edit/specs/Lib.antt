@@ -1,4 +1,6 @@
 pub mod TextPiece
 pub mod OrderRefusal
 pub mod ApplyRefusal
+pub mod Composition
+pub mod Inverse
 pub mod inner

@@ -14,6 +14,9 @@ pub enum ApplyError {
     /// The edit starts or ends within a character of the text.
     #[error("InsideCharacter {index}")]
     InsideCharacter { index: usize },
+    /// The new text would have 2 to the power of 64 bytes or more.
+    #[error("TooLong")]
+    TooLong,
     /// Memory was refused.
     #[error("Memory")]
     Memory,
@@ -53,6 +56,7 @@ impl ApplyError {
             ApplyError::InsideCharacter { .. } => {
                 "an edit starts or ends within a character; take offsets at which a character starts or the text ends"
             }
+            ApplyError::TooLong => "the new text would be too long; put less in",
             ApplyError::Memory => "memory ran out; free some and try again",
         }
     }

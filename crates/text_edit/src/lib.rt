@@ -3,11 +3,15 @@
 
 mod apply;
 mod apply_error;
+mod compose;
+mod compose_error;
+mod inverse;
 mod order_error;
 mod text_edit;
 mod text_edits;
 
 pub use apply_error::ApplyError;
+pub use compose_error::ComposeError;
 pub use order_error::OrderError;
 pub use text_edit::TextEdit;
 pub use text_edits::TextEdits;

@@ -4,10 +4,15 @@ ghost use Rattle.std.specs.Prelude.{◌≡◌, ◌==◌, ◌↔◌, ◌+◌, ◌
 ghost use Rattle.text_edit.specs.TextPiece.{as_piece, pieces, AreApart, FitText, applied};
 ghost use Rattle.text_edit.specs.OrderRefusal.{nothing, piece_before, piece_at, OrderRefuses};
 ghost use Rattle.text_edit.specs.ApplyRefusal.{ApplyRefuses};
+ghost use Rattle.text_edit.specs.Composition.{AreComposed, ComposeRefuses};
+ghost use Rattle.text_edit.specs.Inverse.{inverted, TakeBack};
 ghost use Rattle.text_edit.specs.inner.Following.{FollowRefuses};
 
 use crate::apply::{applied, tested};
 use crate::apply_error::ApplyError;
+use crate::compose::composed;
+use crate::compose_error::ComposeError;
+use crate::inverse::inverse;
 use crate::order_error::OrderError;
 use crate::text_edit::TextEdit;
 use std::alloc::Global;
@@ -112,5 +117,32 @@ impl TextEdits {
     {
         tested(&self.edits, text)?;
         Ok(applied(alloc, &self.edits, text)?)
+    }
+
+    /// One list of edits that does what these do and then `next`, whose offsets are those of the text that these make.
+    /// Edits that touch are joined. Takes time linear in the number of edits and in their texts.
+    ///
+    /// Where both lists fit a text, one after the other, there is such a list; else the error names the first edit of
+    /// `next` that does not fit, unless only the old text could say so.
+    pub fn then(&self, alloc: Global, next: &TextEdits) -> Result<TextEdits, ComposeError>
+        ensures ok { IfOk result (AreComposed self.now next.now) }
+        ensures refused { IfErr result (ComposeRefuses self.now next.now) }
+    {
+        let edits = composed(alloc, &self.edits, &next.edits)?;
+        Ok(TextEdits { edits })
+    }
+
+    /// The edits that take back what these do to this text: applied to the new text they give it back, edit by edit.
+    ///
+    /// The errors are those of `apply`, and `TooLong`. Takes time linear in the text and the number of edits.
+    pub fn inverse(&self, alloc: Global, old: &str) -> Result<TextEdits, ApplyError>
+        ensures ok { IfOk result (λ r. r ≡ inverted self.now old.now) }
+        ensures back { IfOk result (TakeBack self.now old.now) }
+        ensures fit { OnOk result (FitText old.now self.now) }
+        ensures refused { IfErr result (ApplyRefuses old.now self.now) }
+    {
+        tested(&self.edits, old)?;
+        let edits = inverse(alloc, &self.edits, old)?;
+        Ok(TextEdits { edits })
     }
 }

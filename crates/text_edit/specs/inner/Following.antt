@@ -17,4 +17,5 @@ FollowRefuses len start end i e (Overlapping n) = (n ≡ i) × (e.first ≤ e.st
 abbrev pub MissesAt : List ℕ → ℕ → TextPiece → ApplyError → Type 0
 MissesAt s i e (apply.PastEnd n) = (n ≡ i) × (length s < e.stop)
 MissesAt s i e (apply.InsideCharacter n) = (n ≡ i) × (e.stop ≤ length s) × ¬ (FitsText s e)
+MissesAt s i e apply.TooLong = ⊥
 MissesAt s i e apply.Memory = ⊥
