@@ -7,3 +7,4 @@ pub mod Putting
 pub mod Passing
 pub mod Carrying
 pub mod Inverting
+pub mod Narrowing

@@ -3,4 +3,5 @@ pub mod OrderRefusal
 pub mod ApplyRefusal
 pub mod Composition
 pub mod Inverse
+pub mod Trimmed
 pub mod inner

@@ -2,3 +2,4 @@
 pub mod Following
 pub mod Joined
 pub mod Composing
+pub mod Trimming

@@ -9,6 +9,7 @@ mod inverse;
 mod order_error;
 mod text_edit;
 mod text_edits;
+mod trim;
 
 pub use apply_error::ApplyError;
 pub use compose_error::ComposeError;

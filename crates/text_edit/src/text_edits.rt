@@ -1,11 +1,12 @@
 //! `TextEdits`: edits of one text, in order and apart.
 
-ghost use Rattle.std.specs.Prelude.{◌≡◌, ◌==◌, ◌↔◌, ◌+◌, ◌<◌, ◌≤◌, ◌^◌, [], length, IsTrue, IfOk, OnOk, IfErr, string_bytes};
+ghost use Rattle.std.specs.Prelude.{◌≡◌, ◌==◌, ◌↔◌, ◌+◌, ◌<◌, ◌≤◌, ◌^◌, [], length, IsTrue, IfOk, OnOk, IfErr, string_bytes, All};
 ghost use Rattle.text_edit.specs.TextPiece.{as_piece, pieces, AreApart, FitText, applied};
 ghost use Rattle.text_edit.specs.OrderRefusal.{nothing, piece_before, piece_at, OrderRefuses};
 ghost use Rattle.text_edit.specs.ApplyRefusal.{ApplyRefuses};
 ghost use Rattle.text_edit.specs.Composition.{AreComposed, ComposeRefuses};
 ghost use Rattle.text_edit.specs.Inverse.{inverted, TakeBack};
+ghost use Rattle.text_edit.specs.Trimmed.{IsTrimmed};
 ghost use Rattle.text_edit.specs.inner.Following.{FollowRefuses};
 
 use crate::apply::{applied, tested};
@@ -15,6 +16,7 @@ use crate::compose_error::ComposeError;
 use crate::inverse::inverse;
 use crate::order_error::OrderError;
 use crate::text_edit::TextEdit;
+use crate::trim::trimmed;
 use std::alloc::Global;
 use std::marker::Model;
 
@@ -143,6 +145,21 @@ impl TextEdits {
     {
         tested(&self.edits, old)?;
         let edits = inverse(alloc, &self.edits, old)?;
+        Ok(TextEdits { edits })
+    }
+
+    /// These edits without what they leave as it was: what an edit takes away and what it puts in begin with different
+    /// characters and end with different ones, and an edit that changes nothing is left out. Same result on this text.
+    ///
+    /// The errors are those of `apply`. Takes time linear in the text and the number of edits.
+    pub fn trimmed(&self, alloc: Global, old: &str) -> Result<TextEdits, ApplyError>
+        ensures same { IfOk result (λ r. applied r old.now ≡ applied self.now old.now) }
+        ensures fit { IfOk result (FitText old.now) }
+        ensures trimmed { IfOk result (All (IsTrimmed old.now)) }
+        ensures refused { IfErr result (ApplyRefuses old.now self.now) }
+    {
+        tested(&self.edits, old)?;
+        let edits = trimmed(alloc, &self.edits, old)?;
         Ok(TextEdits { edits })
     }
 }
