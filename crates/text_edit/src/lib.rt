@@ -7,6 +7,8 @@ mod compose;
 mod compose_error;
 mod inverse;
 mod order_error;
+#[cfg(test)]
+mod tests;
 mod text_edit;
 mod text_edits;
 mod trim;

@@ -1,0 +1,63 @@
+//! Each call once, on tables of edits.
+use crate::{TextEdit, TextEdits};
+use std::alloc::Global;
+use std::test::Fail;
+
+// Edits of a text of 100 bytes, each with its start, its end and its text.
+fn edits(alloc: Global, list: &[(u64, u64, &str)]) -> Result<TextEdits, Fail> {
+    let mut out = Vec::new(alloc);
+    for (start, end, text) in list {
+        out.push(TextEdit {
+            start: *start,
+            end: *end,
+            text: String::from_str(alloc, text)?,
+        })?;
+    }
+    Ok(TextEdits::new(out, 100)?)
+}
+
+#[test]
+fn applies(rt: HostRuntime) -> Result<(), Fail> {
+    let alloc = rt.alloc();
+    let edits = edits(alloc, &[(1, 1, "x"), (1, 3, "yz"), (3, 3, "!"), (5, 6, "")])?;
+    assert_eq!(rt; edits.apply(alloc, "abcdef")?.as_str(), "axyz!de");
+    Ok(())
+}
+
+#[test]
+fn composes(rt: HostRuntime) -> Result<(), Fail> {
+    let alloc = rt.alloc();
+    let first = edits(alloc, &[(1, 2, "123"), (4, 4, "45")])?;
+    let next = edits(alloc, &[(0, 2, ""), (3, 5, "ü"), (7, 8, "")])?;
+    let text = first.apply(alloc, "abcdef")?;
+    let both = first.then(alloc, &next)?;
+    assert_eq!(rt; text.as_str(), "a123cd45ef");
+    assert_eq!(rt; next.apply(alloc, &text)?.as_str(), "2üd4ef");
+    assert_eq!(rt; both.apply(alloc, "abcdef")?.as_str(), "2üd4ef");
+    assert_eq!(rt; both.len(), 2);
+    Ok(())
+}
+
+#[test]
+fn inverts(rt: HostRuntime) -> Result<(), Fail> {
+    let alloc = rt.alloc();
+    let edits = edits(alloc, &[(0, 2, "xyz"), (3, 3, "!"), (4, 6, "")])?;
+    let new = edits.apply(alloc, "abcdef")?;
+    let back = edits.inverse(alloc, "abcdef")?;
+    assert_eq!(rt; back.apply(alloc, &new)?.as_str(), "abcdef");
+    Ok(())
+}
+
+#[test]
+fn trims(rt: HostRuntime) -> Result<(), Fail> {
+    let alloc = rt.alloc();
+    let edits = edits(alloc, &[(0, 3, "axc"), (3, 4, "d"), (4, 6, "éf")])?;
+    let trimmed = edits.trimmed(alloc, "abcdef")?;
+    assert_eq!(rt; trimmed.len(), 2);
+    for (edit, start) in trimmed.as_slice().iter().zip([1u64, 4].iter()) {
+        assert_eq!(rt; edit.start, *start);
+        assert_eq!(rt; edit.end, *start + 1);
+    }
+    assert_eq!(rt; trimmed.apply(alloc, "abcdef")?.as_str(), "axcdéf");
+    Ok(())
+}
