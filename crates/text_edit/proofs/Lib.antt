@@ -8,3 +8,4 @@ pub mod Passing
 pub mod Carrying
 pub mod Inverting
 pub mod Narrowing
+pub mod LinePlaces

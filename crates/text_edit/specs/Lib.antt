@@ -4,4 +4,5 @@ pub mod ApplyRefusal
 pub mod Composition
 pub mod Inverse
 pub mod Trimmed
+pub mod Lines
 pub mod inner

@@ -6,6 +6,7 @@ mod apply_error;
 mod compose;
 mod compose_error;
 mod inverse;
+mod line_index;
 mod order_error;
 #[cfg(test)]
 mod tests;
@@ -15,6 +16,7 @@ mod trim;
 
 pub use apply_error::ApplyError;
 pub use compose_error::ComposeError;
+pub use line_index::{LineCol, LineIndex};
 pub use order_error::OrderError;
 pub use text_edit::TextEdit;
 pub use text_edits::TextEdits;
