@@ -9,3 +9,4 @@ pub mod Carrying
 pub mod Inverting
 pub mod Narrowing
 pub mod LinePlaces
+pub mod Measuring

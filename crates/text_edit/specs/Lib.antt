@@ -5,4 +5,5 @@ pub mod Composition
 pub mod Inverse
 pub mod Trimmed
 pub mod Lines
+pub mod Wide
 pub mod inner

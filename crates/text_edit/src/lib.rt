@@ -3,6 +3,7 @@
 
 mod apply;
 mod apply_error;
+mod characters;
 mod compose;
 mod compose_error;
 mod inverse;
@@ -13,6 +14,7 @@ mod tests;
 mod text_edit;
 mod text_edits;
 mod trim;
+mod wide;
 
 pub use apply_error::ApplyError;
 pub use compose_error::ComposeError;
@@ -20,3 +22,4 @@ pub use line_index::{LineCol, LineIndex};
 pub use order_error::OrderError;
 pub use text_edit::TextEdit;
 pub use text_edits::TextEdits;
+pub use wide::{WideEncoding, WideLineCol};

@@ -2,8 +2,11 @@
 
 ghost use Rattle.std.specs.Prelude.{◌≡◌, ◌+◌, ◌<◌, ◌≤◌, ℕ, length, MatchOption, IfOk, IfSome, IsCharBoundary, slice_index};
 ghost use Rattle.text_edit.specs.Lines.{line_starts, IsAt};
+ghost use Rattle.text_edit.specs.Wide.{IsWide};
 ghost use Rattle.text_edit.specs.declared.line_index.LineCol.{LineCol};
+ghost use Rattle.text_edit.specs.declared.wide.WideLineCol.{WideLineCol};
 
+use crate::wide::{WideEncoding, WideLineCol};
 use std::alloc::{AllocError, Global};
 use std::marker::Model;
 
@@ -24,14 +27,14 @@ pub struct LineIndex<'a> {
 }
 
 impl<'a> Model for LineIndex<'a> {
-    ghost use Rattle.std.specs.Prelude.{List, ℕ, ◌≡◌};
+    ghost use Rattle.std.specs.Prelude.{List, ℕ, ◌≡◌, IsUtf8};
     ghost use Rattle.text_edit.specs.Lines.{line_starts};
 
     ghost Value = { List ℕ };
 
     ghost view = { λ a. a.text.now };
 
-    ghost invariant = { λ a. a.starts.items ≡ line_starts a.text.now };
+    ghost invariant = { λ a. IsUtf8 a.text.now × (a.starts.items ≡ line_starts a.text.now) };
 }
 
 // Where the lines of a text start.
@@ -114,5 +117,20 @@ impl<'a> LineIndex<'a> {
             return None;
         }
         Some(offset)
+    }
+
+    /// The same place with its column in units of an encoding; none where `offset` gives none.
+    /// Takes time linear in what stands before it on its line.
+    pub fn to_wide(&self, encoding: WideEncoding, line_col: LineCol) -> Option<WideLineCol>
+        ensures { MatchOption result ((w : WideLineCol) → ¬ (IsWide self.now encoding line_col w))
+            (IsWide self.now encoding line_col) }
+    {
+        let offset = self.offset(line_col)?;
+        let start = offset - line_col.col;
+        let before = &self.text[start as usize..offset as usize];
+        Some(WideLineCol {
+            line: line_col.line,
+            col: encoding.measure(before),
+        })
     }
 }

@@ -1,5 +1,5 @@
 //! Each call once, on tables of edits.
-use crate::{TextEdit, TextEdits};
+use crate::{LineCol, LineIndex, TextEdit, TextEdits, WideEncoding};
 use std::alloc::Global;
 use std::test::Fail;
 
@@ -59,5 +59,26 @@ fn trims(rt: HostRuntime) -> Result<(), Fail> {
         assert_eq!(rt; edit.end, *start + 1);
     }
     assert_eq!(rt; trimmed.apply(alloc, "abcdef")?.as_str(), "axcdéf");
+    Ok(())
+}
+
+#[test]
+fn finds_lines(rt: HostRuntime) -> Result<(), Fail> {
+    let index = LineIndex::new(rt.alloc(), "a\n𝄞b\n")?;
+    for (offset, line, col, wide) in [
+        (0u64, 0u64, 0u64, 0u64),
+        (1, 0, 1, 1),
+        (2, 1, 0, 0),
+        (6, 1, 4, 2),
+        (8, 2, 0, 0),
+    ] {
+        let place = LineCol { line, col };
+        assert_eq!(rt; index.try_line_col(offset), Some(place));
+        assert_eq!(rt; index.offset(place), Some(offset));
+        let units = index.to_wide(WideEncoding::Utf16, place).ok_or("none")?;
+        assert_eq!(rt; units.col, wide);
+    }
+    assert_eq!(rt; index.try_line_col(3), None);
+    assert_eq!(rt; index.offset(LineCol { line: 0, col: 2 }), None);
     Ok(())
 }

@@ -1,6 +1,7 @@
 //! `TextEdits`: edits of one text, in order and apart.
 
 ghost use Rattle.std.specs.Prelude.{◌≡◌, ◌==◌, ◌↔◌, ◌+◌, ◌<◌, ◌≤◌, ◌^◌, [], length, IsTrue, IfOk, OnOk, IfErr, string_bytes, All};
+ghost use Rattle.std.specs.Slice.Iter.{iter_rest};
 ghost use Rattle.text_edit.specs.TextPiece.{as_piece, pieces, AreApart, FitText, applied};
 ghost use Rattle.text_edit.specs.OrderRefusal.{nothing, piece_before, piece_at, OrderRefuses};
 ghost use Rattle.text_edit.specs.ApplyRefusal.{ApplyRefuses};
@@ -19,6 +20,7 @@ use crate::text_edit::TextEdit;
 use crate::trim::trimmed;
 use std::alloc::Global;
 use std::marker::Model;
+use std::slice::Iter;
 
 /// Edits of one text, from left to right: none starts before the one before it ends. All offsets are in bytes of the old
 /// text, whatever the edits before put in.
@@ -109,6 +111,13 @@ impl TextEdits {
         ensures apart { AreApart 0 self.now (2 ^ 64) }
     {
         &self.edits
+    }
+
+    /// The edits one by one, from left to right.
+    pub fn iter(&self) -> Iter<'_, TextEdit>
+        ensures { pieces (iter_rest result) ≡ self.now }
+    {
+        self.edits.iter()
     }
 
     /// The text that the edits make of this one. Takes time linear in the two texts and the number of edits.

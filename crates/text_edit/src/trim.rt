@@ -1,30 +1,13 @@
 //! Edits without what they leave as it was.
 
-ghost use Rattle.std.specs.Prelude.{◌≡◌, ◌≤◌, ◌++◌, ◌^◌, [], All, IfOk, OnOk, MatchOption, IsUtf8, encode_utf8, slice_range};
+ghost use Rattle.std.specs.Prelude.{◌≡◌, ◌≤◌, ◌++◌, ◌^◌, [], All, IfOk, OnOk, IsUtf8, slice_range};
 ghost use Rattle.text_edit.specs.TextPiece.{as_piece, pieces, AreApart, FitsText, FitText, applied};
 ghost use Rattle.text_edit.specs.Trimmed.{IsTrimmed};
 ghost use Rattle.text_edit.specs.inner.Trimming.{IsCutAtStart, IsCutAtEnd, PutsTrimmed};
 
+use crate::characters::{first_and_rest, last_and_rest};
 use crate::text_edit::TextEdit;
 use std::alloc::{AllocError, Global};
-
-// The first character of a text and what follows it.
-fn first_and_rest(text: &str) -> Option<(char, &str)>
-    ensures { MatchOption result (text.now ≡ []) (λ p. text.now ≡ encode_utf8 p.0 ++ p.1.now) }
-{
-    let mut characters = text.chars();
-    let first = characters.next()?;
-    Some((first, characters.as_str()))
-}
-
-// The last character of a text and what stands before it.
-fn last_and_rest(text: &str) -> Option<(char, &str)>
-    ensures { MatchOption result (text.now ≡ []) (λ p. text.now ≡ p.1.now ++ encode_utf8 p.0) }
-{
-    let mut characters = text.chars();
-    let last = characters.next_back()?;
-    Some((last, characters.as_str()))
-}
 
 // Two texts without what both begin with.
 fn without_common_start<'a, 'b>(old: &'a str, new: &'b str) -> (&'a str, &'b str)
