@@ -9,7 +9,8 @@ use Rattle.text_edit.specs.declared.compose_error.ComposeError.{ComposeError}
 use Rattle.text_edit.specs.declared.compose_error.ComposeError.TheVariants.{InsideCharacter, TooLong, Memory}
 
 abbrev pub AreComposed : List TextPiece → List TextPiece → List TextPiece → Type 0
-AreComposed first next es = (s : List ℕ) → IsUtf8 s → FitText s first → FitText (applied first s) next → FitText s es × (applied es s ≡ applied next (applied first s))
+AreComposed first next es = (s : List ℕ) → IsUtf8 s → FitText s first → FitText (applied first s) next
+    → FitText s es × (applied es s ≡ applied next (applied first s))
 
 abbrev pub FitNone : List TextPiece → List TextPiece → Type 0
 FitNone first es = (s : List ℕ) → IsUtf8 s → length s < 2 ^ 64 → FitText s first → ¬ (FitText (applied first s) es)

@@ -5,10 +5,12 @@ use Rattle.std.specs.Prelude.{◌≡◌, ◌≢◌, ◌⊎◌, ℕ, List, [], �
 use Rattle.text_edit.specs.TextPiece.{TextPiece}
 
 abbrev pub BeginApart : List ℕ → List ℕ → Type 0
-BeginApart old new = (old ≡ []) ⊎ ((c : ℕ) × (rest : List ℕ) × (old ≡ encode_utf8 c ++ rest) × ((others : List ℕ) → new ≢ encode_utf8 c ++ others))
+BeginApart old new = (old ≡ []) ⊎ ((c : ℕ) × (rest : List ℕ) × (old ≡ encode_utf8 c ++ rest)
+    × ((others : List ℕ) → new ≢ encode_utf8 c ++ others))
 
 abbrev pub EndApart : List ℕ → List ℕ → Type 0
-EndApart old new = (old ≡ []) ⊎ ((c : ℕ) × (rest : List ℕ) × (old ≡ rest ++ encode_utf8 c) × ((others : List ℕ) → new ≢ others ++ encode_utf8 c))
+EndApart old new = (old ≡ []) ⊎ ((c : ℕ) × (rest : List ℕ) × (old ≡ rest ++ encode_utf8 c)
+    × ((others : List ℕ) → new ≢ others ++ encode_utf8 c))
 
 pub record IsTrimmed (s : List ℕ) (e : TextPiece) : Type 0 where
   pub begins : BeginApart (slice_range s e.first e.stop) e.text

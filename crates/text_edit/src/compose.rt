@@ -138,7 +138,8 @@ impl<'a> Composing<'a> {
         requires next { BeginsHere (place_of self.old) }
         ensures place { OnOk result (IsPlace (place_of self.new)) }
         ensures rest { OnOk result (length self.new.rest.now + 1 ≡ length self.old.rest.now) }
-        ensures passes { OnOk result ((keeps : Bool) (n : ℕ) → Passes keeps n 0 (place_of self.old) (place_of self.new)) }
+        ensures passes { OnOk result
+            ((keeps : Bool) (n : ℕ) → Passes keeps n 0 (place_of self.old) (place_of self.new)) }
     {
         let Some((edit, rest)) = self.rest.split_first() else {
             unreachable!()

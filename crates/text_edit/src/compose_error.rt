@@ -5,14 +5,14 @@ ghost use Rattle.std.specs.Prelude.{◌<◌, length};
 use std::alloc::{AllocError, AllocFailed};
 use thiserror::Error;
 
-/// Why two lists of edits are not composed. `index` says which edit of the second list is to blame, counted from 0: it
-/// fits no text that the first list makes.
+/// Why two lists of edits are not composed. `index` says which edit of the second list is to blame, counted from 0: the
+/// edits up to it fit no text that the first list makes.
 #[derive(Clone, Copy, Debug, PartialEq, Eq, Error)]
 pub enum ComposeError {
     /// The edit starts or ends within a character that the first list puts in.
     #[error("InsideCharacter {index}")]
     InsideCharacter { index: usize },
-    /// An offset of the edit is one of 2 to the power of 64 or more in the old text.
+    /// An offset of the edit would be 2 to the power of 64 or more in the old text.
     #[error("TooLong {index}")]
     TooLong { index: usize },
     /// Memory was refused.

@@ -133,8 +133,8 @@ impl TextEdits {
     /// One list of edits that does what these do and then `next`, whose offsets are those of the text that these make.
     /// Edits that touch are joined. Takes time linear in the number of edits and in their texts.
     ///
-    /// Where both lists fit a text, one after the other, there is such a list; else the error names the first edit of
-    /// `next` that does not fit, unless only the old text could say so.
+    /// Except for `Memory`, it is refused only where the edits of `next` up to the one that the error names fit no text
+    /// that these make.
     pub fn then(&self, alloc: Global, next: &TextEdits) -> Result<TextEdits, ComposeError>
         ensures ok { IfOk result (AreComposed self.now next.now) }
         ensures refused { IfErr result (ComposeRefuses self.now next.now) }
