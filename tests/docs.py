@@ -209,7 +209,7 @@ def compare_believed():
 
 
 # The crates that users of the editor name.
-EDITOR = ["cst_core", "edit_map", "edit_plan", "syntax_editor", "list_removal"]
+EDITOR = ["cst_core", "edit_map", "edit_plan", "syntax_editor", "list_removal", "text_edit"]
 WITHOUT_BUG = {
     "green_tree::GreenToken::kind": "its bug takes the whole function away and writes another one elsewhere",
     "green_tree::GreenNode::kind": "its bug takes the whole function away and writes another one elsewhere",

@@ -1,6 +1,7 @@
 -- Why edits are not applied to a text.
 --     IsFirstUnfit                  The pieces before an index fit a text, and the one there does not, in this way.
---     ApplyRefuses                  What an error says.
+--     ApplyRefuses                  What an error says: the first piece that does not fit ends past the end of the
+--                                   text; or it starts or ends within a character; or the new text is too long.
 use Rattle.std.specs.Prelude.{ℕ, ◌<◌, ◌≤◌, ◌^◌, List, length, take}
 use Rattle.text_edit.specs.TextPiece.{TextPiece, FitsText, FitText, applied}
 use Rattle.text_edit.specs.OrderRefusal.{piece_at}

@@ -1,8 +1,9 @@
 -- One list of edits that does what two do, one after the other.
---     AreComposed                   Pieces do to each text what two lists do, of which the first fits the text, and the second what the first
---                                   makes of it. They fit it too.
+--     AreComposed                   Pieces do to each text what two lists do, of which the first fits the text, and the
+--                                   second what the first makes of it. They fit it too.
 --     FitNone                       Pieces fit nothing that the first list makes of a text of less than 2 ^ 64 bytes.
---     ComposeRefuses                What an error says: the edits of the second list up to this one fit nothing that the first makes.
+--     ComposeRefuses                What an error says: the edits of the second list up to this one fit nothing that
+--                                   the first makes.
 use Rattle.std.specs.Prelude.{◌≡◌, ℕ, ◌+◌, ◌<◌, ◌^◌, List, length, take, IsUtf8}
 use Rattle.text_edit.specs.TextPiece.{TextPiece, FitText, applied}
 use Rattle.text_edit.specs.declared.compose_error.ComposeError.{ComposeError}

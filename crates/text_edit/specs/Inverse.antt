@@ -1,6 +1,8 @@
 -- The edits that take back what edits do to a text.
---     inverted_from                 Those for pieces of which the text before an offset is done, which is another offset of the new text.
---     inverted                      Those for a whole list: in the place of what each piece puts in stands again what it takes away.
+--     inverted_from                 Those for pieces of which the text before an offset is done, which is another
+--                                   offset of the new text.
+--     inverted                      Those for a whole list: in the place of what each piece puts in stands again what
+--                                   it takes away.
 --     TakeBack                      Pieces fit what others make of a text, and give the text back.
 use Rattle.std.specs.Prelude.{◌≡◌, ℕ, ◌+◌, ◌-◌, List, [], ◌∷◌, length, slice_range}
 use Rattle.text_edit.specs.TextPiece.{TextPiece, FitText, applied}

@@ -1,8 +1,9 @@
 -- The lines of a text. Offsets and columns are in bytes, lines are counted from 0.
 --     newline                       The byte that ends a line.
---     starts_from, line_starts      Where lines start: behind each newline, of what is from an offset on; of a whole text, at 0 too.
---     IsAt                          A line and column are those of an offset: it is so many bytes behind the start of the line, and before the
---                                   start of the next one.
+--     starts_from, line_starts      Where lines start: behind each newline, of what is from an offset on; of a whole
+--                                   text, at 0 too.
+--     IsAt                          A line and column are those of an offset: it is so many bytes behind the start of
+--                                   the line, and before the start of the next one.
 use Rattle.std.specs.Prelude.{◌≡◌, ℕ, ◌+◌, ◌<◌, cond, ◌==◌, List, [], ◌∷◌, length, slice_index}
 use Rattle.text_edit.specs.declared.line_index.LineCol.{LineCol}
 

@@ -1,11 +1,14 @@
 -- What a list of edits is, and what it does to a text. Offsets are in bytes of the old text.
---     TextPiece, as_piece           A text that stands in the place of what is from `first` up to `stop` in the old text; a `TextEdit` of
---                                   code as one.
+--     TextPiece, as_piece           A text that stands in the place of what is from `first` up to `stop` in the old
+--                                   text; a `TextEdit` of code as one.
 --     pieces                        Edits of code as a list of these.
---     AreApart                      Pieces are in order from an offset on up to another one, and none starts before the one before it ends.
---                                   So inserts at one offset are in order, in whichever order they stand.
---     FitsText, FitText             A piece starts and ends where a character of a text starts, or at the end of the text; all pieces do.
---     applied_from, applied         The text that pieces make of an old text, of which the first `gone` bytes are gone; of a whole one.
+--     AreApart                      Pieces are in order from an offset on up to another one, and none starts before the
+--                                   one before it ends. So inserts at one offset are in order, in whichever order they
+--                                   stand.
+--     FitsText, FitText             A piece starts and ends where a character of a text starts, or at the end of the
+--                                   text; all pieces do.
+--     applied_from, applied         The text that pieces make of an old text, of which the first `gone` bytes are gone;
+--                                   of a whole one.
 use Rattle.std.specs.Prelude.{ℕ, ◌-◌, ◌≤◌, List, [], ◌∷◌, ◌++◌, map, take, drop, All, string_bytes, IsCharBoundary}
 use Rattle.text_edit.specs.declared.text_edit.TextEdit.{TextEdit}
 

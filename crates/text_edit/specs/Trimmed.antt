@@ -1,5 +1,6 @@
 -- Edits that leave nothing as it was.
---     BeginApart, EndApart          A text is empty, or begins (ends) with a character with which another one does not begin (end).
+--     BeginApart, EndApart          A text is empty, or begins (ends) with a character with which another one does not
+--                                   begin (end).
 --     IsTrimmed                     So do what a piece takes away and what it puts in, and it does something.
 use Rattle.std.specs.Prelude.{◌≡◌, ◌≢◌, ◌⊎◌, ℕ, List, [], ◌++◌, encode_utf8, slice_range}
 use Rattle.text_edit.specs.TextPiece.{TextPiece}

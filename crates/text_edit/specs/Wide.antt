@@ -18,4 +18,5 @@ abbrev pub wide_len : WideEncoding → List ℕ → ℕ
 wide_len encoding s = sum_by (units encoding) (chars s)
 
 abbrev pub IsWide : List ℕ → WideEncoding → LineCol → WideLineCol → Type 0
-IsWide s encoding p w = (n : ℕ) × IsCharBoundary s n × IsAt s p n × (w.line ≡ p.line) × (w.col ≡ wide_len encoding (slice_range s (n - p.col) n))
+IsWide s encoding p w = (n : ℕ) × IsCharBoundary s n × IsAt s p n × (w.line ≡ p.line)
+    × (w.col ≡ wide_len encoding (slice_range s (n - p.col) n))

@@ -38,10 +38,10 @@ impl ComposeError {
     {
         match self {
             ComposeError::InsideCharacter { .. } => {
-                "an edit of the second list starts or ends within a character that the first puts in; take offsets of the text that the first makes"
+                "an edit of the second list cuts through a character; take offsets of the text that the first makes"
             }
             ComposeError::TooLong { .. } => {
-                "an edit of the second list ends past the end of any text; take offsets of the text that the first makes"
+                "an edit of the second list ends past any text; take offsets of the text that the first makes"
             }
             ComposeError::Memory => "memory ran out; free some and try again",
         }

@@ -22,8 +22,8 @@ use std::alloc::Global;
 use std::marker::Model;
 use std::slice::Iter;
 
-/// Edits of one text, from left to right: none starts before the one before it ends. All offsets are in bytes of the old
-/// text, whatever the edits before put in.
+/// Edits of one text, from left to right: none starts before the one before it ends. All offsets are in bytes of the
+/// old text, whatever the edits before put in.
 ///
 /// Two edits may touch. Of inserts at one offset the one that stands first in the list is put first. An insert at the
 /// end of a deletion stands after it, and one at its start before it.
@@ -80,8 +80,8 @@ fn ordered(edits: &[TextEdit], len: u64) -> Result<(), OrderError>
 }
 
 impl TextEdits {
-    /// These edits as one list, for a text of this length in bytes. Where the first edit that breaks the order breaks it
-    /// in more than one way, the error names the first way in the order of `OrderError`.
+    /// These edits as one list, for a text of this length in bytes. Where the first edit that breaks the order breaks
+    /// it in more than one way, the error names the first way in the order of `OrderError`.
     pub fn new(edits: Vec<TextEdit>, len: u64) -> Result<TextEdits, OrderError>
         ensures ok { IfOk result (λ r. r ≡ pieces edits.items) }
         ensures apart { OnOk result (AreApart 0 (pieces edits.items) len) }

@@ -12,7 +12,8 @@ abbrev pub FollowRefuses : ℕ → ℕ → ℕ → ℕ → TextPiece → OrderEr
 FollowRefuses len start end i e (StartAfterEnd n) = (n ≡ i) × (e.stop < e.first)
 FollowRefuses len start end i e (PastEnd n) = (n ≡ i) × (e.first ≤ e.stop) × (len < e.stop)
 FollowRefuses len start end i e (OutOfOrder n) = (n ≡ i) × (e.first ≤ e.stop) × (e.stop ≤ len) × (e.first < start)
-FollowRefuses len start end i e (Overlapping n) = (n ≡ i) × (e.first ≤ e.stop) × (e.stop ≤ len) × (start ≤ e.first) × (e.first < end)
+FollowRefuses len start end i e (Overlapping n) =
+    (n ≡ i) × (e.first ≤ e.stop) × (e.stop ≤ len) × (start ≤ e.first) × (e.first < end)
 
 abbrev pub MissesAt : List ℕ → ℕ → TextPiece → ApplyError → Type 0
 MissesAt s i e (apply.PastEnd n) = (n ≡ i) × (length s < e.stop)
