@@ -10,3 +10,5 @@ pub mod Inverting
 pub mod Narrowing
 pub mod LinePlaces
 pub mod Measuring
+pub mod Columns
+pub mod WidePlaces

@@ -122,8 +122,9 @@ impl<'a> LineIndex<'a> {
     /// The same place with its column in units of an encoding; none where `offset` gives none.
     /// Takes time linear in what stands before it on its line.
     pub fn to_wide(&self, encoding: WideEncoding, line_col: LineCol) -> Option<WideLineCol>
-        ensures { MatchOption result ((w : WideLineCol) → ¬ (IsWide self.now encoding line_col w))
+        ensures place { MatchOption result ((w : WideLineCol) → ¬ (IsWide self.now encoding line_col w))
             (IsWide self.now encoding line_col) }
+        ensures only { IfSome result (λ w. (v : WideLineCol) → IsWide self.now encoding line_col v → v ≡ w) }
     {
         let offset = self.offset(line_col)?;
         let start = offset - line_col.col;
@@ -132,5 +133,26 @@ impl<'a> LineIndex<'a> {
             line: line_col.line,
             col: encoding.measure(before),
         })
+    }
+
+    /// The same place with its column in bytes; none where there is no such place, or the column is within a character.
+    /// Takes time linear in the column. It and `to_wide` give the place back to each other.
+    pub fn to_utf8(&self, encoding: WideEncoding, wide: WideLineCol) -> Option<LineCol>
+        ensures place { MatchOption result ((p : LineCol) → ¬ (IsWide self.now encoding p wide))
+            (λ p. IsWide self.now encoding p wide) }
+        ensures only { IfSome result (λ p. (q : LineCol) → IsWide self.now encoding q wide → q ≡ p) }
+    {
+        let start = *self.starts.get(wide.line as usize)?;
+        let Some(col) = encoding.bytes_of(&self.text[start as usize..], wide.col) else {
+            return None;
+        };
+        let place = LineCol {
+            line: wide.line,
+            col,
+        };
+        match self.offset(place) {
+            Some(_) => Some(place),
+            None => None,
+        }
     }
 }

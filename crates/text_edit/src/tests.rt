@@ -1,5 +1,5 @@
 //! Each call once, on tables of edits.
-use crate::{LineCol, LineIndex, TextEdit, TextEdits, WideEncoding};
+use crate::{LineCol, LineIndex, TextEdit, TextEdits, WideEncoding, WideLineCol};
 use std::alloc::Global;
 use std::test::Fail;
 
@@ -77,8 +77,11 @@ fn finds_lines(rt: HostRuntime) -> Result<(), Fail> {
         assert_eq!(rt; index.offset(place), Some(offset));
         let units = index.to_wide(WideEncoding::Utf16, place).ok_or("none")?;
         assert_eq!(rt; units.col, wide);
+        assert_eq!(rt; index.to_utf8(WideEncoding::Utf16, units), Some(place));
     }
     assert_eq!(rt; index.try_line_col(3), None);
     assert_eq!(rt; index.offset(LineCol { line: 0, col: 2 }), None);
+    let inside = WideLineCol { line: 1, col: 1 };
+    assert_eq!(rt; index.to_utf8(WideEncoding::Utf16, inside), None);
     Ok(())
 }

@@ -1,6 +1,6 @@
 //! Columns in units of UTF-16 and UTF-32.
 
-ghost use Rattle.std.specs.Prelude.{◌≡◌};
+ghost use Rattle.std.specs.Prelude.{◌≡◌, ◌≢◌, ℕ, take, MatchOption, IsCharBoundary};
 ghost use Rattle.text_edit.specs.Wide.{units, wide_len};
 
 use crate::characters::first_and_rest;
@@ -45,5 +45,27 @@ impl WideEncoding {
             left = rest;
         }
         measured
+    }
+
+    /// How many bytes the beginning of a text has that has so many units; none where no beginning has. Takes time
+    /// linear in the units.
+    pub(crate) fn bytes_of(self, text: &str, wide: u64) -> Option<u64>
+        ensures { MatchOption result ((n : ℕ) → IsCharBoundary text.now n → wide_len self (take n text.now) ≢ wide)
+            (λ n. IsCharBoundary text.now n × (wide_len self (take n text.now) ≡ wide)) }
+    {
+        let mut measured = 0;
+        let mut left = text;
+        'characters: while measured < wide {
+            let Some((first, rest)) = first_and_rest(left) else {
+                return None;
+            };
+            measured += self.units(first);
+            left = rest;
+        }
+        if measured == wide {
+            Some((text.len() - left.len()) as u64)
+        } else {
+            None
+        }
     }
 }
