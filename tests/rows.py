@@ -150,7 +150,7 @@ def all_answer():
 # Allocations that fail. A row is a table of its own, which begins with the line `growths are refused` and the trees that the row names. Each of
 # its runs must answer as expected or end because memory runs out; then everything that a refused call must leave as it was is compared.
 
-# Calls that no row can show to be refused. The sharing of a tree is a count, and the path of a root is empty.
+# Calls that no row can show to be refused. The sharing of a tree is a count, and the path of a root is empty. Rows speak of no text edits.
 EXCEPT = {
     "GreenToken::share": "asks for nothing",
     "GreenElementRef::share": "asks for nothing",
@@ -174,6 +174,11 @@ EXCEPT = {
     "OnePassEngine::starting_at": "asks for nothing",
     "SpliceEngine::new": "asks for nothing",
     "KindNames::new": "keeps the allocator, and asks for nothing",
+    "LineIndex::new": "is tested in `text_edit`, and changes nothing that it is given",
+    "TextEdits::apply": "is tested in `text_edit`, and changes nothing that it is given",
+    "TextEdits::inverse": "is tested in `text_edit`, and changes nothing that it is given",
+    "TextEdits::then": "is tested in `text_edit`, and changes nothing that it is given",
+    "TextEdits::trimmed": "is tested in `text_edit`, and changes nothing that it is given",
     "run_explained": "is the whole of the program `syned`, which is run here with each allocation made to fail",
     "run": "is `run_explained` without the sentence",
     "explain": "makes the sentence of `run_explained`",
