@@ -1,10 +1,13 @@
-//! Each call once, on tables of edits.
-use crate::{LineCol, LineIndex, TextEdit, TextEdits, WideEncoding, WideLineCol};
+//! Each call once, and each error, on tables of edits.
+use crate::{
+    ApplyError, ComposeError, LineCol, LineIndex, OrderError, TextEdit, TextEdits, WideEncoding,
+    WideLineCol,
+};
 use std::alloc::Global;
 use std::test::Fail;
 
-// Edits of a text of 100 bytes, each with its start, its end and its text.
-fn edits(alloc: Global, list: &[(u64, u64, &str)]) -> Result<TextEdits, Fail> {
+// Edits, each with its start, its end and its text.
+fn listed(alloc: Global, list: &[(u64, u64, &str)]) -> Result<Vec<TextEdit>, Fail> {
     let mut out = Vec::new(alloc);
     for (start, end, text) in list {
         out.push(TextEdit {
@@ -13,7 +16,12 @@ fn edits(alloc: Global, list: &[(u64, u64, &str)]) -> Result<TextEdits, Fail> {
             text: String::from_str(alloc, text)?,
         })?;
     }
-    Ok(TextEdits::new(out, 100)?)
+    Ok(out)
+}
+
+// The same, of a text of 100 bytes.
+fn edits(alloc: Global, list: &[(u64, u64, &str)]) -> Result<TextEdits, Fail> {
+    Ok(TextEdits::new(listed(alloc, list)?, 100)?)
 }
 
 #[test]
@@ -59,6 +67,48 @@ fn trims(rt: HostRuntime) -> Result<(), Fail> {
         assert_eq!(rt; edit.end, *start + 1);
     }
     assert_eq!(rt; trimmed.apply(alloc, "abcdef")?.as_str(), "axcdéf");
+    Ok(())
+}
+
+#[test]
+fn refuses_an_order(rt: HostRuntime) -> Result<(), Fail> {
+    let alloc = rt.alloc();
+    for (start, end, len, error) in [
+        (5u64, 4u64, 9u64, OrderError::StartAfterEnd { index: 1 }),
+        (5, 9, 8, OrderError::PastEnd { index: 1 }),
+        (1, 3, 9, OrderError::OutOfOrder { index: 1 }),
+        (3, 5, 9, OrderError::Overlapping { index: 1 }),
+    ] {
+        let list = listed(alloc, &[(2, 4, ""), (start, end, "x")])?;
+        assert_eq!(rt; TextEdits::new(list, len).err(), Some(error));
+    }
+    Ok(())
+}
+
+#[test]
+fn refuses_a_text(rt: HostRuntime) -> Result<(), Fail> {
+    let alloc = rt.alloc();
+    let edits = edits(alloc, &[(0, 1, ""), (2, 3, "x")])?;
+    let past = ApplyError::PastEnd { index: 1 };
+    let inside = ApplyError::InsideCharacter { index: 1 };
+    assert_eq!(rt; edits.apply(alloc, "ab").err(), Some(past));
+    assert_eq!(rt; edits.apply(alloc, "aéb").err(), Some(inside));
+    Ok(())
+}
+
+#[test]
+fn refuses_a_composition(rt: HostRuntime) -> Result<(), Fail> {
+    let alloc = rt.alloc();
+    let first = edits(alloc, &[(0, 2, "é")])?;
+    let inside = edits(alloc, &[(0, 0, "x"), (1, 1, "x")])?;
+    let far = TextEdits::new(listed(alloc, &[(u64::MAX, u64::MAX, "x")])?, u64::MAX)?;
+    let deletion = edits(alloc, &[(0, 2, "")])?;
+    let in_character = ComposeError::InsideCharacter { index: 1 };
+    assert_eq!(rt; first.then(alloc, &inside).err(), Some(in_character));
+    assert_eq!(rt;
+        deletion.then(alloc, &far).err(),
+        Some(ComposeError::TooLong { index: 0 })
+    );
     Ok(())
 }
 
