@@ -3,50 +3,10 @@
 
 use crate::roots::kind_in;
 use crate::session::{CHANGED, Session};
-use crate::shown::{Answer, Done, Show, demand, given, kind_name, told};
+use crate::shown::{Answer, Done, Show, demand, kind_name, say};
 use crate::standing::hash_of;
 use cst_core::{Direction, SyntaxElement, SyntaxNode, SyntaxToken};
-use std::alloc::Global;
 use test_trees::{NoAnswer, Words, slots_of};
-
-// Where the name is that of one of these calls, what it gives.
-macro_rules! tell_one {
-    ($form:literal, $alloc:ident, $out:ident, $name:ident, $it:ident: $($call:ident)*) => {
-        $(if $name == stringify!($call) {
-            return told($out, concat!($form, "::", stringify!($call)), $it.$call($alloc));
-        })*
-    };
-}
-
-macro_rules! siblings {
-    ($form:literal, $alloc:ident, $out:ident, $it:ident, $to:ident) => {
-        told($out, concat!($form, "::siblings_with_tokens"), $it.siblings_with_tokens($alloc, Direction::$to))
-    };
-}
-
-// What is told of each form.
-macro_rules! fact {
-    ($form:literal, $debug:literal, $alloc:ident, $out:ident, $name:ident, $it:ident) => {{
-        tell_one!($form, $alloc, $out, $name, $it: parent tree_top green prev_sibling_or_token next_sibling_or_token);
-        match $name {
-            "kind" => $out.word(kind_name($it.kind())),
-            "tree_number" => $it.tree().show($out),
-            "slots" => $out.path($it.slots()),
-            "path" => $out.path(&given(concat!($form, "::path"), $it.path($alloc))?),
-            "index" => ($it.index() as u64).show($out),
-            "text_start" => $it.text_start().show($out),
-            "text_end" => $it.text_end().show($out),
-            "text_len" => $it.text_len().show($out),
-            "siblings_on" => siblings!($form, $alloc, $out, $it, Next),
-            "siblings_back" => siblings!($form, $alloc, $out, $it, Prev),
-            "display" => told($out, concat!($form, "::to_string"), $it.to_string($alloc)),
-            "debug_lines" => told($out, concat!($form, " as {:#?}"), format!(in $alloc; "{:#?}", $it)),
-            "debug" => $out.word(&given("{:?}", format!(in $alloc; $debug, $it))?),
-            "as_green" => $it.as_green().show($out),
-            _ => Err(NoAnswer::Row("nothing that is asked has this name")),
-        }
-    }};
-}
 
 /// `NAME ELEMENT`, `NAME NODE`, `descendants_of_kind NODE KIND`, `token_at_offset NODE OFFSET`,
 /// `covering_element NODE START END`, `element_at NODE PATH`, `element_of_tree NODE PATH`, `prev_token TOKEN` or
@@ -61,54 +21,50 @@ pub fn answer(s: &mut Session, name: &str, words: &mut Words, out: &mut Answer) 
 }
 
 fn ask(element: &SyntaxElement, name: &str, words: &mut Words, out: &mut Answer) -> Done {
-    let alloc = out.alloc;
     match element {
-        SyntaxElement::Token(it) if name == "prev_token" || name == "next_token" => {
-            of_token_alone(alloc, out, name, it)
-        }
-        SyntaxElement::Node(it) if !words.is_empty() => at(alloc, it, name, words, out),
-        SyntaxElement::Node(it) if is_of_node(name) => of_node_alone(alloc, out, name, it),
-        _ => of_all(alloc, out, name, element),
+        SyntaxElement::Node(it) if !words.is_empty() => return at(it, name, words, out),
+        SyntaxElement::Node(it) => of_node_alone(out, name, it, element),
+        SyntaxElement::Token(it) => of_token_alone(out, name, it, element),
     }
+    Ok(())
 }
 
-fn is_of_node(name: &str) -> bool {
-    name.starts_with("first_")
-        || name.starts_with("last_")
-        || name.starts_with("children")
-        || name.starts_with("descendants")
-        || name.ends_with("_sibling")
+// Where the name is that of one of these calls, what it gives, else what is told of each form.
+macro_rules! tell_one {
+    ($form:literal, $alloc:ident, $out:ident, $name:ident, $it:ident, $element:ident: $($call:ident)*) => {
+        match $name {
+            $(stringify!($call) => $out.told(concat!($form, "::", stringify!($call)), $it.$call($alloc)),)*
+            _ => of_all($out, $name, $element),
+        }
+    };
 }
 
-fn of_token_alone(alloc: Global, out: &mut Answer, name: &str, it: &SyntaxToken) -> Done {
-    tell_one!("SyntaxToken", alloc, out, name, it: prev_token next_token);
-    Err(NoAnswer::Arguments)
+fn of_token_alone(out: &mut Answer, name: &str, it: &SyntaxToken, element: &SyntaxElement) {
+    let alloc = out.alloc;
+    tell_one!("SyntaxToken", alloc, out, name, it, element: prev_token next_token)
 }
 
-fn of_node_alone(alloc: Global, out: &mut Answer, name: &str, it: &SyntaxNode) -> Done {
-    tell_one!("SyntaxNode", alloc, out, name, it: first_child last_child next_sibling prev_sibling);
-    tell_one!("SyntaxNode", alloc, out, name, it: children descendants);
-    of_node_and_tokens(alloc, out, name, it)
-}
-
-fn of_node_and_tokens(alloc: Global, out: &mut Answer, name: &str, it: &SyntaxNode) -> Done {
-    tell_one!("SyntaxNode", alloc, out, name, it: first_child_or_token last_child_or_token children_with_tokens);
-    tell_one!("SyntaxNode", alloc, out, name, it: descendants_with_tokens first_token last_token);
-    Err(NoAnswer::Arguments)
+fn of_node_alone(out: &mut Answer, name: &str, it: &SyntaxNode, element: &SyntaxElement) {
+    let alloc = out.alloc;
+    tell_one! { "SyntaxNode", alloc, out, name, it, element:
+        first_child last_child next_sibling prev_sibling children descendants first_child_or_token
+        last_child_or_token children_with_tokens descendants_with_tokens first_token last_token
+    }
 }
 
 // Where a call of a node has this name, what it gives for these arguments.
 macro_rules! tell_at {
     ($out:ident, $name:ident, $it:ident: $($call:ident($($argument:expr),*))*) => {
         match $name {
-            $(stringify!($call) => told($out, concat!("SyntaxNode::", stringify!($call)), $it.$call($($argument),*)),)*
-            _ => Err(NoAnswer::Arguments),
+            $(stringify!($call) => $out.told(concat!("SyntaxNode::", stringify!($call)), $it.$call($($argument),*)),)*
+            _ => return Err(NoAnswer::Arguments),
         }
     };
 }
 
 // What a path leads to, from the node or from the root of its tree, what stands at an offset, and what covers a range.
-fn at(alloc: Global, it: &SyntaxNode, name: &str, words: &mut Words, out: &mut Answer) -> Done {
+fn at(it: &SyntaxNode, name: &str, words: &mut Words, out: &mut Answer) -> Done {
+    let alloc = out.alloc;
     tell_at! { out, name, it:
         descendants_of_kind(alloc, kind_in(words)?)
         token_at_offset(alloc, words.number()?)
@@ -116,58 +72,84 @@ fn at(alloc: Global, it: &SyntaxNode, name: &str, words: &mut Words, out: &mut A
         element_at(alloc, &slots_of(alloc, words.word()?)?)
         element_of_tree(alloc, slots_of(alloc, words.word()?)?)
     }
+    Ok(())
 }
 
 // Of the element, of a copy, and of a copy of the node or token that it is.
-fn of_all(alloc: Global, out: &mut Answer, name: &str, element: &SyntaxElement) -> Done {
-    of_element(alloc, out, name, element)?;
-    let mut other = Answer::new(alloc);
-    other.tree = out.tree;
-    let copy = given("SyntaxElement::try_clone", element.try_clone(alloc))?;
-    of_element(alloc, &mut other, name, &copy)?;
-    out.agree(&other)?;
-    other.text.clear();
-    by_form(alloc, &mut other, name, element)?;
-    out.agree(&other)
+fn of_all(out: &mut Answer, name: &str, element: &SyntaxElement) {
+    of_element(out, name, element);
+    let mut other = Answer::new(out.alloc, out.tree);
+    match element.try_clone(out.alloc) {
+        Ok(copy) => of_element(&mut other, name, &copy),
+        Err(_) => other.stop(NoAnswer::Refused("SyntaxElement::try_clone")),
+    }
+    out.agree(&other);
+    other = Answer::new(out.alloc, out.tree);
+    by_form(&mut other, name, element);
+    out.agree(&other);
 }
 
-fn by_form(alloc: Global, out: &mut Answer, name: &str, element: &SyntaxElement) -> Done {
+fn by_form(out: &mut Answer, name: &str, element: &SyntaxElement) {
     match element {
-        SyntaxElement::Node(node) => {
-            let copy = given("SyntaxNode::try_clone", node.try_clone(alloc))?;
-            of_node(alloc, out, name, &copy)
+        SyntaxElement::Node(node) => match node.try_clone(out.alloc) {
+            Ok(copy) => of_node(out, name, &copy),
+            Err(_) => out.stop(NoAnswer::Refused("SyntaxNode::try_clone")),
+        },
+        SyntaxElement::Token(token) => match token.try_clone(out.alloc) {
+            Ok(copy) => of_token(out, name, &copy),
+            Err(_) => out.stop(NoAnswer::Refused("SyntaxToken::try_clone")),
+        },
+    }
+}
+
+// What is told of each form: the text and the elements above, by calls that are named, and all else.
+macro_rules! fact {
+    ($form:literal, $debug:literal, $alloc:ident, $out:ident, $name:ident, $it:ident, $ancestors:ident, $text:expr) => {
+        match $name {
+            "kind" => $out.word(kind_name($it.kind())),
+            "tree_number" => $out.print(&$it.tree()),
+            "slots" => $out.path($it.slots()),
+            "path" => $out.told_path(concat!($form, "::path"), $it.path($alloc)),
+            "index" => $out.print(&$it.index()),
+            "text_start" => $out.print(&$it.text_start()),
+            "text_end" => $out.print(&$it.text_end()),
+            "text_len" => $out.print(&$it.text_len()),
+            "element_text" => $text,
+            "ancestors" => told!($out, $form, $it.$ancestors($alloc)),
+            "parent" => told!($out, $form, $it.parent($alloc)),
+            "tree_top" => told!($out, $form, $it.tree_top($alloc)),
+            "green" => told!($out, $form, $it.green($alloc)),
+            "as_green" => $it.as_green().show($out),
+            "prev_sibling_or_token" => told!($out, $form, $it.prev_sibling_or_token($alloc)),
+            "next_sibling_or_token" => told!($out, $form, $it.next_sibling_or_token($alloc)),
+            "siblings_on" => told!($out, $form, $it.siblings_with_tokens($alloc, Direction::Next)),
+            "siblings_back" => told!($out, $form, $it.siblings_with_tokens($alloc, Direction::Prev)),
+            "display" => told!($out, $form, $it.to_string($alloc)),
+            "debug" => say!($out, $debug, $it),
+            "debug_lines" => $out.told(concat!($form, " as {:#?}"), format!(in $alloc; "{:#?}", $it)),
+            _ => $out.stop(NoAnswer::Row("nothing that is asked has this name")),
         }
-        SyntaxElement::Token(token) => {
-            let copy = given("SyntaxToken::try_clone", token.try_clone(alloc))?;
-            of_token(alloc, out, name, &copy)
-        }
-    }
+    };
 }
 
-fn of_element(alloc: Global, out: &mut Answer, name: &str, it: &SyntaxElement) -> Done {
-    tell_one!("SyntaxElement", alloc, out, name, it: ancestors);
-    match name {
-        "element_text" => told(out, "SyntaxElement::text", it.text(alloc)),
-        _ => fact!("SyntaxElement", "{:?}", alloc, out, name, it),
-    }
+// What a call of this form gives.
+macro_rules! told {
+    ($out:ident, $form:literal, $it:ident.$call:ident($($argument:expr),*)) => {
+        $out.told(concat!($form, "::", stringify!($call)), $it.$call($($argument),*))
+    };
 }
 
-fn of_node(alloc: Global, out: &mut Answer, name: &str, it: &SyntaxNode) -> Done {
-    tell_one!("SyntaxNode", alloc, out, name, it: ancestors);
-    match name {
-        "element_text" => told(out, "SyntaxNode::text", it.text(alloc)),
-        _ => fact!("SyntaxNode", "Node({:?})", alloc, out, name, it),
-    }
+fn of_element(out: &mut Answer, name: &str, it: &SyntaxElement) {
+    let alloc = out.alloc;
+    fact! { "SyntaxElement", "{:?}", alloc, out, name, it, ancestors, told!(out, "SyntaxElement", it.text(alloc)) }
 }
 
-fn of_token(alloc: Global, out: &mut Answer, name: &str, it: &SyntaxToken) -> Done {
-    match name {
-        "ancestors" => told(
-            out,
-            "SyntaxToken::parent_ancestors",
-            it.parent_ancestors(alloc),
-        ),
-        "element_text" => out.quote(it.text()),
-        _ => fact!("SyntaxToken", "Token({:?})", alloc, out, name, it),
-    }
+fn of_node(out: &mut Answer, name: &str, it: &SyntaxNode) {
+    let alloc = out.alloc;
+    fact! { "SyntaxNode", "Node({:?})", alloc, out, name, it, ancestors, told!(out, "SyntaxNode", it.text(alloc)) }
+}
+
+fn of_token(out: &mut Answer, name: &str, it: &SyntaxToken) {
+    let alloc = out.alloc;
+    fact! { "SyntaxToken", "Token({:?})", alloc, out, name, it, parent_ancestors, out.quote(it.text()) }
 }

@@ -1,6 +1,6 @@
 //! What errors print, the name of the case, and the sentence that says what to do.
 
-use crate::shown::{Answer, Done};
+use crate::shown::{Answer, Done, say};
 use cst_core::{SyntaxKind, TreeError};
 use std::alloc::AllocError;
 use syntax_editor::{
@@ -10,14 +10,21 @@ use syntax_editor::{
 use test_trees::{NoAnswer, Words};
 use tree_text::{Expected, ExpressionError, NameError, WriteError};
 
-// What an error prints, and its sentence.
+// What the error of this case prints, and its sentence, of the variants with these names and of other errors. Any
+// refusal of the editor prints what the error that it holds does.
 macro_rules! tell {
-    ($out:ident, $error:expr) => {
-        match $error {
-            Some(error) => Ok(write!($out.text, "{error}: {}", error.help())?),
-            None => Err(NoAnswer::Arguments),
+    ($case:ident, $out:ident, $any:ident from $type:ident: $($name:ident)* $(; $other:ident: $error:expr)*) => {{
+        let errors = [$($any::from($type::$name),)* $($any::from($error)),*];
+        match errors.get(place_of($case, concat!($(stringify!($name), " ",)* $(stringify!($other), " "),*))) {
+            Some(error) => say!($out, "{error}: {}", error.help()),
+            None => $out.stop(NoAnswer::Arguments),
         }
-    };
+    }};
+}
+
+// The place of a name among others, or their number.
+fn place_of(name: &str, names: &str) -> usize {
+    names.split(' ').take_while(|other| *other != name).count()
 }
 
 /// `map_error CASE`, and the same of each other type. An error that holds another one is by the name of its variant,
@@ -25,106 +32,98 @@ macro_rules! tell {
 pub fn answer(name: &str, words: &mut Words, out: &mut Answer) -> Done {
     let case = words.word()?;
     match name {
-        "expression_error" => tell!(out, expression_error(case)),
-        "write_error" => tell!(out, write_error(case)),
-        "name_error" => tell!(out, name_error(case)),
-        "engine_error" => tell!(out, engine_error(case)),
-        "row_error" => out.print(&row_error(case).ok_or(NoAnswer::Arguments)?),
-        _ => tell!(out, error(name, case)),
+        "tree_error" => tree_error(case, out),
+        "map_error" =>
+            tell!(case, out, Error from MapError: NotAChild NotYounger OtherShape MoreInputs Memory),
+        "record_error" => record_error(case, out),
+        "merge_error" => tell!(case, out, Error from MergeError: OtherRoot Memory),
+        "wrap_error" =>
+            tell!(case, out, Error from WrapError: TooLong NoTreeNumber NotYounger Foreign Memory),
+        "indent_error" =>
+            tell!(case, out, Error from IndentError: LevelTooLarge TooLong NoTreeNumber NotYounger Memory),
+        "edit_error" => edit_error(case, out),
+        "execute_error" => execute_error(case, out),
+        "error" => any_error(case, out),
+        "expression_error" => expression_error(case, out),
+        "write_error" =>
+            tell!(case, out, WriteError from WriteError: Memory; NoName: WriteError::NoName(SyntaxKind(65))),
+        "name_error" => tell!(case, out, NameError from NameError: Misspelled Named Taken Memory),
+        "engine_error" => tell!(case, out, EngineError from EngineError: TooLong Memory),
+        _ => row_error(case, out),
+    }
+    Ok(())
+}
+
+fn tree_error(case: &str, out: &mut Answer) {
+    let memory = TreeError::from(AllocError);
+    tell!(case, out, Error from TreeError: TooLong NoTreeNumber Memory; AllocError: memory)
+}
+
+fn record_error(case: &str, out: &mut Answer) {
+    tell! { case, out, Error from RecordError:
+        Foreign BadRange DeletesRoot RootReplacement LevelTooLarge NoTreeNumber Memory
     }
 }
 
-// The variant of this name, as an error that may hold it.
-macro_rules! variant {
-    ($case:ident, $type:ident: $($name:ident)*) => {{
-        $(if $case == stringify!($name) {
-            return Some($type::$name.into());
-        })*
-        None
-    }};
-}
-
-// Any refusal of the editor prints what the error that it holds does.
-fn error(name: &str, case: &str) -> Option<Error> {
-    match (name, case) {
-        ("tree_error", "AllocError") => Some(TreeError::from(AllocError).into()),
-        ("tree_error", _) => variant!(case, TreeError: TooLong NoTreeNumber Memory),
-        ("map_error", _) =>
-            variant!(case, MapError: NotAChild NotYounger OtherShape MoreInputs Memory),
-        ("record_error", _) => record_error(case),
-        ("merge_error", _) => variant!(case, MergeError: OtherRoot Memory),
-        ("wrap_error", _) =>
-            variant!(case, WrapError: TooLong NoTreeNumber NotYounger Foreign Memory),
-        ("indent_error", _) =>
-            variant!(case, IndentError: LevelTooLarge TooLong NoTreeNumber NotYounger Memory),
-        ("edit_error", _) => edit_error(case),
-        ("execute_error", "Edit") => Some(ExecuteError::Edit(EditError::TooLong).into()),
-        ("execute_error", _) =>
-            variant!(case, ExecuteError: NotEachOnce OwnerTooEarly GapOutOfOrder TokenTooEarly),
-        ("error", _) => any_error(case),
-        _ => None,
+fn edit_error(case: &str, out: &mut Answer) {
+    let intersecting = EditError::Intersecting {
+        first: 0,
+        second: 2,
+    };
+    let missing = EditError::MissingMapping {
+        change: 1,
+        owner: 0,
+    };
+    tell! { case, out, Error from EditError:
+        TooLong NoTreeNumber Memory; Intersecting: intersecting; MissingMapping: missing
     }
 }
 
-fn record_error(case: &str) -> Option<Error> {
-    variant!(case, RecordError: Foreign BadRange DeletesRoot RootReplacement LevelTooLarge NoTreeNumber Memory)
-}
-
-fn edit_error(case: &str) -> Option<Error> {
-    let (first, second, change, owner) = (0, 2, 1, 0);
-    match case {
-        "Intersecting" => Some(EditError::Intersecting { first, second }.into()),
-        "MissingMapping" => Some(EditError::MissingMapping { change, owner }.into()),
-        _ => variant!(case, EditError: TooLong NoTreeNumber Memory),
+fn execute_error(case: &str, out: &mut Answer) {
+    let edit = ExecuteError::Edit(EditError::TooLong);
+    tell! { case, out, Error from ExecuteError:
+        NotEachOnce OwnerTooEarly GapOutOfOrder TokenTooEarly; Edit: edit
     }
 }
 
-fn any_error(case: &str) -> Option<Error> {
-    match case {
-        "Tree" => Some(TreeError::TooLong.into()),
-        "Map" => Some(MapError::NotAChild.into()),
-        "Record" => Some(RecordError::BadRange.into()),
-        "Merge" => Some(MergeError::OtherRoot.into()),
-        "Indent" => Some(IndentError::LevelTooLarge.into()),
-        "Wrap" => Some(WrapError::NotYounger.into()),
-        "Edit" => Some(EditError::NoTreeNumber.into()),
-        "Execute" => Some(ExecuteError::NotEachOnce.into()),
-        "Memory" => Some(AllocError.into()),
-        _ => None,
+fn any_error(case: &str, out: &mut Answer) {
+    tell! { case, out, Error from TreeError: ; Tree: TreeError::TooLong; Map: MapError::NotAChild;
+        Record: RecordError::BadRange; Merge: MergeError::OtherRoot;
+        Indent: IndentError::LevelTooLarge; Wrap: WrapError::NotYounger;
+        Edit: EditError::NoTreeNumber; Execute: ExecuteError::NotEachOnce; Memory: AllocError
     }
 }
 
-fn expression_error(case: &str) -> Option<ExpressionError> {
-    let (at, expected) = (12, Expected::KindName);
-    match case {
-        "Malformed" => Some(ExpressionError::Malformed { at, expected }),
-        "UnknownKind" => Some(ExpressionError::UnknownKind { at: 1 }),
-        "TooDeep" => Some(ExpressionError::TooDeep { at: 201 }),
-        "Tree" => Some(ExpressionError::Tree(TreeError::NoTreeNumber)),
-        _ => variant!(case, ExpressionError: Memory),
+fn expression_error(case: &str, out: &mut Answer) {
+    let malformed = ExpressionError::Malformed {
+        at: 12,
+        expected: Expected::KindName,
+    };
+    let tree = ExpressionError::Tree(TreeError::NoTreeNumber);
+    tell! { case, out, ExpressionError from ExpressionError: Memory;
+        Malformed: malformed; UnknownKind: ExpressionError::UnknownKind { at: 1 };
+        TooDeep: ExpressionError::TooDeep { at: 201 }; Tree: tree
     }
-}
-
-fn write_error(case: &str) -> Option<WriteError> {
-    match case {
-        "NoName" => Some(WriteError::NoName(SyntaxKind(65))),
-        _ => variant!(case, WriteError: Memory),
-    }
-}
-
-fn engine_error(case: &str) -> Option<EngineError> {
-    variant!(case, EngineError: TooLong Memory)
-}
-
-fn name_error(case: &str) -> Option<NameError> {
-    variant!(case, NameError: Misspelled Named Taken Memory)
 }
 
 // What rows answer where a tree is not read.
-fn row_error(case: &str) -> Option<NoAnswer> {
-    match case {
-        "UnknownRow" => Some(NoAnswer::Row("UnknownRow")),
-        "Tree(TooLong)" => Some(TreeError::TooLong.into()),
-        _ => Some(expression_error(case)?.into()),
+fn row_error(case: &str, out: &mut Answer) {
+    let malformed = ExpressionError::Malformed {
+        at: 12,
+        expected: Expected::KindName,
+    };
+    let errors = [
+        NoAnswer::from(malformed),
+        NoAnswer::from(ExpressionError::UnknownKind { at: 1 }),
+        NoAnswer::from(TreeError::TooLong),
+        NoAnswer::from(ExpressionError::Memory),
+        NoAnswer::Row("UnknownRow"),
+    ];
+    match errors.get(place_of(
+        case,
+        "Malformed UnknownKind Tree(TooLong) Memory UnknownRow",
+    )) {
+        Some(error) => out.print(error),
+        None => out.stop(NoAnswer::Arguments),
     }
 }

@@ -1,27 +1,26 @@
 //! Kinds and their names, shared trees and their lengths.
 
 use crate::session::Session;
-use crate::shown::{Answer, Done, Show, given};
+use crate::shown::{Answer, Done, Show, given, say};
 use crate::texts;
 use crate::texts::unquote;
-use cst_core::{GreenNode, GreenToken, KIND_NAMES, LENGTH_LIMIT, SyntaxKind};
+use cst_core::{GreenToken, KIND_NAMES, LENGTH_LIMIT, SyntaxKind};
 use std::alloc::Global;
 use test_trees::{NoAnswer, Words, green, p, row, slots_of};
 
 /// `kind_name NUMBER`, `kind_from_name NAME`, `green_token KIND TEXT`, `get TREE PATH`, `green_text TREE`,
 /// `child_count TREE`, `read EXPRESSION`, `row NAME`, `limit`, `length TREE`, or `doubled K`.
 pub fn answer(s: &mut Session, name: &str, words: &mut Words, out: &mut Answer) -> Done {
-    let alloc = s.alloc;
     match name {
-        "kind_name" => out.word(checked_name(SyntaxKind(words.number()?))),
-        "kind_from_name" => from_name(alloc, words, out),
-        "green_token" => token(alloc, words, out),
+        "kind_name" => Ok(out.word(checked_name(SyntaxKind(words.number()?)))),
+        "kind_from_name" => kind_from_name(words, out),
+        "green_token" => green_token(words, out),
         "get" => get(s, words, out),
-        "read" => value_or_why(green(alloc, &unquote(alloc, words)?), out),
-        "row" => value_or_why(row(alloc, words.take_rest()), out),
-        "limit" => LENGTH_LIMIT.show(out),
+        "read" => Ok(value_or_why(green(s.alloc, &unquote(s.alloc, words)?), out)),
+        "row" => Ok(value_or_why(row(s.alloc, words.take_rest()), out)),
+        "limit" => Ok(LENGTH_LIMIT.show(out)),
         "green_text" | "child_count" | "length" => of_tree(s, name, words, out),
-        "doubled" => value_or_why(p(alloc, words.number()?).map(|tree| tree.length()), out),
+        "doubled" => Ok(value_or_why(p(s.alloc, words.number()?).map(|it| it.length()), out)),
         _ => texts::answer(s, name, words, out),
     }
 }
@@ -55,51 +54,53 @@ fn checked_name(kind: SyntaxKind) -> &'static str {
     name
 }
 
-fn from_name(alloc: Global, words: &mut Words, out: &mut Answer) -> Done {
-    let kind = SyntaxKind::from_name(&unquote(alloc, words)?);
-    kind.map(|kind| u64::from(kind.0)).show(out)
+fn kind_from_name(words: &mut Words, out: &mut Answer) -> Done {
+    let name = unquote(out.alloc, words)?;
+    let kind = SyntaxKind::from_name(&name);
+    Ok(kind.map(|kind| u64::from(kind.0)).show(out))
 }
 
 fn of_tree(s: &mut Session, name: &str, words: &mut Words, out: &mut Answer) -> Done {
-    let tree = s.trees.defined.tree(s.alloc, words.take_rest())?;
+    let tree = s.trees.tree(words.take_rest())?;
     match name {
-        "green_text" => tree.to_string(s.alloc)?.show(out),
-        "child_count" => (tree.children().len() as u64).show(out),
-        _ => tree.length().show(out),
+        "green_text" => out.made_text(tree.to_string(s.alloc)),
+        "child_count" => out.print(&tree.children().len()),
+        _ => out.print(&tree.length()),
     }
+    Ok(())
 }
 
 // A value, or why there is none.
-fn value_or_why<T: Show + Drop>(value: Result<T, NoAnswer>, out: &mut Answer) -> Done {
+fn value_or_why<T: Show + Drop>(value: Result<T, NoAnswer>, out: &mut Answer) {
     match value {
         Ok(value) => value.show(out),
         Err(NoAnswer::Row(why)) => out.word(why),
-        Err(error) => Err(error),
+        Err(error) => out.stop(error),
     }
 }
 
 // A token of a kind by its number, and that token shared.
-fn token(alloc: Global, words: &mut Words, out: &mut Answer) -> Done {
+fn green_token(words: &mut Words, out: &mut Answer) -> Done {
     let kind = SyntaxKind(words.number()?);
-    let text = unquote(alloc, words)?;
-    let token = given("GreenToken::new", GreenToken::new(alloc, kind, &text))?;
-    let shared = token.share(alloc)?;
+    let text = unquote(out.alloc, words)?;
+    let token = given("GreenToken::new", GreenToken::new(out.alloc, kind, &text))?;
+    let shared = token.share(out.alloc)?;
     if shared.kind() != token.kind() || shared.text() != token.text() {
-        return out.word("another token where it is shared");
+        return Ok(out.word("another token where it is shared"));
     }
-    write!(out.text, "{} ", token.kind().0)?;
-    shared.show(out)
+    say!(out, "{} ", token.kind().0);
+    Ok(shared.show(out))
 }
 
 // In the tree, and with tree and element shared.
 fn get(s: &mut Session, words: &mut Words, out: &mut Answer) -> Done {
-    let tree = s.trees.defined.tree(s.alloc, words.word()?)?;
+    let tree = s.trees.tree(words.word()?)?;
     let slots = slots_of(s.alloc, words.word()?)?;
     let Some(element) = tree.get(&slots) else {
-        return out.word("none");
+        return Ok(out.word("none"));
     };
-    element.show(out)?;
-    let mut other = Answer::new(s.alloc);
-    element.share(s.alloc)?.share(s.alloc)?.show(&mut other)?;
-    out.agree(&other)
+    element.show(out);
+    let mut other = Answer::new(s.alloc, out.tree);
+    element.share(s.alloc)?.share(s.alloc)?.show(&mut other);
+    Ok(out.agree(&other))
 }

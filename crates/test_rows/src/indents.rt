@@ -4,7 +4,7 @@ use crate::greens;
 use crate::making::factory;
 use crate::roots::typed;
 use crate::session::{CHANGED, Session};
-use crate::shown::{Answer, Done, demand};
+use crate::shown::{Answer, Done, Read, demand};
 use cst_core::ast::{BlockExpr, StmtList};
 use cst_core::{AstNode, SyntaxElement};
 use syntax_editor::{AstNodeEdit, IndentError, IndentLevel, SyntaxFactory, indent};
@@ -15,10 +15,10 @@ pub fn answer(s: &mut Session, name: &str, words: &mut Words, out: &mut Answer) 
     match name {
         "from_element" | "from_node" | "from_token" => level_at(s, name, words, out),
         "indent_level" => level(
-            typed::<BlockExpr>(s.trees.node(words)?)?.indent_level(s.alloc),
+            s.trees.typed::<BlockExpr>(words)?.indent_level(s.alloc),
             out,
         ),
-        "is_zero" => out.truth(read_level(words)?.is_zero()),
+        "is_zero" => Ok(out.truth(read_level(words)?.is_zero())),
         "sum" => sum(words, out),
         "print" => print(words, out),
         "free_indent" => free_indent(s, words, out),
@@ -30,13 +30,13 @@ pub fn answer(s: &mut Session, name: &str, words: &mut Words, out: &mut Answer) 
     }
 }
 
-fn read_level(words: &mut Words) -> Result<IndentLevel, NoAnswer> {
+fn read_level(words: &mut Words) -> Read<IndentLevel> {
     Ok(IndentLevel(words.number()?))
 }
 
 fn level(called: Result<IndentLevel, IndentError>, out: &mut Answer) -> Done {
     let level = out.asked(called)?;
-    out.given(&u64::from(level.0))
+    Ok(out.given(&u64::from(level.0)))
 }
 
 // By the call of this name.
@@ -52,39 +52,41 @@ fn level_at(s: &mut Session, name: &str, words: &mut Words, out: &mut Answer) ->
 
 // Whether no indentation, and first one level more, then another one, is the third level.
 fn sum(words: &mut Words, out: &mut Answer) -> Done {
-    let first = words.number::<u8>()?;
-    let second = words.number()?;
+    let (first, second) = (words.number::<u8>()?, words.number::<u8>()?);
     if first.checked_add(second).is_none() {
-        return out.word("none");
+        out.word("none");
+        return Ok(());
     }
     let mut level = IndentLevel::zero() + first;
     level += second;
-    out.truth(level == IndentLevel::from(words.number::<u8>()?))
+    Ok(out.truth(level == IndentLevel::from(words.number::<u8>()?)))
 }
 
 // A level as it prints: as it is, and in a width of 14, 13 and 14, at the right end, the left end and in the middle.
 fn print(words: &mut Words, out: &mut Answer) -> Done {
     let level = read_level(words)?;
-    Ok(write!(
+    let printed = write!(
         out.text,
         "[{level}] [{level:*>14}] [{level:*<13}] [{level:*^14}]"
-    )?)
+    );
+    Ok(out.note(printed))
 }
 
 fn free_indent(s: &mut Session, words: &mut Words, out: &mut Answer) -> Done {
     let node = s.trees.node(words)?;
-    let node = out.asked(indent(s.alloc, &node, &mut s.ids, read_level(words)?))?;
-    out.root(&node)
+    let level = read_level(words)?;
+    let node = out.asked(indent(s.alloc, &node, &mut s.ids, level))?;
+    Ok(out.root(&node))
 }
 
 // A new tree with this typed node as its root.
 fn typed_root<N: AstNode>(called: Result<N, IndentError>, out: &mut Answer) -> Done {
     let node = out.asked(called)?;
-    out.root(node.syntax())
+    Ok(out.root(node.syntax()))
 }
 
 fn typed_indent(s: &mut Session, words: &mut Words, out: &mut Answer) -> Done {
-    let block = typed::<BlockExpr>(s.trees.node(words)?)?;
+    let block = s.trees.typed::<BlockExpr>(words)?;
     typed_root(block.indent(s.alloc, &mut s.ids, read_level(words)?), out)
 }
 
@@ -93,29 +95,33 @@ fn dedent(s: &mut Session, words: &mut Words, out: &mut Answer) -> Done {
     let node = s.trees.node(words)?;
     let level = read_level(words)?;
     if StmtList::can_cast(node.kind()) {
-        let list = typed::<StmtList>(node)?;
-        return typed_root(list.dedent(s.alloc, &mut s.ids, level), out);
+        return typed_root(
+            typed::<StmtList>(node)?.dedent(s.alloc, &mut s.ids, level),
+            out,
+        );
     }
-    let block = typed::<BlockExpr>(node)?;
-    typed_root(block.dedent(s.alloc, &mut s.ids, level), out)
+    typed_root(
+        typed::<BlockExpr>(node)?.dedent(s.alloc, &mut s.ids, level),
+        out,
+    )
 }
 
 fn reset_indent(s: &mut Session, words: &mut Words, out: &mut Answer) -> Done {
-    let block = typed::<BlockExpr>(s.trees.node(words)?)?;
+    let block = s.trees.typed::<BlockExpr>(words)?;
     typed_root(block.reset_indent(s.alloc, &mut s.ids), out)
 }
 
 // By a factory, whose mapping is the last one from then on, whatever the call answers but want of memory, which leaves
 // the mapping empty. The new block goes by the name `it`.
 fn indent_with_mapping(s: &mut Session, words: &mut Words, out: &mut Answer) -> Done {
-    let block = typed::<BlockExpr>(s.trees.node(words)?)?;
+    let block = s.trees.typed::<BlockExpr>(words)?;
     let level = read_level(words)?;
     let mut factory = factory(s.alloc, words)?;
     let called = block.indent_with_mapping(s.alloc, &mut s.ids, level, &mut factory);
     keep_mapping(s, &mut factory, matches!(&called, Err(IndentError::Memory)))?;
     let block = out.asked(called)?;
-    s.trees.add("it", block.syntax().try_clone(s.alloc)?)?;
-    out.root(block.syntax())
+    out.root(block.syntax());
+    s.trees.add("it", block.syntax().try_clone(s.alloc)?)
 }
 
 fn keep_mapping(s: &mut Session, factory: &mut SyntaxFactory, is_memory: bool) -> Done {

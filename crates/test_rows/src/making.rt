@@ -3,7 +3,7 @@
 use crate::editors;
 use crate::roots::{annotation_of, kind_in, typed};
 use crate::session::{Session, last, take};
-use crate::shown::{Answer, Done, Show, kind_name};
+use crate::shown::{Answer, Done, Read, Show, kind_name, say};
 use cst_core::ast::{BlockExpr, Fn, LetStmt, StmtList};
 use cst_core::{GreenNode, SyntaxElement, SyntaxKind, SyntaxNode, SyntaxToken, TreeIds};
 use std::alloc::Global;
@@ -21,11 +21,11 @@ pub fn answer(s: &mut Session, name: &str, words: &mut Words, out: &mut Answer) 
         "clone_subtree" => clone_subtree(s, words, out),
         "green_node" | "capped" => green_node(s, name, words, out),
         "splice_children" => splice_children(s, words, out),
-        "next" => out.given_or_none(&s.ids.next()),
+        "next" => Ok(out.given_or_none(&s.ids.next())),
         "peek" => peek(s, out),
         "annotations" => annotations(words, out),
         "before" | "after" | "first" | "last" => gap(s, name, words, out),
-        "syntax_element" => made(s.alloc, &s.trees.element(words)?, out),
+        "syntax_element" => made(&s.trees.element(words)?, out),
         "typed_element" => typed_element(s, words, out),
         "token" => token(s, words, out),
         "node" => node(s, words, out),
@@ -38,38 +38,41 @@ pub fn answer(s: &mut Session, name: &str, words: &mut Words, out: &mut Answer) 
 fn tree(s: &mut Session, words: &mut Words) -> Done {
     let name = words.word()?;
     let green = read_tree(s.alloc, words.take_rest())?;
-    s.trees
-        .add(name, SyntaxNode::new_root(s.alloc, &mut s.ids, green)?)
+    let root = SyntaxNode::new_root(s.alloc, &mut s.ids, green)?;
+    s.trees.add(name, root)
 }
 
 // A new source of numbers, from this number on, or a spent one.
 fn numbers(s: &mut Session, words: &mut Words) -> Done {
-    s.ids = match words.word()? {
-        "spent" => TreeIds::new(u64::MAX),
-        digits => TreeIds::new(number_of(digits)?),
+    let first = match words.word()? {
+        "spent" => u64::MAX,
+        digits => number_of(digits)?,
     };
+    s.ids = TreeIds::new(first);
     Ok(())
 }
 
 // The number that comes next.
 fn peek(s: &mut Session, out: &mut Answer) -> Done {
-    if s.ids.is_spent() != s.ids.peek().is_none() {
-        return out.word("spent in one way and not in another");
+    let next = s.ids.peek();
+    if s.ids.is_spent() != next.is_none() {
+        out.word("spent in one way and not in another");
     }
-    s.ids.peek().show(out)
+    next.show(out);
+    Ok(())
 }
 
 fn new_root(s: &mut Session, words: &mut Words, out: &mut Answer) -> Done {
-    let green = s.trees.defined.tree(s.alloc, words.take_rest())?;
+    let green = s.trees.tree(words.take_rest())?;
     let root = out.asked(SyntaxNode::new_root(s.alloc, &mut s.ids, green))?;
-    out.root(&root)
+    Ok(out.root(&root))
 }
 
 // The copy goes by the name `it` from then on.
 fn clone_subtree(s: &mut Session, words: &mut Words, out: &mut Answer) -> Done {
     let node = s.trees.node(words)?;
     let copy = out.asked(node.clone_subtree(s.alloc, &mut s.ids))?;
-    out.root(&copy)?;
+    out.root(&copy);
     s.trees.add("it", copy)
 }
 
@@ -77,23 +80,22 @@ fn clone_subtree(s: &mut Session, words: &mut Words, out: &mut Answer) -> Done {
 fn green_node(s: &mut Session, name: &str, words: &mut Words, out: &mut Answer) -> Done {
     let children = s.trees.greens(words.take_rest())?;
     let node = match name {
-        "capped" => out.asked(GreenNode::capped(s.alloc, SyntaxKind::NAME, children))?,
-        _ => out.asked(GreenNode::new(s.alloc, SyntaxKind::NAME, children))?,
+        "capped" => out.asked(GreenNode::capped(s.alloc, SyntaxKind::NAME, children)),
+        _ => out.asked(GreenNode::new(s.alloc, SyntaxKind::NAME, children)),
     };
-    out.given(&node)
+    Ok(out.given(&node?))
 }
 
 // The trees of these elements in the place of the children of a tree from the first slot up to the second one.
 fn splice_children(s: &mut Session, words: &mut Words, out: &mut Answer) -> Done {
-    let node = s.trees.defined.tree(s.alloc, words.word()?)?;
-    let start = words.number()?;
-    let end = words.number()?;
+    let node = s.trees.tree(words.word()?)?;
+    let (start, end) = (words.number()?, words.number()?);
     let new = s.trees.greens(words.take_rest())?;
     if start > end || end > node.children().len() {
         return Err(NoAnswer::Arguments);
     }
     let spliced = out.asked(node.splice_children(s.alloc, start, end, new))?;
-    out.given(&spliced)
+    Ok(out.given(&spliced))
 }
 
 // Whether the calls of a source that begins at the first number give the annotations of the others, each above the one
@@ -104,7 +106,7 @@ fn annotations(words: &mut Words, out: &mut Answer) -> Done {
     for word in words.take_rest().split_whitespace() {
         let given = source.next();
         if given != annotation_of(word) || (given.is_some() && given <= before) {
-            return out.word("none");
+            out.word("none");
         }
         before = given;
     }
@@ -112,30 +114,30 @@ fn annotations(words: &mut Words, out: &mut Answer) -> Done {
 }
 
 fn gap(s: &mut Session, name: &str, words: &mut Words, out: &mut Answer) -> Done {
-    let called = s.trees.gap(name, words.word()?)?;
-    let position = out.asked(called)?;
-    out.word(if position.is_some() { "ok" } else { "none" })
+    let position = s.trees.gap(name, words.word()?)?;
+    Ok(out.word(if position.is_some() { "ok" } else { "none" }))
 }
 
 // The text of an element that is made of a value.
-fn made<E: Element>(alloc: Global, value: E, out: &mut Answer) -> Done {
-    let element = out.asked(value.syntax_element(alloc))?;
-    out.given(&element.text(alloc)?)
+fn made<E: Element>(value: E, out: &mut Answer) -> Done {
+    let element = out.asked(value.syntax_element(out.alloc))?;
+    out.word("ok ");
+    Ok(out.made_text(element.text(out.alloc)))
 }
 
 // The element by a reference to the typed node of its kind.
 fn typed_element(s: &mut Session, words: &mut Words, out: &mut Answer) -> Done {
     let node = s.trees.node(words)?;
     match node.kind() {
-        SyntaxKind::BLOCK_EXPR => made(s.alloc, &typed::<BlockExpr>(node)?, out),
-        SyntaxKind::STMT_LIST => made(s.alloc, &typed::<StmtList>(node)?, out),
-        SyntaxKind::LET_STMT => made(s.alloc, &typed::<LetStmt>(node)?, out),
-        _ => made(s.alloc, &typed::<Fn>(node)?, out),
+        SyntaxKind::BLOCK_EXPR => made(&typed::<BlockExpr>(node)?, out),
+        SyntaxKind::STMT_LIST => made(&typed::<StmtList>(node)?, out),
+        SyntaxKind::LET_STMT => made(&typed::<LetStmt>(node)?, out),
+        _ => made(&typed::<Fn>(node)?, out),
     }
 }
 
 /// A factory that keeps mappings, or one that keeps none.
-pub fn factory(alloc: Global, words: &mut Words) -> Result<SyntaxFactory, NoAnswer> {
+pub fn factory(alloc: Global, words: &mut Words) -> Read<SyntaxFactory> {
     match words.word()? {
         "mapped" => Ok(SyntaxFactory::with_mappings(alloc)),
         "unmapped" => Ok(SyntaxFactory::without_mappings(alloc)),
@@ -144,18 +146,20 @@ pub fn factory(alloc: Global, words: &mut Words) -> Result<SyntaxFactory, NoAnsw
 }
 
 // The text of a tree, which is written as a row has it.
-fn text_of_tree(alloc: Global, words: &mut Words) -> Result<String, NoAnswer> {
-    Ok(read_tree(alloc, words.take_rest())?.to_string(alloc)?)
+fn text_of_tree(alloc: Global, words: &mut Words) -> Read<String> {
+    let tree = read_tree(alloc, words.take_rest())?;
+    Ok(tree.to_string(alloc)?)
 }
 
 // A token's kind, its text, the number of its tree, and what it stands below.
-fn show_token(alloc: Global, token: &SyntaxToken, out: &mut Answer) -> Done {
-    write!(out.text, "ok {} ", kind_name(token.kind()))?;
-    out.quote(token.text())?;
-    let parent = token.parent(alloc)?.ok_or(NoAnswer::Row("no parent"))?;
-    let count = parent.children_with_tokens(alloc)?.len();
+fn show_token(token: &SyntaxToken, out: &mut Answer) -> Done {
+    say!(out, "ok {} ", kind_name(token.kind()));
+    out.quote(token.text());
+    let parent = token.parent(out.alloc)?.ok_or(NoAnswer::Row("no parent"))?;
+    let count = parent.children_with_tokens(out.alloc)?.len();
     let (kind, tree) = (kind_name(parent.kind()), token.tree());
-    Ok(write!(out.text, " of {tree}, one of {count} below {kind}")?)
+    say!(out, " of {tree}, one of {count} below {kind}");
+    Ok(())
 }
 
 // A token with the text of a tree.
@@ -164,7 +168,7 @@ fn token(s: &mut Session, words: &mut Words, out: &mut Answer) -> Done {
     let text = text_of_tree(s.alloc, words)?;
     let factory = SyntaxFactory::without_mappings(s.alloc);
     let token = out.asked(factory.token(s.alloc, &mut s.ids, kind, &text))?;
-    show_token(s.alloc, &token, out)
+    show_token(&token, out)
 }
 
 // The same of a factory with mappings or without.
@@ -172,16 +176,16 @@ fn whitespace(s: &mut Session, words: &mut Words, out: &mut Answer) -> Done {
     let factory = factory(s.alloc, words)?;
     let text = text_of_tree(s.alloc, words)?;
     let token = out.asked(factory.whitespace(s.alloc, &mut s.ids, &text))?;
-    show_token(s.alloc, &token, out)
+    show_token(&token, out)
 }
 
 // A node of the elements of all words that are left.
 fn node(s: &mut Session, words: &mut Words, out: &mut Answer) -> Done {
     let kind = kind_in(words)?;
-    let children = s.trees.elements(words.take_rest())?;
+    let children = s.trees.others(words)?;
     let factory = SyntaxFactory::without_mappings(s.alloc);
     let node = out.asked(factory.node(s.alloc, &mut s.ids, kind, &children))?;
-    out.root(&node)
+    Ok(out.root(&node))
 }
 
 // A node, a kind, the elements that stand before `round`, and those after it.
@@ -189,23 +193,21 @@ fn wrap(s: &mut Session, words: &mut Words, out: &mut Answer) -> Done {
     let editor = last(&mut s.editors)?;
     let node = s.trees.node(words)?;
     let kind = kind_in(words)?;
-    let rest = words.take_rest();
-    let (before, after) = rest.split_once("round").ok_or(NoAnswer::Arguments)?;
-    let before = s.trees.elements(before)?;
-    let after = s.trees.elements(after)?;
+    let (before, after) = words.split_rest("round")?;
+    let (before, after) = (s.trees.elements(before)?, s.trees.elements(after)?);
     let copy = out.asked(editor.wrap(s.alloc, &mut s.ids, &node, kind, &before, &after))?;
-    out.root_at(&copy)
+    Ok(out.root_at(&copy))
 }
 
 // Builders of mappings, where their pairs go, and mappings that no editor has.
 fn answer_mapping(s: &mut Session, name: &str, words: &mut Words, out: &mut Answer) -> Done {
     match name {
-        "builder" => builder(s, words),
+        "builder" => builder(s, words, out),
         "map_node" => map_node(s, words, out),
         "map_children" => map_children(s, words, out),
         "map" => map(s, words, out),
         "map_all" | "map_editor" | "finish_builder" | "add_mapping" => finish(s, name, out),
-        "mapping" => Ok(s.mappings.push(SyntaxMapping::new(s.alloc))?),
+        "mapping" => Ok(out.note(s.mappings.push(SyntaxMapping::new(s.alloc)))),
         "merge_mappings" => merge_mappings(s, out),
         "clone_mapping" => clone_mapping(s, out),
         "drop_mapping" => {
@@ -218,37 +220,34 @@ fn answer_mapping(s: &mut Session, name: &str, words: &mut Words, out: &mut Answ
     }
 }
 
-fn builder(s: &mut Session, words: &mut Words) -> Done {
+fn builder(s: &mut Session, words: &mut Words, out: &mut Answer) -> Done {
     let builder = SyntaxMappingBuilder::new(s.alloc, s.trees.node(words)?);
-    Ok(s.builders.push(builder)?)
+    Ok(out.note(s.builders.push(builder)))
 }
 
 fn map_node(s: &mut Session, words: &mut Words, out: &mut Answer) -> Done {
-    let builder = last(&mut s.builders)?;
-    let input = s.trees.node(words)?;
-    out.asked(builder.map_node(s.alloc, input, s.trees.node(words)?))
+    let (input, output) = s.trees.two_nodes(words)?;
+    out.asked(last(&mut s.builders)?.map_node(s.alloc, input, output))
 }
 
 fn map_children(s: &mut Session, words: &mut Words, out: &mut Answer) -> Done {
     let builder = last(&mut s.builders)?;
-    let rest = words.take_rest();
-    let (inputs, outputs) = rest.split_once(" to ").ok_or(NoAnswer::Arguments)?;
+    let (inputs, outputs) = words.split_rest(" to ")?;
     let inputs = s.trees.nodes(inputs)?;
-    out.asked(builder.map_children(s.alloc, &inputs, &s.trees.nodes(outputs)?))
+    let outputs = s.trees.nodes(outputs)?;
+    out.asked(builder.map_children(s.alloc, &inputs, &outputs))
 }
 
 // A builder of the copy's parent, with one pair. Where memory runs out there is no such builder, so that the step can
 // be taken again.
 fn map(s: &mut Session, words: &mut Words, out: &mut Answer) -> Done {
-    let input = s.trees.node(words)?;
-    let output = s.trees.node(words)?;
+    let (input, output) = s.trees.two_nodes(words)?;
     let parent = output.parent(s.alloc)?.ok_or(NoAnswer::Row("no parent"))?;
     let mut builder = SyntaxMappingBuilder::new(s.alloc, parent);
     let called = builder.map_node(s.alloc, input, output);
-    if let Err(MapError::Memory) = &called {
-        return out.asked(called);
+    if !matches!(&called, Err(MapError::Memory)) {
+        out.note(s.builders.push(builder));
     }
-    s.builders.push(builder)?;
     out.asked(called)
 }
 
@@ -276,7 +275,7 @@ fn merge_mappings(s: &mut Session, out: &mut Answer) -> Done {
 // A clone stands before the last mapping.
 fn clone_mapping(s: &mut Session, out: &mut Answer) -> Done {
     let clone = out.asked(last(&mut s.mappings)?.try_clone(s.alloc))?;
-    s.mappings.push(clone)?;
+    out.note(s.mappings.push(clone));
     let end = s.mappings.len();
     if end >= 2 {
         s.mappings.swap(end - 2, end - 1);
@@ -286,33 +285,32 @@ fn clone_mapping(s: &mut Session, out: &mut Answer) -> Done {
 
 fn place(s: &mut Session, words: &mut Words, out: &mut Answer) -> Done {
     let mapping = last(&mut s.mappings)?;
-    let target = s.trees.node(words)?;
-    let called = mapping.place(s.alloc, &target, &s.trees.node(words)?);
-    match out.asked(called)? {
+    let (target, within) = s.trees.two_nodes(words)?;
+    match out.asked(mapping.place(s.alloc, &target, &within))? {
         Some(path) => {
-            out.word("ok ")?;
-            out.path(&path)
+            out.word("ok ");
+            out.path(&path);
         }
         None => out.word("none"),
     }
+    Ok(())
 }
 
 fn follow(s: &mut Session, words: &mut Words, out: &mut Answer) -> Done {
     let mapping = last(&mut s.mappings)?;
     let start = s.trees.element(words)?;
     let end = out.asked(mapping.follow(s.alloc, &start))?;
-    show_end(&end, out)
+    Ok(show_end(&end, out))
 }
 
 // The form of the element, its text, the number of its tree and its path.
-fn show_end(end: &SyntaxElement, out: &mut Answer) -> Done {
-    let form = if end.as_node().is_some() {
-        "node"
+fn show_end(end: &SyntaxElement, out: &mut Answer) {
+    out.word(if end.as_node().is_some() {
+        "ok node "
     } else {
-        "token"
-    };
-    write!(out.text, "ok {form} ")?;
-    out.quote(&end.text(out.alloc)?)?;
-    write!(out.text, " of {} at ", end.tree())?;
-    out.path(end.slots())
+        "ok token "
+    });
+    out.made_text(end.text(out.alloc));
+    out.of_tree(end.tree());
+    out.at(end.slots());
 }

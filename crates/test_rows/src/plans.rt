@@ -6,7 +6,7 @@ use crate::editors::{deleted_paths, keep_edit};
 use crate::roots::{Roots, annotation};
 use crate::runs;
 use crate::session::{CHANGED, Session, last, take};
-use crate::shown::{Answer, Done, demand};
+use crate::shown::{Answer, Done, Read, demand, say};
 use cst_core::{SyntaxNode, TreeError};
 use std::alloc::Global;
 use std::mem::replace;
@@ -15,26 +15,23 @@ use syntax_editor::{
     SyntaxMapping,
 };
 use test_trees::{NoAnswer, Words, number_of};
-use tree_text::write_tree;
+use tree_text::{WriteError, write_tree};
 
 /// Takes the step of this name, or passes on what is none of these.
 pub fn answer(s: &mut Session, name: &str, words: &mut Words, out: &mut Answer) -> Done {
-    let alloc = s.alloc;
     match name {
         "plan" => plan(s, out),
-        "change" => Ok(s.changes.push(next_change(&s.trees, words)?)?),
-        "register" => register(s, words),
+        "change" => Ok(out.note(s.changes.push(next_change(&s.trees, words)?))),
+        "register" => register(s, words, out),
         "check_changes" => check_changes(s, words, out),
         "build" => build(s, words, out),
-        "is_empty" => out.truth(last(&mut s.plans)?.is_empty()),
-        "plan_deletions" => deleted_paths(last(&mut s.plans)?.changes(), out),
-        "plan_text" => out.quote(&last(&mut s.plans)?.to_string(alloc)?),
+        "is_empty" | "plan_deletions" | "plan_text" => of_plan(last(&mut s.plans)?, name, out),
         "text_edits" => text_edits(s, out),
         "is_dropped" | "owner" => of_change(last(&mut s.plans)?, name, words, out),
         "default_order" => default_order(s, out),
         "execute" => execute(s, words, out),
-        "run" => run(s, &mut OnePassEngine::new(alloc), out),
-        "run_spliced" => run(s, &mut SpliceEngine::new(alloc), out),
+        "run" => run(s, &mut OnePassEngine::new(s.alloc), out),
+        "run_spliced" => run(s, &mut SpliceEngine::new(s.alloc), out),
         "built" => built(s, words, out),
         _ => runs::answer(s, name, words, out),
     }
@@ -42,60 +39,66 @@ pub fn answer(s: &mut Session, name: &str, words: &mut Words, out: &mut Answer) 
 
 fn plan(s: &mut Session, out: &mut Answer) -> Done {
     let plan = out.asked(take(&mut s.editors)?.plan(s.alloc))?;
-    keep(s, plan, out)
+    Ok(keep(s, plan, out))
 }
 
 // Keeps a plan, and answers how many changes it has.
-fn keep(s: &mut Session, plan: EditPlan, out: &mut Answer) -> Done {
-    let count = plan.len();
-    s.plans.push(plan)?;
-    out.given(&(count as u64))
+fn keep(s: &mut Session, plan: EditPlan, out: &mut Answer) {
+    out.given(&(plan.len() as u64));
+    out.note(s.plans.push(plan));
+}
+
+// What is told of a plan: whether it has no change, what it deletes, and a line for each change.
+fn of_plan(plan: &EditPlan, name: &str, out: &mut Answer) -> Done {
+    match name {
+        "is_empty" => Ok(out.truth(plan.is_empty())),
+        "plan_deletions" => Ok(deleted_paths(plan.changes(), out)),
+        _ => Ok(out.made_text(plan.to_string(out.alloc))),
+    }
 }
 
 // Each text edit: its offsets and its text.
 fn text_edits(s: &mut Session, out: &mut Answer) -> Done {
     let edits = out.asked(last(&mut s.plans)?.text_edits(s.alloc))?;
-    out.word("ok")?;
+    out.word("ok");
     for edit in &edits {
-        write!(out.text, " {}-{} ", edit.start, edit.end)?;
-        out.quote(&edit.text)?;
+        say!(out, " {}-{} ", edit.start, edit.end);
+        out.quote(&edit.text);
     }
     Ok(())
 }
 
 // One more change of the plan that is built.
-fn next_change(trees: &Roots, words: &mut Words) -> Result<Change, NoAnswer> {
+fn next_change(trees: &Roots, words: &mut Words) -> Read<Change> {
     match words.word()? {
         "insert" => Ok(Change::Insert(trees.position(words)?, trees.element(words)?)),
         "insert_all" => Ok(Change::InsertAll(trees.position(words)?, list(trees, words)?)),
         "delete" => Ok(Change::Replace(trees.element(words)?, None)),
         "replace" => Ok(Change::Replace(trees.element(words)?, Some(trees.element(words)?))),
-        "replace_with_many" => replacement(trees, words),
+        "replace_with_many" => Ok(Change::ReplaceWithMany(
+            trees.element(words)?,
+            list(trees, words)?,
+        )),
         "replace_all" => range_replacement(trees, words),
         _ => Err(NoAnswer::Arguments),
     }
 }
 
-fn list(trees: &Roots, words: &mut Words) -> Result<ElementList, NoAnswer> {
-    Ok(ElementList::from(trees.elements(words.take_rest())?))
+fn list(trees: &Roots, words: &mut Words) -> Read<ElementList> {
+    Ok(ElementList::from(trees.others(words)?))
 }
 
-fn replacement(trees: &Roots, words: &mut Words) -> Result<Change, NoAnswer> {
-    Ok(Change::ReplaceWithMany(trees.element(words)?, list(trees, words)?))
-}
-
-fn range_replacement(trees: &Roots, words: &mut Words) -> Result<Change, NoAnswer> {
+fn range_replacement(trees: &Roots, words: &mut Words) -> Read<Change> {
     let first = trees.element(words)?;
-    Ok(Change::ReplaceAll(first, trees.element(words)?, list(trees, words)?))
+    let end = trees.element(words)?;
+    Ok(Change::ReplaceAll(first, end, list(trees, words)?))
 }
 
 // One more registered element of the plan that is built.
-fn register(s: &mut Session, words: &mut Words) -> Done {
+fn register(s: &mut Session, words: &mut Words, out: &mut Answer) -> Done {
     let element = s.trees.element(words)?;
-    let Some(annotation) = annotation(words) else {
-        return Err(NoAnswer::Arguments);
-    };
-    Ok(s.registrations.push((element, annotation))?)
+    let annotation = annotation(words)?;
+    Ok(out.note(s.registrations.push((element, annotation))))
 }
 
 // Whether each change fits the tree with this root.
@@ -107,7 +110,7 @@ fn all_fit(root: &SyntaxNode, changes: &[Change]) -> bool
 }
 
 // A node that is a root.
-fn root(trees: &Roots, words: &mut Words) -> Result<SyntaxNode, NoAnswer>
+fn root(trees: &Roots, words: &mut Words) -> Read<SyntaxNode>
     ensures { IfOk result (λ root. root.path ≡ []) }
 {
     let root = trees.node(words)?;
@@ -121,7 +124,8 @@ fn root(trees: &Roots, words: &mut Words) -> Result<SyntaxNode, NoAnswer>
 fn check_changes(s: &mut Session, words: &mut Words, out: &mut Answer) -> Done {
     let root = root(&s.trees, words)?;
     if !all_fit(&root, &s.changes) {
-        return out.word("not fitting");
+        out.word("not fitting");
+        return Ok(());
     }
     let nothing = SyntaxMapping::new(s.alloc);
     let mapping = s.mappings.last().unwrap_or(&nothing);
@@ -133,12 +137,13 @@ fn build(s: &mut Session, words: &mut Words, out: &mut Answer) -> Done {
     let root = root(&s.trees, words)?;
     let changes = replace(&mut s.changes, Vec::new(s.alloc));
     if !all_fit(&root, &changes) {
-        return out.word("not fitting");
+        out.word("not fitting");
+        return Ok(());
     }
     let registrations = replace(&mut s.registrations, Vec::new(s.alloc));
     let mapping = s.mappings.pop().unwrap_or(SyntaxMapping::new(s.alloc));
     let plan = out.asked(EditPlan::build(s.alloc, root, changes, registrations, mapping))?;
-    keep(s, plan, out)
+    Ok(keep(s, plan, out))
 }
 
 // Whether a change of a plan is dropped, or the change that owns it.
@@ -148,33 +153,39 @@ fn of_change(plan: &EditPlan, name: &str, words: &mut Words, out: &mut Answer) -
         return Err(NoAnswer::Row("no change has this number"));
     }
     match name {
-        "is_dropped" => out.truth(plan.is_dropped(change)),
-        _ => out.given_or_none(&plan.owner(change).map(|owner| owner as u64)),
+        "is_dropped" => Ok(out.truth(plan.is_dropped(change))),
+        _ => Ok(out.given_or_none(&plan.owner(change).map(|owner| owner as u64))),
     }
 }
 
 fn default_order(s: &mut Session, out: &mut Answer) -> Done {
     let order = out.asked(last(&mut s.plans)?.default_order(s.alloc))?;
-    out.word("ok")?;
+    out.word("ok");
     for change in order.iter() {
-        write!(out.text, " {change}")?;
+        say!(out, " {change}");
     }
     Ok(())
 }
 
 fn execute(s: &mut Session, words: &mut Words, out: &mut Answer) -> Done {
-    let mut order = Vec::new(s.alloc);
-    for word in words.take_rest().split_whitespace() {
-        order.push(number_of(word)?)?;
-    }
+    let order = numbers(s.alloc, words)?;
     let edit = out.asked(last(&mut s.plans)?.execute(s.alloc, &mut s.ids, &order))?;
-    keep_edit(s, edit, out)
+    Ok(keep_edit(s, edit, out))
+}
+
+// All words that are left.
+fn numbers(alloc: Global, words: &mut Words) -> Read<Vec<usize>> {
+    let mut numbers = Vec::new(alloc);
+    for word in words.take_rest().split_whitespace() {
+        numbers.push(number_of(word)?)?;
+    }
+    Ok(numbers)
 }
 
 // Carries the last plan out with this engine.
 fn run<E: EditEngine>(s: &mut Session, engine: &mut E, out: &mut Answer) -> Done {
     let edit = out.asked(last(&mut s.plans)?.run_with(s.alloc, &mut s.ids, engine))?;
-    keep_edit(s, edit, out)
+    Ok(keep_edit(s, edit, out))
 }
 
 // The count of an engine that makes the last plan's tree in one pass, from the next word's number on, if the other
@@ -188,14 +199,16 @@ fn built(s: &mut Session, words: &mut Words, out: &mut Answer) -> Done {
     let one = rewritten(called)?;
     let other = rewritten(SpliceEngine::new(s.alloc).run(s.alloc, plan))?;
     match (&one, &other) {
-        (Some(one), Some(other)) if is_same(s.alloc, one, other)? => out.given(&engine.builds()),
+        (Some(one), Some(other)) if is_same(s.alloc, one, other)? => Ok(out.given(
+            &engine.builds(),
+        )),
         (None, None) => out.asked(Err(TreeError::TooLong)),
-        _ => out.word("the engines differ"),
+        _ => Ok(out.word("the engines differ")),
     }
 }
 
 // What an engine makes, unless it is too long.
-fn rewritten(called: Result<Rewritten, EngineError>) -> Result<Option<Rewritten>, NoAnswer> {
+fn rewritten(called: Result<Rewritten, EngineError>) -> Read<Option<Rewritten>> {
     match called {
         Ok(given) => Ok(Some(given)),
         Err(EngineError::TooLong) => Ok(None),
@@ -206,16 +219,17 @@ fn rewritten(called: Result<Rewritten, EngineError>) -> Result<Option<Rewritten>
 // Trees with texts up to this length are compared whole, longer ones by their lengths alone.
 const COMPARED: u64 = 100_000;
 
-fn is_same(alloc: Global, one: &Rewritten, other: &Rewritten) -> Result<bool, NoAnswer> {
+fn is_same(alloc: Global, one: &Rewritten, other: &Rewritten) -> Read<bool> {
     if one.changed != other.changed || one.annotated != other.annotated {
         return Ok(false);
     }
     if one.green.length() > COMPARED || other.green.length() > COMPARED {
         return Ok(one.green.length() == other.green.length());
     }
-    let one = write_tree(alloc, &one.green).ok().ok_or(NoAnswer::Memory)?;
-    let other = write_tree(alloc, &other.green)
-        .ok()
-        .ok_or(NoAnswer::Memory)?;
-    Ok(one == other)
+    let one = text_of(write_tree(alloc, &one.green))?;
+    Ok(one == text_of(write_tree(alloc, &other.green))?)
+}
+
+fn text_of(written: Result<String, WriteError>) -> Read<String> {
+    written.ok().ok_or(NoAnswer::Memory)
 }

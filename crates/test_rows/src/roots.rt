@@ -1,12 +1,11 @@
 //! The trees that a row names: those that its steps made, and those that the table defined. What calls take is read
 //! from words here.
 
-use cst_core::{AstNode, GreenElement, SyntaxElement, SyntaxKind, SyntaxNode};
-use std::alloc::{AllocError, Global};
+use crate::shown::{Done, Read, given};
+use cst_core::{AstNode, GreenElement, GreenNode, SyntaxElement, SyntaxKind, SyntaxNode};
+use std::alloc::Global;
 use syntax_editor::{Annotations, Position, SyntaxAnnotation};
 use test_trees::{NoAnswer, Trees, Words, element_in, name_and_path, number_of};
-
-type Gap = Result<Option<Position>, AllocError>;
 
 /// The trees of the table, and the roots that the steps of a row made, by name.
 #[derive(Drop)]
@@ -25,12 +24,18 @@ impl Roots {
         }
     }
 
-    pub fn add(&mut self, name: &str, root: SyntaxNode) -> Result<(), NoAnswer> {
-        Ok(self.made.push((String::from_str(self.alloc, name)?, root))?)
+    pub fn add(&mut self, name: &str, root: SyntaxNode) -> Done {
+        let name = String::from_str(self.alloc, name)?;
+        Ok(self.made.push((name, root))?)
+    }
+
+    /// The tree of the table of this name, or the one that the text says.
+    pub fn tree(&self, text: &str) -> Read<GreenNode> {
+        self.defined.tree(self.alloc, text)
     }
 
     // What a reference leads to: `R/1/0` is an element below the root R that a step made, or of a tree of the table.
-    fn at(&self, reference: &str) -> Result<SyntaxElement, NoAnswer> {
+    fn at(&self, reference: &str) -> Read<SyntaxElement> {
         let (name, path) = name_and_path(reference);
         match self.made.iter().find(|made| made.0.as_str() == name) {
             Some((_, root)) => element_in(self.alloc, root, path),
@@ -38,21 +43,21 @@ impl Roots {
         }
     }
 
-    fn node_at(&self, reference: &str) -> Result<SyntaxNode, NoAnswer> {
+    fn node_at(&self, reference: &str) -> Read<SyntaxNode> {
         self.at(reference)?.into_node().ok_or(NoAnswer::Form)
     }
 
     /// The element of the next word.
-    pub fn element(&self, words: &mut Words) -> Result<SyntaxElement, NoAnswer> {
+    pub fn element(&self, words: &mut Words) -> Read<SyntaxElement> {
         self.at(words.word()?)
     }
 
-    pub fn node(&self, words: &mut Words) -> Result<SyntaxNode, NoAnswer> {
+    pub fn node(&self, words: &mut Words) -> Read<SyntaxNode> {
         self.node_at(words.word()?)
     }
 
     /// The elements of all words of a text.
-    pub fn elements(&self, text: &str) -> Result<Vec<SyntaxElement>, NoAnswer> {
+    pub fn elements(&self, text: &str) -> Read<Vec<SyntaxElement>> {
         let mut elements = Vec::new(self.alloc);
         for word in text.split_whitespace() {
             elements.push(self.at(word)?)?;
@@ -60,7 +65,12 @@ impl Roots {
         Ok(elements)
     }
 
-    pub fn nodes(&self, text: &str) -> Result<Vec<SyntaxNode>, NoAnswer> {
+    /// The elements of all words that are left.
+    pub fn others(&self, words: &mut Words) -> Read<Vec<SyntaxElement>> {
+        self.elements(words.take_rest())
+    }
+
+    pub fn nodes(&self, text: &str) -> Read<Vec<SyntaxNode>> {
         let mut nodes = Vec::new(self.alloc);
         for word in text.split_whitespace() {
             nodes.push(self.node_at(word)?)?;
@@ -69,7 +79,7 @@ impl Roots {
     }
 
     /// The shared trees of these elements.
-    pub fn greens(&self, text: &str) -> Result<Vec<GreenElement>, NoAnswer> {
+    pub fn greens(&self, text: &str) -> Read<Vec<GreenElement>> {
         let mut greens = Vec::new(self.alloc);
         for word in text.split_whitespace() {
             greens.push(self.at(word)?.green(self.alloc)?)?;
@@ -77,26 +87,53 @@ impl Roots {
         Ok(greens)
     }
 
-    /// What the call gives for the gap at one side of a node or of an element.
-    pub fn gap(&self, side: &str, beside: &str) -> Result<Gap, NoAnswer> {
-        match side {
-            "first" => Ok(Position::first_child_of(self.alloc, &self.node_at(beside)?).map(Some)),
-            "last" => Ok(Position::last_child_of(self.alloc, &self.node_at(beside)?).map(Some)),
-            "before" => Ok(Position::before(self.alloc, self.at(beside)?)),
-            "after" => Ok(Position::after(self.alloc, &self.at(beside)?)),
+    pub fn two_elements(&self, words: &mut Words) -> Read<(SyntaxElement, SyntaxElement)> {
+        let first = self.element(words)?;
+        Ok((first, self.element(words)?))
+    }
+
+    pub fn two_nodes(&self, words: &mut Words) -> Read<(SyntaxNode, SyntaxNode)> {
+        let first = self.node(words)?;
+        Ok((first, self.node(words)?))
+    }
+
+    /// The node of the next word as one of this type.
+    pub fn typed<T: AstNode>(&self, words: &mut Words) -> Read<T> {
+        typed(self.node(words)?)
+    }
+
+    /// The gap at one side of a node or of an element, if one is there.
+    pub fn gap(&self, side: &str, beside: &str) -> Read<Option<Position>> {
+        let element = self.at(beside)?;
+        match (side, element) {
+            ("first", SyntaxElement::Node(node)) => self.first(&node),
+            ("last", SyntaxElement::Node(node)) => self.last(&node),
+            ("before", it) => given("Position::before", Position::before(self.alloc, it)),
+            ("after", it) => given("Position::after", Position::after(self.alloc, &it)),
             _ => Err(NoAnswer::Arguments),
         }
     }
 
+    fn first(&self, node: &SyntaxNode) -> Read<Option<Position>> {
+        let called = Position::first_child_of(self.alloc, node);
+        given("Position::first_child_of", called).map(Some)
+    }
+
+    fn last(&self, node: &SyntaxNode) -> Read<Option<Position>> {
+        let called = Position::last_child_of(self.alloc, node);
+        given("Position::last_child_of", called).map(Some)
+    }
+
     /// The position that two words say: `first NODE`, `last NODE`, `before REF` or `after REF`.
-    pub fn position(&self, words: &mut Words) -> Result<Position, NoAnswer> {
-        self.gap(words.word()?, words.word()?)??
-            .ok_or(NoAnswer::Row("no gap there"))
+    pub fn position(&self, words: &mut Words) -> Read<Position> {
+        let side = words.word()?;
+        let gap = self.gap(side, words.word()?)?;
+        gap.ok_or(NoAnswer::Row("no gap there"))
     }
 }
 
 /// The node as one of this type.
-pub fn typed<T: AstNode>(node: SyntaxNode) -> Result<T, NoAnswer> {
+pub fn typed<T: AstNode>(node: SyntaxNode) -> Read<T> {
     T::cast(node).ok_or(NoAnswer::Form)
 }
 
@@ -106,11 +143,11 @@ pub fn annotation_of(digits: &str) -> Option<SyntaxAnnotation> {
 }
 
 /// The annotation of the next word, or the first one.
-pub fn annotation(words: &mut Words) -> Option<SyntaxAnnotation> {
-    annotation_of(words.next().unwrap_or("1"))
+pub fn annotation(words: &mut Words) -> Read<SyntaxAnnotation> {
+    annotation_of(words.next().unwrap_or("1")).ok_or(NoAnswer::Arguments)
 }
 
 /// The kind that the next word names.
-pub fn kind_in(words: &mut Words) -> Result<SyntaxKind, NoAnswer> {
+pub fn kind_in(words: &mut Words) -> Read<SyntaxKind> {
     SyntaxKind::from_name(words.word()?).ok_or(NoAnswer::Arguments)
 }

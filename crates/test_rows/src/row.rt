@@ -7,6 +7,9 @@ use crate::shown::{Answer, Done, demand};
 use crate::standing::Standing;
 use test_trees::{NoAnswer, Words, first_word};
 
+// The number of a tree that a row names without one.
+const TREE: u64 = 7;
+
 /// Takes the steps in their order. The last one and each after `?` is asked about.
 pub fn take(s: &mut Session, steps: &str) -> Done {
     let (before, last) = steps.rsplit_once(" ; ").unwrap_or(("", steps));
@@ -21,42 +24,43 @@ pub fn take(s: &mut Session, steps: &str) -> Done {
 
 // A step that must be done, or one after `try `, which may be refused.
 fn go_on(s: &mut Session, step: &str) -> Done {
-    let mut answer = Answer::new(s.alloc);
-    if let Some(step) = step.strip_prefix("try ") {
-        return repeated(s, step, &mut answer);
-    }
-    repeated(s, step, &mut answer)?;
-    let is_done = answer.text.starts_with("ok");
+    let mut answer = Answer::new(s.alloc, TREE);
+    let tried = step.strip_prefix("try ");
+    repeated(s, tried.unwrap_or(step), &mut answer)?;
+    let is_done = tried.is_some() || answer.text.starts_with("ok");
     demand(is_done, NoAnswer::Row("a step is refused"))
 }
 
 // A step that is not done leaves all as it was; if it does not, the answer says so.
 fn ask(s: &mut Session, step: &str) -> Done {
     let before = s.standing();
-    let mut answer = Answer::new(s.alloc);
+    let mut answer = Answer::new(s.alloc, TREE);
     repeated(s, step, &mut answer)?;
     if !answer.text.starts_with("ok") {
-        push_changed(&mut answer, &before, &s.standing())?;
+        push_changed(&mut answer, &before, &s.standing());
     }
-    note(s, first_word(step).0, &answer.text)
+    note(s, first_word(step).0, &mut answer);
+    answer.whole()
 }
 
-fn push_changed(answer: &mut Answer, before: &Standing, after: &Standing) -> Done {
+fn push_changed(answer: &mut Answer, before: &Standing, after: &Standing) {
     if before.next != after.next {
-        answer.word(" and a number is drawn")?;
+        answer.word(" and a number is drawn");
     }
     if !before.is_kept_but_numbers(after) {
-        answer.word(" and something else is changed")?;
+        answer.word(" and something else is changed");
     }
-    Ok(())
 }
 
-// Notes the answer of a call that is asked about.
-fn note(s: &mut Session, call: &str, answer: &str) -> Done {
+// Notes the answer of a call that is asked about, unless memory runs out, as the answer says then.
+fn note(s: &mut Session, call: &str, answer: &mut Answer) {
     let before = if s.answers.is_empty() { "" } else { " ; " };
-    write!(s.answers, "{before}{answer}")?;
-    let pair = format!(in s.alloc; "{call} {}", first_word(answer).0)?;
-    Ok(s.asked.push(pair)?)
+    let written = write!(s.answers, "{before}{}", answer.text);
+    answer.note(written);
+    match format!(in s.alloc; "{call} {}", first_word(&answer.text).0) {
+        Ok(pair) => answer.note(s.asked.push(pair)),
+        Err(_) => answer.stop(NoAnswer::Memory),
+    }
 }
 
 // Where the call is refused because memory ran out it is made once more, if all is there that it works on. So what is
@@ -75,19 +79,25 @@ fn repeated(s: &mut Session, step: &str, answer: &mut Answer) -> Done {
 // A call that gives nothing answers `ok`, and one that is refused the name of the refusal, unless that is for want of
 // memory.
 fn answer_to(s: &mut Session, step: &str, answer: &mut Answer) -> Done {
-    answer.text.clear();
+    *answer = Answer::new(s.alloc, TREE);
     let mut words = Words::of(step);
     let name = words.word()?;
-    match making::answer(s, name, &mut words, answer) {
-        Ok(()) => demand(words.is_empty(), NoAnswer::Arguments)?,
+    let taken = making::answer(s, name, &mut words, answer);
+    if let Some(call) = answer.refused {
+        s.refused = Some(call);
+    }
+    answer.whole()?;
+    match taken {
+        Ok(()) if !words.is_empty() => Err(NoAnswer::Arguments),
         Err(NoAnswer::Refusal) if answer.text.as_str() == "Memory" => {
-            return Err(NoAnswer::Refused(name_of(name)));
+            Err(NoAnswer::Refused(name_of(name)))
         }
-        Err(NoAnswer::Refusal) => return Ok(()),
-        Err(error) => return Err(error),
+        Ok(()) | Err(NoAnswer::Refusal) => {
+            if answer.text.is_empty() {
+                answer.word("ok");
+            }
+            answer.whole()
+        }
+        error => error,
     }
-    if answer.text.is_empty() {
-        return answer.word("ok");
-    }
-    Ok(())
 }

@@ -1,7 +1,7 @@
 //! What the steps of a row work on.
 
 use crate::roots::Roots;
-use crate::shown::{Done, demand};
+use crate::shown::{Done, Read, demand};
 use crate::standing::{Group, Standing, editors_standing};
 use cst_core::{SyntaxElement, TreeIds};
 use std::alloc::Global;
@@ -103,12 +103,17 @@ impl Session {
 /// A call was refused because memory ran out, and left something else than before.
 pub const CHANGED: NoAnswer = NoAnswer::Row("the refused call changed what it works on");
 
+/// Whether a name is one of these.
+pub fn is_one_of(name: &str, names: &str) -> bool {
+    names.split(' ').any(|other| other == name)
+}
+
 /// The last value that was made.
-pub fn last<T>(all: &mut Vec<T>) -> Result<&mut T, NoAnswer> {
+pub fn last<T>(all: &mut Vec<T>) -> Read<&mut T> {
     all.last_mut().ok_or(NoAnswer::Row("none was made"))
 }
 
 /// The last value that was made, which is taken.
-pub fn take<T>(all: &mut Vec<T>) -> Result<T, NoAnswer> {
+pub fn take<T>(all: &mut Vec<T>) -> Read<T> {
     all.pop().ok_or(NoAnswer::Row("none was made"))
 }

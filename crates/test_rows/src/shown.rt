@@ -4,7 +4,7 @@ use cst_core::{
     GreenElement, GreenElementRef, GreenNode, GreenToken, SyntaxElement, SyntaxKind, SyntaxNode,
     SyntaxToken, TokenAtOffset,
 };
-use std::alloc::Global;
+use std::alloc::{AllocError, Global};
 use std::fmt::Display;
 use syntax_editor::Error;
 use test_trees::{NoAnswer, push_path, push_quoted};
@@ -12,18 +12,36 @@ use test_trees::{NoAnswer, push_path, push_quoted};
 /// A step is taken, and its answer is written.
 pub type Done = Result<(), NoAnswer>;
 
+/// What is read from words, or is there.
+pub type Read<T> = Result<T, NoAnswer>;
+
 // Texts of nodes up to this length are shown, and those of shared trees up to the other one.
 const SHOWN: u64 = 60;
 
 const SHOWN_SHARED: u64 = 200;
 
-/// What a step answers, as far as it is written.
+/// Writes more of an answer.
+macro_rules! say {
+    ($out:ident, $($written:tt)*) => {{
+        let written = write!($out.text, $($written)*);
+        $out.note(written);
+    }};
+}
+
+pub(crate) use say;
+
+/// What a step answers, as far as it is written. What writes gives nothing: the answer itself notes that it is not
+/// whole, and the row asks it at the end of the step.
 #[derive(Drop)]
 pub struct Answer {
     pub alloc: Global,
     pub text: String,
     /// The number of the tree that each element is of which is shown by its path and kind.
     pub tree: u64,
+    /// Why it is not whole: the first reason, if there is one.
+    pub end: Option<NoAnswer>,
+    /// A call that was refused because memory ran out, and was made once more.
+    pub refused: Option<&'static str>,
 }
 
 /// The name of a kind, if it has one.
@@ -37,53 +55,94 @@ pub fn demand(holds: bool, why: NoAnswer) -> Done {
 }
 
 /// What a call gave that may be refused because memory ran out, by its name in the sources.
-pub fn given<T, E: Drop>(call: &'static str, called: Result<T, E>) -> Result<T, NoAnswer> {
-    called.ok().ok_or(NoAnswer::Refused(call))
-}
-
-/// The same, and it is shown.
-pub fn told<T: Show + Drop, E: Drop>(
-    out: &mut Answer,
-    call: &'static str,
-    called: Result<T, E>,
-) -> Done {
-    given(call, called)?.show(out)
+pub fn given<T, E: Drop>(call: &'static str, called: Result<T, E>) -> Read<T> {
+    match called {
+        Ok(given) => Ok(given),
+        Err(_) => Err(NoAnswer::Refused(call)),
+    }
 }
 
 impl Answer {
-    pub fn new(alloc: Global) -> Answer {
+    /// An empty one, about elements of the tree with this number.
+    pub fn new(alloc: Global, tree: u64) -> Answer {
+        let text = String::new(alloc);
         Answer {
             alloc,
-            text: String::new(alloc),
-            tree: 7,
+            text,
+            tree,
+            end: None,
+            refused: None,
+        }
+    }
+
+    /// Why the answer is not whole, if it is not.
+    pub fn whole(&self) -> Done {
+        self.end.map_or(Ok(()), Err)
+    }
+
+    /// It is not whole for this reason, or for one before it.
+    pub fn stop(&mut self, why: NoAnswer) {
+        if self.end.is_none() {
+            self.end = Some(why);
+        }
+    }
+
+    /// Something was written or kept, unless memory ran out.
+    pub fn note<E: Drop>(&mut self, done: Result<(), E>) {
+        if done.is_err() {
+            self.stop(NoAnswer::Memory);
         }
     }
 
     /// What a call gave. If it is refused, what the refusal prints is the answer.
-    pub fn asked<T, E: Into<Error>>(&mut self, called: Result<T, E>) -> Result<T, NoAnswer> {
+    pub fn asked<T, E: Into<Error>>(&mut self, called: Result<T, E>) -> Read<T> {
         match called {
             Ok(given) => Ok(given),
             Err(refusal) => {
                 let refusal: Error = refusal.into();
                 self.text.clear();
-                self.print(&refusal)?;
+                self.print(&refusal);
                 Err(NoAnswer::Refusal)
             }
         }
     }
 
-    pub fn word(&mut self, word: &str) -> Done {
-        Ok(self.text.push_str(word)?)
+    /// Shows what a call gave that may be refused because memory ran out, by its name in the sources.
+    pub fn told<T: Show + Drop, E: Drop>(&mut self, call: &'static str, called: Result<T, E>) {
+        match called {
+            Ok(given) => given.show(self),
+            Err(_) => self.stop(NoAnswer::Refused(call)),
+        }
+    }
+
+    /// The same of a path.
+    pub fn told_path<E: Drop>(&mut self, call: &'static str, called: Result<Vec<usize>, E>) {
+        match called {
+            Ok(given) => self.path(&given),
+            Err(_) => self.stop(NoAnswer::Refused(call)),
+        }
+    }
+
+    pub fn word(&mut self, word: &str) {
+        let written = self.text.push_str(word);
+        self.note(written);
+    }
+
+    /// A word before something else, unless that comes first.
+    pub fn between(&mut self, word: &str) {
+        if !self.text.is_empty() {
+            self.word(word);
+        }
     }
 
     /// A call gave this.
-    pub fn given<T: Show>(&mut self, given: &T) -> Done {
-        self.word("ok ")?;
-        given.show(self)
+    pub fn given<T: Show>(&mut self, given: &T) {
+        self.word("ok ");
+        given.show(self);
     }
 
     /// A call gave this, or none.
-    pub fn given_or_none<T: Show>(&mut self, given: &Option<T>) -> Done {
+    pub fn given_or_none<T: Show>(&mut self, given: &Option<T>) {
         match given {
             Some(given) => self.given(given),
             None => self.word("none"),
@@ -91,100 +150,124 @@ impl Answer {
     }
 
     /// Whether something holds.
-    pub fn truth(&mut self, holds: bool) -> Done {
-        self.word(if holds { "true" } else { "false" })
+    pub fn truth(&mut self, holds: bool) {
+        self.word(if holds { "true" } else { "false" });
     }
 
     /// Another way to get the answer has to give the same one.
-    pub fn agree(&mut self, other: &Answer) -> Done {
-        if self.text == other.text {
-            return Ok(());
+    pub fn agree(&mut self, other: &Answer) {
+        if let Some(why) = other.end {
+            self.stop(why);
         }
-        self.word("; another way ")?;
-        self.word(&other.text)
+        if self.text != other.text {
+            self.word("; another way ");
+            self.word(&other.text);
+        }
     }
 
     /// What a value or an error prints.
-    pub fn print<T: Display>(&mut self, value: &T) -> Done {
-        Ok(write!(self.text, "{value}")?)
+    pub fn print<T: Display>(&mut self, value: &T) {
+        say!(self, "{value}");
     }
 
     /// A path, as `1/0`; that of a root is `.`.
-    pub fn path(&mut self, slots: &[usize]) -> Done {
-        Ok(push_path(&mut self.text, slots)?)
+    pub fn path(&mut self, slots: &[usize]) {
+        let written = push_path(&mut self.text, slots);
+        self.note(written);
     }
 
-    pub fn quote(&mut self, text: &str) -> Done {
-        Ok(push_quoted(&mut self.text, text)?)
+    pub fn quote(&mut self, text: &str) {
+        let written = push_quoted(&mut self.text, text);
+        self.note(written);
+    }
+
+    /// A text that was made, unless memory ran out.
+    pub fn made_text(&mut self, made: Result<String, AllocError>) {
+        match made {
+            Ok(text) => self.quote(&text),
+            Err(_) => self.stop(NoAnswer::Memory),
+        }
     }
 
     /// The paths of elements with a space between them, or that there is none.
-    pub fn paths(&mut self, elements: &[SyntaxElement]) -> Done {
+    pub fn paths(&mut self, elements: &[SyntaxElement]) {
         for element in elements {
-            self.next_path(element)?;
+            self.next_path(element);
         }
-        self.none_if_empty()
+        self.none_if_empty();
     }
 
     /// One more path, after a space.
-    pub fn next_path(&mut self, element: &SyntaxElement) -> Done {
-        let space = if self.text.is_empty() { "" } else { " " };
-        self.word(space)?;
-        self.path(element.slots())
+    pub fn next_path(&mut self, element: &SyntaxElement) {
+        self.between(" ");
+        self.path(element.slots());
     }
 
     /// A list is whole, which says so where it is empty.
-    pub fn none_if_empty(&mut self) -> Done {
-        let none = if self.text.is_empty() { "none" } else { "" };
-        self.word(none)
+    pub fn none_if_empty(&mut self) {
+        if self.text.is_empty() {
+            self.word("none");
+        }
     }
 
     // Path and kind of an element, which must be of the tree of this answer.
-    fn place(&mut self, tree: u64, slots: &[usize], kind: SyntaxKind) -> Done {
-        demand(tree == self.tree, NoAnswer::Row("another tree"))?;
-        self.path(slots)?;
-        self.word(" ")?;
-        self.word(kind_name(kind))
+    fn place(&mut self, tree: u64, slots: &[usize], kind: SyntaxKind) {
+        if tree != self.tree {
+            self.stop(NoAnswer::Row("another tree"));
+        }
+        self.path(slots);
+        self.word(" ");
+        self.word(kind_name(kind));
     }
 
     /// A call gave a node: its text, or the length of a long one, and the number of its tree.
-    pub fn root(&mut self, node: &SyntaxNode) -> Done {
-        self.word("ok ")?;
+    pub fn root(&mut self, node: &SyntaxNode) {
+        self.word("ok ");
         if node.text_len() > SHOWN {
-            write!(self.text, "{} bytes", node.text_len())?;
+            say!(self, "{} bytes", node.text_len());
         } else {
-            self.text_of(node)?;
+            self.text_of(node);
         }
-        Ok(write!(self.text, " of {}", node.tree())?)
+        self.of_tree(node.tree());
     }
 
     /// The same, and its path.
-    pub fn root_at(&mut self, node: &SyntaxNode) -> Done {
-        self.root(node)?;
-        self.word(" at ")?;
-        self.path(node.slots())
+    pub fn root_at(&mut self, node: &SyntaxNode) {
+        self.root(node);
+        self.at(node.slots());
+    }
+
+    /// The number of the tree that something is of.
+    pub fn of_tree(&mut self, tree: u64) {
+        say!(self, " of {tree}");
+    }
+
+    /// The path at which something stands.
+    pub fn at(&mut self, slots: &[usize]) {
+        self.word(" at ");
+        self.path(slots);
     }
 
     /// The whole text of a node.
-    pub fn text_of(&mut self, node: &SyntaxNode) -> Done {
-        let text = node.text(self.alloc)?;
-        self.quote(&text)
+    pub fn text_of(&mut self, node: &SyntaxNode) {
+        let text = node.text(self.alloc);
+        self.made_text(text);
     }
 }
 
 /// What is shown in one way, wherever it stands.
 pub trait Show {
-    fn show(&self, out: &mut Answer) -> Done;
+    fn show(&self, out: &mut Answer);
 }
 
 impl Show for u64 {
-    fn show(&self, out: &mut Answer) -> Done {
-        out.print(self)
+    fn show(&self, out: &mut Answer) {
+        out.print(self);
     }
 }
 
 impl<T: Show> Show for Option<T> {
-    fn show(&self, out: &mut Answer) -> Done {
+    fn show(&self, out: &mut Answer) {
         match self {
             Some(given) => given.show(out),
             None => out.word("none"),
@@ -193,50 +276,50 @@ impl<T: Show> Show for Option<T> {
 }
 
 impl<T: Show> Show for Vec<T> {
-    fn show(&self, out: &mut Answer) -> Done {
+    fn show(&self, out: &mut Answer) {
         let mut comma = "";
         for item in self {
-            out.word(comma)?;
-            item.show(out)?;
+            out.word(comma);
+            item.show(out);
             comma = ", ";
         }
-        out.word(if comma.is_empty() { "none" } else { "" })
+        out.word(if comma.is_empty() { "none" } else { "" });
     }
 }
 
 impl Show for String {
-    fn show(&self, out: &mut Answer) -> Done {
-        out.quote(self)
+    fn show(&self, out: &mut Answer) {
+        out.quote(self);
     }
 }
 
 impl Show for SyntaxElement {
-    fn show(&self, out: &mut Answer) -> Done {
-        out.place(self.tree(), self.slots(), self.kind())
+    fn show(&self, out: &mut Answer) {
+        out.place(self.tree(), self.slots(), self.kind());
     }
 }
 
 impl Show for SyntaxNode {
-    fn show(&self, out: &mut Answer) -> Done {
-        out.place(self.tree(), self.slots(), self.kind())
+    fn show(&self, out: &mut Answer) {
+        out.place(self.tree(), self.slots(), self.kind());
     }
 }
 
 impl Show for SyntaxToken {
-    fn show(&self, out: &mut Answer) -> Done {
-        out.place(self.tree(), self.slots(), self.kind())
+    fn show(&self, out: &mut Answer) {
+        out.place(self.tree(), self.slots(), self.kind());
     }
 }
 
 impl Show for TokenAtOffset {
-    fn show(&self, out: &mut Answer) -> Done {
+    fn show(&self, out: &mut Answer) {
         match self {
             TokenAtOffset::None => out.word("none"),
             TokenAtOffset::Single(token) => token.show(out),
             TokenAtOffset::Between(left, right) => {
-                left.show(out)?;
-                out.word(", ")?;
-                right.show(out)
+                left.show(out);
+                out.word(", ");
+                right.show(out);
             }
         }
     }
@@ -244,35 +327,32 @@ impl Show for TokenAtOffset {
 
 // Kind, how many children, length and text.
 impl Show for GreenNode {
-    fn show(&self, out: &mut Answer) -> Done {
+    fn show(&self, out: &mut Answer) {
         let (name, count) = (kind_name(self.kind()), self.children().len());
-        let length = self.length();
-        write!(out.text, "{name} of {count}, {length} bytes")?;
-        if length > SHOWN_SHARED {
-            return Ok(());
+        say!(out, "{name} of {count}, {} bytes", self.length());
+        if self.length() <= SHOWN_SHARED {
+            out.word(" ");
+            let text = self.to_string(out.alloc);
+            out.made_text(text);
         }
-        let text = self.to_string(out.alloc)?;
-        out.word(" ")?;
-        out.quote(&text)
     }
 }
 
 impl Show for GreenToken {
-    fn show(&self, out: &mut Answer) -> Done {
-        let (name, length) = (kind_name(self.kind()), self.length());
-        write!(out.text, "{name}, {length} bytes ")?;
-        out.quote(self.text())
+    fn show(&self, out: &mut Answer) {
+        say!(out, "{}, {} bytes ", kind_name(self.kind()), self.length());
+        out.quote(self.text());
     }
 }
 
 impl Show for GreenElement {
-    fn show(&self, out: &mut Answer) -> Done {
-        self.as_ref().show(out)
+    fn show(&self, out: &mut Answer) {
+        self.as_ref().show(out);
     }
 }
 
 impl<'a> Show for GreenElementRef<'a> {
-    fn show(&self, out: &mut Answer) -> Done {
+    fn show(&self, out: &mut Answer) {
         match self {
             GreenElementRef::Node(node) => node.show(out),
             GreenElementRef::Token(token) => token.show(out),

@@ -11,7 +11,7 @@ use cst_core::ast::{BlockExpr, Fn, LetStmt, StmtList};
 use cst_core::{AstNode, HasAttrs, SyntaxElement, SyntaxNode, same_shape};
 use std::alloc::{AllocError, Global};
 use std::hash::Hash;
-use test_trees::Words;
+use test_trees::{NoAnswer, Words};
 
 /// `equal ELEMENT ELEMENT`, `form ELEMENT`, `same_shape NODE NODE` or `views NODE`; what is none of these is of an
 /// error or of an element.
@@ -44,9 +44,8 @@ fn compare<T: Hash>(left: &T, right: &T) -> &'static str {
 }
 
 fn equal(s: &mut Session, words: &mut Words, out: &mut Answer) -> Done {
-    let left = s.trees.element(words)?;
-    let right = s.trees.element(words)?;
-    out.word(equality(&left, &right))
+    let (left, right) = s.trees.two_elements(words)?;
+    Ok(out.word(equality(&left, &right)))
 }
 
 // As elements, and as the nodes or tokens that they are.
@@ -64,18 +63,25 @@ fn equality(left: &SyntaxElement, right: &SyntaxElement) -> &'static str {
 fn form(s: &mut Session, words: &mut Words, out: &mut Answer) -> Done {
     let element = s.trees.element(words)?;
     let copy = element.try_clone(s.alloc)?;
-    let whole = hash_of(&element);
+    let lent = lent_form(&element);
+    let is_same = taken_form(element, copy) == lent;
+    Ok(out.word(if is_same { lent } else { "lent and not taken" }))
+}
+
+fn lent_form(element: &SyntaxElement) -> &'static str {
     let node = element.as_node().map(hash_of);
-    let token = element.as_token().map(hash_of);
-    let lent = form_of(node, token, whole);
+    form_of(node, element.as_token().map(hash_of), hash_of(element))
+}
+
+fn taken_form(element: SyntaxElement, copy: SyntaxElement) -> &'static str {
+    let whole = hash_of(&element);
     let node = element
         .into_node()
         .map(|it| hash_of(&SyntaxElement::from(it)));
     let token = copy
         .into_token()
         .map(|it| hash_of(&SyntaxElement::from(it)));
-    let is_same = form_of(node, token, whole) == lent;
-    out.word(if is_same { lent } else { "lent and not taken" })
+    form_of(node, token, whole)
 }
 
 // The form of an element with this hash, by those of the node and of the token that it is.
@@ -88,18 +94,17 @@ fn form_of(node: Option<u64>, token: Option<u64>, whole: u64) -> &'static str {
 }
 
 fn shape(s: &mut Session, words: &mut Words, out: &mut Answer) -> Done {
-    let left = s.trees.node(words)?;
-    let right = s.trees.node(words)?;
-    out.word(in_each_way(&[same_shape(&left, &right), same_shape(&right, &left)]))
+    let (left, right) = s.trees.two_nodes(words)?;
+    Ok(out.word(in_each_way(&[same_shape(&left, &right), same_shape(&right, &left)])))
 }
 
 // The kinds of the node's views as BlockExpr, as StmtList, as LetStmt and as Fn
 fn views(s: &mut Session, words: &mut Words, out: &mut Answer) -> Done {
     let node = s.trees.node(words)?;
-    view_name::<BlockExpr>(s.alloc, &node, out)?;
-    view_name::<StmtList>(s.alloc, &node, out)?;
-    attributed_name::<LetStmt>(s.alloc, &node, out)?;
-    attributed_name::<Fn>(s.alloc, &node, out)
+    push_view::<BlockExpr>(&node, out);
+    push_view::<StmtList>(&node, out);
+    push_attributed_view::<LetStmt>(&node, out);
+    Ok(push_attributed_view::<Fn>(&node, out))
 }
 
 // What a function over any typed node knows from the trait alone.
@@ -126,12 +131,18 @@ fn view_again<T: AstNode>(alloc: Global, view: T) -> Result<T, AllocError>
 }
 
 // The name of the kind of the node's view, `none` where there is none, after a space.
-fn view_name<T: AstNode>(alloc: Global, node: &SyntaxNode, out: &mut Answer) -> Done {
-    let space = if out.text.is_empty() { "" } else { " " };
-    out.word(space)?;
+fn push_view<T: AstNode>(node: &SyntaxNode, out: &mut Answer) {
+    out.between(" ");
+    match view_name::<T>(out.alloc, node) {
+        Ok(name) => out.word(name),
+        Err(_) => out.stop(NoAnswer::Memory),
+    }
+}
+
+fn view_name<T: AstNode>(alloc: Global, node: &SyntaxNode) -> Result<&'static str, AllocError> {
     let Some(typed) = view_if_castable::<T>(node.try_clone(alloc)?) else {
         let is_view = T::cast(node.try_clone(alloc)?).is_some();
-        return out.word(if is_view {
+        return Ok(if is_view {
             "a view of a kind that has none"
         } else {
             "none"
@@ -139,13 +150,13 @@ fn view_name<T: AstNode>(alloc: Global, node: &SyntaxNode, out: &mut Answer) -> 
     };
     let again = view_again(alloc, typed)?;
     let is_same = can_cast_again(&again) && again.syntax() == node;
-    out.word(if is_same {
+    Ok(if is_same {
         kind_name(node.kind())
     } else {
         "a view of another node"
     })
 }
 
-fn attributed_name<T: HasAttrs>(alloc: Global, node: &SyntaxNode, out: &mut Answer) -> Done {
-    view_name::<T>(alloc, node, out)
+fn push_attributed_view<T: HasAttrs>(node: &SyntaxNode, out: &mut Answer) {
+    push_view::<T>(node, out);
 }
