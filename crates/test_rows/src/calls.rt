@@ -98,13 +98,6 @@ pub fn name_of(call: &str) -> &'static str {
     owed.map_or("a call that owes no row", |owed| owed.1)
 }
 
-// Whether one of these pairs, as `CALL ANSWER`, is this one.
-fn has(pairs: &[String], call: &str, answer: &str) -> bool {
-    pairs
-        .iter()
-        .any(|pair| pair.split_once(' ') == Some((call, answer)))
-}
-
 /// Prints each owed pair that has no row, and how many have one. Gives the number of those that have none.
 pub fn print_missing<R: Print>(rt: &R, pairs: &[String]) -> io::Result<u32> {
     let mut all = 0_u32;
@@ -112,7 +105,8 @@ pub fn print_missing<R: Print>(rt: &R, pairs: &[String]) -> io::Result<u32> {
     for (call, _, answers) in OWED.lines().filter_map(parts) {
         for answer in answers.split(' ') {
             all = all.saturating_add(1);
-            if !has(pairs, call, answer) {
+            let owed = Some((call, answer));
+            if !pairs.iter().any(|pair| pair.split_once(' ') == owed) {
                 lacks = lacks.saturating_add(1);
                 println!(rt; "no row: {call} answers {answer}")?;
             }

@@ -8,7 +8,6 @@ use crate::shown::{Answer, Done, say};
 use cst_core::ast::{BlockExpr, Fn, LetStmt};
 use cst_core::{AstNode, SyntaxElement, SyntaxNode};
 use list_removal::remove_separated;
-use std::alloc::AllocError;
 use syntax_editor::{AttrsOwnerEdit, Change, SyntaxEdit, SyntaxEditor};
 use test_trees::{NoAnswer, Words};
 
@@ -25,7 +24,7 @@ pub fn answer(s: &mut Session, name: &str, words: &mut Words, out: &mut Answer) 
     match name {
         "new" => new(s, words, out),
         "with_ast_node" => with_ast_node(s, words, out),
-        "factory" => give_factory(s, words),
+        "factory" => Ok(*last(&mut s.editors)?.make_mut() = factory(s.alloc, words)?),
         "clashes_with" => clashes_with(s, out),
         "merge" => merge(s, out),
         "finish" => finish(s, out),
@@ -49,13 +48,6 @@ fn with_ast_node(s: &mut Session, words: &mut Words, out: &mut Answer) -> Done {
     let (editor, root) = out.asked(SyntaxEditor::with_ast_node(s.alloc, &mut s.ids, &block))?;
     out.note(s.editors.push(editor));
     Ok(out.root(root.syntax()))
-}
-
-// The last editor gets another factory.
-fn give_factory(s: &mut Session, words: &mut Words) -> Done {
-    let factory = factory(s.alloc, words)?;
-    *last(&mut s.editors)?.make_mut() = factory;
-    Ok(())
 }
 
 // The first clash that there would be if the last editor went into the one before it.
@@ -99,8 +91,8 @@ pub fn keep_edit(s: &mut Session, edit: SyntaxEdit, out: &mut Answer) {
 fn of_edit(s: &mut Session, name: &str, words: &mut Words, out: &mut Answer) -> Done {
     let edit = last(&mut s.edits)?;
     match name {
-        "old_text" => Ok(out.text_of(edit.old_root())),
-        "new_text" => Ok(out.text_of(edit.new_root())),
+        "old_text" => Ok(out.made_text(edit.old_root().text(s.alloc))),
+        "new_text" => Ok(out.made_text(edit.new_root().text(s.alloc))),
         "changed" => Ok(out.paths(edit.changed_elements())),
         _ => Ok(out.paths(edit.find_annotation(annotation(words)?))),
     }
@@ -146,7 +138,7 @@ fn inserted(changes: &[Change], out: &mut Answer) {
         for element in elements.as_slice() {
             out.between(", ");
             out.made_text(element.text(out.alloc));
-            out.of_tree(element.tree());
+            say!(out, " of {}", element.tree());
         }
     }
     out.none_if_empty();
@@ -166,18 +158,13 @@ fn fits(changes: &[Change], node: &SyntaxNode, out: &mut Answer) -> Done {
 
 // The text that shows a change, by its number, with \e for the byte ESC; and the same without the escape sequences.
 fn text(changes: &[Change], name: &str, number: usize, out: &mut Answer) -> Done {
-    match (changes.get(number), name) {
-        (Some(change), "text") => show_text(change.text(out.alloc), out),
-        (Some(change), _) => show_text(change.plain_text(out.alloc), out),
-        _ => Err(NoAnswer::Arguments),
-    }
-}
-
-fn show_text(called: Result<String, AllocError>, out: &mut Answer) -> Done {
-    let text = out.asked(called)?;
+    let change = changes.get(number).ok_or(NoAnswer::Arguments)?;
+    let text = match name {
+        "text" => out.asked(change.text(out.alloc))?,
+        _ => out.asked(change.plain_text(out.alloc))?,
+    };
     out.given(&text);
-    out.text = out.text.replace(out.alloc, '\x1b', "\\e")?;
-    Ok(())
+    Ok(out.text = out.text.replace(out.alloc, '\x1b', "\\e")?)
 }
 
 // By a call of the last editor.

@@ -8,9 +8,7 @@ use crate::standing::hash_of;
 use cst_core::{Direction, SyntaxElement, SyntaxNode, SyntaxToken};
 use test_trees::{NoAnswer, Words, slots_of};
 
-/// `NAME ELEMENT`, `NAME NODE`, `descendants_of_kind NODE KIND`, `token_at_offset NODE OFFSET`,
-/// `covering_element NODE START END`, `element_at NODE PATH`, `element_of_tree NODE PATH`, `prev_token TOKEN` or
-/// `next_token TOKEN`. The element stays what it is.
+/// What is asked of the element of the next word, in the words after it. The element stays what it is.
 pub fn answer(s: &mut Session, name: &str, words: &mut Words, out: &mut Answer) -> Done {
     let element = s.trees.element(words)?;
     out.tree = element.tree();
@@ -27,6 +25,13 @@ fn ask(element: &SyntaxElement, name: &str, words: &mut Words, out: &mut Answer)
         SyntaxElement::Token(it) => of_token_alone(out, name, it, element),
     }
     Ok(())
+}
+
+// What a call of this form gives.
+macro_rules! told {
+    ($out:ident, $form:literal, $it:ident.$call:ident($($argument:expr),*)) => {
+        $out.told(concat!($form, "::", stringify!($call)), $it.$call($($argument),*))
+    };
 }
 
 // Where the name is that of one of these calls, what it gives, else what is told of each form.
@@ -52,25 +57,21 @@ fn of_node_alone(out: &mut Answer, name: &str, it: &SyntaxNode, element: &Syntax
     }
 }
 
-// Where a call of a node has this name, what it gives for these arguments.
-macro_rules! tell_at {
-    ($out:ident, $name:ident, $it:ident: $($call:ident($($argument:expr),*))*) => {
-        match $name {
-            $(stringify!($call) => $out.told(concat!("SyntaxNode::", stringify!($call)), $it.$call($($argument),*)),)*
-            _ => return Err(NoAnswer::Arguments),
-        }
-    };
-}
-
 // What a path leads to, from the node or from the root of its tree, what stands at an offset, and what covers a range.
 fn at(it: &SyntaxNode, name: &str, words: &mut Words, out: &mut Answer) -> Done {
     let alloc = out.alloc;
-    tell_at! { out, name, it:
-        descendants_of_kind(alloc, kind_in(words)?)
-        token_at_offset(alloc, words.number()?)
-        covering_element(alloc, words.number()?, words.number()?)
-        element_at(alloc, &slots_of(alloc, words.word()?)?)
-        element_of_tree(alloc, slots_of(alloc, words.word()?)?)
+    match name {
+        "descendants_of_kind" =>
+            told! { out, "SyntaxNode", it.descendants_of_kind(alloc, kind_in(words)?) },
+        "token_at_offset" =>
+            told! { out, "SyntaxNode", it.token_at_offset(alloc, words.number()?) },
+        "covering_element" =>
+            told! { out, "SyntaxNode", it.covering_element(alloc, words.number()?, words.number()?) },
+        "element_at" =>
+            told! { out, "SyntaxNode", it.element_at(alloc, &slots_of(alloc, words.word()?)?) },
+        "element_of_tree" =>
+            told! { out, "SyntaxNode", it.element_of_tree(alloc, slots_of(alloc, words.word()?)?) },
+        _ => return Err(NoAnswer::Arguments),
     }
     Ok(())
 }
@@ -129,13 +130,6 @@ macro_rules! fact {
             "debug_lines" => $out.told(concat!($form, " as {:#?}"), format!(in $alloc; "{:#?}", $it)),
             _ => $out.stop(NoAnswer::Row("nothing that is asked has this name")),
         }
-    };
-}
-
-// What a call of this form gives.
-macro_rules! told {
-    ($out:ident, $form:literal, $it:ident.$call:ident($($argument:expr),*)) => {
-        $out.told(concat!($form, "::", stringify!($call)), $it.$call($($argument),*))
     };
 }
 

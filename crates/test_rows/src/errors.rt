@@ -66,14 +66,9 @@ fn record_error(case: &str, out: &mut Answer) {
 }
 
 fn edit_error(case: &str, out: &mut Answer) {
-    let intersecting = EditError::Intersecting {
-        first: 0,
-        second: 2,
-    };
-    let missing = EditError::MissingMapping {
-        change: 1,
-        owner: 0,
-    };
+    let (first, second, change, owner) = (0, 2, 1, 0);
+    let intersecting = EditError::Intersecting { first, second };
+    let missing = EditError::MissingMapping { change, owner };
     tell! { case, out, Error from EditError:
         TooLong NoTreeNumber Memory; Intersecting: intersecting; MissingMapping: missing
     }
@@ -95,10 +90,8 @@ fn any_error(case: &str, out: &mut Answer) {
 }
 
 fn expression_error(case: &str, out: &mut Answer) {
-    let malformed = ExpressionError::Malformed {
-        at: 12,
-        expected: Expected::KindName,
-    };
+    let (at, expected) = (12, Expected::KindName);
+    let malformed = ExpressionError::Malformed { at, expected };
     let tree = ExpressionError::Tree(TreeError::NoTreeNumber);
     tell! { case, out, ExpressionError from ExpressionError: Memory;
         Malformed: malformed; UnknownKind: ExpressionError::UnknownKind { at: 1 };
@@ -108,22 +101,14 @@ fn expression_error(case: &str, out: &mut Answer) {
 
 // What rows answer where a tree is not read.
 fn row_error(case: &str, out: &mut Answer) {
-    let malformed = ExpressionError::Malformed {
-        at: 12,
-        expected: Expected::KindName,
-    };
-    let errors = [
-        NoAnswer::from(malformed),
-        NoAnswer::from(ExpressionError::UnknownKind { at: 1 }),
-        NoAnswer::from(TreeError::TooLong),
-        NoAnswer::from(ExpressionError::Memory),
-        NoAnswer::Row("UnknownRow"),
-    ];
-    match errors.get(place_of(
-        case,
-        "Malformed UnknownKind Tree(TooLong) Memory UnknownRow",
-    )) {
-        Some(error) => out.print(error),
-        None => out.stop(NoAnswer::Arguments),
+    let (at, expected) = (12, Expected::KindName);
+    let malformed = ExpressionError::Malformed { at, expected };
+    match case {
+        "Malformed" => out.print(&NoAnswer::from(malformed)),
+        "UnknownKind" => out.print(&NoAnswer::from(ExpressionError::UnknownKind { at: 1 })),
+        "UnknownRow" => out.print(&NoAnswer::Row("UnknownRow")),
+        "Tree(TooLong)" => out.print(&NoAnswer::from(TreeError::TooLong)),
+        "Memory" => out.print(&NoAnswer::from(ExpressionError::Memory)),
+        _ => out.stop(NoAnswer::Arguments),
     }
 }

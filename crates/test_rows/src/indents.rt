@@ -1,10 +1,10 @@
 //! Levels of indentation, and trees that are indented and dedented.
 
-use crate::greens;
 use crate::making::factory;
 use crate::roots::typed;
 use crate::session::{CHANGED, Session};
 use crate::shown::{Answer, Done, Read, demand};
+use crate::texts;
 use cst_core::ast::{BlockExpr, StmtList};
 use cst_core::{AstNode, SyntaxElement};
 use syntax_editor::{AstNodeEdit, IndentError, IndentLevel, SyntaxFactory, indent};
@@ -14,19 +14,14 @@ use test_trees::{NoAnswer, Words};
 pub fn answer(s: &mut Session, name: &str, words: &mut Words, out: &mut Answer) -> Done {
     match name {
         "from_element" | "from_node" | "from_token" => level_at(s, name, words, out),
-        "indent_level" => level(
-            s.trees.typed::<BlockExpr>(words)?.indent_level(s.alloc),
-            out,
-        ),
+        "indent_level" | "indent" | "reset_indent" => of_block(s, name, words, out),
         "is_zero" => Ok(out.truth(read_level(words)?.is_zero())),
         "sum" => sum(words, out),
         "print" => print(words, out),
         "free_indent" => free_indent(s, words, out),
-        "indent" => typed_indent(s, words, out),
         "dedent" => dedent(s, words, out),
-        "reset_indent" => reset_indent(s, words, out),
         "indent_with_mapping" => indent_with_mapping(s, words, out),
-        _ => greens::answer(s, name, words, out),
+        _ => texts::answer(s, name, words, out),
     }
 }
 
@@ -54,8 +49,7 @@ fn level_at(s: &mut Session, name: &str, words: &mut Words, out: &mut Answer) ->
 fn sum(words: &mut Words, out: &mut Answer) -> Done {
     let (first, second) = (words.number::<u8>()?, words.number::<u8>()?);
     if first.checked_add(second).is_none() {
-        out.word("none");
-        return Ok(());
+        return Ok(out.word("none"));
     }
     let mut level = IndentLevel::zero() + first;
     level += second;
@@ -85,9 +79,13 @@ fn typed_root<N: AstNode>(called: Result<N, IndentError>, out: &mut Answer) -> D
     Ok(out.root(node.syntax()))
 }
 
-fn typed_indent(s: &mut Session, words: &mut Words, out: &mut Answer) -> Done {
+fn of_block(s: &mut Session, name: &str, words: &mut Words, out: &mut Answer) -> Done {
     let block = s.trees.typed::<BlockExpr>(words)?;
-    typed_root(block.indent(s.alloc, &mut s.ids, read_level(words)?), out)
+    match name {
+        "indent_level" => level(block.indent_level(s.alloc), out),
+        "reset_indent" => typed_root(block.reset_indent(s.alloc, &mut s.ids), out),
+        _ => typed_root(block.indent(s.alloc, &mut s.ids, read_level(words)?), out),
+    }
 }
 
 // Of a list of statements, or of a block.
@@ -104,11 +102,6 @@ fn dedent(s: &mut Session, words: &mut Words, out: &mut Answer) -> Done {
         typed::<BlockExpr>(node)?.dedent(s.alloc, &mut s.ids, level),
         out,
     )
-}
-
-fn reset_indent(s: &mut Session, words: &mut Words, out: &mut Answer) -> Done {
-    let block = s.trees.typed::<BlockExpr>(words)?;
-    typed_root(block.reset_indent(s.alloc, &mut s.ids), out)
 }
 
 // By a factory, whose mapping is the last one from then on, whatever the call answers but want of memory, which leaves

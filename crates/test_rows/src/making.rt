@@ -31,7 +31,18 @@ pub fn answer(s: &mut Session, name: &str, words: &mut Words, out: &mut Answer) 
         "node" => node(s, words, out),
         "wrap" => wrap(s, words, out),
         "whitespace" => whitespace(s, words, out),
-        _ => answer_mapping(s, name, words, out),
+        "builder" => builder(s, words, out),
+        "map_node" => map_node(s, words, out),
+        "map_children" => map_children(s, words, out),
+        "map" => map(s, words, out),
+        "map_all" | "map_editor" | "finish_builder" | "add_mapping" => finish(s, name, out),
+        "mapping" => Ok(out.note(s.mappings.push(SyntaxMapping::new(s.alloc)))),
+        "merge_mappings" => merge_mappings(s, out),
+        "clone_mapping" => clone_mapping(s, out),
+        "drop_mapping" => Ok(drop(s.mappings.pop())),
+        "place" => place(s, words, out),
+        "follow" => follow(s, words, out),
+        _ => editors::answer(s, name, words, out),
     }
 }
 
@@ -44,11 +55,13 @@ fn tree(s: &mut Session, words: &mut Words) -> Done {
 
 // A new source of numbers, from this number on, or a spent one.
 fn numbers(s: &mut Session, words: &mut Words) -> Done {
-    let first = match words.word()? {
-        "spent" => u64::MAX,
-        digits => number_of(digits)?,
-    };
-    s.ids = TreeIds::new(first);
+    let first = words.word()?;
+    let is_spent = first == "spent";
+    s.ids = TreeIds::new(if is_spent {
+        u64::MAX
+    } else {
+        number_of(first)?
+    });
     Ok(())
 }
 
@@ -58,8 +71,7 @@ fn peek(s: &mut Session, out: &mut Answer) -> Done {
     if s.ids.is_spent() != next.is_none() {
         out.word("spent in one way and not in another");
     }
-    next.show(out);
-    Ok(())
+    Ok(next.show(out))
 }
 
 fn new_root(s: &mut Session, words: &mut Words, out: &mut Answer) -> Done {
@@ -193,31 +205,13 @@ fn wrap(s: &mut Session, words: &mut Words, out: &mut Answer) -> Done {
     let editor = last(&mut s.editors)?;
     let node = s.trees.node(words)?;
     let kind = kind_in(words)?;
-    let (before, after) = words.split_rest("round")?;
+    let (before, after) = words
+        .take_rest()
+        .split_once("round")
+        .ok_or(NoAnswer::Arguments)?;
     let (before, after) = (s.trees.elements(before)?, s.trees.elements(after)?);
     let copy = out.asked(editor.wrap(s.alloc, &mut s.ids, &node, kind, &before, &after))?;
     Ok(out.root_at(&copy))
-}
-
-// Builders of mappings, where their pairs go, and mappings that no editor has.
-fn answer_mapping(s: &mut Session, name: &str, words: &mut Words, out: &mut Answer) -> Done {
-    match name {
-        "builder" => builder(s, words, out),
-        "map_node" => map_node(s, words, out),
-        "map_children" => map_children(s, words, out),
-        "map" => map(s, words, out),
-        "map_all" | "map_editor" | "finish_builder" | "add_mapping" => finish(s, name, out),
-        "mapping" => Ok(out.note(s.mappings.push(SyntaxMapping::new(s.alloc)))),
-        "merge_mappings" => merge_mappings(s, out),
-        "clone_mapping" => clone_mapping(s, out),
-        "drop_mapping" => {
-            let _ = s.mappings.pop();
-            Ok(())
-        }
-        "place" => place(s, words, out),
-        "follow" => follow(s, words, out),
-        _ => editors::answer(s, name, words, out),
-    }
 }
 
 fn builder(s: &mut Session, words: &mut Words, out: &mut Answer) -> Done {
@@ -232,9 +226,11 @@ fn map_node(s: &mut Session, words: &mut Words, out: &mut Answer) -> Done {
 
 fn map_children(s: &mut Session, words: &mut Words, out: &mut Answer) -> Done {
     let builder = last(&mut s.builders)?;
-    let (inputs, outputs) = words.split_rest(" to ")?;
-    let inputs = s.trees.nodes(inputs)?;
-    let outputs = s.trees.nodes(outputs)?;
+    let (inputs, outputs) = words
+        .take_rest()
+        .split_once(" to ")
+        .ok_or(NoAnswer::Arguments)?;
+    let (inputs, outputs) = (s.trees.nodes(inputs)?, s.trees.nodes(outputs)?);
     out.asked(builder.map_children(s.alloc, &inputs, &outputs))
 }
 
@@ -305,12 +301,9 @@ fn follow(s: &mut Session, words: &mut Words, out: &mut Answer) -> Done {
 
 // The form of the element, its text, the number of its tree and its path.
 fn show_end(end: &SyntaxElement, out: &mut Answer) {
-    out.word(if end.as_node().is_some() {
-        "ok node "
-    } else {
-        "ok token "
-    });
+    let is_node = end.as_node().is_some();
+    out.word(if is_node { "ok node " } else { "ok token " });
     out.made_text(end.text(out.alloc));
-    out.of_tree(end.tree());
-    out.at(end.slots());
+    say!(out, " of {} at ", end.tree());
+    out.path(end.slots());
 }

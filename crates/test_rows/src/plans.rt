@@ -1,18 +1,20 @@
-//! Plans: of an editor, or built of changes and registered elements; and what each engine makes of them.
+//! Plans: of an editor, or built of changes and registered elements; what each engine makes of them; and plans that are
+//! carried out one change at a time.
 ghost use Rattle.std.specs.Prelude.{◌≡◌, ◌↔◌, ◌<◌, [], length, IsTrue, IfOk, All};
 ghost use Rattle.edit_plan.specs.Fits.{Fits};
 
 use crate::editors::{deleted_paths, keep_edit};
+use crate::indents;
 use crate::roots::{Roots, annotation};
-use crate::runs;
 use crate::session::{CHANGED, Session, last, take};
-use crate::shown::{Answer, Done, Read, demand, say};
-use cst_core::{SyntaxNode, TreeError};
+use crate::shown::{Answer, Done, Read, Show, demand, given, say};
+use crate::standing::run_standing;
+use cst_core::{GreenNode, SyntaxNode, TreeError};
 use std::alloc::Global;
 use std::mem::replace;
 use syntax_editor::{
-    Change, EditEngine, EditPlan, ElementList, EngineError, OnePassEngine, Rewritten, SpliceEngine,
-    SyntaxMapping,
+    Change, EditEngine, EditPlan, EditRun, ElementList, EngineError, OnePassEngine, Rewritten,
+    SpliceEngine, SyntaxMapping,
 };
 use test_trees::{NoAnswer, Words, number_of};
 use tree_text::{WriteError, write_tree};
@@ -33,7 +35,10 @@ pub fn answer(s: &mut Session, name: &str, words: &mut Words, out: &mut Answer) 
         "run" => run(s, &mut OnePassEngine::new(s.alloc), out),
         "run_spliced" => run(s, &mut SpliceEngine::new(s.alloc), out),
         "built" => built(s, words, out),
-        _ => runs::answer(s, name, words, out),
+        "stepped" => step_through(s, words, out),
+        "finish_run" => finish_run(s, words, out),
+        "finish_counting" => finish_counting(s, words, out),
+        _ => indents::answer(s, name, words, out),
     }
 }
 
@@ -75,12 +80,7 @@ fn next_change(trees: &Roots, words: &mut Words) -> Read<Change> {
         "insert_all" => Ok(Change::InsertAll(trees.position(words)?, list(trees, words)?)),
         "delete" => Ok(Change::Replace(trees.element(words)?, None)),
         "replace" => Ok(Change::Replace(trees.element(words)?, Some(trees.element(words)?))),
-        "replace_with_many" => Ok(Change::ReplaceWithMany(
-            trees.element(words)?,
-            list(trees, words)?,
-        )),
-        "replace_all" => range_replacement(trees, words),
-        _ => Err(NoAnswer::Arguments),
+        name => replacement(trees, name, words),
     }
 }
 
@@ -88,10 +88,13 @@ fn list(trees: &Roots, words: &mut Words) -> Read<ElementList> {
     Ok(ElementList::from(trees.others(words)?))
 }
 
-fn range_replacement(trees: &Roots, words: &mut Words) -> Read<Change> {
+fn replacement(trees: &Roots, name: &str, words: &mut Words) -> Read<Change> {
     let first = trees.element(words)?;
-    let end = trees.element(words)?;
-    Ok(Change::ReplaceAll(first, end, list(trees, words)?))
+    match name {
+        "replace_with_many" => Ok(Change::ReplaceWithMany(first, list(trees, words)?)),
+        "replace_all" => Ok(Change::ReplaceAll(first, trees.element(words)?, list(trees, words)?)),
+        _ => Err(NoAnswer::Arguments),
+    }
 }
 
 // One more registered element of the plan that is built.
@@ -124,8 +127,7 @@ fn root(trees: &Roots, words: &mut Words) -> Read<SyntaxNode>
 fn check_changes(s: &mut Session, words: &mut Words, out: &mut Answer) -> Done {
     let root = root(&s.trees, words)?;
     if !all_fit(&root, &s.changes) {
-        out.word("not fitting");
-        return Ok(());
+        return Ok(out.word("not fitting"));
     }
     let nothing = SyntaxMapping::new(s.alloc);
     let mapping = s.mappings.last().unwrap_or(&nothing);
@@ -137,8 +139,7 @@ fn build(s: &mut Session, words: &mut Words, out: &mut Answer) -> Done {
     let root = root(&s.trees, words)?;
     let changes = replace(&mut s.changes, Vec::new(s.alloc));
     if !all_fit(&root, &changes) {
-        out.word("not fitting");
-        return Ok(());
+        return Ok(out.word("not fitting"));
     }
     let registrations = replace(&mut s.registrations, Vec::new(s.alloc));
     let mapping = s.mappings.pop().unwrap_or(SyntaxMapping::new(s.alloc));
@@ -168,18 +169,12 @@ fn default_order(s: &mut Session, out: &mut Answer) -> Done {
 }
 
 fn execute(s: &mut Session, words: &mut Words, out: &mut Answer) -> Done {
-    let order = numbers(s.alloc, words)?;
+    let mut order = Vec::new(s.alloc);
+    for word in words.take_rest().split_whitespace() {
+        order.push(number_of(word)?)?;
+    }
     let edit = out.asked(last(&mut s.plans)?.execute(s.alloc, &mut s.ids, &order))?;
     Ok(keep_edit(s, edit, out))
-}
-
-// All words that are left.
-fn numbers(alloc: Global, words: &mut Words) -> Read<Vec<usize>> {
-    let mut numbers = Vec::new(alloc);
-    for word in words.take_rest().split_whitespace() {
-        numbers.push(number_of(word)?)?;
-    }
-    Ok(numbers)
 }
 
 // Carries the last plan out with this engine.
@@ -199,10 +194,10 @@ fn built(s: &mut Session, words: &mut Words, out: &mut Answer) -> Done {
     let one = rewritten(called)?;
     let other = rewritten(SpliceEngine::new(s.alloc).run(s.alloc, plan))?;
     match (&one, &other) {
+        (None, None) => out.asked(Err(TreeError::TooLong)),
         (Some(one), Some(other)) if is_same(s.alloc, one, other)? => Ok(out.given(
             &engine.builds(),
         )),
-        (None, None) => out.asked(Err(TreeError::TooLong)),
         _ => Ok(out.word("the engines differ")),
     }
 }
@@ -232,4 +227,143 @@ fn is_same(alloc: Global, one: &Rewritten, other: &Rewritten) -> Read<bool> {
 
 fn text_of(written: Result<String, WriteError>) -> Read<String> {
     written.ok().ok_or(NoAnswer::Memory)
+}
+
+fn step_through(s: &mut Session, words: &mut Words, out: &mut Answer) -> Done {
+    out.word("ok");
+    let mut stepped = Stepped::new(last(&mut s.plans)?, out)?;
+    stepped.take_all(words, out)
+}
+
+// The edit that a run gives where it is complete.
+fn finish_run(s: &mut Session, words: &mut Words, out: &mut Answer) -> Done {
+    let Some(run) = complete_run(last(&mut s.plans)?, words, out)? else {
+        return Ok(());
+    };
+    let edit = out.asked(run.finish(s.alloc, &mut s.ids))?;
+    Ok(keep_edit(s, edit, out))
+}
+
+// The same, with the count of the walk that gives the edit its paths, from the first number on. Where there is no edit
+// the count is as it was.
+fn finish_counting(s: &mut Session, words: &mut Words, out: &mut Answer) -> Done {
+    let first = words.number()?;
+    let Some(run) = complete_run(last(&mut s.plans)?, words, out)? else {
+        return Ok(());
+    };
+    let mut walk = OnePassEngine::starting_at(s.alloc, first);
+    let called = run.finish_counting(s.alloc, &mut s.ids, &mut walk);
+    demand(called.is_ok() || walk.builds() == first, CHANGED)?;
+    let edit = out.asked(called)?;
+    keep_edit(s, edit, out);
+    say!(out, ", built {}", walk.builds());
+    Ok(())
+}
+
+// A run by these steps, unless it is not complete, which is answered then.
+fn complete_run<'a>(
+    plan: &'a EditPlan,
+    words: &mut Words,
+    out: &mut Answer,
+) -> Read<Option<EditRun<'a>>> {
+    let mut stepped = Stepped::new(plan, out)?;
+    stepped.take_all(words, out)?;
+    out.text.clear();
+    if stepped.run.is_complete() {
+        return Ok(Some(stepped.run));
+    }
+    out.word("not complete");
+    Ok(None)
+}
+
+// A run of a plan, and how many changes that has.
+#[derive(Drop)]
+struct Stepped<'a> {
+    run: EditRun<'a>,
+    size: usize,
+    ghost counted: { size ≡ length run.plan.changes },
+}
+
+impl<'a> Stepped<'a> {
+    fn new(plan: &'a EditPlan, out: &mut Answer) -> Read<Stepped<'a>> {
+        let size = plan.len();
+        let run = given("EditRun::new", EditRun::new(out.alloc, plan))?;
+        Ok(Stepped { run, size })
+    }
+
+    fn take_all(&mut self, words: &mut Words, out: &mut Answer) -> Done {
+        for word in words.take_rest().split_whitespace() {
+            match word.parse::<usize>() {
+                Ok(change) if change < self.size => self.step(change, out)?,
+                Ok(_) => return Err(NoAnswer::Arguments),
+                Err(_) => self.ask(word, out),
+            }
+        }
+        Ok(())
+    }
+
+    // Carries a change out, if it may be the next one. A refused call leaves the run as it was, and is made again.
+    fn step(&mut self, change: usize, out: &mut Answer) -> Done
+        requires { change < self.old.size }
+    {
+        if !self.run.ready(change) {
+            return Ok(out.word(" not_ready"));
+        }
+        let before = run_standing(&self.run, self.size);
+        if self.run.step(out.alloc, change).is_ok() {
+            return Ok(());
+        }
+        out.refused = Some("EditRun::step");
+        demand(run_standing(&self.run, self.size) == before, CHANGED)?;
+        Ok(self.run.step(out.alloc, change)?)
+    }
+
+    fn ask(&self, word: &str, out: &mut Answer) {
+        out.word(" ");
+        match word {
+            "green" => short_text(self.run.green(), out),
+            "ready" => self.ready(out),
+            "next" => self.run.next_ready().map(|change| change as u64).show(out),
+            "builds" => out.print(&self.run.builds()),
+            "complete" => out.truth(self.run.is_complete()),
+            "plan" => out.print(&self.run.plan().len()),
+            _ => self.payload(word, out),
+        }
+    }
+
+    // The payload of a change, as `payload/NUMBER`.
+    fn payload(&self, word: &str, out: &mut Answer) {
+        let digits = word.strip_prefix("payload/").unwrap_or("");
+        match digits.parse::<usize>() {
+            Ok(change) if change < self.size => match self.run.payload(change) {
+                Some(payload) => short_text(payload, out),
+                None => out.word("none"),
+            },
+            _ => out.stop(NoAnswer::Arguments),
+        }
+    }
+
+    // The changes that may be the next ones, between braces.
+    fn ready(&self, out: &mut Answer) {
+        let mut space = "{";
+        for change in 0..self.size {
+            if self.run.ready(change) {
+                say!(out, "{space}{change}");
+                space = " ";
+            }
+        }
+        out.word(if space == "{" { "{}" } else { "}" });
+    }
+}
+
+// Texts up to this length are shown.
+const SHOWN: u64 = 200;
+
+// The text of a tree, or the length of a long one.
+fn short_text(tree: &GreenNode, out: &mut Answer) {
+    if tree.length() > SHOWN {
+        say!(out, "{}_bytes", tree.length());
+    } else {
+        out.made_text(tree.to_string(out.alloc));
+    }
 }

@@ -106,22 +106,25 @@ impl Roots {
     pub fn gap(&self, side: &str, beside: &str) -> Read<Option<Position>> {
         let element = self.at(beside)?;
         match (side, element) {
-            ("first", SyntaxElement::Node(node)) => self.first(&node),
-            ("last", SyntaxElement::Node(node)) => self.last(&node),
             ("before", it) => given("Position::before", Position::before(self.alloc, it)),
             ("after", it) => given("Position::after", Position::after(self.alloc, &it)),
-            _ => Err(NoAnswer::Arguments),
+            (_, SyntaxElement::Node(node)) => self.gap_in(side, &node).map(Some),
+            _ => Err(NoAnswer::Form),
         }
     }
 
-    fn first(&self, node: &SyntaxNode) -> Read<Option<Position>> {
-        let called = Position::first_child_of(self.alloc, node);
-        given("Position::first_child_of", called).map(Some)
-    }
-
-    fn last(&self, node: &SyntaxNode) -> Read<Option<Position>> {
-        let called = Position::last_child_of(self.alloc, node);
-        given("Position::last_child_of", called).map(Some)
+    fn gap_in(&self, side: &str, node: &SyntaxNode) -> Read<Position> {
+        match side {
+            "first" => given(
+                "Position::first_child_of",
+                Position::first_child_of(self.alloc, node),
+            ),
+            "last" => given(
+                "Position::last_child_of",
+                Position::last_child_of(self.alloc, node),
+            ),
+            _ => Err(NoAnswer::Arguments),
+        }
     }
 
     /// The position that two words say: `first NODE`, `last NODE`, `before REF` or `after REF`.

@@ -44,12 +44,17 @@ fn ask(s: &mut Session, step: &str) -> Done {
 }
 
 fn push_changed(answer: &mut Answer, before: &Standing, after: &Standing) {
-    if before.next != after.next {
-        answer.word(" and a number is drawn");
-    }
-    if !before.is_kept_but_numbers(after) {
-        answer.word(" and something else is changed");
-    }
+    let (is_drawn, is_kept) = (before.next != after.next, before.is_kept_but_numbers(after));
+    answer.word(if is_drawn {
+        " and a number is drawn"
+    } else {
+        ""
+    });
+    answer.word(if is_kept {
+        ""
+    } else {
+        " and something else is changed"
+    });
 }
 
 // Notes the answer of a call that is asked about, unless memory runs out, as the answer says then.

@@ -85,10 +85,7 @@ impl Run {
     fn take<R: Print>(&mut self, rt: &R, text: &str, line: Line) -> Said {
         match line {
             Line::Blank | Line::End => Ok(()),
-            Line::Refused => {
-                self.is_partial = true;
-                Ok(())
-            }
+            Line::Refused => Ok(self.is_partial = true),
             Line::Tree(tree) => {
                 let (name, tree) = first_word(tree);
                 let alloc = self.session.alloc;
@@ -123,10 +120,7 @@ impl Run {
     fn note_end<R: Print>(&mut self, rt: &R, line: &str, done: Done) -> Said {
         match done {
             Ok(()) => Ok(()),
-            Err(NoAnswer::Memory) => {
-                self.is_cut = true;
-                Ok(())
-            }
+            Err(NoAnswer::Memory) => Ok(self.is_cut = true),
             Err(reason) => self.note_wrong(rt, line, reason),
         }
     }

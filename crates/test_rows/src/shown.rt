@@ -56,10 +56,7 @@ pub fn demand(holds: bool, why: NoAnswer) -> Done {
 
 /// What a call gave that may be refused because memory ran out, by its name in the sources.
 pub fn given<T, E: Drop>(call: &'static str, called: Result<T, E>) -> Read<T> {
-    match called {
-        Ok(given) => Ok(given),
-        Err(_) => Err(NoAnswer::Refused(call)),
-    }
+    called.map_err(|_| NoAnswer::Refused(call))
 }
 
 impl Answer {
@@ -226,32 +223,16 @@ impl Answer {
         if node.text_len() > SHOWN {
             say!(self, "{} bytes", node.text_len());
         } else {
-            self.text_of(node);
+            self.made_text(node.text(self.alloc));
         }
-        self.of_tree(node.tree());
+        say!(self, " of {}", node.tree());
     }
 
     /// The same, and its path.
     pub fn root_at(&mut self, node: &SyntaxNode) {
         self.root(node);
-        self.at(node.slots());
-    }
-
-    /// The number of the tree that something is of.
-    pub fn of_tree(&mut self, tree: u64) {
-        say!(self, " of {tree}");
-    }
-
-    /// The path at which something stands.
-    pub fn at(&mut self, slots: &[usize]) {
         self.word(" at ");
-        self.path(slots);
-    }
-
-    /// The whole text of a node.
-    pub fn text_of(&mut self, node: &SyntaxNode) {
-        let text = node.text(self.alloc);
-        self.made_text(text);
+        self.path(node.slots());
     }
 }
 

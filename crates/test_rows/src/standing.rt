@@ -24,12 +24,9 @@ impl Group {
 
     /// One more value, after the others.
     pub fn add<T: Hash>(&mut self, value: &T) {
-        let mut hasher = DefaultHasher::new();
-        hasher.write_u64(self.all);
-        value.hash(&mut hasher);
         self.count = self.count.saturating_add(1);
         self.before_last = self.all;
-        self.all = hasher.finish();
+        self.all = hash_of(&(self.before_last, value));
     }
 
     // Its form, its gap or what it replaces, and its payload.

@@ -75,12 +75,9 @@ fn lent_form(element: &SyntaxElement) -> &'static str {
 
 fn taken_form(element: SyntaxElement, copy: SyntaxElement) -> &'static str {
     let whole = hash_of(&element);
-    let node = element
-        .into_node()
-        .map(|it| hash_of(&SyntaxElement::from(it)));
-    let token = copy
-        .into_token()
-        .map(|it| hash_of(&SyntaxElement::from(it)));
+    let (node, token) = (element.into_node(), copy.into_token());
+    let node = node.map(|it| hash_of(&SyntaxElement::from(it)));
+    let token = token.map(|it| hash_of(&SyntaxElement::from(it)));
     form_of(node, token, whole)
 }
 

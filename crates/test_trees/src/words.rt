@@ -47,12 +47,6 @@ impl<'a> Words<'a> {
         rest
     }
 
-    /// What is left before this text, and after it.
-    pub fn split_rest(&mut self, between: &str) -> Result<(&'a str, &'a str), NoAnswer> {
-        let rest = self.take_rest();
-        rest.split_once(between).ok_or(NoAnswer::Arguments)
-    }
-
     /// Whether nothing is left.
     pub fn is_empty(&self) -> bool {
         self.rest.is_empty()
