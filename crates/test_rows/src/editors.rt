@@ -94,7 +94,10 @@ fn of_edit(s: &mut Session, name: &str, words: &mut Words, out: &mut Answer) -> 
         "old_text" => Ok(out.made_text(edit.old_root().text(s.alloc))),
         "new_text" => Ok(out.made_text(edit.new_root().text(s.alloc))),
         "changed" => Ok(out.paths(edit.changed_elements())),
-        _ => Ok(out.paths(edit.find_annotation(annotation(words)?))),
+        _ => match annotation(words) {
+            Some(annotation) => Ok(out.paths(edit.find_annotation(annotation))),
+            None => Err(NoAnswer::Arguments),
+        },
     }
 }
 
@@ -186,10 +189,10 @@ fn record(s: &mut Session, name: &str, words: &mut Words, out: &mut Answer) -> D
             out.asked(editor.insert_all_with_whitespace(alloc, &mut s.ids, at, new))
         }
         "delete" => out.asked(editor.delete(alloc, trees.element(words)?)),
-        "add_annotation_all" => {
-            let annotation = annotation_of("1").ok_or(NoAnswer::Arguments)?;
-            out.asked(editor.add_annotation_all(alloc, trees.others(words)?, annotation))
-        }
+        "add_annotation_all" => match annotation_of("1") {
+            Some(it) => out.asked(editor.add_annotation_all(alloc, trees.others(words)?, it)),
+            None => Err(NoAnswer::Arguments),
+        },
         "remove_attrs_and_docs" => remove_attrs_and_docs(editor, trees.node(words)?, out),
         _ => record_at(s, name, words, out),
     }
@@ -210,7 +213,10 @@ fn record_at(s: &mut Session, name: &str, words: &mut Words, out: &mut Answer) -
             let end = trees.element(words)?;
             out.asked(editor.replace_all(alloc, target, end, trees.others(words)?))
         }
-        "add_annotation" => out.asked(editor.add_annotation(alloc, target, annotation(words)?)),
+        "add_annotation" => match annotation(words) {
+            Some(annotation) => out.asked(editor.add_annotation(alloc, target, annotation)),
+            None => Err(NoAnswer::Arguments),
+        },
         _ => out.asked(remove_separated(alloc, editor, &target, kind_in(words)?)),
     }
 }

@@ -93,15 +93,11 @@ fn dedent(s: &mut Session, words: &mut Words, out: &mut Answer) -> Done {
     let node = s.trees.node(words)?;
     let level = read_level(words)?;
     if StmtList::can_cast(node.kind()) {
-        return typed_root(
-            typed::<StmtList>(node)?.dedent(s.alloc, &mut s.ids, level),
-            out,
-        );
+        let list = typed::<StmtList>(node)?;
+        return typed_root(list.dedent(s.alloc, &mut s.ids, level), out);
     }
-    typed_root(
-        typed::<BlockExpr>(node)?.dedent(s.alloc, &mut s.ids, level),
-        out,
-    )
+    let block = typed::<BlockExpr>(node)?;
+    typed_root(block.dedent(s.alloc, &mut s.ids, level), out)
 }
 
 // By a factory, whose mapping is the last one from then on, whatever the call answers but want of memory, which leaves

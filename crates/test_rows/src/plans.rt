@@ -7,7 +7,7 @@ use crate::editors::{deleted_paths, keep_edit};
 use crate::indents;
 use crate::roots::{Roots, annotation};
 use crate::session::{CHANGED, Session, last, take};
-use crate::shown::{Answer, Done, Read, Show, demand, given, say};
+use crate::shown::{Answer, Done, Read, Show, demand, say};
 use crate::standing::run_standing;
 use cst_core::{GreenNode, SyntaxNode, TreeError};
 use std::alloc::Global;
@@ -100,8 +100,10 @@ fn replacement(trees: &Roots, name: &str, words: &mut Words) -> Read<Change> {
 // One more registered element of the plan that is built.
 fn register(s: &mut Session, words: &mut Words, out: &mut Answer) -> Done {
     let element = s.trees.element(words)?;
-    let annotation = annotation(words)?;
-    Ok(out.note(s.registrations.push((element, annotation))))
+    match annotation(words) {
+        Some(annotation) => Ok(out.note(s.registrations.push((element, annotation)))),
+        None => Err(NoAnswer::Arguments),
+    }
 }
 
 // Whether each change fits the tree with this root.
@@ -237,9 +239,10 @@ fn step_through(s: &mut Session, words: &mut Words, out: &mut Answer) -> Done {
 
 // The edit that a run gives where it is complete.
 fn finish_run(s: &mut Session, words: &mut Words, out: &mut Answer) -> Done {
-    let Some(run) = complete_run(last(&mut s.plans)?, words, out)? else {
-        return Ok(());
-    };
+    let run = run_by(last(&mut s.plans)?, words, out)?;
+    if !run.is_complete() {
+        return Ok(out.word("not complete"));
+    }
     let edit = out.asked(run.finish(s.alloc, &mut s.ids))?;
     Ok(keep_edit(s, edit, out))
 }
@@ -248,9 +251,10 @@ fn finish_run(s: &mut Session, words: &mut Words, out: &mut Answer) -> Done {
 // the count is as it was.
 fn finish_counting(s: &mut Session, words: &mut Words, out: &mut Answer) -> Done {
     let first = words.number()?;
-    let Some(run) = complete_run(last(&mut s.plans)?, words, out)? else {
-        return Ok(());
-    };
+    let run = run_by(last(&mut s.plans)?, words, out)?;
+    if !run.is_complete() {
+        return Ok(out.word("not complete"));
+    }
     let mut walk = OnePassEngine::starting_at(s.alloc, first);
     let called = run.finish_counting(s.alloc, &mut s.ids, &mut walk);
     demand(called.is_ok() || walk.builds() == first, CHANGED)?;
@@ -260,20 +264,12 @@ fn finish_counting(s: &mut Session, words: &mut Words, out: &mut Answer) -> Done
     Ok(())
 }
 
-// A run by these steps, unless it is not complete, which is answered then.
-fn complete_run<'a>(
-    plan: &'a EditPlan,
-    words: &mut Words,
-    out: &mut Answer,
-) -> Read<Option<EditRun<'a>>> {
+// A run by these steps, without what they answer.
+fn run_by<'a>(plan: &'a EditPlan, words: &mut Words, out: &mut Answer) -> Read<EditRun<'a>> {
     let mut stepped = Stepped::new(plan, out)?;
     stepped.take_all(words, out)?;
     out.text.clear();
-    if stepped.run.is_complete() {
-        return Ok(Some(stepped.run));
-    }
-    out.word("not complete");
-    Ok(None)
+    Ok(stepped.run)
 }
 
 // A run of a plan, and how many changes that has.
@@ -286,8 +282,10 @@ struct Stepped<'a> {
 
 impl<'a> Stepped<'a> {
     fn new(plan: &'a EditPlan, out: &mut Answer) -> Read<Stepped<'a>> {
+        let Ok(run) = EditRun::new(out.alloc, plan) else {
+            return Err(NoAnswer::Refused("EditRun::new"));
+        };
         let size = plan.len();
-        let run = given("EditRun::new", EditRun::new(out.alloc, plan))?;
         Ok(Stepped { run, size })
     }
 

@@ -146,8 +146,8 @@ pub fn annotation_of(digits: &str) -> Option<SyntaxAnnotation> {
 }
 
 /// The annotation of the next word, or the first one.
-pub fn annotation(words: &mut Words) -> Read<SyntaxAnnotation> {
-    annotation_of(words.next().unwrap_or("1")).ok_or(NoAnswer::Arguments)
+pub fn annotation(words: &mut Words) -> Option<SyntaxAnnotation> {
+    annotation_of(words.next().unwrap_or("1"))
 }
 
 /// The kind that the next word names.
