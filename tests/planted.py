@@ -352,6 +352,20 @@ def verdict(said, proofs):
     return (PROVED, "") if lines and all(line == "proved" for line in lines) else (LATER, "; ".join(lines))
 
 
+def try_crate(trial, told, records):
+    """Tries the bugs of a crate, and gives their verdicts. What is said of it, and its record, come at once: a run that is cut off keeps them."""
+    bugs = trial.run()
+    kinds = [kind for kind, _ in bugs.values()]
+    with told:
+        print(f"planted: {trial.crate}: {kinds.count(REFUSED)} of {len(bugs)} refused, in {trial.checks} checks", flush=True)
+        for name, (kind, why) in sorted(bugs.items()):
+            if kind != REFUSED:
+                print(f"planted: {trial.crate}/{name}: {kind}: {why}", flush=True)
+        if records and all(kind == REFUSED for kind in kinds):
+            write([trial.crate])
+    return kinds
+
+
 def main(words):
     options = {word for word in words if word.startswith("--")}
     if not options <= {"--all", "--gate", "--stale"}:
@@ -371,21 +385,12 @@ def main(words):
     lab = Lab(crates, lanes, "--gate" in options)
     try:
         with ThreadPoolExecutor(len(crates)) as each, ThreadPoolExecutor(64) as pool:
-            trials = [Trial(lab, crate, pool) for crate in crates]
-            found = [*each.map(Trial.run, trials)]
+            told, records = threading.Lock(), "--gate" not in options
+            kinds = [*each.map(lambda crate: try_crate(Trial(lab, crate, pool), told, records), crates)]
     finally:
         shutil.rmtree(lab.room)
-    wrong = 0
-    for trial, bugs in zip(trials, found):
-        kinds = [kind for kind, _ in bugs.values()]
-        wrong += len(kinds) - kinds.count(REFUSED)
-        print(f"planted: {trial.crate}: {kinds.count(REFUSED)} of {len(bugs)} refused, in {trial.checks} checks")
-        for name, (kind, why) in sorted(bugs.items()):
-            if kind != REFUSED:
-                print(f"planted: {trial.crate}/{name}: {kind}: {why}")
-    if "--gate" not in options:
-        write([trial.crate for trial, bugs in zip(trials, found) if all(kind == REFUSED for kind, _ in bugs.values())])
-    print(f"planted: {sum(map(len, found)) - wrong} refused, {wrong} not")
+    wrong = sum(kind != REFUSED for of_crate in kinds for kind in of_crate)
+    print(f"planted: {sum(map(len, kinds)) - wrong} refused, {wrong} not")
     return bool(wrong)
 
 
