@@ -19,6 +19,7 @@ pub mod MovedAims
 pub mod OpenAims
 pub mod OwnerDepth
 pub mod Owners
+pub mod OwnersFirst
 pub mod OwnersKeep
 pub mod Paths
 pub mod Positions

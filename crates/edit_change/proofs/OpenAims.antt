@@ -72,6 +72,35 @@ stands-through a b c h k =
     let less : (x y : NumberedAim) → stands_before x y ≡ true → aim_cmp x y ≡ Less = λ x y m. less-is (aim_cmp x y) (stands-compared x y ∙ m) in
     sym (stands-compared a c) ∙ ap is_lt (aims-total.trans a b c (less a b h) (less b c k))
 
+-- ---- what is around a change
+surrounds-run : (ps : List Path) (r : Change) (p : Path) (f n : ℕ) → aim r ≡ Over (run p f n) → surrounds ps (aim r) ≡ list_any (has_path ps) (run p f n)
+surrounds-run ps r p f n a = ap (surrounds ps) a
+
+none-none : (ps : List Path) (r : Change) (w : Aim) → replaced w ≡ [] → aim r ≡ w → surrounds ps (aim r) ≡ false
+none-none ps r w none a = ap (λ x. list_any (has_path ps) (replaced x)) a ∙ ap (list_any (has_path ps)) none
+
+-- what is around a change stands before it
+some-way : (q : Path) (t : ℕ) → is_before [] (on_the_way q ++ t ∷ []) ≡ true
+some-way [] t = refl
+some-way (i ∷ q) t = refl
+
+some-after : (q : Path) → is_before [] (site (AfterElement q)) ≡ true
+some-after [] = refl
+some-after (i ∷ q) = some-way (parent_path (i ∷ q)) (suc (last_slot (i ∷ q)) + suc (last_slot (i ∷ q)))
+
+top-first : (r c : Change) → aim r ≡ Over ([] ∷ []) → Stands c → surrounds (surroundings c) (aim r) ≡ true → is_before (site (aim r)) (site (aim c)) ≡ true
+top-first r c a (First q b s) h = ap₂ is_before (ap site a) (ap site b) ∙ some-way q 0
+top-first r c a (Behind q b s) h = ap₂ is_before (ap site a) (ap site b) ∙ some-after q
+top-first r c a (Run q f k b s) h = ap₂ is_before (ap site a) (ap site b ∙ way-push q f) ∙ some-way q (suc (f + f))
+top-first r c a (Whole b s) h = absurd (false≢true (sym (ap₂ surrounds s a) ∙ h))
+
+pub around-first : (r c : Change) → Stands r → Stands c → surrounds (surroundings c) (aim r) ≡ true → is_before (site (aim r)) (site (aim c)) ≡ true
+around-first r c (First q a s) at_c h = absurd (false≢true (sym (none-none (surroundings c) r (FirstIn q) refl a) ∙ h))
+around-first r c (Behind q a s) at_c h = absurd (false≢true (sym (none-none (surroundings c) r (AfterElement q) refl a) ∙ h))
+around-first r c (Whole a s) at_c h = top-first r c a at_c h
+around-first r c (Run p f k a s) at_c h =
+    ap (λ xs. is_before xs (site (aim c))) (ap site a ∙ way-push p f) ∙ (lies-strictly c at_c p f (suc k) (sym (surrounds-run (surroundings c) r p f (suc k) a) ∙ h)).1
+
 module _ (cs : List Change) (root : Element) (fit : All (Fits root) cs) (apart : first_clash cs ≡ None) where
   pub stands-at : (n : ℕ) (c : Change) → slice_get cs n ≡ Some c → Stands c
   stands-at n c is = stands root c (subst (Fits root) (get_or_from_slice_get cs n c c is) (fit n c (slice_get_within cs n c is)))
@@ -93,17 +122,11 @@ module _ (cs : List Change) (root : Element) (fit : All (Fits root) cs) (apart :
       let equal : a ≡ b = of_a.2 ∙ ap₂ {A = ℕ} {B = Change} {C = NumberedAim} (λ n c. (n, aim c)) same alike ∙ sym of_b.2 in
       never-itself a (ap (stands_before a) equal ∙ before)
 
-  -- ---- what is around a change
-  surrounds-run : (ps : List Path) (r : Change) (p : Path) (f n : ℕ) → aim r ≡ Over (run p f n) → surrounds ps (aim r) ≡ list_any (has_path ps) (run p f n)
-  surrounds-run ps r p f n a = ap (surrounds ps) a
-
+  -- ---- what is around two of them
   first-target : (r : Change) (p : Path) (f n g : ℕ) → aim r ≡ Over (run p f n) → f ≤ g → g < f + n → has_path (targets r) (p ++ g ∷ []) ≡ true
   first-target r p f n g a l m =
       let q = p ++ g ∷ [] in
       ap (λ ps. has_path ps q) (sym (replaced-aim r) ∙ ap replaced a) ∙ sibling-any (same_path q) p f n g l m (same_path_from q q refl)
-
-  none-none : (ps : List Path) (r : Change) (w : Aim) → replaced w ≡ [] → aim r ≡ w → surrounds ps (aim r) ≡ false
-  none-none ps r w none a = ap (λ x. list_any (has_path ps) (replaced x)) a ∙ ap (list_any (has_path ps)) none
 
   top-in : (n m : ℕ) (r c : Change) → n ≢ m → slice_get cs n ≡ Some r → slice_get cs m ≡ Some c → aim r ≡ Over ([] ∷ []) → Stands c → surrounds (surroundings c) (aim r) ≡ true
   top-in n m r c other is_r is_c a (First q b s) = ap₂ surrounds s a ∙ or_left (has_path (up_to q) []) false (way-to [] q)
@@ -124,28 +147,6 @@ module _ (cs : List Change) (root : Element) (fit : All (Fits root) cs) (apart :
         | inl around ↦ surrounds-run (surroundings c) r p f (suc k) a ∙ around
         | inr target ↦ absurd (no-share n m r c (p ++ target.0 ∷ []) other is_r is_c (first-target r p f (suc k) target.0 a target.1 target.2) target.3)
       ]
-
-  -- it stands before the change
-  some-way : (q : Path) (t : ℕ) → is_before [] (on_the_way q ++ t ∷ []) ≡ true
-  some-way [] t = refl
-  some-way (i ∷ q) t = refl
-
-  some-after : (q : Path) → is_before [] (site (AfterElement q)) ≡ true
-  some-after [] = refl
-  some-after (i ∷ q) = some-way (parent_path (i ∷ q)) (suc (last_slot (i ∷ q)) + suc (last_slot (i ∷ q)))
-
-  top-first : (r c : Change) → aim r ≡ Over ([] ∷ []) → Stands c → surrounds (surroundings c) (aim r) ≡ true → is_before (site (aim r)) (site (aim c)) ≡ true
-  top-first r c a (First q b s) h = ap₂ is_before (ap site a) (ap site b) ∙ some-way q 0
-  top-first r c a (Behind q b s) h = ap₂ is_before (ap site a) (ap site b) ∙ some-after q
-  top-first r c a (Run q f k b s) h = ap₂ is_before (ap site a) (ap site b ∙ way-push q f) ∙ some-way q (suc (f + f))
-  top-first r c a (Whole b s) h = absurd (false≢true (sym (ap₂ surrounds s a) ∙ h))
-
-  pub around-first : (r c : Change) → Stands r → Stands c → surrounds (surroundings c) (aim r) ≡ true → is_before (site (aim r)) (site (aim c)) ≡ true
-  around-first r c (First q a s) at_c h = absurd (false≢true (sym (none-none (surroundings c) r (FirstIn q) refl a) ∙ h))
-  around-first r c (Behind q a s) at_c h = absurd (false≢true (sym (none-none (surroundings c) r (AfterElement q) refl a) ∙ h))
-  around-first r c (Whole a s) at_c h = top-first r c a at_c h
-  around-first r c (Run p f k a s) at_c h =
-      ap (λ xs. is_before xs (site (aim c))) (ap site a ∙ way-push p f) ∙ (lies-strictly c at_c p f (suc k) (sym (surrounds-run (surroundings c) r p f (suc k) a) ∙ h)).1
 
   -- what is around something that is around a change
   any-more : (q rest : Path) (ws : List Path) → list_any (has_path (up_to q)) ws ≡ true → list_any (has_path (up_to (q ++ rest))) ws ≡ true

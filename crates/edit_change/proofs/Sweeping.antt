@@ -248,7 +248,7 @@ module _ (cs : List Change) (root : Element) (fit : All (Fits root) cs) (apart :
           let of = found.2.0 in
           let y-is : found.0.1 ≡ aim r = ap (λ (a : NumberedAim). a.1) of.2 ∙ ap aim (same_Some of.0 r (sym of.1 ∙ ap (slice_get cs) found.1 ∙ is_r)) in
           false_from_ne_true (is_around r c) (λ around.
-          true≢false (sym (around-first cs root fit apart r c (at n r is_r) (at x.0 c is_c) (around-surrounds r c around)) ∙ sym (ap₂ (λ v w. is_before (site v) (site w)) y-is (x-is swept.of_rest.0)) ∙ found.2.1))
+          true≢false (sym (around-first r c (at n r is_r) (at x.0 c is_c) (around-surrounds r c around)) ∙ sym (ap₂ (λ v w. is_before (site v) (site w)) y-is (x-is swept.of_rest.0)) ∙ found.2.1))
 
       all-open : (n : ℕ) (r : Change) → slice_get cs n ≡ Some r → is_around r c ≡ true → has_number ks n ≡ true
       all-open n r is_r around =

@@ -8,7 +8,6 @@ pub mod Clash
 pub mod Open
 pub mod OwnerPlaces
 pub mod OneNode
-pub mod Given
 pub mod KindOnly
 pub mod PositionCode
 pub mod Codes

@@ -65,46 +65,6 @@ fn share_slot(first: usize, count: usize, other: usize, other_count: usize) -> b
 }
 
 impl<'a> Aimed<'a> {
-    /// Inserts before the first child of the node at this path.
-    pub fn first_in(change: usize, node: &'a [usize]) -> Aimed<'a>
-        ensures { numbered result ≡ (change, FirstIn node.now) }
-    {
-        Aimed {
-            change,
-            path: node,
-            form: AimForm::FirstIn,
-        }
-    }
-
-    /// Inserts after the element at this path. After the top there is no gap, so nothing comes of that.
-    pub fn after(change: usize, element: &'a [usize]) -> Aimed<'a>
-        ensures { numbered result ≡ (change, AfterElement element.now) }
-    {
-        Aimed {
-            change,
-            path: element,
-            form: AimForm::AfterElement,
-        }
-    }
-
-    /// Replaces the element at this path and the siblings after it, `count` of them with the first. The top has no siblings.
-    pub fn over(change: usize, first: &'a [usize], count: usize) -> Aimed<'a>
-        ensures { numbered result ≡ (change, Over (siblings_from first.now count)) }
-    {
-        Aimed {
-            change,
-            path: first,
-            form: AimForm::Over(count),
-        }
-    }
-
-    // The number of the change.
-    pub fn change(&self) -> usize
-        ensures { result ≡ self.now.change }
-    {
-        self.change
-    }
-
     // Whether it alters the children of a node. A replaced top, the gap after the top and no siblings at all alter none.
     pub fn has_parent(&self) -> bool
         ensures { result ≡ has_parent (numbered self.now) }
@@ -113,18 +73,6 @@ impl<'a> Aimed<'a> {
             AimForm::FirstIn => true,
             AimForm::AfterElement => !self.path.is_empty(),
             AimForm::Over(count) => !self.path.is_empty() && count > 0,
-        }
-    }
-
-    // Whether it replaces the top itself.
-    pub fn replaces_top(&self) -> bool
-        ensures over { result ≡ replaces [] (aim_in self.now.path.now self.now.form) }
-        ensures start { result ≡ starts_at [] (aim_in self.now.path.now self.now.form) }
-    {
-        match self.form {
-            AimForm::FirstIn => false,
-            AimForm::AfterElement => false,
-            AimForm::Over(count) => self.path.is_empty() && count > 0,
         }
     }
 

@@ -1,26 +1,24 @@
 //! Where a change aims, and its payload, in the form in which engines take them.
 
-ghost use Rattle.std.specs.Prelude.{◌≡◌, ◌<◌, ◌-◌, ◌^◌, ◌↔◌, true, suc, [], ◌∷◌, map, IfOk, IsTrue};
+ghost use Rattle.std.specs.Prelude.{◌≡◌, ◌<◌, ◌-◌, ◌↔◌, true, suc, [], ◌∷◌, map, IfOk, IsTrue};
 ghost use Rattle.cst_core.specs.Element.{Element, IsNode, subtree};
 ghost use Rattle.cst_core.specs.declared.element.SyntaxElement.TheVariants.{Node};
 ghost use Rattle.cst_core.specs.GreenElement.{element_trees};
 ghost use Rattle.cst_core.specs.SyntaxElement.{element_of};
-ghost use Rattle.cst_core.specs.Path.{has_path, last_slot};
-ghost use Rattle.edit_change.specs.inner.Aimed.{numbered};
-ghost use Rattle.edit_change.specs.inner.Given.{given_trees};
+ghost use Rattle.cst_core.specs.Path.{Path, has_path, last_slot};
+ghost use Rattle.edit_change.specs.inner.Aimed.{aim_in, numbered};
 ghost use Rattle.edit_change.specs.Aim.{AfterElement};
 ghost use Rattle.edit_change.specs.ChangeAim.{position_aim, aim, aim_path};
 ghost use Rattle.edit_change.specs.Change.{payload, targets};
 ghost use Rattle.edit_change.specs.Fits.{Fits, is_one_node};
-ghost use Rattle.edit_change.specs.inner.AimFrom.{aim_from, position_aim_from, depth};
+ghost use Rattle.edit_change.specs.inner.AimFrom.{aim_from, position_aim_from};
 
-use crate::aimed::Aimed;
+use crate::aimed::{AimForm, Aimed};
 use crate::change::Change;
 use crate::fits::is_root;
-use crate::given::Given;
 use crate::parent::parent;
 use crate::position::Position;
-use cst_core::{GreenElementRef, SyntaxElement, SyntaxNode};
+use cst_core::{GreenElement, GreenElementRef, SyntaxElement, SyntaxNode};
 use std::alloc::{AllocError, Global};
 use std::slice;
 
@@ -35,14 +33,14 @@ impl Position {
         }
     }
 
-    // Where an insert at this position aims, with this path in place of its anchor's.
-    fn numbered_aim_from<'a>(&self, number: usize, path: &'a [usize]) -> Aimed<'a>
-        ensures { numbered result ≡ (number, position_aim_from path.now self.now) }
+    // How an insert at this position aims from its anchor.
+    fn aim_form(&self) -> AimForm
+        ensures { (p : Path) → aim_in p result ≡ position_aim_from p self.now }
     {
         if self.first_of().is_some() {
-            Aimed::first_in(number, path)
+            AimForm::FirstIn
         } else {
-            Aimed::after(number, path)
+            AimForm::AfterElement
         }
     }
 }
@@ -74,6 +72,19 @@ impl Change {
         }
     }
 
+    // How it aims from the element at its path.
+    fn aim_form(&self) -> AimForm
+        ensures { (p : Path) → aim_in p result ≡ aim_from p self.now }
+    {
+        match self {
+            Change::Insert(position, _) => position.aim_form(),
+            Change::InsertAll(position, _) => position.aim_form(),
+            Change::Replace(_, _) => AimForm::Over(1),
+            Change::ReplaceWithMany(_, _) => AimForm::Over(1),
+            Change::ReplaceAll(first, last, _) => AimForm::Over(count_of_range(first, last)),
+        }
+    }
+
     /// The elements of the payload, in order.
     pub fn payload(&self) -> &[SyntaxElement]
         ensures { map element_of result.now ≡ payload self.now }
@@ -102,32 +113,14 @@ pub fn aim_path(change: &Change) -> &[usize]
     }
 }
 
-/// More than the lengths of the paths around the change, and no more than those of what it replaces.
-pub fn depth(change: &Change) -> usize
-    ensures value { result ≡ depth change.now }
-    ensures small { result < 2 ^ 62 }
-{
-    match change {
-        Change::Insert(position, _) => position.anchor().len() + 1,
-        Change::InsertAll(position, _) => position.anchor().len() + 1,
-        Change::Replace(target, _) => target.slots().len(),
-        Change::ReplaceWithMany(target, _) => target.slots().len(),
-        Change::ReplaceAll(first, _, _) => first.slots().len(),
-    }
-}
-
 /// Where the change aims, with this number, and with another path in place of its own.
 pub fn numbered_aim_from<'a>(change: &Change, number: usize, path: &'a [usize]) -> Aimed<'a>
     ensures { numbered result ≡ (number, aim_from path.now change.now) }
 {
-    match change {
-        Change::Insert(position, _) => position.numbered_aim_from(number, path),
-        Change::InsertAll(position, _) => position.numbered_aim_from(number, path),
-        Change::Replace(_, _) => Aimed::over(number, path, 1),
-        Change::ReplaceWithMany(_, _) => Aimed::over(number, path, 1),
-        Change::ReplaceAll(first, last, _) => {
-            Aimed::over(number, path, count_of_range(first, last))
-        }
+    Aimed {
+        change: number,
+        path,
+        form: change.aim_form(),
     }
 }
 
@@ -160,18 +153,16 @@ pub fn node_for_root(change: &Change) -> &SyntaxNode
     node
 }
 
-/// The elements of the payload, as shared trees: one is borrowed, of several each is shared.
-pub fn green_payload(alloc: Global, change: &Change) -> Result<Given<'_>, AllocError>
-    ensures { IfOk result (λ g. given_trees g ≡ map subtree (payload change.now)) }
+/// The elements of the payload, each shared.
+pub fn green_payload(alloc: Global, change: &Change) -> Result<Vec<GreenElement>, AllocError>
+    ensures { IfOk result (λ v. element_trees v.items ≡ map subtree (payload change.now)) }
 {
-    match change {
-        Change::Insert(_, element) => Ok(Given::Borrowed(element.as_green())),
-        Change::InsertAll(_, elements) => green_elements(alloc, elements.as_slice()),
-        Change::Replace(_, None) => Ok(Given::Shared(Vec::new(alloc))),
-        Change::Replace(_, Some(element)) => Ok(Given::Borrowed(element.as_green())),
-        Change::ReplaceWithMany(_, elements) => green_elements(alloc, elements.as_slice()),
-        Change::ReplaceAll(_, _, elements) => green_elements(alloc, elements.as_slice()),
+    let elements = change.payload();
+    let mut greens = Vec::with_capacity(alloc, elements.len())?;
+    for element in elements {
+        greens.push(element.green(alloc)?)?;
     }
+    Ok(greens)
 }
 
 // The only element, a node.
@@ -211,14 +202,4 @@ pub fn slot_after(element: &SyntaxElement) -> usize
         Some(GreenElementRef::Token(_)) => unreachable!(),
         None => unreachable!(),
     }
-}
-
-fn green_elements<'a>(alloc: Global, elements: &[SyntaxElement]) -> Result<Given<'a>, AllocError>
-    ensures { IfOk result (λ g. given_trees g ≡ map subtree (map element_of elements.now)) }
-{
-    let mut greens = Vec::with_capacity(alloc, elements.len())?;
-    for element in elements {
-        greens.push(element.green(alloc)?)?;
-    }
-    Ok(Given::Shared(greens))
 }

@@ -1,10 +1,9 @@
 //! `Fate`: what becomes of a change in a plan.
 
-ghost use Rattle.std.specs.Prelude.{◌≡◌, ◌<◌, length, map, cond, option_map, None, All, IfOk, IfSome};
+ghost use Rattle.std.specs.Prelude.{◌≡◌, ◌<◌, length, map, option_map, None, All, IfOk, IfSome};
 ghost use Rattle.cst_core.specs.Element.{Element};
 ghost use Rattle.edit_change.specs.Fits.{Fits};
 ghost use Rattle.edit_change.specs.Nesting.{first_clash};
-ghost use Rattle.edit_change.specs.declared.fate.Fate.TheVariants.{Dropped, Owned};
 ghost use Rattle.edit_change.specs.inner.Aimed.{numbered, aims_of};
 ghost use Rattle.edit_change.specs.inner.DocumentOrder.{AreSorted};
 ghost use Rattle.edit_change.specs.inner.Fate.{owner_in, is_dropped_in, is_independent_in, fate};
@@ -48,17 +47,6 @@ impl Fate {
         }
     }
 
-    // The fate of what lies in a region below, where this is the fate of the region and this change keeps what is in it.
-    fn kept_by(self, number: usize) -> Fate
-        ensures { result ≡ cond (is_dropped_in self) Dropped (Owned number) }
-    {
-        match self {
-            Fate::Independent => Fate::Owned(number),
-            Fate::Dropped => Fate::Dropped,
-            Fate::Owned(_) => Fate::Owned(number),
-        }
-    }
-
     /// The number of the change that this one moves along with; `None` where it is carried out on the tree, or dropped.
     pub fn owner(self) -> Option<usize>
         ensures { result ≡ owner_in self }
@@ -84,7 +72,10 @@ fn fate_inside(changes: &[Change], fates: &[Fate], region: Option<&Aimed<'_>>) -
     if !changes[number].is_keeping() {
         return Fate::Dropped;
     }
-    fates[number].kept_by(number)
+    if fates[number].is_dropped() {
+        return Fate::Dropped;
+    }
+    Fate::Owned(number)
 }
 
 /// What becomes of each change, by its number; no two of them clash. `aims` has where they aim, in document order.

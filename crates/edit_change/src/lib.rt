@@ -11,7 +11,6 @@ mod element_like;
 mod element_list;
 mod fate;
 mod fits;
-mod given;
 mod native;
 mod one_node;
 mod open;
@@ -25,7 +24,7 @@ mod trial;
 pub use aimed::{AimForm, Aimed};
 pub use change::Change;
 pub use change_aims::{
-    aim_path, depth, green_payload, node_for_root, numbered_aim, numbered_aim_from, slot_after,
+    aim_path, green_payload, node_for_root, numbered_aim, numbered_aim_from, slot_after,
 };
 pub use change_text::Style;
 pub use clash::{clash_of, first_clash};
@@ -33,7 +32,6 @@ pub use element_like::Element;
 pub use element_list::ElementList;
 pub use fate::{Fate, fates};
 pub use fits::{is_node, is_one_node, is_range, is_root};
-pub use given::Given;
 pub use native::{is_native, is_native_node};
 pub use one_node::only_node;
 pub use order::{numbers, sorted_aims, starting_at};

@@ -7,7 +7,7 @@ ghost use Rattle.edit_change.specs.inner.Aimed.{aims_of};
 ghost use Rattle.edit_change.specs.inner.DocumentOrder.{FitsSome, AreSorted, StartsThere, IsDocumentOrder};
 ghost use Rattle.edit_change.specs.declared.change.Change.{Change};
 
-use crate::aimed::Aimed;
+use crate::aimed::{AimForm, Aimed};
 use crate::change::Change;
 use crate::change_aims::numbered_aim;
 use std::alloc::{AllocError, Global};
@@ -66,7 +66,11 @@ pub fn sorted_aims<'a>(
 pub fn starting_at(aims: &[Aimed<'_>], path: &[usize]) -> Option<usize>
     ensures { (cs : List Change) → AreSorted cs (aims_of aims.now) → All FitsSome cs → StartsThere cs path.now result }
 {
-    let wanted = Aimed::over(0, path, 1);
+    let wanted = Aimed {
+        change: 0,
+        path,
+        form: AimForm::Over(1),
+    };
     match aims.binary_search_by(|aim| aim.compare_sites(&wanted)) {
         Ok(index) => Some(aims[index].change),
         Err(_) => None,

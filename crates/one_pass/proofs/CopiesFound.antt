@@ -1,6 +1,7 @@
 -- The copies of registered elements, from the marks of a tree.
 --     tree-marked                   the new tree, labelled by marks
 --     put, not_put                  one path more in the list of its number; none more in the others
+--     paths_within, under           of marks in the trees that stand in a place, the paths of one mark in its tree; where there is one tree
 --     copies-marked                 the paths of a mark are those of the copies of its element
 --     all-copies                    so they are for each registered element
 use Rattle.std.specs.Prelude.{◌≡◌, ◌≢◌, ℕ, zero, suc, ◌+◌, ◌<◌, Bool, true, false, cond, nat_eq, List, [], ◌∷◌, ◌++◌, map, filter, flat_map, drop, length, slice_get, get_or, Option, Some, None, option_map, Vec, refl}
@@ -38,16 +39,28 @@ tree-marked rs cs places index root sought =
     ap (λ l. rewritten_whole l (marks_given rs cs places) (independents cs) (subtree root)) labels ∙ sym (map-rewritten_whole (λ o. registered_at rs o.address) (origin (address root) None) (given cs places) (independents cs) (subtree root))
 
 -- ---- one path more
-pub put : (old new : ℕ → List (Vec ℕ Global)) (v : Vec ℕ Global) (k n : ℕ) (p : Path) → new n ≡ old n ++ v ∷ [] → (k ≢ n → new k ≡ old k) → v.items ≡ drop 1 p → paths_of (new k) ≡ paths_of (old k) ++ paths_of_mark k ((n, p) ∷ [])
-put old new v k n p here elsewhere is =
+pub put : (old new : ℕ → List (Vec ℕ Global)) (v : Vec ℕ Global) (k n : ℕ) → new n ≡ old n ++ v ∷ [] → (k ≢ n → new k ≡ old k) → paths_of (new k) ≡ paths_of (old k) ++ paths_of_mark k ((n, v.items) ∷ [])
+put old new v k n here elsewhere =
     elim (cases_eq k n) [
-      | inl same ↦ ap (λ i. paths_of (new i)) same ∙ ap paths_of here ∙ map-append (λ w. w.items) (old n) (v ∷ []) ∙ ap (λ q. paths_of (old n) ++ q ∷ []) is ∙ ap (λ i. paths_of (old i) ++ drop 1 p ∷ []) (sym same) ∙ ap (λ b. paths_of (old k) ++ map (λ (m : Marking). drop 1 m.1) (cond b ((n, p) ∷ []) [])) (sym (eq-eqb k n same))
-      | inr differs ↦ ap paths_of (elsewhere differs) ∙ sym (append-nil (paths_of (old k))) ∙ ap (λ b. paths_of (old k) ++ map (λ (m : Marking). drop 1 m.1) (cond b ((n, p) ∷ []) [])) (sym (ne_eqb k n differs))
+      | inl same ↦ ap (λ i. paths_of (new i)) same ∙ ap paths_of here ∙ map-append (λ w. w.items) (old n) (v ∷ []) ∙ ap (λ i. paths_of (old i) ++ v.items ∷ []) (sym same) ∙ ap (λ b. paths_of (old k) ++ map (λ (m : Marking). m.1) (cond b ((n, v.items) ∷ []) [])) (sym (eq-eqb k n same))
+      | inr differs ↦ ap paths_of (elsewhere differs) ∙ sym (append-nil (paths_of (old k))) ∙ ap (λ b. paths_of (old k) ++ map (λ (m : Marking). m.1) (cond b ((n, v.items) ∷ []) [])) (sym (ne_eqb k n differs))
     ]
 
 -- none more in the list of another number
 pub not_put : (ps : List Path) (k n : ℕ) (p : Path) → k ≢ n → ps ≡ ps ++ paths_of_mark k ((n, p) ∷ [])
-not_put ps k n p differs = sym (append-nil ps) ∙ ap (λ b. ps ++ map (λ (m : Marking). drop 1 m.1) (cond b ((n, p) ∷ []) [])) (sym (ne_eqb k n differs))
+not_put ps k n p differs = sym (append-nil ps) ∙ ap (λ b. ps ++ map (λ (m : Marking). m.1) (cond b ((n, p) ∷ []) [])) (sym (ne_eqb k n differs))
+
+-- ---- of marks in the trees that stand in a place, the paths of one mark in its tree
+abbrev pub paths_within : ℕ → List Marking → List Path
+paths_within k ms = map (λ m. drop 1 m.1) (filter (λ m. nat_eq k m.0) ms)
+
+pub under : (k : ℕ) (ms : List Marking) → paths_within k (map (mark_below (0 ∷ [])) ms) ≡ paths_of_mark k ms
+under k [] = refl
+under k (m ∷ ms) =
+    elim (nat_eq k m.0) as (λ b. map (λ (n : Marking). drop 1 n.1) (cond b (mark_below (0 ∷ []) m ∷ filter (λ (n : Marking). nat_eq k n.0) (map (mark_below (0 ∷ [])) ms)) (filter (λ (n : Marking). nat_eq k n.0) (map (mark_below (0 ∷ [])) ms))) ≡ map (λ (n : Marking). n.1) (cond b (m ∷ filter (λ (n : Marking). nat_eq k n.0) ms) (filter (λ (n : Marking). nat_eq k n.0) ms))) [
+      | true ↦ ap (λ ps. m.1 ∷ ps) (under k ms)
+      | false ↦ under k ms
+    ]
 
 -- ---- the numbers of the registered elements at an address, numbered from here on
 abbrev pub registered_from : ℕ → List Address → Address → List ℕ
@@ -106,17 +119,9 @@ module _ (rs : List Address) (k : ℕ) (a : Address) (there : slice_get rs k ≡
       let rest : List Marking = flat_map (λ q. map (λ n. (n, q)) (marks_on (with_marks rs t) q)) ps in
       ap (map (λ (m : Marking). m.1)) (filter-append (λ (m : Marking). nat_eq k m.0) own rest) ∙ map-append (λ m. m.1) (filter (λ (m : Marking). nat_eq k m.0) own) (filter (λ (m : Marking). nat_eq k m.0) rest) ∙ ap₂ (λ xs ys. xs ++ ys) (here p) (along ps) ∙ elim (holds_at (λ o. same_address a o.address) t p) as (λ b. cond b (p ∷ []) [] ++ filter (holds_at (λ o. same_address a o.address) t) ps ≡ cond b (p ∷ filter (holds_at (λ o. same_address a o.address) t) ps) (filter (holds_at (λ o. same_address a o.address) t) ps)) [ true ↦ refl | false ↦ refl ]
 
-  under : (ms : List Marking) → paths_of_mark k (map (mark_below (0 ∷ [])) ms) ≡ map (λ (m : Marking). m.1) (filter (λ (m : Marking). nat_eq k m.0) ms)
-  under [] = refl
-  under (m ∷ ms) =
-      elim (nat_eq k m.0) as (λ b. map (λ (n : Marking). drop 1 n.1) (cond b (mark_below (0 ∷ []) m ∷ filter (λ (n : Marking). nat_eq k n.0) (map (mark_below (0 ∷ [])) ms)) (filter (λ (n : Marking). nat_eq k n.0) (map (mark_below (0 ∷ [])) ms))) ≡ map (λ (n : Marking). n.1) (cond b (m ∷ filter (λ (n : Marking). nat_eq k n.0) ms) (filter (λ (n : Marking). nat_eq k n.0) ms))) [
-        | true ↦ ap (λ ps. m.1 ∷ ps) (under ms)
-        | false ↦ under ms
-      ]
-
-  pub copies-marked : paths_of_mark k (marked_from 0 (with_marks rs t ∷ [])) ≡ copies_of t a
+  pub copies-marked : paths_within k (marked_from 0 (with_marks rs t ∷ [])) ≡ copies_of t a
   copies-marked =
-      ap (paths_of_mark k) (append-nil (map (mark_below (0 ∷ [])) (marked (with_marks rs t)))) ∙ under (marked (with_marks rs t)) ∙ ap (λ ps. map (λ (m : Marking). m.1) (filter (λ (m : Marking). nat_eq k m.0) (flat_map (λ p. map (λ n. (n, p)) (marks_on (with_marks rs t) p)) ps))) (paths-relabelled (λ o. registered_at rs o.address) t) ∙ along (paths t)
+      ap (paths_within k) (append-nil (map (mark_below (0 ∷ [])) (marked (with_marks rs t)))) ∙ under k (marked (with_marks rs t)) ∙ ap (λ ps. map (λ (m : Marking). m.1) (filter (λ (m : Marking). nat_eq k m.0) (flat_map (λ p. map (λ n. (n, p)) (marks_on (with_marks rs t) p)) ps))) (paths-relabelled (λ o. registered_at rs o.address) t) ∙ along (paths t)
 
 -- ---- all registered elements
 same-items : {X Y Z : Type 0} (f : X → Z) (g : Y → Z) (xs : List X) (ys : List Y) → length xs ≡ length ys → ((k : ℕ) (d : X) (e : Y) → k < length xs → f (get_or xs k d) ≡ g (get_or ys k e)) → map f xs ≡ map g ys
@@ -126,9 +131,9 @@ same-items f g (x ∷ xs) [] l h = absurd (omega arith)
 same-items f g (x ∷ xs) (y ∷ ys) l h =
     ap₂ (λ z zs. z ∷ zs) (h 0 x y (omega arith)) (same-items f g xs ys (omega arith) (λ k d e m. h (suc k) d e (omega (arith, m))))
 
-pub all-copies : (es : List SyntaxElement) (lists : List (Vec (Vec ℕ Global) Global)) (ms : List Marking) (made : OriginTree) → length lists ≡ length es → ((k : ℕ) (d : Vec (Vec ℕ Global) Global) → k < length es → paths_of (get_or lists k d).items ≡ paths_of_mark k ms) → ms ≡ marked_from 0 (with_marks (addresses es) made ∷ []) → path_lists lists ≡ map (λ e. copies_of made (address (element_of e))) es
+pub all-copies : (es : List SyntaxElement) (lists : List (Vec (Vec ℕ Global) Global)) (ms : List Marking) (made : OriginTree) → length lists ≡ length es → ((k : ℕ) (d : Vec (Vec ℕ Global) Global) → k < length es → paths_of (get_or lists k d).items ≡ paths_within k ms) → ms ≡ marked_from 0 (with_marks (addresses es) made ∷ []) → path_lists lists ≡ map (λ e. copies_of made (address (element_of e))) es
 all-copies es lists ms made long dealt is =
     same-items (λ l. paths_of l.items) (λ e. copies_of made (address (element_of e))) lists es long (λ k d e l.
     let inside : k < length es = omega (arith, l, long) in
     let there : slice_get (addresses es) k ≡ Some (address (element_of (get_or es k e))) = slice_get-map (λ x. address (element_of x)) es k ∙ ap (option_map (λ x. address (element_of x))) (slice_get-get_or es k e inside) in
-    dealt k d inside ∙ ap (paths_of_mark k) is ∙ copies-marked (addresses es) k (address (element_of (get_or es k e))) there made)
+    dealt k d inside ∙ ap (paths_within k) is ∙ copies-marked (addresses es) k (address (element_of (get_or es k e))) there made)

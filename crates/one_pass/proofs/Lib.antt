@@ -11,7 +11,7 @@ pub mod NodeSteps
 pub mod SweepStart
 pub mod Sweeping
 mod AllCounted
-pub mod ByDepth
+pub mod EnteredBack
 mod MarksInOrder
 mod Children
 mod CopiesFound
@@ -21,12 +21,11 @@ mod Dependents
 mod EmptyLists
 mod MadeOf
 mod Marks
-mod MarksFilled
+mod MarksEntered
 mod MarksGiven
 mod MarksKept
 mod MarksTold
-mod GivenByDepth
-mod ChangesOfAims
+mod GivenEntered
 mod Registered
 mod Rooted
 mod Rows

@@ -14,22 +14,21 @@ use Rattle.cst_core.specs.SyntaxElement.{element_of}
 use Rattle.cst_core.specs.declared.element.SyntaxElement.{SyntaxElement}
 use Rattle.edit_change.specs.Rewriting.{NumberedAim, rewritten_whole}
 use Rattle.edit_change.specs.Topmost.{paths_of}
-use Rattle.edit_change.specs.inner.Given.{given_trees}
 use Rattle.one_pass.specs.inner.Marked.{MarkTree, Marking, marked_from, wanted}
 use Rattle.edit_change.specs.inner.KindOnly.{kind_only}
-use Rattle.one_pass.specs.inner.Pass.{AreMarkedIn, given_in}
-use Rattle.one_pass.specs.declared.marked_given.GivenTable.{GivenTable}
+use Rattle.one_pass.specs.inner.Pass.{given_trees, AreMarkedIn, given_in}
+use Rattle.one_pass.specs.declared.marked_element.GivenTable.{GivenTable}
 use Rattle.one_pass.proofs.MarksGiven.{all-topped}
 use Rattle.edit_change.specs.NewTree.{OriginTree, plain, given, independents, new_tree}
 use Rattle.edit_change.specs.declared.change.Change.{Change}
 use Rattle.one_pass.specs.inner.OwnerTables.{AreGiven}
-use Rattle.one_pass.specs.inner.Marks.{marks_given, with_marks, paths_of_mark}
+use Rattle.one_pass.specs.inner.Marks.{marks_given, with_marks}
 use Rattle.edit_change.specs.inner.PathLists.{path_lists}
 use Rattle.one_pass.specs.inner.Root.{KeepsTop, TellsNewTree}
 use Rattle.edit_change.specs.inner.OneNode.{IsOneNode}
 use Rattle.one_pass.specs.inner.Sought.{addresses, sought_at, IsTableOf}
 use Rattle.one_pass.specs.declared.sought.Registered.{Registered}
-use Rattle.one_pass.proofs.CopiesFound.{all-copies}
+use Rattle.one_pass.proofs.CopiesFound.{paths_within, all-copies}
 use Rattle.one_pass.proofs.MarksTold.{with_tops, marks_told, copies-told, changed-told}
 use Rattle.one_pass.proofs.WholeTree.{plain-whole, one-made}
 
@@ -50,7 +49,7 @@ pub record PassTold (root : Element) (changes : List Change) (places : ℕ → P
 
 module _ (root : Element) (changes : List Change) (places : ℕ → Path) (es : List SyntaxElement) (trees : List SyntaxTree) (marks : List Marking) (told : PassTold root changes places es trees marks) where
   same-given : (c : ℕ) → given_in told.table c ≡ map plain (given changes places c)
-  same-given c = ap (λ xs. option_map_or (λ g. given_trees g.elements) (slice_get xs c) []) told.same_entries ∙ told.given_are c
+  same-given c = ap (λ xs. given_trees (option_map_or (λ w. w.items) (slice_get xs c) [])) told.same_entries ∙ told.given_are c
 
   pub is_one : KeepsTop root changes → IsOneNode trees
   is_one keeps = subst IsOneNode (sym (told.trees_are ∙ ap (λ ds. rewritten_whole kind_only (given_in told.table) ds (subtree root)) told.aims_are)) (keeps places told.table same-given)
@@ -62,17 +61,17 @@ module _ (root : Element) (changes : List Change) (places : ℕ → Path) (es : 
       let number : told.table.top ≡ Some (length (addresses es)) = told.with_top ∙ ap (λ n. Some n) (sym (length-map es (λ e. address (element_of e)))) in
       told.marks_answered tops (all-topped told.given told.table (length (addresses es)) (marks_given (addresses es) changes places) told.without_top number told.same_entries told.marks_are) ∙ ap (λ ds. marked_from 0 (rewritten_whole (wanted (sought_at told.index (address root))) tops ds (subtree root))) told.aims_are
 
-  pub is_made : (tree : SyntaxTree) (copies : List (Vec (Vec ℕ Global) Global)) (paths : List Path) → trees ≡ tree ∷ [] → length copies ≡ length es → ((k : ℕ) (d : Vec (Vec ℕ Global) Global) → k < length es → paths_of (get_or copies k d).items ≡ paths_of_mark k marks) → paths ≡ paths_of_mark (length es) marks → TellsNewTree root changes places es tree (path_lists copies) paths
+  pub is_made : (tree : SyntaxTree) (copies : List (Vec (Vec ℕ Global) Global)) (paths : List Path) → trees ≡ tree ∷ [] → length copies ≡ length es → ((k : ℕ) (d : Vec (Vec ℕ Global) Global) → k < length es → paths_of (get_or copies k d).items ≡ paths_within k marks) → paths ≡ paths_within (length es) marks → TellsNewTree root changes places es tree (path_lists copies) paths
   is_made tree copies paths one long dealt changed_are =
       let rs = addresses es in
       let count : length rs ≡ length es = length-map es (λ e. address (element_of e)) in
       let new : (made : OriginTree) × (new_tree changes places root ≡ made ∷ []) × (tree ≡ plain made) = one-made (new_tree changes places root) tree (plain-whole changes places root (given_in told.table) same-given ∙ ap (λ ds. rewritten_whole kind_only (given_in told.table) ds (subtree root)) (sym told.aims_are) ∙ sym told.trees_are ∙ one) in
       let made = new.0 in
-      let there : (k : ℕ) (d : Vec (Vec ℕ Global) Global) → k < length es → paths_of (get_or copies k d).items ≡ paths_of_mark k (marked_from 0 (with_marks rs made ∷ [])) = λ k d l. dealt k d l ∙ ap (paths_of_mark k) marks-are ∙ copies-told rs changes places told.index root told.sought k (subst (λ n. k < n) (sym count) l) ∙ ap (λ ts. paths_of_mark k (marked_from 0 (map (with_marks rs) ts))) new.1 in
+      let there : (k : ℕ) (d : Vec (Vec ℕ Global) Global) → k < length es → paths_of (get_or copies k d).items ≡ paths_within k (marked_from 0 (with_marks rs made ∷ [])) = λ k d l. dealt k d l ∙ ap (paths_within k) marks-are ∙ copies-told rs changes places told.index root told.sought k (subst (λ n. k < n) (sym count) l) ∙ ap (λ ts. paths_within k (marked_from 0 (map (with_marks rs) ts))) new.1 in
       record {
         made = made;
         is_new = new.1;
         tree_is = new.2;
         copies_are = all-copies es copies (marked_from 0 (with_marks rs made ∷ [])) made long there refl;
-        changed_is = changed_are ∙ ap₂ paths_of_mark (sym count) marks-are ∙ changed-told rs changes places told.index root told.sought made new.1;
+        changed_is = changed_are ∙ ap₂ paths_within (sym count) marks-are ∙ changed-told rs changes places told.index root told.sought made new.1;
       }

@@ -25,11 +25,11 @@ use Rattle.edit_change.specs.declared.change.Change.{Change}
 use Rattle.edit_change.specs.NewTree.{OriginTree, Origin, origin, given, independents, is_free, new_tree}
 use Rattle.edit_change.specs.Results.{changed}
 use Rattle.one_pass.specs.inner.Sought.{sought_at, registered_at, IsTableOf}
-use Rattle.one_pass.specs.inner.Marks.{with_marks, marks_given, paths_of_mark}
+use Rattle.one_pass.specs.inner.Marks.{with_marks, marks_given}
 use Rattle.one_pass.specs.declared.sought.Registered.{Registered}
 use Rattle.edit_change.proofs.BroughtTops.{shown, alone}
 use Rattle.edit_change.proofs.BroughtTops as brought
-use Rattle.one_pass.proofs.CopiesFound.{tree-marked, registered_from, in-turn, other-number, all-of}
+use Rattle.one_pass.proofs.CopiesFound.{paths_within, tree-marked, registered_from, in-turn, other-number, all-of}
 use Rattle.one_pass.proofs.WholeTree.{not_given, changed-whole}
 
 -- ---- trees that stand in a place
@@ -45,7 +45,7 @@ drop-sides view i (t ∷ ts) =
 abbrev seen : ℕ → MarkTree → List Path
 seen n t = with_number n (marked t)
 
-mark-paths : (n : ℕ) (ts : List MarkTree) → paths_of_mark n (marked_from 0 ts) ≡ map (drop 1) (sides 0 (map (seen n) ts))
+mark-paths : (n : ℕ) (ts : List MarkTree) → paths_within n (marked_from 0 ts) ≡ map (drop 1) (sides 0 (map (seen n) ts))
 mark-paths n ts =
     sym (map-map (drop 1) (λ m. m.1) (filter (λ (m : Marking). nat_eq n m.0) (marked_from 0 ts))) ∙ ap (map (drop 1)) (number-from n 0 ts)
 
@@ -97,11 +97,11 @@ module _ (rs : List Address) (cs : List Change) (places : ℕ → Path) (index :
   abbrev pub marks_told : List Marking
   marks_told = marked_from 0 (rewritten_whole (wanted (sought_at index (address root))) with_tops (independents cs) (subtree root))
 
-  pub copies-told : (k : ℕ) → k < length rs → paths_of_mark k marks_told ≡ paths_of_mark k (marked_from 0 (map (with_marks rs) (new_tree cs places root)))
+  pub copies-told : (k : ℕ) → k < length rs → paths_within k marks_told ≡ paths_within k (marked_from 0 (map (with_marks rs) (new_tree cs places root)))
   copies-told k l =
       let other : k ≢ number = λ e. absurd (omega (arith, e, l)) in
       let given_alike : (c : ℕ) → map (seen k) (with_tops c) ≡ map (seen k) (marks_given rs cs places c) = λ c. map-map (seen k) (topped number) (marks_given rs cs places c) ∙ ap (λ f. map f (marks_given rs cs places c)) (fun_ext (λ t. seen-other number k t other)) in
-      mark-paths k (rewritten_whole label_at with_tops (independents cs) (subtree root)) ∙ ap (λ pss. map (drop 1) (sides 0 pss)) (alike-whole (seen k) (seen k) label_at label_at (λ p j. own_number k (label_at p j)) (number-seen k label_at) (number-seen k label_at) with_tops (marks_given rs cs places) given_alike (independents cs) (subtree root)) ∙ sym (mark-paths k (rewritten_whole label_at (marks_given rs cs places) (independents cs) (subtree root))) ∙ ap (λ ts. paths_of_mark k (marked_from 0 ts)) (tree-marked rs cs places index root table)
+      mark-paths k (rewritten_whole label_at with_tops (independents cs) (subtree root)) ∙ ap (λ pss. map (drop 1) (sides 0 pss)) (alike-whole (seen k) (seen k) label_at label_at (λ p j. own_number k (label_at p j)) (number-seen k label_at) (number-seen k label_at) with_tops (marks_given rs cs places) given_alike (independents cs) (subtree root)) ∙ sym (mark-paths k (rewritten_whole label_at (marks_given rs cs places) (independents cs) (subtree root))) ∙ ap (λ ts. paths_within k (marked_from 0 ts)) (tree-marked rs cs places index root table)
 
   -- no kept element has the mark of the tops
   kept-none : (p : Path) (j : ℕ) → own_number number (label_at p j) ≡ []
@@ -127,6 +127,6 @@ module _ (rs : List Address) (cs : List Change) (places : ℕ → Path) (index :
       let right : map (topmost (λ b. b)) (brought.marked cs places c) ≡ map (λ t. [] ∷ []) gs = one-path (topmost (λ b. b)) (brought.marked cs places c) (recursion_from_All (λ g. topmost (λ b. b) g ≡ [] ∷ []) (brought.marked cs places c) (alone cs places c)) ∙ map-map (λ t. [] ∷ []) (relabelled (shown cs c)) gs in
       left ∙ sym right
 
-  pub changed-told : (made : OriginTree) → new_tree cs places root ≡ made ∷ [] → paths_of_mark (length rs) marks_told ≡ changed (is_free cs) made
+  pub changed-told : (made : OriginTree) → new_tree cs places root ≡ made ∷ [] → paths_within (length rs) marks_told ≡ changed (is_free cs) made
   changed-told made is =
       mark-paths number (rewritten_whole label_at with_tops (independents cs) (subtree root)) ∙ ap (λ pss. map (drop 1) (sides 0 pss)) (alike-whole (seen number) (topmost (λ b. b)) label_at not_given (λ p k. []) kept-seen (topmost-seen (λ b. b) not_given (λ p k. refl)) with_tops (brought.marked cs places) given-tops (independents cs) (subtree root)) ∙ drop-sides (topmost (λ b. b)) 0 (rewritten_whole not_given (brought.marked cs places) (independents cs) (subtree root)) ∙ sym (changed-whole cs places root) ∙ ap (flat_map (changed (is_free cs))) is ∙ append-nil (changed (is_free cs) made)

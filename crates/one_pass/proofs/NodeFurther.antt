@@ -11,7 +11,7 @@ use Rattle.green_tree.specs.inner.TreeSize.{forest_size}
 use Rattle.green_tree.specs.GreenElement.{element_trees}
 use Rattle.edit_change.specs.declared.aimed.Aimed.{Aimed}
 use Rattle.edit_change.specs.inner.KindOnly.{kind_only}
-use Rattle.one_pass.specs.declared.marked_given.GivenTable.{GivenTable}
+use Rattle.one_pass.specs.declared.marked_element.GivenTable.{GivenTable}
 use Rattle.one_pass.specs.declared.open_node.OpenNode.{OpenNode}
 use Rattle.one_pass.specs.declared.walk.Walk.{Walk}
 use Rattle.one_pass.specs.inner.Marked.{MarkTree, marks_of, wanted, InPathOrder, FromChild}

@@ -13,7 +13,7 @@ use Rattle.green_tree.specs.GreenElement.{element_trees}
 use Rattle.one_pass.specs.inner.Marked.{MarkTree, Marking, marked, mark_below, wanted, InPathOrder, FromChild}
 use Rattle.one_pass.specs.inner.OpenNodes.{sought_in, kinds_past, past, past_built, past_do, wholes, path_to, found_above, built_above}
 use Rattle.one_pass.specs.inner.Sweep.{seen_at, Rising, From}
-use Rattle.one_pass.specs.declared.marked_given.GivenTable.{GivenTable}
+use Rattle.one_pass.specs.declared.marked_element.GivenTable.{GivenTable}
 use Rattle.one_pass.specs.declared.open_node.OpenNode.{OpenNode}
 use Rattle.green_tree.specs.Count.{counted}
 use Rattle.one_pass.proofs.Counted.{count-on}

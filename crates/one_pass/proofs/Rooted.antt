@@ -2,27 +2,31 @@
 --     kept-node, brought-node       a node that is kept is one in the new tree, and so is one that is brought
 --     stays-a-node                  what stands in the place of the root is one node
 --     takes-its-place               the node that a change brings which replaces the root
-use Rattle.std.specs.Prelude.{◌≡◌, ℕ, ◌+◌, true, false, cond, List, [], ◌∷◌, map, flat_map, filter, slice_get, unwrap_or, option_map, Some, None, refl}
-use Rattle.std.specs.List.{AllByRecursion, list_any, enumerate_from}
+--     not-replaced, if-given        no change replaces it; the one that does gives one element
+--     not-token                     one node is no token
+use Rattle.std.specs.Prelude.{◌≡◌, ℕ, ◌+◌, true, false, cond, List, [], ◌∷◌, map, flat_map, filter, length, slice_get, unwrap_or, option_map, Option, Some, None, IfSome, refl}
+use Rattle.std.specs.List.{AllByRecursion, enumerate_from}
 use Rattle.std.specs.Option.{option_map_or}
 use Rattle.std.proofs.Common.{ap, sym, subst, ◌∙◌}
-use Rattle.std.proofs.lemmas.Bool.{or_from, or_parts, true≢false}
+use Rattle.std.proofs.lemmas.Bool.{or_from, true≢false}
 use Rattle.std.proofs.lemmas.Option.{none-some, same_Some}
-use Rattle.std.proofs.lemmas.List.{append-nil}
+use Rattle.std.proofs.lemmas.List.{append-nil, length-map}
+use Rattle.cst_core.specs.GreenElement.{element_tree}
 use Rattle.cst_core.specs.Path.{Path, has_path}
 use Rattle.cst_core.specs.Tree.{SyntaxTree, Forest, Node, Token, at, is_token, forest, forest_relabelled}
 use Rattle.cst_core.specs.Element.{Element, IsNode, subtree, address}
 use Rattle.edit_change.specs.Aim.{replaces}
 use Rattle.edit_change.specs.inner.KindOnly.{kind_only}
-use Rattle.one_pass.specs.inner.Pass.{given_in}
+use Rattle.one_pass.specs.inner.Pass.{entry_in, given_in}
 use Rattle.edit_change.specs.Rewriting.{NumberedAim, replacements_at, is_replaced, rewritten, rewritten_from, rewritten_whole}
-use Rattle.one_pass.specs.declared.marked_given.GivenTable.{GivenTable}
+use Rattle.one_pass.specs.declared.marked_element.GivenTable.{GivenTable}
 use Rattle.edit_change.specs.ChangeAim.{position_aim, aim}
 use Rattle.edit_change.specs.PositionForm.{FirstChild, After}
 use Rattle.edit_change.specs.declared.position.Position.{Position}
 use Rattle.edit_change.specs.Change.{payload, targets}
 use Rattle.edit_change.specs.Nesting.{first_clash, is_independent}
 use Rattle.one_pass.specs.inner.OwnerTables.{AreGiven}
+use Rattle.one_pass.specs.inner.Root.{IsAlone}
 use Rattle.edit_change.specs.inner.OneNode.{IsOneNode, BringsNode}
 use Rattle.edit_change.specs.NewTree.{Origin, OriginTree, plain, origin, change_aims, payload_of, dependents, given, independents}
 use Rattle.edit_change.specs.declared.change.Change.{Change}
@@ -56,28 +60,46 @@ no-replacement : (at : Position) → replaces [] (position_aim at) ≡ false
 no-replacement (FirstChild n) = refl
 no-replacement (After e) = refl
 
+-- no change replaces the root
+pub not-replaced : (cs : List Change) → target_at cs [] ≡ None → is_replaced (independents cs) [] ≡ false
+not-replaced cs none = all-kept cs 0 (none-passes (λ c. has_path (targets c) []) cs none)
+  where
+    not-there : (c : Change) → has_path (targets c) [] ≡ false → replaces [] (aim c) ≡ false
+    not-there (Insert at e) h = no-replacement at
+    not-there (InsertAll at es) h = no-replacement at
+    not-there (Replace t e) h = h
+    not-there (ReplaceWithMany t es) h = h
+    not-there (ReplaceAll first last es) h = h
+
+    all-kept : (ds : List Change) (k : ℕ) → AllByRecursion (λ c. has_path (targets c) [] ≡ false) ds → is_replaced (change_aims (filter (λ d. is_independent cs d.1) (enumerate_from k ds))) [] ≡ false
+    all-kept [] k h = refl
+    all-kept (d ∷ ds) k h =
+        let rest = all-kept ds (k + 1) h.1 in
+        elim (is_independent cs d) as (λ b. is_replaced (change_aims (cond b ((k, d) ∷ filter (λ d. is_independent cs d.1) (enumerate_from (k + 1) ds)) (filter (λ d. is_independent cs d.1) (enumerate_from (k + 1) ds)))) [] ≡ false) [
+          | true ↦ or_from (replaces [] (aim d)) _ (not-there d h.0) rest
+          | false ↦ rest
+        ]
+
+-- the change that replaces the root gives one element
+one-given : (cs : List NumberedAim) (table : GivenTable) (t : SyntaxTree) (c : ℕ) → replacements_at cs [] ≡ c ∷ [] → IsOneNode (rewritten_whole kind_only (given_in table) cs t) → length (entry_in table c) ≡ 1
+one-given cs table t c alone one =
+    let whole : rewritten_whole kind_only (given_in table) cs t ≡ given_in table c = ap (λ b. cond b (flat_map (given_in table) (replacements_at cs [])) (rewritten kind_only (given_in table) cs [] t ∷ [])) (some-starts cs [] c alone) ∙ ap (flat_map (given_in table)) alone ∙ append-nil (given_in table c) in
+    sym (length-map (entry_in table c) (λ e. element_tree e.element)) ∙ ap length (sym whole ∙ one.2)
+
+pub if-given : (cs : List NumberedAim) (table : GivenTable) (t : SyntaxTree) (r : Option ℕ) → IsAlone cs r → IsOneNode (rewritten_whole kind_only (given_in table) cs t) → IfSome r (λ c. length (entry_in table c) ≡ 1)
+if-given cs table t None alone one = tt
+if-given cs table t (Some c) alone one = one-given cs table t c alone one
+
+pub not-token : (t : SyntaxTree) → is_token t ≡ true → IsOneNode (t ∷ []) → ⊥
+not-token t is one =
+    let same : t ≡ Node one.0 one.1 = let e = one.2 in cc in
+    true≢false (sym is ∙ ap is_token same)
+
 module _ (cs : List Change) (places : ℕ → Path) (table : GivenTable) (are : AreGiven cs places table) (root : Element) where
-  top-kept : IsNode root → list_any (λ c. has_path (targets c) []) cs ≡ false → IsOneNode (rewritten_whole kind_only (given_in table) (independents cs) (subtree root))
+  top-kept : IsNode root → is_replaced (independents cs) [] ≡ false → IsOneNode (rewritten_whole kind_only (given_in table) (independents cs) (subtree root))
   top-kept node none =
       let t = tree-of-node root node in
-      subst IsOneNode (sym (ap (λ b. cond b (flat_map (given_in table) (replacements_at (independents cs) [])) (rewritten kind_only (given_in table) (independents cs) [] (subtree root) ∷ [])) (none-replaced cs 0 none))) (kept-node (given_in table) (independents cs) (subtree root) t.0 t.1 t.2)
-    where
-      not-there : (c : Change) → has_path (targets c) [] ≡ false → replaces [] (aim c) ≡ false
-      not-there (Insert at e) h = no-replacement at
-      not-there (InsertAll at es) h = no-replacement at
-      not-there (Replace t e) h = h
-      not-there (ReplaceWithMany t es) h = h
-      not-there (ReplaceAll first last es) h = h
-
-      none-replaced : (ds : List Change) (k : ℕ) → list_any (λ c. has_path (targets c) []) ds ≡ false → is_replaced (change_aims (filter (λ d. is_independent cs d.1) (enumerate_from k ds))) [] ≡ false
-      none-replaced [] k h = refl
-      none-replaced (d ∷ ds) k h =
-          let both = or_parts (has_path (targets d) []) (list_any (λ c. has_path (targets c) []) ds) h in
-          let rest = none-replaced ds (k + 1) both.1 in
-          elim (is_independent cs d) as (λ b. is_replaced (change_aims (cond b ((k, d) ∷ filter (λ d. is_independent cs d.1) (enumerate_from (k + 1) ds)) (filter (λ d. is_independent cs d.1) (enumerate_from (k + 1) ds)))) [] ≡ false) [
-            | true ↦ or_from (replaces [] (aim d)) _ (not-there d both.0) rest
-            | false ↦ rest
-          ]
+      subst IsOneNode (sym (ap (λ b. cond b (flat_map (given_in table) (replacements_at (independents cs) [])) (rewritten kind_only (given_in table) (independents cs) [] (subtree root) ∷ [])) none)) (kept-node (given_in table) (independents cs) (subtree root) t.0 t.1 t.2)
 
   top-brought : (i : ℕ) (c : Change) → first_clash cs ≡ None → slice_get cs i ≡ Some c → has_path (targets c) [] ≡ true → BringsNode c → IsOneNode (rewritten_whole kind_only (given_in table) (independents cs) (subtree root))
   top-brought i c apart at_i h brings =
@@ -91,12 +113,7 @@ module _ (cs : List Change) (places : ℕ → Path) (table : GivenTable) (are : 
 
 -- by the change that replaces the root, if one does
 pub stays-a-node : (cs : List Change) (root : Element) → IsNode root → target_at cs [] ≡ None → (places : ℕ → Path) (table : GivenTable) → AreGiven cs places table → IsOneNode (rewritten_whole kind_only (given_in table) (independents cs) (subtree root))
-stays-a-node cs root node none places table are =
-    top-kept cs places table are root node (any-none cs (none-passes (λ c. has_path (targets c) []) cs none))
-  where
-    any-none : (ds : List Change) → AllByRecursion (λ c. has_path (targets c) [] ≡ false) ds → list_any (λ c. has_path (targets c) []) ds ≡ false
-    any-none [] h = refl
-    any-none (d ∷ ds) h = or_from (has_path (targets d) []) _ h.0 (any-none ds h.1)
+stays-a-node cs root node none places table are = top-kept cs places table are root node (not-replaced cs none)
 
 pub takes-its-place : (cs : List Change) (root : Element) (i : ℕ) (c : Change) → first_clash cs ≡ None → slice_get cs i ≡ Some c → has_path (targets c) [] ≡ true → BringsNode c → (places : ℕ → Path) (table : GivenTable) → AreGiven cs places table → IsOneNode (rewritten_whole kind_only (given_in table) (independents cs) (subtree root))
 takes-its-place cs root i c apart at_i there brings places table are =

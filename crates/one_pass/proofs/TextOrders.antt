@@ -8,11 +8,12 @@
 --     pieces-given                  what all changes do, by a table that has what each one gives
 --     piece-is                      an edit, as a piece
 --     pieces-none, pieces-same, pieces-other      what a change does to the text
---     numbers-of-marks              the marks of what stands in the place of the root, in which each change is one token
-use Rattle.std.specs.Prelude.{◌≡◌, ℕ, zero, suc, ◌+◌, ◌-◌, ◌<◌, ◌≤◌, true, false, cond, List, [], ◌∷◌, ◌++◌, map, flat_map, length, slice_get, Option, Some, None, option_map, refl}
+--     numbers-of-root               the marks of the new root, in which each change is one token
+--     one-numbered                  each change gives one token there
+use Rattle.std.specs.Prelude.{◌≡◌, ℕ, zero, suc, ◌+◌, ◌-◌, ◌<◌, ◌≤◌, true, false, cond, List, [], ◌∷◌, ◌++◌, map, flat_map, length, slice_get, Option, Some, None, option_map, Vec, refl}
 use Rattle.std.specs.Option.{option_map_or}
 use Rattle.std.proofs.Common.{ap, ap₂, sym, subst, ◌∙◌, arith, get_or}
-use Rattle.std.proofs.lemmas.Option.{none-some, same_Some}
+use Rattle.std.proofs.lemmas.Option.{none-some, same_Some, slice_get-get_or}
 use Rattle.std.proofs.lemmas.List.{append-nil, map-append}
 use Rattle.std.proofs.lemmas.Grind.{flat_map-append}
 use Rattle.cst_core.specs.Path.{Path, same_path, counted_from}
@@ -32,12 +33,14 @@ use Rattle.edit_change.specs.NewTree.{Origin, OriginTree, plain, given}
 use Rattle.one_pass.specs.inner.OwnerTables.{AreGiven}
 use Rattle.one_pass.specs.TextEdits.{offset, old_text, number_token, in_text_order, text_piece, altering_pieces, text_pieces}
 use Rattle.one_pass.specs.inner.TextOrder.{pieces_by}
-use Rattle.edit_change.specs.inner.Given.{given_trees}
-use Rattle.one_pass.specs.inner.Pass.{given_in, marks_there, IsMarked, IsMarkedIn, AreMarkedIn}
-use Rattle.one_pass.specs.declared.marked_given.MarkedGiven.{MarkedGiven}
-use Rattle.one_pass.specs.declared.marked_given.GivenTable.{GivenTable}
+use Rattle.one_pass.specs.inner.Pass.{entry_in, given_in, marks_there, AreMarked, AreMarkedIn}
+use Rattle.one_pass.specs.declared.marked_element.MarkedElement.{MarkedElement}
+use Rattle.std.specs.Global.{Global}
+use Rattle.one_pass.specs.declared.marked_element.GivenTable.{GivenTable}
 use Rattle.one_pass.specs.inner.Marked.{MarkTree, Marking, marked, marked_from, mark_below, marks_of}
 use Rattle.one_pass.specs.declared.mark.Mark.{Mark}
+use Rattle.cst_core.specs.declared.element.SyntaxElement.TheVariants as form
+use Rattle.one_pass.proofs.MarksGiven.{as_many_in}
 use Rattle.one_pass.proofs.Marks.{marks-node, marks-token, marked_from-append}
 
 -- ---- elements that are there
@@ -92,19 +95,20 @@ both-there P (x ∷ xs) (y ∷ ys) l none some zero = some 0 x y refl
 both-there P (x ∷ xs) (y ∷ ys) l none some (suc c) = both-there (λ n. P (suc n)) xs ys (omega arith) (λ n. none (suc n)) (λ n. some (suc n)) c
 
 -- ---- an element that is marked by a number
-token-marked : (g : MarkedGiven) (c : ℕ) → marks_there None g 0 ≡ (c, []) ∷ [] → (i : ℕ) (d : MarkTree) → i < 1 → marked (get_or (Token (c ∷ []) [] ∷ []) i d) ≡ marks_there None g i
-token-marked g c h zero d l = marks-token (c ∷ []) [] ∙ sym h
-token-marked g c h (suc i) d l = absurd (omega (arith, l))
+pub one-marked : (es : List MarkedElement) (e : MarkedElement) (c : ℕ) → es ≡ e ∷ [] → marks_of e.marks.items ≡ (c, []) ∷ [] → AreMarked None es (Token (c ∷ []) [] ∷ [])
+one-marked es e c one h =
+    ap (λ ms. ms ∷ []) (marks-token (c ∷ []) [] ∙ sym h) ∙ sym (ap (map (marks_there None)) one)
 
-pub one-marked : (g : MarkedGiven) (c : ℕ) → length (given_trees g.elements) ≡ 1 → marks_there None g 0 ≡ (c, []) ∷ [] → IsMarked None g (Token (c ∷ []) [] ∷ [])
-one-marked g c one h = record {
-  count = sym one;
-  each = token-marked g c h;
-}
-
-pub all-marked : (table : GivenTable) (changes : List Change) → table.top ≡ None → length table.entries.items ≡ length changes → ((c : ℕ) (g : MarkedGiven) → slice_get table.entries.items c ≡ Some g → IsMarked None g (Token (c ∷ []) [] ∷ [])) → AreMarkedIn table (number_token changes)
+pub all-marked : (table : GivenTable) (changes : List Change) → table.top ≡ None → length table.entries.items ≡ length changes → ((c : ℕ) (v : Vec MarkedElement Global) → slice_get table.entries.items c ≡ Some v → AreMarked None v.items (Token (c ∷ []) [] ∷ [])) → AreMarkedIn table (number_token changes)
 all-marked table changes top long each c =
-    both-there (λ n x y. IsMarkedIn table.top x (option_map_or (λ d. Token (n ∷ []) [] ∷ []) y [])) table.entries.items changes long (λ n. refl) (λ n g d h. subst (λ o. IsMarked o g (Token (n ∷ []) [] ∷ [])) (sym top) (each n g h)) c
+    both-there (λ n x y. AreMarked table.top (option_map_or (λ (w : Vec MarkedElement Global). w.items) x []) (option_map_or (λ d. Token (n ∷ []) [] ∷ []) y [])) table.entries.items changes long (λ n. refl) (λ n v d h. subst (λ o. AreMarked o v.items (Token (n ∷ []) [] ∷ [])) (sym top) (each n v h)) c
+
+pub one-numbered : (table : GivenTable) (changes : List Change) (c : ℕ) → AreMarkedIn table (number_token changes) → c < length changes → length (entry_in table c) ≡ 1
+one-numbered table changes c are l =
+    sym (as_many_in table.top (entry_in table c) (number_token changes c) (are c)) ∙ ap (λ o. length (option_map_or (λ (d : Change). Token (c ∷ []) [] ∷ []) o [])) (slice_get-get_or changes c unused l)
+  where
+    unused : Change
+    unused = ReplaceWithMany (form.Token (record { number = 0; root = Token 0 []; path = [] })) []
 
 -- ---- marks where nodes have none
 abbrev numbers_in : List Marking → List ℕ
@@ -186,8 +190,12 @@ module _ (changes : List Change) (cs : List NumberedAim) where
   numbers-of [] = refl
   numbers-of (m ∷ ms) = ap (λ ns. m.number ∷ ns) (numbers-of ms)
 
-  pub numbers-of-marks : (t : SyntaxTree) → map (λ m. m.0) (marked_from 0 (rewritten_whole (λ p k. []) (number_token changes) cs t)) ≡ flat_map (λ k. k.0) (flat_map tokens (rewritten_whole (λ p k. []) (number_token changes) cs t))
+  numbers-of-marks : (t : SyntaxTree) → map (λ m. m.0) (marked_from 0 (rewritten_whole (λ p k. []) (number_token changes) cs t)) ≡ flat_map (λ k. k.0) (flat_map tokens (rewritten_whole (λ p k. []) (number_token changes) cs t))
   numbers-of-marks t = told-slot [] _ (told-rewritten [] t) 0
+
+  pub numbers-of-root : (t : SyntaxTree) (u : Tree (List ℕ)) → rewritten_whole (λ p k. []) (number_token changes) cs t ≡ u ∷ [] → map (λ m. m.0) (marked u) ≡ flat_map (λ k. k.0) (flat_map tokens (rewritten_whole (λ p k. []) (number_token changes) cs t))
+  numbers-of-root t u is =
+      sym (numbers-below (0 ∷ []) (marked u)) ∙ ap numbers_in (sym (append-nil (map (mark_below (0 ∷ [])) (marked u)))) ∙ ap (λ us. numbers_in (marked_from 0 us)) (sym is) ∙ numbers-of-marks t
 
 -- ---- what a change does to the text
 module _ (root : Element) (changes : List Change) (table : GivenTable) (n : ℕ) where

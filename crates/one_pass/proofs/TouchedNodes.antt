@@ -2,7 +2,7 @@
 --     inside-has                    what is inside a slot, with the slot before it
 --     AllStay                       of the part at a path: each of these paths leads to a node, and no aim replaces it, nor what it is in
 --     all-built                     then all that is touched is built
---     touched-all, touched-whole    THE SAME OF A TREE; of one whose top may be replaced
+--     touched-all, touched-none     THE SAME OF A TREE; none, where its top is replaced
 use Rattle.std.specs.Prelude.{◌≡◌, ℕ, suc, ◌+◌, Bool, true, false, not, cond, nat_eq, List, [], ◌∷◌, ◌++◌, slice_get, Option, Some, None, OnOk, Result, Ok, Err, option_and_then, refl}
 use Rattle.std.specs.List.{AllByRecursion}
 use Rattle.std.proofs.Common.{ap, ap₂, sym, subst, ◌∙◌, arith}
@@ -21,10 +21,10 @@ use Rattle.edit_change.specs.Aim.{Aim, FirstIn, AfterElement, Over, parents}
 use Rattle.edit_change.specs.Rewriting.{NumberedAim, is_replaced}
 use Rattle.green_tree.specs.Count.{counted}
 use Rattle.edit_change.specs.Effort.{inside, touched, touched_from, parents_of}
-use Rattle.one_pass.specs.inner.Built.{built, built_from, nodes_built, nodes_built_whole, IsBuilt, AreBuilt}
+use Rattle.one_pass.specs.inner.Built.{built, built_from, nodes_built, IsBuilt, AreBuilt}
 use Rattle.edit_change.specs.declared.aimed.Aimed.{Aimed}
 use Rattle.edit_change.specs.inner.Aimed.{aims_of}
-use Rattle.one_pass.specs.inner.Pass.{CountsBuilt, CountsBuiltWhole, CountsTouched}
+use Rattle.one_pass.specs.inner.Pass.{CountsBuilt, CountsTouched}
 
 pub inside-has : (i : ℕ) (q : Path) (ps : List Path) → has_path (inside i ps) q ≡ true → has_path ps (i ∷ q) ≡ true
 inside-has i q [] h = h
@@ -134,22 +134,18 @@ module _ (cs : List NumberedAim) (t : SyntaxTree) (all : AreBuilt cs t) where
   pub touched-all : nodes_built cs t ≡ touched t (parents_of cs)
   touched-all = all-built cs [] t (parents_of cs) each
 
-  pub touched-whole : nodes_built_whole cs t ≡ touched t (parents_of cs)
-  touched-whole = go (is_replaced cs []) refl (parents_of cs) refl
+  pub touched-none : is_replaced cs [] ≡ true → touched t (parents_of cs) ≡ 0
+  touched-none is = go (parents_of cs) refl
     where
-      go : (b : Bool) → is_replaced cs [] ≡ b → (ps : List Path) → parents_of cs ≡ ps → cond b 0 (nodes_built cs t) ≡ touched t (parents_of cs)
-      go false is ps are = touched-all
-      go true is [] are = sym (ap (touched t) are ∙ nothing_touched t)
-      go true is (q ∷ ps) are =
+      go : (ps : List Path) → parents_of cs ≡ ps → touched t (parents_of cs) ≡ 0
+      go [] are = ap (touched t) are ∙ nothing_touched t
+      go (q ∷ ps) are =
           let here : Stays cs [] t q = each q (ap (λ rs. has_path rs q) are ∙ first_has q ps) in
           absurd (true≢false (sym is ∙ here.stays [] q refl))
 
 -- ---- as code counts them
 pub counts-touched : (aims : List Aimed) (e : GreenElement) (before after : ℕ) → CountsBuilt aims e before after → CountsTouched aims e before after
 counts-touched aims e before after counts all = counts ∙ ap (counted before) (touched-all (aims_of aims) (element_tree e) all)
-
-pub counts-touched_whole : (aims : List Aimed) (e : GreenElement) (before after : ℕ) → CountsBuiltWhole aims e before after → CountsTouched aims e before after
-counts-touched_whole aims e before after counts all = counts ∙ ap (counted before) (touched-whole (aims_of aims) (element_tree e) all)
 
 pub on_ok-touched : {T E : Type 0} (r : Result T E) (aims : List Aimed) (e : GreenElement) (before after : ℕ) → OnOk r (CountsBuilt aims e before after) → OnOk r (CountsTouched aims e before after)
 on_ok-touched (Ok x) aims e before after h = counts-touched aims e before after h

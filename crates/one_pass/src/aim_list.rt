@@ -1,8 +1,7 @@
 //! Lists of aims: whether some of them alter anything, and the same aims in document order.
 
-ghost use Rattle.std.specs.Prelude.{◌≡◌, [], IfOk};
+ghost use Rattle.std.specs.Prelude.{◌≡◌, IfOk};
 ghost use Rattle.std.specs.List.{list_any};
-ghost use Rattle.edit_change.specs.Rewriting.{is_replaced};
 ghost use Rattle.edit_change.specs.inner.Aimed.{aims_of, has_parent};
 ghost use Rattle.one_pass.specs.inner.Sweep.{AreOrdered, IsReordered};
 
@@ -15,17 +14,6 @@ pub fn alter_some(aims: &[Aimed]) -> bool
 {
     for aim in aims {
         if aim.has_parent() {
-            return true;
-        }
-    }
-    false
-}
-
-pub fn top_is_replaced(aims: &[Aimed]) -> bool
-    ensures { result ≡ is_replaced (aims_of aims.now) [] }
-{
-    for aim in aims {
-        if aim.replaces_top() {
             return true;
         }
     }

@@ -10,7 +10,7 @@ ghost use Rattle.edit_change.specs.Nesting.{owner};
 ghost use Rattle.edit_change.specs.NewTree.{moved_path};
 ghost use Rattle.edit_change.specs.inner.AimFrom.{depth};
 ghost use Rattle.edit_change.specs.inner.OwnerPlaces.{aim_in_payload, places_in, AimsFrom};
-ghost use Rattle.one_pass.specs.inner.OwnerTables.{moved_dependent, dependents_in, AreDependents, OwnsOneMore, OthersOwnAsBefore};
+ghost use Rattle.one_pass.specs.inner.OwnerTables.{moved_dependent, AreDependents};
 
 use crate::lists::empty_lists;
 use edit_change::{
@@ -39,20 +39,6 @@ pub(crate) fn moved_aims<'a, 'b>(
         aims.push(aim)?;
     }
     Ok(aims)
-}
-
-fn push_dependent<'a>(
-    table: &mut Vec<Vec<Dependent<'a>>>,
-    owner: usize,
-    dependent: Dependent<'a>,
-) -> Result<(), AllocError>
-    requires { owner < length table.now.items }
-    ensures long { OnOk result (length table.new.items ≡ length table.old.items) }
-    ensures here { OnOk result (OwnsOneMore table.old.items table.new.items owner dependent.entry) }
-    ensures elsewhere { OnOk result (OthersOwnAsBefore table.old.items table.new.items owner) }
-{
-    table[owner].push(dependent)?;
-    Ok(())
 }
 
 // A change as it stands in the payload of its owner, where the owner's target has this place.
@@ -100,7 +86,7 @@ pub(crate) fn dependents<'a>(
                 &changes[owner],
                 place_at(places, owner),
             )?;
-            push_dependent(&mut table, owner, dependent)?;
+            table[owner].push(dependent)?;
         }
     }
     Ok(table)

@@ -2,14 +2,13 @@
 #![tactic(auto)]
 
 mod aim_list;
-mod by_depth;
 mod dependent;
 mod given_table;
 mod kept;
 mod lists;
 mod mark;
 mod mark_paths;
-mod marked_given;
+mod marked_element;
 mod open_node;
 mod open_nodes;
 mod pass;

@@ -3,36 +3,11 @@
 ghost use Rattle.std.specs.Prelude.{◌≡◌, ◌<◌, drop, length, IfOk, OnOk};
 ghost use Rattle.one_pass.specs.inner.Marked.{marks_of};
 ghost use Rattle.edit_change.specs.Topmost.{paths_of};
-ghost use Rattle.one_pass.specs.inner.Marks.{paths_of_mark, ArePathsOf, HasPathMore, PathsStay, IsDealtOut, HasPathsMore};
+ghost use Rattle.one_pass.specs.inner.Marks.{paths_of_mark, ArePathsOf, IsDealtOut, HasPathsMore};
 
 use crate::lists::empty_lists;
 use crate::mark::Mark;
 use std::alloc::{AllocError, Global};
-
-// A path without its first slot.
-fn below_top(mut path: Vec<usize>) -> Vec<usize>
-    ensures { result.items ≡ drop 1 path.items }
-{
-    if !path.is_empty() {
-        path.remove(0);
-    }
-    path
-}
-
-// One more at the end of a list.
-fn push_path(
-    lists: &mut Vec<Vec<Vec<usize>>>,
-    number: usize,
-    path: Vec<usize>,
-) -> Result<(), AllocError>
-    requires { number < length lists.now.items }
-    ensures size { length lists.new.items ≡ length lists.old.items }
-    ensures here { OnOk result (HasPathMore lists.old.items lists.new.items number path) }
-    ensures elsewhere { OnOk result (PathsStay lists.old.items lists.new.items number) }
-{
-    lists[number].push(path)?;
-    Ok(())
-}
 
 // The path of one mark goes to the list of its number; the number after the last list's has one of its own.
 fn deal(
@@ -46,11 +21,11 @@ fn deal(
 {
     let Mark { number, path } = mark;
     if number < lists.len() {
-        push_path(lists, number, below_top(path))?;
+        lists[number].push(path)?;
         return Ok(());
     }
     if number == lists.len() {
-        others.push(below_top(path))?;
+        others.push(path)?;
     }
     Ok(())
 }

@@ -11,7 +11,7 @@ ghost use Rattle.one_pass.specs.inner.OpenNodes.{FindsShared, Enters, PutsMade, 
 
 use crate::kept::leads;
 use crate::mark::{Sought, marks_before, push_mark};
-use crate::marked_given::GivenTable;
+use crate::marked_element::GivenTable;
 use crate::open_node::OpenNode;
 use crate::pushes::push_change;
 use crate::site::{Site, one_deeper, run_inside, site_of};

@@ -1,17 +1,16 @@
 //! The new tree of an element.
 
 ghost use Rattle.std.specs.Prelude.{◌≡◌, IfOk, OnOk};
-ghost use Rattle.green_tree.specs.GreenElement.{element_tree, element_trees};
+ghost use Rattle.green_tree.specs.GreenElement.{element_tree};
 ghost use Rattle.one_pass.specs.inner.Marked.{marks_seen, InPathOrder};
-ghost use Rattle.one_pass.specs.inner.Pass.{TouchesAtMost, CountsBuilt, CountsBuiltWhole, CountsTouched};
-ghost use Rattle.one_pass.specs.inner.Pass.{green_rewritten, green_rewritten_whole, FindsRewritten, FindsWhole};
+ghost use Rattle.one_pass.specs.inner.Pass.{TouchesAtMost, CountsBuilt, CountsTouched};
+ghost use Rattle.one_pass.specs.inner.Pass.{green_rewritten, FindsRewritten};
 
-use crate::aim_list::{alter_some, in_order, top_is_replaced};
+use crate::aim_list::{alter_some, in_order};
 use crate::kept::push_kept;
-use crate::mark::{Mark, Sought};
-use crate::marked_given::GivenTable;
+use crate::mark::Sought;
+use crate::marked_element::GivenTable;
 use crate::open_nodes::{open_node, rewrite_open};
-use crate::pushes::push_tops;
 use crate::walk::Walk;
 use edit_change::Aimed;
 use green_tree::GreenElement;
@@ -22,7 +21,7 @@ use std::alloc::{AllocError, Global};
 /// begin with the walk's: `sought` has those of the old element, in document order too.
 ///
 /// Only the nodes above an aim are built, and what no aim is in or below is shared; the walk counts the nodes, exactly,
-/// up to its greatest number. An aim over the top itself is passed over: see `rewrite_whole`. Takes time linear in the
+/// up to its greatest number. An aim over the top itself is passed over. Takes time linear in the
 /// aims times their depth, the children of the nodes that are built, the children that are replaced, and the lengths of
 /// the marks' paths.
 pub fn rewrite_element(
@@ -54,44 +53,4 @@ pub fn rewrite_element(
     let sorted = in_order(alloc, aims)?;
     let top = open_node(alloc, walk, node, 0, &sorted, sought)?;
     rewrite_open(alloc, walk, top, given)
-}
-
-/// Elements that stand in the place of one, and the marks of them: the first slot of each path is the element's index.
-#[derive(Drop)]
-pub struct RewrittenElements {
-    pub elements: Vec<GreenElement>,
-    pub marks: Vec<Mark>,
-}
-
-/// What stands in the place of the element: what `rewrite_element` makes of it, or, where an aim is over the top itself, what
-/// that change gives.
-pub fn rewrite_whole(
-    alloc: Global,
-    element: &GreenElement,
-    aims: &[Aimed],
-    sought: &[Sought],
-    given: &GivenTable,
-    builds: &mut u64,
-) -> Result<RewrittenElements, AllocError>
-    requires { InPathOrder (marks_seen 0 sought.now) }
-    ensures builds { OnOk result (TouchesAtMost aims.now element.now builds.old builds.new) }
-    ensures count { OnOk result (CountsBuiltWhole aims.now element.now builds.old builds.new) }
-    ensures whole { OnOk result (CountsTouched aims.now element.now builds.old builds.new) }
-    ensures trees { IfOk result
-        (λ r. element_trees r.elements.items ≡ green_rewritten_whole given.now aims.now element.now) }
-    ensures marks { IfOk result (λ r. FindsWhole given.now aims.now sought.now element.now r.marks) }
-{
-    let mut elements = Vec::new(alloc);
-    let mut walk = Walk::begin(alloc, *builds);
-    if top_is_replaced(aims) {
-        push_tops(alloc, &mut walk, &mut elements, given, aims)?;
-    } else {
-        walk.path.push(0)?;
-        elements.push(rewrite_element(alloc, &mut walk, element, aims, sought, given)?)?;
-    }
-    *builds = walk.builds;
-    Ok(RewrittenElements {
-        elements,
-        marks: walk.found,
-    })
 }

@@ -1,28 +1,28 @@
 //! The new tree, in the order in which it comes about.
 
-ghost use Rattle.std.specs.Prelude.{◌≡◌, ◌<◌, [], map, length, All, None, Some, IfOk, OnOk};
+ghost use Rattle.std.specs.Prelude.{◌≡◌, ◌<◌, ◌∷◌, [], map, length, All, None, IfOk, IfSome, OnOk};
 ghost use Rattle.cst_core.specs.Element.{Element, IsNode};
-ghost use Rattle.cst_core.specs.GreenElement.{element_trees};
-ghost use Rattle.edit_change.specs.Change.{targets};
+ghost use Rattle.cst_core.specs.GreenElement.{element_tree};
 ghost use Rattle.edit_change.specs.Fits.{Fits};
 ghost use Rattle.edit_change.specs.Nesting.{first_clash};
 ghost use Rattle.edit_change.specs.NewTree.{independents};
 ghost use Rattle.edit_change.specs.inner.Aimed.{aims_of};
 ghost use Rattle.edit_change.specs.inner.Fate.{fate};
-ghost use Rattle.edit_change.specs.inner.DocumentOrder.{IsDocumentOrder};
 ghost use Rattle.edit_change.specs.inner.Targets.{target_at};
+ghost use Rattle.edit_change.specs.inner.DocumentOrder.{IsDocumentOrder};
 ghost use Rattle.one_pass.specs.inner.Root.{CountsAllOf, IsOnePassOf, KeepsTop};
-ghost use Rattle.one_pass.specs.inner.Root.{root_rewritten, FindsInRoot, CountsRoot};
+ghost use Rattle.one_pass.specs.inner.Pass.{entry_in};
+ghost use Rattle.one_pass.specs.inner.Root.{IsAlone, root_rewritten, FindsInRoot, CountsRoot};
 ghost use Rattle.one_pass.specs.inner.Sought.{AreInOrder};
 
 use crate::dependent::dependents;
-use crate::given_table::given_table;
+use crate::given_table::{given_table, rewritten_element};
 use crate::mark_paths::mark_paths;
-use crate::marked_given::GivenTable;
-use crate::pass::{RewrittenElements, rewrite_whole};
-use crate::sought::{Registered, in_document_order, sought_at};
-use cst_core::{GreenNode, SyntaxElement, SyntaxNode};
-use edit_change::{Aimed, Change, Fate, Planned, node_for_root, numbered_aim, only_node};
+use crate::marked_element::GivenTable;
+use crate::sought::{Registered, in_document_order};
+use crate::walk::Walk;
+use cst_core::{GreenElement, GreenNode, SyntaxElement, SyntaxNode};
+use edit_change::{Aimed, Change, Fate, Planned, node_for_root, numbered_aim};
 use std::alloc::{AllocError, Global};
 
 /// What one pass makes of a tree.
@@ -60,22 +60,25 @@ pub fn rewrite(
     let Planned {
         root,
         changes,
-        order: _,
+        order,
         fates,
         places,
     } = planned;
     let aims = independent_aims(alloc, changes, fates)?;
     let dependents = dependents(alloc, changes, fates, places)?;
     let sought = in_document_order(alloc, registered)?;
-    let mut given = given_table(alloc, changes, &dependents, &sought, builds)?;
+    let mut given = given_table(alloc, changes, order, &dependents, &sought, builds)?;
     given.top = Some(registered.len());
-    let RewrittenElements { elements, marks } = rewritten_root(
-        alloc, root, &aims, &sought, &given, builds,
-    )?;
-    keep_top(root, changes);
-    let paths = mark_paths(alloc, marks, registered.len())?;
+    let replacement = sole_replacement(root, changes);
+    let mut walk = Walk::begin(alloc, *builds);
+    let made = rewritten_root(alloc, &mut walk, root, replacement, &aims, &sought, &given)?;
+    let GreenElement::Node(green) = made else {
+        unreachable!()
+    };
+    *builds = walk.builds;
+    let paths = mark_paths(alloc, walk.found, registered.len())?;
     Ok(OnePass {
-        green: only_node(elements),
+        green,
         copies: paths.lists,
         changed: paths.others,
     })
@@ -100,45 +103,56 @@ pub(crate) fn independent_aims<'a>(
     Ok(aims)
 }
 
-// What stands in the place of the root, with the marks of it: those of registered elements, and those of what changes give.
-fn rewritten_root(
+// What the root becomes: what the change gives that replaces it, or the root with its children made anew. The walk finds the marks of it.
+pub(crate) fn rewritten_root(
     alloc: Global,
+    walk: &mut Walk,
     root: &SyntaxNode,
+    replacement: Option<usize>,
     aims: &[Aimed],
     registered: &[Registered],
     given: &GivenTable,
-    builds: &mut u64,
-) -> Result<RewrittenElements, AllocError>
-    requires { AreInOrder registered.now }
-    ensures count { OnOk result (CountsRoot root.now aims.now builds.old builds.new) }
-    ensures trees { IfOk result (λ r. element_trees r.elements.items ≡ root_rewritten root.now aims.now given.now) }
-    ensures marks { IfOk result (λ r. FindsInRoot root.now aims.now given.now registered.now r.marks) }
+) -> Result<GreenElement, AllocError>
+    requires sought { AreInOrder registered.now }
+    requires alone { IsAlone (aims_of aims.now) replacement }
+    requires one { IfSome replacement (λ c. length (entry_in given.now c) ≡ 1) }
+    ensures count { OnOk result (CountsRoot root.now aims.now walk.old.builds walk.new.builds) }
+    ensures tree { IfOk result (λ e. root_rewritten root.now aims.now given.now ≡ element_tree e ∷ []) }
+    ensures marks { OnOk result (FindsInRoot root.now aims.now given.now registered.now walk.old walk.new) }
 {
-    let root = SyntaxElement::Node(root.try_clone(alloc)?);
-    let old = root.green(alloc)?;
-    let sought = sought_at(alloc, registered, &root)?;
-    let rewritten = rewrite_whole(alloc, &old, aims, &sought, given, builds)?;
-    Ok(rewritten)
+    let Some(change) = replacement else {
+        let root = SyntaxElement::Node(root.try_clone(alloc)?);
+        return rewritten_element(alloc, walk, &root, aims, registered, given);
+    };
+    // For the proof: the count at the start.
+    let _count = walk.builds;
+    let one = &given.entries[change][0];
+    one.push_marks(alloc, &mut walk.found, &walk.path, given.top)?;
+    one.element.share(alloc)
 }
 
-// The change that replaces the root, if one does.
+// The first change that replaces the root, if one does.
 fn root_replacement(changes: &[Change]) -> Option<usize>
     ensures { result ≡ target_at changes.now [] }
 {
     changes.iter().position(|change| change.replaces_root())
 }
 
-// One node stands in the place of the root: the root itself, or the node that replaces it.
-fn keep_top(root: &SyntaxNode, changes: &[Change])
+// The only change that replaces the root, if one does. So one node stands there: the root, or the one that the change brings.
+pub(crate) fn sole_replacement(root: &SyntaxNode, changes: &[Change]) -> Option<usize>
     requires node { IsNode root.now }
     requires fit { All (Fits root.now) changes.now }
     requires apart { first_clash changes.now ≡ None }
-    ensures { KeepsTop root.now changes.now }
+    ensures alone { IsAlone (independents changes.now) result }
+    ensures there { IfSome result (λ c. c < length changes.now) }
+    ensures node { KeepsTop root.now changes.now }
 {
     // For the proof: the contract speaks of the root, and the code needs the changes alone.
     let _ = root;
-    if let Some(change) = root_replacement(changes) {
-        // For the proof: it brings one node.
-        let _ = node_for_root(&changes[change]);
-    }
+    let Some(change) = root_replacement(changes) else {
+        return None;
+    };
+    // For the proof: it brings one node.
+    let _ = node_for_root(&changes[change]);
+    Some(change)
 }

@@ -1,13 +1,13 @@
 //! Registered elements in document order, and those at an element or below it.
 
-ghost use Rattle.std.specs.Prelude.{◌≡◌, true, [], map, IfOk};
+ghost use Rattle.std.specs.Prelude.{◌≡◌, map, IfOk};
 ghost use Rattle.std.specs.Cmp.Lexicographic.{slice_cmp};
 ghost use Rattle.std.specs.Ordering.{nat_cmp};
 ghost use Rattle.std.specs.List.{enumerate_from};
 ghost use Rattle.cst_core.specs.Element.{address};
 ghost use Rattle.cst_core.specs.SyntaxElement.{element_of};
 ghost use Rattle.one_pass.specs.inner.Marked.{marks_seen};
-ghost use Rattle.one_pass.specs.inner.Sought.{place_of, as_registered, begins_with, addresses, within, sought_at, sought_at_all};
+ghost use Rattle.one_pass.specs.inner.Sought.{place_of, as_registered, begins_with, addresses, within, sought_at};
 ghost use Rattle.one_pass.specs.inner.Sought.{AreInOrder, IsTableOf};
 
 use crate::mark::Sought;
@@ -88,19 +88,6 @@ fn within<'s, 'a>(registered: &'s [Registered<'a>], element: &SyntaxElement) -> 
     let rest = &registered[start..];
     let end = rest.partition_point(|one| one.is_within(&top));
     &rest[..end]
-}
-
-/// Whether none is at these elements or below them.
-pub fn has_none(registered: &[Registered], elements: &[SyntaxElement]) -> bool
-    requires { AreInOrder registered.now }
-    ensures { result ≡ true → sought_at_all registered.now (map element_of elements.now) ≡ [] }
-{
-    for element in elements {
-        if !within(registered, element).is_empty() {
-            return false;
-        }
-    }
-    true
 }
 
 /// The marks of those at an element or below it, with the paths from there.

@@ -1,28 +1,30 @@
 //! What changes do to the text of a tree.
 
-ghost use Rattle.std.specs.Prelude.{◌≡◌, ◌++◌, ◌∷◌, [], map, flat_map, length, All, IfOk, OnOk, string_bytes, ◌<◌};
+ghost use Rattle.std.specs.Prelude.{◌≡◌, ◌++◌, ◌∷◌, [], map, flat_map, length, All, None, IfOk, IfSome, OnOk, string_bytes, ◌<◌};
 ghost use Rattle.cst_core.specs.Tree.{text};
 ghost use Rattle.cst_core.specs.Path.{parent_path, siblings};
 ghost use Rattle.cst_core.specs.Green.{length_limit};
-ghost use Rattle.cst_core.specs.Element.{element_at, subtree};
+ghost use Rattle.cst_core.specs.Element.{IsNode, element_at, subtree};
 ghost use Rattle.cst_core.specs.SyntaxElement.{element_of};
 ghost use Rattle.edit_change.specs.Fits.{Fits};
+ghost use Rattle.edit_change.specs.Nesting.{first_clash};
 ghost use Rattle.edit_change.specs.inner.Aimed.{aims_of};
 ghost use Rattle.edit_change.specs.inner.Fate.{fate};
-ghost use Rattle.edit_change.specs.inner.Given.{given_trees};
+ghost use Rattle.edit_change.specs.inner.DocumentOrder.{IsDocumentOrder};
 ghost use Rattle.one_pass.specs.TextEdits.{as_piece, offset, old_text};
 ghost use Rattle.one_pass.specs.inner.Pass.{given_in};
+ghost use Rattle.one_pass.specs.inner.Root.{IsAlone};
 ghost use Rattle.one_pass.specs.inner.TextOrder.{pieces_by, PushesPiece, AreMarkedByNumber, in_order_of, AreEditsOf};
 
 use crate::dependent::dependents;
 use crate::given_table::given_table;
 use crate::mark::Mark;
-use crate::marked_given::{GivenTable, MarkedGiven};
-use crate::pass::rewrite_whole;
-use crate::rewriting::independent_aims;
+use crate::marked_element::{GivenTable, MarkedElement};
+use crate::rewriting::{independent_aims, rewritten_root, sole_replacement};
 use crate::text_edit::TextEdit;
-use cst_core::{GreenElement, GreenElementRef, GreenNode, SyntaxElement, SyntaxNode};
-use edit_change::{Aimed, Change, Given, Planned, aim_path, slot_after};
+use crate::walk::Walk;
+use cst_core::{GreenElement, GreenNode, SyntaxElement, SyntaxNode};
+use edit_change::{Aimed, Change, Planned, aim_path, slot_after};
 use std::alloc::{AllocError, Global};
 
 // The text of the element that a path of the whole tree leads to; nothing where it leads nowhere.
@@ -124,26 +126,19 @@ fn offset(alloc: Global, root: &SyntaxNode, change: &Change) -> Result<u64, Allo
     Ok(element.text_start())
 }
 
-// The texts of these elements.
-fn text_of_given(alloc: Global, given: &Given) -> Result<String, AllocError>
-    ensures { IfOk result (λ s. string_bytes s ≡ flat_map text (given_trees given.now)) }
-{
-    let mut out = String::new(alloc);
-    for index in 0..given.len() {
-        let text = given.share_at(alloc, index)?.to_string(alloc)?;
-        out.push_str(&text)?;
-    }
-    Ok(out)
-}
-
 // The texts of what a change gives.
 fn given_text(alloc: Global, given: &GivenTable, change: usize) -> Result<String, AllocError>
     ensures { IfOk result (λ s. string_bytes s ≡ flat_map text (given_in given.now change)) }
 {
-    match given.entries.get(change) {
-        Some(entry) => text_of_given(alloc, &entry.elements),
-        None => Ok(String::new(alloc)),
+    let mut out = String::new(alloc);
+    let Some(entry) = given.entries.get(change) else {
+        return Ok(out);
+    };
+    for one in entry {
+        let text = one.element.to_string(alloc)?;
+        out.push_str(&text)?;
     }
+    Ok(out)
 }
 
 // What a change does to the text, if it alters it.
@@ -173,11 +168,11 @@ fn push_edit(
 }
 
 // A table in which each change gives one element, marked by the change's number.
-fn numbered_table<'a>(
+fn numbered_table(
     alloc: Global,
-    root: &'a GreenNode,
+    root: &GreenNode,
     changes: &[Change],
-) -> Result<GivenTable<'a>, AllocError>
+) -> Result<GivenTable, AllocError>
     ensures { IfOk result (AreMarkedByNumber changes.now) }
 {
     let mut entries = Vec::with_capacity(alloc, changes.len())?;
@@ -186,11 +181,11 @@ fn numbered_table<'a>(
             number,
             path: Vec::new(alloc),
         };
-        let marks = vec![in alloc; mark]?;
-        entries.push(MarkedGiven {
-            elements: Given::Borrowed(GreenElementRef::Node(root)),
-            marks: vec![in alloc; marks]?,
-        })?;
+        let one = MarkedElement {
+            element: GreenElement::Node(root.share(alloc)?),
+            marks: vec![in alloc; mark]?,
+        };
+        entries.push(vec![in alloc; one]?)?;
     }
     Ok(GivenTable { entries, top: None })
 }
@@ -201,21 +196,23 @@ fn numbers_of(alloc: Global, marks: &[Mark]) -> Result<Vec<usize>, AllocError>
     marks.iter().map(|mark| mark.number).collect(alloc)
 }
 
-// The changes of these aims, from left to right.
+// The changes of these aims, from left to right, of which this one replaces the root.
 fn in_text_order(
     alloc: Global,
     root: &SyntaxNode,
     changes: &[Change],
     aims: &[Aimed],
+    replacement: Option<usize>,
 ) -> Result<Vec<usize>, AllocError>
+    requires alone { IsAlone (aims_of aims.now) replacement }
+    requires there { IfSome replacement (λ c. c < length changes.now) }
     ensures { IfOk result (λ v. v.items ≡ in_order_of changes.now (aims_of aims.now) (subtree root.now)) }
 {
     let green = root.green(alloc)?;
     let table = numbered_table(alloc, &green, changes)?;
-    let old = GreenElement::Node(green.share(alloc)?);
-    let mut builds = 0;
-    let rewritten = rewrite_whole(alloc, &old, aims, &[], &table, &mut builds)?;
-    numbers_of(alloc, &rewritten.marks)
+    let mut walk = Walk::begin(alloc, 0);
+    rewritten_root(alloc, &mut walk, root, replacement, aims, &[], &table)?;
+    numbers_of(alloc, &walk.found)
 }
 
 // What changes do to the text, in this order.
@@ -239,7 +236,10 @@ fn edits_in_order(
 
 /// What the changes do to the text of the tree, from left to right.
 pub fn text_edits(alloc: Global, planned: Planned<'_>) -> Result<Vec<TextEdit>, AllocError>
+    requires node { IsNode planned.root.now }
     requires fit { All (Fits planned.root.now) planned.changes.now }
+    requires apart { first_clash planned.changes.now ≡ None }
+    requires order { IsDocumentOrder planned.changes.now planned.order.now }
     requires fates { planned.fates.now ≡ map (fate planned.changes.now) planned.changes.now }
     requires places { length planned.places.now ≡ length planned.changes.now }
     ensures { IfOk result (AreEditsOf planned.entry) }
@@ -247,14 +247,15 @@ pub fn text_edits(alloc: Global, planned: Planned<'_>) -> Result<Vec<TextEdit>, 
     let Planned {
         root,
         changes,
-        order: _,
+        order,
         fates,
         places,
     } = planned;
     let aims = independent_aims(alloc, changes, fates)?;
     let dependents = dependents(alloc, changes, fates, places)?;
     let mut builds = 0;
-    let given = given_table(alloc, changes, &dependents, &[], &mut builds)?;
-    let order = in_text_order(alloc, root, changes, &aims)?;
-    edits_in_order(alloc, root, changes, &given, &order)
+    let given = given_table(alloc, changes, order, &dependents, &[], &mut builds)?;
+    let replacement = sole_replacement(root, changes);
+    let numbers = in_text_order(alloc, root, changes, &aims, replacement)?;
+    edits_in_order(alloc, root, changes, &given, &numbers)
 }

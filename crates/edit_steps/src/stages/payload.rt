@@ -9,7 +9,7 @@ ghost use Rattle.edit_change.specs.inner.OneNode.{IsOneNode};
 
 use crate::stage::Stage;
 use cst_core::{GreenElement, GreenNode, SyntaxElement};
-use edit_change::{Change, Fate, Given, green_payload};
+use edit_change::{Change, Fate, green_payload};
 use std::alloc::{AllocError, Global};
 
 // The payload of a change that replaces a node by a node and is not dropped. Nothing is done in it yet.
@@ -64,9 +64,6 @@ pub(crate) fn given_elements(
 {
     match payload {
         Some(stage) => one(alloc, stage.element().share(alloc)?),
-        None => match green_payload(alloc, change)? {
-            Given::Borrowed(element) => one(alloc, element.share(alloc)?),
-            Given::Shared(elements) => Ok(elements),
-        },
+        None => green_payload(alloc, change),
     }
 }

@@ -1,7 +1,6 @@
 -- Which nodes a pass from the leaves up builds anew.
 --     built, nodes_built            of the nodes above one of these paths, or at one, those that no aim replaces, nor what they are in; of a whole tree
 --     built_from                    those of children from a slot on
---     nodes_built_whole             the same where the top may be replaced
 --     IsBuilt, AreBuilt             a node of the tree that no aim replaces, nor what it is in; such is each node whose children an aim alters
 use Rattle.std.specs.Prelude.{◌≡◌, ℕ, suc, ◌+◌, true, false, not, cond, List, [], ◌∷◌, ◌++◌, All}
 use Rattle.std.specs.Option.{option_map_or}
@@ -25,9 +24,6 @@ module _ (cs : List NumberedAim) where
 
   abbrev pub nodes_built : SyntaxTree → ℕ
   nodes_built t = built [] t (parents_of cs)
-
-  abbrev pub nodes_built_whole : SyntaxTree → ℕ
-  nodes_built_whole t = cond (is_replaced cs []) 0 (nodes_built t)
 
 -- Where each node that is touched is such, all of them are built.
 pub record IsBuilt (cs : List NumberedAim) (t : SyntaxTree) (p : Path) : Type 0 where

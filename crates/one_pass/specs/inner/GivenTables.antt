@@ -1,11 +1,8 @@
--- What code keeps of what changes give, and how it is entered from the deepest changes up.
+-- What code keeps of what changes give, and how it is entered, from the last change in document order to the first.
 --     element_rewritten, each_rewritten      an element, rewritten by what a table has; several
 --     FindsElement                  the marks of a rewritten element are found
---     IsMarkedEach                  an entry has the marks of rewritten elements
---     HasPayloadMarks               a table has the marks of the payloads alone
---     FillsMarks                    the marks of what a change gives are entered: those of its payload, rewritten by what the table had before
+--     AreMarkedEach                 given elements have the marks of rewritten ones
 --     CountsElement, CountsEach     how a count of nodes is raised by an element that is rewritten; by several
---     CountsOwner                   how it is raised by what a change gives
 --     ArePayloadsBuilt              in each payload, each node that an owned change alters is there and stays
 --     CountsPayloads                how the count is raised by the payloads of all owners
 --     TellsGiven, TellsMarks        a table has what each change gives, and its marks, where another one has what each change owns
@@ -23,47 +20,36 @@ use Rattle.one_pass.specs.inner.Built.{AreBuilt}
 use Rattle.edit_change.specs.inner.Aimed.{aims_of}
 use Rattle.one_pass.specs.inner.Marked.{MarkTree, marked}
 use Rattle.edit_change.specs.inner.KindOnly.{kind_only}
-use Rattle.one_pass.specs.inner.Pass.{IsMarked, AreMarkedIn, given_in, FindsHere}
+use Rattle.one_pass.specs.inner.Pass.{AreMarked, AreMarkedIn, given_in, FindsHere}
 use Rattle.edit_change.specs.declared.aimed.Aimed.{Aimed}
-use Rattle.one_pass.specs.declared.marked_given.GivenTable.{GivenTable}
-use Rattle.one_pass.specs.declared.marked_given.MarkedGiven.{MarkedGiven}
+use Rattle.one_pass.specs.declared.marked_element.GivenTable.{GivenTable}
+use Rattle.one_pass.specs.declared.marked_element.MarkedElement.{MarkedElement}
 use Rattle.edit_change.specs.declared.change.Change.{Change}
 use Rattle.edit_change.specs.NewTree.{payload_of, dependents}
 use Rattle.edit_change.specs.TouchedNodes.{touched_each, touched_in, Raises}
 use Rattle.one_pass.specs.inner.Sought.{IsTableOf}
-use Rattle.one_pass.specs.inner.Marks.{element_sought, payload_sought, with_answer, marks_given}
-use Rattle.one_pass.specs.inner.OwnerTables.{moved_dependent, AreDependents, AreGiven}
+use Rattle.one_pass.specs.inner.Marks.{element_sought, payload_sought, marks_given}
+use Rattle.one_pass.specs.inner.OwnerTables.{AreDependents, AreGiven}
 use Rattle.one_pass.specs.declared.dependent.Dependent.{Dependent}
 use Rattle.one_pass.specs.declared.sought.Registered.{Registered}
 use Rattle.one_pass.specs.declared.walk.Walk.{Walk}
 
 -- ---- elements, rewritten by what a table has
-module _ (table : GivenTable) (aims : List Aimed) where
-  abbrev pub element_rewritten : SyntaxElement → SyntaxTree
-  element_rewritten e = rewritten kind_only (given_in table) (aims_of aims) [] (subtree (element_of e))
+module _ (table : GivenTable) where
+  abbrev pub element_rewritten : List Aimed → SyntaxElement → SyntaxTree
+  element_rewritten aims e = rewritten kind_only (given_in table) (aims_of aims) [] (subtree (element_of e))
 
-  abbrev pub each_rewritten : List SyntaxElement → List SyntaxTree
-  each_rewritten es = map (rewritten kind_only (given_in table) (aims_of aims) []) (map subtree (map element_of es))
+  abbrev pub each_rewritten : List NumberedAim → List Element → List SyntaxTree
+  each_rewritten cs es = map (rewritten kind_only (given_in table) cs []) (map subtree es)
 
-  abbrev pub FindsElement : List Registered → SyntaxElement → Walk → Walk → Type 0
-  FindsElement index e before after =
+  abbrev pub FindsElement : List Aimed → List Registered → SyntaxElement → Walk → Walk → Type 0
+  FindsElement aims index e before after =
       (trees : ℕ → List MarkTree) → AreMarkedIn table trees →
       FindsHere before after (marked (element_sought index trees (aims_of aims) (element_of e)))
 
-  abbrev pub IsMarkedEach : List Registered → List SyntaxElement → MarkedGiven → Type 0
-  IsMarkedEach index es g =
-      (trees : ℕ → List MarkTree) → AreMarkedIn table trees →
-      IsMarked None g (payload_sought index trees (aims_of aims) (map element_of es))
-
-abbrev pub HasPayloadMarks : List Registered → List Change → GivenTable → Type 0
-HasPayloadMarks index changes table = AreMarkedIn table (λ c. payload_sought index (λ n. []) [] (payload_of changes c))
-
--- ---- one owner
-module _ (index : List Registered) (changes : List Change) (before after : GivenTable) where
-  abbrev pub FillsMarks : ℕ → List Dependent → Type 0
-  FillsMarks owner owned =
-      (trees : ℕ → List MarkTree) → AreMarkedIn before trees →
-      AreMarkedIn after (with_answer trees owner (payload_sought index trees (map moved_dependent owned) (payload_of changes owner)))
+  abbrev pub AreMarkedEach : List Registered → List NumberedAim → List Element → List MarkedElement → Type 0
+  AreMarkedEach index cs es given =
+      (trees : ℕ → List MarkTree) → AreMarkedIn table trees → AreMarked None given (payload_sought index trees cs es)
 
 module _ (changes : List Change) (owned : List (Vec Dependent Global)) where
   -- ---- all changes
@@ -83,10 +69,6 @@ CountsElement aims e before after =
 
 abbrev pub CountsEach : List NumberedAim → List Element → ℕ → ℕ → Type 0
 CountsEach aims es before after = Raises (All (λ e. AreBuilt aims (subtree e)) es) (touched_each aims es) before after
-
-abbrev pub CountsOwner : List Change → ℕ → List Dependent → ℕ → ℕ → Type 0
-CountsOwner changes owner owned before after =
-    CountsEach (map moved_dependent owned) (payload_of changes owner) before after
 
 abbrev pub ArePayloadsBuilt : List Change → (ℕ → Path) → Type 0
 ArePayloadsBuilt changes places =

@@ -3,12 +3,11 @@
 --     marks_given                   what a change gives, so labelled
 --     element_sought, payload_sought      an element, rewritten, with the marks of registered elements; several
 --     with_answer                     another answer for one change
---     paths_of_mark                 of marks in the trees that stand in a place, the paths of one mark in its tree
+--     paths_of_mark                 the paths of one mark
 --     ArePathsOf                    n lists have the paths of these marks, each those of its number
---     HasPathMore, PathsStay        a list has one path more at its end; the others are as they were
 --     IsDealtOut                    the path of one mark went to the list of its number, if there is one
 --     HasPathsMore                  a list has one path more if the mark is of this number
-use Rattle.std.specs.Prelude.{◌≡◌, ◌≢◌, ◌<◌, ℕ, cond, nat_eq, List, [], ◌∷◌, ◌++◌, map, filter, drop, length, get_or, Vec}
+use Rattle.std.specs.Prelude.{◌≡◌, ◌<◌, ℕ, cond, nat_eq, List, [], ◌∷◌, ◌++◌, map, filter, drop, length, get_or, Vec}
 use Rattle.std.specs.Global.{Global}
 use Rattle.cst_core.specs.Path.{Path}
 use Rattle.cst_core.specs.Tree.{relabelled}
@@ -39,24 +38,17 @@ with_answer trees c ts n = cond (nat_eq n c) ts (trees n)
 
 -- ---- dealt out
 abbrev pub paths_of_mark : ℕ → List Marking → List Path
-paths_of_mark n ms = map (λ m. drop 1 m.1) (filter (λ m. nat_eq n m.0) ms)
+paths_of_mark n ms = map (λ m. m.1) (filter (λ m. nat_eq n m.0) ms)
 
 -- ---- lists of paths, for one number after another
 abbrev pub ArePathsOf : List Marking → ℕ → List (Vec (Vec ℕ Global) Global) → Type 0
 ArePathsOf ms count lists =
     (k : ℕ) (d : Vec (Vec ℕ Global) Global) → k < count → paths_of (get_or lists k d).items ≡ paths_of_mark k ms
 
-module _ (before after : List (Vec (Vec ℕ Global) Global)) where
-  abbrev pub HasPathMore : ℕ → Vec ℕ Global → Type 0
-  HasPathMore n p = (d : Vec (Vec ℕ Global) Global) → (get_or after n d).items ≡ (get_or before n d).items ++ p ∷ []
-
-  abbrev pub PathsStay : ℕ → Type 0
-  PathsStay n = (k : ℕ) (d : Vec (Vec ℕ Global) Global) → k ≢ n → (get_or after k d).items ≡ (get_or before k d).items
-
-  abbrev pub IsDealtOut : Mark → Type 0
-  IsDealtOut m =
-      (k : ℕ) (d : Vec (Vec ℕ Global) Global) → k < length before →
-      paths_of (get_or after k d).items ≡ paths_of (get_or before k d).items ++ paths_of_mark k (mark_of m ∷ [])
+abbrev pub IsDealtOut : List (Vec (Vec ℕ Global) Global) → List (Vec (Vec ℕ Global) Global) → Mark → Type 0
+IsDealtOut before after m =
+    (k : ℕ) (d : Vec (Vec ℕ Global) Global) → k < length before →
+    paths_of (get_or after k d).items ≡ paths_of (get_or before k d).items ++ paths_of_mark k (mark_of m ∷ [])
 
 abbrev pub HasPathsMore : ℕ → Vec (Vec ℕ Global) Global → Vec (Vec ℕ Global) Global → Mark → Type 0
 HasPathsMore n before after m = paths_of after.items ≡ paths_of before.items ++ paths_of_mark n (mark_of m ∷ [])

@@ -33,7 +33,7 @@ use Rattle.edit_change.specs.Rewriting.{rewritten}
 use Rattle.edit_change.specs.declared.aimed.Aimed.{Aimed}
 use Rattle.edit_change.specs.inner.Aimed.{FormedAim, of_formed}
 use Rattle.edit_change.specs.inner.KindOnly.{kind_only}
-use Rattle.one_pass.specs.declared.marked_given.GivenTable.{GivenTable}
+use Rattle.one_pass.specs.declared.marked_element.GivenTable.{GivenTable}
 use Rattle.one_pass.specs.declared.open_node.OpenNode.{OpenNode}
 use Rattle.one_pass.specs.declared.walk.Walk.{Walk}
 use Rattle.one_pass.specs.inner.Built.{nodes_built}

@@ -3,13 +3,13 @@
 --     as_registered                 one in code, by its number and its address
 --     place_of, AreInOrder          the number of its tree, and then its path; these are one after another
 --     begins_with, within           a path begins with another one; those at an address or below it
---     sought_at, sought_at_all      their marks, with the paths from there; at these elements, one after another
+--     sought_at                     their marks, with the paths from there
 --     below                         the address at a path below another one
 --     IsTableOf                     those in code have below each address what is registered there
-use Rattle.std.specs.Prelude.{◌≡◌, ℕ, Bool, List, ◌∷◌, ◌++◌, map, filter, flat_map, take, drop, length}
+use Rattle.std.specs.Prelude.{◌≡◌, ℕ, Bool, List, ◌∷◌, ◌++◌, map, filter, take, drop, length}
 use Rattle.std.specs.List.{enumerate_from}
 use Rattle.cst_core.specs.Path.{Path, same_path}
-use Rattle.cst_core.specs.Element.{Address, Element, address, same_address}
+use Rattle.cst_core.specs.Element.{Address, address, same_address}
 use Rattle.cst_core.specs.inner.InTree.{address_path}
 use Rattle.cst_core.specs.SyntaxElement.{element_of}
 use Rattle.cst_core.specs.declared.element.SyntaxElement.{SyntaxElement}
@@ -41,9 +41,6 @@ within xs a = filter (λ r. begins_with (address_path a) (place_of r)) xs
 
 abbrev pub sought_at : List Registered → Address → List Marking
 sought_at xs a = map (λ r. (r.mark.number, drop (length a.path) r.mark.path.now)) (within xs a)
-
-abbrev pub sought_at_all : List Registered → List Element → List Marking
-sought_at_all xs es = flat_map (λ e. sought_at xs (address e)) es
 
 abbrev pub below : Address → Path → Address
 below a p = record { number = a.number; path = a.path ++ p }

@@ -15,7 +15,7 @@ use Rattle.edit_change.specs.declared.planned.Planned.{Planned}
 use Rattle.edit_change.specs.inner.OwnerPlaces.{places_in}
 use Rattle.one_pass.specs.TextEdits.{TextPiece, as_piece, number_token, altering_pieces, text_pieces}
 use Rattle.one_pass.specs.inner.Pass.{AreMarkedIn, given_in}
-use Rattle.one_pass.specs.declared.marked_given.GivenTable.{GivenTable}
+use Rattle.one_pass.specs.declared.marked_element.GivenTable.{GivenTable}
 use Rattle.one_pass.specs.declared.text_edit.TextEdit.{TextEdit}
 
 abbrev pub in_order_of : List Change → List NumberedAim → SyntaxTree → List ℕ

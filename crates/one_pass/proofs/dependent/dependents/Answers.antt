@@ -1,13 +1,14 @@
-use Rattle.std.proofs.Common.{◌≡◌, ◌+◌, ◌∙◌, ℕ, map, length, Some, ap, sym, subst}
+use Rattle.std.proofs.Common.{◌≡◌, ◌+◌, ◌∙◌, ℕ, map, length, Some, arith, ap, sym, subst}
+use Rattle.std.proofs.Math.ListN.{length-set}
 use Rattle.edit_change.specs.ChangeAim.{aim, aim_path}
 use Rattle.edit_change.specs.inner.OwnerPlaces.{places_in}
 use Rattle.one_pass.specs.inner.OwnerTables.{moved_dependent, dependents_in}
 use Rattle.edit_change.specs.NewTree.{moved_aim}
-use Rattle.one_pass.proofs.Dependents.{dependents-to, dependents-whole, none-at, one-entered}
+use Rattle.one_pass.proofs.Dependents.{entered-here, entered-elsewhere, dependents-to, dependents-whole, none-at, one-entered}
 use Rattle.edit_change.proofs.MovedAims.{change-at, owner-is, owned-is-inside}
 use Rattle.one_pass.proofs.EmptyLists.{empty-at}
 use Rattle.one_pass.proofs.dependent.dependents.Goals as goal
-use Rattle.one_pass.proofs.dependent.dependents.Goals.{in-Some+in_ok-dependent+in_ok-push_dependent, in_default}
+use Rattle.one_pass.proofs.dependent.dependents.Goals.{in-Some+in_ok-dependent+in_ok-push, in_default}
 
 pub dependent_of-requires-clause-inside : goal.dependent_of-requires-clause-inside
 dependent_of-requires-clause-inside c =
@@ -27,7 +28,7 @@ loop-number-preserved c =
     let n = c.loop-number.number in
     let places = places_in c.args.places.now in
     elim c.match-owner_of.branch [
-      | in-Some+in_ok-dependent+in_ok-push_dependent w ↦
+      | in-Some+in_ok-dependent+in_ok-push w ↦
           let o = w.in-Some.owner in
           let d = w.index-changes-number.result in
           let r = w.index-changes-owner.result in
@@ -35,8 +36,8 @@ loop-number-preserved c =
           let by = owner-is cs n d (Some o) (change-at cs n d c.loop-number-test.true w.index-changes-number.is) w.in-Some.ensures.owner in
           let moves : moved_dependent w.in_ok-dependent.dependent ≡ (n, moved_aim (aim_path r) (places o) (aim d)) = w.in_ok-dependent.ensures ∙ ap (λ p. (n, moved_aim (aim_path r) p (aim d))) w.place_at.ensures in
           record {
-            long = ap (λ t. length t.items) w.table-is ∙ w.in_ok-push_dependent.ensures.long ∙ c.loop-number.invariant.long;
-            entered = subst (λ t. (k : ℕ) → dependents_in t.items k ≡ dependents-to cs places (n + 1) k) (sym w.table-is) (one-entered cs places n d c.loop-number-test.true w.index-changes-number.is o r w.in_ok-dependent.dependent c.loop-number.table.items w.push_dependent.new.table.items by at_o moves w.in_ok-push_dependent.ensures.here w.in_ok-push_dependent.ensures.elsewhere c.loop-number.invariant.entered);
+            long = ap (λ t. length t.items) w.table-is ∙ length-set c.loop-number.table.items o _ ∙ c.loop-number.invariant.long;
+            entered = subst (λ t. (k : ℕ) → dependents_in t.items k ≡ dependents-to cs places (n + 1) k) (sym w.table-is) (one-entered cs places n d c.loop-number-test.true w.index-changes-number.is o r w.in_ok-dependent.dependent c.loop-number.table.items _ by at_o moves (entered-here c.loop-number.table.items o w.index_mut.result.now _ w.in_ok-dependent.dependent (omega (arith, w.in-Some.ensures.there, c.loop-number.invariant.long)) w.index_mut.ensures.value w.in_ok-push.ensures.items) (entered-elsewhere c.loop-number.table.items o _) c.loop-number.invariant.entered);
           }
       | in_default w ↦ record {
         long = ap (λ t. length t.items) w.table-is ∙ c.loop-number.invariant.long;

@@ -1,9 +1,9 @@
-use Rattle.std.proofs.Common.{◌≡◌, ◌+◌, ℕ, ◌∷◌, [], ◌++◌, map, take, length, ap, ap₂, arith, sym, subst, ◌∙◌}
-use Rattle.std.proofs.lemmas.List.{map-append, map-id, length-map}
+use Rattle.std.proofs.Common.{◌≡◌, ◌+◌, ℕ, ◌∷◌, [], ◌++◌, map, take, None, ap, ap₂, arith, sym, subst, ◌∙◌}
+use Rattle.std.proofs.lemmas.List.{map-append, map-id}
 use Rattle.std.specs.Prelude.{All}
 use Rattle.std.proofs.lemmas.List.Sums.{sum_by_push}
 use Rattle.cst_core.specs.Element.{subtree}
-use Rattle.cst_core.specs.GreenElement.{element_tree, element_trees}
+use Rattle.cst_core.specs.GreenElement.{element_tree}
 use Rattle.cst_core.specs.SyntaxElement.{element_of}
 use Rattle.edit_change.specs.Rewriting.{rewritten}
 use Rattle.edit_change.specs.Effort.{touched, parents_of}
@@ -11,21 +11,21 @@ use Rattle.one_pass.specs.inner.Built.{AreBuilt}
 use Rattle.edit_change.specs.inner.Aimed.{aims_of}
 use Rattle.one_pass.specs.inner.Marked.{marked, mark_below, marks_of}
 use Rattle.edit_change.specs.inner.KindOnly.{kind_only}
-use Rattle.one_pass.specs.inner.Pass.{given_in}
-use Rattle.one_pass.specs.inner.GivenTables.{CountsElement}
-use Rattle.one_pass.specs.inner.Marks.{element_sought, payload_sought}
+use Rattle.one_pass.specs.inner.Pass.{given_in, marks_there}
+use Rattle.one_pass.specs.inner.GivenTables.{each_rewritten, CountsElement, AreMarkedEach}
+use Rattle.one_pass.specs.inner.Marks.{element_sought}
 use Rattle.edit_change.specs.TouchedNodes.{touched_each}
+use Rattle.one_pass.specs.declared.marked_element.MarkedElement.{MarkedElement}
 use Rattle.one_pass.proofs.Counting.{raises-none, raises-both, raises-weaker, raises-same, one-of}
 use Rattle.edit_change.proofs.Positions.{push-of-take}
 use Rattle.edit_change.proofs.Independents.{take-whole}
-use Rattle.one_pass.proofs.MarksFilled.{listed}
 use Rattle.one_pass.proofs.given_table.rewritten_each.Goals as goal
 
 pub loop-element-init : goal.loop-element-init
 loop-element-init c = record {
   count = raises-none (All (λ x. AreBuilt (aims_of c.args.aims.now) (subtree x)) (map element_of c.args.elements.now)) c.args.builds.now (omega arith);
-  trees = ap element_trees c.in_ok-greens.ensures.items;
-  marks = λ trees are. ap (map (λ v. marks_of v.items)) c.new-marks.ensures.items;
+  trees = ap (map (λ (e : MarkedElement). element_tree e.element)) c.in_ok-rewritten.ensures.items;
+  marks = λ trees are. sym (ap (map (marks_there None)) c.in_ok-rewritten.ensures.items);
 }
 
 pub loop-element-preserved : goal.loop-element-preserved
@@ -43,14 +43,15 @@ loop-element-preserved c =
     let own : ℕ = touched (subtree (element_of e)) (parents_of cs) in
     let sum : touched_each cs (map element_of (take (i + 1) es)) ≡ done + own = ap (touched_each cs) elements ∙ sum_by_push (λ x. touched (subtree x) (parents_of cs)) (map element_of (take i es)) (element_of e) in
     let raised = subst (λ n. CountsElement c.args.aims.now e n c.rewritten_element.new.walk.builds) c.begin-walk.ensures.builds c.in_ok-green.ensures.count in
+    let before = c.loop-element.rewritten.items in
     record {
       count = raises-same P (done + own) _ _ _ (sym sum) (raises-both P done own _ c.loop-element.builds _ c.loop-element.invariant.count (raises-weaker (AreBuilt cs (subtree (element_of e))) P own _ _ (one-of (λ x. AreBuilt cs (subtree x)) es i e c.loop-element-test.true c.element-item.is) raised));
-      trees = ap element_trees c.in_ok-push.ensures.items ∙ map-append element_tree c.loop-element.greens.items (c.in_ok-green.green ∷ []) ∙ ap₂ (λ ts t. ts ++ t ∷ []) c.loop-element.invariant.trees c.in_ok-green.ensures.tree ∙ sym (ap (λ xs. map f (map subtree xs)) elements ∙ ap (map f) (map-append subtree (map element_of (take i es)) (element_of e ∷ [])) ∙ map-append f (map subtree (map element_of (take i es))) (subtree (element_of e) ∷ []));
+      trees = ap (map (λ (x : MarkedElement). element_tree x.element)) c.in_ok-push.ensures.items ∙ map-append (λ (x : MarkedElement). element_tree x.element) before (_ ∷ []) ∙ ap₂ (λ ts t. ts ++ t ∷ []) c.loop-element.invariant.trees c.in_ok-green.ensures.tree ∙ sym (ap (λ xs. map f (map subtree xs)) elements ∙ ap (map f) (map-append subtree (map element_of (take i es)) (element_of e ∷ [])) ∙ map-append f (map subtree (map element_of (take i es))) (subtree (element_of e) ∷ []));
       marks = λ trees are.
           let g = element_sought index trees cs in
           let shown = marked (g (element_of e)) in
           let own = c.in_ok-green.ensures.marks trees are ∙ ap₂ (λ ms p. marks_of ms ++ map (mark_below p) shown) c.begin-walk.ensures.found c.begin-walk.ensures.path ∙ map-id shown in
-          ap (map (λ v. marks_of v.items)) c.in_ok-push-2.ensures.items ∙ map-append (λ v. marks_of v.items) c.loop-element.marks.items (_ ∷ []) ∙ ap₂ (λ xs x. xs ++ x ∷ []) (c.loop-element.invariant.marks trees are) own ∙ sym (ap (λ xs. map marked (map g xs)) elements ∙ ap (map marked) (map-append g (map element_of (take i es)) (element_of e ∷ [])) ∙ map-append marked (map g (map element_of (take i es))) (g (element_of e) ∷ []));
+          ap (λ xs. map marked (map g xs)) elements ∙ ap (map marked) (map-append g (map element_of (take i es)) (element_of e ∷ [])) ∙ map-append marked (map g (map element_of (take i es))) (g (element_of e) ∷ []) ∙ ap₂ (λ xs x. xs ++ x ∷ []) (c.loop-element.invariant.marks trees are) (sym own) ∙ sym (ap (map (marks_there None)) c.in_ok-push.ensures.items ∙ map-append (marks_there None) before (_ ∷ []));
     }
 
 pub returns-clause-count : goal.returns-clause-count
@@ -62,13 +63,9 @@ returns-clause-count c =
 pub returns-clause-trees : goal.returns-clause-trees
 returns-clause-trees c =
     let whole = take-whole c.loop-element.element-index c.args.elements.now c.loop-element-test.false in
-    c.loop-element.invariant.trees ∙ ap (λ es. map (rewritten kind_only (given_in c.args.given.now) (aims_of c.args.aims.now) []) (map subtree (map element_of es))) whole
+    c.loop-element.invariant.trees ∙ ap (λ es. each_rewritten c.args.given.now (aims_of c.args.aims.now) (map element_of es)) whole
 
 pub returns-clause-marks : goal.returns-clause-marks
-returns-clause-marks c = λ trees are.
+returns-clause-marks c =
     let whole = take-whole c.loop-element.element-index c.args.elements.now c.loop-element-test.false in
-    let es = map element_of c.args.elements.now in
-    let f = rewritten kind_only (given_in c.args.given.now) (aims_of c.args.aims.now) [] in
-    let g = element_sought c.args.registered.now trees (aims_of c.args.aims.now) in
-    let made : element_trees c.loop-element.greens.items ≡ map f (map subtree es) = c.loop-element.invariant.trees ∙ ap (λ xs. map f (map subtree (map element_of xs))) whole in
-    listed _ (payload_sought c.args.registered.now trees (aims_of c.args.aims.now) es) (length-map es g ∙ sym (ap length made ∙ length-map (map subtree es) f ∙ length-map es subtree)) (c.loop-element.invariant.marks trees are ∙ ap (λ xs. map marked (map g (map element_of xs))) whole)
+    subst (λ es. AreMarkedEach c.args.given.now c.args.registered.now (aims_of c.args.aims.now) (map element_of es) c.loop-element.rewritten.items) whole c.loop-element.invariant.marks

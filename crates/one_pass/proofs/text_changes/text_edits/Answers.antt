@@ -17,6 +17,6 @@ returns c =
     let table = c.in_ok-given.given in
     let are : AreDependents changes places c.deref.result.now = subst (AreDependents changes places) (sym c.deref.ensures.value) c.in_ok-dependents.ensures.dependents in
     let aims = ap aims_of c.deref-2.ensures.value ∙ c.in_ok-aims.ensures in
-    let order = c.deref-3.ensures.value ∙ c.in_ok-order.ensures ∙ ap (λ cs. in_order_of changes cs (subtree root)) aims in
+    let order = c.deref-3.ensures.value ∙ c.in_ok-numbers.ensures ∙ ap (λ cs. in_order_of changes cs (subtree root)) aims in
     let is = ap (flat_map (pieces_by root changes table)) order ∙ pieces-given root changes places table (c.in_ok-given.ensures.given places are) in
     if_ok-map _ _ c.edits_in_order.result (λ v h. h ∙ is) c.edits_in_order.ensures
