@@ -27,7 +27,7 @@ ROW = re.compile(r"--     (\S.*?)(?:\s{2,}(\S.*)|$)")
 # Crates and their public calls.
 
 # The crates that users name. They re-export some names of others; what those have besides is below the surface.
-SURFACE = ["cst_core", "edit_map", "edit_plan", "syntax_editor", "list_removal", "text_edit", "tree_text", "script_lines", "syned_script"]
+SURFACE = ["cst_core", "edit_map", "text_edit", "edit_plan", "syntax_editor", "list_removal", "tree_text", "script_lines", "syned_script"]
 SURFACE += ["syned_run"]
 
 ITEM = re.compile(

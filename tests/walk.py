@@ -19,8 +19,8 @@ WALKS = {"SyntaxEditor::finish": (173, 67), "EditRun::step": (52, 43)}
 BELOW = {"green_tree", "cst_core"}
 ENGINES = {"E": "OnePassEngine"}
 LIBRARIES = [
-    "green_tree", "cst_core", "path_table", "edit_map", "edit_change", "one_pass", "annotations", "edit_steps", "edit_plan", "change_list",
-    "whitespace", "syntax_editor", "list_removal",
+    "green_tree", "cst_core", "path_table", "edit_map", "edit_change", "text_edit", "one_pass", "annotations", "edit_steps", "edit_plan",
+    "change_list", "whitespace", "syntax_editor", "list_removal",
 ]
 # What a type of std gives that is asked: `0` for its first parameter, `self` for itself.
 LISTS = {"Vec", "["}

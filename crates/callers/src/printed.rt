@@ -3,11 +3,11 @@
 use anyhow::Result;
 use cst_core::TreeIds;
 use std::alloc::Global;
-use syntax_editor::{EditPlan, OnePassEngine, TextEdit};
+use syntax_editor::{EditPlan, OnePassEngine, TextEdits};
 
 // A line for each edit: the bytes of the old text from here to there, and what stands there then.
-fn print_edits(out: &mut String, edits: &[TextEdit]) -> Result<()> {
-    for edit in edits {
+fn print_edits(out: &mut String, edits: &TextEdits) -> Result<()> {
+    for edit in edits.as_slice() {
         write!(out, "\n{}..{} {:?}", edit.start, edit.end, edit.text)?;
     }
     Ok(())

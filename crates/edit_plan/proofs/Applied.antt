@@ -20,8 +20,8 @@ use Rattle.cst_core.specs.Tree.{Tree, Token, Node, forest, tokens, forest_tokens
 use Rattle.cst_core.specs.Element.{Element}
 use Rattle.edit_change.specs.declared.change.Change.{Change}
 use Rattle.edit_change.proofs.Paths.{same_path-true}
-use Rattle.one_pass.specs.TextEdits.{TextPiece, offset, old_text, number_token, text_piece, altering_pieces, applied_from}
-use Rattle.edit_plan.specs.PlanTextEdits.{AreApart}
+use Rattle.text_edit.specs.TextPiece.{TextPiece, AreApart, applied_from}
+use Rattle.one_pass.specs.TextEdits.{offset, old_text, number_token, text_piece, altering_pieces}
 
 abbrev pub StartsFrom : ℕ → List TextPiece → Type 0
 StartsFrom n [] = Unit {0}

@@ -1,6 +1,7 @@
 mod Applied
 mod Ranges
 mod MadeByChanges
+mod EditsOfPlan
 mod TwoPlaces
 mod AllBuilt
 mod AllTouched

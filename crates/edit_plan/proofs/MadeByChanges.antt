@@ -38,7 +38,8 @@ use Rattle.edit_change.proofs.MovedAims.{fit_at}
 use Rattle.edit_change.proofs.Paths.{same_path-true, same_path_from}
 use Rattle.edit_change.proofs.RootAlone.{root-alone}
 use Rattle.edit_change.proofs.WayOfRegions.{up_to-push}
-use Rattle.one_pass.specs.TextEdits.{TextPiece, offset, old_text, number_token, in_text_order}
+use Rattle.text_edit.specs.TextPiece.{TextPiece}
+use Rattle.one_pass.specs.TextEdits.{offset, old_text, number_token, in_text_order}
 use Rattle.edit_plan.proofs.Applied.{Made, made-none, made-seq, made-change, made-inserts, InsertsHere, does, pieces_of, pieces-append, pieces-numbers, pieces-node}
 use Rattle.edit_plan.proofs.Ranges.{Free, FreeAim, frees, only-path, any-of, none-of, side_by_side, has-range, range-has, Run, run-of, native_some, one-change, replaced-target, run-starts, starts-run, alone-at, replaced-by, parent-and-slot, dropped-inside}
 use Rattle.edit_change.proofs.AimsApart.{starts, start_in_targets}

@@ -23,4 +23,9 @@ pub mod PlanTextEdits
 pub mod ExecuteRefusal
 pub use Rattle.edit_change.specs.RewritingLaws
 pub use Rattle.one_pass.specs.TextEdits
+pub use Rattle.text_edit.specs.TextPiece
+pub use Rattle.text_edit.specs.ApplyRefusal
+pub use Rattle.text_edit.specs.Composition
+pub use Rattle.text_edit.specs.Inverse
+pub use Rattle.text_edit.specs.Trimmed
 pub mod inner

@@ -23,9 +23,9 @@ ghost use Rattle.edit_change.specs.Places.{HasPlace, elements_held};
 ghost use Rattle.edit_steps.specs.Schedule.{IsAllowed, index_in, is_ready};
 ghost use Rattle.edit_change.specs.RewritingLaws.{StandsThere, IsUntouched, is_at_depth, changed_text};
 ghost use Rattle.edit_plan.specs.Plan.{with_changes};
-ghost use Rattle.one_pass.specs.TextEdits.{as_piece, applied};
-ghost use Rattle.one_pass.specs.declared.text_edit.TextEdit.{TextEdit};
-ghost use Rattle.edit_plan.specs.PlanTextEdits.{AreTextEdits, AreApart};
+ghost use Rattle.text_edit.specs.TextPiece.{as_piece, AreApart, applied};
+ghost use Rattle.text_edit.specs.declared.text_edit.TextEdit.{TextEdit};
+ghost use Rattle.edit_plan.specs.PlanTextEdits.{AreTextEdits};
 
 use edit_map::laws::{pairs_rise, place_is_unique, place_keeps_the_shape};
 

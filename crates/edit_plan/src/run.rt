@@ -1,13 +1,15 @@
 //! What finishing an edit does, in the order in which it happens.
 
-ghost use Rattle.std.specs.Prelude.{◌≡◌, ◌+◌, ◌<◌, map, length, All, Some, true, IfOk, IfErr, OnOk, OnErr};
+ghost use Rattle.std.specs.Prelude.{◌≡◌, ◌+◌, ◌<◌, List, map, length, All, Some, true, IfOk, IfErr, OnOk, OnErr};
 ghost use Rattle.cst_core.specs.Green.{branch_tree, length_limit};
-ghost use Rattle.cst_core.specs.Tree.{text_length};
-ghost use Rattle.cst_core.specs.Element.{IsElement, element_at};
+ghost use Rattle.cst_core.specs.Tree.{text, text_length};
+ghost use Rattle.cst_core.specs.Element.{IsElement, element_at, subtree};
 ghost use Rattle.cst_core.specs.SyntaxElement.{syntax_at};
 ghost use Rattle.edit_change.specs.Topmost.{paths_of};
 ghost use Rattle.edit_plan.specs.Plan.{Makes, RunRefuses};
 ghost use Rattle.edit_plan.specs.Engine.{HasRewritten, EngineRefuses, RanBefore, CountsTouched};
+ghost use Rattle.text_edit.specs.TextPiece.{pieces, AreApart};
+ghost use Rattle.text_edit.specs.declared.text_edit.TextEdit.{TextEdit};
 ghost use Rattle.edit_plan.specs.PlanTextEdits.{AreTextEdits};
 ghost use Rattle.edit_plan.specs.inner.PlanRun.{IsOfRoot, IsPlanned};
 
@@ -20,8 +22,9 @@ use crate::rewritten::Rewritten;
 use annotations::{annotated_paths, elements_by_annotation, registered_copies};
 use cst_core::{LENGTH_LIMIT, SyntaxElement, SyntaxNode, TreeIds};
 use edit_change::{Planned, trial_source};
-use one_pass::{OnePass, TextEdit, rewrite, text_edits};
+use one_pass::{OnePass, rewrite, text_edits};
 use std::alloc::{AllocError, Global};
+use text_edit::{TextEdit, TextEdits};
 
 impl EditPlan {
     /// Carries the plan out by an engine: the new tree under the next number of `ids`, and its changed elements.
@@ -105,13 +108,16 @@ impl EditPlan {
     /// are replaced and brought, and for each change the children before its way. See docs/CALLING.md, 'Text edits'.
     ///
     /// ```text
-    /// for edit in plan.text_edits(alloc)?.iter() { send(edit.start, edit.end, &edit.text); }
+    /// for edit in plan.text_edits(alloc)?.as_slice() { send(edit.start, edit.end, &edit.text); }
     /// ```
-    pub fn text_edits(&self, alloc: Global) -> Result<Vec<TextEdit>, AllocError>
-        ensures { IfOk result (λ v. AreTextEdits self.now v.items) }
+    pub fn text_edits(&self, alloc: Global) -> Result<TextEdits, AllocError>
+        ensures edits { IfOk result
+            (λ v. (edits : List TextEdit) → pieces edits ≡ v → AreTextEdits self.now edits) }
+        ensures apart { IfOk result (λ v. AreApart 0 v (length (text (subtree self.now.root)))) }
     {
         self.agree_on_places();
-        text_edits(alloc, self.planned())
+        let edits = text_edits(alloc, self.planned())?;
+        Ok(one_list(edits, self.root.text_len()))
     }
 
     // What an engine is told of the plan.
@@ -151,6 +157,17 @@ impl EditPlan {
             changed,
             annotated,
         })
+    }
+}
+
+// Edits that are in order and apart in a text of this length, as one list.
+fn one_list(edits: Vec<TextEdit>, len: u64) -> TextEdits
+    requires { AreApart 0 (pieces edits.items) len }
+    ensures { result ≡ pieces edits.items }
+{
+    match TextEdits::new(edits, len) {
+        Ok(edits) => edits,
+        Err(_) => unreachable!(),
     }
 }
 

@@ -1,8 +1,6 @@
 -- What a set of changes does to the text of the old tree, piece by piece.
 -- An editor of texts that does so has the text of the new tree. Offsets are in bytes of the old text.
 --
---     TextPiece, as_piece           A text that stands in the place of what is from `first` up to `stop` in the old text; a `TextEdit` of
---                                   code as one.
 --     in_text_order                 The changes without an owner, from left to right: the numbers in the tree that is rewritten with
 --                                   `number_token` in the place of what each change gives.
 --     number_token                  A change stands as one token, whose label is its number.
@@ -12,8 +10,7 @@
 --     text_piece                    What a change does: from `offset` on, the new text stands in the place of `old_text`.
 --     altering_pieces               That, if the two texts differ, and else nothing.
 --     text_pieces                   Those of all changes in `in_text_order`. The new text of each is that of what it gives (`given`).
---     applied_from, applied         The text that pieces make of an old text, of which the first `gone` bytes are gone; of a whole one.
-use Rattle.std.specs.Prelude.{ℕ, ◌+◌, ◌-◌, cond, List, [], ◌∷◌, ◌++◌, length, take, drop, flat_map, slice_get, string_bytes}
+use Rattle.std.specs.Prelude.{ℕ, ◌+◌, cond, List, [], ◌∷◌, length, flat_map, slice_get}
 use Rattle.std.specs.Option.{option_map_or}
 use Rattle.cst_core.specs.Path.{Path, same_path}
 use Rattle.cst_core.specs.Tree.{Tree, Token, text, tokens}
@@ -28,15 +25,7 @@ use Rattle.edit_change.specs.Change.{targets}
 use Rattle.edit_change.specs.ChangeAim.{aim_path}
 use Rattle.edit_change.specs.Rewriting.{rewritten_whole}
 use Rattle.edit_change.specs.NewTree.{independents, given}
-use Rattle.one_pass.specs.declared.text_edit.TextEdit.{TextEdit}
-
-pub record TextPiece : Type 0 where
-  pub first : ℕ
-  pub stop : ℕ
-  pub text : List ℕ
-
-abbrev pub as_piece : TextEdit → TextPiece
-as_piece e = record { first = e.start; stop = e.end; text = string_bytes e.text }
+use Rattle.text_edit.specs.TextPiece.{TextPiece}
 
 abbrev gap_offset : Element → PositionForm → ℕ
 gap_offset root (FirstChild n) = start root.root n.path
@@ -66,10 +55,3 @@ module _ (root : Element) where
 
   abbrev pub text_pieces : List Change → (ℕ → Path) → List TextPiece
   text_pieces changes places = flat_map (λ n. option_map_or (altering_pieces (flat_map text (given changes places n))) (slice_get changes n) []) (in_text_order changes)
-
-abbrev pub applied_from : ℕ → List TextPiece → List ℕ → List ℕ
-applied_from gone [] s = s
-applied_from gone (e ∷ es) s = take (e.first - gone) s ++ e.text ++ applied_from e.stop es (drop (e.stop - gone) s)
-
-abbrev pub applied : List TextPiece → List ℕ → List ℕ
-applied es s = applied_from 0 es s

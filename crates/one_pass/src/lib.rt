@@ -17,9 +17,7 @@ mod rewriting;
 mod site;
 mod sought;
 mod text_changes;
-mod text_edit;
 mod walk;
 
 pub use rewriting::{OnePass, rewrite};
 pub use text_changes::text_edits;
-pub use text_edit::TextEdit;

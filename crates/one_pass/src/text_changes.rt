@@ -11,7 +11,8 @@ ghost use Rattle.edit_change.specs.Nesting.{first_clash};
 ghost use Rattle.edit_change.specs.inner.Aimed.{aims_of};
 ghost use Rattle.edit_change.specs.inner.Fate.{fate};
 ghost use Rattle.edit_change.specs.inner.DocumentOrder.{IsDocumentOrder};
-ghost use Rattle.one_pass.specs.TextEdits.{as_piece, offset, old_text};
+ghost use Rattle.text_edit.specs.TextPiece.{as_piece};
+ghost use Rattle.one_pass.specs.TextEdits.{offset, old_text};
 ghost use Rattle.one_pass.specs.inner.Pass.{given_in};
 ghost use Rattle.one_pass.specs.inner.Root.{IsAlone};
 ghost use Rattle.one_pass.specs.inner.TextOrder.{pieces_by, PushesPiece, AreMarkedByNumber, in_order_of, AreEditsOf};
@@ -21,11 +22,11 @@ use crate::given_table::given_table;
 use crate::mark::Mark;
 use crate::marked_element::{GivenTable, MarkedElement};
 use crate::rewriting::{independent_aims, rewritten_root, sole_replacement};
-use crate::text_edit::TextEdit;
 use crate::walk::Walk;
 use cst_core::{GreenElement, GreenNode, SyntaxElement, SyntaxNode};
 use edit_change::{Aimed, Change, Planned, aim_path, slot_after};
 use std::alloc::{AllocError, Global};
+use text_edit::TextEdit;
 
 // The text of the element that a path of the whole tree leads to; nothing where it leads nowhere.
 fn push_text_at(

@@ -2,7 +2,7 @@
 
 use cst_core::SyntaxNode;
 use std::alloc::{AllocError, Global};
-use syntax_editor::{Change, EditPlan, TextEdit};
+use syntax_editor::{ApplyError, Change, EditPlan, TextEdits};
 use test_trees::push_quoted;
 
 /// The plan's text, each change as a plain text, and the text edits with what they make.
@@ -43,10 +43,10 @@ fn push_line(out: &mut String, text: &str) -> Result<(), AllocError> {
 fn push_text_edits(
     alloc: Global,
     out: &mut String,
-    edits: &[TextEdit],
+    edits: &TextEdits,
     old: &SyntaxNode,
 ) -> Result<(), AllocError> {
-    for edit in edits {
+    for edit in edits.as_slice() {
         write!(out, "cut {} {} ", edit.start, edit.end)?;
         push_line(out, &edit.text)?;
     }
@@ -56,15 +56,11 @@ fn push_text_edits(
     push_line(out, &made)
 }
 
-// What edits make of a text; `?` stands for what they leave where that is no part of it.
-fn made_of(alloc: Global, old: &str, edits: &[TextEdit]) -> Result<String, AllocError> {
-    let mut made = String::new(alloc);
-    let mut end = 0;
-    for edit in edits {
-        made.push_str(old.get(end..edit.start as usize).unwrap_or("?"))?;
-        made.push_str(&edit.text)?;
-        end = edit.end as usize;
+// What edits make of a text; `?` where they do not fit it.
+fn made_of(alloc: Global, old: &str, edits: &TextEdits) -> Result<String, AllocError> {
+    match edits.apply(alloc, old) {
+        Ok(made) => Ok(made),
+        Err(ApplyError::Memory) => Err(AllocError),
+        Err(_) => String::from_str(alloc, "?"),
     }
-    made.push_str(old.get(end..).unwrap_or("?"))?;
-    Ok(made)
 }

@@ -23,9 +23,9 @@ pub use ast_node_edit::AstNodeEdit;
 pub use attrs_owner_edit::AttrsOwnerEdit;
 pub use edit_map::{MapError, SyntaxMapping, SyntaxMappingBuilder};
 pub use edit_plan::{
-    Annotations, Change, EditEngine, EditError, EditPlan, EditRun, Element, ElementList,
-    EngineError, ExecuteError, OnePassEngine, Position, Rewritten, SpliceEngine, SyntaxAnnotation,
-    SyntaxEdit, TextEdit,
+    Annotations, ApplyError, Change, ComposeError, EditEngine, EditError, EditPlan, EditRun,
+    Element, ElementList, EngineError, ExecuteError, OnePassEngine, Position, Rewritten,
+    SpliceEngine, SyntaxAnnotation, SyntaxEdit, TextEdit, TextEdits,
 };
 pub use editor::SyntaxEditor;
 pub use error::{MergeError, RecordError};

@@ -66,7 +66,7 @@ fn of_plan(plan: &EditPlan, name: &str, out: &mut Answer) -> Done {
 fn text_edits(s: &mut Session, out: &mut Answer) -> Done {
     let edits = out.asked(last(&mut s.plans)?.text_edits(s.alloc))?;
     out.word("ok");
-    for edit in &edits {
+    for edit in edits.as_slice() {
         say!(out, " {}-{} ", edit.start, edit.end);
         out.quote(&edit.text);
     }

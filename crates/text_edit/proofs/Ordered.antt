@@ -1,5 +1,5 @@
 -- Pieces in order and apart.
-use Rattle.std.proofs.Common.{◌≡◌, ◌+◌, ◌<◌, ◌≤◌, ℕ, List, [], ◌∷◌, ◌++◌, length, take, get_or, ap, sym, subst, arith, add-one}
+use Rattle.std.proofs.Common.{◌≡◌, ◌+◌, ◌<◌, ◌≤◌, ℕ, zero, suc, List, [], ◌∷◌, ◌++◌, length, take, get_or, ap, sym, subst, arith, add-one}
 use Rattle.text_edit.specs.TextPiece.{TextPiece, AreApart}
 use Rattle.text_edit.specs.OrderRefusal.{nothing, piece_at, piece_before, IsFirstAt, OrderRefuses}
 use Rattle.text_edit.specs.inner.Following.{FollowRefuses}
@@ -35,3 +35,26 @@ AreApart-le from (e ∷ es) to apart = let behind : e.stop ≤ to = AreApart-le 
 pub AreApart-before_last : (from : ℕ) (es : List TextPiece) (e : TextPiece) (to : ℕ) → AreApart from (es ++ e ∷ []) to → AreApart from es e.first × (e.first ≤ e.stop) × (e.stop ≤ to)
 AreApart-before_last from [] e to apart = (apart.0, apart.1, apart.2)
 AreApart-before_last from (d ∷ es) e to apart = let rest = AreApart-before_last d.stop es e to apart.2 in ((apart.0, apart.1, rest.0), rest.1, rest.2)
+
+-- ---- what a refusal says
+abbrev IsAfter : ℕ → TextPiece → TextPiece → Type 0
+IsAfter len d e = (d.first ≤ e.first) × (d.stop ≤ e.first) × (e.first ≤ e.stop) × (e.stop ≤ len)
+
+-- each piece of those that are apart, after one that ends where they begin
+is-after : (d : TextPiece) (es : List TextPiece) (len i : ℕ) → d.first ≤ d.stop → AreApart d.stop es len → i < length es → IsAfter len (get_or (d ∷ es) i nothing) (get_or es i nothing)
+is-after d [] len i own apart inside = absurd (omega (arith, inside))
+is-after d (e ∷ es) len zero own apart inside = (omega (arith, own, apart.0), apart.0, apart.1, AreApart-le e.stop es len apart.2)
+is-after d (e ∷ es) len (suc i) own apart inside = is-after e es len i apart.1 apart.2 (omega (arith, inside))
+
+broken : (len : ℕ) (es : List TextPiece) (Breaks : TextPiece → TextPiece → Type 0) (i : ℕ) → ((d e : TextPiece) → IsAfter len d e → Breaks d e → ⊥) → IsFirstAt len es Breaks i → AreApart 0 es len → ⊥
+broken len es Breaks i never first apart =
+    never (piece_before es i) (piece_at es i) (is-after nothing es len i (omega arith) apart first.0) first.2
+
+pub refuses-broken : (len : ℕ) (es : List TextPiece) (x : OrderError) → OrderRefuses len es x → AreApart 0 es len → ⊥
+refuses-broken len es (StartAfterEnd i) = broken len es (λ d e. e.stop < e.first) i (λ d e after breaks. omega (arith, after.2, breaks))
+refuses-broken len es (PastEnd i) =
+    broken len es (λ d e. (e.first ≤ e.stop) × (len < e.stop)) i (λ d e after breaks. omega (arith, after.3, breaks.1))
+refuses-broken len es (OutOfOrder i) =
+    broken len es (λ d e. (e.first ≤ e.stop) × (e.stop ≤ len) × (e.first < d.first)) i (λ d e after breaks. omega (arith, after.0, breaks.2))
+refuses-broken len es (Overlapping i) = broken len es
+    (λ d e. (e.first ≤ e.stop) × (e.stop ≤ len) × (d.first ≤ e.first) × (e.first < d.stop)) i (λ d e after breaks. omega (arith, after.1, breaks.3))

@@ -1,7 +1,7 @@
 //! `TextEdit`: one edit of a text.
 
 /// A text that stands in the place of a part of an old text. An insert is one of an empty part.
-#[derive(Drop)]
+#[derive(Debug, Drop, PartialEq, Eq)]
 pub struct TextEdit {
     /// Where the part starts, in bytes from the start of the old text.
     pub start: u64,

@@ -1,6 +1,6 @@
 //! `TextEdits`: edits of one text, in order and apart.
 
-ghost use Rattle.std.specs.Prelude.{◌≡◌, ◌==◌, ◌↔◌, ◌+◌, ◌<◌, ◌≤◌, ◌^◌, [], length, IsTrue, IfOk, OnOk, IfErr, string_bytes, All};
+ghost use Rattle.std.specs.Prelude.{◌≡◌, ◌==◌, ◌↔◌, ◌+◌, ◌<◌, ◌≤◌, ◌^◌, [], length, IsTrue, IfOk, OnOk, IfErr, OnErr, string_bytes, All};
 ghost use Rattle.std.specs.Slice.Iter.{iter_rest};
 ghost use Rattle.text_edit.specs.TextPiece.{as_piece, pieces, AreApart, FitText, applied};
 ghost use Rattle.text_edit.specs.OrderRefusal.{nothing, piece_before, piece_at, OrderRefuses};
@@ -80,12 +80,14 @@ fn ordered(edits: &[TextEdit], len: u64) -> Result<(), OrderError>
 }
 
 impl TextEdits {
-    /// These edits as one list, for a text of this length in bytes. Where the first edit that breaks the order breaks
-    /// it in more than one way, the error names the first way in the order of `OrderError`.
+    /// These edits as one list, for a text of this length in bytes: refused only if they are not in order and apart.
+    /// Where the first edit that breaks the order breaks it in more than one way, the error names the first way in the
+    /// order of `OrderError`.
     pub fn new(edits: Vec<TextEdit>, len: u64) -> Result<TextEdits, OrderError>
         ensures ok { IfOk result (λ r. r ≡ pieces edits.items) }
         ensures apart { OnOk result (AreApart 0 (pieces edits.items) len) }
         ensures refused { IfErr result (OrderRefuses len (pieces edits.items)) }
+        ensures err { OnErr result (¬ (AreApart 0 (pieces edits.items) len)) }
     {
         ordered(&edits, len)?;
         Ok(TextEdits { edits })

@@ -13,10 +13,11 @@ use Rattle.edit_change.specs.Rewriting.{NumberedAim, rewritten_whole}
 use Rattle.edit_change.specs.declared.change.Change.{Change}
 use Rattle.edit_change.specs.declared.planned.Planned.{Planned}
 use Rattle.edit_change.specs.inner.OwnerPlaces.{places_in}
-use Rattle.one_pass.specs.TextEdits.{TextPiece, as_piece, number_token, altering_pieces, text_pieces}
+use Rattle.text_edit.specs.TextPiece.{TextPiece, as_piece}
+use Rattle.text_edit.specs.declared.text_edit.TextEdit.{TextEdit}
+use Rattle.one_pass.specs.TextEdits.{number_token, altering_pieces, text_pieces}
 use Rattle.one_pass.specs.inner.Pass.{AreMarkedIn, given_in}
 use Rattle.one_pass.specs.declared.marked_element.GivenTable.{GivenTable}
-use Rattle.one_pass.specs.declared.text_edit.TextEdit.{TextEdit}
 
 abbrev pub in_order_of : List Change → List NumberedAim → SyntaxTree → List ℕ
 in_order_of changes cs t = flat_map (λ k. k.0) (flat_map tokens (rewritten_whole (λ p k. []) (number_token changes) cs t))

@@ -1,25 +1,20 @@
 use Rattle.std.specs.Prelude.{ℕ, [], flat_map, None, refl}
-use Rattle.std.proofs.Common.{◌≡◌, ◌+◌, length, arith, ap, ap₂, sym, subst, ◌∙◌}
+use Rattle.std.proofs.Common.{◌≡◌, ap, ap₂, sym, ◌∙◌}
 use Rattle.std.proofs.lemmas.List.{append-nil}
 use Rattle.cst_core.specs.Tree.{text}
 use Rattle.cst_core.specs.Element.{address, subtree}
 use Rattle.edit_change.specs.NewTree.{origin, independents, given, new_tree}
 use Rattle.edit_change.specs.RewritingLaws.{text_filled}
-use Rattle.one_pass.specs.TextEdits.{applied, text_pieces}
+use Rattle.text_edit.specs.TextPiece.{applied}
+use Rattle.one_pass.specs.TextEdits.{text_pieces}
 use Rattle.edit_plan.proofs.Filled.{text-rewritten_whole}
 use Rattle.edit_plan.proofs.Unowned.{text_of_made}
-use Rattle.edit_plan.specs.PlanTextEdits.{AreApart}
 use Rattle.edit_plan.proofs.MadeByChanges.{made-whole}
+use Rattle.edit_plan.proofs.EditsOfPlan.{edits-apart}
 use Rattle.edit_plan.proofs.laws.text_edits_make_the_new_text.Goals as goal
 
 pub returns-clause-apart : goal.returns-clause-apart
-returns-clause-apart c plan edits is_plan are =
-    let cs = plan.changes in
-    let root = plan.root in
-    let new = λ (n : ℕ). flat_map text (given cs is_plan.places n) in
-    let whole = made-whole root cs is_plan.fit is_plan.apart new is_plan.is_root in
-    let end : 0 + length (text (subtree root)) ≡ length (text (subtree root)) = omega arith in
-    subst (λ es. AreApart 0 es (length (text (subtree root)))) (sym (are is_plan.places is_plan.placed)) (subst (AreApart 0 (text_pieces root cs is_plan.places)) end whole.rises)
+returns-clause-apart c = edits-apart
 
 pub returns-clause-makes : goal.returns-clause-makes
 returns-clause-makes c plan number edit edits is_plan makes are =

@@ -1,6 +1,6 @@
 use Rattle.std.proofs.Common.{◌≡◌, ◌+◌, ◌++◌, ℕ, List, map, flat_map, drop, get_or, ap, sym, ◌∙◌}
 use Rattle.std.proofs.lemmas.List.{append_assoc, append-nil, at_drop_more, at_drop_all}
-use Rattle.one_pass.specs.TextEdits.{as_piece}
+use Rattle.text_edit.specs.TextPiece.{as_piece}
 use Rattle.one_pass.specs.inner.TextOrder.{pieces_by}
 use Rattle.one_pass.proofs.text_changes.edits_in_order.Goals as goal
 

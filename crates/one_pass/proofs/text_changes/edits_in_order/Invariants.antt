@@ -1,5 +1,5 @@
 use Rattle.std.proofs.Common.{◌≡◌, ◌++◌, map, flat_map, drop}
-use Rattle.one_pass.specs.TextEdits.{as_piece}
+use Rattle.text_edit.specs.TextPiece.{as_piece}
 use Rattle.one_pass.specs.inner.TextOrder.{pieces_by}
 use Rattle.one_pass.proofs.text_changes.edits_in_order.Given as goal
 

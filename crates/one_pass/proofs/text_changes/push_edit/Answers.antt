@@ -2,7 +2,7 @@ use Rattle.std.proofs.Common.{◌≡◌, ◌+◌, [], ◌∷◌, ◌++◌, map, 
 use Rattle.std.proofs.lemmas.List.{append-nil, map-append}
 use Rattle.std.proofs.lemmas.Option.{slice_get_past, slice_get_read}
 use Rattle.cst_core.specs.Path.{same_path}
-use Rattle.one_pass.specs.TextEdits.{as_piece}
+use Rattle.text_edit.specs.TextPiece.{as_piece}
 use Rattle.one_pass.proofs.TextOrders.{pieces-none, pieces-same, pieces-other, piece-is}
 use Rattle.one_pass.proofs.text_changes.push_edit.Goals as goal
 

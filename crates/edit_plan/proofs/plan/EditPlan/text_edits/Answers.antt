@@ -1,14 +1,30 @@
-use Rattle.std.proofs.Common.{ap₂, ◌∙◌}
+use Rattle.std.proofs.Common.{◌≡◌, ℕ, List, length, ap, sym, subst, ◌∙◌}
+use Rattle.cst_core.specs.Tree.{text, text_length}
+use Rattle.cst_core.specs.Element.{subtree}
 use Rattle.edit_change.specs.inner.OwnerPlaces.{places_in}
-use Rattle.edit_change.proofs.AlteredNodes.{if_ok-map}
-use Rattle.one_pass.specs.TextEdits.{text_pieces}
-use Rattle.edit_plan.proofs.TwoPlaces.{pieces-agree}
+use Rattle.text_edit.specs.TextPiece.{TextPiece, pieces, AreApart}
+use Rattle.edit_plan.specs.Plan.{Plan}
+use Rattle.edit_plan.proofs.EditsOfPlan.{edits-told, edits-apart}
 use Rattle.edit_plan.proofs.plan.EditPlan.text_edits.Goals as goal
+
+pub one_list-requires : goal.one_list-requires
+one_list-requires c =
+    let plan = c.args.self.now in
+    let told = c.planned.result in
+    let edits = c.in_ok-edits.edits.items in
+    let are = edits-told plan told.root.now told.changes.now (places_in told.places.now) edits c.agree_on_places.ensures c.planned.ensures.is.placed c.planned.ensures.root c.planned.ensures.changes c.in_ok-edits.ensures in
+    let long : c.text_len.result ≡ text_length (subtree plan.root) = c.text_len.ensures.length ∙ ap (λ (p : Plan). text_length (subtree p.root)) c.self.view_is in
+    let P : ℕ → Type 0 = λ n. AreApart 0 (pieces edits) n in
+    subst P (sym long) (edits-apart plan edits c.planned.ensures.is.is_plan are)
 
 pub returns : goal.returns
 returns c =
-    let told = c.planned.result in
     let plan = c.args.self.now in
-    let own = places_in told.places.now in
-    let same = ap₂ (λ r cs. text_pieces r cs own) c.planned.ensures.root c.planned.ensures.changes in
-    if_ok-map _ _ c.text_edits.result (λ v h places are. h ∙ same ∙ pieces-agree plan.changes own places (c.agree_on_places.ensures own places c.planned.ensures.is.placed are) plan.root) c.text_edits.ensures
+    let told = c.planned.result in
+    let edits = c.in_ok-edits.edits.items in
+    let are = edits-told plan told.root.now told.changes.now (places_in told.places.now) edits c.agree_on_places.ensures c.planned.ensures.is.placed c.planned.ensures.root c.planned.ensures.changes c.in_ok-edits.ensures in
+    let P : List TextPiece → Type 0 = λ es. AreApart 0 es (length (text (subtree plan.root))) in
+    record {
+      edits = λ es is places there. is ∙ c.one_list.ensures ∙ are places there;
+      apart = subst P (sym c.one_list.ensures) (edits-apart plan edits c.planned.ensures.is.is_plan are);
+    }
