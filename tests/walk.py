@@ -15,12 +15,12 @@ from pathlib import Path
 
 ROOT = Path(__file__).resolve().parent.parent
 # The walks, and how many functions each has at most: above the two lowest crates, and in them. These numbers only fall.
-WALKS = {"SyntaxEditor::finish": (173, 67), "EditRun::step": (52, 43)}
+WALKS = {"SyntaxEditor::finish": (166, 67), "EditRun::step": (52, 43)}
 BELOW = {"green_tree", "cst_core"}
 ENGINES = {"E": "OnePassEngine"}
 LIBRARIES = [
-    "green_tree", "cst_core", "path_table", "edit_map", "edit_change", "text_edit", "one_pass", "annotations", "edit_steps", "edit_plan",
-    "change_list", "whitespace", "syntax_editor", "list_removal",
+    "green_tree", "cst_core", "path_table", "edit_map", "edit_change", "text_edit", "one_pass", "edit_steps", "edit_plan", "change_list",
+    "whitespace", "syntax_editor", "list_removal",
 ]
 # What a type of std gives that is asked: `0` for its first parameter, `self` for itself.
 LISTS = {"Vec", "["}

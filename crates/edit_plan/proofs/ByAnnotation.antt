@@ -1,37 +1,42 @@
--- Annotated paths, and the elements that they lead to, by annotation.
+-- The annotated paths of a plan.
+--     followed-more                 one more registered element is followed
 --     is_rewritten                  the annotated paths of a plan, from where its registered elements lead to
 --     annotated-registered          each of these paths stands with an annotation that something is registered with
---     found-in                      what an edit has for an annotation is what the table has
-use Rattle.std.specs.Prelude.{◌≡◌, All, ℕ, ◌+◌, ◌<◌, Bool, true, false, cond, nat_eq, List, [], ◌∷◌, ◌++◌, map, flat_map, filter, take, length, Vec, Option, Some, IsSome, get_or, refl}
-use Rattle.std.specs.Global.{Global}
+use Rattle.std.specs.Prelude.{◌≡◌, All, ℕ, ◌+◌, ◌<◌, Bool, true, nat_eq, List, [], ◌∷◌, ◌++◌, map, flat_map, take, length, IsSome, get_or, refl}
+use Rattle.std.specs.List.{AllByRecursion, list_any}
 use Rattle.std.proofs.Common.{ap, ap₂, sym, subst, ◌∙◌}
-use Rattle.std.proofs.lemmas.List.{take_more, map-append, append-nil, append_assoc}
+use Rattle.std.proofs.lemmas.Bool.{eq-eqb, or_left, or_right}
+use Rattle.std.proofs.lemmas.List.{take_more, map-append}
 use Rattle.std.proofs.lemmas.List.Elements.{All-get_or}
+use mathlib.Core.List.{map-map}
 use Rattle.cst_core.specs.Path.{Path}
 use Rattle.cst_core.specs.Tree.{SyntaxTree, at}
 use Rattle.cst_core.specs.Element.{Address, Element, NumbersTell, address}
-use Rattle.cst_core.specs.SyntaxElement.{element_of, syntax_at}
-use Rattle.edit_map.specs.Mapping.{Mapping, followed, mapped_elements}
+use Rattle.cst_core.specs.SyntaxElement.{element_of}
 use Rattle.cst_core.specs.declared.element.SyntaxElement.{SyntaxElement}
-use Rattle.std.specs.Map.{lookup}
-use Rattle.std.specs.Option.{option_map_or}
-use Rattle.std.specs.HashMap.{HashMap, get, get_by, Updates}
-use Rattle.std.proofs.lemmas.Bool.{cases_Bool, eqb-true, eq-eqb, or_left, or_right}
-use mathlib.Core.Logic.{inl, inr}
-use Rattle.annotations.specs.AnnotationTable.{entries_of, found_for}
-use Rattle.annotations.proofs.AnnotatedElements.{Tells, leads_to}
-use Rattle.edit_plan.specs.Plan.{Plan, registered_elements}
-use Rattle.std.specs.List.{AllByRecursion, list_any}
-use Rattle.edit_change.proofs.Lists.{all-append}
+use Rattle.edit_map.specs.Mapping.{Mapping, followed, mapped_elements}
 use Rattle.edit_change.specs.NewTree.{OriginTree}
-use Rattle.edit_plan.specs.Engine.{IsRewritten}
-use Rattle.annotations.specs.inner.Annotating.{numbered_paths}
-use Rattle.one_pass.specs.inner.Root.{TellsNewTree}
 use Rattle.edit_change.specs.Places.{ArePlaces}
-use Rattle.edit_change.specs.Results.{annotated, copies_of, paths_with}
+use Rattle.edit_change.specs.Results.{annotated, copies_of}
+use Rattle.edit_change.proofs.Lists.{all-append}
+use Rattle.one_pass.specs.inner.Root.{TellsNewTree}
+use Rattle.edit_plan.specs.Plan.{Plan, registered_elements}
+use Rattle.edit_plan.specs.Engine.{IsRewritten}
+use Rattle.edit_plan.specs.inner.Annotating.{numbered_paths, TellOf}
 use Rattle.edit_plan.proofs.PathsOfResults.{numbered-lead}
 use Rattle.edit_plan.proofs.NumbersOfRegistered.{all-told}
-use mathlib.Core.List.{map-map}
+
+-- ---- where registered elements are followed to
+abbrev Tells : Mapping → SyntaxElement × ℕ → Type 0
+Tells m r = NumbersTell (element_of r.0 ∷ mapped_elements m)
+
+abbrev pub leads_to : Mapping → SyntaxElement × ℕ → Element
+leads_to m r = followed m (element_of r.0)
+
+pub followed-more : (m : Mapping) (rs : List (SyntaxElement × ℕ)) (i : ℕ) (r : SyntaxElement × ℕ) (x : SyntaxElement) (xs ys : List SyntaxElement) → i < length rs → r ≡ get_or rs i r → ys ≡ xs ++ x ∷ [] → (Tells m r → element_of x ≡ leads_to m r) → (TellOf m rs → map element_of xs ≡ map (leads_to m) (take i rs)) → TellOf m rs → map element_of ys ≡ map (leads_to m) (take (i + 1) rs)
+followed-more m rs i r x xs ys lt is more leads before all =
+    let tells : Tells m r = subst (Tells m) (sym is) (All-get_or (Tells m) rs i r lt all) in
+    ap (map element_of) more ∙ map-append element_of xs (x ∷ []) ∙ ap₂ (λ us e. us ++ e ∷ []) (before all) (leads tells ∙ ap (leads_to m) is) ∙ sym (ap (map (leads_to m)) (take_more rs i r lt) ∙ map-append (leads_to m) (take i rs) (get_or rs i r ∷ []))
 
 -- ---- the annotated paths of a plan
 numbered-each : {R : Type 0} (f : R → List Path) (number : R → ℕ) (rs : List R) → numbered_paths (map number rs) (map f rs) ≡ flat_map (λ r. map (λ p. (number r, p)) (f r)) rs
@@ -69,7 +74,7 @@ annotated-registered {P} m made (r ∷ rs) holds =
     each [] = tt
     each (q ∷ qs) = (holds r.1 (or_left (nat_eq r.1 r.1) (stands_in rs r.1) (eq-eqb r.1 r.1 refl)), each qs)
 
-pub is_rewritten : (p : Plan) (fs : List SyntaxElement) (tree : SyntaxTree) (copies : List (List Path)) (paths : List Path) (ns : List (ℕ × Path)) (places : ℕ → Path) → ArePlaces p.mapping p.changes places → TellsNewTree p.root p.changes places fs tree copies paths → (All (Tells p.mapping) p.registrations → map element_of fs ≡ map (leads_to p.mapping) p.registrations) → ns ≡ numbered_paths (map (λ r. r.1) p.registrations) copies → IsRewritten p tree paths ns
+pub is_rewritten : (p : Plan) (fs : List SyntaxElement) (tree : SyntaxTree) (copies : List (List Path)) (paths : List Path) (ns : List (ℕ × Path)) (places : ℕ → Path) → ArePlaces p.mapping p.changes places → TellsNewTree p.root p.changes places fs tree copies paths → (TellOf p.mapping p.registrations → map element_of fs ≡ map (leads_to p.mapping) p.registrations) → ns ≡ numbered_paths (map (λ r. r.1) p.registrations) copies → IsRewritten p tree paths ns
 is_rewritten p fs tree copies paths ns places are is_made followed_are is =
     let numbered = numbered-are p fs is_made.made copies ns is_made.copies_are is in
     record {
@@ -80,9 +85,3 @@ is_rewritten p fs tree copies paths ns places are is_made followed_are is =
       leads = subst (All (λ n. IsSome (at tree n.1))) (sym numbered) (numbered-lead is_made.made tree (map (λ r. r.1) p.registrations) (map (λ e. address (element_of e)) fs) is_made.tree_is);
       annotated_is = λ tell. annotated-are p fs is_made.made copies ns numbered (followed_are (all-told p tell));
     }
-
--- ---- tables as edits have them
-pub found-in : (es : List (ℕ × Vec SyntaxElement Global)) (a : ℕ) → found_for (entries_of es) a ≡ option_map_or (λ v. v.items) (lookup (nat_eq a) es) []
-found-in [] a = refl
-found-in (e ∷ es) a =
-    elim (nat_eq a e.0) as (λ b. option_map_or (λ l. l) (cond b (Some e.1.items) (lookup (nat_eq a) (entries_of es))) [] ≡ option_map_or (λ (v : Vec SyntaxElement Global). v.items) (cond b (Some e.1) (lookup (nat_eq a) es)) []) [ true ↦ refl | false ↦ found-in es a ]

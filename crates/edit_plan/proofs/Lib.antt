@@ -13,6 +13,7 @@ mod NextReady
 mod PlanLines
 mod Exchanged
 mod Filled
+mod FoundElements
 mod FoundNodes
 mod GapOrder
 mod HeldSwapped

@@ -1,7 +1,7 @@
 -- From all elements that a plan holds to a registered element and the mapping alone: equal numbers have equal trees there too.
 --     pairs-after, pairs-without   pairs of a list without its first element, or without some after the first
 --     all-told                      each registered element with the elements of the mapping
-use Rattle.std.specs.Prelude.{◌≡◌, ℕ, zero, suc, ◌<◌, List, [], ◌∷◌, ◌++◌, All, AllPairs, map, flat_map, length, get_or}
+use Rattle.std.specs.Prelude.{◌≡◌, ℕ, zero, suc, ◌<◌, List, [], ◌∷◌, ◌++◌, AllPairs, map, flat_map, length, get_or}
 use Rattle.std.proofs.Common.{arith, subst}
 use Rattle.std.proofs.lemmas.List.{append_assoc}
 use Rattle.cst_core.specs.Element.{Element, NumbersTell}
@@ -11,7 +11,7 @@ use Rattle.edit_map.specs.Mapping.{mapped_elements}
 use Rattle.edit_change.specs.Change.{elements}
 use Rattle.edit_change.specs.Places.{elements_held}
 use Rattle.edit_plan.specs.Plan.{Plan, registered_elements}
-use Rattle.edit_plan.specs.inner.PlanRun.{TellsOf}
+use Rattle.edit_plan.specs.inner.Annotating.{TellOf}
 
 module _ {X : Type 0} (R : X → X → Type 0) where
   pub pairs-after : (x : X) (xs : List X) → AllPairs R (x ∷ xs) → AllPairs R xs
@@ -40,7 +40,7 @@ told-each (r ∷ rs) es tell zero d within = pairs-without same_tree (element_of
 told-each (r ∷ rs) es tell (suc k) d within =
     told-each rs es (pairs-after same_tree (element_of r.0) (map (λ s. s.0) (registered_elements rs) ++ es) tell) k d (omega (arith, within))
 
-pub all-told : (p : Plan) → NumbersTell (elements_held p.root p.changes (registered_elements p.registrations) p.mapping) → All (TellsOf p) p.registrations
+pub all-told : (p : Plan) → NumbersTell (elements_held p.root p.changes (registered_elements p.registrations) p.mapping) → TellOf p.mapping p.registrations
 all-told p tell k d within =
     let changed = flat_map elements p.changes in
     let marked : List Element = map (λ r. r.0) (registered_elements p.registrations) in

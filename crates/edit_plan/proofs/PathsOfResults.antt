@@ -16,7 +16,7 @@ use Rattle.edit_change.specs.Topmost.{holds_at, parent_holds, topmost}
 use Rattle.edit_plan.specs.Plan.{Plan}
 use Rattle.edit_plan.specs.Engine.{IsRewritten}
 use Rattle.edit_change.specs.NewTree.{OriginTree, plain, is_free}
-use Rattle.annotations.specs.inner.Annotating.{numbered_paths}
+use Rattle.edit_plan.specs.inner.Annotating.{numbered_paths}
 use Rattle.edit_change.specs.Results.{is_brought, copies_of}
 use Rattle.edit_change.proofs.Lists.{all_filter, all_weaker}
 use Rattle.edit_change.proofs.Relabelled.{at-relabelled}

@@ -15,10 +15,8 @@ use Rattle.cst_core.specs.Green.{Branch, branch_tree, length_limit}
 use Rattle.cst_core.specs.SyntaxElement.{syntax_at}
 use Rattle.cst_core.specs.TreeError.{TreeError}
 use Rattle.cst_core.specs.TreeError.TheVariants as tree
-use Rattle.annotations.specs.AnnotationTable.{found_for}
-use Rattle.edit_plan.specs.Plan.{Plan, Edit, Makes, MakesTooLong, RunRefuses, is_registered}
-use Rattle.edit_plan.specs.Engine.{IsRewritten, HasRewritten, RanBefore}
-use Rattle.annotations.specs.AnnotationTable.{annotated_path}
+use Rattle.edit_plan.specs.Plan.{found_for, Plan, Edit, Makes, MakesTooLong, RunRefuses, is_registered}
+use Rattle.edit_plan.specs.Engine.{IsRewritten, HasRewritten, RanBefore, annotated_path}
 use Rattle.edit_plan.specs.EditRefusal.{of_tree, of_engine}
 use Rattle.edit_change.specs.Places.{ArePlaces}
 use Rattle.edit_change.specs.Results.{paths_with}
@@ -105,7 +103,7 @@ err-gives P (Ok t) x is holds = tt
 err-gives P (Err e) x is holds = subst P (sym is) holds
 
 -- ---- a tree that was made otherwise
-pub with-tree : (p : Plan) (old new : Rewritten) (green shown : Branch) → HasRewritten p old → green ≡ shown → ((places : ℕ → Path) → ArePlaces p.mapping p.changes places → map plain (new_tree p.changes places p.root) ≡ branch_tree shown ∷ []) → new ≡ record { green = green; changed = old.changed; annotated = old.annotated } → HasRewritten p new
-with-tree p old new green shown r same made is =
+pub with-tree : (p : Plan) (old : Rewritten) (green shown : Branch) → HasRewritten p old → green ≡ shown → ((places : ℕ → Path) → ArePlaces p.mapping p.changes places → map plain (new_tree p.changes places p.root) ≡ branch_tree shown ∷ []) → HasRewritten p (record { green = green; changed = old.changed; annotated = old.annotated })
+with-tree p old green shown r same made =
     let one : plain r.made ≡ branch_tree green = same_Some (plain r.made) (branch_tree green) (ap first_item (ap (map plain) (sym r.would.is_new) ∙ made r.would.places r.would.are_places ∙ ap (λ b. branch_tree b ∷ []) (sym same))) in
-    subst (HasRewritten p) (sym is) (record { made = r.made; would = r.would; tree_is = sym one; changed_is = r.changed_is; leads = subst (λ t. All (λ n. IsSome (at t n.1)) (map annotated_path old.annotated.items)) (r.tree_is ∙ one) r.leads; annotated_is = r.annotated_is })
+    record { made = r.made; would = r.would; tree_is = sym one; changed_is = r.changed_is; leads = subst (λ t. All (λ n. IsSome (at t n.1)) (map annotated_path old.annotated.items)) (r.tree_is ∙ one) r.leads; annotated_is = r.annotated_is }

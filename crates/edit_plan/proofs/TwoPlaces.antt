@@ -18,12 +18,11 @@ use Rattle.edit_change.specs.declared.change.Change.{Change}
 use Rattle.edit_change.proofs.Lists.{all_filter, all_weaker, all_enumerated}
 use Rattle.edit_change.proofs.Owners.{owner_from}
 use Rattle.edit_change.specs.NewTree.{OriginTree, plain, is_free, origin, moved_aim, targets_of, payload_rewritten, independents, dependents, given, new_tree}
-use Rattle.annotations.specs.AnnotationTable.{found_for}
+use Rattle.edit_plan.specs.Plan.{found_for, Plan, Edit, Makes, WouldMake, registered_elements}
 use Rattle.edit_change.specs.Places.{elements_held}
 use Rattle.std.specs.Option.{option_map_or}
 use Rattle.cst_core.specs.Tree.{text}
 use Rattle.one_pass.specs.TextEdits.{in_text_order, altering_pieces, text_pieces}
-use Rattle.edit_plan.specs.Plan.{Plan, Edit, Makes, WouldMake, registered_elements}
 use Rattle.edit_change.specs.Results.{changed, annotated, paths_with}
 use Rattle.edit_plan.proofs.StagesOfRuns.{PlaceIsUnique, places-agree}
 use Rattle.edit_change.proofs.GivenTrees.{given_is, given_unique}

@@ -6,7 +6,7 @@
 --     IsRewritten                   A tree is that of `WouldMake` without origins, the changed paths are those of `changed`, every
 --                                   annotated path leads to an element, and its annotation `is_registered`. Only the annotated paths need
 --                                   equal numbers to mean equal trees: then they are `annotated`.
---     HasRewritten                  The same of values in code.
+--     annotated_path, HasRewritten  The number of an annotation and a path, in code; `IsRewritten` of values in code.
 --     EngineRefuses                 Why an engine does not carry a plan out: `MakesTooLong`.
 --     RanBefore                     What is known of the one run of an engine before a refused edit: it had no answer for `TooLong`, and an
 --                                   answer for `NoTreeNumber`.
@@ -19,7 +19,6 @@ use Rattle.cst_core.specs.Tree.{SyntaxTree, at}
 use Rattle.cst_core.specs.Green.{branch_tree}
 use Rattle.cst_core.specs.Element.{NumbersTell}
 use Rattle.edit_change.specs.Topmost.{paths_of}
-use Rattle.annotations.specs.AnnotationTable.{annotated_path}
 use Rattle.edit_change.specs.NewTree.{OriginTree, plain, is_free}
 use Rattle.edit_change.specs.Results.{changed, annotated}
 use Rattle.edit_change.specs.Places.{ArePlaces, elements_held}
@@ -39,6 +38,9 @@ pub record IsRewritten (p : Plan) (tree : SyntaxTree) (changed_paths : List Path
   pub changed_is : changed_paths ≡ changed (is_free p.changes) made
   pub leads : All (λ n. IsSome (at tree n.1)) annotated_paths
   pub annotated_is : NumbersTell (elements_held p.root p.changes (registered_elements p.registrations) p.mapping) → annotated_paths ≡ annotated p.mapping (registered_elements p.registrations) made
+
+abbrev pub annotated_path : ℕ × Vec ℕ Global → ℕ × Path
+annotated_path n = (n.0, n.1.items)
 
 abbrev pub HasRewritten : Plan → Rewritten → Type 0
 HasRewritten p r = IsRewritten p (branch_tree r.green) (paths_of r.changed.items) (map annotated_path r.annotated.items)

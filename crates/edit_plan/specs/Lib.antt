@@ -7,8 +7,7 @@ pub use Rattle.edit_change.specs.Nesting
 pub use Rattle.edit_change.specs.Display
 pub use Rattle.edit_steps.specs.Schedule
 pub use Rattle.edit_steps.specs.DefaultOrder
-pub use Rattle.annotations.specs.Annotation
-pub use Rattle.annotations.specs.AnnotationTable
+pub mod Annotation
 pub use Rattle.edit_change.specs.NewTree
 pub use Rattle.edit_change.specs.Results
 pub use Rattle.edit_change.specs.Places

@@ -6,8 +6,9 @@
 --     with_changes                  A plan, with other changes.
 --     BuildRefuses                  Why a list of changes is no plan: `Intersecting` with the first clash; if there is none,
 --                                   `MissingMapping` with the first change without a place.
---     Edit, new_edit                An old root, a new root, the changed elements, and the elements found for annotations; the edit of
---                                   these, where code has the lists.
+--     Edit, new_edit                An old root, a new root, the changed elements, and the annotated ones with their annotations; the edit
+--                                   of these, where code has a list.
+--     found_for                     The elements that stand with an annotation, in order.
 --     stand_in                      The first node of the new tree that has the kind and the start of an old one, if there is one.
 --     registered_elements           The registrations, with `Element` in place of `SyntaxElement`.
 --     is_registered                 A plan has a registration with this annotation.
@@ -22,8 +23,9 @@
 -- and replacing `R/1` by a node to which nothing is mapped is refused: `MissingMapping` with the change 0 and its owner
 -- 1.
 --
--- After an insert of `x` before `R/1`, `find_element` still finds `R`, and does not find `R/4`.
-use Rattle.std.specs.Prelude.{◌≡◌, ℕ, nat_eq, Bool, false, List, [], ◌∷◌, map, Option, Some, None, option_map, All, Vec}
+-- After an insert of `x` before `R/1`, `find_element` still finds `R`, and does not find `R/4`. Inserting `R/1` after
+-- `R/4`: the changed path is `5`, and an annotation of `R/1` is found at `1` and `5`.
+use Rattle.std.specs.Prelude.{◌≡◌, ℕ, nat_eq, Bool, false, List, [], ◌∷◌, map, filter, Option, Some, None, option_map, All, Vec}
 use Rattle.std.specs.List.{list_any}
 use Rattle.std.specs.Global.{Global}
 use Rattle.cst_core.specs.Path.{Path}
@@ -37,7 +39,6 @@ use Rattle.edit_map.specs.Builder.{IsMapping}
 use Rattle.edit_change.specs.Nesting.{first_clash}
 use Rattle.edit_change.specs.NewTree.{OriginTree, plain, is_free, new_tree}
 use Rattle.edit_change.specs.Results.{changed, annotated, paths_with, stand_in_path}
-use Rattle.annotations.specs.AnnotationTable.{found_for}
 use Rattle.edit_change.specs.Places.{IsFirstUnplaced, ArePlaces, TextIsTooLong, elements_held}
 use Rattle.edit_change.specs.declared.change.Change.{Change}
 use Rattle.edit_plan.specs.declared.edit_error.EditError.{EditError}
@@ -74,10 +75,13 @@ pub record Edit : Type 0 where
   pub old_root : Element
   pub new_root : Element
   pub changed : List SyntaxElement
-  pub annotated : List (ℕ × List SyntaxElement)
+  pub annotated : List (ℕ × SyntaxElement)
 
-abbrev pub new_edit : Element → Element → Vec SyntaxElement Global → List (ℕ × List SyntaxElement) → Edit
+abbrev pub new_edit : Element → Element → Vec SyntaxElement Global → List (ℕ × SyntaxElement) → Edit
 new_edit old_root new_root changed annotated = record { old_root = old_root; new_root = new_root; changed = changed.items; annotated = annotated }
+
+abbrev pub found_for : List (ℕ × SyntaxElement) → ℕ → List SyntaxElement
+found_for annotated a = map (λ e. e.1) (filter (λ e. nat_eq e.0 a) annotated)
 
 abbrev pub stand_in : Edit → Element → Option Element
 stand_in e old = option_map (element_at e.new_root) (stand_in_path old e.new_root.root)

@@ -1,10 +1,10 @@
 //! `SyntaxEdit`: the old and the new root, the changed elements and the annotated ones.
 
 ghost use Rattle.std.specs.Prelude.{◌≡◌, IfOk};
-ghost use Rattle.edit_plan.specs.Plan.{stand_in};
-ghost use Rattle.annotations.specs.AnnotationTable.{found_for};
+ghost use Rattle.edit_plan.specs.Plan.{found_for, stand_in};
 
-use annotations::{AnnotationTable, SyntaxAnnotation};
+use crate::annotation::SyntaxAnnotation;
+use crate::found::AnnotatedElements;
 use cst_core::{SyntaxElement, SyntaxNode};
 use green_tree::first_node_of_kind;
 use std::alloc::{AllocError, Global};
@@ -16,19 +16,18 @@ pub struct SyntaxEdit {
     pub(crate) old_root: SyntaxNode,
     pub(crate) new_root: SyntaxNode,
     pub(crate) changed: Vec<SyntaxElement>,
-    pub(crate) annotated: AnnotationTable,
+    pub(crate) annotated: AnnotatedElements,
 }
 
 impl Model for SyntaxEdit {
     ghost use Rattle.edit_plan.specs.Plan.{Edit, new_edit};
     ghost use Rattle.edit_plan.specs.inner.Codes.{edit_code};
-    ghost use Rattle.annotations.specs.AnnotationTable.{entries_of};
 
     ghost Value = { Edit };
 
     ghost coded = { edit_code };
 
-    ghost view = { λ a. new_edit a.old_root a.new_root a.changed (entries_of a.annotated.lists.entries) };
+    ghost view = { λ a. new_edit a.old_root a.new_root a.changed a.annotated };
 
     ghost use Rattle.edit_plan.specs.inner.PlanRun.{IsNewRoot};
 
@@ -62,10 +61,7 @@ impl SyntaxEdit {
     pub fn find_annotation(&self, annotation: SyntaxAnnotation) -> &[SyntaxElement]
         ensures { result.now ≡ found_for self.now.annotated annotation }
     {
-        match self.annotated.lists.get(&annotation) {
-            Some(list) => list.as_slice(),
-            None => &[],
-        }
+        self.annotated.found_for(annotation)
     }
 
     /// The first node of the new tree in document order, its root included, that has the kind of `old` and starts where that one

@@ -200,6 +200,6 @@ impl<'a> EditRun<'a> {
         let green = self.stages.green().share(alloc)?;
         // Of this walk only the paths are kept.
         let rewritten = self.plan.rewritten_tree(alloc, builds)?;
-        self.plan.within_limit(rewritten.with_tree(green))
+        self.plan.within_limit(Rewritten { green, ..rewritten })
     }
 }

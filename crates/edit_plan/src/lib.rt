@@ -1,6 +1,8 @@
 //! Plans of changes: what is found out of a list of changes, the engines that carry it out, and the edit that comes of it.
 #![tactic(auto)]
 
+mod annotated;
+mod annotation;
 mod edit;
 mod edit_error;
 mod edit_run;
@@ -8,6 +10,7 @@ mod engine;
 mod engine_error;
 mod execute;
 mod execute_error;
+mod found;
 pub mod laws;
 mod one_pass_engine;
 mod places;
@@ -19,7 +22,7 @@ mod rewritten;
 mod run;
 mod splice_engine;
 
-pub use annotations::{Annotations, SyntaxAnnotation};
+pub use annotation::{Annotations, SyntaxAnnotation};
 pub use edit::SyntaxEdit;
 pub use edit_change::{Change, Element, ElementList, Position};
 pub use edit_error::EditError;

@@ -6,38 +6,19 @@ ghost use Rattle.edit_change.specs.Nesting.{is_keeping};
 ghost use Rattle.edit_change.specs.Places.{ArePlaces};
 ghost use Rattle.edit_map.specs.Mapping.{path_in};
 ghost use Rattle.edit_change.specs.inner.OwnerPlaces.{path_at, places_in};
-ghost use Rattle.edit_plan.specs.inner.PlaceTables.{IsPlaceOf, IsPlaced, replaced_by};
+ghost use Rattle.edit_plan.specs.inner.PlaceTables.{IsPlaceOf, IsPlaced};
 ghost use Rattle.edit_plan.specs.inner.PlaceTables.{IsFoundPlace, PlacesStay, TellsPlace};
 ghost use Rattle.edit_plan.specs.inner.PlacesRefusal.{PlacesRefuse};
 ghost use Rattle.edit_change.specs.declared.change.Change.{Change};
 
 use crate::edit_error::EditError;
-use cst_core::{SyntaxElement, SyntaxNode};
+use cst_core::SyntaxElement;
 use edit_change::{Change, Fate, aim_path, owner_of};
 use edit_map::SyntaxMapping;
 use edit_map::laws::place_is_unique;
 use std::alloc::{AllocError, Global};
 
-// The place of a node in a payload, to which the payload has an element.
-fn place_in(
-    alloc: Global,
-    mapping: &SyntaxMapping,
-    target: &SyntaxNode,
-    payload: &SyntaxNode,
-) -> Result<Option<Vec<usize>>, AllocError>
-    ensures { IfOk result (λ o. IsPlaceOf mapping.now (replaced_by target.now payload.now) (path_in o)) }
-{
-    place_is_unique();
-    let Some(place) = mapping.place(alloc, target, payload)? else {
-        return Ok(None);
-    };
-    if payload.as_green().get(&place).is_none() {
-        return Ok(None);
-    }
-    Ok(Some(place))
-}
-
-// The place of an owner's target in its payload.
+// The place of an owner's target in its payload, if that has an element there.
 fn place_of(
     alloc: Global,
     mapping: &SyntaxMapping,
@@ -46,12 +27,13 @@ fn place_of(
     requires { is_keeping owner.now ≡ true }
     ensures { IfOk result (λ o. IsPlaceOf mapping.now owner.now (path_in o)) }
 {
-    match owner {
-        Change::Replace(SyntaxElement::Node(target), Some(SyntaxElement::Node(payload))) => {
-            place_in(alloc, mapping, target, payload)
-        }
-        _ => unreachable!(),
-    }
+    place_is_unique();
+    let Change::Replace(SyntaxElement::Node(target), Some(SyntaxElement::Node(payload))) = owner
+    else {
+        unreachable!();
+    };
+    let place = mapping.place(alloc, target, payload)?;
+    Ok(place.filter(|path| payload.as_green().get(path).is_some()))
 }
 
 // Enters the place of an owner's target, where it has not been asked for before.
@@ -88,17 +70,6 @@ fn has_place(change: &Change, owner: &Change, place: &Option<Vec<usize>>) -> boo
     }
 }
 
-fn no_places(alloc: Global, count: usize) -> Result<Vec<Option<Vec<usize>>>, AllocError>
-    ensures long { IfOk result (λ v. length v.items ≡ count) }
-    ensures none { IfOk result (λ v. (c : ℕ) → path_at v.items c ≡ None) }
-{
-    let mut places = Vec::new(alloc);
-    for _ in 0..count {
-        places.push(None)?;
-    }
-    Ok(places)
-}
-
 /// The place of each owner's target in its payload, by the owner's number, where `fates` has what becomes of each change.
 ///
 /// `MissingMapping` names the first change that has no place in its owner's payload, and the owner; else only `Memory` comes.
@@ -113,7 +84,7 @@ pub(crate) fn places(
     ensures placed { IfOk result (λ v. ArePlaces mapping.now changes.now (places_in v.items)) }
     ensures refused { IfErr result (PlacesRefuse mapping.now changes.now) }
 {
-    let mut places = no_places(alloc, changes.len())?;
+    let mut places = vec![in alloc; None; changes.len()]?;
     for number in 0..changes.len() {
         if let Some(owner) = owner_of(changes, fates, number) {
             find_place(alloc, mapping, changes, owner, &mut places)?;

@@ -6,9 +6,9 @@ ghost use Rattle.edit_change.specs.Fits.{Fits};
 ghost use Rattle.edit_change.specs.Nesting.{is_dropped, owner};
 ghost use Rattle.edit_plan.specs.Plan.{Plan, IsPlan, BuildRefuses, new_plan};
 
+use crate::annotation::SyntaxAnnotation;
 use crate::edit_error::EditError;
 use crate::prepared::{Prepared, prepare};
-use annotations::SyntaxAnnotation;
 use cst_core::{SyntaxElement, SyntaxNode};
 use edit_change::{Change, Fate};
 use edit_map::SyntaxMapping;

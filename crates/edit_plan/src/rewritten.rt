@@ -1,8 +1,6 @@
 //! `Rewritten`: what an engine answers, namely the new tree with the paths of changed and annotated elements.
 
-ghost use Rattle.std.specs.Prelude.{◌≡◌};
-
-use annotations::SyntaxAnnotation;
+use crate::annotation::SyntaxAnnotation;
 use cst_core::GreenNode;
 
 /// The new tree of a plan, before it is a root's, and where its changed and annotated elements are.
@@ -17,22 +15,4 @@ pub struct Rewritten {
     /// The paths of the elements that were copied from what is registered, each with its annotation, by registration and then in
     /// document order.
     pub annotated: Vec<(SyntaxAnnotation, Vec<usize>)>,
-}
-
-impl Rewritten {
-    // The same paths in this tree.
-    pub(crate) fn with_tree(self, green: GreenNode) -> Rewritten
-        ensures { result ≡ record self { green = green } }
-    {
-        let Rewritten {
-            green: _,
-            changed,
-            annotated,
-        } = self;
-        Rewritten {
-            green,
-            changed,
-            annotated,
-        }
-    }
 }

@@ -1,11 +1,9 @@
 //! What finishing an edit does, in the order in which it happens.
 
-ghost use Rattle.std.specs.Prelude.{◌≡◌, ◌+◌, ◌<◌, List, map, length, All, Some, true, IfOk, IfErr, OnOk, OnErr};
+ghost use Rattle.std.specs.Prelude.{◌≡◌, ◌+◌, ◌<◌, List, length, true, IfOk, IfErr, OnOk, OnErr};
 ghost use Rattle.cst_core.specs.Green.{branch_tree, length_limit};
 ghost use Rattle.cst_core.specs.Tree.{text, text_length};
-ghost use Rattle.cst_core.specs.Element.{IsElement, element_at, subtree};
-ghost use Rattle.cst_core.specs.SyntaxElement.{syntax_at};
-ghost use Rattle.edit_change.specs.Topmost.{paths_of};
+ghost use Rattle.cst_core.specs.Element.{subtree};
 ghost use Rattle.edit_plan.specs.Plan.{Makes, RunRefuses};
 ghost use Rattle.edit_plan.specs.Engine.{HasRewritten, EngineRefuses, RanBefore, CountsTouched};
 ghost use Rattle.text_edit.specs.TextPiece.{pieces, AreApart};
@@ -13,14 +11,15 @@ ghost use Rattle.text_edit.specs.declared.text_edit.TextEdit.{TextEdit};
 ghost use Rattle.edit_plan.specs.PlanTextEdits.{AreTextEdits};
 ghost use Rattle.edit_plan.specs.inner.PlanRun.{IsOfRoot, IsPlanned};
 
+use crate::annotated::{annotated_paths, registered_copies};
 use crate::edit::SyntaxEdit;
 use crate::edit_error::EditError;
 use crate::engine::EditEngine;
 use crate::engine_error::EngineError;
+use crate::found::{AnnotatedElements, elements_at};
 use crate::plan::EditPlan;
 use crate::rewritten::Rewritten;
-use annotations::{annotated_paths, elements_by_annotation, registered_copies};
-use cst_core::{LENGTH_LIMIT, SyntaxElement, SyntaxNode, TreeIds};
+use cst_core::{LENGTH_LIMIT, SyntaxNode, TreeIds};
 use edit_change::{Planned, trial_source};
 use one_pass::{OnePass, rewrite, text_edits};
 use std::alloc::{AllocError, Global};
@@ -74,8 +73,7 @@ impl EditPlan {
         let mut drawn = trial_source(ids);
         let new_root = SyntaxNode::new_root(alloc, &mut drawn, green)?;
         let changed = elements_at(alloc, &new_root, changed)?;
-        let count = self.registrations.len();
-        let annotated = elements_by_annotation(alloc, &new_root, count, annotated)?;
+        let annotated = AnnotatedElements::at_paths(alloc, &new_root, annotated)?;
         let old_root = self.root.try_clone(alloc)?;
         ids.next();
         Ok(SyntaxEdit {
@@ -169,23 +167,4 @@ fn one_list(edits: Vec<TextEdit>, len: u64) -> TextEdits
         Ok(edits) => edits,
         Err(_) => unreachable!(),
     }
-}
-
-// The elements that these paths lead to, counted from a root.
-fn elements_at(
-    alloc: Global,
-    root: &SyntaxNode,
-    paths: Vec<Vec<usize>>,
-) -> Result<Vec<SyntaxElement>, AllocError>
-    requires { All (λ p. IsElement (element_at root.now p)) (paths_of paths.items) }
-    ensures { IfOk result (λ v. map Some v.items ≡ map (syntax_at root.now) (paths_of paths.items)) }
-{
-    let mut elements = Vec::with_capacity(alloc, paths.len())?;
-    for path in paths {
-        match root.element_of_tree(alloc, path)? {
-            Some(element) => elements.push(element)?,
-            None => unreachable!(),
-        }
-    }
-    Ok(elements)
 }

@@ -4,8 +4,7 @@ use Rattle.std.specs.List.{flat_map}
 use Rattle.std.proofs.lemmas.List.{take_all}
 use Rattle.std.proofs.lemmas.Simd.{map-map}
 use Rattle.cst_core.specs.Path.{Path}
-use Rattle.annotations.specs.AnnotationTable.{found_for}
-use Rattle.syntax_editor.specs.Plan.{Edit}
+use Rattle.syntax_editor.specs.Plan.{Edit, found_for}
 use Rattle.syned_script.specs.WordValue.{word_of, with_number}
 use Rattle.syned_script.specs.declared.words.Word.{Word}
 use Rattle.syned_run.specs.Answer.{Note, edit_text, note_text, notes_of, paths_of, paths_text}

@@ -1,14 +1,13 @@
 -- The edit that a plan makes, as a function, where its places are given.
 --     the_one              the first of some trees
 --     found_at             the elements at some paths
+--     found_with           the elements at some paths, with their annotations
 --     found_paths          the paths of annotated elements
 --     edit_of              the edit
 --     is_plan, can_make    tests of a plan, and of what it makes
 --     plans, makes         where they hold, it is one, and makes it
-use Rattle.std.specs.Prelude.{◌≡◌, ◌≢◌, ℕ, Bool, true, false, not, ◌&&◌, cond, List, [], ◌∷◌, map, filter, filter_map, IfSome, slice_get, ◌||◌, Option, Some, None, is_some, is_none, bytes_eq, nat_le, nat_eq, refl}
-use Rattle.std.specs.List.{list_all, list_any, cons_option, AllByRecursion}
-use Rattle.std.specs.Map.{lookup}
-use Rattle.std.specs.Option.{option_map_or}
+use Rattle.std.specs.Prelude.{◌≡◌, ◌≢◌, ℕ, Bool, true, false, not, ◌&&◌, cond, List, [], ◌∷◌, map, filter, filter_map, IfSome, slice_get, Option, Some, None, option_map, is_some, is_none, bytes_eq, nat_le, nat_eq, refl}
+use Rattle.std.specs.List.{list_all, cons_option, AllByRecursion}
 use Rattle.std.proofs.Common.{sym, ◌∙◌, ap, ap₂, arith, inl, inr}
 use Rattle.std.proofs.lemmas.Bool.{cases_Bool, eqb-true, eq-eqb, false≢true}
 use Rattle.std.proofs.lemmas.Cmp.{nat_list_eq_equiv}
@@ -28,8 +27,7 @@ use Rattle.syntax_editor.specs.Results.{changed, annotated, paths_with}
 use Rattle.syntax_editor.specs.Places.{ArePlaces, FindsPlace, HasPlace}
 use Rattle.syntax_editor.specs.Fits.{fits, Fits}
 use Rattle.syntax_editor.specs.ChangeForms.{Change}
-use Rattle.annotations.specs.AnnotationTable.{found_for}
-use Rattle.syntax_editor.specs.Plan.{Plan, IsPlan, Edit, Makes, registered_elements, is_registered}
+use Rattle.syntax_editor.specs.Plan.{Plan, IsPlan, Edit, Makes, registered_elements, is_registered, found_for}
 use Rattle.syned_run.proofs.ScriptLines.{both}
 use Rattle.syned_run.proofs.ScriptRuns.{has_shape, are_nodes, is_node_at, node-is, pair-is, not-true, true-and}
 
@@ -88,18 +86,23 @@ leads-with root (n ∷ ns) a h =
     picked true here rest = ap (λ b. b && list_all (leads root) (paths_with a ns)) here ∙ rest
     picked false here rest = rest
 
-abbrev entries : (ℕ → List SyntaxElement) → List ℕ → List (ℕ × List SyntaxElement)
-entries f ns = map (λ n. (n, f n)) ns
+abbrev pub found_with : Element → List (ℕ × Path) → List (ℕ × SyntaxElement)
+found_with root ns = filter_map (λ n. option_map (λ e. (n.0, e)) (syntax_at root n.1)) ns
 
-abbrev among : List ℕ → ℕ → Bool
-among ns a = list_any (nat_eq a) ns
-
-found-entry : (f : ℕ → List SyntaxElement) (ns : List ℕ) (a : ℕ) → (among ns a ≡ false → f a ≡ []) → found_for (entries f ns) a ≡ f a
-found-entry f [] a none = sym (none refl)
-found-entry f (n ∷ ns) a none = elim (cases_Bool (nat_eq a n)) [
-  | inl same ↦ ap (λ b. option_map_or (λ l. l) (cond b (Some (f n)) (lookup (nat_eq a) (entries f ns))) []) same ∙ ap f (sym (eqb-true a n same))
-  | inr differ ↦ ap (λ b. option_map_or (λ l. l) (cond b (Some (f n)) (lookup (nat_eq a) (entries f ns))) []) differ ∙ found-entry f ns a (λ other. none (ap (λ b. b || among ns a) differ ∙ other))
-]
+finds : (root : Element) (ns : List (ℕ × Path)) (a : ℕ) → found_for (found_with root ns) a ≡ found_at root (paths_with a ns)
+finds root [] a = refl
+finds root (n ∷ ns) a =
+    let found = found_with root ns in
+    let there = filter (λ (e : ℕ × SyntaxElement). nat_eq e.0 a) found in
+    let with = filter (λ (m : ℕ × Path). nat_eq m.0 a) ns in
+    let one : found_for (found_with root (n ∷ ns)) a ≡ cond (nat_eq n.0 a) (cons_option (syntax_at root n.1) (found_for found a)) (found_for found a) = elim (syntax_at root n.1) as (λ o. found_for (cons_option (option_map (λ e. (n.0, e)) o) found) a ≡ cond (nat_eq n.0 a) (cons_option o (found_for found a)) (found_for found a)) [
+      | None ↦ elim (nat_eq n.0 a) as (λ b. found_for found a ≡ cond b (found_for found a) (found_for found a)) [ true ↦ refl | false ↦ refl ]
+      | Some e ↦ elim (nat_eq n.0 a) as (λ b. map (λ (x : ℕ × SyntaxElement). x.1) (cond b ((n.0, e) ∷ there) there) ≡ cond b (e ∷ found_for found a) (found_for found a)) [ true ↦ refl | false ↦ refl ]
+    ] in
+    one ∙ (elim (nat_eq n.0 a) as (λ b. cond b (cons_option (syntax_at root n.1) (found_for found a)) (found_for found a) ≡ found_at root (map (λ (m : ℕ × Path). m.1) (cond b (n ∷ with) with))) [
+      | true ↦ ap (cons_option (syntax_at root n.1)) (finds root ns a)
+      | false ↦ finds root ns a
+    ])
 
 -- ---- the whole
 abbrev pub found_paths : Plan → OriginTree → List (ℕ × Path)
@@ -115,13 +118,13 @@ edit_of p number made =
       old_root = p.root;
       new_root = root;
       changed = found_at root (changed (is_free p.changes) made);
-      annotated = entries (λ a. found_at root (paths_with a (found_paths p made))) (map (λ r. r.1) p.registrations);
+      annotated = found_with root (found_paths p made);
     }
 
 abbrev pub can_make : Plan → ℕ → OriginTree → Bool
 can_make p number made =
     let root = new_root_of number made in
-    list_all (leads root) (changed (is_free p.changes) made) && list_all (λ n. leads root n.1) (found_paths p made) && numbers_pass (is_registered p) (found_paths p made) && numbers_pass (among (map (λ r. r.1) p.registrations)) (found_paths p made)
+    list_all (leads root) (changed (is_free p.changes) made) && list_all (λ n. leads root n.1) (found_paths p made) && numbers_pass (is_registered p) (found_paths p made)
 
 pub makes : (p : Plan) (number : ℕ) (places : ℕ → Path) → ArePlaces p.mapping p.changes places → is_one (new_tree p.changes places p.root) ≡ true → can_make p number (the_one (new_tree p.changes places p.root)) ≡ true → Makes p number (edit_of p number (the_one (new_tree p.changes places p.root)))
 makes p number places are one can =
@@ -130,12 +133,8 @@ makes p number places are one can =
     let all_changed = list_all (leads root) (changed (is_free p.changes) made) in
     let all_noted = list_all (λ n. leads root n.1) (found_paths p made) in
     let all_registered = numbers_pass (is_registered p) (found_paths p made) in
-    let all_listed = numbers_pass (among (map (λ r. r.1) p.registrations)) (found_paths p made) in
-    let last = both (all_changed && all_noted && all_registered) all_listed can in
-    let third = both (all_changed && all_noted) all_registered last.0 in
+    let third = both (all_changed && all_noted) all_registered can in
     let front = both all_changed all_noted third.0 in
-    let f : ℕ → List SyntaxElement = λ a. found_at root (paths_with a (found_paths p made)) in
-    let finds : (a : ℕ) → found_for (edit_of p number made).annotated a ≡ f a = λ a. found-entry f (map (λ r. r.1) p.registrations) a (λ other. ap (found_at root) (none-with (among (map (λ r. r.1) p.registrations)) (found_paths p made) a last.1 other)) in
     record {
       made = made;
       would = record { places = places; are_places = are; is_new = one-is (new_tree p.changes places p.root) one };
@@ -145,8 +144,8 @@ makes p number places are one can =
       tree_is = refl;
       changed_are = all-found root (changed (is_free p.changes) made) front.0;
       annotated_paths = found_paths p made;
-      annotated_are = λ a. ap (map Some) (finds a) ∙ all-found root (paths_with a (found_paths p made)) (leads-with root (found_paths p made) a front.1);
-      unregistered = λ _ a none. finds a ∙ ap (found_at root) (none-with (is_registered p) (found_paths p made) a third.1 none);
+      annotated_are = λ a. ap (map Some) (finds root (found_paths p made) a) ∙ all-found root (paths_with a (found_paths p made)) (leads-with root (found_paths p made) a front.1);
+      unregistered = λ _ a none. finds root (found_paths p made) a ∙ ap (found_at root) (none-with (is_registered p) (found_paths p made) a third.1 none);
       annotated_is = λ _. refl;
     }
 

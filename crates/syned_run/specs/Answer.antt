@@ -28,8 +28,7 @@ use Rattle.cst_core.specs.Tree.{text}
 use Rattle.cst_core.specs.Element.{subtree}
 use Rattle.cst_core.specs.SyntaxElement.{element_of}
 use Rattle.cst_core.specs.declared.element.SyntaxElement.{SyntaxElement}
-use Rattle.annotations.specs.AnnotationTable.{found_for}
-use Rattle.syntax_editor.specs.Plan.{Edit}
+use Rattle.syntax_editor.specs.Plan.{Edit, found_for}
 use Rattle.syntax_editor.specs.PlanText.{path_text}
 use Rattle.tree_text.specs.Escape.{escaped}
 use Rattle.syned_script.specs.RefusalText.{refusal_text}

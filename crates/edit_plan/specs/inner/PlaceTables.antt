@@ -2,15 +2,11 @@
 --     IsPlaceOf                     the only place of an owner's target in its payload, or that there is none
 --     IsPlaced                      a table has no other places than those of owners
 --     FoundSoFar                    the changes before this one find places in a table
---     replaced_by                   a node exchanged for another one
 --     IsFoundPlace, PlacesStay      a table has the place of an owner's target, or none where there is none; what it had stays
 --     TellsPlace                    an answer tells whether a change has a place, where this is that of its owner's target
 use Rattle.std.specs.Prelude.{◌≡◌, ◌↔◌, ◌<◌, ℕ, Bool, IsTrue, IsSomeAnd, List, slice_get, Option, Some, Vec}
 use Rattle.std.specs.Global.{Global}
 use Rattle.cst_core.specs.Path.{Path}
-use Rattle.cst_core.specs.Element.{Element}
-use Rattle.cst_core.specs.declared.element.SyntaxElement.TheVariants.{Node}
-use Rattle.edit_change.specs.declared.change.Change.TheVariants.{Replace}
 use Rattle.edit_map.specs.Mapping.{Mapping, path_in}
 use Rattle.edit_change.specs.Places.{IsPlaceIn, HasPlace}
 use Rattle.edit_change.specs.Nesting.{owner}
@@ -27,9 +23,6 @@ module _ (m : Mapping) (changes : List Change) (table : List (Option (Vec ℕ Gl
   abbrev pub FoundSoFar : ℕ → Type 0
   FoundSoFar n =
       (i e : ℕ) (c o : Change) → i < n → slice_get changes i ≡ Some c → owner changes c ≡ Some e → slice_get changes e ≡ Some o → (p : Path) × (path_at table e ≡ Some p) × HasPlace m o c p
-
-abbrev pub replaced_by : Element → Element → Change
-replaced_by target payload = Replace (Node target) (Some (Node payload))
 
 abbrev pub IsFoundPlace : Mapping → List Change → List (Option (Vec ℕ Global)) → ℕ → Type 0
 IsFoundPlace m changes table owner = (o : Change) → slice_get changes owner ≡ Some o → IsPlaceOf m o (path_at table owner)

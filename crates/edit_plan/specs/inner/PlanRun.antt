@@ -3,15 +3,13 @@
 --     IsPlanned, IsPlanKept         the document order of the changes, what becomes of each, and the places of owners; the same of what code has
 --     IsNewRoot                     a root whose text is within the limit, as that of every edit is
 --     IsOfRoot                      a refusal that may come once there is a tree whose text is within the limit
---     TellsOf                       equal tree numbers have equal trees, as far as a registered element and the mapping go
-use Rattle.std.specs.Prelude.{◌≡◌, ◌<◌, ℕ, List, [], ◌∷◌, map, length, Option, Vec}
+use Rattle.std.specs.Prelude.{◌≡◌, ◌<◌, ℕ, List, [], map, length, Option, Vec}
 use Rattle.std.specs.Global.{Global}
 use Rattle.cst_core.specs.Tree.{text_length}
 use Rattle.cst_core.specs.Green.{length_limit}
-use Rattle.cst_core.specs.Element.{Element, NumbersTell}
-use Rattle.cst_core.specs.SyntaxElement.{element_of}
+use Rattle.cst_core.specs.Element.{Element}
 use Rattle.cst_core.specs.declared.element.SyntaxElement.{SyntaxElement}
-use Rattle.edit_map.specs.Mapping.{Mapping, mapped_elements}
+use Rattle.edit_map.specs.Mapping.{Mapping}
 use Rattle.edit_plan.specs.Plan.{Plan, IsPlan, new_plan}
 use Rattle.edit_change.specs.inner.Fate.{fate}
 use Rattle.edit_change.specs.inner.DocumentOrder.{IsDocumentOrder}
@@ -44,6 +42,3 @@ abbrev pub IsOfRoot : EditError → Type 0
 IsOfRoot NoTreeNumber = Unit {0}
 IsOfRoot Memory = Unit {0}
 IsOfRoot _ = ⊥
-
-abbrev pub TellsOf : Plan → SyntaxElement × ℕ → Type 0
-TellsOf p r = NumbersTell (element_of r.0 ∷ mapped_elements p.mapping)

@@ -1,7 +1,7 @@
 use lib.Utf8.{encode}
 use Rattle.std.proofs.Common.{ℕ, List, ◌++◌, ap, ◌∙◌, string_bytes}
 use Rattle.cst_core.specs.declared.element.SyntaxElement.{SyntaxElement}
-use Rattle.annotations.specs.AnnotationTable.{found_for}
+use Rattle.syntax_editor.specs.Plan.{found_for}
 use Rattle.syned_run.specs.Answer.{paths_of, paths_text}
 use Rattle.syned_run.proofs.Printed.{noted}
 use Rattle.syned_run.proofs.print.push_note.Goals as goal

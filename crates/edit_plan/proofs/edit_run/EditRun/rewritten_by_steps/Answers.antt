@@ -13,7 +13,7 @@ pub within_limit-requires : goal.within_limit-requires
 within_limit-requires c =
     let complete = subst (λ r. is_complete r.plan.changes (is_done r) ≡ true) (sym c.self.view_is) c.requires in
     let shown = carried-tree c.self.inside.plan.now c.self.inside.stages _ (tree-shown c.self.inside.plan.now c.self.inside.stages c.self.invariant _ c.green.ensures) complete in
-    with-tree c.self.inside.plan.now c.in_ok-rewritten.rewritten c.with_tree.result c.in_ok-green.green _ c.in_ok-rewritten.ensures.made c.in_ok-green.ensures shown c.with_tree.ensures
+    with-tree c.self.inside.plan.now c.in_ok-rewritten.rewritten c.in_ok-green.green _ c.in_ok-rewritten.ensures.made c.in_ok-green.ensures shown
 
 pub returns-clause-ok : goal.returns-clause-ok
 returns-clause-ok c = search rules

@@ -1,12 +1,11 @@
-use Rattle.std.proofs.Common.{◌≡◌, ◌<◌, [], map, Err, Some, sym, ◌∙◌, ap, subst}
+use Rattle.std.proofs.Common.{◌≡◌, ◌<◌, [], map, Err, sym, ◌∙◌, ap, subst}
 use Rattle.cst_core.specs.Green.{branch_tree, length_limit}
 use Rattle.cst_core.specs.Tree.{text_length}
 use Rattle.edit_change.specs.Topmost.{paths_of}
 use Rattle.edit_plan.specs.Plan.{RunRefuses}
 use Rattle.edit_plan.specs.inner.PlanRun.{IsOfRoot}
-use Rattle.annotations.specs.AnnotationTable.{annotated_path}
+use Rattle.edit_plan.specs.Engine.{annotated_path}
 use Rattle.edit_plan.specs.EditRefusal.{of_tree}
-use Rattle.edit_plan.proofs.ByAnnotation.{found-in}
 use Rattle.edit_plan.proofs.PromisesOfRuns.{makes, refuses, of-root, err-gives}
 use Rattle.edit_plan.proofs.PathsOfResults.{changed-there, annotated-there}
 use Rattle.edit_plan.proofs.plan.EditPlan.edit_of.Goals as goal
@@ -16,8 +15,8 @@ elements_at-requires c =
     let rewritten = c.args.rewritten in
     changed-there c.args.self.now (branch_tree rewritten.green) (paths_of rewritten.changed.items) (map annotated_path rewritten.annotated.items) c.requires.rewritten c.in_ok-new_root.new_root (ap (λ x. x.root) c.in_ok-new_root.ensures.ok)
 
-pub elements_by_annotation-requires : goal.elements_by_annotation-requires
-elements_by_annotation-requires c =
+pub at_paths-requires : goal.at_paths-requires
+at_paths-requires c =
     let rewritten = c.args.rewritten in
     annotated-there c.args.self.now (branch_tree rewritten.green) (paths_of rewritten.changed.items) (map annotated_path rewritten.annotated.items) c.requires.rewritten c.in_ok-new_root.new_root (ap (λ x. x.root) c.in_ok-new_root.ensures.ok)
 
@@ -38,7 +37,7 @@ returns-clause-ok c =
     let rewritten = c.args.rewritten in
     let root = c.in_ok-new_root.new_root in
     let own : c.trial_source-drawn.result ≡ c.args.ids.now = c.trial_source-drawn.ensures in
-    makes c.args.self.now rewritten.green (paths_of rewritten.changed.items) (map annotated_path rewritten.annotated.items) c.requires.rewritten c.args.ids.now _ (c.in_ok-old_root.ensures ∙ ap (λ x. x.root) c.self.view_is) (c.in_ok-new_root.ensures.ok ∙ ap (λ n. record { number = n; root = branch_tree rewritten.green; path = [] }) own) c.in_ok-changed.ensures (λ a. ap (map (λ x. Some x)) (found-in c.in_ok-annotated.annotated.lists.entries a) ∙ c.in_ok-annotated.ensures a)
+    makes c.args.self.now rewritten.green (paths_of rewritten.changed.items) (map annotated_path rewritten.annotated.items) c.requires.rewritten c.args.ids.now _ (c.in_ok-old_root.ensures ∙ ap (λ x. x.root) c.self.view_is) (c.in_ok-new_root.ensures.ok ∙ ap (λ n. record { number = n; root = branch_tree rewritten.green; path = [] }) own) c.in_ok-changed.ensures c.in_ok-annotated.ensures
 
 pub returns-clause-short : goal.returns-clause-short
 returns-clause-short c = subst (λ e. text_length e.root < length_limit) c.new_root-2.view_is c.new_root-2.invariant.fits

@@ -6,8 +6,8 @@ use Rattle.cst_core.specs.SyntaxElement.{element_of}
 use Rattle.edit_map.specs.Mapping.{followed, mapped_elements}
 use Rattle.edit_change.specs.Topmost.{paths_of}
 use Rattle.edit_plan.specs.Plan.{Plan}
-use Rattle.annotations.specs.AnnotationTable.{annotated_path}
-use Rattle.annotations.specs.inner.Annotating.{numbered_paths}
+use Rattle.edit_plan.specs.Engine.{annotated_path}
+use Rattle.edit_plan.specs.inner.Annotating.{numbered_paths}
 use Rattle.edit_change.specs.inner.PathLists.{path_lists}
 use Rattle.std.specs.Prelude.{length}
 use Rattle.cst_core.specs.Element.{IsNode}

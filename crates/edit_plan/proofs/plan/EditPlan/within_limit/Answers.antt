@@ -3,7 +3,7 @@ use Rattle.std.proofs.Common.{arith}
 use Rattle.cst_core.specs.Green.{branch_tree, length_limit}
 use Rattle.cst_core.specs.Tree.{text_length}
 use Rattle.edit_change.specs.Topmost.{paths_of}
-use Rattle.annotations.specs.AnnotationTable.{annotated_path}
+use Rattle.edit_plan.specs.Engine.{annotated_path}
 use Rattle.edit_plan.proofs.PromisesOfRuns.{too-long}
 use Rattle.edit_plan.proofs.plan.EditPlan.within_limit.Goals as goal
 

@@ -1,3 +1,0 @@
-pub mod Annotation
-pub mod AnnotationTable
-pub mod inner

@@ -1,0 +1,92 @@
+//! The elements of the new tree that paths lead to, and `AnnotatedElements`, in which those of an annotation are found.
+
+ghost use Rattle.std.specs.Prelude.{◌≡◌, map, All, Some, IfOk};
+ghost use Rattle.cst_core.specs.Element.{IsElement, element_at};
+ghost use Rattle.cst_core.specs.SyntaxElement.{syntax_at};
+ghost use Rattle.edit_change.specs.Topmost.{paths_of};
+ghost use Rattle.edit_plan.specs.Plan.{found_for};
+ghost use Rattle.edit_plan.specs.Engine.{annotated_path};
+ghost use Rattle.edit_plan.specs.inner.Annotating.{LeadByAnnotation};
+
+use crate::annotation::SyntaxAnnotation;
+use cst_core::{SyntaxElement, SyntaxNode};
+use std::alloc::{AllocError, Global};
+use std::marker::Model;
+
+/// The elements that these paths lead to, counted from a root.
+pub(crate) fn elements_at(
+    alloc: Global,
+    root: &SyntaxNode,
+    paths: Vec<Vec<usize>>,
+) -> Result<Vec<SyntaxElement>, AllocError>
+    requires { All (λ p. IsElement (element_at root.now p)) (paths_of paths.items) }
+    ensures { IfOk result (λ v. map Some v.items ≡ map (syntax_at root.now) (paths_of paths.items)) }
+{
+    let mut elements = Vec::with_capacity(alloc, paths.len())?;
+    for path in paths {
+        match root.element_of_tree(alloc, path)? {
+            Some(element) => elements.push(element)?,
+            None => unreachable!(),
+        }
+    }
+    Ok(elements)
+}
+
+/// Elements in the order of their annotations, those of one annotation as they came. The first annotation is that of the
+/// first element, and so on.
+#[derive(Drop)]
+pub(crate) struct AnnotatedElements {
+    annotations: Vec<SyntaxAnnotation>,
+    elements: Vec<SyntaxElement>,
+}
+
+impl Model for AnnotatedElements {
+    ghost use Rattle.std.specs.Prelude.{ℕ, List};
+    ghost use Rattle.std.specs.List.{zip};
+    ghost use Rattle.cst_core.specs.declared.element.SyntaxElement.{SyntaxElement};
+    ghost use Rattle.edit_plan.specs.inner.Annotating.{AreByAnnotation};
+    ghost use Rattle.edit_plan.specs.inner.Codes.{annotated_code};
+
+    ghost Value = { List (ℕ × SyntaxElement) };
+
+    ghost coded = { annotated_code };
+
+    ghost view = { λ a. zip a.annotations.items a.elements.items };
+
+    ghost invariant = { λ a. AreByAnnotation a.annotations.items a.elements.items };
+}
+
+impl AnnotatedElements {
+    /// The elements that annotated paths lead to. Takes time linear in the paths where they come by annotation.
+    pub(crate) fn at_paths(
+        alloc: Global,
+        root: &SyntaxNode,
+        mut annotated: Vec<(SyntaxAnnotation, Vec<usize>)>,
+    ) -> Result<AnnotatedElements, AllocError>
+        requires { All (λ n. IsElement (element_at root.now n.1)) (map annotated_path annotated.items) }
+        ensures { IfOk result (LeadByAnnotation root.now (map annotated_path annotated.items)) }
+    {
+        annotated.sort_by_key(|one| one.0)?;
+        let mut annotations = Vec::with_capacity(alloc, annotated.len())?;
+        let mut paths = Vec::with_capacity(alloc, annotated.len())?;
+        for (annotation, path) in annotated {
+            annotations.push(annotation)?;
+            paths.push(path)?;
+        }
+        let elements = elements_at(alloc, root, paths)?;
+        Ok(AnnotatedElements {
+            annotations,
+            elements,
+        })
+    }
+
+    /// The elements of an annotation.
+    pub(crate) fn found_for(&self, annotation: SyntaxAnnotation) -> &[SyntaxElement]
+        ensures { result.now ≡ found_for self.now annotation }
+    {
+        let annotations = self.annotations.as_slice();
+        let end = annotations.partition_point(|one| *one <= annotation);
+        let start = annotations[..end].partition_point(|one| *one < annotation);
+        &self.elements[start..end]
+    }
+}
