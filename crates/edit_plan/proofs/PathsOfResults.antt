@@ -11,7 +11,6 @@ use Rattle.std.proofs.lemmas.List.Elements.{All-from_recursion}
 use Rattle.cst_core.specs.Path.{Path}
 use Rattle.cst_core.specs.Tree.{Tree, SyntaxTree, label, at, paths, relabelled}
 use Rattle.cst_core.specs.Element.{Address, Element, IsElement, element_at, same_address}
-use Rattle.cst_core.specs.SyntaxElement.{syntax_as, syntax_at}
 use Rattle.edit_change.specs.Topmost.{holds_at, parent_holds, topmost}
 use Rattle.edit_plan.specs.Plan.{Plan}
 use Rattle.edit_plan.specs.Engine.{IsRewritten}

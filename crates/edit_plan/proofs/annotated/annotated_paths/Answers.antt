@@ -1,5 +1,5 @@
-use Rattle.std.proofs.Common.{◌≡◌, ◌++◌, ℕ, List, [], ◌∷◌, map, ap, ap₂, sym, ◌∙◌, refl, inl, inr, append-nil}
-use Rattle.std.proofs.lemmas.List.{append_assoc, nil_from_length}
+use Rattle.std.proofs.Common.{◌≡◌, ◌++◌, ℕ, List, [], ◌∷◌, map, ap, sym, ◌∙◌, refl, inl, inr, append-nil}
+use Rattle.std.proofs.lemmas.List.{nil_from_length}
 use Rattle.cst_core.specs.Path.{Path}
 use Rattle.edit_change.specs.Topmost.{paths_of}
 use Rattle.edit_plan.specs.Engine.{annotated_path}

@@ -1,5 +1,5 @@
 use Rattle.std.specs.Prelude.{ℕ, [], flat_map, None, refl}
-use Rattle.std.proofs.Common.{◌≡◌, ap, ap₂, sym, ◌∙◌}
+use Rattle.std.proofs.Common.{ap, ap₂, sym, ◌∙◌}
 use Rattle.std.proofs.lemmas.List.{append-nil}
 use Rattle.cst_core.specs.Tree.{text}
 use Rattle.cst_core.specs.Element.{address, subtree}

@@ -1,11 +1,23 @@
 use Rattle.std.proofs.Common.{◌≡◌, ℕ, List, length, ap, sym, subst, ◌∙◌}
 use Rattle.cst_core.specs.Tree.{text, text_length}
-use Rattle.cst_core.specs.Element.{subtree}
+use Rattle.cst_core.specs.Element.{IsNode, subtree}
+use Rattle.edit_change.specs.Nesting.{first_clash}
+use Rattle.edit_change.specs.inner.DocumentOrder.{IsDocumentOrder}
 use Rattle.edit_change.specs.inner.OwnerPlaces.{places_in}
 use Rattle.text_edit.specs.TextPiece.{TextPiece, pieces, AreApart}
 use Rattle.edit_plan.specs.Plan.{Plan}
 use Rattle.edit_plan.proofs.EditsOfPlan.{edits-told, edits-apart}
 use Rattle.edit_plan.proofs.plan.EditPlan.text_edits.Goals as goal
+
+pub text_edits-requires-clause-node : goal.text_edits-requires-clause-node
+text_edits-requires-clause-node c = subst IsNode (sym c.planned.ensures.root) c.planned.ensures.is.is_plan.is_node
+
+pub text_edits-requires-clause-apart : goal.text_edits-requires-clause-apart
+text_edits-requires-clause-apart c = ap first_clash c.planned.ensures.changes ∙ c.planned.ensures.is.is_plan.apart
+
+pub text_edits-requires-clause-order : goal.text_edits-requires-clause-order
+text_edits-requires-clause-order c =
+    subst (λ cs. IsDocumentOrder cs c.planned.result.order.now) (sym c.planned.ensures.changes) c.planned.ensures.is.order_is
 
 pub one_list-requires : goal.one_list-requires
 one_list-requires c =
