@@ -98,7 +98,7 @@ WRONG_TABLES = {
     "with a group without rows": (PART + "group without_rows\nend\n", "end", "the file has no row"),
     "with a group in a group": (PART + "group nested\nend\n", "group kinds", "a group names a group"),
     "with a group that is not there": (PART + "group missing\nend\n", "group missing", ""),
-    "with a pair that has no row": (GOOD + "end\n", "no row: new_root answers ok", None),
+    "with a pair that has no row": ("owes next TreeIds::next ok none\n" + GOOD + "end\n", "no row: next answers ok", None),
 }
 
 
@@ -150,7 +150,7 @@ def all_answer():
 # Allocations that fail. A row is a table of its own, which begins with the line `growths are refused` and the trees that the row names. Each of
 # its runs must answer as expected or end because memory runs out; then everything that a refused call must leave as it was is compared.
 
-# Calls that no row can show to be refused. The sharing of a tree is a count, and the path of a root is empty. Rows speak of no text edits.
+# Calls that no row can show to be refused. The sharing of a tree is a count, and the path of a root is empty.
 EXCEPT = {
     "GreenToken::share": "asks for nothing",
     "GreenElementRef::share": "asks for nothing",
@@ -174,11 +174,6 @@ EXCEPT = {
     "OnePassEngine::starting_at": "asks for nothing",
     "SpliceEngine::new": "asks for nothing",
     "KindNames::new": "keeps the allocator, and asks for nothing",
-    "LineIndex::new": "changes nothing that it is given; no test has its allocations fail",
-    "TextEdits::apply": "changes nothing that it is given; no test has its allocations fail",
-    "TextEdits::inverse": "changes nothing that it is given; no test has its allocations fail",
-    "TextEdits::then": "changes nothing that it is given; no test has its allocations fail",
-    "TextEdits::trimmed": "changes nothing that it is given; no test has its allocations fail",
     "run_explained": "is the whole of the program `syned`, which is run here with each allocation made to fail",
     "run": "is `run_explained` without the sentence",
     "explain": "makes the sentence of `run_explained`",
@@ -249,12 +244,13 @@ def refused_rows(library):
     """The calls that were refused in the runs of all rows, and of two that are too long for a table: the untouched part of a tree has a
     thousand tokens, or none."""
     refused, wrong, ran, growths = set(), 0, 0, 0
+    names = dict(re.findall(r"^owes (\S+) (\S+) ", (CRATE / "stdin").read_text(), re.M))
     with tempfile.TemporaryFile("w+", encoding="utf-8", newline="\n") as table:
         for line, trees in [(beside(0), []), (beside(1000), []), *rows()]:
             status, out = refuse_each(library, line, trees, table)
             count = re.search(r"^growths: (\d+)\n\Z", out, re.M)
             ran += 1
-            refused.update(re.findall(r"^Memory: (\S+)$", out, re.M))
+            refused.update(names.get(call, call) for call in re.findall(r"^Memory: (\S+)$", out, re.M))
             if status == 0 and count:
                 growths += int(count.group(1))
             else:

@@ -8,7 +8,7 @@ use crate::shown::{Answer, Done, say};
 use cst_core::ast::{BlockExpr, Fn, LetStmt};
 use cst_core::{AstNode, SyntaxElement, SyntaxNode};
 use list_removal::remove_separated;
-use syntax_editor::{AttrsOwnerEdit, Change, SyntaxEdit, SyntaxEditor};
+use syntax_editor::{AttrsOwnerEdit, Change, Error, SyntaxEdit, SyntaxEditor};
 use test_trees::{NoAnswer, Words};
 
 // What is told of an editor.
@@ -27,7 +27,10 @@ pub fn answer(s: &mut Session, name: &str, words: &mut Words, out: &mut Answer) 
         "factory" => Ok(*last(&mut s.editors)?.make_mut() = factory(s.alloc, words)?),
         "clashes_with" => clashes_with(s, out),
         "merge" => merge(s, out),
-        "finish" => finish(s, out),
+        "finish" => {
+            let called = take(&mut s.editors)?.finish(s.alloc, &mut s.ids);
+            keep_edit(s, called, out)
+        }
         "old_text" | "new_text" | "changed" | "annotated" => of_edit(s, name, words, out),
         "find_element" => find_element(s, words, out),
         _ if is_one_of(name, TOLD) => of_editor(s, name, words, out),
@@ -74,16 +77,15 @@ fn merge(s: &mut Session, out: &mut Answer) -> Done {
     }
 }
 
-fn finish(s: &mut Session, out: &mut Answer) -> Done {
-    let editor = take(&mut s.editors)?;
-    let edit = out.asked(editor.finish(s.alloc, &mut s.ids))?;
-    Ok(keep_edit(s, edit, out))
-}
-
-/// Keeps an edit, and answers its new root.
-pub fn keep_edit(s: &mut Session, edit: SyntaxEdit, out: &mut Answer) {
+/// Keeps an edit that a call gave, and answers its new root.
+pub fn keep_edit<E: Into<Error>>(
+    s: &mut Session,
+    called: Result<SyntaxEdit, E>,
+    out: &mut Answer,
+) -> Done {
+    let edit = out.asked(called)?;
     out.root(edit.new_root());
-    out.note(s.edits.push(edit));
+    Ok(out.note(s.edits.push(edit)))
 }
 
 // The text of the old root of the last edit, that of the new one, or the paths of changed elements, or of those with

@@ -13,18 +13,12 @@ pub fn answer(s: &mut Session, name: &str, words: &mut Words, out: &mut Answer) 
     let element = s.trees.element(words)?;
     out.tree = element.tree();
     let before = hash_of(&element);
-    let done = ask(&element, name, words, out);
-    demand(hash_of(&element) == before, CHANGED)?;
-    done
-}
-
-fn ask(element: &SyntaxElement, name: &str, words: &mut Words, out: &mut Answer) -> Done {
-    match element {
-        SyntaxElement::Node(it) if !words.is_empty() => return at(it, name, words, out),
-        SyntaxElement::Node(it) => of_node_alone(out, name, it, element),
-        SyntaxElement::Token(it) => of_token_alone(out, name, it, element),
+    match &element {
+        SyntaxElement::Node(it) if !words.is_empty() => at(it, name, words, out)?,
+        SyntaxElement::Node(it) => of_node_alone(out, name, it, &element),
+        SyntaxElement::Token(it) => of_token_alone(out, name, it, &element),
     }
-    Ok(())
+    demand(hash_of(&element) == before, CHANGED)
 }
 
 // What a call of this form gives.

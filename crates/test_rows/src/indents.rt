@@ -4,7 +4,7 @@ use crate::making::factory;
 use crate::roots::typed;
 use crate::session::{CHANGED, Session};
 use crate::shown::{Answer, Done, Read, demand};
-use crate::texts;
+use crate::text_edits;
 use cst_core::ast::{BlockExpr, StmtList};
 use cst_core::{AstNode, SyntaxElement};
 use syntax_editor::{AstNodeEdit, IndentError, IndentLevel, SyntaxFactory, indent};
@@ -18,10 +18,13 @@ pub fn answer(s: &mut Session, name: &str, words: &mut Words, out: &mut Answer) 
         "is_zero" => Ok(out.truth(read_level(words)?.is_zero())),
         "sum" => sum(words, out),
         "print" => print(words, out),
-        "free_indent" => free_indent(s, words, out),
+        "free_indent" => {
+            let (node, level) = (s.trees.node(words)?, read_level(words)?);
+            out.new_root(indent(s.alloc, &node, &mut s.ids, level))
+        }
         "dedent" => dedent(s, words, out),
         "indent_with_mapping" => indent_with_mapping(s, words, out),
-        _ => texts::answer(s, name, words, out),
+        _ => text_edits::answer(s, name, words, out),
     }
 }
 
@@ -64,13 +67,6 @@ fn print(words: &mut Words, out: &mut Answer) -> Done {
         "[{level}] [{level:*>14}] [{level:*<13}] [{level:*^14}]"
     );
     Ok(out.note(printed))
-}
-
-fn free_indent(s: &mut Session, words: &mut Words, out: &mut Answer) -> Done {
-    let node = s.trees.node(words)?;
-    let level = read_level(words)?;
-    let node = out.asked(indent(s.alloc, &node, &mut s.ids, level))?;
-    Ok(out.root(&node))
 }
 
 // A new tree with this typed node as its root.

@@ -11,6 +11,8 @@ pub enum Line<'a> {
     Refused,
     /// `group NAME`: the lines of the file `NAME.rows`.
     Group(&'a str),
+    /// `owes CALL NAME ANSWER ..`: a call by its name in rows, its name in the sources, and the answers that it owes.
+    Owes(&'a str),
     /// `tree NAME TREE`, with what stands after the first word: a tree that the rows after it name.
     Tree(&'a str),
     /// A row: the steps of `WORDS: STEP ; STEP ; ..` or `? STEP`, an answer, whether it is theirs (` = ANSWER`), or
@@ -29,6 +31,7 @@ impl<'a> Line<'a> {
             ("end", "") => Line::End,
             ("growths", "are refused") => Line::Refused,
             ("group", name) => Line::Group(name),
+            ("owes", call) => Line::Owes(call),
             ("tree", tree) => Line::Tree(tree),
             _ if line.starts_with('#') => Line::Blank,
             _ => Line::read_row(line).unwrap_or(Line::Malformed),
@@ -61,7 +64,7 @@ impl Part {
             return Err("the file goes on after its end");
         }
         match line {
-            Line::Blank | Line::Refused => (),
+            Line::Blank | Line::Refused | Line::Owes(_) => (),
             Line::End => self.is_ended = true,
             _ => self.has_lines = true,
         }

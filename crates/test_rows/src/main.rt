@@ -5,7 +5,6 @@
 //! The head of the table (`stdin`, beside this folder) says how a line is written, and docs/ROWS.md how to add one.
 #![tactic(auto)]
 
-mod calls;
 mod editors;
 mod elements;
 mod errors;
@@ -19,6 +18,7 @@ mod run;
 mod session;
 mod shown;
 mod standing;
+mod text_edits;
 mod texts;
 mod values;
 

@@ -17,14 +17,20 @@ pub fn answer(s: &mut Session, name: &str, words: &mut Words, out: &mut Answer) 
     match name {
         "tree" => tree(s, words),
         "numbers" => numbers(s, words),
-        "new_root" => new_root(s, words, out),
+        "new_root" => {
+            let green = s.trees.tree(words.take_rest())?;
+            out.new_root(SyntaxNode::new_root(s.alloc, &mut s.ids, green))
+        }
         "clone_subtree" => clone_subtree(s, words, out),
         "green_node" | "capped" => green_node(s, name, words, out),
         "splice_children" => splice_children(s, words, out),
         "next" => Ok(out.given_or_none(&s.ids.next())),
         "peek" => peek(s, out),
         "annotations" => annotations(words, out),
-        "before" | "after" | "first" | "last" => gap(s, name, words, out),
+        "before" | "after" | "first" | "last" => {
+            let position = s.trees.gap(name, words.word()?)?;
+            Ok(out.word(if position.is_some() { "ok" } else { "none" }))
+        }
         "syntax_element" => made(&s.trees.element(words)?, out),
         "typed_element" => typed_element(s, words, out),
         "token" => token(s, words, out),
@@ -55,14 +61,11 @@ fn tree(s: &mut Session, words: &mut Words) -> Done {
 
 // A new source of numbers, from this number on, or a spent one.
 fn numbers(s: &mut Session, words: &mut Words) -> Done {
-    let first = words.word()?;
-    let is_spent = first == "spent";
-    s.ids = TreeIds::new(if is_spent {
-        u64::MAX
-    } else {
-        number_of(first)?
-    });
-    Ok(())
+    let first = match words.word()? {
+        "spent" => u64::MAX,
+        digits => number_of(digits)?,
+    };
+    Ok(s.ids = TreeIds::new(first))
 }
 
 // The number that comes next.
@@ -72,12 +75,6 @@ fn peek(s: &mut Session, out: &mut Answer) -> Done {
         out.word("spent in one way and not in another");
     }
     Ok(next.show(out))
-}
-
-fn new_root(s: &mut Session, words: &mut Words, out: &mut Answer) -> Done {
-    let green = s.trees.tree(words.take_rest())?;
-    let root = out.asked(SyntaxNode::new_root(s.alloc, &mut s.ids, green))?;
-    Ok(out.root(&root))
 }
 
 // The copy goes by the name `it` from then on.
@@ -123,11 +120,6 @@ fn annotations(words: &mut Words, out: &mut Answer) -> Done {
         before = given;
     }
     Ok(())
-}
-
-fn gap(s: &mut Session, name: &str, words: &mut Words, out: &mut Answer) -> Done {
-    let position = s.trees.gap(name, words.word()?)?;
-    Ok(out.word(if position.is_some() { "ok" } else { "none" }))
 }
 
 // The text of an element that is made of a value.
@@ -196,8 +188,7 @@ fn node(s: &mut Session, words: &mut Words, out: &mut Answer) -> Done {
     let kind = kind_in(words)?;
     let children = s.trees.others(words)?;
     let factory = SyntaxFactory::without_mappings(s.alloc);
-    let node = out.asked(factory.node(s.alloc, &mut s.ids, kind, &children))?;
-    Ok(out.root(&node))
+    out.new_root(factory.node(s.alloc, &mut s.ids, kind, &children))
 }
 
 // A node, a kind, the elements that stand before `round`, and those after it.

@@ -13,44 +13,52 @@ use cst_core::{GreenNode, SyntaxNode, TreeError};
 use std::alloc::Global;
 use std::mem::replace;
 use syntax_editor::{
-    Change, EditEngine, EditPlan, EditRun, ElementList, EngineError, OnePassEngine, Rewritten,
-    SpliceEngine, SyntaxMapping,
+    Change, EditEngine, EditError, EditPlan, EditRun, ElementList, EngineError, OnePassEngine,
+    Rewritten, SpliceEngine, SyntaxMapping,
 };
 use test_trees::{NoAnswer, Words, number_of};
-use tree_text::{WriteError, write_tree};
+use tree_text::write_tree;
 
 /// Takes the step of this name, or passes on what is none of these.
 pub fn answer(s: &mut Session, name: &str, words: &mut Words, out: &mut Answer) -> Done {
     match name {
-        "plan" => plan(s, out),
+        "plan" => {
+            let called = take(&mut s.editors)?.plan(s.alloc);
+            keep(s, called, out)
+        }
         "change" => Ok(out.note(s.changes.push(next_change(&s.trees, words)?))),
         "register" => register(s, words, out),
         "check_changes" => check_changes(s, words, out),
         "build" => build(s, words, out),
-        "is_empty" | "plan_deletions" | "plan_text" => of_plan(last(&mut s.plans)?, name, out),
+        "is_empty" | "plan_deletions" | "plan_text" | "default_order" => of_plan(
+            last(&mut s.plans)?,
+            name,
+            out,
+        ),
         "text_edits" => text_edits(s, out),
         "is_dropped" | "owner" => of_change(last(&mut s.plans)?, name, words, out),
-        "default_order" => default_order(s, out),
         "execute" => execute(s, words, out),
         "run" => run(s, &mut OnePassEngine::new(s.alloc), out),
         "run_spliced" => run(s, &mut SpliceEngine::new(s.alloc), out),
         "built" => built(s, words, out),
-        "stepped" => step_through(s, words, out),
-        "finish_run" => finish_run(s, words, out),
-        "finish_counting" => finish_counting(s, words, out),
+        "stepped" => {
+            out.word("ok");
+            Stepped::new(last(&mut s.plans)?, out)?.take_all(words, out)
+        }
+        "finish_run" => finish_run(s, None, words, out),
+        "finish_counting" => {
+            let first = words.number()?;
+            finish_run(s, Some(first), words, out)
+        }
         _ => indents::answer(s, name, words, out),
     }
 }
 
-fn plan(s: &mut Session, out: &mut Answer) -> Done {
-    let plan = out.asked(take(&mut s.editors)?.plan(s.alloc))?;
-    Ok(keep(s, plan, out))
-}
-
-// Keeps a plan, and answers how many changes it has.
-fn keep(s: &mut Session, plan: EditPlan, out: &mut Answer) {
+// Keeps a plan that a call gave, and answers how many changes it has.
+fn keep(s: &mut Session, called: Result<EditPlan, EditError>, out: &mut Answer) -> Done {
+    let plan = out.asked(called)?;
     out.given(&(plan.len() as u64));
-    out.note(s.plans.push(plan));
+    Ok(out.note(s.plans.push(plan)))
 }
 
 // What is told of a plan: whether it has no change, what it deletes, and a line for each change.
@@ -58,7 +66,8 @@ fn of_plan(plan: &EditPlan, name: &str, out: &mut Answer) -> Done {
     match name {
         "is_empty" => Ok(out.truth(plan.is_empty())),
         "plan_deletions" => Ok(deleted_paths(plan.changes(), out)),
-        _ => Ok(out.made_text(plan.to_string(out.alloc))),
+        "plan_text" => Ok(out.made_text(plan.to_string(out.alloc))),
+        _ => default_order(plan, out),
     }
 }
 
@@ -145,8 +154,8 @@ fn build(s: &mut Session, words: &mut Words, out: &mut Answer) -> Done {
     }
     let registrations = replace(&mut s.registrations, Vec::new(s.alloc));
     let mapping = s.mappings.pop().unwrap_or(SyntaxMapping::new(s.alloc));
-    let plan = out.asked(EditPlan::build(s.alloc, root, changes, registrations, mapping))?;
-    Ok(keep(s, plan, out))
+    let called = EditPlan::build(s.alloc, root, changes, registrations, mapping);
+    keep(s, called, out)
 }
 
 // Whether a change of a plan is dropped, or the change that owns it.
@@ -161,8 +170,8 @@ fn of_change(plan: &EditPlan, name: &str, words: &mut Words, out: &mut Answer) -
     }
 }
 
-fn default_order(s: &mut Session, out: &mut Answer) -> Done {
-    let order = out.asked(last(&mut s.plans)?.default_order(s.alloc))?;
+fn default_order(plan: &EditPlan, out: &mut Answer) -> Done {
+    let order = out.asked(plan.default_order(out.alloc))?;
     out.word("ok");
     for change in order.iter() {
         say!(out, " {change}");
@@ -175,14 +184,14 @@ fn execute(s: &mut Session, words: &mut Words, out: &mut Answer) -> Done {
     for word in words.take_rest().split_whitespace() {
         order.push(number_of(word)?)?;
     }
-    let edit = out.asked(last(&mut s.plans)?.execute(s.alloc, &mut s.ids, &order))?;
-    Ok(keep_edit(s, edit, out))
+    let called = last(&mut s.plans)?.execute(s.alloc, &mut s.ids, &order);
+    keep_edit(s, called, out)
 }
 
 // Carries the last plan out with this engine.
 fn run<E: EditEngine>(s: &mut Session, engine: &mut E, out: &mut Answer) -> Done {
-    let edit = out.asked(last(&mut s.plans)?.run_with(s.alloc, &mut s.ids, engine))?;
-    Ok(keep_edit(s, edit, out))
+    let called = last(&mut s.plans)?.run_with(s.alloc, &mut s.ids, engine);
+    keep_edit(s, called, out)
 }
 
 // The count of an engine that makes the last plan's tree in one pass, from the next word's number on, if the other
@@ -223,43 +232,30 @@ fn is_same(alloc: Global, one: &Rewritten, other: &Rewritten) -> Read<bool> {
     if one.green.length() > COMPARED || other.green.length() > COMPARED {
         return Ok(one.green.length() == other.green.length());
     }
-    let one = text_of(write_tree(alloc, &one.green))?;
-    Ok(one == text_of(write_tree(alloc, &other.green))?)
+    match (
+        write_tree(alloc, &one.green),
+        write_tree(alloc, &other.green),
+    ) {
+        (Ok(one), Ok(other)) => Ok(one == other),
+        _ => Err(NoAnswer::Memory),
+    }
 }
 
-fn text_of(written: Result<String, WriteError>) -> Read<String> {
-    written.ok().ok_or(NoAnswer::Memory)
-}
-
-fn step_through(s: &mut Session, words: &mut Words, out: &mut Answer) -> Done {
-    out.word("ok");
-    let mut stepped = Stepped::new(last(&mut s.plans)?, out)?;
-    stepped.take_all(words, out)
-}
-
-// The edit that a run gives where it is complete.
-fn finish_run(s: &mut Session, words: &mut Words, out: &mut Answer) -> Done {
+// The edit that a run gives where it is complete; if there is a first number, also the count from it on of the walk
+// that gives the edit its paths. Where there is no edit the count is as it was.
+fn finish_run(s: &mut Session, first: Option<u64>, words: &mut Words, out: &mut Answer) -> Done {
     let run = run_by(last(&mut s.plans)?, words, out)?;
     if !run.is_complete() {
         return Ok(out.word("not complete"));
     }
-    let edit = out.asked(run.finish(s.alloc, &mut s.ids))?;
-    Ok(keep_edit(s, edit, out))
-}
-
-// The same, with the count of the walk that gives the edit its paths, from the first number on. Where there is no edit
-// the count is as it was.
-fn finish_counting(s: &mut Session, words: &mut Words, out: &mut Answer) -> Done {
-    let first = words.number()?;
-    let run = run_by(last(&mut s.plans)?, words, out)?;
-    if !run.is_complete() {
-        return Ok(out.word("not complete"));
-    }
+    let Some(first) = first else {
+        let called = run.finish(s.alloc, &mut s.ids);
+        return keep_edit(s, called, out);
+    };
     let mut walk = OnePassEngine::starting_at(s.alloc, first);
     let called = run.finish_counting(s.alloc, &mut s.ids, &mut walk);
     demand(called.is_ok() || walk.builds() == first, CHANGED)?;
-    let edit = out.asked(called)?;
-    keep_edit(s, edit, out);
+    keep_edit(s, called, out)?;
     say!(out, ", built {}", walk.builds());
     Ok(())
 }

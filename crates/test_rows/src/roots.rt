@@ -87,11 +87,6 @@ impl Roots {
         Ok(greens)
     }
 
-    pub fn two_elements(&self, words: &mut Words) -> Read<(SyntaxElement, SyntaxElement)> {
-        let first = self.element(words)?;
-        Ok((first, self.element(words)?))
-    }
-
     pub fn two_nodes(&self, words: &mut Words) -> Read<(SyntaxNode, SyntaxNode)> {
         let first = self.node(words)?;
         Ok((first, self.node(words)?))

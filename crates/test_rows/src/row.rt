@@ -1,6 +1,5 @@
 //! A row: its steps in their order, and what those answer that are asked about. A question is a row of one step.
 
-use crate::calls::name_of;
 use crate::making;
 use crate::session::Session;
 use crate::shown::{Answer, Done, demand};
@@ -9,6 +8,9 @@ use test_trees::{NoAnswer, Words, first_word};
 
 // The number of a tree that a row names without one.
 const TREE: u64 = 7;
+
+// In the place of a call's name, that of the step.
+const STEP: &str = "the call";
 
 /// Takes the steps in their order. The last one and each after `?` is asked about.
 pub fn take(s: &mut Session, steps: &str) -> Done {
@@ -44,17 +46,12 @@ fn ask(s: &mut Session, step: &str) -> Done {
 }
 
 fn push_changed(answer: &mut Answer, before: &Standing, after: &Standing) {
-    let (is_drawn, is_kept) = (before.next != after.next, before.is_kept_but_numbers(after));
-    answer.word(if is_drawn {
-        " and a number is drawn"
-    } else {
-        ""
-    });
-    answer.word(if is_kept {
-        ""
-    } else {
-        " and something else is changed"
-    });
+    if before.next != after.next {
+        answer.word(" and a number is drawn");
+    }
+    if !before.is_kept_but_numbers(after) {
+        answer.word(" and something else is changed");
+    }
 }
 
 // Notes the answer of a call that is asked about, unless memory runs out, as the answer says then.
@@ -73,8 +70,9 @@ fn note(s: &mut Session, call: &str, answer: &mut Answer) {
 fn repeated(s: &mut Session, step: &str, answer: &mut Answer) -> Done {
     let before = s.standing();
     match answer_to(s, step, answer) {
-        Err(NoAnswer::Refused(name)) => {
-            s.note_refusal(name, &before)?;
+        Err(NoAnswer::Refused(call)) => {
+            let step_name = first_word(step).0;
+            s.note_refusal(if call == STEP { step_name } else { call }, &before)?;
             answer_to(s, step, answer)
         }
         done => done,
@@ -89,13 +87,13 @@ fn answer_to(s: &mut Session, step: &str, answer: &mut Answer) -> Done {
     let name = words.word()?;
     let taken = making::answer(s, name, &mut words, answer);
     if let Some(call) = answer.refused {
-        s.refused = Some(call);
+        s.refused = String::from_str(s.alloc, call)?;
     }
     answer.whole()?;
     match taken {
         Ok(()) if !words.is_empty() => Err(NoAnswer::Arguments),
         Err(NoAnswer::Refusal) if answer.text.as_str() == "Memory" => {
-            Err(NoAnswer::Refused(name_of(name)))
+            Err(NoAnswer::Refused(STEP))
         }
         Ok(()) | Err(NoAnswer::Refusal) => {
             if answer.text.is_empty() {

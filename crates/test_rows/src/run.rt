@@ -1,6 +1,5 @@
 //! A run of the table, line by line, and what went wrong.
 
-use crate::calls::print_missing;
 use crate::line::{Line, Part};
 use crate::row;
 use crate::session::Session;
@@ -81,11 +80,15 @@ impl Run {
         Ok(())
     }
 
-    // Takes a line but for those of a group that it names.
+    // Takes a line but for those of a group that it names. Of a row it says which call was refused.
     fn take<R: Print>(&mut self, rt: &R, text: &str, line: Line) -> Said {
         match line {
             Line::Blank | Line::End => Ok(()),
             Line::Refused => Ok(self.is_partial = true),
+            Line::Owes(call) => {
+                let done = self.session.owe(call);
+                self.note_end(rt, text, done)
+            }
             Line::Tree(tree) => {
                 let (name, tree) = first_word(tree);
                 let alloc = self.session.alloc;
@@ -93,7 +96,11 @@ impl Run {
                 self.note_end(rt, text, done)
             }
             Line::Row(steps, answer, is_it) => {
-                let done = self.take_steps(rt, steps)?;
+                self.session.clear();
+                let done = row::take(&mut self.session, steps);
+                if !self.session.refused.is_empty() {
+                    println!(rt; "Memory: {}", self.session.refused)?;
+                }
                 if done.is_ok() && (self.session.answers.as_str() == answer) != is_it {
                     let nothing = String::new(self.session.alloc);
                     let answers = replace(&mut self.session.answers, nothing);
@@ -104,16 +111,6 @@ impl Run {
             Line::Group(_) => self.note_wrong(rt, text, "a group names a group"),
             Line::Malformed => self.note_wrong(rt, text, "the line is malformed"),
         }
-    }
-
-    // Takes the steps of a row, and says which call was refused.
-    fn take_steps<R: Print>(&mut self, rt: &R, steps: &str) -> io::Result<Done> {
-        self.session.clear();
-        let done = row::take(&mut self.session, steps);
-        if let Some(call) = self.session.refused {
-            println!(rt; "Memory: {call}")?;
-        }
-        Ok(done)
     }
 
     // Notes a row, or a tree, that ended because memory ran out, or for another reason, which goes wrong.
@@ -139,12 +136,37 @@ impl Run {
         self.note_wrong(rt, file, "its last line is not `end`")
     }
 
+    // Prints each answer that a call owes and that no row has, and how many one has. Gives the number of the others.
+    fn print_missing<R: Print>(&self, rt: &R) -> io::Result<u32> {
+        let mut all = 0_u32;
+        let mut lacks = 0_u32;
+        for line in &self.session.owed {
+            let (call, named) = first_word(line);
+            for answer in first_word(named).1.split(' ') {
+                all = all.saturating_add(1);
+                let owed = Some((call, answer));
+                if !self
+                    .session
+                    .asked
+                    .iter()
+                    .any(|pair| pair.split_once(' ') == owed)
+                {
+                    lacks = lacks.saturating_add(1);
+                    println!(rt; "no row: {call} answers {answer}")?;
+                }
+            }
+        }
+        let have = all.saturating_sub(lacks);
+        println!(rt; "{have} of {all} owed pairs of a call and its answer have a row")?;
+        Ok(lacks)
+    }
+
     /// Prints how many owed pairs have a row and whether all rows answered as expected, and says whether both is so.
     pub fn close<R: Print>(&mut self, rt: &R) -> io::Result<ExitCode> {
         self.note_end_of(rt, "the table", self.part)?;
         let mut lacks = 0;
         if !self.is_partial {
-            lacks = print_missing(rt, &self.session.asked)?;
+            lacks = self.print_missing(rt)?;
             match self.wrong {
                 0 => println!(rt; "all rows answer as expected")?,
                 wrong => println!(rt; "{wrong} lines of the table are wrong")?,

@@ -10,6 +10,7 @@ use syntax_editor::{
     SyntaxMappingBuilder,
 };
 use test_trees::NoAnswer;
+use text_edit::TextEdits;
 
 /// What the steps of a row work on, the trees of the table, and what is answered. A step on an editor, a plan, an
 /// edit, a mapping or a builder is one on the last that was made.
@@ -26,12 +27,16 @@ pub struct Session {
     pub registrations: Vec<(SyntaxElement, SyntaxAnnotation)>,
     pub plans: Vec<EditPlan>,
     pub edits: Vec<SyntaxEdit>,
-    /// The name of the call that was refused because memory ran out.
-    pub refused: Option<&'static str>,
+    /// Lists of text edits, which no call changes.
+    pub lists: Vec<TextEdits>,
+    /// The name of the call that was refused because memory ran out, or nothing.
+    pub refused: String,
     /// What the steps of the row answer that are asked about.
     pub answers: String,
     /// The calls that rows asked about, each with the first word of what it answered, as `CALL ANSWER`.
     pub asked: Vec<String>,
+    /// The calls that owe rows, each with what stands after `owes` in its line.
+    pub owed: Vec<String>,
 }
 
 impl Session {
@@ -47,9 +52,11 @@ impl Session {
             registrations: Vec::new(alloc),
             plans: Vec::new(alloc),
             edits: Vec::new(alloc),
-            refused: None,
+            lists: Vec::new(alloc),
+            refused: String::new(alloc),
             answers: String::new(alloc),
             asked: Vec::new(alloc),
+            owed: Vec::new(alloc),
         }
     }
 
@@ -64,7 +71,8 @@ impl Session {
         self.registrations.clear();
         self.plans.clear();
         self.edits.clear();
-        self.refused = None;
+        self.lists.clear();
+        self.refused.clear();
         self.answers.clear();
     }
 
@@ -91,9 +99,14 @@ impl Session {
         }
     }
 
+    pub fn owe(&mut self, call: &str) -> Done {
+        let call = String::from_str(self.alloc, call)?;
+        Ok(self.owed.push(call)?)
+    }
+
     /// Notes that a call was refused because memory ran out, where all is as it was and is there to call it again.
-    pub fn note_refusal(&mut self, call: &'static str, before: &Standing) -> Done {
-        self.refused = Some(call);
+    pub fn note_refusal(&mut self, call: &str, before: &Standing) -> Done {
+        self.refused = String::from_str(self.alloc, call)?;
         let after = self.standing();
         demand(before.is_kept(&after), CHANGED)?;
         demand(!before.has_lost(&after), NoAnswer::Memory)

@@ -62,10 +62,9 @@ pub fn given<T, E: Drop>(call: &'static str, called: Result<T, E>) -> Read<T> {
 impl Answer {
     /// An empty one, about elements of the tree with this number.
     pub fn new(alloc: Global, tree: u64) -> Answer {
-        let text = String::new(alloc);
         Answer {
             alloc,
-            text,
+            text: String::new(alloc),
             tree,
             end: None,
             refused: None,
@@ -92,16 +91,28 @@ impl Answer {
     }
 
     /// What a call gave. If it is refused, what the refusal prints is the answer.
+    pub fn tried<T, E: Display + Drop>(&mut self, called: Result<T, E>) -> Read<T> {
+        match called {
+            Ok(given) => Ok(given),
+            Err(refusal) => Err(self.refusal(&refusal)),
+        }
+    }
+
+    /// The same of a call of the editor.
     pub fn asked<T, E: Into<Error>>(&mut self, called: Result<T, E>) -> Read<T> {
         match called {
             Ok(given) => Ok(given),
             Err(refusal) => {
                 let refusal: Error = refusal.into();
-                self.text.clear();
-                self.print(&refusal);
-                Err(NoAnswer::Refusal)
+                Err(self.refusal(&refusal))
             }
         }
+    }
+
+    fn refusal<E: Display>(&mut self, refusal: &E) -> NoAnswer {
+        self.text.clear();
+        self.print(refusal);
+        NoAnswer::Refusal
     }
 
     /// Shows what a call gave that may be refused because memory ran out, by its name in the sources.
@@ -226,6 +237,12 @@ impl Answer {
             self.made_text(node.text(self.alloc));
         }
         say!(self, " of {}", node.tree());
+    }
+
+    /// A call gave a new root, or was refused.
+    pub fn new_root<E: Into<Error>>(&mut self, called: Result<SyntaxNode, E>) -> Done {
+        let root = self.asked(called)?;
+        Ok(self.root(&root))
     }
 
     /// The same, and its path.

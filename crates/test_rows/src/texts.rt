@@ -19,20 +19,35 @@ use tree_text::{
 pub fn answer(s: &mut Session, name: &str, words: &mut Words, out: &mut Answer) -> Done {
     match name {
         "kind_name" => Ok(out.word(checked_name(SyntaxKind(words.number()?)))),
-        "kind_from_name" => kind_from_name(words, out),
+        "kind_from_name" => {
+            let kind = SyntaxKind::from_name(&unquote(s.alloc, words)?);
+            Ok(kind.map(|kind| u64::from(kind.0)).show(out))
+        }
         "green_token" => green_token(words, out),
         "get" => get(s, words, out),
         "read" => Ok(value_or_why(green(s.alloc, &unquote(s.alloc, words)?), out)),
         "row" => Ok(value_or_why(row(s.alloc, words.take_rest()), out)),
         "limit" => Ok(LENGTH_LIMIT.show(out)),
-        "green_text" | "child_count" | "length" => of_tree(s, name, words, out),
         "doubled" => Ok(value_or_why(p(s.alloc, words.number()?).map(|it| it.length()), out)),
-        "read_tree" | "read_line_tree" => read(name, words, out),
+        "read_tree" => {
+            let read = read_tree(s.alloc, &unquote(s.alloc, words)?);
+            Ok(read_by("read_tree", read, out))
+        }
+        "read_line_tree" => {
+            let read = read_line_tree(s.alloc, &unquote(s.alloc, words)?);
+            Ok(read_by("read_line_tree", read, out))
+        }
         "read_root" => root(words, out),
-        "write_tree" => write(s, words, out),
+        "write_tree" => {
+            let tree = s.trees.tree(words.take_rest())?;
+            Ok(written("write_tree", write_tree(s.alloc, &tree), out))
+        }
         "write_named" => write_named(s, words, out),
         "read_named" => read_named(words, out),
-        "dump" => dump_of(s, words, out),
+        "dump" => {
+            let element = s.trees.element(words)?;
+            Ok(out.told("dump", dump(s.alloc, &element, &KindNames::new(s.alloc))))
+        }
         "dump_named" => dump_named(s, words, out),
         "name_kind" => name_kind(words, out),
         _ => values::answer(s, name, words, out),
@@ -68,28 +83,12 @@ fn checked_name(kind: SyntaxKind) -> &'static str {
     name
 }
 
-fn kind_from_name(words: &mut Words, out: &mut Answer) -> Done {
-    let name = unquote(out.alloc, words)?;
-    let kind = SyntaxKind::from_name(&name);
-    Ok(kind.map(|kind| u64::from(kind.0)).show(out))
-}
-
-fn of_tree(s: &mut Session, name: &str, words: &mut Words, out: &mut Answer) -> Done {
-    let tree = s.trees.tree(words.take_rest())?;
-    match name {
-        "green_text" => out.made_text(tree.to_string(s.alloc)),
-        "child_count" => out.print(&tree.children().len()),
-        _ => out.print(&tree.length()),
-    }
-    Ok(())
-}
-
 // A value, or why there is none.
 fn value_or_why<T: Show + Drop>(value: Result<T, NoAnswer>, out: &mut Answer) {
     match value {
         Ok(value) => value.show(out),
-        Err(NoAnswer::Row(why)) => out.word(why),
-        Err(error) => out.stop(error),
+        Err(why) if matches!(why, NoAnswer::Row(_)) => out.print(&why),
+        Err(why) => out.stop(why),
     }
 }
 
@@ -162,14 +161,6 @@ fn read_by(call: &'static str, read: Result<GreenNode, ExpressionError>, out: &m
     }
 }
 
-fn read(name: &str, words: &mut Words, out: &mut Answer) -> Done {
-    let text = unquote(out.alloc, words)?;
-    match name {
-        "read_tree" => Ok(read_by("read_tree", read_tree(out.alloc, &text), out)),
-        _ => Ok(read_by("read_line_tree", read_line_tree(out.alloc, &text), out)),
-    }
-}
-
 // Of a root its number, and of any such call the number that comes next.
 fn root(words: &mut Words, out: &mut Answer) -> Done {
     let mut ids = TreeIds::new(words.number()?);
@@ -188,17 +179,12 @@ fn root(words: &mut Words, out: &mut Answer) -> Done {
 }
 
 // Of a call that writes a tree.
-fn written(out: &mut Answer, call: &'static str, called: Result<String, WriteError>) {
+fn written(call: &'static str, called: Result<String, WriteError>, out: &mut Answer) {
     match called {
         Ok(text) => out.quote(&text),
         Err(WriteError::Memory) => out.stop(NoAnswer::Refused(call)),
         Err(error) => out.print(&error),
     }
-}
-
-fn write(s: &mut Session, words: &mut Words, out: &mut Answer) -> Done {
-    let tree = s.trees.tree(words.take_rest())?;
-    Ok(written(out, "write_tree", write_tree(s.alloc, &tree)))
 }
 
 // The kind and its name of the next words.
@@ -226,12 +212,8 @@ fn above(s: &Session, kind: SyntaxKind, words: &mut Words) -> Read<GreenNode> {
 fn write_named(s: &mut Session, words: &mut Words, out: &mut Answer) -> Done {
     let (kind, names) = names(s.alloc, words)?;
     let tree = above(s, kind, words)?;
-    written(
-        out,
-        "write_tree_with",
-        write_tree_with(s.alloc, &tree, &names),
-    );
-    Ok(())
+    let called = write_tree_with(s.alloc, &tree, &names);
+    Ok(written("write_tree_with", called, out))
 }
 
 fn read_named(words: &mut Words, out: &mut Answer) -> Done {
@@ -242,11 +224,6 @@ fn read_named(words: &mut Words, out: &mut Answer) -> Done {
         say!(out, "{} ", tree.kind().0);
     }
     Ok(read_by("read_tree_with", read, out))
-}
-
-fn dump_of(s: &mut Session, words: &mut Words, out: &mut Answer) -> Done {
-    let element = s.trees.element(words)?;
-    Ok(out.told("dump", dump(s.alloc, &element, &KindNames::new(s.alloc))))
 }
 
 // Of the node, and of it as an element.

@@ -13,15 +13,21 @@ use std::alloc::{AllocError, Global};
 use std::hash::Hash;
 use test_trees::{NoAnswer, Words};
 
-/// `equal ELEMENT ELEMENT`, `form ELEMENT`, `same_shape NODE NODE` or `views NODE`; what is none of these is of an
-/// error or of an element.
+/// `equal ELEMENT ELEMENT`, `form ELEMENT`, `same_shape NODE NODE`, `views NODE` or `errors TYPE`; what is none of
+/// these is of an element.
 pub fn answer(s: &mut Session, name: &str, words: &mut Words, out: &mut Answer) -> Done {
     match name {
-        "equal" => equal(s, words, out),
+        "equal" => {
+            let left = s.trees.element(words)?;
+            Ok(out.word(equality(&left, &s.trees.element(words)?)))
+        }
         "form" => form(s, words, out),
-        "same_shape" => shape(s, words, out),
+        "same_shape" => {
+            let (left, right) = s.trees.two_nodes(words)?;
+            Ok(out.word(in_each_way(&[same_shape(&left, &right), same_shape(&right, &left)])))
+        }
         "views" => views(s, words, out),
-        _ if name.ends_with("error") => errors::answer(name, words, out),
+        "errors" => errors::answer(words, out),
         _ => elements::answer(s, name, words, out),
     }
 }
@@ -41,11 +47,6 @@ fn in_each_way(ways: &[bool]) -> &'static str {
 fn compare<T: Hash>(left: &T, right: &T) -> &'static str {
     let is_hash = hash_of(left) == hash_of(right);
     in_each_way(&[left == right, right == left, is_hash])
-}
-
-fn equal(s: &mut Session, words: &mut Words, out: &mut Answer) -> Done {
-    let (left, right) = s.trees.two_elements(words)?;
-    Ok(out.word(equality(&left, &right)))
 }
 
 // As elements, and as the nodes or tokens that they are.
@@ -88,11 +89,6 @@ fn form_of(node: Option<u64>, token: Option<u64>, whole: u64) -> &'static str {
         (None, Some(own)) if own == whole => "token",
         _ => "both or none",
     }
-}
-
-fn shape(s: &mut Session, words: &mut Words, out: &mut Answer) -> Done {
-    let (left, right) = s.trees.two_nodes(words)?;
-    Ok(out.word(in_each_way(&[same_shape(&left, &right), same_shape(&right, &left)])))
 }
 
 // The kinds of the node's views as BlockExpr, as StmtList, as LetStmt and as Fn
@@ -138,20 +134,16 @@ fn push_view<T: AstNode>(node: &SyntaxNode, out: &mut Answer) {
 
 fn view_name<T: AstNode>(alloc: Global, node: &SyntaxNode) -> Result<&'static str, AllocError> {
     let Some(typed) = view_if_castable::<T>(node.try_clone(alloc)?) else {
-        let is_view = T::cast(node.try_clone(alloc)?).is_some();
-        return Ok(if is_view {
-            "a view of a kind that has none"
-        } else {
-            "none"
-        });
+        if T::cast(node.try_clone(alloc)?).is_some() {
+            return Ok("a view of a kind that has none");
+        }
+        return Ok("none");
     };
     let again = view_again(alloc, typed)?;
-    let is_same = can_cast_again(&again) && again.syntax() == node;
-    Ok(if is_same {
-        kind_name(node.kind())
-    } else {
-        "a view of another node"
-    })
+    if !can_cast_again(&again) || again.syntax() != node {
+        return Ok("a view of another node");
+    }
+    Ok(kind_name(node.kind()))
 }
 
 fn push_attributed_view<T: HasAttrs>(node: &SyntaxNode, out: &mut Answer) {

@@ -34,12 +34,8 @@ J (ITEM_LIST L_CURLY"{" R_CURLY"}")
 G (USE USE_KW"use")
 H (FN (ATTR POUND"#" L_BRACK"[" IDENT"a" R_BRACK"]") WHITESPACE"\n" COMMENT"// c" WHITESPACE"\n" FN_KW"fn" WHITESPACE" " (NAME IDENT"f") (PARAM_LIST L_PAREN"(" R_PAREN")") WHITESPACE" " (BLOCK_EXPR (STMT_LIST L_CURLY"{" R_CURLY"}")))"##;
 
-// A tree that has a name.
-#[derive(Drop)]
-struct NamedRow {
-    name: &'static str,
-    expression: String,
-}
+// The name of a tree, and its expression.
+type NamedRow = (&'static str, String);
 
 /// The tree of an expression, in which every row tree may be named.
 pub fn green(alloc: Global, expression: &str) -> Result<GreenNode, NoAnswer> {
@@ -58,14 +54,14 @@ fn all_rows(alloc: Global) -> Result<Vec<NamedRow>, NoAnswer> {
     for line in ROWS.lines() {
         let (name, expression) = first_word(line);
         let expression = expand(alloc, &rows, expression)?;
-        rows.push(NamedRow { name, expression })?;
+        rows.push((name, expression))?;
     }
     Ok(rows)
 }
 
 fn row_of<'a>(rows: &'a [NamedRow], name: &str) -> Result<&'a str, NoAnswer> {
-    match rows.iter().find(|row| row.name == name) {
-        Some(row) => Ok(&row.expression),
+    match rows.iter().find(|row| row.0 == name) {
+        Some(row) => Ok(&row.1),
         None => Err(NoAnswer::Row("UnknownRow")),
     }
 }

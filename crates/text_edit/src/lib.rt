@@ -9,8 +9,6 @@ mod compose_error;
 mod inverse;
 mod line_index;
 mod order_error;
-#[cfg(test)]
-mod tests;
 mod text_edit;
 mod text_edits;
 mod trim;
