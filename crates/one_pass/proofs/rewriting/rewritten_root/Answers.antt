@@ -44,9 +44,9 @@ returns-in_default-clause-marks c =
     let none = subst (IsAlone aims) c.in_default.is c.requires.alone in
     let before = c.args.walk.now in
     on_ok-map c.rewritten_element.result (λ finds trees are.
-        let own = λ (r : Element). rewritten (wanted (sought_at index (address r))) trees aims [] (subtree r) in
-        let root = c.args.root.now in
-        (own root, sym (slot-kept (wanted (sought_at index (address root))) trees aims [] (own root) none), finds trees are ∙ ap (λ r. marks_of before.found.items ++ map (mark_below before.path.items) (marked (own r))) c.in_ok-try_clone.ensures)) c.rewritten_element.ensures.marks
+    let own = λ (r : Element). rewritten (wanted (sought_at index (address r))) trees aims [] (subtree r) in
+    let root = c.args.root.now in
+    (own root, sym (slot-kept (wanted (sought_at index (address root))) trees aims [] (own root) none), finds trees are ∙ ap (λ r. marks_of before.found.items ++ map (mark_below before.path.items) (marked (own r))) c.in_ok-try_clone.ensures)) c.rewritten_element.ensures.marks
 
 pub index-requires : goal.index-requires
 index-requires c =
@@ -89,6 +89,6 @@ returns-clause-marks c =
     let label = wanted (sought_at c.args.registered.now (address c.args.root.now)) in
     let before = marks_of c.args.walk.now.found.items in
     on_ok c.share.result (λ trees are.
-        let it = only-one given.top (entry_in given n) c.index-one.result.now (trees n) own (are n) in
-        let whole : rewritten_whole label trees aims tree ≡ trees n = sym (slot-replaced label trees aims [] (rewritten label trees aims [] tree) (some-starts aims [] n alone)) ∙ ap (flat_map trees) alone ∙ append-nil (trees n) in
-        (it.0, whole ∙ it.1, c.in_ok-push_marks.ensures ∙ ap₂ (λ p ms. before ++ map (mark_below p) ms) c.deref.ensures.value (sym it.2)))
+    let it = only-one given.top (entry_in given n) c.index-one.result.now (trees n) own (are n) in
+    let whole : rewritten_whole label trees aims tree ≡ trees n = sym (slot-replaced label trees aims [] (rewritten label trees aims [] tree) (some-starts aims [] n alone)) ∙ ap (flat_map trees) alone ∙ append-nil (trees n) in
+    (it.0, whole ∙ it.1, c.in_ok-push_marks.ensures ∙ ap₂ (λ p ms. before ++ map (mark_below p) ms) c.deref.ensures.value (sym it.2)))
