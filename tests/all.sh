@@ -2,9 +2,9 @@
 # all.sh            runs all tests, what fails soonest first: quick checks; all proofs and programs, and beside them planted bugs; then scripts,
 #                   the model, hostile scripts, allocations that fail, their number, the bindings, and whether these tests notice a program
 #                   that does nothing
-# all.sh quick      the quick checks, for while you write, without proofs: format, docs, all rows, callers, scripts, the model, and the editor
-#                   against it
-# all.sh CHECK..    those of these that are named: docs format rows caller model models scripts
+# all.sh quick      the quick checks, for while you write, without proofs: format, docs, all rows, callers, counts of `bench`, scripts, the model,
+#                   and the editor against it
+# all.sh CHECK..    those of these that are named: docs format rows caller counts model models scripts
 # Says how long each took, and names at the end those that failed.
 set -euo pipefail
 cd "$(dirname "$0")/.."
@@ -81,6 +81,7 @@ quick() {
         format) start format format ;;
         rows) start rows python3 tests/rows.py ;;
         caller) start caller python3 tests/programs.py caller ;;
+        counts) start counts python3 tests/programs.py counts ;;
         model) start model python3 tests/models.py known ;;
         models) start models python3 tests/models.py quick ;;
         scripts) start scripts python3 tests/known.py quick ;;
@@ -91,7 +92,7 @@ quick() {
 }
 
 everything() {
-    quick docs format model rows caller
+    quick docs format model rows caller counts
     end_if_failed
 
     # Without RT_JOBS a proof that no other waits beside takes half of the processors.
@@ -112,7 +113,7 @@ everything() {
 
 case ${1:-} in
 '') everything ;;
-quick) quick docs format rows caller model models scripts ;;
+quick) quick docs format rows caller counts model models scripts ;;
 --help) sed -n '2,/^[^#]/s/^# //p' tests/all.sh && exit ;;
 *) quick "$@" ;;
 esac

@@ -4,15 +4,19 @@ It tries the bugs of these crates, or of all, where a verdict could have changed
 all refused. `--all` tries them whether anything changed or not. `--gate` tries the stale crates and one more, which the commit's hash chooses,
 and records nothing: so a record that was written by hand is found out. `--stale` prints the stale crates.
 
-A check says of each function whether it is proved, so bugs of many functions are tried in one check (`rattle check --only F ..`), over what a
-check of the unchanged crate proved, which begins with what `rt check` kept. A bug is refused if a goal of the function that it edits is not
-proved. One whose function is only said to call another that is not proved waits for the next check. A bug in no function, or in several, and one
-that comes out proved, is tried alone, by a check of the whole crate. A bug that does not compile, or that the borrow checker refuses for its
-form, shows nothing, and fails.
+A check says of each function whether it is proved, so many bugs are tried in one (`rattle check --only F ..`), over what a check of the
+unchanged crate proved, which begins with what `rt check` kept. Each is made in a copy of the function that it edits, which stands beside that one
+with a copy of its proof, so that none is in the way of another. It is refused if a goal of its copy is not proved. Of one function in eight, which
+its text chooses, a copy without a bug is made too, and has to be proved.
+The others are made in place, at most one of each function in a check: those in a trait's method or in a cycle of calls, and those that were not
+refused in a copy. One whose function is only said to call another that is not proved waits for the next check. A bug in no function, or in
+several, and one that comes out proved, is tried alone, by a check of the whole crate. A bug that does not compile, or that the borrow checker
+refuses for its form, shows nothing, and fails.
 
 A crate is stale if the kit changed, its bugs, its sources or definitions, or the definitions and clauses of the crates below it.
 """
 
+import copy
 import hashlib
 import os
 import re
@@ -100,11 +104,14 @@ class Function:
         head = [it for it in HEAD.finditer(text) if it.start() < found.start()][-1:] if found["inside"] else []
         has_body = re.compile(r"\{\}?\n|;\n").search(text, found.end())[0] == "{\n"
         end = re.compile(rf"^{found['inside']}\}}" if has_body else r";$|\{\}$", re.M).search(text, found.end())
-        self.start, self.end = found.start(), end.end()
+        self.file, self.start, self.end = file, found.start(), end.end()
         self.name, self.cycle, self.text = found["name"], found["cycle"], text[self.start : self.end]
         self.module = "::".join(part for part in file.removeprefix("src/").removesuffix(".rt").split("/") if part not in ("lib", "main"))
         self.type = head[0]["type"] if head else ""
         self.owner = self.type + "".join(re.findall(r"\w+", head[0]["of"] or "")) if head else ""
+
+    def key(self):
+        return self.module, self.owner, self.name
 
     def proofs(self, names):
         """The proofs of this function among those of a check: of itself and of its closures."""
@@ -120,9 +127,30 @@ class Function:
                 found.setdefault(owner, set()).add(name)
         return found[max(found, key=self.likeness)] if found else set()
 
+    def with_edits(self, edits):
+        """The text of the function with these edits, if each stands in it once."""
+        text = self.text
+        for _, old, new in edits:
+            text = text.replace(old, new) if text.count(old) == 1 else ""
+        return text
+
+    def copied(self, number, edits, folder, name):
+        """A copy of this function, by the name of its proof, under a name of its own, with these edits. The files of its proof are copied in the folder."""
+        one = copy.copy(self)
+        one.name = f"{self.name}_planted_{number}"
+        one.text = self.with_edits(edits).replace(f"fn {self.name}", f"fn {one.name}", 1)
+        crate, *path = name.split("::")
+        proof = Path(folder, "proofs", *path)
+        if proof.is_dir():
+            shutil.copytree(proof, proof.with_name(one.name))
+            old, new = (".".join(["Rattle", crate, "proofs", *path[:-1], last, ""]) for last in (self.name, one.name))
+            for file in proof.with_name(one.name).rglob("*.antt"):
+                file.write_text(file.read_text().replace(old, new))
+        return one
+
     def units(self):
         """What has one proof: the function, and its cycle of calls if it is in one."""
-        return {(self.module, self.owner, self.name), self.cycle and (self.cycle,)} - {None}
+        return {self.key(), self.cycle and (self.cycle,)} - {None}
 
     def likeness(self, owner):
         place, _, last = owner.rpartition("::")
@@ -154,7 +182,7 @@ class Bug:
                 old = rest
             elif word in ("new", "new:") and old != rest and texts[file].count(old or " ") == 1:
                 function = function_at(file, texts[file], texts[file].index(old))
-                self.functions[function and (function.module, function.owner, function.name)] = function
+                self.functions.setdefault(function and function.key(), function)
                 texts[file] = texts[file].replace(old, rest)
                 self.edits.append((file, old, rest))
                 self.why = None
@@ -162,15 +190,27 @@ class Bug:
                 self.why = f"a line that says nothing, or whose text does not stand once in its file: {line[:60]}"
                 return
 
+    @property
+    def function(self):
+        """The function that the bug edits, if it is one."""
+        functions = [*self.functions.values()]
+        return functions[0] if len(functions) == 1 else None
+
     def proofs(self, names):
         """The proofs that have to fail, if the bug edits one function."""
-        functions = [*self.functions.values()]
-        return functions[0].proofs(names) if len(functions) == 1 and functions[0] else set()
+        return self.function.proofs(names) if self.function else set()
+
+    def has_copy(self):
+        """Whether it is an edit of one function of which a copy can stand beside it."""
+        it = self.function
+        return bool(it and not it.cycle and it.owner == it.type and it.with_edits(self.edits))
 
 
 # How bugs are tried.
 
 BORROWS = "the borrow checker does not cover"
+# How many bugs are made in copies in one check.
+MOST_COPIES = 60
 REFUSED, LATER, PROVED, BAD = "refused", "later", "let through", "bad"
 
 
@@ -272,8 +312,11 @@ class Trial:
         self.names = re.findall(r"^fn (\S+): ", said, re.M)
         bugs = [Bug(edit, self.folder) for edit in bugs_of(self.crate)]
         found = {bug.name: (BAD, bug.why) for bug in bugs if bug.why}
-        waiting = [bug for bug in bugs if not bug.why and bug.proofs(self.names)]
-        alone = [bug for bug in bugs if not bug.why and not bug.proofs(self.names)]
+        copied = [bug for bug in bugs if not bug.why and bug.has_copy()]
+        for told in self.pool.map(self.in_copies, [copied[at : at + MOST_COPIES] for at in range(0, len(copied), MOST_COPIES)]):
+            found |= {name: (REFUSED, "in a copy") for name in told}
+        waiting = [bug for bug in bugs if bug.name not in found and bug.proofs(self.names)]
+        alone = [bug for bug in bugs if bug.name not in found and not bug.proofs(self.names)]
         while waiting:
             told = {name: it for batch in self.pool.map(self.batch, dealt(waiting)) for name, it in batch.items()}
             found |= {name: it for name, it in told.items() if it[0] in (REFUSED, BAD)}
@@ -283,6 +326,38 @@ class Trial:
                 alone, later = alone + later, []
             waiting = later
         return found | dict(self.pool.map(self.whole, alone))
+
+    def in_copies(self, bugs):
+        """The names of those of these bugs that one check refuses in copies of their functions, if it proves the copies without a bug."""
+        with tempfile.TemporaryDirectory(dir=self.lab.room) as folder:
+            copies, only = self.plant_copies(bugs, f"{folder}/crate")
+            said = self.check(folder, sorted(only))[1]
+        if not re.search(r"^only=\d+ ", said, re.M):
+            half = len(bugs) // 2
+            return self.in_copies(bugs[:half]) | self.in_copies(bugs[half:]) if half else set()
+        names = re.findall(r"^fn (\S+): ", said, re.M)
+        verdicts = [(bug, verdict(said, it.proofs(names))) for bug, it in copies]
+        for kind, why in (it for bug, it in verdicts if not bug):
+            if kind != PROVED:
+                sys.exit(f"planted: {self.crate}: a copy of a function is not proved: {why}")
+        return {bug.name for bug, (kind, _) in verdicts if bug and kind == REFUSED}
+
+    def plant_copies(self, bugs, folder):
+        """Makes a copy of the crate in which copies of functions stand, with these bugs or without: each with its bug, and the names of their proofs."""
+        shutil.copytree(self.folder, folder)
+        unaltered = {it.function.key(): it.function for it in bugs if hashlib.sha256(it.function.text.encode()).digest()[0] % 8 == 0}
+        copies, only, texts = [], set(), {}
+        for number, (bug, of) in enumerate([*((bug, bug.function) for bug in bugs), *((None, it) for it in unaltered.values())]):
+            name = next(it for it in of.proofs(self.names) if it.endswith(f"::{of.name}"))
+            copies.append((bug, of.copied(number, bug.edits if bug else [], folder, name)))
+            only.add(name.removesuffix(of.name) + copies[-1][1].name)
+            texts.setdefault(of.file, []).append((of.end, copies[-1][1].text))
+        for file, found in texts.items():
+            text = Path(folder, file).read_text()
+            for end, one in sorted(found, reverse=True):
+                text = f"{text[:end]}\n\n{one}{text[end:]}"
+            Path(folder, file).write_text(text)
+        return copies, only
 
     def batch(self, bugs):
         """What one check says of several bugs, at most one of each proof."""
