@@ -21,7 +21,6 @@ import multiprocessing
 import os
 import random
 import re
-import resource
 import subprocess
 import sys
 import tempfile
@@ -47,14 +46,8 @@ SECONDS = 600
 
 def run(path, script, stack=None):
     """The exit status, None where the run did not end by itself within its second, and what was printed."""
-
-    def limit():
-        resource.setrlimit(resource.RLIMIT_CPU, (1, 1))
-        if stack is not None:
-            resource.setrlimit(resource.RLIMIT_STACK, (stack * 1024, stack * 1024))
-
     try:
-        done = subprocess.run([path], input=script, capture_output=True, env={}, timeout=60, check=False, preexec_fn=limit)
+        done = subprocess.run(programs.limited(path, 1, stack), input=script, capture_output=True, env={}, timeout=60, check=False)
     except subprocess.TimeoutExpired:
         return None, b""
     return (done.returncode if done.returncode >= 0 else None), done.stdout
@@ -682,16 +675,11 @@ def square_rows(nesting, depth):
 def try_rows(run):
     """What goes wrong where the program reads these rows as a group of a table that is a part, to which no call owes a row."""
     path, name, lines, stack = run
-
-    def limit():
-        resource.setrlimit(resource.RLIMIT_CPU, (SECONDS, SECONDS))
-        resource.setrlimit(resource.RLIMIT_STACK, (stack * 1024, stack * 1024))
-
     with tempfile.TemporaryDirectory() as room:
         with open(os.path.join(room, "deep.rows"), "w", encoding="utf-8") as rows:
             rows.write("\n".join([*lines, "end", ""]))
-        done = subprocess.run([path], cwd=room, input="growths are refused\ngroup deep\nend\n", capture_output=True, text=True, env={},
-                              check=False, preexec_fn=limit)
+        done = subprocess.run(programs.limited(path, SECONDS, stack), cwd=room, input="growths are refused\ngroup deep\nend\n",
+                              capture_output=True, text=True, env={}, check=False)
     if (done.returncode, done.stdout) == (0, "deep: as expected\n"):
         return None
     said = "\n".join(line[:300] for line in done.stdout.split("\n")[:40])

@@ -19,7 +19,6 @@ import itertools
 import multiprocessing
 import os
 import re
-import resource
 import subprocess
 import sys
 from concurrent.futures import ThreadPoolExecutor
@@ -183,14 +182,10 @@ def status_of(answer):
     return {b"text": 0, b"refu": 1, b"bad ": 2}.get(answer[:4], 3)
 
 
-def limited():
-    resource.setrlimit(resource.RLIMIT_CPU, (2, 2))
-
-
 def run(arguments, **streams):
     """The exit status of `syned`, what it printed, and the sentences that it said."""
     streams = {"stdout": subprocess.PIPE, "stderr": subprocess.PIPE, **streams}
-    done = subprocess.run([programs.path_of("syned"), *arguments], timeout=60, check=False, preexec_fn=limited, **streams)
+    done = subprocess.run([*programs.limited(programs.path_of("syned"), 2), *arguments], timeout=60, check=False, **streams)
     return done.returncode, done.stdout or b"", [line for line in done.stderr.decode(errors="replace").split("\n") if line]
 
 

@@ -26,6 +26,12 @@ def path_of(name):
     return Path(os.environ.get("INSTEAD") or ROOT / ("bench" if name == "bench" else f"crates/{name}") / "out" / name)
 
 
+def limited(path, seconds, stack=None):
+    """The words that run a program with so many seconds of processor time, and so many KiB of stack if they are given. A program sets the limits,
+    since for a function that does (`preexec_fn`) Python would copy itself, which takes longer than most runs."""
+    return ["/usr/bin/prlimit", f"--cpu={seconds}:{seconds}", *([f"--stack={stack * 1024}:{stack * 1024}"] if stack else []), str(path)]
+
+
 def is_built(name):
     """Whether a program is there, and no file of a crate is newer."""
     program = path_of(name)
