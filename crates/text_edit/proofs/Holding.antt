@@ -1,7 +1,7 @@
 -- Which text of an edit holds a range of the new text.
 use Rattle.std.proofs.Common.{◌≡◌, ◌≢◌, ◌∙◌, ◌+◌, ◌-◌, ◌<◌, ◌≤◌, ℕ, Bool, true, false, cond, zero, suc, List, [], ◌∷◌, ◌++◌, Some, None, length, take, drop, get_or, ap, sym, refl, subst, arith, inl, inr, slice_range}
 use Rattle.std.specs.Prelude.{find, option_map}
-use Rattle.std.specs.List.{range_with_len}
+use Rattle.std.specs.List.{range_with_len, sum_by}
 use Rattle.std.proofs.Math.Seq.{take-append-add, drop-append-add}
 use Rattle.std.proofs.lemmas.Bool.{cases_lt, cases_order, cond-true, cond-false}
 use Rattle.std.proofs.lemmas.Bool.Decides.{nat_tests}
@@ -9,7 +9,7 @@ use Rattle.std.proofs.lemmas.List.{append_assoc, take_more, length-append, lengt
 use Rattle.std.proofs.lemmas.List.Sums.{sum_by-cons, sum_by_push}
 use Rattle.text_edit.specs.TextPiece.{TextPiece, AreApart, applied_from, applied}
 use Rattle.text_edit.specs.OrderRefusal.{nothing, piece_at, piece_before}
-use Rattle.text_edit.specs.Cursor.{taken, put_in, new_start, holds, cursor_in, cursor}
+use Rattle.text_edit.specs.Cursor.{new_start, holds, cursor_in, cursor}
 use Rattle.text_edit.proofs.Ordered.{is-after, piece_before-next, AreApart-le}
 use Rattle.text_edit.proofs.Inverting.{kept, behind, length-kept, applied-parts}
 
@@ -31,6 +31,13 @@ find-none p a (suc n) none =
     cond-false (p a) (Some a) (find p (range_with_len (a + 1) n)) (none a (omega arith) (omega arith)) ∙ find-none p (a + 1) n (λ k from inside. none k (omega arith) (omega arith))
 
 -- ---- where a piece's text starts
+-- the bytes that pieces take away, and those that they put in
+abbrev pub taken : List TextPiece → ℕ
+taken es = sum_by (λ e. e.stop - e.first) es
+
+abbrev pub put_in : List TextPiece → ℕ
+put_in es = sum_by (λ e. length e.text) es
+
 pub taken_push : (es : List TextPiece) (e : TextPiece) → taken (es ++ e ∷ []) ≡ taken es + (e.stop - e.first)
 taken_push es e = sum_by_push (λ d. d.stop - d.first) es e
 

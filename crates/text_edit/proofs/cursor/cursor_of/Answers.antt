@@ -3,9 +3,9 @@ use Rattle.std.proofs.lemmas.List.{length-map}
 use Rattle.text_edit.specs.declared.text_edit.TextEdit.{TextEdit}
 use Rattle.text_edit.specs.TextPiece.{TextPiece, as_piece, pieces, AreApart}
 use Rattle.text_edit.specs.OrderRefusal.{nothing, piece_at}
-use Rattle.text_edit.specs.Cursor.{taken, put_in, new_start, holds, cursor}
+use Rattle.text_edit.specs.Cursor.{new_start, holds, cursor}
 use Rattle.text_edit.proofs.Pieces.{piece-is, pieces-inside, drop-piece, take-piece}
-use Rattle.text_edit.proofs.Holding.{taken_push, put_in_push, new_start-is, held, not-held-turned, not-held-behind, cursor-none, cursor-passed, cursor-here, cursor-text}
+use Rattle.text_edit.proofs.Holding.{taken, put_in, taken_push, put_in_push, new_start-is, held, not-held-turned, not-held-behind, cursor-none, cursor-passed, cursor-here, cursor-text}
 use Rattle.text_edit.proofs.cursor.cursor_of.Goals as goal
 
 -- what is known of the edit at hand
@@ -47,6 +47,12 @@ returns-then-start-first-clause-is c =
     let first_is : c.in-Some.first ≡ c.loop-index.made + (x.start - c.loop-index.gone) = c.in-Some.ensures.1 in
     cursor-passed (pieces es) (2 ^ 64) c.args.start c.args.end i c.requires (pieces-inside es i x inside c.index-edits-index.is) v.before (omega (arith, c.if-start-first.true))
 
+-- the range is in the text of the edit at hand, which starts there
+stands : (es : List TextEdit) (i start end first len : ℕ) (x : TextEdit) → i < length es → x ≡ get_or es i x → first ≡ new_start (pieces es) i → len ≡ length (string_bytes x.text) → first ≤ start → end - first ≤ len → (new_start (pieces es) i ≤ start) × (end ≤ new_start (pieces es) i + length (piece_at (pieces es) i).text)
+stands es i start end first len x inside is first_is len_is from upto =
+    let here : length (piece_at (pieces es) i).text ≡ length (string_bytes x.text) = ap (λ e. length e.text) (piece-is es i x inside is nothing) in
+    (omega arith, omega arith)
+
 pub returns-then-end-first-clause-is : goal.returns-then-end-first-clause-is
 returns-then-end-first-clause-is c =
     let es = c.args.edits.now in
@@ -55,13 +61,10 @@ returns-then-end-first-clause-is c =
     let v = c.loop-index.invariant in
     let inside = c.loop-index-test.true in
     let is = c.index-edits-index.is in
-    let first = starts es i c.loop-index.gone c.loop-index.made x inside is v.apart v.small v.count in
-    let first_is : c.in-Some.first ≡ new_start (pieces es) i = c.in-Some.ensures.1 ∙ sym first in
+    let first : c.in-Some.first ≡ new_start (pieces es) i = c.in-Some.ensures.1 ∙ sym (starts es i c.loop-index.gone c.loop-index.made x inside is v.apart v.small v.count) in
     let len : c.len-len.result ≡ length (string_bytes x.text) = search rules in
-    let here : (piece_at (pieces es) i).text ≡ string_bytes x.text = ap (λ e. e.text) (piece-is es i x inside is nothing) in
-    let long : length (piece_at (pieces es) i).text ≡ c.len-len.result = ap length here ∙ sym len in
-    let from : new_start (pieces es) i ≤ c.args.start = omega (arith, c.if-start-first.false) in
-    ap (λ (n : ℕ). Some (record { edit = i; start = c.args.start - n; end = c.args.end - n })) first_is ∙ cursor-here (pieces es) c.args.start c.args.end i (pieces-inside es i x inside is) (held (pieces es) c.args.start c.args.end i c.if-end-start.false from (omega (arith, c.if-end-first.true))) v.before
+    let there = stands es i c.args.start c.args.end c.in-Some.first c.len-len.result x inside is first len c.if-start-first.false c.if-end-first.true in
+    ap (λ (n : ℕ). Some (record { edit = i; start = c.args.start - n; end = c.args.end - n })) first ∙ cursor-here (pieces es) c.args.start c.args.end i (pieces-inside es i x inside is) (held (pieces es) c.args.start c.args.end i c.if-end-start.false there.0 there.1) v.before
 
 pub returns-then-end-first-clause-text : goal.returns-then-end-first-clause-text
 returns-then-end-first-clause-text c s apart =
@@ -71,13 +74,10 @@ returns-then-end-first-clause-text c s apart =
     let v = c.loop-index.invariant in
     let inside = c.loop-index-test.true in
     let is = c.index-edits-index.is in
-    let first = starts es i c.loop-index.gone c.loop-index.made x inside is v.apart v.small v.count in
-    let first_is : c.in-Some.first ≡ new_start (pieces es) i = c.in-Some.ensures.1 ∙ sym first in
+    let first : c.in-Some.first ≡ new_start (pieces es) i = c.in-Some.ensures.1 ∙ sym (starts es i c.loop-index.gone c.loop-index.made x inside is v.apart v.small v.count) in
     let len : c.len-len.result ≡ length (string_bytes x.text) = search rules in
-    let here : (piece_at (pieces es) i).text ≡ string_bytes x.text = ap (λ e. e.text) (piece-is es i x inside is nothing) in
-    let long : length (piece_at (pieces es) i).text ≡ c.len-len.result = ap length here ∙ sym len in
-    let from : new_start (pieces es) i ≤ c.args.start = omega (arith, c.if-start-first.false) in
-    ap (λ n. slice_range (piece_at (pieces es) i).text (c.args.start - n) (c.args.end - n)) first_is ∙ cursor-text (pieces es) c.args.start c.args.end i (pieces-inside es i x inside is) from c.if-end-start.false (omega (arith, c.if-end-first.true)) s apart
+    let there = stands es i c.args.start c.args.end c.in-Some.first c.len-len.result x inside is first len c.if-start-first.false c.if-end-first.true in
+    ap (λ n. slice_range (piece_at (pieces es) i).text (c.args.start - n) (c.args.end - n)) first ∙ cursor-text (pieces es) c.args.start c.args.end i (pieces-inside es i x inside is) there.0 c.if-end-start.false there.1 s apart
 
 pub loop-index-preserved : goal.loop-index-preserved
 loop-index-preserved c =

@@ -1,6 +1,7 @@
 use Rattle.std.proofs.Common.{◌≡◌, ◌+◌, ◌≤◌, ◌<◌, ◌^◌, ℕ, false, take, drop}
 use Rattle.text_edit.specs.TextPiece.{pieces, AreApart}
-use Rattle.text_edit.specs.Cursor.{taken, put_in, holds}
+use Rattle.text_edit.specs.Cursor.{holds}
+use Rattle.text_edit.proofs.Holding.{taken, put_in}
 use Rattle.text_edit.proofs.cursor.cursor_of.Given as goal
 
 abbrev pub invariant-loop-index : goal.invariant-loop-index
