@@ -1,9 +1,9 @@
-use Rattle.std.proofs.Common.{◌≡◌, ◌∙◌, ◌+◌, ◌-◌, ◌<◌, ◌≤◌, ◌^◌, ◌∷◌, ◌++◌, ℕ, List, [], true, false, Some, None, length, take, drop, ap, sym, subst, arith, rules, string_bytes, get_or, below_more, slice_range}
+use Rattle.std.proofs.Common.{◌≡◌, ◌∙◌, ◌+◌, ◌-◌, ◌<◌, ◌≤◌, ◌^◌, ◌∷◌, ℕ, List, Some, length, take, drop, ap, sym, subst, arith, rules, string_bytes, get_or, below_more, slice_range}
 use Rattle.std.proofs.lemmas.List.{length-map}
 use Rattle.text_edit.specs.declared.text_edit.TextEdit.{TextEdit}
 use Rattle.text_edit.specs.TextPiece.{TextPiece, as_piece, pieces, AreApart}
 use Rattle.text_edit.specs.OrderRefusal.{nothing, piece_at}
-use Rattle.text_edit.specs.Cursor.{new_start, holds, cursor}
+use Rattle.text_edit.specs.Cursor.{new_start}
 use Rattle.text_edit.proofs.Pieces.{piece-is, pieces-inside, drop-piece, take-piece}
 use Rattle.text_edit.proofs.Holding.{taken, put_in, taken_push, put_in_push, new_start-is, held, not-held-turned, not-held-behind, cursor-none, cursor-passed, cursor-here, cursor-text}
 use Rattle.text_edit.proofs.cursor.cursor_of.Goals as goal

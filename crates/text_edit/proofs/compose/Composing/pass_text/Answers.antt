@@ -1,4 +1,4 @@
-use Rattle.std.proofs.Common.{◌≤◌, List, ℕ, [], length, drop, ap, refl, subst, arith}
+use Rattle.std.proofs.Common.{◌≤◌, List, ℕ, length, drop, ap, refl, subst, arith}
 use Rattle.text_edit.specs.TextPiece.{pieces}
 use Rattle.text_edit.specs.inner.Composing.{left_of, Puts}
 use Rattle.text_edit.proofs.Passing.{place, Passes-text, Passes-at}
