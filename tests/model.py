@@ -15,6 +15,7 @@ Paths are tuples of slots, texts are bytes, an address is a tree's number with a
 import itertools
 import re
 import sys
+from os.path import commonprefix
 from typing import NamedTuple, Optional, Tuple
 
 sys.setrecursionlimit(20000)
@@ -698,6 +699,57 @@ def applied(old, pieces, gone=0):
     for piece in pieces:
         made, gone = made + old[gone:piece.first] + piece.text, piece.stop
     return made + old[gone:]
+
+def new_start(pieces, index):
+    """Where a piece starts in the old text, less the bytes that those before it take away, and those that they put in."""
+    return pieces[index].first + sum(len(piece.text) - (piece.stop - piece.first) for piece in pieces[:index])
+
+def inverted(pieces, old):
+    """In the place of what each piece puts in stands again what it takes away."""
+    begins = [new_start(pieces, index) for index in range(len(pieces))]
+    return [TextPiece(begin, begin + len(piece.text), old[piece.first:piece.stop]) for begin, piece in zip(begins, pieces)]
+
+def IsTrimmed(piece, old):
+    """A piece without the characters with which what it takes away and what it puts in both begin, and then without those with which both end."""
+    away, put = old[piece.first:piece.stop].decode(), piece.text.decode()
+    ahead = len(commonprefix([away, put]))
+    away, put, first = away[ahead:], put[ahead:], piece.first + len(put[:ahead].encode())
+    behind = len(commonprefix([away[::-1], put[::-1]]))
+    away, put = away[:len(away) - behind], put[:len(put) - behind]
+    return TextPiece(first, first + len(away.encode()), put.encode())
+
+def _trimmed(pieces, old):
+    return [piece for piece in (IsTrimmed(piece, old) for piece in pieces) if piece.first < piece.stop or piece.text]
+
+def holds(pieces, begin, end, index):
+    return new_start(pieces, index) <= begin <= end <= new_start(pieces, index) + len(pieces[index].text)
+
+def cursor(pieces, begin, end):
+    """The first piece whose text holds a range of the new text, and the range within it, if there is such a piece."""
+    held = [index for index in range(len(pieces)) if holds(pieces, begin, end, index)]
+    return (held[0], begin - new_start(pieces, held[0]), end - new_start(pieces, held[0])) if held else None
+
+def element_cursor(plan, path):
+    """The range of a new element's text, and where the text of one piece holds it."""
+    new = plain(new_tree(plan))
+    begin, end = start(new, path), start(new, path) + text_length(at(new, path))
+    return begin, end, cursor(text_pieces(plan), begin, end)
+
+def line_starts(written):
+    return [0] + [index + 1 for index, byte in enumerate(written) if byte == ord("\n")]
+
+def IsAt(written, place):
+    """The last line that starts at an offset or before it, and how many bytes the offset is behind that start."""
+    line = sum(begin <= place for begin in line_starts(written)) - 1
+    return line, place - line_starts(written)[line]
+
+def wide_len(written):
+    """How many units of UTF-16 a text has."""
+    return len(written.decode().encode("utf-16-le")) // 2
+
+def IsWide(written, place):
+    """The column of an offset in units of UTF-16."""
+    return wide_len(written[place - IsAt(written, place)[1]:place])
 
 
 # Orders

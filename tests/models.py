@@ -7,7 +7,7 @@
     models.py named WORD..    those of them whose names contain one of these words
     models.py known           the model against every known answer (tests/known.py), the laws of the definitions, and the worked examples of
                               tests/scripts/model_examples.txt
-    models.py bugs [WORD..]   breaks the model in each of 41 ways, or in those whose names contain one of these words: what `known` compares has
+    models.py bugs [WORD..]   breaks the model in each of 45 ways, or in those whose names contain one of these words: what `known` compares has
                               to notice each, and a model that only fails is not noticed
     models.py bugs random SEED COUNT   how many of these ways show on so many random scripts
     models.py answer FILE..   all that the model says of the scripts in these files, in the format below
@@ -24,7 +24,12 @@ the same for the same batch, but for the lines `place`, for which the editor has
     shown N "TEXT"            each change as a plain text
     place N PATH              for each change that has a stage: the place of its target in its payload, or `none`
     cut FIRST STOP "TEXT"     each text edit, from left to right
+    lines LINE COLUMN WIDE .. for each text edit: the line and column of its start in the old text and the column in units of UTF-16, and those of its end
     makes "TEXT"              the text that they make of the old one
+    back FIRST STOP "TEXT"    each edit that takes them back
+    trim FIRST STOP "TEXT"    each of them without what it leaves as it was
+    cursor A FIRST STOP: N FIRST STOP   for each element that is found for annotation A, in order: its range in the new text, and the text edit
+                              whose text has it, with the range in that text, or `none`
     engine ENGINE             for each engine, first `one_pass`, then `splice`: the edit that it makes, in these lines
     tree EXPRESSION             the new tree
     changed PATH ..             the changed elements
@@ -112,6 +117,23 @@ def walk_lines(model, plan, order, edit):
     return lines + ["finish"] + edit
 
 
+def text_lines(model, plan, old):
+    """The text edits, and what is made of them."""
+    pieces = model.text_pieces(plan)
+    lists = {"cut": pieces, "back": model.inverted(pieces, old), "trim": model._trimmed(pieces, old)}
+    said = {word: ["%s %d %d %s" % (word, it.first, it.stop, quoted(model, it.text)) for it in listed] for word, listed in lists.items()}
+    lines = said["cut"]
+    for piece in pieces:
+        places = [(*model.IsAt(old, place), model.IsWide(old, place)) for place in (piece.first, piece.stop)]
+        lines.append("lines" + generate.spaced(places[0] + places[1]))
+    lines += ["makes " + quoted(model, model.applied(old, pieces)), *said["back"], *said["trim"]]
+    for annotation in sorted({annotation for annotation, _ in plan.registrations}):
+        for path in model.found_for(plan, annotation):
+            *place, found = model.element_cursor(plan, path)
+            lines.append("cursor%s:%s" % (generate.spaced([annotation, *place]), generate.spaced(found) if found else " none"))
+    return lines
+
+
 def plan_lines(model, plan, of_script):
     """All that the model says of a plan."""
     numbers, edit = range(len(plan.changes)), edit_lines(model, plan)
@@ -119,9 +141,7 @@ def plan_lines(model, plan, of_script):
     lines += ["shown %d %s" % (number, quoted(model, model.change_text(plan.changes[number]))) for number in numbers]
     places = [(number, model.ArePlaces(plan, number)) for number in numbers if model.has_stage(plan, number)]
     lines += ["place %d %s" % (number, "none" if path is None else model.path_text(path)) for number, path in places]
-    pieces = model.text_pieces(plan)
-    lines += ["cut %d %d %s" % (piece.first, piece.stop, quoted(model, piece.text)) for piece in pieces]
-    lines.append("makes " + quoted(model, model.applied(model.text(plan.root.tree), pieces)))
+    lines += text_lines(model, plan, model.text(plan.root.tree))
     lines += [line for engine in ENGINES for line in ["engine " + engine] + edit]
     lines.append("built %d" % model.touched_by(plan))
     stands = [(path, model.stand_in_path(plan, path)) for path in model.node_paths(plan.root.tree)]
@@ -209,6 +229,10 @@ def broken_law(model, plan):
         return "text edits are apart"
     if model.applied(model.text(plan.root.tree), pieces) != model.text(new):
         return "text edits make the new text"
+    if model.applied(model.text(new), model.inverted(pieces, model.text(plan.root.tree))) != model.text(plan.root.tree):
+        return "what takes text edits back gives the old text"
+    if model.applied(model.text(plan.root.tree), model._trimmed(pieces, model.text(plan.root.tree))) != model.text(new):
+        return "trimmed text edits make the same text"
     if model.plain(model.stage_tree(plan, [])) != plan.root.tree or model.stage_tree(plan, everything) != new:
         return "a run begins with the old tree and ends with the new one"
     if any([model.stage_payload(plan, number, everything)] != model.given(plan, number)
@@ -350,6 +374,14 @@ BUGS = [
      'if an_aim.form == "after" else begin', "if False else begin"),
     ("a text edit that alters nothing is there",
      "for number in in_text_order(plan) if texts(given(plan, number)) != old_text(plan, number)]", "for number in in_text_order(plan)]"),
+    ("a text edit is taken back where it stands in the old text",
+     "return pieces[index].first + sum(len(piece.text) - (piece.stop - piece.first) for piece in pieces[:index])", "return pieces[index].first"),
+    ("what two texts begin with stays in a text edit",
+     "ahead = len(commonprefix([away, put]))", "ahead = 0"),
+    ("a column is told in characters",
+     'encode("utf-16-le")) // 2', 'encode("utf-32-le")) // 4'),
+    ("a text edit has what begins in its text",
+     "<= begin <= end <= new_start(pieces, index) + len(pieces[index].text)", "<= begin <= new_start(pieces, index) + len(pieces[index].text)"),
     ("the edit of a child goes on in its tree",
      "root = edited if is_root(edited) else state.with_root(rest[0], subtree(edited))", "root = edited"),
     ("notes are printed by their words",

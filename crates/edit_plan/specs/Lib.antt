@@ -19,12 +19,15 @@ pub mod Engine
 pub mod PlanErrorText
 pub mod Run
 pub mod PlanTextEdits
+pub mod ElementCursor
 pub mod ExecuteRefusal
 pub use Rattle.edit_change.specs.RewritingLaws
 pub use Rattle.one_pass.specs.TextEdits
 pub use Rattle.text_edit.specs.TextPiece
+pub use Rattle.text_edit.specs.OrderRefusal
 pub use Rattle.text_edit.specs.ApplyRefusal
 pub use Rattle.text_edit.specs.Composition
 pub use Rattle.text_edit.specs.Inverse
 pub use Rattle.text_edit.specs.Trimmed
+pub use Rattle.text_edit.specs.Cursor
 pub mod inner

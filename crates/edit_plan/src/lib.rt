@@ -3,6 +3,7 @@
 
 mod annotated;
 mod annotation;
+mod cursor;
 mod edit;
 mod edit_error;
 mod edit_run;
@@ -23,6 +24,7 @@ mod run;
 mod splice_engine;
 
 pub use annotation::{Annotations, SyntaxAnnotation};
+pub use cursor::ElementCursor;
 pub use edit::SyntaxEdit;
 pub use edit_change::{Change, Element, ElementList, Position};
 pub use edit_error::EditError;
@@ -34,4 +36,4 @@ pub use one_pass_engine::OnePassEngine;
 pub use plan::EditPlan;
 pub use rewritten::Rewritten;
 pub use splice_engine::SpliceEngine;
-pub use text_edit::{ApplyError, ComposeError, TextEdit, TextEdits};
+pub use text_edit::{ApplyError, ComposeError, Cursor, OrderError, TextEdit, TextEdits};

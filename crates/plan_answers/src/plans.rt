@@ -67,7 +67,7 @@ impl Planned<'_> {
     }
 
     fn push_one_pass(&self, out: &mut String, edit: &SyntaxEdit) -> Result<(), AllocError> {
-        push_texts(self.alloc, out, self.plan, edit.old_root())?;
+        push_texts(self.alloc, out, self.plan, edit, self.words)?;
         out.push_str("engine one_pass\n")?;
         self.push_edit(out, edit)
     }

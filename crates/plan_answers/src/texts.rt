@@ -1,24 +1,35 @@
-//! A plan as a text, and the text edits that it makes.
+//! A plan as a text, the text edits that it makes, and what is made of these.
 
-use cst_core::SyntaxNode;
 use std::alloc::{AllocError, Global};
-use syntax_editor::{ApplyError, Change, EditPlan, TextEdits};
+use syned_script::Words;
+use syntax_editor::{Change, EditPlan, ElementCursor, SyntaxEdit, TextEdits};
 use test_trees::push_quoted;
+use text_edit::{LineIndex, WideEncoding};
 
-/// The plan's text, each change as a plain text, and the text edits with what they make.
+/// The plan's text, each change as a plain text, the text edits, and where these have the elements of each annotation.
 pub fn push_texts(
     alloc: Global,
     out: &mut String,
     plan: &EditPlan,
-    old: &SyntaxNode,
+    edit: &SyntaxEdit,
+    words: &Words,
 ) -> Result<(), AllocError> {
     push_fates(alloc, out, plan)?;
     for (number, change) in plan.changes().iter().enumerate() {
         write!(out, "shown {number} ")?;
         push_change(alloc, out, change)?;
     }
+    let old = edit.old_root().text(alloc)?;
     let edits = plan.text_edits(alloc)?;
-    push_text_edits(alloc, out, &edits, old)
+    push_text_edits(alloc, out, &edits, &old)?;
+    for (index, word) in words.in_order().iter().enumerate() {
+        push_cursors(
+            out,
+            index + 1,
+            &edit.find_cursors(alloc, word.annotation, &edits)?,
+        )?;
+    }
+    Ok(())
 }
 
 fn push_fates(alloc: Global, out: &mut String, plan: &EditPlan) -> Result<(), AllocError> {
@@ -40,27 +51,67 @@ fn push_line(out: &mut String, text: &str) -> Result<(), AllocError> {
     out.push('\n')
 }
 
+// The edits of a plan fit its old text, so if they are refused there, memory is.
 fn push_text_edits(
     alloc: Global,
     out: &mut String,
     edits: &TextEdits,
-    old: &SyntaxNode,
+    old: &str,
 ) -> Result<(), AllocError> {
+    push_list(out, "cut", edits)?;
+    let lines = LineIndex::new(alloc, old)?;
     for edit in edits.as_slice() {
-        write!(out, "cut {} {} ", edit.start, edit.end)?;
-        push_line(out, &edit.text)?;
+        out.push_str("lines")?;
+        push_place(out, &lines, edit.start)?;
+        push_place(out, &lines, edit.end)?;
+        out.push('\n')?;
     }
     out.push_str("makes ")?;
-    let old = old.text(alloc)?;
-    let made = made_of(alloc, &old, edits)?;
-    push_line(out, &made)
+    push_line(out, &edits.apply(alloc, old).map_err(|_| AllocError)?)?;
+    push_list(
+        out,
+        "back",
+        &edits.inverse(alloc, old).map_err(|_| AllocError)?,
+    )?;
+    push_list(
+        out,
+        "trim",
+        &edits.trimmed(alloc, old).map_err(|_| AllocError)?,
+    )
 }
 
-// What edits make of a text; `?` where they do not fit it.
-fn made_of(alloc: Global, old: &str, edits: &TextEdits) -> Result<String, AllocError> {
-    match edits.apply(alloc, old) {
-        Ok(made) => Ok(made),
-        Err(ApplyError::Memory) => Err(AllocError),
-        Err(_) => String::from_str(alloc, "?"),
+fn push_list(out: &mut String, word: &str, edits: &TextEdits) -> Result<(), AllocError> {
+    for edit in edits.as_slice() {
+        write!(out, "{word} {} {} ", edit.start, edit.end)?;
+        push_line(out, &edit.text)?;
     }
+    Ok(())
+}
+
+// The line and column of an offset, and the column in units of UTF-16.
+fn push_place(out: &mut String, lines: &LineIndex<'_>, offset: u64) -> Result<(), AllocError> {
+    let Some(place) = lines.try_line_col(offset) else {
+        return out.push_str(" none");
+    };
+    write!(out, " {} {}", place.line, place.col)?;
+    match lines.to_wide(WideEncoding::Utf16, place) {
+        Some(wide) => write!(out, " {}", wide.col),
+        None => out.push_str(" none"),
+    }
+}
+
+// Where the elements of an annotation are.
+fn push_cursors(
+    out: &mut String,
+    number: usize,
+    places: &[ElementCursor],
+) -> Result<(), AllocError> {
+    for place in places {
+        write!(out, "cursor {number} {} {}: ", place.start, place.end)?;
+        match place.in_edit {
+            Some(it) => writeln!(out, "{} {} {}", it.edit, it.start, it.end)?,
+            None => out.push_str("none\n")?,
+        }
+    }
+    Ok(())
 }

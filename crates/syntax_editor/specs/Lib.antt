@@ -44,11 +44,14 @@ pub use Rattle.edit_plan.specs.Run
 pub use Rattle.edit_plan.specs.ExecuteRefusal
 pub use Rattle.edit_plan.specs.TextEdits
 pub use Rattle.edit_plan.specs.PlanTextEdits
+pub use Rattle.edit_plan.specs.ElementCursor
 pub use Rattle.edit_plan.specs.TextPiece
+pub use Rattle.edit_plan.specs.OrderRefusal
 pub use Rattle.edit_plan.specs.ApplyRefusal
 pub use Rattle.edit_plan.specs.Composition
 pub use Rattle.edit_plan.specs.Inverse
 pub use Rattle.edit_plan.specs.Trimmed
+pub use Rattle.edit_plan.specs.Cursor
 pub use Rattle.edit_change.specs.Aim
 pub use Rattle.edit_change.specs.Rewriting
 pub use Rattle.edit_change.specs.RewritingLaws

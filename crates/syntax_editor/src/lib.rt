@@ -23,9 +23,10 @@ pub use ast_node_edit::AstNodeEdit;
 pub use attrs_owner_edit::AttrsOwnerEdit;
 pub use edit_map::{MapError, SyntaxMapping, SyntaxMappingBuilder};
 pub use edit_plan::{
-    Annotations, ApplyError, Change, ComposeError, EditEngine, EditError, EditPlan, EditRun,
-    Element, ElementList, EngineError, ExecuteError, OnePassEngine, Position, Rewritten,
-    SpliceEngine, SyntaxAnnotation, SyntaxEdit, TextEdit, TextEdits,
+    Annotations, ApplyError, Change, ComposeError, Cursor, EditEngine, EditError, EditPlan,
+    EditRun, Element, ElementCursor, ElementList, EngineError, ExecuteError, OnePassEngine,
+    OrderError, Position, Rewritten, SpliceEngine, SyntaxAnnotation, SyntaxEdit, TextEdit,
+    TextEdits,
 };
 pub use editor::SyntaxEditor;
 pub use error::{MergeError, RecordError};

@@ -1,12 +1,14 @@
 //! Edits of texts: lists of them, applied, composed, taken back and trimmed; and the lines and columns of a text.
 
+use crate::roots::annotation;
 use crate::session::{Session, last};
-use crate::shown::{Answer, Done, Read, say};
+use crate::shown::{Answer, Done, Read, Show, say};
 use crate::texts;
 use std::alloc::Global;
 use std::fmt::Display;
+use syntax_editor::ElementCursor;
 use test_trees::{NoAnswer, Words, number_of};
-use text_edit::{LineCol, LineIndex, TextEdit, TextEdits, WideEncoding, WideLineCol};
+use text_edit::{Cursor, LineCol, LineIndex, TextEdit, TextEdits, WideEncoding, WideLineCol};
 
 /// Takes the step of this name, or passes on what is none of these.
 pub fn answer(s: &mut Session, name: &str, words: &mut Words, out: &mut Answer) -> Done {
@@ -14,6 +16,11 @@ pub fn answer(s: &mut Session, name: &str, words: &mut Words, out: &mut Answer) 
         "edits" => edits(s, words, out),
         "listed" => Ok(listed(last(&mut s.lists)?, out)),
         "then" => then(s, out),
+        "cursor" => {
+            let (start, end) = (words.number()?, words.number()?);
+            Ok(out.given_or_none(&last(&mut s.lists)?.cursor(start, end)))
+        }
+        "cursors" => cursors(s, words, out),
         "apply" | "inverse" | "trimmed" => on_text(s, name, words, out),
         "line_col" | "offset" | "to_utf16" | "to_utf32" | "from_utf16" | "from_utf32" => of_lines(
             name, words, out,
@@ -101,6 +108,27 @@ fn on_text(s: &mut Session, name: &str, words: &mut Words, out: &mut Answer) -> 
         }
     };
     keep(s, made, out)
+}
+
+// Where the elements of an annotation in the last edit stand in the new text and in the text edits of the last plan.
+fn cursors(s: &mut Session, words: &mut Words, out: &mut Answer) -> Done {
+    let edits = out.asked(last(&mut s.plans)?.text_edits(s.alloc))?;
+    let annotation = annotation(words).ok_or(NoAnswer::Arguments)?;
+    let found = out.asked(last(&mut s.edits)?.find_cursors(s.alloc, annotation, &edits))?;
+    Ok(out.given(&found))
+}
+
+impl Show for Cursor {
+    fn show(&self, out: &mut Answer) {
+        say!(out, "{}:{}-{}", self.edit, self.start, self.end);
+    }
+}
+
+impl Show for ElementCursor {
+    fn show(&self, out: &mut Answer) {
+        say!(out, "{}-{} ", self.start, self.end);
+        self.in_edit.show(out);
+    }
 }
 
 fn encoding(name: &str) -> WideEncoding {

@@ -1,5 +1,5 @@
 -- The edits of the second list, one by one.
-use Rattle.std.proofs.Common.{◌≡◌, ◌∙◌, ◌+◌, ◌-◌, ◌<◌, ◌≤◌, ◌^◌, ℕ, true, false, List, [], ◌∷◌, ◌++◌, length, take, drop, ap, sym, refl, subst, arith, IsCharBoundary, slice_range}
+use Rattle.std.proofs.Common.{◌≡◌, ◌∙◌, ◌+◌, ◌-◌, ◌<◌, ◌≤◌, ◌^◌, ℕ, List, [], ◌∷◌, ◌++◌, length, take, drop, ap, sym, refl, subst, arith, IsCharBoundary, slice_range}
 use Rattle.std.specs.Str.{IsUtf8}
 use Rattle.std.proofs.lemmas.Str.{IsCharBoundary-start}
 use Rattle.std.proofs.Math.Seq.{take-append_seam, drop-append_seam}
@@ -8,6 +8,7 @@ use Rattle.std.proofs.lemmas.List.Elements.{All-nil, All-head, All-tail, All-tak
 use Rattle.text_edit.specs.TextPiece.{TextPiece, AreApart, FitsText, FitText, applied_from, applied}
 use Rattle.text_edit.specs.Composition.{FitNone, ComposeRefuses}
 use Rattle.text_edit.specs.inner.Composing.{Place, following, made, FitPlace, Passes, PassRefuses, Puts, CarriesOut, CarryRefuses, PutsSome, PutsSomeIn, PutsAll, Finishes, Reached}
+use Rattle.text_edit.specs.declared.compose.Pass.TheVariants.{Keep, Delete}
 use Rattle.text_edit.specs.declared.compose_error.ComposeError.{ComposeError}
 use Rattle.text_edit.specs.declared.compose_error.ComposeError.TheVariants.{InsideCharacter, TooLong, Memory}
 use Rattle.text_edit.proofs.Ordered.{AreApart-further}
@@ -73,7 +74,7 @@ module _ (passed : ℕ) (e : TextPiece) (p p' : Place) (new : List TextPiece) (a
   carry-refuses-before i (TooLong n) refuses = (refuses.0, λ t s short fit followed e_fit. refuses.1 s short fit (to_start t s followed e_fit))
   carry-refuses-before i Memory refuses = tt
 
-  module _ (kept : Passes true (e.first - passed) (e.first - passed) p p') (puts : Puts p'.out new p'.at p'.at e.text) where
+  module _ (kept : Passes Keep (e.first - passed) (e.first - passed) p p') (puts : Puts p'.out new p'.at p'.at e.text) where
     abbrev put : Place
     put = place p'.left p'.at p'.rest new
 
@@ -105,7 +106,7 @@ module _ (passed : ℕ) (e : TextPiece) (p p' : Place) (new : List TextPiece) (a
     carry-refuses-behind i (TooLong n) refuses = (refuses.0, λ t s short fit followed e_fit. refuses.1 s short (put-fit t s fit followed e_fit) (to_stop t s fit followed e_fit))
     carry-refuses-behind i Memory refuses = tt
 
-    pub CarriesOut-passed : (q : Place) → Passes false (e.stop - e.first) (e.stop - e.first) put q → CarriesOut passed e p q
+    pub CarriesOut-passed : (q : Place) → Passes Delete (e.stop - e.first) (e.stop - e.first) put q → CarriesOut passed e p q
     CarriesOut-passed q gone t s fit followed e_fit =
         let was = gone s (put-fit t s fit followed e_fit) (to_stop t s fit followed e_fit) in
         let whole : e.first + (e.stop - e.first) ≡ e.stop = omega arith in

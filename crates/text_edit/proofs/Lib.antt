@@ -12,3 +12,4 @@ pub mod LinePlaces
 pub mod Measuring
 pub mod Columns
 pub mod WidePlaces
+pub mod Holding

@@ -43,14 +43,14 @@ AreApart-earlier from earlier (e ∷ es) to le apart = (omega arith, apart.1, ap
 module _ (s : List ℕ) (e : TextPiece) (own : FitsText s e) (same : slice_range s e.first e.stop ≡ e.text) where
   nothing-same : (gone to : ℕ) (es : List TextPiece) → AreApart gone (e ∷ es) to → applied_from gone es (drop gone s) ≡ applied_from gone (e ∷ es) (drop gone s)
   nothing-same gone to es apart =
-      let k = kept s gone to e es apart own in
+      let k = kept s gone to e es apart own.0.0 in
       let r = slice_range s e.first e.stop in
       let r_len : length r ≡ e.stop - e.first = (let short : e.stop - e.first ≤ length (drop e.first s) = omega (arith, length-drop e.first s, own.1.0) in length-take-le (e.stop - e.first) (drop e.first s) short) in
-      let k_len = length-kept s gone to e es apart own in
+      let k_len = length-kept s gone to e es apart own.0.0 in
       let after : gone ≤ e.first = apart.0 in
       let ordered : e.first ≤ e.stop = apart.1 in
       let len : gone + length (k ++ r) ≡ e.stop = omega (arith, length-append k r) in
-      ap (applied_from gone es) (sym (old-parts s gone to e es apart own)) ∙ applied_from-kept gone e.stop to es (k ++ r) (drop e.stop s) len apart.2 ∙ ap (λ x. k ++ x ++ applied_from e.stop es (drop e.stop s)) same ∙ sym (applied-parts s gone to e es apart own)
+      ap (applied_from gone es) (sym (old-parts s gone to e es apart own.0.0)) ∙ applied_from-kept gone e.stop to es (k ++ r) (drop e.stop s) len apart.2 ∙ ap (λ x. k ++ x ++ applied_from e.stop es (drop e.stop s)) same ∙ sym (applied-parts s gone to e es apart own.0.0)
 
   pub Narrows-nothing : Narrows s e []
   Narrows-nothing = record {
@@ -83,20 +83,20 @@ module _ (s : List ℕ) (e d : TextPiece) (p o q : List ℕ) (utf8 : IsUtf8 s) (
 
   left-same : (gone to : ℕ) (es : List TextPiece) → AreApart gone (e ∷ es) to → applied_from gone (d ∷ es) (drop gone s) ≡ applied_from gone (e ∷ es) (drop gone s)
   left-same gone to es apart =
-      let k = kept s gone to e es apart own in
+      let k = kept s gone to e es apart own.0.0 in
       let b = drop e.stop s in
       let rest = applied_from e.stop es b in
-      let k_len = length-kept s gone to e es apart own in
+      let k_len = length-kept s gone to e es apart own.0.0 in
       let after : gone ≤ e.first = apart.0 in
       let whole = whole-length in
-      let cut : drop gone s ≡ (k ++ p) ++ (o ++ (q ++ b)) = sym (old-parts s gone to e es apart own) ∙ ap (λ x. k ++ x ++ b) old_is ∙ (let t : k ++ (p ++ (o ++ q)) ++ b ≡ (k ++ p) ++ (o ++ (q ++ b)) = simp append_assoc in t) in
+      let cut : drop gone s ≡ (k ++ p) ++ (o ++ (q ++ b)) = sym (old-parts s gone to e es apart own.0.0) ∙ ap (λ x. k ++ x ++ b) old_is ∙ (let t : k ++ (p ++ (o ++ q)) ++ b ≡ (k ++ p) ++ (o ++ (q ++ b)) = simp append_assoc in t) in
       let first : length (k ++ p) ≡ d.first - gone = length-append k p ∙ (let n : length k + length p ≡ d.first - gone = omega arith in n) in
       let stop : length (k ++ p ++ o) ≡ d.stop - gone = length-append (k ++ p) o ∙ (let n : length (k ++ p) + length o ≡ d.stop - gone = omega arith in n) in
       let before : take (d.first - gone) (drop gone s) ≡ k ++ p = ap (take (d.first - gone)) cut ∙ take_at (k ++ p) (o ++ (q ++ b)) (d.first - gone) first in
       let left : drop (d.stop - gone) (drop gone s) ≡ q ++ b = ap (drop (d.stop - gone)) (cut ∙ sym (append_assoc (k ++ p) o (q ++ b))) ∙ drop_at (k ++ p ++ o) (q ++ b) (d.stop - gone) stop in
       let len : d.stop + length q ≡ e.stop = omega arith in
       ap (λ x. x ++ d.text ++ applied_from d.stop es (drop (d.stop - gone) (drop gone s))) before ∙ ap (λ x. k ++ p ++ d.text ++ applied_from d.stop es x) left ∙ ap (λ x. k ++ p ++ d.text ++ x) (applied_from-kept d.stop e.stop to es q b len apart.2)
-      ∙ (let t : k ++ p ++ d.text ++ (q ++ rest) ≡ k ++ (p ++ (d.text ++ q)) ++ rest = simp append_assoc in t) ∙ ap (λ x. k ++ x ++ rest) (sym new_is) ∙ sym (applied-parts s gone to e es apart own)
+      ∙ (let t : k ++ p ++ d.text ++ (q ++ rest) ≡ k ++ (p ++ (d.text ++ q)) ++ rest = simp append_assoc in t) ∙ ap (λ x. k ++ x ++ rest) (sym new_is) ∙ sym (applied-parts s gone to e es apart own.0.0)
 
   -- the old text from there on
   drop-first : drop d.first s ≡ o ++ (q ++ drop e.stop s)

@@ -37,11 +37,11 @@ AreApart-before_last from [] e to apart = (apart.0, apart.1, apart.2)
 AreApart-before_last from (d ∷ es) e to apart = let rest = AreApart-before_last d.stop es e to apart.2 in ((apart.0, apart.1, rest.0), rest.1, rest.2)
 
 -- ---- what a refusal says
-abbrev IsAfter : ℕ → TextPiece → TextPiece → Type 0
+abbrev pub IsAfter : ℕ → TextPiece → TextPiece → Type 0
 IsAfter len d e = (d.first ≤ e.first) × (d.stop ≤ e.first) × (e.first ≤ e.stop) × (e.stop ≤ len)
 
 -- each piece of those that are apart, after one that ends where they begin
-is-after : (d : TextPiece) (es : List TextPiece) (len i : ℕ) → d.first ≤ d.stop → AreApart d.stop es len → i < length es → IsAfter len (get_or (d ∷ es) i nothing) (get_or es i nothing)
+pub is-after : (d : TextPiece) (es : List TextPiece) (len i : ℕ) → d.first ≤ d.stop → AreApart d.stop es len → i < length es → IsAfter len (get_or (d ∷ es) i nothing) (get_or es i nothing)
 is-after d [] len i own apart inside = absurd (omega (arith, inside))
 is-after d (e ∷ es) len zero own apart inside = (omega (arith, own, apart.0), apart.0, apart.1, AreApart-le e.stop es len apart.2)
 is-after d (e ∷ es) len (suc i) own apart inside = is-after e es len i apart.1 apart.2 (omega (arith, inside))

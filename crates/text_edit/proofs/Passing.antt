@@ -1,12 +1,14 @@
 -- A place between two lists that are composed, some bytes further on.
-use Rattle.std.proofs.Common.{◌≡◌, ◌∙◌, ◌+◌, ◌-◌, ◌<◌, ◌≤◌, ◌^◌, ℕ, Bool, true, false, cond, List, [], ◌∷◌, ◌++◌, length, take, drop, get_or, ap, sym, refl, subst, arith, inl, inr, IsCharBoundary}
+use Rattle.std.proofs.Common.{◌≡◌, ◌∙◌, ◌+◌, ◌-◌, ◌<◌, ◌≤◌, ◌^◌, ℕ, List, [], ◌∷◌, ◌++◌, length, take, drop, get_or, ap, sym, refl, subst, arith, inl, inr, IsCharBoundary}
 use Rattle.std.proofs.Math.Seq.{take-add}
 use Rattle.std.proofs.lemmas.List.{append_assoc, append-nil, drop-drop, drop-append-le, take-append-le, take_at, drop_at, take-append-drop, length-take-le, length-drop, get_or-drop, get_or-take, get_or_append_left, length-append}
 use Rattle.std.proofs.lemmas.Bool.{cases_lt}
 use Rattle.std.proofs.lemmas.List.Elements.{All-head, All-tail}
 use Rattle.std.proofs.lemmas.Str.{IsCharBoundary-from_rest}
 use Rattle.text_edit.specs.TextPiece.{TextPiece, AreApart, FitsText, FitText, applied_from, applied}
-use Rattle.text_edit.specs.inner.Composing.{Place, following, made, FitPlace, Passes, PassesIn, IsPlace, PassRefuses, Puts, IsKept, PutsUnless}
+use Rattle.text_edit.specs.inner.Composing.{Place, following, made, left_of, FitPlace, Passes, PassesIn, IsPlace, PassRefuses, Puts, IsKept, PutsDeletion}
+use Rattle.text_edit.specs.declared.compose.Pass.{Pass}
+use Rattle.text_edit.specs.declared.compose.Pass.TheVariants.{Keep, Delete}
 use Rattle.text_edit.specs.declared.compose_error.ComposeError.{ComposeError}
 use Rattle.text_edit.specs.declared.compose_error.ComposeError.TheVariants.{InsideCharacter, TooLong, Memory}
 use Rattle.text_edit.proofs.Ordered.{AreApart-further}
@@ -16,26 +18,23 @@ abbrev pub place : List ℕ → ℕ → List TextPiece → List TextPiece → Pl
 place left at rest out = record { left = left; at = at; rest = rest; out = out }
 
 -- some of the text that is left
-pub Passes-text : (keeps : Bool) (n k at : ℕ) (left : List ℕ) (rest out new : List TextPiece) → k ≤ length left → Puts out new at at (cond keeps (take k left) []) → Passes keeps n k (place left at rest out) (place (drop k left) at rest new)
-Passes-text keeps n k at left rest out new inside puts s fit _ =
+pub Passes-text : (pass : Pass) (n k at : ℕ) (left : List ℕ) (rest out new : List TextPiece) → k ≤ length left → Puts out new at at (left_of pass (take k left)) → Passes pass n k (place left at rest out) (place (drop k left) at rest new)
+Passes-text pass n k at left rest out new inside puts s fit _ =
     let behind = applied_from at rest (drop at s) in
     let put = puts.puts s fit.out_fit fit.here fit.here in
     record {
       fit = record { here = fit.here; rest_fit = fit.rest_fit; out_fit = put.fit };
       followed = sym (drop-append-le k left behind inside);
-      grown = put.grown ∙ ap (λ t. applied out (take at s) ++ cond keeps t []) (sym (take-append-le k left behind inside));
+      grown = put.grown ∙ ap (λ t. applied out (take at s) ++ left_of pass t) (sym (take-append-le k left behind inside));
     }
 
-abbrev none : List ℕ
-none = []
-
-cond-nil : (b : Bool) → cond b none none ≡ none
-cond-nil true = refl
-cond-nil false = refl
+left_of-nil : (pass : Pass) → left_of pass [] ≡ []
+left_of-nil Keep = refl
+left_of-nil Delete = refl
 
 -- the next edit begins
-pub Passes-begin : (keeps : Bool) (n at : ℕ) (e : TextPiece) (es out new : List TextPiece) → at ≡ e.first → e.first ≤ e.stop → Puts out new at e.stop [] → Passes keeps n 0 (place [] at (e ∷ es) out) (place e.text e.stop es new)
-Passes-begin keeps n at e es out new here own puts s fit _ =
+pub Passes-begin : (pass : Pass) (n at : ℕ) (e : TextPiece) (es out new : List TextPiece) → at ≡ e.first → e.first ≤ e.stop → Puts out new at e.stop [] → Passes pass n 0 (place [] at (e ∷ es) out) (place e.text e.stop es new)
+Passes-begin pass n at e es out new here own puts s fit _ =
     let e_fit : FitsText s e = All-head (FitsText s) e es fit.rest_fit in
     let put = puts.puts s fit.out_fit fit.here e_fit.1 in
     let no_gap : e.first - at ≡ 0 = omega arith in
@@ -44,7 +43,7 @@ Passes-begin keeps n at e es out new here own puts s fit _ =
     record {
       fit = record { here = e_fit.1; rest_fit = All-tail (FitsText s) e es fit.rest_fit; out_fit = put.fit };
       followed = ap (λ t. e.text ++ applied_from e.stop es t) (sym rest_is) ∙ ap (λ k. take k (drop at s) ++ e.text ++ applied_from e.stop es (drop (e.stop - at) (drop at s))) (sym no_gap);
-      grown = put.grown ∙ ap (λ t. applied out (take at s) ++ t) (sym (cond-nil keeps));
+      grown = put.grown ∙ ap (λ t. applied out (take at s) ++ t) (sym (left_of-nil pass));
     }
 
 -- within what is kept before the next edit
@@ -94,8 +93,8 @@ module _ (n k at : ℕ) (rest : List TextPiece) (kept : IsKept at rest n k) (apa
   kept-take = ap (take k) kept-split ∙ take_at (take k (drop at s)) (applied_from (at + k) rest (drop (at + k) s)) k length-kept
 
 -- some of what is kept
-pub Passes-kept : (keeps : Bool) (n k at : ℕ) (rest out new : List TextPiece) → IsKept at rest n k → AreApart at rest (2 ^ 64) → AreApart 0 out at → PutsUnless keeps out new at (at + k) → Passes keeps n k (place [] at rest out) (place [] (at + k) rest new)
-Passes-kept true n k at rest out new kept apart out_apart same s fit boundary =
+pub Passes-kept : (pass : Pass) (n k at : ℕ) (rest out new : List TextPiece) → IsKept at rest n k → AreApart at rest (2 ^ 64) → AreApart 0 out at → PutsDeletion pass out new at (at + k) → Passes pass n k (place [] at rest out) (place [] (at + k) rest new)
+Passes-kept Keep n k at rest out new kept apart out_apart same s fit boundary =
     let here = boundary-kept s at n k rest fit.rest_fit fit.here.0 apart kept boundary in
     let P : List TextPiece → Type 0 = FitText s in
     record {
@@ -103,7 +102,7 @@ Passes-kept true n k at rest out new kept apart out_apart same s fit boundary =
       followed = kept-drop n k at rest kept apart s here.0;
       grown = ap (λ es. applied es (take (at + k) s)) same ∙ applied-further out at k s out_apart here.0 ∙ ap (λ t. applied out (take at s) ++ t) (sym (kept-take n k at rest kept apart s here.0));
     }
-Passes-kept false n k at rest out new kept apart out_apart puts s fit boundary =
+Passes-kept Delete n k at rest out new kept apart out_apart puts s fit boundary =
     let here = boundary-kept s at n k rest fit.rest_fit fit.here.0 apart kept boundary in
     let put = puts.puts s fit.out_fit fit.here here in
     record {
@@ -119,11 +118,11 @@ boundary-drop t i j boundary =
     (omega (arith, length-drop i t), λ inside high. let within : i + j < length t = omega (arith, length-drop i t) in rw byte (boundary.1 within (rw byte at high)))
 
 -- what is passed at once, of what is passed in two parts
-kept-parts : (keeps : Bool) (k m : ℕ) (f g : List ℕ) → g ≡ drop k f → cond keeps (take k f) none ++ cond keeps (take m g) none ≡ cond keeps (take (k + m) f) none
-kept-parts true k m f g is = ap (λ t. take k f ++ take m t) is ∙ sym (take-add k m f)
-kept-parts false k m f g is = refl
+kept-parts : (pass : Pass) (k m : ℕ) (f g : List ℕ) → g ≡ drop k f → left_of pass (take k f) ++ left_of pass (take m g) ≡ left_of pass (take (k + m) f)
+kept-parts Keep k m f g is = ap (λ t. take k f ++ take m t) is ∙ sym (take-add k m f)
+kept-parts Delete k m f g is = refl
 
-module _ (keeps : Bool) (n k : ℕ) (p q : Place) (some : k ≤ n) (first : Passes keeps n k p q) where
+module _ (pass : Pass) (n k : ℕ) (p q : Place) (some : k ≤ n) (first : Passes pass n k p q) where
   boundary-next : (s : List ℕ) (fit : FitPlace p s) (boundary : IsCharBoundary (following p s) n) → IsCharBoundary (following q s) (n - k)
   boundary-next s fit boundary =
       let whole : n ≡ k + (n - k) = omega arith in
@@ -131,14 +130,14 @@ module _ (keeps : Bool) (n k : ℕ) (p q : Place) (some : k ≤ n) (first : Pass
       let Q : List ℕ → Type 0 = λ t. IsCharBoundary t (n - k) in
       subst Q (sym (first s fit boundary).followed) (boundary-drop (following p s) k (n - k) (subst P whole boundary))
 
-  pub Passes-then : (m : ℕ) (r : Place) → Passes keeps (n - k) m q r → Passes keeps n (k + m) p r
+  pub Passes-then : (m : ℕ) (r : Place) → Passes pass (n - k) m q r → Passes pass n (k + m) p r
   Passes-then m r next s fit boundary =
       let a = first s fit boundary in
       let b = next s a.fit (boundary-next s fit boundary) in
       record {
         fit = b.fit;
         followed = b.followed ∙ ap (drop m) a.followed ∙ drop-drop m k (following p s);
-        grown = b.grown ∙ ap (λ t. t ++ cond keeps (take m (following q s)) none) a.grown ∙ append_assoc (made p s) (cond keeps (take k (following p s)) none) (cond keeps (take m (following q s)) none) ∙ ap (λ t. made p s ++ t) (kept-parts keeps k m (following p s) (following q s) a.followed);
+        grown = b.grown ∙ ap (λ t. t ++ left_of pass (take m (following q s))) a.grown ∙ append_assoc (made p s) (left_of pass (take k (following p s))) (left_of pass (take m (following q s))) ∙ ap (λ t. made p s ++ t) (kept-parts pass k m (following p s) (following q s) a.followed);
       }
 
   pub refuses-before : (i : ℕ) (e : ComposeError) → PassRefuses i (n - k) q e → PassRefuses i n p e
@@ -146,27 +145,27 @@ module _ (keeps : Bool) (n k : ℕ) (p q : Place) (some : k ≤ n) (first : Pass
   refuses-before i (TooLong x) refuses = (refuses.0, λ s short fit boundary. refuses.1 s short (first s fit boundary).fit (boundary-next s fit boundary))
   refuses-before i Memory refuses = tt
 
-pub Passes-none : (keeps : Bool) (n k : ℕ) (p : Place) → k ≡ 0 → Passes keeps n k p p
-Passes-none keeps n k p is s fit _ =
-    let P : ℕ → Type 0 = λ m. PassesIn keeps m p p s in
-    subst P (sym is) (record { fit = fit; followed = refl; grown = sym (ap (λ t. made p s ++ t) (cond-nil keeps) ∙ append-nil (made p s)) })
+pub Passes-none : (pass : Pass) (n k : ℕ) (p : Place) → k ≡ 0 → Passes pass n k p p
+Passes-none pass n k p is s fit _ =
+    let P : ℕ → Type 0 = λ m. PassesIn pass m p p s in
+    subst P (sym is) (record { fit = fit; followed = refl; grown = sym (ap (λ t. made p s ++ t) (left_of-nil pass) ∙ append-nil (made p s)) })
 
-pub Passes-at : (keeps : Bool) (n k : ℕ) (p p' q q' : Place) → p ≡ p' → q ≡ q' → Passes keeps n k p' q' → Passes keeps n k p q
-Passes-at keeps n k p p' q q' p_is q_is passes =
-    let P : Place → Type 0 = λ x. Passes keeps n k x q in
-    let Q : Place → Type 0 = λ x. Passes keeps n k p' x in
+pub Passes-at : (pass : Pass) (n k : ℕ) (p p' q q' : Place) → p ≡ p' → q ≡ q' → Passes pass n k p' q' → Passes pass n k p q
+Passes-at pass n k p p' q q' p_is q_is passes =
+    let P : Place → Type 0 = λ x. Passes pass n k x q in
+    let Q : Place → Type 0 = λ x. Passes pass n k p' x in
     subst P (sym p_is) (subst Q (sym q_is) passes)
 
 -- a place further on among what is kept
-pub IsPlace-kept : (keeps : Bool) (n k at : ℕ) (left : List ℕ) (rest out new : List TextPiece) → IsKept at rest n k → at + k < 2 ^ 64 → AreApart at rest (2 ^ 64) → AreApart 0 out at → PutsUnless keeps out new at (at + k) → IsPlace (place left (at + k) rest new)
-IsPlace-kept keeps n k at left rest out new kept small apart out_apart puts = record { rest_apart = ahead rest kept apart; out_apart = behind keeps puts } where
+pub IsPlace-kept : (pass : Pass) (n k at : ℕ) (left : List ℕ) (rest out new : List TextPiece) → IsKept at rest n k → at + k < 2 ^ 64 → AreApart at rest (2 ^ 64) → AreApart 0 out at → PutsDeletion pass out new at (at + k) → IsPlace (place left (at + k) rest new)
+IsPlace-kept pass n k at left rest out new kept small apart out_apart puts = record { rest_apart = ahead rest kept apart; out_apart = behind pass puts } where
   ahead : (rest : List TextPiece) → IsKept at rest n k → AreApart at rest (2 ^ 64) → AreApart (at + k) rest (2 ^ 64)
   ahead [] kept apart = omega arith
   ahead (e ∷ es) kept apart = (omega arith, apart.1, apart.2)
 
-  behind : (keeps : Bool) → PutsUnless keeps out new at (at + k) → AreApart 0 new (at + k)
-  behind true same = let P : List TextPiece → Type 0 = λ t. AreApart 0 t (at + k) in subst P (sym same) (AreApart-further 0 out at (at + k) out_apart (omega arith))
-  behind false puts = puts.apart
+  behind : (pass : Pass) → PutsDeletion pass out new at (at + k) → AreApart 0 new (at + k)
+  behind Keep same = let P : List TextPiece → Type 0 = λ t. AreApart 0 t (at + k) in subst P (sym same) (AreApart-further 0 out at (at + k) out_apart (omega arith))
+  behind Delete puts = puts.apart
 
 pub boundary-passed : (s : List ℕ) (n k at : ℕ) (left : List ℕ) (rest out : List TextPiece) → left ≡ [] → IsKept at rest n k → AreApart at rest (2 ^ 64) → FitPlace (place left at rest out) s → IsCharBoundary (following (place left at rest out) s) n → IsCharBoundary s (at + k)
 boundary-passed s n k at left rest out none kept apart fit boundary =

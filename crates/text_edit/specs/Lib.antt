@@ -4,6 +4,7 @@ pub mod ApplyRefusal
 pub mod Composition
 pub mod Inverse
 pub mod Trimmed
+pub mod Cursor
 pub mod Lines
 pub mod Wide
 pub mod inner

@@ -5,8 +5,8 @@ ghost use Rattle.std.specs.Prelude.{◌<◌, length};
 use std::alloc::{AllocError, AllocFailed};
 use thiserror::Error;
 
-/// Why edits are not applied to a text. `index` says which edit is to blame, counted from 0: the first that does not
-/// fit.
+/// Why edits are not applied to a text. `index` is the place in the list, counted from 0, of the edit to blame: the first
+/// that does not fit the text.
 #[derive(Clone, Copy, Debug, PartialEq, Eq, Error)]
 pub enum ApplyError {
     /// The edit ends past the end of the text.

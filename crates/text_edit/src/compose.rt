@@ -1,9 +1,10 @@
 //! Two lists of edits composed into one.
 
-ghost use Rattle.std.specs.Prelude.{◌≡◌, ◌+◌, ◌-◌, ◌∷◌, ◌++◌, ◌<◌, ◌≤◌, ◌^◌, [], length, IfOk, OnOk, IfErr, IsTrue, ◌↔◌, string_bytes, true, false, Bool, ℕ, if◌then◌else◌};
+ghost use Rattle.std.specs.Prelude.{◌≡◌, ◌+◌, ◌-◌, ◌∷◌, ◌++◌, ◌<◌, ◌≤◌, ◌^◌, [], length, IfOk, OnOk, IfErr, IsTrue, ◌↔◌, string_bytes, ℕ};
 ghost use Rattle.text_edit.specs.TextPiece.{as_piece, pieces, AreApart};
 ghost use Rattle.text_edit.specs.Composition.{AreComposed, ComposeRefuses};
-ghost use Rattle.text_edit.specs.inner.Composing.{place_of, IsPlace, Passes, PassRefuses, Puts, PutsUnless, IsKept, BeginsHere, CarriesOut, CarryRefuses, PutsAll, Finishes};
+ghost use Rattle.text_edit.specs.inner.Composing.{place_of, left_of, IsPlace, Passes, PassRefuses, Puts, PutsDeletion, IsKept, BeginsHere, CarriesOut, CarryRefuses, PutsAll, Finishes};
+ghost use Rattle.text_edit.specs.declared.compose.Pass.{Pass};
 ghost use Rattle.text_edit.specs.inner.Joined.{joined, EndsAt};
 
 use crate::compose_error::ComposeError;
@@ -53,41 +54,45 @@ fn put(
     Ok(())
 }
 
-// Puts an insert after the others, if it is wanted.
-fn put_if(
+// What becomes of bytes that are passed.
+#[derive(Clone, Copy)]
+enum Pass {
+    Keep,
+    Delete,
+}
+
+// Puts a text that is passed after the others, if it is kept.
+fn put_text(
     alloc: Global,
     out: &mut Vec<TextEdit>,
     at: u64,
     text: &str,
-    wanted: bool,
+    pass: Pass,
 ) -> Result<(), AllocError>
     requires { AreApart 0 (pieces out.old.items) at }
-    ensures { OnOk result
-        (Puts (pieces out.old.items) (pieces out.new.items) at at (if wanted then text.now else [])) }
+    ensures { OnOk result (Puts (pieces out.old.items) (pieces out.new.items) at at (left_of pass text.now)) }
 {
-    if wanted {
-        put(alloc, out, at, at, text)
-    } else {
-        Ok(())
+    match pass {
+        Pass::Keep => put(alloc, out, at, at, text),
+        Pass::Delete => Ok(()),
     }
 }
 
-// Puts a deletion after the others, unless the text is kept.
-fn put_unless(
+// Puts a deletion after the others, if what is passed of the old text is deleted.
+fn put_deletion(
     alloc: Global,
     out: &mut Vec<TextEdit>,
     start: u64,
     end: u64,
-    keeps: bool,
+    pass: Pass,
 ) -> Result<(), AllocError>
     requires apart { AreApart 0 (pieces out.old.items) start }
     requires ends { start ≤ end }
-    ensures { OnOk result (PutsUnless keeps (pieces out.old.items) (pieces out.new.items) start end) }
+    ensures { OnOk result (PutsDeletion pass (pieces out.old.items) (pieces out.new.items) start end) }
 {
-    if keeps {
-        Ok(())
-    } else {
-        put(alloc, out, start, end, "")
+    match pass {
+        Pass::Keep => Ok(()),
+        Pass::Delete => put(alloc, out, start, end, ""),
     }
 }
 
@@ -109,7 +114,7 @@ impl<'a> Composing<'a> {
         &mut self,
         alloc: Global,
         n: u64,
-        keeps: bool,
+        pass: Pass,
         index: usize,
     ) -> Result<u64, ComposeError>
         requires place { IsPlace (place_of self.old) }
@@ -118,7 +123,7 @@ impl<'a> Composing<'a> {
         ensures place { OnOk result (IsPlace (place_of self.new)) }
         ensures some { IfOk result (λ k. (0 < k) × (k ≤ n)) }
         ensures rest { OnOk result (self.new.rest.now ≡ self.old.rest.now) }
-        ensures passes { IfOk result (λ k. Passes keeps n k (place_of self.old) (place_of self.new)) }
+        ensures passes { IfOk result (λ k. Passes pass n k (place_of self.old) (place_of self.new)) }
         ensures refused { IfErr result (PassRefuses index n (place_of self.old)) }
     {
         let passed = n.min(self.left.len() as u64);
@@ -126,7 +131,7 @@ impl<'a> Composing<'a> {
             return Err(ComposeError::InsideCharacter { index });
         }
         let (text, left) = self.left.split_at(passed as usize);
-        put_if(alloc, &mut self.out, self.at, text, keeps)?;
+        put_text(alloc, &mut self.out, self.at, text, pass)?;
         self.left = left;
         Ok(passed)
     }
@@ -139,7 +144,7 @@ impl<'a> Composing<'a> {
         ensures place { OnOk result (IsPlace (place_of self.new)) }
         ensures rest { OnOk result (length self.new.rest.now + 1 ≡ length self.old.rest.now) }
         ensures passes { OnOk result
-            ((keeps : Bool) (n : ℕ) → Passes keeps n 0 (place_of self.old) (place_of self.new)) }
+            ((pass : Pass) (n : ℕ) → Passes pass n 0 (place_of self.old) (place_of self.new)) }
     {
         let Some((edit, rest)) = self.rest.split_first() else {
             unreachable!()
@@ -168,7 +173,7 @@ impl<'a> Composing<'a> {
         alloc: Global,
         n: u64,
         kept: u64,
-        keeps: bool,
+        pass: Pass,
         index: usize,
     ) -> Result<(), ComposeError>
         requires place { IsPlace (place_of self.old) }
@@ -176,55 +181,49 @@ impl<'a> Composing<'a> {
         requires kept { IsKept self.old.at (pieces self.old.rest.now) n kept }
         ensures place { OnOk result (IsPlace (place_of self.new)) }
         ensures rest { OnOk result (self.new.rest.now ≡ self.old.rest.now) }
-        ensures passes { OnOk result (Passes keeps n kept (place_of self.old) (place_of self.new)) }
+        ensures passes { OnOk result (Passes pass n kept (place_of self.old) (place_of self.new)) }
         ensures refused { IfErr result (PassRefuses index n (place_of self.old)) }
     {
         let Some(end) = self.at.checked_add(kept) else {
             return Err(ComposeError::TooLong { index });
         };
-        put_unless(alloc, &mut self.out, self.at, end, keeps)?;
+        put_deletion(alloc, &mut self.out, self.at, end, pass)?;
         self.at = end;
         Ok(())
     }
 
     // Passes some of the next bytes, at most `n`, or begins an edit. Gives how many bytes are passed.
-    fn step(
-        &mut self,
-        alloc: Global,
-        n: u64,
-        keeps: bool,
-        index: usize,
-    ) -> Result<u64, ComposeError>
+    fn step(&mut self, alloc: Global, n: u64, pass: Pass, index: usize) -> Result<u64, ComposeError>
         requires place { IsPlace (place_of self.old) }
         requires some { 0 < n }
         ensures place { OnOk result (IsPlace (place_of self.new)) }
         ensures bound { IfOk result (λ k. k ≤ n) }
         ensures nearer { IfOk result (λ k. length self.new.rest.now < length self.old.rest.now + k) }
-        ensures passes { IfOk result (λ k. Passes keeps n k (place_of self.old) (place_of self.new)) }
+        ensures passes { IfOk result (λ k. Passes pass n k (place_of self.old) (place_of self.new)) }
         ensures refused { IfErr result (PassRefuses index n (place_of self.old)) }
     {
         if !self.left.is_empty() {
-            return self.pass_text(alloc, n, keeps, index);
+            return self.pass_text(alloc, n, pass, index);
         }
         let kept = self.kept(n);
         if kept == 0 {
             self.begin(alloc)?;
         } else {
-            self.pass_kept(alloc, n, kept, keeps, index)?;
+            self.pass_kept(alloc, n, kept, pass, index)?;
         }
         Ok(kept)
     }
 
     // Passes the next `n` bytes.
-    fn pass(&mut self, alloc: Global, n: u64, keeps: bool, index: usize) -> Result<(), ComposeError>
+    fn pass(&mut self, alloc: Global, n: u64, pass: Pass, index: usize) -> Result<(), ComposeError>
         requires place { IsPlace (place_of self.old) }
         ensures place { OnOk result (IsPlace (place_of self.new)) }
-        ensures passes { OnOk result (Passes keeps n n (place_of self.old) (place_of self.new)) }
+        ensures passes { OnOk result (Passes pass n n (place_of self.old) (place_of self.new)) }
         ensures refused { IfErr result (PassRefuses index n (place_of self.old)) }
     {
         let mut to_pass = n;
         'bytes: while to_pass > 0 {
-            to_pass -= self.step(alloc, to_pass, keeps, index)?;
+            to_pass -= self.step(alloc, to_pass, pass, index)?;
         }
         Ok(())
     }
@@ -243,9 +242,9 @@ impl<'a> Composing<'a> {
         ensures carried { OnOk result (CarriesOut passed (as_piece edit.now) (place_of self.old) (place_of self.new)) }
         ensures refused { IfErr result (CarryRefuses index passed (as_piece edit.now) (place_of self.old)) }
     {
-        self.pass(alloc, edit.start - passed, true, index)?;
+        self.pass(alloc, edit.start - passed, Pass::Keep, index)?;
         put(alloc, &mut self.out, self.at, self.at, &edit.text)?;
-        self.pass(alloc, edit.end - edit.start, false, index)
+        self.pass(alloc, edit.end - edit.start, Pass::Delete, index)
     }
 
     // The composition, once the edits of the second list are carried out.

@@ -5,8 +5,8 @@ ghost use Rattle.std.specs.Prelude.{◌<◌, length};
 use std::alloc::{AllocError, AllocFailed};
 use thiserror::Error;
 
-/// Why two lists of edits are not composed. `index` says which edit of the second list is to blame, counted from 0: the
-/// edits up to it fit no text that the first list makes.
+/// Why two lists of edits are not composed. `index` is the place in the second list, counted from 0, of the edit to blame:
+/// with it the edits of the second list fit no text that the first list makes. No edit of the first list is counted.
 #[derive(Clone, Copy, Debug, PartialEq, Eq, Error)]
 pub enum ComposeError {
     /// The edit starts or ends within a character that the first list puts in.

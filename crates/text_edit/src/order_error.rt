@@ -4,8 +4,8 @@ ghost use Rattle.std.specs.Prelude.{◌<◌, length};
 
 use thiserror::Error;
 
-/// Why edits are not taken as one list. `index` says which edit is to blame, counted from 0: the first one, and what is
-/// wrong with it is the first of these.
+/// Why edits are not taken as one list. `index` is the place in the list, counted from 0, of the edit to blame: the first
+/// that breaks the order. Where it breaks it in several ways, the error is the first of these.
 #[derive(Clone, Copy, Debug, PartialEq, Eq, Error)]
 pub enum OrderError {
     /// The edit starts after its end.

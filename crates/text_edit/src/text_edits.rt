@@ -1,6 +1,6 @@
 //! `TextEdits`: edits of one text, in order and apart.
 
-ghost use Rattle.std.specs.Prelude.{◌≡◌, ◌==◌, ◌↔◌, ◌+◌, ◌<◌, ◌≤◌, ◌^◌, [], length, IsTrue, IfOk, OnOk, IfErr, OnErr, string_bytes, All};
+ghost use Rattle.std.specs.Prelude.{◌≡◌, ◌==◌, ◌↔◌, ◌+◌, ◌<◌, ◌≤◌, ◌^◌, [], length, IsTrue, IfOk, OnOk, IfErr, OnErr, IfSome, List, ℕ, string_bytes, slice_range, All};
 ghost use Rattle.std.specs.Slice.Iter.{iter_rest};
 ghost use Rattle.text_edit.specs.TextPiece.{as_piece, pieces, AreApart, FitText, applied};
 ghost use Rattle.text_edit.specs.OrderRefusal.{nothing, piece_before, piece_at, OrderRefuses};
@@ -8,12 +8,14 @@ ghost use Rattle.text_edit.specs.ApplyRefusal.{ApplyRefuses};
 ghost use Rattle.text_edit.specs.Composition.{AreComposed, ComposeRefuses};
 ghost use Rattle.text_edit.specs.Inverse.{inverted, TakeBack};
 ghost use Rattle.text_edit.specs.Trimmed.{IsTrimmed};
+ghost use Rattle.text_edit.specs.Cursor.{cursor};
 ghost use Rattle.text_edit.specs.inner.Following.{FollowRefuses};
 
 use crate::apply::{applied, tested};
 use crate::apply_error::ApplyError;
 use crate::compose::composed;
 use crate::compose_error::ComposeError;
+use crate::cursor::{Cursor, cursor_of};
 use crate::inverse::inverse;
 use crate::order_error::OrderError;
 use crate::text_edit::TextEdit;
@@ -126,6 +128,7 @@ impl TextEdits {
     pub fn apply(&self, alloc: Global, text: &str) -> Result<String, ApplyError>
         ensures ok { IfOk result (λ t. string_bytes t ≡ applied self.now text.now) }
         ensures fit { OnOk result (FitText text.now self.now) }
+        ensures within { OnOk result (AreApart 0 self.now (length text.now)) }
         ensures refused { IfErr result (ApplyRefuses text.now self.now) }
     {
         tested(&self.edits, text)?;
@@ -172,5 +175,17 @@ impl TextEdits {
         tested(&self.edits, old)?;
         let edits = trimmed(alloc, &self.edits, old)?;
         Ok(TextEdits { edits })
+    }
+    /// The first edit whose text holds a range of the new text, from `start` up to `end` in bytes, and the range within
+    /// that text. None where no edit's text holds it: what it holds is partly or wholly kept, or comes from two edits.
+    ///
+    /// A range of no length at which the texts of two edits touch is at the end of the first. A range that ends before it
+    /// starts is none. Takes time linear in the number of edits.
+    pub fn cursor(&self, start: u64, end: u64) -> Option<Cursor>
+        ensures is { result ≡ cursor self.now start end }
+        ensures text { IfSome result (λ c. (s : List ℕ) → AreApart 0 self.now (length s)
+            → slice_range (piece_at self.now c.edit).text c.start c.end ≡ slice_range (applied self.now s) start end) }
+    {
+        cursor_of(&self.edits, start, end)
     }
 }

@@ -5,11 +5,12 @@
 --     made                          What is composed, applied to the old text up to the place.
 --     IsPlace                       The edits to come and the composed ones are in order and apart.
 --     FitPlace                      They fit an old text, and the place is where a character starts.
+--     left_of                       What is left of a text that is passed.
 --     Passes                        From a place with `n` bytes to pass to one some bytes further on. What is passed is
 --                                   kept or taken away.
 --     IsKept                        Of `n` bytes to pass those before the next edit.
 --     BeginsHere                    An edit starts at the place.
---     PutsUnless                    A list gets a piece without a text, unless what it takes away is kept.
+--     PutsDeletion                  A list gets a piece without a text, if what it takes away is passed to be deleted.
 --     PassRefuses                   No text has a place `n` bytes further on.
 --     CarriesOut                    An edit of the second list, of which the bytes before an offset of its text are
 --                                   passed, is carried out.
@@ -22,10 +23,12 @@
 --     Puts                          A list in order up to an offset gets what does a piece from there on.
 --     PassesIn, CarriedIn, PutsIn, PutsAllIn, PutsSomeIn
 --                                   What these say of one old text.
-use Rattle.std.specs.Prelude.{◌≡◌, ℕ, ◌-◌, ◌<◌, ◌^◌, min, Bool, true, false, cond, List, [], ◌∷◌, ◌++◌, length, take, drop, slice_range, IsCharBoundary}
+use Rattle.std.specs.Prelude.{◌≡◌, ℕ, ◌-◌, ◌<◌, ◌^◌, min, List, [], ◌∷◌, ◌++◌, length, take, drop, slice_range, IsCharBoundary}
 use Rattle.text_edit.specs.TextPiece.{TextPiece, pieces, AreApart, FitsText, FitText, applied_from, applied}
 use Rattle.text_edit.specs.OrderRefusal.{piece_at}
 use Rattle.text_edit.specs.declared.compose.Composing.{Composing}
+use Rattle.text_edit.specs.declared.compose.Pass.{Pass}
+use Rattle.text_edit.specs.declared.compose.Pass.TheVariants.{Keep, Delete}
 use Rattle.text_edit.specs.declared.compose_error.ComposeError.{ComposeError}
 use Rattle.text_edit.specs.declared.compose_error.ComposeError.TheVariants.{InsideCharacter, TooLong, Memory}
 
@@ -53,13 +56,17 @@ pub record FitPlace (p : Place) (s : List ℕ) : Type 0 where
   pub rest_fit : FitText s p.rest
   pub out_fit : FitText s p.out
 
-pub record PassesIn (keeps : Bool) (k : ℕ) (p q : Place) (s : List ℕ) : Type 0 where
+abbrev pub left_of : Pass → List ℕ → List ℕ
+left_of Keep t = t
+left_of Delete t = []
+
+pub record PassesIn (pass : Pass) (k : ℕ) (p q : Place) (s : List ℕ) : Type 0 where
   pub fit : FitPlace q s
   pub followed : following q s ≡ drop k (following p s)
-  pub grown : made q s ≡ made p s ++ cond keeps (take k (following p s)) []
+  pub grown : made q s ≡ made p s ++ left_of pass (take k (following p s))
 
-abbrev pub Passes : Bool → ℕ → ℕ → Place → Place → Type 0
-Passes keeps n k p q = (s : List ℕ) → FitPlace p s → IsCharBoundary (following p s) n → PassesIn keeps k p q s
+abbrev pub Passes : Pass → ℕ → ℕ → Place → Place → Type 0
+Passes pass n k p q = (s : List ℕ) → FitPlace p s → IsCharBoundary (following p s) n → PassesIn pass k p q s
 
 abbrev pub PassRefuses : ℕ → ℕ → Place → ComposeError → Type 0
 PassRefuses index n p (InsideCharacter i) = (i ≡ index)
@@ -80,9 +87,9 @@ abbrev pub IsKept : ℕ → List TextPiece → ℕ → ℕ → Type 0
 IsKept at [] n k = k ≡ n
 IsKept at (e ∷ es) n k = k ≡ min n (e.first - at)
 
-abbrev pub PutsUnless : Bool → List TextPiece → List TextPiece → ℕ → ℕ → Type 0
-PutsUnless true old new from to = new ≡ old
-PutsUnless false old new from to = Puts old new from to []
+abbrev pub PutsDeletion : Pass → List TextPiece → List TextPiece → ℕ → ℕ → Type 0
+PutsDeletion Keep old new from to = new ≡ old
+PutsDeletion Delete old new from to = Puts old new from to []
 
 abbrev pub BeginsHere : Place → Type 0
 BeginsHere p = (0 < length p.rest) × ((piece_at p.rest 0).first ≡ p.at)

@@ -6,7 +6,7 @@ abbrev pub invariant-bytes : goal.invariant-bytes
 invariant-bytes l = record {
   place : IsPlace (place_of l.self);
   bound : l.to_pass ≤ l.n;
-  passes : Passes l.keeps l.n (l.n - l.to_pass) (place_of l.initial.self) (place_of l.self);
+  passes : Passes l.pass l.n (l.n - l.to_pass) (place_of l.initial.self) (place_of l.self);
 }
 
 abbrev pub decreases-bytes : goal.decreases-bytes
