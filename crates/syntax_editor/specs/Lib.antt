@@ -44,6 +44,7 @@ pub use Rattle.edit_plan.specs.Run
 pub use Rattle.edit_plan.specs.ExecuteRefusal
 pub use Rattle.edit_plan.specs.TextEdits
 pub use Rattle.edit_plan.specs.PlanTextEdits
+pub use Rattle.edit_plan.specs.FurtherPlans
 pub use Rattle.edit_plan.specs.TextPiece
 pub use Rattle.edit_plan.specs.ApplyRefusal
 pub use Rattle.edit_plan.specs.Composition
