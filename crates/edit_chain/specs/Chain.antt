@@ -8,8 +8,8 @@
 --     with_step, Runs               A chain with one step more; a call carried a plan of the last root out as that step.
 --     joined                        A chain with the steps of another one after its own.
 --
--- A chain from `R` has two steps: a plan that inserts `x` before `R/1`, with its edit, whose new root has the number 2; and a
--- plan of that root, which deletes what is at `4` there. Its last root has the text `(x1,2)`.
+-- A chain from `R` has two steps: a plan that inserts `x` before `R/1`, with its edit, whose new root has the number 2;
+-- and a plan of that root, which deletes what is at `4` there. Its last root has the text `(x1,2)`.
 use Rattle.std.specs.Prelude.{◌≡◌, ◌<◌, ℕ, List, [], ◌∷◌, ◌++◌, Vec}
 use Rattle.std.specs.Global.{Global}
 use Rattle.cst_core.specs.Tree.{text_length}

@@ -14,8 +14,8 @@ pub fn chains_associate()
     ensures chain { (a b : Chain) → IsChain a → IsChain b → address b.first ≡ address (last_root a) → IsChain (joined a b) }
 {}
 
-/// A chain of one edit is that edit: it ends at its new root, and what is found are its copies. `EditChain::text_edits` says the same of the
-/// text edits of its plan.
+/// A chain of one edit is that edit: it ends at its new root, and what is found are its copies. The same is so of text edits
+/// (`Compose`).
 pub fn one_edit_is_itself()
     ensures root { (root : Element) (s : Step) → last_root (record { first = root; steps = s ∷ [] }) ≡ s.edit.new_root }
     ensures found { (s : Step) (e : SyntaxElement) (found : List SyntaxElement)

@@ -1,15 +1,15 @@
 //! One list of text edits for the edits of a chain.
 
-ghost use Rattle.std.specs.Prelude.{◌≡◌, ◌+◌, ◌<◌, ◌∷◌, [], List, length, take, slice_get, Some, IfOk, IfErr, OnOk, string_bytes};
-ghost use Rattle.cst_core.specs.Tree.{text};
+ghost use Rattle.std.specs.Prelude.{◌≡◌, ◌<◌, ◌≤◌, [], length, take, IfOk, IfErr, OnOk};
+ghost use Rattle.cst_core.specs.Tree.{text, text_length};
 ghost use Rattle.cst_core.specs.Green.{length_limit};
 ghost use Rattle.cst_core.specs.Element.{subtree};
 ghost use Rattle.text_edit.specs.TextPiece.{FitText, applied};
 ghost use Rattle.text_edit.specs.Composition.{AreComposed};
-ghost use Rattle.edit_chain.specs.declared.step.Step.{Step};
-ghost use Rattle.edit_chain.specs.Chain.{AreSteps, IsStep};
+ghost use Rattle.edit_plan.specs.Plan.{IsPlan, Makes};
+ghost use Rattle.edit_chain.specs.Chain.{root_after, IsStep};
 ghost use Rattle.edit_chain.specs.ChainText.{ArePieces, DoAll, FollowsOn, TextRefuses};
-ghost use Rattle.edit_chain.specs.inner.StepText.{IsFitting, FitRefuses, StepTextRefuses};
+ghost use Rattle.edit_chain.specs.inner.StepText.{IsFitting, Precedes, FitRefuses};
 
 use crate::chain::EditChain;
 use crate::chain_error::ChainError;
@@ -21,25 +21,32 @@ use text_edit::{ApplyError, ComposeError, TextEdits};
 
 impl EditChain {
     /// What all plans do to the text of the first root, as one list of edits of that text: their own text edits, composed one after the
-    /// other. Those of one plan are as `EditPlan::text_edits` gives them; without a step there is none. `TextEdits::inverse` of them with
-    /// the first text takes all of it back.
+    /// other. Those of one plan are as `EditPlan::text_edits` gives them; without a step there is none. With the first text,
+    /// `TextEdits::inverse` gives what takes all of them back.
     ///
     /// `Unfit` names a step whose plan is of a tree with another text than the one before it, though with its number. Where all numbers come
     /// from one source only `Memory` comes. Takes time linear in the texts of all roots and in what the plans' own text edits take.
     pub fn text_edits(&self, alloc: Global) -> Result<TextEdits, ChainError>
         ensures edits { IfOk result (DoAll self.now.first self.now.steps) }
-        ensures one { IfOk result (λ es. (s : Step) → self.now.steps ≡ s ∷ [] → ArePieces s.plan es) }
         ensures refused { IfErr result (TextRefuses self.now) }
     {
+        let root = self.first_root();
         let steps = self.steps();
-        let Some(first) = steps.first() else {
+        let Some((last, before)) = steps.split_last() else {
             return Ok(no_edits(alloc));
         };
-        let root = self.first_root();
-        let text = root.text(alloc)?;
-        let mut all = fitting_edits(alloc, root, first, 0)?;
-        for index in 1..steps.len() {
-            all = with_next(alloc, root, &text, &all, steps, index)?;
+        let mut index = before.len();
+        let text = root_before(root, steps, index).text(alloc)?;
+        let mut all = fitting_edits(alloc, &text, last, index)?;
+        while index > 0 {
+            index -= 1;
+            all = with_step(
+                alloc,
+                root_before(root, steps, index),
+                &steps[index],
+                index,
+                &all,
+            )?;
         }
         Ok(all)
     }
@@ -55,39 +62,50 @@ fn no_edits(alloc: Global) -> TextEdits
     }
 }
 
-// The edits of the steps up to one, from those of the steps before it.
-fn with_next(
+// The root before the step at an index.
+fn root_before<'a>(root: &'a SyntaxNode, steps: &'a [Step], index: usize) -> &'a SyntaxNode
+    requires { index ≤ length steps.now }
+    ensures { result.now ≡ root_after root.now (take index steps.now) }
+{
+    if index == 0 {
+        root
+    } else {
+        steps[index - 1].edit.new_root()
+    }
+}
+
+// The edits of a step and of those behind it, for which there is a list.
+fn with_step(
     alloc: Global,
     root: &SyntaxNode,
-    text: &str,
-    all: &TextEdits,
-    steps: &[Step],
+    step: &Step,
     index: usize,
+    later: &TextEdits,
 ) -> Result<TextEdits, ChainError>
-    requires steps { AreSteps root.now steps.now }
-    requires text { text.now ≡ text (subtree root.now) }
-    requires index { (0 < index) × (index < length steps.now) }
-    requires all { DoAll root.now (take index steps.now) all.now }
-    ensures all { IfOk result (DoAll root.now (take (index + 1) steps.now)) }
-    ensures refused { IfErr result (StepTextRefuses root.now steps.now) }
+    requires step { IsStep root.now step.now }
+    requires later { FitText (text (subtree step.now.edit.new_root)) later.now }
+    ensures all { IfOk result (Precedes (text (subtree root.now)) step.now later.now) }
+    ensures refused { IfErr result (FitRefuses (text (subtree root.now)) step.now index) }
 {
-    let before = steps[index - 1].edit.new_root();
-    let next = fitting_edits(alloc, before, &steps[index], index)?;
-    Ok(composed(alloc, text, all, &next)?)
+    let text = root.text(alloc)?;
+    let own = fitting_edits(alloc, &text, step, index)?;
+    Ok(composed(alloc, &text, &own, later)?)
 }
 
 // Two lists of edits as one, of which the second fits what the first makes of a text.
 fn composed(
     alloc: Global,
     text: &str,
-    all: &TextEdits,
-    next: &TextEdits,
+    own: &TextEdits,
+    later: &TextEdits,
 ) -> Result<TextEdits, AllocError>
-    requires all { FitText text.now all.now }
-    requires next { FitText (applied all.now text.now) next.now }
-    ensures { IfOk result (AreComposed all.now next.now) }
+    requires own { FitText text.now own.now }
+    requires later { FitText (applied own.now text.now) later.now }
+    ensures composed { IfOk result (AreComposed own.now later.now) }
+    ensures fit { IfOk result (FitText text.now) }
+    ensures makes { IfOk result (λ es. applied es text.now ≡ applied later.now (applied own.now text.now)) }
 {
-    match all.then(alloc, next) {
+    match own.then(alloc, later) {
         Ok(edits) => Ok(edits),
         Err(ComposeError::InsideCharacter { .. }) => unreachable!(),
         Err(ComposeError::TooLong { .. }) => unreachable!(),
@@ -98,43 +116,47 @@ fn composed(
 // The text edits of a step's plan, if they fit the text of the root before it.
 fn fitting_edits(
     alloc: Global,
-    before: &SyntaxNode,
+    text: &str,
     step: &Step,
     index: usize,
 ) -> Result<TextEdits, ChainError>
-    requires { IsStep before.now step.now }
-    ensures pieces { IfOk result (ArePieces step.now.plan) }
-    ensures fitting { IfOk result (IsFitting before.now step.now) }
-    ensures refused { IfErr result (FitRefuses before.now step.now index) }
+    requires planned { IsPlan step.now.plan }
+    requires makes { Makes step.now.plan step.now.edit.new_root.number step.now.edit }
+    requires short { text_length step.now.edit.new_root.root < length_limit }
+    ensures fitting { IfOk result (IsFitting text.now step.now) }
+    ensures refused { IfErr result (FitRefuses text.now step.now index) }
 {
     text_edits_make_the_new_text();
     let edits = step.plan.text_edits(alloc)?;
     // For the proof: edits in code, of which the law speaks.
     let _ = edits.as_slice();
-    test_fit(alloc, before, step, &edits, index)?;
+    test_fit(alloc, text, step, &edits, index)?;
     Ok(edits)
 }
 
 // Tests that the text edits of a step's plan fit the text of the root before it.
 fn test_fit(
     alloc: Global,
-    before: &SyntaxNode,
+    text: &str,
     step: &Step,
     edits: &TextEdits,
     index: usize,
 ) -> Result<(), ChainError>
     requires pieces { ArePieces step.now.plan edits.now }
     requires short { length (applied edits.now (text (subtree step.now.plan.root))) < length_limit }
-    ensures ok { OnOk result (FollowsOn before.now step.now) }
-    ensures refused { IfErr result (FitRefuses before.now step.now index) }
+    ensures same { OnOk result (text (subtree step.now.plan.root) ≡ text.now) }
+    ensures fit { OnOk result (FitText text.now edits.now) }
+    ensures refused { IfErr result (FitRefuses text.now step.now index) }
 {
-    let text = step.plan.root().text(alloc)?;
-    if before.text(alloc)? != text {
+    let own = step.plan.root().text(alloc)?;
+    if own.as_str() != text {
         return Err(ChainError::Unfit { step: index });
     }
-    match edits.apply(alloc, &text) {
+    match edits.apply(alloc, text) {
         Ok(_) => Ok(()),
+        Err(ApplyError::PastEnd { .. }) => Err(ChainError::Unfit { step: index }),
+        Err(ApplyError::InsideCharacter { .. }) => Err(ChainError::Unfit { step: index }),
+        Err(ApplyError::TooLong) => unreachable!(),
         Err(ApplyError::Memory) => Err(ChainError::Memory),
-        Err(_) => Err(ChainError::Unfit { step: index }),
     }
 }

@@ -1,27 +1,30 @@
 -- What a step does to the text of the root before it.
---     IsFitting                     pieces fit that text, which is that of the plan's root, and make that of the new root of it
+--     IsFitting                     pieces are those of its plan, fit that text, and make that of its new root
+--     Precedes                      pieces compose such pieces with later ones
 --     FitRefuses                    a step does not follow on, if the error names it
---     StepTextRefuses               one of some steps does not follow on the one before it
-use Rattle.std.specs.Prelude.{◌≡◌, ℕ, List, slice_get, Some, take}
+use Rattle.std.specs.Prelude.{◌≡◌, ℕ, List}
 use Rattle.cst_core.specs.Tree.{text}
-use Rattle.cst_core.specs.Element.{Element, subtree}
+use Rattle.cst_core.specs.Element.{subtree}
 use Rattle.text_edit.specs.TextPiece.{TextPiece, FitText, applied}
-use Rattle.edit_chain.specs.Chain.{root_after}
-use Rattle.edit_chain.specs.ChainText.{FollowsOn}
+use Rattle.text_edit.specs.Composition.{AreComposed}
+use Rattle.edit_chain.specs.ChainText.{ArePieces, FollowsOn}
 use Rattle.edit_chain.specs.declared.step.Step.{Step}
 use Rattle.edit_chain.specs.declared.chain_error.ChainError.{ChainError}
 use Rattle.edit_chain.specs.declared.chain_error.ChainError.TheVariants.{Unfit, Memory}
 
-pub record IsFitting (before : Element) (s : Step) (es : List TextPiece) : Type 0 where
-  pub fit : FitText (text (subtree before)) es
-  pub makes : applied es (text (subtree before)) ≡ text (subtree s.edit.new_root)
+pub record IsFitting (old : List ℕ) (s : Step) (es : List TextPiece) : Type 0 where
+  pub pieces : ArePieces s.plan es
+  pub fit : FitText old es
+  pub makes : applied es old ≡ text (subtree s.edit.new_root)
 
-abbrev pub FitRefuses : Element → Step → ℕ → ChainError → Type 0
-FitRefuses before s index (Unfit step) = (step ≡ index) × ¬ (FollowsOn before s)
-FitRefuses before s index Memory = Unit {0}
-FitRefuses before s index _ = ⊥
+pub record Precedes (old : List ℕ) (s : Step) (later es : List TextPiece) : Type 0 where
+  pub own : List TextPiece
+  pub is : IsFitting old s own
+  pub composed : AreComposed own later es
+  pub fit : FitText old es
+  pub makes : applied es old ≡ applied later (applied own old)
 
-abbrev pub StepTextRefuses : Element → List Step → ChainError → Type 0
-StepTextRefuses root steps (Unfit step) = (s : Step) → slice_get steps step ≡ Some s → ¬ (FollowsOn (root_after root (take step steps)) s)
-StepTextRefuses root steps Memory = Unit {0}
-StepTextRefuses root steps _ = ⊥
+abbrev pub FitRefuses : List ℕ → Step → ℕ → ChainError → Type 0
+FitRefuses old s index (Unfit step) = (step ≡ index) × ¬ (FollowsOn old s)
+FitRefuses old s index Memory = Unit {0}
+FitRefuses old s index _ = ⊥
