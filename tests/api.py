@@ -27,7 +27,7 @@ ROW = re.compile(r"--     (\S.*?)(?:\s{2,}(\S.*)|$)")
 # Crates and their public calls.
 
 # The crates that users name. They re-export some names of others; what those have besides is below the surface.
-SURFACE = ["cst_core", "edit_map", "text_edit", "edit_plan", "syntax_editor", "list_removal", "tree_text", "script_lines", "syned_script"]
+SURFACE = ["cst_core", "edit_map", "text_edit", "edit_plan", "syntax_editor", "edit_chain", "list_removal", "tree_text", "script_lines", "syned_script"]
 SURFACE += ["syned_run"]
 
 ITEM = re.compile(
@@ -368,7 +368,7 @@ TABLE = {"named_kinds"}
 NAME_ROW = re.compile(r'^\w+_error_text (.*) = codes "\w+"$')
 # What only a user of scripts has to believe; the other libraries are the editor's.
 SCRIPTS = {"tree_text", "script_lines", "syned_script", "syned_run"}
-MOST_OF_EDITOR = 1543
+MOST_OF_EDITOR = 1618
 MOST_OF_SCRIPTS = 575
 
 

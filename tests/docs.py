@@ -209,11 +209,13 @@ def compare_believed():
 
 
 # The crates that users of the editor name.
-EDITOR = ["cst_core", "edit_map", "edit_plan", "syntax_editor", "list_removal", "text_edit"]
+EDITOR = ["cst_core", "edit_map", "edit_plan", "syntax_editor", "edit_chain", "list_removal", "text_edit"]
 WITHOUT_BUG = {
     "green_tree::GreenToken::kind": "its bug takes the whole function away and writes another one elsewhere",
     "green_tree::GreenNode::kind": "its bug takes the whole function away and writes another one elsewhere",
     "edit_change::Change::text": "it prints the change, and the bugs are in what prints it",
+    "edit_chain::EditChain::new": "no other root is at hand",
+    "edit_plan::EditPlan::root": "no other root is at hand",
     "edit_plan::EditRun::plan": "no other plan is at hand",
     "edit_plan::SpliceEngine::new": "no other engine of splices is at hand",
     "syntax_editor::SyntaxEditor::make": "no other factory is at hand",

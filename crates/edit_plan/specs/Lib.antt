@@ -21,6 +21,7 @@ pub mod Run
 pub mod PlanTextEdits
 pub mod ElementCursor
 pub mod ExecuteRefusal
+pub mod FurtherPlans
 pub use Rattle.edit_change.specs.RewritingLaws
 pub use Rattle.one_pass.specs.TextEdits
 pub use Rattle.text_edit.specs.TextPiece

@@ -5,3 +5,4 @@ pub mod PlacesRefusal
 pub mod PlanRun
 pub mod PlanStages
 pub mod Codes
+pub mod CopyPaths

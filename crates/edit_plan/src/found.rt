@@ -80,6 +80,20 @@ impl AnnotatedElements {
         })
     }
 
+    /// Each element with its annotation.
+    pub(crate) fn registrations(
+        &self,
+        alloc: Global,
+    ) -> Result<Vec<(SyntaxElement, SyntaxAnnotation)>, AllocError>
+        ensures { IfOk result (λ v. v.items ≡ map (λ a. (a.1, a.0)) self.now) }
+    {
+        let mut all = Vec::with_capacity(alloc, self.elements.len())?;
+        for (annotation, element) in self.annotations.iter().zip(self.elements.iter()) {
+            all.push((element.try_clone(alloc)?, *annotation))?;
+        }
+        Ok(all)
+    }
+
     /// The elements of an annotation.
     pub(crate) fn found_for(&self, annotation: SyntaxAnnotation) -> &[SyntaxElement]
         ensures { result.now ≡ found_for self.now annotation }

@@ -12,6 +12,7 @@ mod engine_error;
 mod execute;
 mod execute_error;
 mod found;
+mod further;
 pub mod laws;
 mod one_pass_engine;
 mod places;

@@ -119,7 +119,7 @@ impl EditPlan {
     }
 
     // What an engine is told of the plan.
-    fn planned(&self) -> Planned<'_>
+    pub(crate) fn planned(&self) -> Planned<'_>
         ensures root { result.root.now ≡ self.now.root }
         ensures changes { result.changes.now ≡ self.now.changes }
         ensures is { IsPlanned self.now result.order.now result.fates.now result.places.now }

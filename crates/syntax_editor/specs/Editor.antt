@@ -16,6 +16,7 @@
 --                                   one annotation.
 --     registered_with, Registers    An editor with some elements also registered with one annotation; a call leaves that editor.
 --     plan_of                       The plan of an editor. A factory that keeps no mapping counts as one with an empty mapping.
+--     editor_after                  The editor of an edit's new root without changes, in which what the edit annotates is registered (`carried`).
 --     FinishRefuses                 Why finishing is refused: as `BuildRefuses` says; `TooLong` and `NoTreeNumber` only where the changes
 --                                   are a plan, as `RunRefuses` says.
 --
@@ -47,7 +48,8 @@ use Rattle.edit_change.specs.declared.change.Change.{Change}
 use Rattle.edit_plan.specs.declared.edit_error.EditError.{EditError}
 use Rattle.edit_plan.specs.declared.edit_error.EditError.TheVariants.{TooLong, NoTreeNumber}
 use Rattle.cst_core.specs.declared.element.SyntaxElement.{SyntaxElement}
-use Rattle.edit_plan.specs.Plan.{Plan, IsPlan, BuildRefuses, RunRefuses}
+use Rattle.edit_plan.specs.Plan.{Plan, Edit, IsPlan, BuildRefuses, RunRefuses}
+use Rattle.edit_plan.specs.FurtherPlans.{carried}
 use Rattle.edit_plan.specs.Fits.{Fits}
 use Rattle.syntax_editor.specs.RecordCall.{RecordCall, recorded, refusal}
 use Rattle.syntax_editor.specs.declared.error.RecordError.{RecordError}
@@ -124,6 +126,10 @@ registered_with annotation es e = with_registrations (registrations_of annotatio
 
 abbrev pub Registers : ℕ → List SyntaxElement → Editor → Editor → Type 0
 Registers annotation es before after = after ≡ registered_with annotation es before
+
+-- ---- a further edit
+abbrev pub editor_after : Edit → Editor
+editor_after e = record { root = e.new_root; changes = []; registrations = carried e; factory = Some [] }
 
 -- ---- finishing
 -- where the factory keeps no mappings, nothing is mapped

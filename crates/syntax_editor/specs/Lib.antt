@@ -45,6 +45,7 @@ pub use Rattle.edit_plan.specs.ExecuteRefusal
 pub use Rattle.edit_plan.specs.TextEdits
 pub use Rattle.edit_plan.specs.PlanTextEdits
 pub use Rattle.edit_plan.specs.ElementCursor
+pub use Rattle.edit_plan.specs.FurtherPlans
 pub use Rattle.edit_plan.specs.TextPiece
 pub use Rattle.edit_plan.specs.OrderRefusal
 pub use Rattle.edit_plan.specs.ApplyRefusal

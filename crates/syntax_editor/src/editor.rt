@@ -74,7 +74,7 @@ impl SyntaxEditor {
     }
 
     // An editor of this root, without changes.
-    fn of_root(alloc: Global, root: SyntaxNode) -> SyntaxEditor
+    pub(crate) fn of_root(alloc: Global, root: SyntaxNode) -> SyntaxEditor
         requires { root.path ≡ [] }
         ensures { result ≡ record { root = root; changes = []; registrations = []; factory = Some [] } }
     {

@@ -11,6 +11,7 @@ mod factory;
 mod fresh_node;
 pub mod laws;
 mod merge;
+mod next_edit;
 mod record;
 mod spaced_insert;
 mod typed_editor;
@@ -31,5 +32,6 @@ pub use edit_plan::{
 pub use editor::SyntaxEditor;
 pub use error::{MergeError, RecordError};
 pub use factory::SyntaxFactory;
+pub use next_edit::NextEdit;
 pub use whitespace::{IndentError, IndentLevel, indent};
 pub use wrap_error::WrapError;

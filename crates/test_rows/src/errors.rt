@@ -2,6 +2,7 @@
 
 use crate::shown::{Answer, Done, say};
 use cst_core::{SyntaxKind, TreeError};
+use edit_chain::ChainError;
 use std::alloc::AllocError;
 use syntax_editor::{
     EditError, EngineError, Error, ExecuteError, IndentError, MapError, MergeError, RecordError,
@@ -65,6 +66,8 @@ pub fn answer(words: &mut Words, out: &mut Answer) -> Done {
             tell!(out, ApplyError: PastEnd { index: 1 }, InsideCharacter { index: 2 }, TooLong, Memory),
         "Compose" =>
             tell!(out, ComposeError: InsideCharacter { index: 1 }, TooLong { index: 2 }, Memory),
+        "Chain" =>
+            tell! { out, ChainError: OtherRoot, TooLong, NoTreeNumber, Unfit { step: 1 }, Memory },
         "AllocError" => {
             let (any, of_trees) = (Error::from(AllocError), TreeError::from(AllocError));
             say!(

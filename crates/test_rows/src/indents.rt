@@ -1,10 +1,10 @@
 //! Levels of indentation, and trees that are indented and dedented.
 
+use crate::chains;
 use crate::making::factory;
 use crate::roots::typed;
 use crate::session::{CHANGED, Session};
 use crate::shown::{Answer, Done, Read, demand};
-use crate::text_edits;
 use cst_core::ast::{BlockExpr, StmtList};
 use cst_core::{AstNode, SyntaxElement};
 use syntax_editor::{AstNodeEdit, IndentError, IndentLevel, SyntaxFactory, indent};
@@ -24,7 +24,7 @@ pub fn answer(s: &mut Session, name: &str, words: &mut Words, out: &mut Answer) 
         }
         "dedent" => dedent(s, words, out),
         "indent_with_mapping" => indent_with_mapping(s, words, out),
-        _ => text_edits::answer(s, name, words, out),
+        _ => chains::answer(s, name, words, out),
     }
 }
 

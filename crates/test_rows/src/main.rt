@@ -5,6 +5,7 @@
 //! The head of the table (`stdin`, beside this folder) says how a line is written, and docs/ROWS.md how to add one.
 #![tactic(auto)]
 
+mod chains;
 mod editors;
 mod elements;
 mod errors;

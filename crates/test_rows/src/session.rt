@@ -4,6 +4,7 @@ use crate::roots::Roots;
 use crate::shown::{Done, Read, demand};
 use crate::standing::{Group, Standing, editors_standing};
 use cst_core::{SyntaxElement, TreeIds};
+use edit_chain::EditChain;
 use std::alloc::Global;
 use syntax_editor::{
     Change, EditPlan, SyntaxAnnotation, SyntaxEdit, SyntaxEditor, SyntaxMapping,
@@ -27,6 +28,7 @@ pub struct Session {
     pub registrations: Vec<(SyntaxElement, SyntaxAnnotation)>,
     pub plans: Vec<EditPlan>,
     pub edits: Vec<SyntaxEdit>,
+    pub chains: Vec<EditChain>,
     /// Lists of text edits, which no call changes.
     pub lists: Vec<TextEdits>,
     /// The name of the call that was refused because memory ran out, or nothing.
@@ -52,6 +54,7 @@ impl Session {
             registrations: Vec::new(alloc),
             plans: Vec::new(alloc),
             edits: Vec::new(alloc),
+            chains: Vec::new(alloc),
             lists: Vec::new(alloc),
             refused: String::new(alloc),
             answers: String::new(alloc),
@@ -71,6 +74,7 @@ impl Session {
         self.registrations.clear();
         self.plans.clear();
         self.edits.clear();
+        self.chains.clear();
         self.lists.clear();
         self.refused.clear();
         self.answers.clear();
@@ -86,6 +90,10 @@ impl Session {
         for plan in &self.plans {
             plans.add(&plan.len());
         }
+        let mut chains = Group::default();
+        for chain in &self.chains {
+            chains.add(&(chain.steps().len(), chain.last_root()));
+        }
         Standing {
             next: self.ids.peek(),
             groups: [
@@ -95,6 +103,7 @@ impl Session {
                 Group::of_count(self.builders.len()),
                 Group::of_count(self.changes.len()),
                 Group::of_count(self.registrations.len()),
+                chains,
             ],
         }
     }

@@ -66,12 +66,12 @@ pub fn hash_of<T: Hash>(value: &T) -> u64 {
     hasher.finish()
 }
 
-/// The number that comes next, the mappings, the editors and the plans, and how many builders there are, and changes
-/// and registered elements for a plan that is built.
+/// The number that comes next, the mappings, the editors, the plans and the chains, and how many builders there are, and
+/// changes and registered elements for a plan that is built.
 #[derive(Clone, Copy)]
 pub struct Standing {
     pub next: Option<u64>,
-    pub groups: [Group; 6],
+    pub groups: [Group; 7],
 }
 
 impl Standing {

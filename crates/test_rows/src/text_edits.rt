@@ -57,8 +57,8 @@ fn edits(s: &mut Session, words: &mut Words, out: &mut Answer) -> Done {
     keep(s, called, out)
 }
 
-// Keeps a list that a call gave, and shows each of its edits.
-fn keep<E: Display + Drop>(
+/// Keeps a list that a call gave, and shows each of its edits.
+pub fn keep<E: Display + Drop>(
     s: &mut Session,
     called: Result<TextEdits, E>,
     out: &mut Answer,

@@ -1,0 +1,4 @@
+mod Steps
+mod TextOfSteps
+mod TreesOfFound
+mod FoundInSteps

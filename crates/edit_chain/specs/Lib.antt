@@ -1,0 +1,5 @@
+pub mod Chain
+pub mod ChainText
+pub mod Found
+pub mod ChainRefusal
+pub mod inner
