@@ -15,6 +15,8 @@ import sys
 import tempfile
 from pathlib import Path
 
+from api import libraries
+
 ROOT = Path(__file__).resolve().parent.parent
 
 
@@ -118,7 +120,8 @@ def calling_program():
     calls = "".join(f'    println!(rt; "{{}}", {it.stem}::example(rt.alloc())?)?;\n' for it in callers)
     modules = "".join(f"mod {it};\n" for it in ("printed", *(it.stem for it in callers)))
     files["main.rt"] = f"{head}#![tactic(auto)]\n{modules}{before}{calls}    Ok(())\n{end}"
-    return entry, files, wanted
+    used = {name for text in files.values() for name in re.findall(r"^use (\w+)::", text, re.M)} & {*libraries()}
+    return " ".join([entry, *sorted(used - set(entry.split()))]), files, wanted
 
 
 def caller():
