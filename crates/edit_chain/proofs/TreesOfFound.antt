@@ -1,5 +1,6 @@
 -- Of which trees elements are that are found, and that equal numbers have equal trees among them as before.
 --     told-found                    each element that is found, with the mapped elements of the next plan
+--     known-first, known-in         the element that is sought is known, and so is one of the tree of a step
 --     found-in                      what is found in the tree of a step is of that tree
 use Rattle.std.specs.Prelude.{◌≡◌, ℕ, zero, suc, ◌<◌, ◌⊎◌, List, [], ◌∷◌, ◌++◌, map, flat_map, length, slice_index_or, slice_get, Option, Some, None, option_map, refl}
 use Rattle.std.specs.List.{AllByRecursion}
@@ -80,10 +81,16 @@ itself : (es : List Element) (x : Element) → IsIn x es → IsKnown es x
 itself es x is = record { member = x; is_in = is; of_tree = (refl, refl) }
 
 -- ---- of the steps of a chain
-pub in-steps : (x : Element) (steps : List Step) (i : ℕ) (s : Step) → slice_get steps i ≡ Some s → IsIn x (s.edit.new_root ∷ mapped_elements s.plan.mapping) → IsIn x (roots_and_mapped steps)
+in-steps : (x : Element) (steps : List Step) (i : ℕ) (s : Step) → slice_get steps i ≡ Some s → IsIn x (s.edit.new_root ∷ mapped_elements s.plan.mapping) → IsIn x (roots_and_mapped steps)
 in-steps x [] i s is has = absurd (none-some s is)
 in-steps x (t ∷ steps) zero s is has = in-left x (t.edit.new_root ∷ mapped_elements t.plan.mapping) (roots_and_mapped steps) (subst (λ (r : Step). IsIn x (r.edit.new_root ∷ mapped_elements r.plan.mapping)) (sym (same_Some t s is)) has)
 in-steps x (t ∷ steps) (suc i) s is has = in-right x (t.edit.new_root ∷ mapped_elements t.plan.mapping) (roots_and_mapped steps) (in-steps x steps i s is has)
+
+pub known-first : (x : Element) (es : List Element) → IsKnown (x ∷ es) x
+known-first x es = itself (x ∷ es) x (inl refl)
+
+pub known-in : (first : Element) (steps : List Step) (i : ℕ) (s : Step) (x : Element) → slice_get steps i ≡ Some s → OfTree x s.edit.new_root → IsKnown (first ∷ roots_and_mapped steps) x
+known-in first steps i s x is of_tree = record { member = s.edit.new_root; is_in = inr (in-steps s.edit.new_root steps i s is (inl refl)); of_tree = of_tree }
 
 pub told-found : (first : Element) (steps : List Step) (i : ℕ) (s : Step) (x : Element) → slice_get steps i ≡ Some s → IsKnown (first ∷ roots_and_mapped steps) x → NumbersTell (first ∷ roots_and_mapped steps) → NumbersTell (x ∷ mapped_elements s.plan.mapping)
 told-found first steps i s x is known tell = told-known (first ∷ roots_and_mapped steps) (x ∷ mapped_elements s.plan.mapping) each tell

@@ -95,15 +95,15 @@ fn with_step(
 // Two lists of edits as one, of which the second fits what the first makes of a text.
 fn composed(
     alloc: Global,
-    text: &str,
+    old: &str,
     own: &TextEdits,
     later: &TextEdits,
 ) -> Result<TextEdits, AllocError>
-    requires own { FitText text.now own.now }
-    requires later { FitText (applied own.now text.now) later.now }
+    requires own { FitText old.now own.now }
+    requires later { FitText (applied own.now old.now) later.now }
     ensures composed { IfOk result (AreComposed own.now later.now) }
-    ensures fit { IfOk result (FitText text.now) }
-    ensures makes { IfOk result (λ es. applied es text.now ≡ applied later.now (applied own.now text.now)) }
+    ensures fit { IfOk result (FitText old.now) }
+    ensures makes { IfOk result (λ es. applied es old.now ≡ applied later.now (applied own.now old.now)) }
 {
     match own.then(alloc, later) {
         Ok(edits) => Ok(edits),
@@ -116,43 +116,43 @@ fn composed(
 // The text edits of a step's plan, if they fit the text of the root before it.
 fn fitting_edits(
     alloc: Global,
-    text: &str,
+    old: &str,
     step: &Step,
     index: usize,
 ) -> Result<TextEdits, ChainError>
     requires planned { IsPlan step.now.plan }
     requires makes { Makes step.now.plan step.now.edit.new_root.number step.now.edit }
     requires short { text_length step.now.edit.new_root.root < length_limit }
-    ensures fitting { IfOk result (IsFitting text.now step.now) }
-    ensures refused { IfErr result (FitRefuses text.now step.now index) }
+    ensures fitting { IfOk result (IsFitting old.now step.now) }
+    ensures refused { IfErr result (FitRefuses old.now step.now index) }
 {
     text_edits_make_the_new_text();
     let edits = step.plan.text_edits(alloc)?;
     // For the proof: edits in code, of which the law speaks.
     let _ = edits.as_slice();
-    test_fit(alloc, text, step, &edits, index)?;
+    test_fit(alloc, old, step, &edits, index)?;
     Ok(edits)
 }
 
 // Tests that the text edits of a step's plan fit the text of the root before it.
 fn test_fit(
     alloc: Global,
-    text: &str,
+    old: &str,
     step: &Step,
     edits: &TextEdits,
     index: usize,
 ) -> Result<(), ChainError>
     requires pieces { ArePieces step.now.plan edits.now }
     requires short { length (applied edits.now (text (subtree step.now.plan.root))) < length_limit }
-    ensures same { OnOk result (text (subtree step.now.plan.root) ≡ text.now) }
-    ensures fit { OnOk result (FitText text.now edits.now) }
-    ensures refused { IfErr result (FitRefuses text.now step.now index) }
+    ensures same { OnOk result (text (subtree step.now.plan.root) ≡ old.now) }
+    ensures fit { OnOk result (FitText old.now edits.now) }
+    ensures refused { IfErr result (FitRefuses old.now step.now index) }
 {
     let own = step.plan.root().text(alloc)?;
-    if own.as_str() != text {
+    if own.as_str() != old {
         return Err(ChainError::Unfit { step: index });
     }
-    match edits.apply(alloc, text) {
+    match edits.apply(alloc, old) {
         Ok(_) => Ok(()),
         Err(ApplyError::PastEnd { .. }) => Err(ChainError::Unfit { step: index }),
         Err(ApplyError::InsideCharacter { .. }) => Err(ChainError::Unfit { step: index }),

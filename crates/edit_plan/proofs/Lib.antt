@@ -8,6 +8,7 @@ mod AllTouched
 mod AllowedRuns
 pub mod AnyRegistrations
 mod ByAnnotation
+mod CopiesOfOne
 mod PromisesOfRuns
 mod NextReady
 mod PlanLines

@@ -1,6 +1,6 @@
 -- The paths of what is told of a new tree lead to elements of it.
 --     topmost-there                 those of the topmost elements that pass a test
---     numbered-lead                 those of copies, with annotations
+--     numbered-lead, copies-lead    those of copies, with annotations; those of the copies of one address
 --     changed-there, annotated-there      those of the changed and of the annotated elements of a plan
 use Rattle.std.specs.Prelude.{◌≡◌, ℕ, ◌&&◌, not, Bool, true, false, List, [], ◌∷◌, ◌++◌, map, Some, None, option_map, is_some, IsSome, All, refl}
 use Rattle.std.specs.List.{AllByRecursion}
@@ -46,6 +46,10 @@ changed-there p tree changed annotated r e is =
 copies-there : (t : OriginTree) (a : Address) → AllByRecursion (λ p. IsSome (at t p)) (copies_of t a)
 copies-there t a =
     all_weaker (λ p. Unit {0} × (holds_at (λ o. same_address a o.address) t p ≡ true)) (λ p. IsSome (at t p)) (copies_of t a) (λ p h. holds-there (λ o. same_address a o.address) t p h.1) (all_filter (λ p. Unit {0}) (holds_at (λ o. same_address a o.address) t) (paths t) (all-any (paths t)))
+
+pub copies-lead : (t : OriginTree) (a : Address) → All (λ p. IsSome (at (plain t) p)) (copies_of t a)
+copies-lead t a =
+    All-from_recursion (λ p. IsSome (at (plain t) p)) (copies_of t a) (all_weaker (λ p. IsSome (at t p)) (λ p. IsSome (at (plain t) p)) (copies_of t a) (λ p h. still-there (λ o. o.kind) t p h) (copies-there t a))
 
 both-there : (t : OriginTree) (n : ℕ) (ps : List Path) (rest : List (ℕ × Path)) → AllByRecursion (λ p. IsSome (at t p)) ps → AllByRecursion (λ m. IsSome (at t m.1)) rest → AllByRecursion (λ m. IsSome (at t m.1)) (map (λ p. (n, p)) ps ++ rest)
 both-there t n [] rest h k = k

@@ -72,7 +72,7 @@ impl SyntaxEdit {
     ) -> Result<Vec<SyntaxElement>, AllocError>
         requires { Makes plan.now self.now.new_root.number self.now }
         ensures { NumbersTell (element_of element.now ∷ mapped_elements plan.now.mapping)
-            → IfOk result (AreCopies plan.now self.now element.now) }
+            → IfOk result (λ v. AreCopies plan.now self.now element.now v.items) }
     {
         place_is_unique();
         pairs_rise();
