@@ -2,7 +2,7 @@
 
 ghost use Rattle.std.specs.Prelude.{ℕ, ◌<◌, ◌≤◌, ◌+◌, ◌≡◌, Bool, true, false, [], ◌∷◌, suc, not};
 ghost use Rattle.edit_change.specs.Aim.{FirstIn, AfterElement, Over, aims_at_gap, starts_at, replaces};
-ghost use Rattle.edit_change.specs.inner.Aimed.{aim_in, siblings_from, formed, numbered, option_formed, seen_from, has_parent};
+ghost use Rattle.edit_change.specs.inner.Aimed.{aim_in, siblings_from, numbered, has_parent};
 ghost use Rattle.edit_change.specs.inner.Aimed.{some_path};
 ghost use Rattle.std.specs.Prelude.{slice_get, ◌^◌, ◌↔◌, IfSome, IsTrue};
 ghost use Rattle.std.specs.Cmp.Lexicographic.{slice_cmp};
@@ -74,23 +74,6 @@ impl<'a> Aimed<'a> {
             AimForm::AfterElement => !self.path.is_empty(),
             AimForm::Over(count) => !self.path.is_empty() && count > 0,
         }
-    }
-
-    // The same as it is seen from this child of the top, if its path leads to the child or below.
-    pub fn seen_from(&self, slot: usize) -> Option<Aimed<'a>>
-        ensures { option_formed result ≡ seen_from slot (formed self.now) }
-    {
-        let [first, rest @ ..] = self.path else {
-            return None;
-        };
-        if slot == *first {
-            return Some(Aimed {
-                change: self.change,
-                path: rest,
-                form: self.form,
-            });
-        }
-        None
     }
 
     /// Whether it replaces an element on the way to a path; none if there is no path.

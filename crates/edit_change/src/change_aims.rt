@@ -8,54 +8,28 @@ ghost use Rattle.cst_core.specs.SyntaxElement.{element_of};
 ghost use Rattle.cst_core.specs.Path.{Path, has_path, last_slot};
 ghost use Rattle.edit_change.specs.inner.Aimed.{aim_in, numbered};
 ghost use Rattle.edit_change.specs.Aim.{AfterElement};
-ghost use Rattle.edit_change.specs.ChangeAim.{position_aim, aim, aim_path};
+ghost use Rattle.edit_change.specs.ChangeAim.{aim, aim_path};
 ghost use Rattle.edit_change.specs.Change.{payload, targets};
 ghost use Rattle.edit_change.specs.Fits.{Fits, is_one_node};
-ghost use Rattle.edit_change.specs.inner.AimFrom.{aim_from, position_aim_from};
+ghost use Rattle.edit_change.specs.inner.AimFrom.{aim_from};
 
 use crate::aimed::{AimForm, Aimed};
 use crate::change::Change;
 use crate::fits::is_root;
 use crate::parent::parent;
-use crate::position::Position;
 use cst_core::{GreenElement, GreenElementRef, SyntaxElement, SyntaxNode};
 use std::alloc::{AllocError, Global};
 use std::slice;
-
-impl Position {
-    // Whether it is the gap after the element at a path.
-    fn is_after(&self, path: &[usize]) -> bool
-        ensures { IsTrue result ↔ (position_aim self.now ≡ AfterElement path.now) }
-    {
-        match self.after_of() {
-            Some(element) => element.slots() == path,
-            None => false,
-        }
-    }
-
-    // How an insert at this position aims from its anchor.
-    fn aim_form(&self) -> AimForm
-        ensures { (p : Path) → aim_in p result ≡ position_aim_from p self.now }
-    {
-        if self.first_of().is_some() {
-            AimForm::FirstIn
-        } else {
-            AimForm::AfterElement
-        }
-    }
-}
 
 impl Change {
     /// Whether it inserts after the element at a path.
     pub fn is_after(&self, path: &[usize]) -> bool
         ensures { IsTrue result ↔ (aim self.now ≡ AfterElement path.now) }
     {
-        match self {
-            Change::Insert(position, _) => position.is_after(path),
-            Change::InsertAll(position, _) => position.is_after(path),
-            Change::Replace(_, _) => false,
-            Change::ReplaceWithMany(_, _) => false,
-            Change::ReplaceAll(_, _, _) => false,
+        match self.aim_form() {
+            AimForm::FirstIn => false,
+            AimForm::AfterElement => aim_path(self) == path,
+            AimForm::Over(_) => false,
         }
     }
 

@@ -28,23 +28,6 @@ pub(crate) fn change_in_both<'a>(
     }
 }
 
-// Where each change aims, by its number.
-fn all_aims<'a>(
-    alloc: Global,
-    own: &'a [Change],
-    other: &'a [Change],
-) -> Result<Vec<Aimed<'a>>, AllocError>
-    requires { All FitsSome (own.now ++ other.now) }
-    ensures { IfOk result (λ v. aims_of v.items ≡ change_aims (enumerate_from 0 (own.now ++ other.now))) }
-{
-    let count = own.len() + other.len();
-    let mut aims = Vec::with_capacity(alloc, count)?;
-    for number in 0..count {
-        aims.push(numbered_aim(change_in_both(own, other, number), number))?;
-    }
-    Ok(aims)
-}
-
 /// Where each change aims, in document order; inserts of one gap as they were recorded. The changes are those of two lists, which are
 /// numbered on from the first one to the second.
 ///
@@ -57,7 +40,11 @@ pub fn sorted_aims<'a>(
     requires { All FitsSome (own.now ++ other.now) }
     ensures { IfOk result (λ v. AreSorted (own.now ++ other.now) (aims_of v.items)) }
 {
-    let mut aims = all_aims(alloc, own, other)?;
+    let count = own.len() + other.len();
+    let mut aims = Vec::with_capacity(alloc, count)?;
+    for number in 0..count {
+        aims.push(numbered_aim(change_in_both(own, other, number), number))?;
+    }
     aims.sort_by(|one: &Aimed<'_>, two: &Aimed<'_>| one.compare(two))?;
     Ok(aims)
 }

@@ -1,9 +1,13 @@
 //! `Position`: a gap, which is after an element or the first one of a node.
 
 ghost use Rattle.std.specs.Prelude.{◌≡◌, IfOk, option_map};
+ghost use Rattle.cst_core.specs.Path.{Path};
 ghost use Rattle.edit_change.specs.PositionForm.{FirstChild};
 ghost use Rattle.edit_change.specs.Position.{anchor, first_of, after_of, after, before, last_child_of};
+ghost use Rattle.edit_change.specs.inner.AimFrom.{position_aim_from};
+ghost use Rattle.edit_change.specs.inner.Aimed.{aim_in};
 
+use crate::aimed::AimForm;
 use crate::element_like::Element;
 use cst_core::{SyntaxElement, SyntaxNode};
 use std::alloc::{AllocError, Global};
@@ -126,6 +130,16 @@ impl Position {
         match &self.form {
             Form::FirstChild(_) => None,
             Form::After(element) => Some(element),
+        }
+    }
+
+    // How an insert at this position aims from its anchor.
+    pub(crate) fn aim_form(&self) -> AimForm
+        ensures { (p : Path) → aim_in p result ≡ position_aim_from p self.now }
+    {
+        match &self.form {
+            Form::FirstChild(_) => AimForm::FirstIn,
+            Form::After(_) => AimForm::AfterElement,
         }
     }
 }

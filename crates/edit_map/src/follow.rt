@@ -5,7 +5,7 @@ ghost use Rattle.cst_core.specs.Path.{up_to};
 ghost use Rattle.cst_core.specs.SyntaxElement.{element_of};
 ghost use Rattle.edit_map.specs.Builder.{IsMapping};
 ghost use Rattle.edit_map.specs.Following.{asked_paths, syntax_step, IsReached, LeadsTo};
-ghost use Rattle.edit_map.specs.inner.Nearest.{IsNearest, IsPassedTo};
+ghost use Rattle.edit_map.specs.inner.Nearest.{IsNearest};
 
 use crate::mapping::SyntaxMapping;
 use crate::stops::node_above;
@@ -70,23 +70,6 @@ impl SyntaxMapping {
         copy.element_at(alloc, &element.slots()[depth..])
     }
 
-    // The next stop on the way up from a node: itself, or one above it. What is before it has no copy.
-    fn nearest_stop(
-        &self,
-        alloc: Global,
-        node: SyntaxNode,
-    ) -> Result<Option<SyntaxNode>, AllocError>
-        ensures { IfOk result (IsPassedTo self.now node) }
-    {
-        let Some(depth) = self.stops.nearest(&node) else {
-            return Ok(None);
-        };
-        if depth == node.slots().len() {
-            return Ok(Some(node));
-        }
-        Ok(Some(node_above(alloc, &node, depth)?))
-    }
-
     // The copy of the nearest mapped one of a node and those above it, and how many slots lead to that one. A stop has a copy, but
     // for some after a refused call; so mostly one node is looked up.
     fn nearest_copy(
@@ -99,9 +82,10 @@ impl SyntaxMapping {
     {
         let mut here = node;
         'up: loop {
-            let Some(stop) = self.nearest_stop(alloc, here)? else {
+            let Some(depth) = self.stops.nearest(&here) else {
                 return Ok(None);
             };
+            let stop = node_above(alloc, &here, depth)?;
             if let Some(copy) = self.copies.get(&stop) {
                 return Ok(Some((copy, stop.slots().len())));
             }

@@ -34,15 +34,18 @@ pub(crate) fn push_reversed(list: &mut Vec<usize>, items: &[usize]) -> Result<()
     Ok(())
 }
 
-// The node to which the first slots of a node's path lead.
+// The node to which the first slots of a node's path lead: itself, or one above it.
 pub(crate) fn node_above(
     alloc: Global,
     node: &SyntaxNode,
     depth: usize,
 ) -> Result<SyntaxNode, AllocError>
-    requires { depth < length node.now.path }
+    requires { depth ≤ length node.now.path }
     ensures { IfOk result (λ n. n ≡ element_at node.now (take depth node.now.path)) }
 {
+    if depth == node.slots().len() {
+        return node.try_clone(alloc);
+    }
     // For the proof: the path leads to a node.
     let _ = node.kind();
     let top = node.tree_top(alloc)?;

@@ -1,7 +1,7 @@
 -- Tables of what each change owns.
 --     dependents-to                 what a change owns, of the first so many
 --     none-entered, one-entered     one change more: without an owner, and with one
-use Rattle.std.specs.Prelude.{◌≡◌, ◌≢◌, ℕ, zero, suc, ◌+◌, ◌<◌, ◌≤◌, Bool, true, false, cond, nat_eq, List, [], ◌∷◌, ◌++◌, map, filter, length, take, slice_get, unwrap_or, Vec, Option, Some, None, option_and_then, get_or, refl}
+use Rattle.std.specs.Prelude.{◌≡◌, ◌≢◌, ℕ, suc, ◌+◌, ◌<◌, ◌≤◌, Bool, true, false, cond, nat_eq, List, [], ◌∷◌, ◌++◌, map, filter, length, take, slice_get, unwrap_or, Vec, Option, Some, None, option_and_then, get_or, refl}
 use Rattle.std.specs.Global.{Global}
 use Rattle.std.specs.List.{enumerate_from}
 use Rattle.std.specs.Option.{option_map_or}

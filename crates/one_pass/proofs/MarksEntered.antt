@@ -15,7 +15,7 @@ use Rattle.cst_core.specs.Element.{Address, Element, address, subtree}
 use Rattle.edit_change.specs.Fits.{Fits}
 use Rattle.edit_change.specs.inner.DocumentOrder.{IsDocumentOrder}
 use Rattle.edit_change.specs.Rewriting.{NumberedAim, rewritten}
-use Rattle.one_pass.specs.inner.Marked.{MarkTree, marked, wanted}
+use Rattle.one_pass.specs.inner.Marked.{MarkTree, wanted}
 use Rattle.one_pass.specs.inner.Pass.{marks_there, entry_in, AreMarked, AreMarkedIn}
 use Rattle.one_pass.specs.declared.marked_element.GivenTable.{GivenTable}
 use Rattle.one_pass.specs.declared.marked_element.MarkedElement.{MarkedElement}

@@ -2,38 +2,30 @@
 --     kept-node, brought-node       a node that is kept is one in the new tree, and so is one that is brought
 --     stays-a-node                  what stands in the place of the root is one node
 --     takes-its-place               the node that a change brings which replaces the root
---     not-replaced, if-given        no change replaces it; the one that does gives one element
+--     if-given                      the change that replaces it gives one element
 --     not-token                     one node is no token
-use Rattle.std.specs.Prelude.{◌≡◌, ℕ, ◌+◌, true, false, cond, List, [], ◌∷◌, map, flat_map, filter, length, slice_get, unwrap_or, option_map, Option, Some, None, IfSome, refl}
-use Rattle.std.specs.List.{AllByRecursion, enumerate_from}
+use Rattle.std.specs.Prelude.{◌≡◌, ℕ, true, false, cond, List, [], ◌∷◌, map, flat_map, length, slice_get, unwrap_or, option_map, Option, Some, None, IfSome, refl}
 use Rattle.std.specs.Option.{option_map_or}
 use Rattle.std.proofs.Common.{ap, sym, subst, ◌∙◌}
-use Rattle.std.proofs.lemmas.Bool.{or_from, true≢false}
+use Rattle.std.proofs.lemmas.Bool.{true≢false}
 use Rattle.std.proofs.lemmas.Option.{none-some, same_Some}
 use Rattle.std.proofs.lemmas.List.{append-nil, length-map}
 use Rattle.cst_core.specs.GreenElement.{element_tree}
 use Rattle.cst_core.specs.Path.{Path, has_path}
 use Rattle.cst_core.specs.Tree.{SyntaxTree, Forest, Node, Token, at, is_token, forest, forest_relabelled}
 use Rattle.cst_core.specs.Element.{Element, IsNode, subtree, address}
-use Rattle.edit_change.specs.Aim.{replaces}
 use Rattle.edit_change.specs.inner.KindOnly.{kind_only}
 use Rattle.one_pass.specs.inner.Pass.{entry_in, given_in}
 use Rattle.edit_change.specs.Rewriting.{NumberedAim, replacements_at, is_replaced, rewritten, rewritten_from, rewritten_whole}
 use Rattle.one_pass.specs.declared.marked_element.GivenTable.{GivenTable}
-use Rattle.edit_change.specs.ChangeAim.{position_aim, aim}
-use Rattle.edit_change.specs.PositionForm.{FirstChild, After}
-use Rattle.edit_change.specs.declared.position.Position.{Position}
 use Rattle.edit_change.specs.Change.{payload, targets}
-use Rattle.edit_change.specs.Nesting.{first_clash, is_independent}
+use Rattle.edit_change.specs.Nesting.{first_clash}
 use Rattle.one_pass.specs.inner.OwnerTables.{AreGiven}
 use Rattle.one_pass.specs.inner.Root.{IsAlone}
 use Rattle.edit_change.specs.inner.OneNode.{IsOneNode, BringsNode}
-use Rattle.edit_change.specs.NewTree.{Origin, OriginTree, plain, origin, change_aims, payload_of, dependents, given, independents}
+use Rattle.edit_change.specs.NewTree.{Origin, OriginTree, plain, origin, payload_of, dependents, given, independents}
 use Rattle.edit_change.specs.declared.change.Change.{Change}
-use Rattle.edit_change.specs.declared.change.Change.TheVariants.{Insert, InsertAll, Replace, ReplaceWithMany, ReplaceAll}
 use Rattle.edit_change.proofs.RootAlone.{root-alone, some-starts}
-use Rattle.edit_change.proofs.Positions.{none-passes}
-use Rattle.edit_change.specs.inner.Targets.{target_at}
 use Rattle.edit_change.proofs.GivenTrees.{given_is}
 
 -- ---- what stands there
@@ -55,30 +47,6 @@ kept-node table cs t k f is = (k, forest (rewritten_from kind_only table cs [] 0
 brought-node : (o : Path → ℕ → Origin) (g : ℕ → List OriginTree) (cs : List NumberedAim) (t : SyntaxTree) (k : ℕ) (f : Forest ℕ) → t ≡ Node k f → IsOneNode (plain (rewritten o g cs [] t) ∷ [])
 brought-node o g cs t k f is =
     ((o [] k).kind, forest_relabelled (λ l. l.kind) (forest (rewritten_from o g cs [] 0 f)), ap (λ u. plain (rewritten o g cs [] u) ∷ []) is)
-
-no-replacement : (at : Position) → replaces [] (position_aim at) ≡ false
-no-replacement (FirstChild n) = refl
-no-replacement (After e) = refl
-
--- no change replaces the root
-pub not-replaced : (cs : List Change) → target_at cs [] ≡ None → is_replaced (independents cs) [] ≡ false
-not-replaced cs none = all-kept cs 0 (none-passes (λ c. has_path (targets c) []) cs none)
-  where
-    not-there : (c : Change) → has_path (targets c) [] ≡ false → replaces [] (aim c) ≡ false
-    not-there (Insert at e) h = no-replacement at
-    not-there (InsertAll at es) h = no-replacement at
-    not-there (Replace t e) h = h
-    not-there (ReplaceWithMany t es) h = h
-    not-there (ReplaceAll first last es) h = h
-
-    all-kept : (ds : List Change) (k : ℕ) → AllByRecursion (λ c. has_path (targets c) [] ≡ false) ds → is_replaced (change_aims (filter (λ d. is_independent cs d.1) (enumerate_from k ds))) [] ≡ false
-    all-kept [] k h = refl
-    all-kept (d ∷ ds) k h =
-        let rest = all-kept ds (k + 1) h.1 in
-        elim (is_independent cs d) as (λ b. is_replaced (change_aims (cond b ((k, d) ∷ filter (λ d. is_independent cs d.1) (enumerate_from (k + 1) ds)) (filter (λ d. is_independent cs d.1) (enumerate_from (k + 1) ds)))) [] ≡ false) [
-          | true ↦ or_from (replaces [] (aim d)) _ (not-there d h.0) rest
-          | false ↦ rest
-        ]
 
 -- the change that replaces the root gives one element
 one-given : (cs : List NumberedAim) (table : GivenTable) (t : SyntaxTree) (c : ℕ) → replacements_at cs [] ≡ c ∷ [] → IsOneNode (rewritten_whole kind_only (given_in table) cs t) → length (entry_in table c) ≡ 1
@@ -112,8 +80,8 @@ module _ (cs : List Change) (places : ℕ → Path) (table : GivenTable) (are : 
       subst IsOneNode (sym (whole ∙ given_is_one)) (brought-node own (given cs places) (dependents cs places i) (subtree brings.0) t.0 t.1 t.2)
 
 -- by the change that replaces the root, if one does
-pub stays-a-node : (cs : List Change) (root : Element) → IsNode root → target_at cs [] ≡ None → (places : ℕ → Path) (table : GivenTable) → AreGiven cs places table → IsOneNode (rewritten_whole kind_only (given_in table) (independents cs) (subtree root))
-stays-a-node cs root node none places table are = top-kept cs places table are root node (not-replaced cs none)
+pub stays-a-node : (cs : List Change) (root : Element) → IsNode root → is_replaced (independents cs) [] ≡ false → (places : ℕ → Path) (table : GivenTable) → AreGiven cs places table → IsOneNode (rewritten_whole kind_only (given_in table) (independents cs) (subtree root))
+stays-a-node cs root node none places table are = top-kept cs places table are root node none
 
 pub takes-its-place : (cs : List Change) (root : Element) (i : ℕ) (c : Change) → first_clash cs ≡ None → slice_get cs i ≡ Some c → has_path (targets c) [] ≡ true → BringsNode c → (places : ℕ → Path) (table : GivenTable) → AreGiven cs places table → IsOneNode (rewritten_whole kind_only (given_in table) (independents cs) (subtree root))
 takes-its-place cs root i c apart at_i there brings places table are =

@@ -12,14 +12,13 @@
 --     one-numbered                  each change gives one token there
 use Rattle.std.specs.Prelude.{◌≡◌, ℕ, zero, suc, ◌+◌, ◌-◌, ◌<◌, ◌≤◌, true, false, cond, List, [], ◌∷◌, ◌++◌, map, flat_map, length, slice_get, Option, Some, None, option_map, Vec, refl}
 use Rattle.std.specs.Option.{option_map_or}
-use Rattle.std.proofs.Common.{ap, ap₂, sym, subst, ◌∙◌, arith, get_or}
+use Rattle.std.proofs.Common.{ap, ap₂, sym, subst, ◌∙◌, arith}
 use Rattle.std.proofs.lemmas.Option.{none-some, same_Some, slice_get-get_or}
 use Rattle.std.proofs.lemmas.List.{append-nil, map-append}
 use Rattle.std.proofs.lemmas.Grind.{flat_map-append}
 use Rattle.cst_core.specs.Path.{Path, same_path, counted_from}
 use Rattle.cst_core.specs.Tree.{Tree, Forest, Token, Node, end, more, SyntaxTree, trees, forest, at, text, forest_text, forest_relabelled, tokens, forest_tokens}
 use Rattle.cst_core.specs.Order.{start}
-use Rattle.cst_core.specs.AtOffset.{end_of}
 use Rattle.cst_core.specs.Element.{Element, element_at}
 use Rattle.cst_core.specs.SyntaxElement.{element_of, syntax_at, syntax_as}
 use Rattle.cst_core.specs.declared.element.SyntaxElement.{SyntaxElement}
@@ -37,7 +36,7 @@ use Rattle.one_pass.specs.inner.Pass.{entry_in, given_in, marks_there, AreMarked
 use Rattle.one_pass.specs.declared.marked_element.MarkedElement.{MarkedElement}
 use Rattle.std.specs.Global.{Global}
 use Rattle.one_pass.specs.declared.marked_element.GivenTable.{GivenTable}
-use Rattle.one_pass.specs.inner.Marked.{MarkTree, Marking, marked, marked_from, mark_below, marks_of}
+use Rattle.one_pass.specs.inner.Marked.{Marking, marked, marked_from, mark_below, marks_of}
 use Rattle.one_pass.specs.declared.mark.Mark.{Mark}
 use Rattle.cst_core.specs.declared.element.SyntaxElement.TheVariants as form
 use Rattle.one_pass.proofs.MarksGiven.{as_many_in}

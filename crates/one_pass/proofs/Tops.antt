@@ -1,8 +1,7 @@
 -- The topmost elements of a node that does not pass, child by child.
-use Rattle.std.specs.Prelude.{◌≡◌, ℕ, suc, ◌+◌, ◌&&◌, Bool, true, false, cond, not, List, [], ◌∷◌, ◌++◌, map, filter, length, slice_get, drop, Some, refl}
+use Rattle.std.specs.Prelude.{◌≡◌, ℕ, suc, ◌&&◌, Bool, true, false, cond, not, List, [], ◌∷◌, ◌++◌, map, filter, length, slice_get, drop, Some, refl}
 use Rattle.std.specs.List.{All}
 use Rattle.std.proofs.Common.{ap, ap₂, ◌∙◌, arith}
-use Rattle.std.proofs.lemmas.List.{append_assoc}
 use Rattle.std.proofs.lemmas.List.Elements.{filter-append, All-tail}
 use Rattle.green_tree.specs.Path.{Path, counted_from}
 use Rattle.green_tree.specs.Tree.{Tree, Forest, Token, Node, end, more, trees, forest, node, label, paths, paths_from, relabelled, forest_relabelled}

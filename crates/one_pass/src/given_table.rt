@@ -45,38 +45,7 @@ pub(crate) fn rewritten_element(
     Ok(new)
 }
 
-// These elements, each rewritten, with their marks.
-fn rewritten_each(
-    alloc: Global,
-    elements: &[SyntaxElement],
-    aims: &[Aimed],
-    registered: &[Registered],
-    given: &GivenTable,
-    builds: &mut u64,
-) -> Result<Vec<MarkedElement>, AllocError>
-    requires { AreInOrder registered.now }
-    ensures count { OnOk result (CountsEach (aims_of aims.now) (map element_of elements.now) builds.old builds.new) }
-    ensures trees { IfOk result
-        (λ v. given_trees v.items ≡ each_rewritten given.now (aims_of aims.now) (map element_of elements.now)) }
-    ensures marks { IfOk result
-        (λ v. AreMarkedEach given.now registered.now (aims_of aims.now) (map element_of elements.now) v.items) }
-{
-    // For the proof: the count at the start.
-    let _count = *builds;
-    let mut rewritten = Vec::with_capacity(alloc, elements.len())?;
-    for element in elements {
-        let mut walk = Walk::begin(alloc, *builds);
-        let green = rewritten_element(alloc, &mut walk, element, aims, registered, given)?;
-        *builds = walk.builds;
-        rewritten.push(MarkedElement {
-            element: green,
-            marks: walk.found,
-        })?;
-    }
-    Ok(rewritten)
-}
-
-// What a change gives, where what it owns has been entered.
+// What a change gives, where what it owns has been entered: each element of its payload, rewritten, with its marks.
 fn given_by(
     alloc: Global,
     change: &Change,
@@ -93,8 +62,21 @@ fn given_by(
     ensures marks { IfOk result
         (λ v. AreMarkedEach given.now registered.now (map moved_dependent dependents.now) (payload change.now) v.items) }
 {
+    // For the proof: the count at the start.
+    let _count = *builds;
     let aims = moved_aims(alloc, dependents)?;
-    rewritten_each(alloc, change.payload(), &aims, registered, given, builds)
+    let elements = change.payload();
+    let mut entry = Vec::with_capacity(alloc, elements.len())?;
+    for element in elements {
+        let mut walk = Walk::begin(alloc, *builds);
+        let green = rewritten_element(alloc, &mut walk, element, &aims, registered, given)?;
+        *builds = walk.builds;
+        entry.push(MarkedElement {
+            element: green,
+            marks: walk.found,
+        })?;
+    }
+    Ok(entry)
 }
 
 /// What each change gives, by its number, with the marks of registered elements, where a table has what each change owns.

@@ -234,12 +234,10 @@ fn open_child<'e, 'a, 's, 'm>(
     ensures count { OnOk result (walk.new.builds ≡ walk.old.builds) }
     ensures entered { IfOk result (Enters node.now walk.old walk.new above.old above.new) }
 {
-    // For the proof: there is a number for the next slot.
-    let _count = above.elements.len();
     let aims = above.aims;
     let sought = above.sought;
     let depth = one_deeper(&aims[0], above.depth);
-    let end = run_inside(aims, above.depth, above.slot);
+    let end = run_inside(aims, above.depth, above.slot, above.elements.len());
     let last = marks_before(sought, above.depth, above.slot + 1);
     let inside = &aims[..end];
     above.aims = &aims[end..];

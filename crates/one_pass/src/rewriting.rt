@@ -8,7 +8,6 @@ ghost use Rattle.edit_change.specs.Nesting.{first_clash};
 ghost use Rattle.edit_change.specs.NewTree.{independents};
 ghost use Rattle.edit_change.specs.inner.Aimed.{aims_of};
 ghost use Rattle.edit_change.specs.inner.Fate.{fate};
-ghost use Rattle.edit_change.specs.inner.Targets.{target_at};
 ghost use Rattle.edit_change.specs.inner.DocumentOrder.{IsDocumentOrder};
 ghost use Rattle.one_pass.specs.inner.Root.{CountsAllOf, IsOnePassOf, KeepsTop};
 ghost use Rattle.one_pass.specs.inner.Pass.{entry_in};
@@ -69,18 +68,21 @@ pub fn rewrite(
     let sought = in_document_order(alloc, registered)?;
     let mut given = given_table(alloc, changes, order, &dependents, &sought, builds)?;
     given.top = Some(registered.len());
-    let replacement = sole_replacement(root, changes);
+    let replacement = root_replacement(root, changes, &aims);
     let mut walk = Walk::begin(alloc, *builds);
     let made = rewritten_root(alloc, &mut walk, root, replacement, &aims, &sought, &given)?;
     let GreenElement::Node(green) = made else {
         unreachable!()
     };
     *builds = walk.builds;
-    let paths = mark_paths(alloc, walk.found, registered.len())?;
+    let mut paths = mark_paths(alloc, walk.found, registered.len() + 1)?;
+    let Some(changed) = paths.pop() else {
+        unreachable!()
+    };
     Ok(OnePass {
         green,
-        copies: paths.lists,
-        changed: paths.others,
+        copies: paths,
+        changed,
     })
 }
 
@@ -131,28 +133,29 @@ pub(crate) fn rewritten_root(
     one.element.share(alloc)
 }
 
-// The first change that replaces the root, if one does.
-fn root_replacement(changes: &[Change]) -> Option<usize>
-    ensures { result ≡ target_at changes.now [] }
-{
-    changes.iter().position(|change| change.replaces_root())
-}
-
-// The only change that replaces the root, if one does. So one node stands there: the root, or the one that the change brings.
-pub(crate) fn sole_replacement(root: &SyntaxNode, changes: &[Change]) -> Option<usize>
+// The only change that replaces the root, if one does, where `aims` has the changes without an owner. So one node stands there: the root, or
+// the one that the change brings.
+pub(crate) fn root_replacement(
+    root: &SyntaxNode,
+    changes: &[Change],
+    aims: &[Aimed],
+) -> Option<usize>
     requires node { IsNode root.now }
     requires fit { All (Fits root.now) changes.now }
     requires apart { first_clash changes.now ≡ None }
+    requires aims { aims_of aims.now ≡ independents changes.now }
     ensures alone { IsAlone (independents changes.now) result }
     ensures there { IfSome result (λ c. c < length changes.now) }
     ensures node { KeepsTop root.now changes.now }
 {
-    // For the proof: the contract speaks of the root, and the code needs the changes alone.
+    // For the proof: the contract speaks of the root, and the code needs the aims alone.
     let _ = root;
-    let Some(change) = root_replacement(changes) else {
-        return None;
-    };
-    // For the proof: it brings one node.
-    let _ = node_for_root(&changes[change]);
-    Some(change)
+    for aim in aims {
+        if aim.surrounds(Some(&[])) {
+            // For the proof: it brings one node.
+            let _ = node_for_root(&changes[aim.change]);
+            return Some(aim.change);
+        }
+    }
+    None
 }

@@ -58,16 +58,6 @@ pub fn site_of(aim: &Aimed, depth: usize, count: usize) -> Site
     }
 }
 
-// Whether an aim alters something inside a child.
-fn is_inside(aim: &Aimed, depth: usize, slot: usize) -> bool
-    ensures { MatchBool result (IsBelow slot (lowered depth aim.now)) (IsBelow slot (lowered depth aim.now) → ⊥) }
-{
-    match lowered(aim, depth).seen_from(slot) {
-        Some(inner) => inner.has_parent(),
-        None => false,
-    }
-}
-
 /// The depth of a child, where an aim's path leads on from its parent.
 pub fn one_deeper(aim: &Aimed, depth: usize) -> usize
     requires { depth < length aim.now.path.now }
@@ -77,18 +67,20 @@ pub fn one_deeper(aim: &Aimed, depth: usize) -> usize
     slots.min(depth + 1)
 }
 
-/// How many aims there are inside a child before the first one that is not.
-pub fn run_inside(aims: &[Aimed], depth: usize, slot: usize) -> usize
+/// How many aims there are inside a child, of so many, before the first one that is not.
+pub fn run_inside(aims: &[Aimed], depth: usize, slot: usize, count: usize) -> usize
+    requires { slot < count }
     ensures within { result ≤ length aims.now }
     ensures inside { BelowUpTo depth slot aims.now result }
     ensures end { EndsBelow depth slot aims.now result }
 {
-    let mut end = 0;
-    while end < aims.len() {
-        if !is_inside(&aims[end], depth, slot) {
+    for end in 0..aims.len() {
+        let Site::Below(below) = site_of(&aims[end], depth, count) else {
+            return end;
+        };
+        if below != slot {
             return end;
         }
-        end += 1;
     }
-    end
+    aims.len()
 }

@@ -51,20 +51,6 @@ impl<'a> Registered<'a> {
     }
 }
 
-// These elements, each by its number.
-fn numbered<'a>(
-    alloc: Global,
-    elements: &'a [SyntaxElement],
-) -> Result<Vec<Registered<'a>>, AllocError>
-    ensures { IfOk result (λ v. map as_registered v.items ≡ enumerate_from 0 (addresses elements.now)) }
-{
-    let mut registered = Vec::with_capacity(alloc, elements.len())?;
-    for number in 0..elements.len() {
-        registered.push(Registered::of(&elements[number], number))?;
-    }
-    Ok(registered)
-}
-
 /// These elements by their numbers, tree by tree, in document order, and those of one address as they were registered.
 pub fn in_document_order<'a>(
     alloc: Global,
@@ -73,7 +59,10 @@ pub fn in_document_order<'a>(
     ensures order { IfOk result (λ v. AreInOrder v.items) }
     ensures all { IfOk result (λ v. IsTableOf (addresses elements.now) v.items) }
 {
-    let mut registered = numbered(alloc, elements)?;
+    let mut registered = Vec::with_capacity(alloc, elements.len())?;
+    for number in 0..elements.len() {
+        registered.push(Registered::of(&elements[number], number))?;
+    }
     registered.sort_by(|one: &Registered<'_>, two: &Registered<'_>| one.compare(two))?;
     Ok(registered)
 }

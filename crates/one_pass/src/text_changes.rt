@@ -21,7 +21,7 @@ use crate::dependent::dependents;
 use crate::given_table::given_table;
 use crate::mark::Mark;
 use crate::marked_element::{GivenTable, MarkedElement};
-use crate::rewriting::{independent_aims, rewritten_root, sole_replacement};
+use crate::rewriting::{independent_aims, rewritten_root, root_replacement};
 use crate::walk::Walk;
 use cst_core::{GreenElement, GreenNode, SyntaxElement, SyntaxNode};
 use edit_change::{Aimed, Change, Planned, aim_path, slot_after};
@@ -256,7 +256,7 @@ pub fn text_edits(alloc: Global, planned: Planned<'_>) -> Result<Vec<TextEdit>, 
     let dependents = dependents(alloc, changes, fates, places)?;
     let mut builds = 0;
     let given = given_table(alloc, changes, order, &dependents, &[], &mut builds)?;
-    let replacement = sole_replacement(root, changes);
+    let replacement = root_replacement(root, changes, &aims);
     let numbers = in_text_order(alloc, root, changes, &aims, replacement)?;
     edits_in_order(alloc, root, changes, &given, &numbers)
 }

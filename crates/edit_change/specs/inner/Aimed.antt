@@ -2,13 +2,13 @@
 --     siblings_from                 the paths of an element and of the siblings after it, n with the first; the top has none
 --     aim_in                        an aim from the element at a path
 --     FormedAim, formed                the number of a change, a path, and the form in which it aims from there
---     option_formed, of_formed      the same of an aim that may not be there; the numbered aim that it stands for
+--     of_formed                     the numbered aim that it stands for
 --     numbered, aims_of             the numbered aim that it stands for; those of a list
 --     some_path                     there is a path among these
 --     has_parent                    it alters the children of some node
 --     seen_from, formed_below       an aim at a child slot or below, with that slot dropped; of these aims those that there are
 --     and_those                     one more of these, if it is there
-use Rattle.std.specs.Prelude.{ℕ, zero, suc, Bool, true, false, cond, nat_eq, List, [], ◌∷◌, ◌++◌, map, Option, Some, None, option_map}
+use Rattle.std.specs.Prelude.{ℕ, zero, suc, Bool, true, false, cond, nat_eq, List, [], ◌∷◌, ◌++◌, map, Option, Some, None}
 use Rattle.green_tree.specs.Path.{Path, parent_path, last_slot, counted_from}
 use Rattle.edit_change.specs.Aim.{Aim, FirstIn, AfterElement, Over, parents}
 use Rattle.edit_change.specs.Rewriting.{NumberedAim}
@@ -57,9 +57,6 @@ seen_along i c w (j ∷ q) = cond (nat_eq i j) (Some (record { change = c; path 
 
 abbrev pub seen_from : ℕ → FormedAim → Option FormedAim
 seen_from i a = seen_along i a.change a.form a.path
-
-abbrev pub option_formed : Option Aimed → Option FormedAim
-option_formed a = option_map formed a
 
 abbrev pub and_those : Option FormedAim → List FormedAim → List FormedAim
 and_those None xs = xs

@@ -1,9 +1,8 @@
 -- The nearest mapped node on the way up.
 --     PassesTo                       on the way up from a node, none has a copy before this one
 --     PassesAll                      none has a copy
---     IsPassedTo                     the next one at which a way up stops, if there is one
 --     IsNearest                      the copy of the nearest mapped one of a node and those above it, and how many slots lead to that one
-use Rattle.std.specs.Prelude.{◌≡◌, ℕ, ◌≤◌, ◌++◌, length, drop, Option, None, option_map, MatchOption}
+use Rattle.std.specs.Prelude.{◌≡◌, ℕ, ◌≤◌, ◌++◌, length, drop, Option, None, option_map}
 use Rattle.cst_core.specs.Path.{up_to}
 use Rattle.cst_core.specs.Element.{Element}
 use Rattle.edit_map.specs.Mapping.{Mapping}
@@ -16,9 +15,6 @@ pub record PassesTo (m : Mapping) (node above : Element) : Type 0 where
 
 abbrev pub PassesAll : Mapping → Element → Type 0
 PassesAll m node = (e : Element) → e.number ≡ node.number → step_among m e (up_to node.path) ≡ None
-
-abbrev pub IsPassedTo : Mapping → Element → Option Element → Type 0
-IsPassedTo m node stop = MatchOption stop (PassesAll m node) (PassesTo m node)
 
 abbrev pub IsNearest : Mapping → Element → Option (Element × ℕ) → Type 0
 IsNearest m node nearest =

@@ -5,16 +5,13 @@
 --     with_answer                     another answer for one change
 --     paths_of_mark                 the paths of one mark
 --     ArePathsOf                    n lists have the paths of these marks, each those of its number
---     IsDealtOut                    the path of one mark went to the list of its number, if there is one
---     HasPathsMore                  a list has one path more if the mark is of this number
-use Rattle.std.specs.Prelude.{◌≡◌, ◌<◌, ℕ, cond, nat_eq, List, [], ◌∷◌, ◌++◌, map, filter, drop, length, get_or, Vec}
+use Rattle.std.specs.Prelude.{◌≡◌, ◌<◌, ℕ, cond, nat_eq, List, [], map, filter, get_or, Vec}
 use Rattle.std.specs.Global.{Global}
 use Rattle.cst_core.specs.Path.{Path}
 use Rattle.cst_core.specs.Tree.{relabelled}
 use Rattle.cst_core.specs.Element.{Address, Element, address, subtree}
 use Rattle.edit_change.specs.Rewriting.{NumberedAim, rewritten}
-use Rattle.one_pass.specs.inner.Marked.{MarkTree, Marking, mark_of, wanted}
-use Rattle.one_pass.specs.declared.mark.Mark.{Mark}
+use Rattle.one_pass.specs.inner.Marked.{MarkTree, Marking, wanted}
 use Rattle.edit_change.specs.Topmost.{paths_of}
 use Rattle.edit_change.specs.NewTree.{OriginTree, given}
 use Rattle.one_pass.specs.inner.Sought.{sought_at, registered_at}
@@ -44,11 +41,3 @@ paths_of_mark n ms = map (λ m. m.1) (filter (λ m. nat_eq n m.0) ms)
 abbrev pub ArePathsOf : List Marking → ℕ → List (Vec (Vec ℕ Global) Global) → Type 0
 ArePathsOf ms count lists =
     (k : ℕ) (d : Vec (Vec ℕ Global) Global) → k < count → paths_of (get_or lists k d).items ≡ paths_of_mark k ms
-
-abbrev pub IsDealtOut : List (Vec (Vec ℕ Global) Global) → List (Vec (Vec ℕ Global) Global) → Mark → Type 0
-IsDealtOut before after m =
-    (k : ℕ) (d : Vec (Vec ℕ Global) Global) → k < length before →
-    paths_of (get_or after k d).items ≡ paths_of (get_or before k d).items ++ paths_of_mark k (mark_of m ∷ [])
-
-abbrev pub HasPathsMore : ℕ → Vec (Vec ℕ Global) Global → Vec (Vec ℕ Global) Global → Mark → Type 0
-HasPathsMore n before after m = paths_of after.items ≡ paths_of before.items ++ paths_of_mark n (mark_of m ∷ [])

@@ -16,7 +16,7 @@
 --     FindsHere                     a walk finds marks, whose paths are counted from its own
 --     FindsRewritten                it finds those of a rewritten element
 use Rattle.edit_change.specs.inner.KindOnly.{kind_only}
-use Rattle.std.specs.Prelude.{◌≡◌, ◌≤◌, ◌+◌, ℕ, List, [], ◌∷◌, ◌++◌, map, flat_map, length, slice_get, Option, Some, None, Vec}
+use Rattle.std.specs.Prelude.{◌≡◌, ◌≤◌, ◌+◌, ℕ, List, [], ◌∷◌, ◌++◌, map, length, slice_get, Option, Some, None, Vec}
 use Rattle.std.specs.Global.{Global}
 use Rattle.std.specs.Option.{option_map_or}
 use Rattle.green_tree.specs.Path.{Path}
@@ -30,7 +30,6 @@ use Rattle.edit_change.specs.Rewriting.{rewritten}
 use Rattle.edit_change.specs.inner.Aimed.{aims_of}
 use Rattle.one_pass.specs.inner.Marked.{MarkTree, Marking, marked, marked_from, mark_below, marks_of, marks_seen, wanted, Finds}
 use Rattle.edit_change.specs.declared.aimed.Aimed.{Aimed}
-use Rattle.one_pass.specs.declared.mark.Mark.{Mark}
 use Rattle.one_pass.specs.declared.walk.Walk.{Walk}
 use Rattle.one_pass.specs.declared.mark.Sought.{Sought}
 use Rattle.one_pass.specs.declared.marked_element.MarkedElement.{MarkedElement}

@@ -9,5 +9,4 @@ abbrev pub invariant-loop-mark : goal.invariant-loop-mark
 invariant-loop-mark l = record {
   size : length l.lists.items ≡ l.fn.count;
   lists : (k : ℕ) (d : Vec (Vec ℕ Global) Global) → k < l.fn.count → paths_of (get_or l.lists.items k d).items ++ paths_of_mark k (marks_of l.mark-iterator.rest.items) ≡ paths_of_mark k (marks_of l.fn.marks.items);
-  others : paths_of l.others.items ++ paths_of_mark l.fn.count (marks_of l.mark-iterator.rest.items) ≡ paths_of_mark l.fn.count (marks_of l.fn.marks.items);
 }

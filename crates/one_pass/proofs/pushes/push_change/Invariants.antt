@@ -1,4 +1,4 @@
-use Rattle.std.proofs.Common.{◌≡◌, ◌++◌, List, map, drop, length}
+use Rattle.std.proofs.Common.{◌≡◌, ◌++◌, List, drop, length}
 use Rattle.green_tree.specs.GreenElement.{element_trees}
 use Rattle.one_pass.specs.inner.Marked.{MarkTree, marks_of}
 use Rattle.one_pass.specs.inner.Pass.{given_trees, AreMarked}

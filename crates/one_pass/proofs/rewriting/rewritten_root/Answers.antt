@@ -1,5 +1,5 @@
 use Rattle.std.proofs.Common.{◌≡◌, ◌∷◌, [], map, flat_map, length, arith, ap, ap₂, sym, subst, ◌∙◌}
-use Rattle.std.specs.Prelude.{OnOk, IfOk, IfSome, ◌++◌}
+use Rattle.std.specs.Prelude.{OnOk, IfSome, ◌++◌}
 use Rattle.std.proofs.lemmas.List.{append-nil}
 use Rattle.cst_core.specs.Element.{Element, address, subtree}
 use Rattle.cst_core.specs.GreenElement.{element_tree}

@@ -5,7 +5,7 @@ use Rattle.cst_core.specs.Element.{subtree}
 use Rattle.edit_change.proofs.AlteredNodes.{if_ok-map}
 use Rattle.one_pass.specs.TextEdits.{number_token}
 use Rattle.one_pass.specs.inner.Marked.{marked, mark_below, marks_of}
-use Rattle.one_pass.proofs.TextOrders.{numbers-of, numbers-of-root, one-numbered}
+use Rattle.one_pass.proofs.TextOrders.{numbers-of, numbers-of-root}
 use Rattle.one_pass.proofs.text_changes.in_text_order.Goals as goal
 
 pub returns : goal.returns

@@ -1,4 +1,4 @@
-use Rattle.std.proofs.Common.{◌≡◌, ◌++◌, [], List, map, ap, sym, ◌∙◌}
+use Rattle.std.proofs.Common.{◌≡◌, ◌++◌, List, map, ap, sym, ◌∙◌}
 use Rattle.std.proofs.lemmas.List.{append-nil, at_drop_all}
 use Rattle.one_pass.specs.inner.Marked.{Marking, marks_of, mark_below}
 use Rattle.one_pass.specs.inner.Pass.{own_marks}
