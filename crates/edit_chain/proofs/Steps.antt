@@ -6,13 +6,14 @@
 --     root_after-item               the root after steps of which the last is known
 --     take-next, drop-at, at-end, drop-end  lists up to an item and from it on
 --     appended                      what a list has that took another one up
+--     steps-of, roots-of            the same of the parts of a chain
 use Rattle.std.specs.Prelude.{◌≡◌, ℕ, zero, suc, ◌-◌, ◌<◌, List, [], ◌∷◌, ◌++◌, take, drop, length, slice_get, get_or, Some, Result, Ok, Err, is_ok, is_err, false, if◌then◌else◌, refl}
 use Rattle.std.proofs.Common.{ap, sym, subst, ◌∙◌, arith}
 use Rattle.std.proofs.lemmas.Bool.{true≢false}
 use Rattle.std.proofs.lemmas.Option.{none-some, same_Some}
 use Rattle.cst_core.specs.Path.{last_item}
 use Rattle.cst_core.specs.Element.{Element, address}
-use Rattle.edit_chain.specs.Chain.{root_after, IsStep, AreSteps}
+use Rattle.edit_chain.specs.Chain.{Chain, root_after, IsStep, AreSteps}
 use Rattle.edit_chain.specs.declared.step.Step.{Step}
 
 pub root_after-append : (root : Element) (ss ts : List Step) → root_after root (ss ++ ts) ≡ root_after (root_after root ss) ts
@@ -82,3 +83,10 @@ drop-end (y ∷ before) x = drop-end before x
 pub appended : {X E : Type 0} (r : Result (Unit {0}) E) (xs ys zs : List X) → zs ≡ (if is_ok r then xs ++ ys else xs) → is_err r ≡ false → zs ≡ xs ++ ys
 appended (Ok a) xs ys zs is none = is
 appended (Err e) xs ys zs is none = absurd (true≢false none)
+
+-- ---- of a chain, where code has its parts
+pub steps-of : (c : Chain) (root : Element) (steps : List Step) → root ≡ c.first → steps ≡ c.steps → AreSteps c.first c.steps → AreSteps root steps
+steps-of c root steps root_is steps_are are = subst (λ r. AreSteps r steps) (sym root_is) (subst (AreSteps c.first) (sym steps_are) are)
+
+pub roots-of : (c : Chain) (root : Element) (steps : List Step) (n : ℕ) → root ≡ c.first → steps ≡ c.steps → root_after root (take n steps) ≡ root_after c.first (take n c.steps)
+roots-of c root steps n root_is steps_are = ap (λ r. root_after r (take n steps)) root_is ∙ ap (λ ss. root_after c.first (take n ss)) steps_are

@@ -3,8 +3,9 @@
 --     all-none, all-first, all-before  for no step; for one; for one more before others
 --     whole, fits-told              what the text edits of a step's plan do, as code has them
 --     err-gives, refused-at         a refusal of one step is one of the chain
-use Rattle.std.specs.Prelude.{◌≡◌, ℕ, List, [], ◌∷◌, take, slice_get, unwrap_or, Some, Result, Ok, Err, IfErr, IsErrAnd, refl}
-use Rattle.std.proofs.Common.{ap, sym, subst, ◌∙◌}
+--     last-at, all-last, later-at, all-from  the same lists, from the last step of a chain on
+use Rattle.std.specs.Prelude.{◌≡◌, ◌<◌, ℕ, suc, List, [], ◌∷◌, ◌++◌, take, drop, length, slice_get, unwrap_or, Some, Result, Ok, Err, IfErr, IsErrAnd, refl}
+use Rattle.std.proofs.Common.{ap, sym, subst, ◌∙◌, arith, length-drop}
 use Rattle.std.proofs.lemmas.Option.{same_Some}
 use Rattle.std.proofs.lemmas.List.Elements.{All-nil}
 use Rattle.cst_core.specs.Tree.{Token, text, at}
@@ -16,6 +17,7 @@ use Rattle.edit_chain.specs.Chain.{Chain, root_after}
 use Rattle.edit_chain.specs.ChainText.{ArePieces, DoAll, FollowsOn, TextRefuses}
 use Rattle.edit_chain.specs.inner.StepText.{IsFitting, Precedes, FitRefuses}
 use Rattle.edit_chain.specs.declared.step.Step.{Step}
+use Rattle.edit_chain.proofs.Steps.{before-at, drop-at, at-end, drop-end}
 use Rattle.edit_chain.specs.declared.chain_error.ChainError.{ChainError}
 use Rattle.edit_chain.specs.declared.chain_error.ChainError.TheVariants.{OtherRoot, TooLong, NoTreeNumber, Unfit, Memory}
 
@@ -61,3 +63,26 @@ refused-at c i s old Memory at_i is refused = tt
 refused-at c i s old OtherRoot at_i is refused = absurd refused
 refused-at c i s old TooLong at_i is refused = absurd refused
 refused-at c i s old NoTreeNumber at_i is refused = absurd refused
+
+-- ---- from the last step on
+module _ (root : Element) (steps before : List Step) (last : Step) (is : steps ≡ before ++ last ∷ []) where
+  pub last-at : slice_get steps (length before) ≡ Some last
+  last-at = ap (λ ss. slice_get ss (length before)) is ∙ at-end before last
+
+  pub all-last : (es : List TextPiece) → IsFitting (text (subtree (root_after root (take (length before) steps)))) last es → DoAll (root_after root (take (length before) steps)) (drop (length before) steps) es
+  all-last es fits = subst (λ ss. DoAll (root_after root (take (length before) steps)) ss es) (sym (ap (drop (length before)) is ∙ drop-end before last)) (all-first (root_after root (take (length before) steps)) last es fits)
+
+-- what is done from the step after one on is done from the root that it made on
+pub later-at : (root : Element) (steps : List Step) (i : ℕ) (s : Step) (es : List TextPiece) → slice_get steps i ≡ Some s → DoAll (root_after root (take (suc i) steps)) (drop (suc i) steps) es → DoAll s.edit.new_root (drop (suc i) steps) es
+later-at root steps i s es is does = subst (λ r. DoAll r (drop (suc i) steps) es) (before-at root steps i s is) does
+
+pub all-from : (root : Element) (steps : List Step) (i : ℕ) (s : Step) (later es : List TextPiece) → slice_get steps i ≡ Some s → suc i < length steps → Precedes (text (subtree (root_after root (take i steps)))) s later es → DoAll (root_after root (take (suc i) steps)) (drop (suc i) steps) later → DoAll (root_after root (take i steps)) (drop i steps) es
+all-from root steps i s later es is within precedes does =
+    subst (λ ss. DoAll (root_after root (take i steps)) ss es) (sym (drop-at steps i s is)) (put (root_after root (take i steps)) (drop (suc i) steps) (some-left steps (suc i) within) precedes (later-at root steps i s later is does))
+  where
+    some-left : (xs : List Step) (n : ℕ) → n < length xs → 0 < length (drop n xs)
+    some-left xs n less = omega (arith, less, length-drop n xs)
+
+    put : (own : Element) (rest : List Step) → 0 < length rest → Precedes (text (subtree own)) s later es → DoAll s.edit.new_root rest later → DoAll own (s ∷ rest) es
+    put own [] none p from = absurd (omega (arith, none))
+    put own (t ∷ ss) some p from = all-before own s t ss later es p from

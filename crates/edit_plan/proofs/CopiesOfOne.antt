@@ -2,7 +2,8 @@
 --     copy-paths                    where they are, of what one pass tells
 --     copies-there                  these paths lead to elements of each edit that the plan makes
 --     are-copies                    what they lead to
-use Rattle.std.specs.Prelude.{◌≡◌, ℕ, List, [], ◌∷◌, ◌++◌, map, All, IsSome, Some}
+--     ok-gives                      what an answer gives that promises more
+use Rattle.std.specs.Prelude.{◌≡◌, ℕ, List, [], ◌∷◌, ◌++◌, map, All, IsSome, Some, Result, Ok, Err, IfOk}
 use Rattle.std.proofs.Common.{ap, sym, subst, ◌∙◌}
 use Rattle.cst_core.specs.Path.{Path}
 use Rattle.cst_core.specs.Tree.{SyntaxTree, at}
@@ -49,3 +50,8 @@ module _ (unique : PlaceIsUnique) (p : Plan) (rises : IsRising p.mapping) (numbe
     would = are.would;
     found_are = lead ∙ ap (λ r. map (syntax_at r) found) is ∙ ap (map (syntax_at edit.new_root)) (are.copies_are tell);
   }
+
+-- ---- in code
+pub ok-gives : {T E : Type 0} (P Q : T → Type 0) (r : Result T E) → ((v : T) → P v → Q v) → IfOk r P → IfOk r Q
+ok-gives P Q (Ok v) gives holds = gives v holds
+ok-gives P Q (Err e) gives holds = tt

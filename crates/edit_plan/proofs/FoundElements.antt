@@ -3,8 +3,9 @@
 --     stable-paths, all-lead        paths that are sorted by annotation have for each what they had, and lead to elements as before
 --     rising                        what is sorted by a number has numbers that do not fall
 --     lead-by, as-long              elements that they lead to, one after another, do so for each annotation; there are as many
+--     none-zipped, all-registered   annotated elements as registrations
 --     found-between                 where annotations do not fall, the elements of one are those between two places
-use Rattle.std.specs.Prelude.{◌≡◌, ℕ, zero, suc, ◌-◌, ◌≤◌, Bool, true, false, cond, nat_eq, nat_lt, nat_le, List, [], ◌∷◌, map, filter, take, drop, length, Vec, None, Some, option_map, is_some, All, refl}
+use Rattle.std.specs.Prelude.{◌≡◌, ℕ, zero, suc, ◌-◌, ◌≤◌, Bool, true, false, cond, nat_eq, nat_lt, nat_le, List, [], ◌∷◌, ◌++◌, map, filter, take, drop, length, Vec, None, Some, option_map, is_some, All, refl}
 use Rattle.std.specs.Global.{Global}
 use Rattle.std.specs.List.{zip}
 use Rattle.std.specs.List.Sorted.{IsPermutation, IsStableByKey, IsNonDecreasing, IsNonDecreasingBy, IsPartitionPoint, ties}
@@ -12,7 +13,7 @@ use Rattle.std.specs.Ordering.{nat_cmp, is_lt}
 use Rattle.std.proofs.Common.{ap, ap₂, sym, subst, ◌∙◌, arith}
 use Rattle.std.proofs.lemmas.Bool.Decides.{nat_tests}
 use Rattle.std.proofs.lemmas.Bool.{ne_eqb, eq-eqb, ltb-true, ltb-false, leb-true, leb-false}
-use Rattle.std.proofs.lemmas.List.{nil_from_length, get_or-map, length-map}
+use Rattle.std.proofs.lemmas.List.{append-nil, nil_from_length, get_or-map, length-map}
 use Rattle.std.proofs.lemmas.List.Elements.{All-map}
 use Rattle.std.proofs.lemmas.List.Sorted.{length_permutation}
 use Rattle.std.proofs.lemmas.Map.Views.{All-map-IsPermutation}
@@ -119,3 +120,13 @@ module _ (a : ℕ) where
       let less = ltb-true n a b.0 in
       let count : suc end - suc start ≡ end - start = omega arith in
       ap (λ k. take k (drop start es)) count ∙ found-between ns es start end (omega (arith, long)) (omega (arith, high)) b.1 u.1 ∙ sym (one-more n e (zip ns es) false (ne_eqb n a (λ same. absurd (omega (arith, same, less)))))
+
+-- ---- as registrations
+pub none-zipped : {X Y : Type 0} (xs : List X) (ys : List Y) → ys ≡ [] → zip xs ys ≡ []
+none-zipped [] ys is = refl
+none-zipped (x ∷ xs) [] is = refl
+none-zipped (x ∷ xs) (y ∷ ys) is = absurd (cc)
+
+pub all-registered : (all : List (SyntaxElement × ℕ)) (left whole annotated : List (ℕ × SyntaxElement)) → left ≡ [] → all ++ map (λ a. (a.1, a.0)) left ≡ map (λ a. (a.1, a.0)) whole → whole ≡ annotated → all ≡ map (λ a. (a.1, a.0)) annotated
+all-registered all left whole annotated none so_far is =
+    sym (append-nil all) ∙ ap (λ (xs : List (ℕ × SyntaxElement)). all ++ map (λ a. (a.1, a.0)) xs) (sym none) ∙ so_far ∙ ap (map (λ a. (a.1, a.0))) is
