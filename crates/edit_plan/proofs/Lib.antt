@@ -11,6 +11,7 @@ mod ByAnnotation
 mod PromisesOfRuns
 mod NextReady
 mod PlanLines
+mod ElementTexts
 mod Exchanged
 mod Filled
 mod FoundElements
