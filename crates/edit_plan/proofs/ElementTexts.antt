@@ -3,7 +3,7 @@
 --     text-split                    those before and behind an element; the former are as long as the element starts
 --     text-stands                   the text from where an element starts up to where it ends
 --     element-there                 a value that a path leads to
-use Rattle.std.proofs.Common.{◌≡◌, ◌∙◌, ℕ, zero, suc, ◌+◌, ◌-◌, List, [], ◌∷◌, ◌++◌, length, take, Some, None, ap, sym, refl, subst, arith, append_assoc, length-append, slice_range}
+use Rattle.std.proofs.Common.{◌≡◌, ◌∙◌, ℕ, zero, suc, ◌+◌, ◌-◌, List, [], ◌∷◌, ◌++◌, length, take, Some, None, ap, sym, refl, arith, append_assoc, length-append, slice_range}
 use Rattle.std.specs.Prelude.{slice_get, option_and_then, option_map, unwrap_or}
 use Rattle.std.proofs.lemmas.List.{append-nil, take_all}
 use Rattle.std.specs.Option.{option_map_or}

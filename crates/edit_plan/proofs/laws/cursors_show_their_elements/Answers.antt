@@ -1,10 +1,9 @@
-use Rattle.std.proofs.Common.{◌≡◌, ◌∙◌, ◌+◌, ℕ, List, Some, map, length, ap, sym, slice_range}
-use Rattle.cst_core.specs.Tree.{at, text, text_length}
+use Rattle.std.proofs.Common.{◌≡◌, ◌∙◌, Some, map, ap, sym, slice_range}
+use Rattle.cst_core.specs.Tree.{text}
 use Rattle.cst_core.specs.Order.{start}
 use Rattle.cst_core.specs.AtOffset.{end_of}
 use Rattle.cst_core.specs.Element.{Element, element_at, subtree}
-use Rattle.cst_core.specs.SyntaxElement.{element_of}
-use Rattle.text_edit.specs.TextPiece.{as_piece, applied}
+use Rattle.text_edit.specs.TextPiece.{as_piece}
 use Rattle.text_edit.specs.Cursor.{cursor}
 use Rattle.text_edit.proofs.Holding.{cursor-shows}
 use Rattle.edit_plan.proofs.ElementTexts.{text-stands, element-there}

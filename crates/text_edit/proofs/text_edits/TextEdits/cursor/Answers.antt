@@ -1,4 +1,4 @@
-use Rattle.std.proofs.Common.{◌≡◌, ◌∙◌, List, ap}
+use Rattle.std.proofs.Common.{◌≡◌, ◌∙◌, ap}
 use Rattle.text_edit.specs.TextPiece.{pieces}
 use Rattle.text_edit.specs.Cursor.{cursor}
 use Rattle.text_edit.proofs.Holding.{cursor-shown}
