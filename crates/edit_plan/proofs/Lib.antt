@@ -12,6 +12,7 @@ mod CopiesOfOne
 mod PromisesOfRuns
 mod NextReady
 mod PlanLines
+mod ElementTexts
 mod Exchanged
 mod Filled
 mod FoundElements

@@ -5,7 +5,7 @@
 -- In `R` the insert of `x` before `R/1` and the replacement of `R/4` by the node `(x)` make `(x1, (x))`. The text edits
 -- are 1 to 1 `x` and 4 to 5 `(x)`. The new element at `1` is from 1 to 2, which is 0 to 1 of the edit 0. The one at `5`
 -- is from 5 to 8, which is 0 to 3 of the edit 1, and the token `x` in it is 1 to 2 of that. What was `R/1` is in no edit.
-use Rattle.std.specs.Prelude.{ℕ, List}
+use Rattle.std.specs.Prelude.{List}
 use Rattle.cst_core.specs.Order.{start}
 use Rattle.cst_core.specs.AtOffset.{end_of}
 use Rattle.cst_core.specs.SyntaxElement.{element_of}

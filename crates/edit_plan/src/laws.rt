@@ -1,10 +1,10 @@
 //! Laws of changes, of their places and of the tree that they make, of the definitions alone.
 
-ghost use Rattle.std.specs.Prelude.{ℕ, ◌≡◌, ◌↔◌, List, [], ◌∷◌, ◌++◌, length, map, flat_map, slice_get, nat_lt, Option, None, Some, true, false, All, IsTrue, IsSomeAnd};
+ghost use Rattle.std.specs.Prelude.{ℕ, ◌≡◌, ◌↔◌, List, [], ◌∷◌, ◌++◌, length, map, flat_map, slice_get, slice_range, nat_lt, Option, None, Some, true, false, All, IsTrue, IsSomeAnd};
 ghost use Rattle.cst_core.specs.Path.{Path};
 ghost use Rattle.cst_core.specs.Tree.{SyntaxTree, text};
 ghost use Rattle.cst_core.specs.Element.{Address, Element, subtree, IsElement, NumbersTell};
-ghost use Rattle.cst_core.specs.SyntaxElement.{element_of};
+ghost use Rattle.cst_core.specs.SyntaxElement.{element_of, syntax_at};
 ghost use Rattle.cst_core.specs.declared.element.SyntaxElement.{SyntaxElement};
 ghost use Rattle.edit_change.specs.declared.change.Change.{Change};
 ghost use Rattle.edit_change.specs.declared.change.Change.TheVariants.{Replace};
@@ -23,8 +23,11 @@ ghost use Rattle.edit_steps.specs.Schedule.{IsAllowed, index_in, is_ready};
 ghost use Rattle.edit_change.specs.RewritingLaws.{StandsThere, IsUntouched, is_at_depth, changed_text};
 ghost use Rattle.edit_plan.specs.Plan.{with_changes};
 ghost use Rattle.text_edit.specs.TextPiece.{as_piece, AreApart, applied};
+ghost use Rattle.text_edit.specs.OrderRefusal.{piece_at};
+ghost use Rattle.text_edit.specs.declared.cursor.Cursor.{Cursor};
 ghost use Rattle.text_edit.specs.declared.text_edit.TextEdit.{TextEdit};
 ghost use Rattle.edit_plan.specs.PlanTextEdits.{AreTextEdits};
+ghost use Rattle.edit_plan.specs.ElementCursor.{element_cursor};
 
 use edit_map::laws::{pairs_rise, place_is_unique, place_keeps_the_shape};
 
@@ -110,6 +113,16 @@ pub fn text_edits_make_the_new_text()
         → IsPlan plan → Makes plan number edit → AreTextEdits plan edits
         → applied (map as_piece edits) (text (subtree plan.root)) ≡ text edit.new_root.root }
 {}
+
+/// Where the text of one of a plan's text edits has an element of the new tree, by its cursor, it has the text of that element.
+pub fn cursors_show_their_elements()
+    ensures { (plan : Plan) (number : ℕ) (edit : Edit) (edits : List TextEdit) (p : Path) (x : SyntaxElement) (c : Cursor)
+        → IsPlan plan → Makes plan number edit → AreTextEdits plan edits → syntax_at edit.new_root p ≡ Some x
+        → (element_cursor (map as_piece edits) x).in_edit ≡ Some c
+        → slice_range (piece_at (map as_piece edits) c.edit).text c.start c.end ≡ text (subtree (element_of x)) }
+{
+    text_edits_make_the_new_text();
+}
 
 /// No change is owned where each one is at the same depth, as those of the children of one node are: what is around it is
 /// above this depth, and what it replaces is not. An insert after a child is one level deeper.

@@ -1,14 +1,15 @@
 -- Which text of an edit holds a range of the new text.
 use Rattle.std.proofs.Common.{◌≡◌, ◌∙◌, ◌+◌, ◌-◌, ◌<◌, ◌≤◌, ℕ, Bool, true, false, zero, suc, List, [], ◌∷◌, ◌++◌, Some, None, length, take, drop, ap, sym, refl, subst, arith, inl, inr, slice_range}
-use Rattle.std.specs.Prelude.{find, option_map}
+use Rattle.std.specs.Prelude.{find, Option, option_map, IfSome, nat_le, ◌&&◌}
 use Rattle.std.specs.List.{range_with_len, sum_by}
 use Rattle.std.proofs.Math.Seq.{drop-append-add}
-use Rattle.std.proofs.lemmas.Bool.{cases_lt, cases_order, cond-true, cond-false}
+use Rattle.std.proofs.lemmas.Bool.{cases_lt, cases_order, cases_Bool, cond-true, cond-false, and_parts, leb-true}
 use Rattle.std.proofs.lemmas.Bool.Decides.{nat_tests}
 use Rattle.std.proofs.lemmas.List.{append_assoc, take_more, length-append, length-drop, take-append-le, drop-append-le}
 use Rattle.std.proofs.lemmas.List.Sums.{sum_by-cons, sum_by_push}
 use Rattle.text_edit.specs.TextPiece.{TextPiece, AreApart, applied_from, applied}
 use Rattle.text_edit.specs.OrderRefusal.{nothing, piece_at, piece_before}
+use Rattle.text_edit.specs.declared.cursor.Cursor.{Cursor}
 use Rattle.text_edit.specs.Cursor.{new_start, holds, cursor_in, cursor}
 use Rattle.text_edit.proofs.Ordered.{is-after, piece_before-next, AreApart-le}
 use Rattle.text_edit.proofs.Inverting.{kept, behind, length-kept, applied-parts}
@@ -138,7 +139,7 @@ text-stands gone (e ∷ es) (suc i) s apart inside =
       omega arith,
     )
 
-range-between : (front t rest : List ℕ) (n start end : ℕ) → length front ≡ n → n ≤ start → start ≤ end → end ≤ n + length t → slice_range t (start - n) (end - n) ≡ slice_range (front ++ t ++ rest) start end
+pub range-between : (front t rest : List ℕ) (n start end : ℕ) → length front ≡ n → n ≤ start → start ≤ end → end ≤ n + length t → slice_range t (start - n) (end - n) ≡ slice_range (front ++ t ++ rest) start end
 range-between front t rest n start end len from ordered to =
     let a = start - n in
     let at : start ≡ length front + a = omega arith in
@@ -148,10 +149,44 @@ range-between front t rest n start end len from ordered to =
     let there : drop start (front ++ t ++ rest) ≡ drop a t ++ rest = ap (drop start) (append_assoc front t rest) ∙ ap (λ m. drop m (front ++ (t ++ rest))) at ∙ drop-append-add front (t ++ rest) a ∙ drop-append-le a t rest within in
     ap (λ m. take m (drop a t)) wide ∙ sym (ap (take (end - start)) there ∙ take-append-le (end - start) (drop a t) rest short)
 
-pub cursor-text : (es : List TextPiece) (start end i : ℕ) → i < length es → new_start es i ≤ start → start ≤ end → end ≤ new_start es i + length (piece_at es i).text → (s : List ℕ) → AreApart 0 es (length s) → slice_range (piece_at es i).text (start - new_start es i) (end - new_start es i) ≡ slice_range (applied es s) start end
+cursor-text : (es : List TextPiece) (start end i : ℕ) → i < length es → new_start es i ≤ start → start ≤ end → end ≤ new_start es i + length (piece_at es i).text → (s : List ℕ) → AreApart 0 es (length s) → slice_range (piece_at es i).text (start - new_start es i) (end - new_start es i) ≡ slice_range (applied es s) start end
 cursor-text es start end i inside from ordered upto s apart =
     let stands = text-stands 0 es i s apart inside in
     let count : length stands.0 + 0 + taken (take i es) ≡ (piece_at es i).first + put_in (take i es) = stands.3 in
     let small : 0 + taken (take i es) ≤ (piece_at es i).first = stands.4 in
     let len : length stands.0 ≡ new_start es i = omega arith in
     range-between stands.0 (piece_at es i).text stands.1 (new_start es i) start end len from ordered upto ∙ ap (λ x. slice_range x start end) (sym stands.2)
+
+-- ---- what a cursor says
+find-passes : (p : ℕ → Bool) (a n i : ℕ) → find p (range_with_len a n) ≡ Some i → (i < a + n) × (p i ≡ true)
+find-passes p a zero i found = absurd (cc)
+find-passes p a (suc n) i found =
+    elim (cases_Bool (p a)) [
+      | inl passing ↦ (let here : Some a ≡ Some i = sym (cond-true (p a) (Some a) (find p (range_with_len (a + 1) n)) passing) ∙ found in
+          let same : a ≡ i = cc in
+          let P : ℕ → Type 0 = λ k. p k ≡ true in
+          (omega arith, subst P same passing))
+      | inr failing ↦ (let later = find-passes p (a + 1) n i (sym (cond-false (p a) (Some a) (find p (range_with_len (a + 1) n)) failing) ∙ found) in (omega (arith, later.0), later.1))
+    ]
+
+held-facts : (es : List TextPiece) (start end i : ℕ) → holds es start end i ≡ true → (start ≤ end) × (new_start es i ≤ start) × (end ≤ new_start es i + length (piece_at es i).text)
+held-facts es start end i passing =
+    let parts = and_parts (nat_le start end && nat_le (new_start es i) start) (nat_le end (new_start es i + length (piece_at es i).text)) passing in
+    let first = and_parts (nat_le start end) (nat_le (new_start es i) start) parts.0 in
+    (leb-true start end first.0, leb-true (new_start es i) start first.1, leb-true end (new_start es i + length (piece_at es i).text) parts.1)
+
+pub cursor-shows : (es : List TextPiece) (start end : ℕ) (c : Cursor) (s : List ℕ) → AreApart 0 es (length s) → cursor es start end ≡ Some c → slice_range (piece_at es c.edit).text c.start c.end ≡ slice_range (applied es s) start end
+cursor-shows es start end c s apart found =
+    elim (find (holds es start end) (range_with_len 0 (length es))) as (λ o. find (holds es start end) (range_with_len 0 (length es)) ≡ o → option_map (cursor_in es start end) o ≡ Some c → slice_range (piece_at es c.edit).text c.start c.end ≡ slice_range (applied es s) start end) [
+      | None ↦ λ at made. absurd (cc)
+      | Some i ↦ λ at made.
+          let passes = find-passes (holds es start end) 0 (length es) i at in
+          let facts = held-facts es start end i passes.1 in
+          let is : cursor_in es start end i ≡ c = cc in
+          let P : Cursor → Type 0 = λ d. slice_range (piece_at es d.edit).text d.start d.end ≡ slice_range (applied es s) start end in
+          subst P is (cursor-text es start end i (omega (arith, passes.0)) facts.1 facts.0 facts.2 s apart)
+    ] refl found
+
+pub cursor-shown : (es : List TextPiece) (start end : ℕ) (r : Option Cursor) → r ≡ cursor es start end → IfSome r (λ c. (s : List ℕ) → AreApart 0 es (length s) → slice_range (piece_at es c.edit).text c.start c.end ≡ slice_range (applied es s) start end)
+cursor-shown es start end None is = tt
+cursor-shown es start end (Some c) is = λ s apart. cursor-shows es start end c s apart (sym is)

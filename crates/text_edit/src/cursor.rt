@@ -1,8 +1,7 @@
 //! `Cursor`: where a part of the new text stands in the text that one edit puts in.
 
-ghost use Rattle.std.specs.Prelude.{◌≡◌, ◌^◌, ℕ, List, IfSome, length, slice_range};
-ghost use Rattle.text_edit.specs.TextPiece.{pieces, AreApart, applied};
-ghost use Rattle.text_edit.specs.OrderRefusal.{piece_at};
+ghost use Rattle.std.specs.Prelude.{◌≡◌, ◌^◌};
+ghost use Rattle.text_edit.specs.TextPiece.{pieces, AreApart};
 ghost use Rattle.text_edit.specs.Cursor.{cursor};
 
 use crate::text_edit::TextEdit;
@@ -21,10 +20,7 @@ pub struct Cursor {
 /// The first edit whose text a range of the new text is in, and the range within that text.
 pub(crate) fn cursor_of(edits: &[TextEdit], start: u64, end: u64) -> Option<Cursor>
     requires { AreApart 0 (pieces edits.now) (2 ^ 64) }
-    ensures is { result ≡ cursor (pieces edits.now) start end }
-    ensures text { IfSome result (λ c. (s : List ℕ) → AreApart 0 (pieces edits.now) (length s)
-        → slice_range (piece_at (pieces edits.now) c.edit).text c.start c.end
-        ≡ slice_range (applied (pieces edits.now) s) start end) }
+    ensures { result ≡ cursor (pieces edits.now) start end }
 {
     if end < start {
         return None;
