@@ -173,6 +173,8 @@ EXCEPT = {
     "OnePassEngine::new": "asks for nothing",
     "OnePassEngine::starting_at": "asks for nothing",
     "SpliceEngine::new": "asks for nothing",
+    "EditChain::new": "keeps the allocator, and asks for nothing",
+    "SyntaxEdit::registrations": "is what `NextEdit::next_editor` registers",
     "KindNames::new": "keeps the allocator, and asks for nothing",
     "run_explained": "is the whole of the program `syned`, which is run here with each allocation made to fail",
     "run": "is `run_explained` without the sentence",
