@@ -175,6 +175,7 @@ EXCEPT = {
     "SpliceEngine::new": "asks for nothing",
     "EditChain::new": "keeps the allocator, and asks for nothing",
     "SyntaxEdit::registrations": "is what `NextEdit::next_editor` registers",
+    "SyntaxEdit::copies": "is what `EditChain::find` asks of each step",
     "KindNames::new": "keeps the allocator, and asks for nothing",
     "run_explained": "is the whole of the program `syned`, which is run here with each allocation made to fail",
     "run": "is `run_explained` without the sentence",

@@ -1,9 +1,10 @@
 -- Steps one after the other.
+--     root_after-append             the root after two lists of steps
 --     steps-append, steps-from      two lists of steps are one; steps from a root are steps from one with its number and path
 --     step-at, before-at            the step at an index is one from the root after those before it; the root after the steps up to one
 --     last-of, item-at              the last item of a list is the one at its greatest index; the item at an index, where code has it
 --     root_after-item               the root after steps of which the last is known
---     take-next, drop-at, at-end    lists up to an item and from it on
+--     take-next, drop-at, at-end, drop-end  lists up to an item and from it on
 --     appended                      what a list has that took another one up
 --     steps-of, roots-of            the same of the parts of a chain
 use Rattle.std.specs.Prelude.{◌≡◌, ℕ, zero, suc, ◌-◌, ◌<◌, List, [], ◌∷◌, ◌++◌, take, drop, length, slice_get, get_or, Some, Result, Ok, Err, is_ok, is_err, false, if◌then◌else◌, refl}
@@ -14,6 +15,10 @@ use Rattle.cst_core.specs.Path.{last_item}
 use Rattle.cst_core.specs.Element.{Element, address}
 use Rattle.edit_chain.specs.Chain.{Chain, root_after, IsStep, AreSteps}
 use Rattle.edit_chain.specs.declared.step.Step.{Step}
+
+pub root_after-append : (root : Element) (ss ts : List Step) → root_after root (ss ++ ts) ≡ root_after (root_after root ss) ts
+root_after-append root [] ts = refl
+root_after-append root (s ∷ ss) ts = root_after-append s.edit.new_root ss ts
 
 pub steps-append : (root : Element) (ss ts : List Step) → AreSteps root ss → AreSteps (root_after root ss) ts → AreSteps root (ss ++ ts)
 steps-append root [] ts own others = others
@@ -69,6 +74,10 @@ drop-at (y ∷ xs) (suc i) x is = drop-at xs i x is
 pub at-end : {X : Type 0} (before : List X) (x : X) → slice_get (before ++ x ∷ []) (length before) ≡ Some x
 at-end [] x = refl
 at-end (y ∷ before) x = at-end before x
+
+pub drop-end : {X : Type 0} (before : List X) (x : X) → drop (length before) (before ++ x ∷ []) ≡ x ∷ []
+drop-end [] x = refl
+drop-end (y ∷ before) x = drop-end before x
 
 -- ---- what was put behind
 pub appended : {X E : Type 0} (r : Result (Unit {0}) E) (xs ys zs : List X) → zs ≡ (if is_ok r then xs ++ ys else xs) → is_err r ≡ false → zs ≡ xs ++ ys

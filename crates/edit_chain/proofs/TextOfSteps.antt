@@ -1,27 +1,34 @@
 -- One list of edits for some steps.
 --     one-list                      a plan has one list of text edits
---     all-before                    for one more step before others
+--     all-none, all-first, all-before  for no step; for one; for one more before others
 --     whole, fits-told              what the text edits of a step's plan do, as code has them
 --     err-gives, refused-at         a refusal of one step is one of the chain
---     last-at, later-at, all-from   the same lists, from the last step of a chain on
+--     last-at, all-last, later-at, all-from  the same lists, from the last step of a chain on
 use Rattle.std.specs.Prelude.{◌≡◌, ◌<◌, ℕ, suc, List, [], ◌∷◌, ◌++◌, take, drop, length, slice_get, unwrap_or, Some, Result, Ok, Err, IfErr, IsErrAnd, refl}
 use Rattle.std.proofs.Common.{ap, sym, subst, ◌∙◌, arith, length-drop}
 use Rattle.std.proofs.lemmas.Option.{same_Some}
+use Rattle.std.proofs.lemmas.List.Elements.{All-nil}
 use Rattle.cst_core.specs.Tree.{Token, text, at}
 use Rattle.cst_core.specs.Element.{Element, subtree}
-use Rattle.text_edit.specs.TextPiece.{TextPiece, FitText, applied, pieces}
+use Rattle.text_edit.specs.TextPiece.{TextPiece, FitsText, FitText, applied, pieces}
 use Rattle.text_edit.specs.declared.text_edit.TextEdit.{TextEdit}
 use Rattle.edit_plan.specs.Plan.{Plan, IsPlan}
 use Rattle.edit_chain.specs.Chain.{Chain, root_after}
 use Rattle.edit_chain.specs.ChainText.{ArePieces, DoAll, FollowsOn, TextRefuses}
 use Rattle.edit_chain.specs.inner.StepText.{IsFitting, Precedes, FitRefuses}
 use Rattle.edit_chain.specs.declared.step.Step.{Step}
-use Rattle.edit_chain.proofs.Steps.{before-at, drop-at, at-end}
+use Rattle.edit_chain.proofs.Steps.{before-at, drop-at, at-end, drop-end}
 use Rattle.edit_chain.specs.declared.chain_error.ChainError.{ChainError}
 use Rattle.edit_chain.specs.declared.chain_error.ChainError.TheVariants.{OtherRoot, TooLong, NoTreeNumber, Unfit, Memory}
 
 pub one-list : (p : Plan) (es fs : List TextPiece) → IsPlan p → ArePieces p es → ArePieces p fs → es ≡ fs
 one-list p es fs is own other = own is.places is.placed ∙ sym (other is.places is.placed)
+
+pub all-none : (root : Element) → DoAll root [] []
+all-none root = record { composed = refl; fit = All-nil (FitsText (text (subtree root))); makes = refl }
+
+pub all-first : (root : Element) (s : Step) (es : List TextPiece) → IsFitting (text (subtree root)) s es → DoAll root (s ∷ []) es
+all-first root s es is = record { composed = is.pieces; fit = is.fit; makes = is.makes }
 
 pub all-before : (root : Element) (s t : Step) (ss : List Step) (later es : List TextPiece) → Precedes (text (subtree root)) s later es → DoAll s.edit.new_root (t ∷ ss) later → DoAll root (s ∷ t ∷ ss) es
 all-before root s t ss later es is does = record {
@@ -61,6 +68,9 @@ refused-at c i s old NoTreeNumber at_i is refused = absurd refused
 module _ (root : Element) (steps before : List Step) (last : Step) (is : steps ≡ before ++ last ∷ []) where
   pub last-at : slice_get steps (length before) ≡ Some last
   last-at = ap (λ ss. slice_get ss (length before)) is ∙ at-end before last
+
+  pub all-last : (es : List TextPiece) → IsFitting (text (subtree (root_after root (take (length before) steps)))) last es → DoAll (root_after root (take (length before) steps)) (drop (length before) steps) es
+  all-last es fits = subst (λ ss. DoAll (root_after root (take (length before) steps)) ss es) (sym (ap (drop (length before)) is ∙ drop-end before last)) (all-first (root_after root (take (length before) steps)) last es fits)
 
 -- what is done from the step after one on is done from the root that it made on
 pub later-at : (root : Element) (steps : List Step) (i : ℕ) (s : Step) (es : List TextPiece) → slice_get steps i ≡ Some s → DoAll (root_after root (take (suc i) steps)) (drop (suc i) steps) es → DoAll s.edit.new_root (drop (suc i) steps) es

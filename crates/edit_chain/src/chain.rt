@@ -123,11 +123,7 @@ impl EditChain {
     /// Puts the steps of another chain behind these, which begins at the last root.
     ///
     /// `OtherRoot` comes first, then `Memory`. Each hands the other chain back, and leaves both as they were.
-    pub fn then(
-        &mut self,
-        _alloc: Global,
-        mut other: EditChain,
-    ) -> Result<(), (ChainError, EditChain)>
+    pub fn then(&mut self, mut other: EditChain) -> Result<(), (ChainError, EditChain)>
         ensures joined { OnOk result (self.new ≡ joined self.old other) }
         ensures follows { OnOk result (address other.first ≡ address (last_root self.old)) }
         ensures refused { IfErr result (λ r. JoinRefuses self.old other r.0) }

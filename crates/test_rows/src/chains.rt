@@ -5,7 +5,7 @@ use crate::shown::{Answer, Done};
 use crate::text_edits;
 use cst_core::SyntaxNode;
 use edit_chain::EditChain;
-use syntax_editor::{NextEdit, OnePassEngine};
+use syntax_editor::NextEdit;
 use test_trees::{NoAnswer, Words};
 
 /// Takes the step of this name, or passes on what is none of these.
@@ -18,33 +18,25 @@ pub fn answer(s: &mut Session, name: &str, words: &mut Words, out: &mut Answer) 
             let root = edit.new_root().try_clone(s.alloc)?;
             keep_root(s, root, words, out)
         }
-        "chain" => Ok(out.note(s.chains.push(EditChain::new(s.alloc, s.trees.node(words)?)))),
+        "chain" => {
+            let chain = EditChain::new(s.alloc, s.trees.node(words)?);
+            Ok(out.note(s.chains.push(chain)))
+        }
         "step" => step(s, words, out),
         "join" => join(s, out),
         "last_changed" => Ok(out.paths(last(&mut s.chains)?.changed_elements())),
-        "find" | "copies" => find(s, name, words, out),
+        "find" => {
+            let element = s.trees.element(words)?;
+            let found = out.asked(last(&mut s.chains)?.find(s.alloc, &element))?;
+            out.word(if found.is_empty() { "" } else { "ok" });
+            Ok(out.paths(&found))
+        }
         "chain_edits" => {
             let called = last(&mut s.chains)?.text_edits(s.alloc);
             text_edits::keep(s, called, out)
         }
         _ => text_edits::answer(s, name, words, out),
     }
-}
-
-// What is found of an element after the last chain, or its copies in the tree that the last plan makes.
-fn find(s: &mut Session, name: &str, words: &mut Words, out: &mut Answer) -> Done {
-    let element = s.trees.element(words)?;
-    let called = if name == "find" {
-        last(&mut s.chains)?.find(s.alloc, &element)
-    } else {
-        let plan = last(&mut s.plans)?;
-        let mut engine = OnePassEngine::new(s.alloc);
-        let edit = out.asked(plan.run_with(s.alloc, &mut s.ids, &mut engine))?;
-        edit.copies(s.alloc, plan, &element)
-    };
-    let elements = out.asked(called)?;
-    out.word(if elements.is_empty() { "" } else { "ok" });
-    Ok(out.paths(&elements))
 }
 
 // Answers a new root, which goes by the name of the next word then.
@@ -65,7 +57,7 @@ fn step(s: &mut Session, words: &mut Words, out: &mut Answer) -> Done {
 // The last chain goes behind the one before it, or is given back.
 fn join(s: &mut Session, out: &mut Answer) -> Done {
     let other = take(&mut s.chains)?;
-    match last(&mut s.chains)?.then(s.alloc, other) {
+    match last(&mut s.chains)?.then(other) {
         Ok(()) => Ok(()),
         Err((refusal, other)) => {
             out.note(s.chains.push(other));
