@@ -10,7 +10,8 @@
 --
 -- The edits 1 to 2 `10` and 5 to 5 `é` make `(10, 2é)` of `(1, 2)`. The range 1 to 3 is 0 to 2 of the edit 0, and 7 to 9
 -- is none: what starts at 6 has two bytes. The range 1 to 4 is none, since `,` is in no edit's text, and so is the range
--- 4 to 4. Where the texts of two edits touch, a range of no length is at the end of the first.
+-- 4 to 4. Where the texts of two edits touch, a range of no length is at the end of the first. Where a deletion is, it is
+-- 0 to 0 of that, if no text before it ends there.
 use Rattle.std.specs.Prelude.{ℕ, ◌+◌, ◌-◌, Bool, ◌&&◌, nat_le, List, length, take, find, Option, option_map}
 use Rattle.std.specs.List.{sum_by, range_with_len}
 use Rattle.text_edit.specs.TextPiece.{TextPiece}

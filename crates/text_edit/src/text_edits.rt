@@ -177,10 +177,10 @@ impl TextEdits {
         Ok(TextEdits { edits })
     }
     /// The first edit whose text holds a range of the new text, from `start` up to `end` in bytes, and the range within
-    /// that text. None where no edit's text holds it: what it holds is partly or wholly kept, or comes from two edits.
+    /// that text. None where no edit's text holds all of it, because some of it is kept, or two edits bring it.
     ///
-    /// A range of no length at which the texts of two edits touch is at the end of the first. A range that ends before it
-    /// starts is none. Takes time linear in the number of edits.
+    /// A range of no length is also in a text that starts or ends there, and in that of a deletion that is there. A range
+    /// that ends before it starts is in none. Takes time linear in the number of edits.
     pub fn cursor(&self, start: u64, end: u64) -> Option<Cursor>
         ensures is { result ≡ cursor self.now start end }
         ensures text { IfSome result (λ c. (s : List ℕ) → AreApart 0 self.now (length s)
