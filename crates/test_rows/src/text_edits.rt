@@ -113,7 +113,9 @@ fn on_text(s: &mut Session, name: &str, words: &mut Words, out: &mut Answer) -> 
 // Where the elements of an annotation in the last edit stand in the new text and in the text edits of the last plan.
 fn cursors(s: &mut Session, words: &mut Words, out: &mut Answer) -> Done {
     let edits = out.asked(last(&mut s.plans)?.text_edits(s.alloc))?;
-    let annotation = annotation(words).ok_or(NoAnswer::Arguments)?;
+    let Some(annotation) = annotation(words) else {
+        return Err(NoAnswer::Arguments);
+    };
     let found = out.asked(last(&mut s.edits)?.find_cursors(s.alloc, annotation, &edits))?;
     Ok(out.given(&found))
 }
