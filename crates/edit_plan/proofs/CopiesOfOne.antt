@@ -22,7 +22,6 @@ use Rattle.edit_plan.proofs.StagesOfRuns.{PlaceIsUnique}
 use Rattle.edit_plan.proofs.PathsOfResults.{copies-lead}
 use Rattle.edit_plan.proofs.TwoPlaces.{one-made}
 
-
 pub copy-paths : (p : Plan) (e : Element) (f : SyntaxElement) (tree : SyntaxTree) (before : List (List Path)) (paths found : List Path) (places : ℕ → Path) → ArePlaces p.mapping p.changes places → TellsNewTree p.root p.changes places (f ∷ []) tree (before ++ found ∷ []) paths → (NumbersTell (e ∷ mapped_elements p.mapping) → element_of f ≡ followed p.mapping e) → AreCopyPaths p e found
 copy-paths p e f tree before paths found places are told reached =
     let is : found ≡ copies_of told.made (address (element_of f)) = alone before found (copies_of told.made (address (element_of f))) told.copies_are in
