@@ -1,7 +1,7 @@
 #!/usr/bin/env bash
 # all.sh            runs all tests, what fails soonest first: quick checks; all proofs and programs, and beside them planted bugs; then scripts,
-#                   the model, hostile scripts, allocations that fail, their number, the bindings, and whether these tests notice a program
-#                   that does nothing
+#                   the model, chains of edits, hostile scripts, allocations that fail, their number, the bindings, and whether these tests
+#                   notice a program that does nothing
 # all.sh quick      the quick checks, for while you write, without proofs: format, docs, all rows, callers, counts of `bench`, scripts, the model,
 #                   and the editor against it
 # all.sh CHECK..    those of these that are named: docs format rows caller counts model models scripts
@@ -103,6 +103,7 @@ everything() {
 
     start scripts python3 tests/known.py
     start models python3 tests/models.py
+    start chains python3 tests/chains.py
     start hostile python3 tests/hostile.py
     start growths_refused python3 tests/rows.py refused
     start growths python3 tests/rows.py growths

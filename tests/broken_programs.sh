@@ -39,6 +39,7 @@ tests/known.py
 tests/known.py quick
 tests/models.py
 tests/models.py quick
+tests/chains.py
 tests/hostile.py
 tests/hostile.py damage 100
 tests/hostile.py deep 1000 8192
