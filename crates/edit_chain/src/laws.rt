@@ -11,7 +11,8 @@ ghost use Rattle.edit_chain.specs.Found.{AreFound};
 /// Three chains are one, whichever two are joined first. What is joined is a chain, and ends where the second ends.
 pub fn chains_associate()
     ensures joined { (a b c : Chain) → joined (joined a b) c ≡ joined a (joined b c) }
-    ensures chain { (a b : Chain) → IsChain a → IsChain b → address b.first ≡ address (last_root a) → IsChain (joined a b) }
+    ensures chain { (a b : Chain)
+        → IsChain a → IsChain b → address b.first ≡ address (last_root a) → IsChain (joined a b) }
 {}
 
 /// A chain of one edit is that edit: it ends at its new root, and what is found are its copies. The same is so of text edits

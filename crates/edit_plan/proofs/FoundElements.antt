@@ -1,11 +1,10 @@
 -- The elements that paths lead to, and those that are found for an annotation.
---     leads                         a path that leads to an element leads to its value
 --     stable-paths, all-lead        paths that are sorted by annotation have for each what they had, and lead to elements as before
 --     rising                        what is sorted by a number has numbers that do not fall
 --     lead-by, as-long              elements that they lead to, one after another, do so for each annotation; there are as many
 --     none-zipped, all-registered   annotated elements as registrations
 --     found-between                 where annotations do not fall, the elements of one are those between two places
-use Rattle.std.specs.Prelude.{◌≡◌, ℕ, zero, suc, ◌-◌, ◌≤◌, Bool, true, false, cond, nat_eq, nat_lt, nat_le, List, [], ◌∷◌, ◌++◌, map, filter, take, drop, length, Vec, None, Some, option_map, is_some, All, refl}
+use Rattle.std.specs.Prelude.{◌≡◌, ℕ, zero, suc, ◌-◌, ◌≤◌, Bool, true, false, cond, nat_eq, nat_lt, nat_le, List, [], ◌∷◌, ◌++◌, map, filter, take, drop, length, Vec, Some, All, refl}
 use Rattle.std.specs.Global.{Global}
 use Rattle.std.specs.List.{zip}
 use Rattle.std.specs.List.Sorted.{IsPermutation, IsStableByKey, IsNonDecreasing, IsNonDecreasingBy, IsPartitionPoint, ties}
@@ -20,21 +19,13 @@ use Rattle.std.proofs.lemmas.Map.Views.{All-map-IsPermutation}
 use mathlib.Core.List.{map-map}
 use Rattle.green_tree.proofs.Parts.{filter-map}
 use Rattle.cst_core.specs.Path.{Path}
-use Rattle.cst_core.specs.Tree.{at}
-use Rattle.cst_core.specs.Element.{Element, IsElement, element_at}
-use Rattle.cst_core.specs.SyntaxElement.{syntax_as, syntax_at}
+use Rattle.cst_core.specs.Element.{Element}
+use Rattle.cst_core.specs.SyntaxElement.{syntax_at}
 use Rattle.cst_core.specs.declared.element.SyntaxElement.{SyntaxElement}
 use Rattle.edit_change.specs.Results.{paths_with}
 use Rattle.edit_plan.specs.Plan.{found_for}
 use Rattle.edit_plan.specs.Engine.{annotated_path}
 use Rattle.edit_plan.specs.inner.Annotating.{LeadByAnnotation}
-
-pub leads : (e : Element) (q : Path) → IsElement (element_at e q) → syntax_at e q ≡ None → ⊥
-leads e q some none =
-    (elim (at e.root q) as (λ o. is_some o ≡ true → option_map (λ t. syntax_as t (element_at e q)) o ≡ None → ⊥) [
-      | None ↦ λ h n. cc
-      | Some t ↦ λ h n. cc
-    ]) some none
 
 -- ---- sorted by annotation
 abbrev is_tied : ℕ → ℕ → Bool

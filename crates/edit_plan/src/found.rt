@@ -13,20 +13,19 @@ use cst_core::{SyntaxElement, SyntaxNode};
 use std::alloc::{AllocError, Global};
 use std::marker::Model;
 
-/// The elements that these paths lead to, counted from a root.
+/// The elements that these paths lead to, counted from a root. A path that leads to none is left out.
 pub(crate) fn elements_at(
     alloc: Global,
     root: &SyntaxNode,
     paths: Vec<Vec<usize>>,
 ) -> Result<Vec<SyntaxElement>, AllocError>
-    requires { All (λ p. IsElement (element_at root.now p)) (paths_of paths.items) }
-    ensures { IfOk result (λ v. map Some v.items ≡ map (syntax_at root.now) (paths_of paths.items)) }
+    ensures { All (λ p. IsElement (element_at root.now p)) (paths_of paths.items)
+        → IfOk result (λ v. map Some v.items ≡ map (syntax_at root.now) (paths_of paths.items)) }
 {
     let mut elements = Vec::with_capacity(alloc, paths.len())?;
     for path in paths {
-        match root.element_of_tree(alloc, path)? {
-            Some(element) => elements.push(element)?,
-            None => unreachable!(),
+        if let Some(element) = root.element_of_tree(alloc, path)? {
+            elements.push(element)?;
         }
     }
     Ok(elements)

@@ -60,8 +60,9 @@ impl SyntaxEdit {
         self.annotated.registrations(alloc)
     }
 
-    /// The copies of an element in the new tree, in document order, where this is what the plan made: what `find_annotation` gives if the
-    /// element alone is registered. An element that stayed is a copy of itself; one that is gone has none.
+    /// The copies of an element in the new tree, in document order, if this is what the plan made: what `find_annotation` gives if the
+    /// element alone is registered. An element that stayed is a copy of itself; one that is gone has none. Of a plan that made another
+    /// tree it gives the elements that stand here where copies stand there, which tells nothing.
     ///
     /// The element may be of any tree. Takes the time of one pass, and draws no number.
     pub fn copies(
@@ -70,8 +71,8 @@ impl SyntaxEdit {
         plan: &EditPlan,
         element: &SyntaxElement,
     ) -> Result<Vec<SyntaxElement>, AllocError>
-        requires { Makes plan.now self.now.new_root.number self.now }
-        ensures { NumbersTell (element_of element.now ∷ mapped_elements plan.now.mapping)
+        ensures { Makes plan.now self.now.new_root.number self.now
+            → NumbersTell (element_of element.now ∷ mapped_elements plan.now.mapping)
             → IfOk result (λ v. AreCopies plan.now self.now element.now v.items) }
     {
         place_is_unique();

@@ -5,7 +5,5 @@ use Rattle.edit_change.specs.Topmost.{paths_of}
 use Rattle.edit_plan.proofs.found.elements_at.Given as goal
 
 abbrev pub invariant-loop-path : goal.invariant-loop-path
-invariant-loop-path l = record {
-  found : map Some l.elements.items ++ map (syntax_at l.root) (paths_of l.path-iterator.rest.items) ≡ map (syntax_at l.root) (paths_of l.fn.paths.items);
-  there : All (λ p. IsElement (element_at l.root p)) (paths_of l.path-iterator.rest.items);
-}
+invariant-loop-path l =
+    All (λ p. IsElement (element_at l.root p)) (paths_of l.fn.paths.items) → (map Some l.elements.items ++ map (syntax_at l.root) (paths_of l.path-iterator.rest.items) ≡ map (syntax_at l.root) (paths_of l.fn.paths.items)) × All (λ p. IsElement (element_at l.root p)) (paths_of l.path-iterator.rest.items)

@@ -1,4 +1,4 @@
-use Rattle.std.proofs.Common.{◌≡◌, [], map, ap, subst, ◌∙◌}
+use Rattle.std.proofs.Common.{◌≡◌, [], subst}
 use Rattle.edit_plan.specs.Plan.{Edit}
 use Rattle.edit_plan.proofs.edit.SyntaxEdit.registrations.Goals as goal
 

@@ -1,9 +1,9 @@
-use Rattle.std.proofs.Common.{◌≡◌, ◌++◌, [], ◌∷◌, map, ap, sym, subst, ◌∙◌}
+use Rattle.std.proofs.Common.{◌≡◌, ◌++◌, [], ◌∷◌, ap, subst, ◌∙◌}
 use Rattle.std.proofs.lemmas.List.{map-append}
 use Rattle.cst_core.specs.Green.{branch_tree}
 use Rattle.cst_core.specs.Element.{NumbersTell}
 use Rattle.cst_core.specs.SyntaxElement.{element_of}
-use Rattle.edit_map.specs.Mapping.{Mapping, followed, mapped_elements}
+use Rattle.edit_map.specs.Mapping.{followed, mapped_elements}
 use Rattle.edit_change.specs.Topmost.{paths_of}
 use Rattle.edit_change.specs.inner.PathLists.{path_lists}
 use Rattle.edit_change.specs.inner.OwnerPlaces.{places_in}

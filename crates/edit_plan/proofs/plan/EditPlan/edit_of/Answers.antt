@@ -10,11 +10,6 @@ use Rattle.edit_plan.proofs.PromisesOfRuns.{makes, refuses, of-root, err-gives}
 use Rattle.edit_plan.proofs.PathsOfResults.{changed-there, annotated-there}
 use Rattle.edit_plan.proofs.plan.EditPlan.edit_of.Goals as goal
 
-pub elements_at-requires : goal.elements_at-requires
-elements_at-requires c =
-    let rewritten = c.args.rewritten in
-    changed-there c.args.self.now (branch_tree rewritten.green) (paths_of rewritten.changed.items) (map annotated_path rewritten.annotated.items) c.requires.rewritten c.in_ok-new_root.new_root (ap (λ x. x.root) c.in_ok-new_root.ensures.ok)
-
 pub at_paths-requires : goal.at_paths-requires
 at_paths-requires c =
     let rewritten = c.args.rewritten in
@@ -37,7 +32,8 @@ returns-clause-ok c =
     let rewritten = c.args.rewritten in
     let root = c.in_ok-new_root.new_root in
     let own : c.trial_source-drawn.result ≡ c.args.ids.now = c.trial_source-drawn.ensures in
-    makes c.args.self.now rewritten.green (paths_of rewritten.changed.items) (map annotated_path rewritten.annotated.items) c.requires.rewritten c.args.ids.now _ (c.in_ok-old_root.ensures ∙ ap (λ x. x.root) c.self.view_is) (c.in_ok-new_root.ensures.ok ∙ ap (λ n. record { number = n; root = branch_tree rewritten.green; path = [] }) own) c.in_ok-changed.ensures c.in_ok-annotated.ensures
+    let there = changed-there c.args.self.now (branch_tree rewritten.green) (paths_of rewritten.changed.items) (map annotated_path rewritten.annotated.items) c.requires.rewritten root (ap (λ x. x.root) c.in_ok-new_root.ensures.ok) in
+    makes c.args.self.now rewritten.green (paths_of rewritten.changed.items) (map annotated_path rewritten.annotated.items) c.requires.rewritten c.args.ids.now _ (c.in_ok-old_root.ensures ∙ ap (λ x. x.root) c.self.view_is) (c.in_ok-new_root.ensures.ok ∙ ap (λ n. record { number = n; root = branch_tree rewritten.green; path = [] }) own) (c.in_ok-changed.ensures there) c.in_ok-annotated.ensures
 
 pub returns-clause-short : goal.returns-clause-short
 returns-clause-short c = subst (λ e. text_length e.root < length_limit) c.new_root-2.view_is c.new_root-2.invariant.fits
