@@ -64,7 +64,17 @@ fn check_read(number: usize, row: &Row, status: Status) {
             assert_eq!(status, Status::Done, "{number}");
             assert_eq!(written(&edit), answer, "{number}.answer");
         }
-        Err(Error::Refused { refusal, sentence }) => {
+        Err(Error::Refused {
+            refusal,
+            lines,
+            sentence,
+        }) => {
+            // The last line that it names is the last number of the sentence, where it names one.
+            let named = sentence
+                .rsplit_once("(line ")
+                .or(sentence.rsplit_once(": line "));
+            let last = named.and_then(|(_, line)| line.trim_end_matches(')').parse::<usize>().ok());
+            assert_eq!(lines.last().copied(), last, "{number}: {sentence}");
             assert_eq!(
                 (status, &sentence),
                 (Status::Refused, &row.said),
