@@ -31,7 +31,8 @@ if python3 -m pip --version >/dev/null 2>&1; then
     trap 'rm -rf "$said" "$room"' EXIT
     python3 -m pip install --quiet --no-index --no-deps --target "$room/site" . >"$said" 2>&1 || { cat "$said" && exit 1; }
     # The package that was installed, with the library in it.
-    (cd "$room" && SYNED_LIB= PYTHONPATH=site python3 -m doctest -o ELLIPSIS site/syned/__init__.py)
+    installed_says="import doctest, sys, syned; sys.exit(doctest.testmod(syned).failed)"
+    (cd "$room" && SYNED_LIB= PYTHONPATH=site python3 -c "$installed_says")
     (cd "$room" && SYNED_LIB= PYTHONPATH=site python3 -c 'import syned; print(syned.library_version())') >"$said"
     grep -qx "$(sed -n 's/^__version__ = "\(.*\)"$/\1/p' syned/__init__.py)" "$said" || { echo 'python: not installed' && exit 1; }
     installed='installed by pip'

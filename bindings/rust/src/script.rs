@@ -484,8 +484,8 @@ impl Lines {
     // Leaves the line of a number empty, unless it makes a tree, begins the edit, or is empty.
     fn take_back(&mut self, number: usize) -> Result<(), Error> {
         let before = number.checked_sub(1).ok_or(Error::NoLine(number))?;
-        let start = before.checked_sub(1).map_or(0, |line| self.ends[line]);
         let end = *self.ends.get(before).ok_or(Error::NoLine(number))? - 1;
+        let start = before.checked_sub(1).map_or(0, |line| self.ends[line]);
         let line = &self.text[start..end];
         if line.is_empty() || line.starts_with("tree ") || line.starts_with("edit ") {
             return Err(Error::NoLine(number));

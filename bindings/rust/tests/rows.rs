@@ -69,12 +69,13 @@ fn check_read(number: usize, row: &Row, status: Status) {
             lines,
             sentence,
         }) => {
-            // The last line that it names is the last number of the sentence, where it names one.
-            let named = sentence
-                .rsplit_once("(line ")
-                .or(sentence.rsplit_once(": line "));
-            let last = named.and_then(|(_, line)| line.trim_end_matches(')').parse::<usize>().ok());
-            assert_eq!(lines.last().copied(), last, "{number}: {sentence}");
+            // Each is a line of the script, which may lack an end.
+            let count = row.script.split(|byte| *byte == b'\n').count();
+            assert_eq!(lines.len(), sentence.matches("line ").count(), "{number}");
+            assert!(
+                lines.iter().all(|line| (1..=count).contains(line)),
+                "{number}"
+            );
             assert_eq!(
                 (status, &sentence),
                 (Status::Refused, &row.said),
